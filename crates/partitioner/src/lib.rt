@@ -1,0 +1,57 @@
+//! Which partition a record of a key goes to.
+#![tactic(auto)]
+
+ghost use Rattle.std.specs.Prelude.{◌≡◌, ◌≤◌, ◌<◌};
+ghost use Rattle.partitioner.specs.Place.{place_of};
+
+use murmur_lanes::murmur2;
+use std::marker::Model;
+
+/// How many partitions there are, from 1 to 4096.
+#[derive(Clone, Copy, Debug, PartialEq, Eq)]
+pub struct Partitions {
+    count: u32,
+}
+
+impl Model for Partitions {
+    ghost use Rattle.std.specs.Prelude.{ℕ, ◌≤◌};
+
+    ghost Value = { ℕ };
+
+    ghost view = { λ p. p.count };
+
+    ghost invariant = { λ p. (1 ≤ p.count) × (p.count ≤ 4096) };
+
+    ghost inverse = { λ n. record { count = n } };
+}
+
+impl Partitions {
+    /// This many partitions.
+    pub fn new(count: u32) -> Partitions
+        requires { (1 ≤ count) × (count ≤ 4096) }
+        ensures { result ≡ count }
+    {
+        Partitions { count }
+    }
+
+    /// How many there are.
+    pub fn count(&self) -> u32
+        ensures count { result ≡ self.now }
+        ensures range { (1 ≤ self.now) × (self.now ≤ 4096) }
+    {
+        self.count
+    }
+
+    /// The partition of a key of any length and any bytes, counted from 0: its murmur2 without the
+    /// highest bit, modulo the number of partitions. It takes no memory.
+    #[tactic(auto, unfolding(crate::specs::Place::place_of))]
+    pub fn place(&self, key: &[u8]) -> u32
+        ensures place { result ≡ place_of self.now key.now }
+        ensures within { result < self.now }
+    {
+        murmur2(key) % (1 << 31) % self.count
+    }
+}
+
+#[cfg(test)]
+mod tests;
