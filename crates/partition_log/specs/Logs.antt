@@ -1,0 +1,81 @@
+-- Append-only logs of keyed records, one a partition.
+use Rattle.std.specs.Prelude.{◌≡◌, ℕ, ◌+◌, ◌-◌, ◌^◌, ◌<◌, ◌≤◌, ◌==◌, ◌&&◌, ◌||◌, nat_lt, nat_le, not, Bool, List, [], ◌∷◌, ◌++◌, length, filter, map, if◌then◌else◌, slice_index_or, slice_set, Contains, Result, Ok, Err}
+use Rattle.partitioner.specs.Place.{place_of}
+use Rattle.lane_words.specs.declared.Refusal.{Refusal}
+use Rattle.lane_words.specs.declared.Refusal.TheVariants as r
+use Rattle.partition_log.specs.Keys.{Key, is_known, with_key, number_of, key_at, distinct, IsWithoutRepeats}
+
+-- logs: how many partitions there are, the keys by their numbers, and for each partition the numbers of its records' keys
+pub record PartitionLogs : Type 0 where
+  pub partitions : ℕ
+  pub keys : List Key
+  pub logs : List (List ℕ)
+
+-- the longest key
+abbrev pub longest_key : ℕ
+longest_key = 65535
+
+-- the most records of one log, and the most keys
+abbrev pub most_records : ℕ
+most_records = 2 ^ 32 - 1
+
+abbrev pub most_keys : ℕ
+most_keys = 2 ^ 32 - 1
+
+-- log p, as numbers of keys
+abbrev pub log_at : PartitionLogs → ℕ → List ℕ
+log_at l p = slice_index_or l.logs p []
+
+-- log p, as keys
+abbrev pub keys_of_log : PartitionLogs → ℕ → List Key
+keys_of_log l p = map (key_at l.keys) (log_at l p)
+
+-- where a record of this key goes
+abbrev pub place_in : PartitionLogs → Key → ℕ
+place_in l key = place_of l.partitions key
+
+-- whether a record of this key finds no room in this log: the log holds its limit, or the key is new and the keys are
+-- at theirs
+abbrev pub finds_no_room : List Key → List ℕ → Key → Bool
+finds_no_room keys log key = nat_le most_records (length log) || (not (is_known keys key) && nat_le most_keys (length keys))
+
+-- the same, in the log of the key's place
+abbrev pub is_full_for : PartitionLogs → Key → Bool
+is_full_for l key = finds_no_room l.keys (log_at l (place_in l key)) key
+
+-- what an append of a record of this key answers: its partition and its offset, or a refusal
+abbrev pub append_answer : PartitionLogs → Key → Result (ℕ × ℕ) Refusal
+append_answer l key =
+    if nat_lt longest_key (length key) then Err r.KeyTooLong
+    else if is_full_for l key then Err r.LogFull
+    else Ok (place_in l key, length (log_at l (place_in l key)))
+
+-- the logs with one more record at the end of the log of its place, and nothing else changed
+abbrev pub with_record : PartitionLogs → Key → PartitionLogs
+with_record l key = record l {
+  keys = with_key l.keys key;
+  logs = slice_set l.logs (place_in l key) (log_at l (place_in l key) ++ number_of l.keys key ∷ []);
+}
+
+-- an entry of log p is the number of a key whose place is p
+pub record IsEntryOf (l : PartitionLogs) (p number : ℕ) : Type 0 where
+  pub numbered : number < length l.keys
+  pub placed : place_in l (key_at l.keys number) ≡ p
+
+-- what logs keep
+pub record AreLogs (l : PartitionLogs) : Type 0 where
+  pub some_partitions : 1 ≤ l.partitions
+  pub few_partitions : l.partitions ≤ 4096
+  pub a_log_each : length l.logs ≡ l.partitions
+  pub without_repeats : IsWithoutRepeats l.keys
+  pub short : (n : ℕ) → n < length l.keys → length (key_at l.keys n) ≤ longest_key
+  pub entries : (p i : ℕ) → i < length (log_at l p) → IsEntryOf l p (slice_index_or (log_at l p) i 0)
+  pub used : (n : ℕ) → n < length l.keys → Contains (log_at l (place_in l (key_at l.keys n))) n
+  pub few_keys : length l.keys ≤ most_keys
+  pub few_records : (p : ℕ) → length (log_at l p) ≤ most_records
+
+-- these are the logs of a list of keys, appended one after the other: the keys are those of the list without
+-- repeats, in order of first appearance, and log p is the sublist of those whose place is p, in order
+pub record AreLogsOf (appended : List Key) (l : PartitionLogs) : Type 0 where
+  pub numbers : l.keys ≡ distinct appended
+  pub records : (p : ℕ) → p < l.partitions → keys_of_log l p ≡ filter (λ key. place_in l key == p) appended

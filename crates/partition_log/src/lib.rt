@@ -1,0 +1,210 @@
+//! Append-only logs of keyed records.
+#![tactic(auto)]
+
+ghost use Rattle.std.specs.Prelude.{◌≡◌, ◌<◌, ◌≤◌, ◌++◌, ◌∷◌, [], Ok, Err, List, map, length, vec_items, vec_len, slice_set, replicate, slice_index_or, IfOk, OnOk, OnErr, if◌then◌else◌};
+ghost use Rattle.lane_words.specs.Answers.{Answers};
+ghost use Rattle.lane_words.specs.declared.Refusal.TheVariants as refusal;
+ghost use Rattle.partitioner.specs.Place.{place_of};
+ghost use Rattle.partition_log.specs.Keys.{Key, key_at, number_of, with_key};
+ghost use Rattle.partition_log.specs.Logs.{append_answer, with_record, log_at, place_in, finds_no_room, longest_key, most_records, AreLogs, AreLogsOf, PartitionLogs};
+
+mod keys;
+
+use keys::KeyNumbers;
+use lane_words::{Memory, Refusal};
+use partitioner::Partitions;
+use std::alloc::Global;
+use std::marker::Model;
+use std::random::RandomSource;
+
+/// The longest key, in bytes.
+const LONGEST_KEY: usize = 65535;
+
+/// The most records of one log, and the most keys.
+const LIMIT: u32 = u32::MAX;
+
+/// Append-only logs of keyed records, one for each of 1 to 4096 partitions.
+///
+/// A record is its key alone. A key has 0 to 65,535 bytes of any value and is numbered from 0 in the order of
+/// first appearance; a log holds up to 4,294,967,295 records, each as the number of its key, and there are up
+/// to 4,294,967,295 keys.
+#[derive(Drop)]
+pub struct Logs {
+    partitions: Partitions,
+    keys: KeyNumbers,
+    logs: Vec<Vec<u32>>,
+}
+
+impl Model for Logs {
+    ghost use Rattle.std.specs.Prelude.{map, vec_items};
+    ghost use Rattle.partition_log.specs.Logs.{AreLogs, PartitionLogs};
+
+    ghost Value = { PartitionLogs };
+
+    ghost view = { λ l. record { partitions = l.partitions; keys = l.keys; logs = map vec_items l.logs.items } };
+
+    ghost invariant = { λ l. AreLogs (record { partitions = l.partitions; keys = l.keys; logs = map vec_items l.logs.items }) };
+}
+
+/// Logs that can be read.
+pub trait LogRead {
+    // The logs as they stand.
+    ghost contents: { Self → PartitionLogs };
+
+    /// How many partitions there are.
+    fn partitions(&self) -> u32
+        ensures count { result ≡ (contents self.now).partitions }
+        ensures kept { AreLogs (contents self.now) };
+
+    /// How many records the log of partition `p` holds, which is the offset of its next one.
+    fn len(&self, p: u32) -> u32
+        requires { p < (contents self.now).partitions }
+        ensures { result ≡ length (log_at (contents self.now) p) };
+
+    /// The key of a number.
+    fn key(&self, id: u32) -> &[u8]
+        requires { id < length (contents self.now).keys }
+        ensures { result.now ≡ key_at (contents self.now).keys id };
+
+    /// How many keys there are.
+    fn keys(&self) -> u32
+        ensures { result ≡ length (contents self.now).keys };
+}
+
+impl LogRead for Logs {
+    ghost contents = { λ l. l };
+
+    fn partitions(&self) -> u32 {
+        self.partitions.count()
+    }
+
+    fn len(&self, p: u32) -> u32 {
+        self.logs[p as usize].len() as u32
+    }
+
+    fn key(&self, id: u32) -> &[u8] {
+        self.keys.key(id)
+    }
+
+    fn keys(&self) -> u32 {
+        self.keys.count()
+    }
+}
+
+impl Logs {
+    /// Empty logs of this many partitions. They are refused for want of memory, or where the random source
+    /// fails, from which the hasher of the keys is drawn.
+    pub fn new(rt: &impl RandomSource, alloc: Global, partitions: u32) -> Result<Logs, Memory>
+        requires { (1 ≤ partitions) × (partitions ≤ 4096) }
+        ensures partitions { IfOk result (λ logs. logs.partitions ≡ partitions) }
+        ensures empty { IfOk result (AreLogsOf []) }
+        ensures kept { IfOk result AreLogs }
+    {
+        let keys = KeyNumbers::new(rt, alloc)?;
+        let logs = empty_logs(alloc, partitions as usize)?;
+        Ok(Logs {
+            partitions: Partitions::new(partitions),
+            keys,
+            logs,
+        })
+    }
+
+    /// The partition of a key, which need not have a record here. It takes no memory.
+    pub fn place_of(&self, key: &[u8]) -> u32
+        ensures place { result ≡ place_in self.now key.now }
+        ensures within { result < self.now.partitions }
+    {
+        self.partitions.place(key)
+    }
+
+    /// Appends a record of this key to the log of its place, and answers the partition and the record's offset.
+    ///
+    /// Refused, with everything as it was: a key of more than 65,535 bytes (`KeyTooLong`); a log that holds its
+    /// limit, or a new key where the keys are at theirs (`LogFull`); want of memory. A known key takes four bytes
+    /// of its log, and is accepted where the keys are at their limit.
+    pub fn append(&mut self, key: &[u8]) -> Result<(u32, u32), Refusal>
+        ensures answer { Answers (append_answer self.old key.now) result }
+        ensures ok { OnOk result (self.new ≡ with_record self.old key.now) }
+        ensures err { OnErr result (self.new ≡ self.old) }
+        ensures kept { OnOk result (AreLogs self.new) }
+        ensures history { OnOk result ((appended : List Key) → AreLogsOf appended self.old → AreLogsOf (appended ++ key.now ∷ []) self.new) }
+    {
+        let place = self.partitions.place(key);
+        self.append_at(place, key)
+    }
+
+    /// The same, where the place is known.
+    fn append_at(&mut self, place: u32, key: &[u8]) -> Result<(u32, u32), Refusal>
+        requires { place ≡ place_in self.old key.now }
+        ensures answer { Answers (append_answer self.old key.now) result }
+        ensures ok { OnOk result (self.new ≡ with_record self.old key.now) }
+        ensures err { OnErr result (self.new ≡ self.old) }
+        ensures kept { OnOk result (AreLogs self.new) }
+        ensures history { OnOk result ((appended : List Key) → AreLogsOf appended self.old → AreLogsOf (appended ++ key.now ∷ []) self.new) }
+    {
+        if key.len() > LONGEST_KEY {
+            return Err(Refusal::KeyTooLong);
+        }
+        let offset = append_number(&mut self.keys, &mut self.logs, place as usize, key)?;
+        Ok((place, offset))
+    }
+}
+
+/// Empty logs.
+fn empty_logs(alloc: Global, count: usize) -> Result<Vec<Vec<u32>>, Memory>
+    ensures { IfOk result (λ logs. map vec_items logs.items ≡ replicate count []) }
+{
+    let mut logs = Vec::with_capacity(alloc, count)?;
+    for _ in 0..count {
+        logs.push(Vec::new(alloc))?;
+    }
+    Ok(logs)
+}
+
+/// Appends the number of a key to its log, and answers the number's offset there. A new key is numbered first.
+fn append_number(
+    keys: &mut KeyNumbers,
+    logs: &mut Vec<Vec<u32>>,
+    place: usize,
+    key: &[u8],
+) -> Result<u32, Refusal>
+    requires { place < vec_len logs.old }
+    ensures answer { let log = slice_index_or (map vec_items logs.old.items) place [] in
+        Answers (if finds_no_room keys.old log key.now then Err refusal.LogFull else Ok (length log)) result }
+    ensures keys { OnOk result (keys.new ≡ with_key keys.old key.now) }
+    ensures logs { let log = slice_index_or (map vec_items logs.old.items) place [] in
+        OnOk result (map vec_items logs.new.items ≡ slice_set (map vec_items logs.old.items) place (log ++ number_of keys.old key.now ∷ [])) }
+    ensures same_keys { OnErr result (keys.new ≡ keys.old) }
+    ensures same_logs { OnErr result (map vec_items logs.new.items ≡ map vec_items logs.old.items) }
+{
+    let log = &mut logs[place];
+    push_number(keys, log, key)
+}
+
+/// Appends the number of a key to this log, and answers the number's offset.
+fn push_number(keys: &mut KeyNumbers, log: &mut Vec<u32>, key: &[u8]) -> Result<u32, Refusal>
+    ensures answer { Answers (if finds_no_room keys.old log.old.items key.now then Err refusal.LogFull else Ok (length log.old.items)) result }
+    ensures keys { OnOk result (keys.new ≡ with_key keys.old key.now) }
+    ensures log { OnOk result (log.new.items ≡ log.old.items ++ number_of keys.old key.now ∷ []) }
+    ensures same_keys { OnErr result (keys.new ≡ keys.old) }
+    ensures same_log { OnErr result (log.new.items ≡ log.old.items) }
+{
+    let offset = log.len();
+    if offset >= LIMIT as usize {
+        return Err(Refusal::LogFull);
+    }
+    if let Some(number) = keys.find(key) {
+        log.push(number)?;
+        return Ok(offset as u32);
+    }
+    if keys.count() >= LIMIT {
+        return Err(Refusal::LogFull);
+    }
+    log.reserve(1)?;
+    let number = keys.add(key)?;
+    log.push_reserved(number);
+    Ok(offset as u32)
+}
+
+#[cfg(test)]
+mod tests;

@@ -1,0 +1,8 @@
+-- Places lie among the partitions.
+use Rattle.std.proofs.Common.{ℕ, ◌<◌, ◌≤◌, ◌%◌, ◌^◌, List, arith}
+use Rattle.murmur_lanes.specs.Murmur.{hash_of}
+use Rattle.partitioner.specs.Place.{place_of}
+
+pub place_of-below : (partitions : ℕ) (key : List ℕ) → 1 ≤ partitions → place_of partitions key < partitions
+unfolding place_of
+place_of-below partitions key some = omega arith
