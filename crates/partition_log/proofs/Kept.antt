@@ -44,20 +44,20 @@ below most n e =
     ]
 
 -- the log that gets a record was not at its limit
-pub has_room : (keys : List Key) (log : List ℕ) (key : Key) → finds_no_room keys log key ≡ false → length log < most_records
-has_room keys log key h = below most_records (length log) (room-records _ _ h)
+pub has_room : (keys : List Key) (records : ℕ) (key : Key) → finds_no_room keys records key ≡ false → records < most_records
+has_room keys records key h = below most_records records (room-records _ _ h)
 
 known_or_new : (b : Bool) → (b ≡ true) ⊎ (b ≡ false)
 known_or_new true = inl refl
 known_or_new false = inr refl
 
 -- the keys stay within their limit
-keys_fit : (keys : List Key) (log : List ℕ) (key : Key) → finds_no_room keys log key ≡ false → length keys ≤ most_keys → length (with_key keys key) ≤ most_keys
-keys_fit keys log key h few =
+keys_fit : (keys : List Key) (records : ℕ) (key : Key) → finds_no_room keys records key ≡ false → length keys ≤ most_keys → length (with_key keys key) ≤ most_keys
+keys_fit keys records key h few =
     let g = grows keys key in
     elim (known_or_new (is_known keys key)) [
       | inl known ↦ let same = g.same_count known in rw same few
-      | inr new ↦ let room : length keys < most_keys = below most_keys (length keys) (room-keys (nat_le most_records (length log)) (is_known keys key) (nat_le most_keys (length keys)) h new) in omega (arith, g.by_one, room)
+      | inr new ↦ let room : length keys < most_keys = below most_keys (length keys) (room-keys (nat_le most_records records) (is_known keys key) (nat_le most_keys (length keys)) h new) in omega (arith, g.by_one, room)
     ]
 
 entry-more : (l : PartitionLogs) (key : Key) (p n : ℕ) → IsEntryOf l p n → IsEntryOf (with_record l key) p n
@@ -125,7 +125,7 @@ records-more l key a lt room p =
           let old = log_at l (place_in l key) in
           let long : length (log_at (with_record l key) p) ≡ length old + 1 =
           ap (λ q. length (log_at (with_record l key) q)) is ∙ ap length (log-same l key lt) ∙ length-append old (number_of l.keys key ∷ []) in
-          omega (arith, long, has_room l.keys old key room)
+          omega (arith, long, has_room l.keys (length old) key room)
     ]
 
 short-more : (l : PartitionLogs) (key : Key) → AreLogs l → length key ≤ longest_key → (n : ℕ) → n < length (with_key l.keys key) → length (key_at (with_key l.keys key) n) ≤ longest_key
@@ -149,7 +149,7 @@ kept l key a placed short room =
       short = short-more l key a short;
       entries = entries-more l key a lt;
       used = used-more l key a lt;
-      few_keys = keys_fit l.keys (log_at l (place_in l key)) key room a.few_keys;
+      few_keys = keys_fit l.keys (length (log_at l (place_in l key))) key room a.few_keys;
       few_records = records-more l key a lt room;
     }
 
@@ -161,9 +161,9 @@ room-of false n offset answer = refl
 -- logs of which the parts are those with one more record
 pub grown : (l : PartitionLogs) (key : Key) (place offset : ℕ) (keys : List Key) (logs : List (List ℕ)) → AreLogs l → place ≡ place_in l key → length key ≤ longest_key
     → keys ≡ with_key l.keys key → logs ≡ slice_set l.logs place (get_or l.logs place [] ++ number_of l.keys key ∷ [])
-    → Answers {T = ℕ} (if finds_no_room l.keys (get_or l.logs place []) key then Err r.LogFull else Ok (length (get_or l.logs place []))) (Ok offset)
+    → Answers {T = ℕ} (if finds_no_room l.keys (length (get_or l.logs place [])) key then Err r.LogFull else Ok (length (get_or l.logs place []))) (Ok offset)
     → (let new : PartitionLogs = record { partitions = l.partitions; keys = keys; logs = logs } in (new ≡ with_record l key) × AreLogs new)
 grown l key place offset keys logs a at short ks ls answer =
     let same : (let new : PartitionLogs = record { partitions = l.partitions; keys = keys; logs = logs } in new) ≡ with_record l key = rw (ks, ls, at) refl in
-    let room : is_full_for l key ≡ false = ap (λ p. finds_no_room l.keys (get_or l.logs p []) key) (sym at) ∙ room-of _ _ _ answer in
+    let room : is_full_for l key ≡ false = ap (λ p. finds_no_room l.keys (length (get_or l.logs p [])) key) (sym at) ∙ room-of _ _ _ answer in
     (same, subst AreLogs (sym same) (kept l key a (place_of-below l.partitions key a.some_partitions) short room))

@@ -34,14 +34,14 @@ keys_of_log l p = map (key_at l.keys) (log_at l p)
 abbrev pub place_in : PartitionLogs → Key → ℕ
 place_in l key = place_of l.partitions key
 
--- whether a record of this key finds no room in this log: the log holds its limit, or the key is new and the keys are
--- at theirs
-abbrev pub finds_no_room : List Key → List ℕ → Key → Bool
-finds_no_room keys log key = nat_le most_records (length log) || (not (is_known keys key) && nat_le most_keys (length keys))
+-- whether a record of this key finds no room in a log of this many records: the log holds its limit, or the key is
+-- new and the keys are at theirs
+abbrev pub finds_no_room : List Key → ℕ → Key → Bool
+finds_no_room keys records key = nat_le most_records records || (not (is_known keys key) && nat_le most_keys (length keys))
 
 -- the same, in the log of the key's place
 abbrev pub is_full_for : PartitionLogs → Key → Bool
-is_full_for l key = finds_no_room l.keys (log_at l (place_in l key)) key
+is_full_for l key = finds_no_room l.keys (length (log_at l (place_in l key))) key
 
 -- what an append of a record of this key answers: its partition and its offset, or a refusal
 abbrev pub append_answer : PartitionLogs → Key → Result (ℕ × ℕ) Refusal

@@ -1,7 +1,7 @@
 //! Append-only logs of keyed records.
 #![tactic(auto)]
 
-ghost use Rattle.std.specs.Prelude.{◌≡◌, ◌<◌, ◌≤◌, ◌++◌, ◌∷◌, [], Ok, Err, List, map, length, vec_items, vec_len, slice_set, replicate, slice_index_or, IfOk, OnOk, OnErr, if◌then◌else◌};
+ghost use Rattle.std.specs.Prelude.{◌≡◌, ◌<◌, ◌≤◌, ◌++◌, ◌∷◌, [], Ok, Err, List, map, length, vec_items, vec_len, slice_set, slice_range, replicate, slice_index_or, IfOk, OnOk, OnErr, if◌then◌else◌};
 ghost use Rattle.lane_words.specs.Answers.{Answers};
 ghost use Rattle.lane_words.specs.declared.Refusal.TheVariants as refusal;
 ghost use Rattle.partitioner.specs.Place.{place_of};
@@ -61,6 +61,13 @@ pub trait LogRead {
         requires { p < (contents self.now).partitions }
         ensures { result ≡ length (log_at (contents self.now) p) };
 
+    /// The numbers of the keys of the records at the offsets `from`, `from + 1` and so on below `to`, in the log of
+    /// partition `p`.
+    fn ids(&self, p: u32, from: u32, to: u32) -> &[u32]
+        requires partition { p < (contents self.now).partitions }
+        requires range { (from ≤ to) × (to ≤ length (log_at (contents self.now) p)) }
+        ensures { result.now ≡ slice_range (log_at (contents self.now) p) from to };
+
     /// The key of a number.
     fn key(&self, id: u32) -> &[u8]
         requires { id < length (contents self.now).keys }
@@ -80,6 +87,10 @@ impl LogRead for Logs {
 
     fn len(&self, p: u32) -> u32 {
         self.logs[p as usize].len() as u32
+    }
+
+    fn ids(&self, p: u32, from: u32, to: u32) -> &[u32] {
+        &self.logs[p as usize][from as usize..to as usize]
     }
 
     fn key(&self, id: u32) -> &[u8] {
@@ -170,7 +181,7 @@ fn append_number(
 ) -> Result<u32, Refusal>
     requires { place < vec_len logs.old }
     ensures answer { let log = slice_index_or (map vec_items logs.old.items) place [] in
-        Answers (if finds_no_room keys.old log key.now then Err refusal.LogFull else Ok (length log)) result }
+        Answers (if finds_no_room keys.old (length log) key.now then Err refusal.LogFull else Ok (length log)) result }
     ensures keys { OnOk result (keys.new ≡ with_key keys.old key.now) }
     ensures logs { let log = slice_index_or (map vec_items logs.old.items) place [] in
         OnOk result (map vec_items logs.new.items ≡ slice_set (map vec_items logs.old.items) place (log ++ number_of keys.old key.now ∷ [])) }
@@ -183,7 +194,7 @@ fn append_number(
 
 /// Appends the number of a key to this log, and answers the number's offset.
 fn push_number(keys: &mut KeyNumbers, log: &mut Vec<u32>, key: &[u8]) -> Result<u32, Refusal>
-    ensures answer { Answers (if finds_no_room keys.old log.old.items key.now then Err refusal.LogFull else Ok (length log.old.items)) result }
+    ensures answer { Answers (if finds_no_room keys.old (length log.old.items) key.now then Err refusal.LogFull else Ok (length log.old.items)) result }
     ensures keys { OnOk result (keys.new ≡ with_key keys.old key.now) }
     ensures log { OnOk result (log.new.items ≡ log.old.items ++ number_of keys.old key.now ∷ []) }
     ensures same_keys { OnErr result (keys.new ≡ keys.old) }

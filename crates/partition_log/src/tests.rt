@@ -21,6 +21,8 @@ fn appends_in_order_of_place(rt: HostRuntime) -> Result<(), Fail> {
     assert_eq!(rt; logs.keys(), 4);
     assert_eq!(rt; logs.len(0), 2);
     assert_eq!(rt; logs.len(3), 1);
+    assert_eq!(rt; logs.ids(0, 0, 2), [0, 0].as_slice());
+    assert_eq!(rt; logs.ids(2, 1, 1), [].as_slice());
     assert_eq!(rt; logs.key(0), b"21".as_slice());
     assert_eq!(rt; logs.key(3), b"abc".as_slice());
     Ok(())
