@@ -2,3 +2,4 @@ pub mod Growth
 pub mod History
 pub mod Kept
 pub mod Numbers
+pub mod Stored

@@ -1,0 +1,12 @@
+use Rattle.std.proofs.Common.{◌≡◌, ◌≤◌, ◌<◌, ◌^◌, ◌+◌, Bor, List, ℕ, Some, length}
+use Rattle.report_cli.specs.KeyFile.{after_keys, keys_from, keys_of}
+use Rattle.report_cli.specs.Records.{ReadsRecords, records_left}
+use Rattle.report_cli.proofs.key_file.read_keys.Given as goal
+
+abbrev pub invariant-loop-nth : goal.invariant-loop-nth
+invariant-loop-nth l = record {
+  reads : ReadsRecords (λ (s : Bor (List ℕ)). Some s.now) l.reader;
+  few : length l.keys < 2 ^ 63;
+  turns : l.nth ≤ length l.keys + 2;
+  keys : keys_of l.column l.header l.fn.file ≡ after_keys l.keys (keys_from l.column l.width l.nth (records_left (λ (s : Bor (List ℕ)). Some s.now) l.reader));
+}

@@ -1,0 +1,26 @@
+-- How a fault is told: by a line, and by the status of the program that ends with it.
+use Rattle.std.specs.Prelude.{ℕ, List, [], ◌∷◌, ◌++◌, ◌==◌, if◌then◌else◌, codes, decimal}
+use Rattle.std.specs.List.{list_any}
+use Rattle.lane_words.specs.Refusal.{code_of}
+use Rattle.lane_words.specs.declared.Refusal.{Refusal}
+use Rattle.lane_words.specs.declared.Refusal.TheVariants as r
+
+-- the place of a fault in the file, where it has one: the number of a record or of a line, from 1 on
+abbrev pub place_text : Refusal → List ℕ
+place_text (r.NoSuchColumn nth) = codes " at record " ++ decimal nth
+place_text (r.BadCsv nth) = codes " at record " ++ decimal nth
+place_text (r.BadLine line) = codes " at line " ++ decimal line
+place_text (r.NobodyLeft line) = codes " at line " ++ decimal line
+place_text _ = []
+
+-- the line of a fault: its number, its place, and a line feed
+unfoldable pub fault_text : Refusal → List ℕ
+fault_text fault = codes "fault " ++ decimal (code_of fault) ++ place_text fault ++ codes "\n"
+
+-- the numbers of the faults that lie in what the program was given to read
+abbrev pub input_codes : List ℕ
+input_codes = 20 ∷ 21 ∷ 22 ∷ 23 ∷ 24 ∷ 27 ∷ []
+
+-- the status of a program that ends with a fault: 1 where it lies in the input, and 3 for every other
+abbrev pub status_of : Refusal → ℕ
+status_of fault = if list_any (λ code. code_of fault == code) input_codes then 1 else 3
