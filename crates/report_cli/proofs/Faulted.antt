@@ -51,8 +51,7 @@ first_fault-now partitions before key keys fault h = rw h refl
 pub next_key : (keys : List Key) (i : ℕ) (key : Key) → i < length keys → slice_get keys i ≡ Some key
     → (take (i + 1) keys ≡ take i keys ++ key ∷ []) × (drop i keys ≡ key ∷ drop (i + 1) keys)
 next_key keys i key lt at =
-    let is : key ≡ get_or keys i [] = row_key keys i key at in
-    (
+    let is : key ≡ get_or keys i [] = row_key keys i key at in (
       take_more keys i [] lt ∙ ap (λ k. take i keys ++ k ∷ []) (sym is),
       drop-cons keys i [] lt ∙ ap (λ k. k ∷ drop (suc i) keys) (sym is) ∙ rw add-one refl,
     )

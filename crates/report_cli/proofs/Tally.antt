@@ -66,20 +66,20 @@ counts-known done ds ns k apart t h =
     let as_long : length (set ns n more) ≡ length ds = length-set ns n more ∙ long in
     same_lists (set ns n more) (map (plain (done ++ k ∷ [])) ds) (as_long ∙ sym (length-map ds (plain (done ++ k ∷ []))))
     (λ (i d : ℕ) (lt : i < length (set ns n more)).
-      let within : i < length ds = omega (arith, as_long, lt) in
-      let counted : get_or (map (plain (done ++ k ∷ [])) ds) i d ≡ plain (done ++ k ∷ []) (key_at ds i) = get_or-map (plain (done ++ k ∷ [])) ds i [] d within in
-      elim (cases_eq i n) [
-        | inl e ↦
+    let within : i < length ds = omega (arith, as_long, lt) in
+    let counted : get_or (map (plain (done ++ k ∷ [])) ds) i d ≡ plain (done ++ k ∷ []) (key_at ds i) = get_or-map (plain (done ++ k ∷ [])) ds i [] d within in
+    elim (cases_eq i n) [
+      | inl e ↦
           let own : key_at ds i ≡ k = ap (key_at ds) e ∙ there.1 in
           let stored : get_or (set ns n more) i d ≡ more = ap (λ j. get_or (set ns n more) j d) e ∙ get_or-set_same ns n more d (omega (arith, there.0, long)) in
           let before : get_or ns n 0 ≡ plain done k = counter-at done ds ns n t there.0 ∙ ap (plain done) there.1 in
           let after : plain (done ++ k ∷ []) (key_at ds i) ≡ plain done k + 1 = ap (plain (done ++ k ∷ [])) own ∙ plain-same done k in
           stored ∙ ap (λ m. m + 1) before ∙ sym after ∙ sym counted
-        | inr ne ↦
+      | inr ne ↦
           let other : key_at ds i ≢ k = λ e. ne (apart i n within there.0 (e ∙ sym there.1)) in
           let at : get_or ns i d ≡ plain done (key_at ds i) = ap (λ xs. get_or xs i d) t.counts ∙ get_or-map (plain done) ds i [] d within in
           get_or-set_other ns n i more d ne ∙ at ∙ sym (plain-other done k (key_at ds i) other) ∙ sym counted
-      ])
+    ])
 
 map-agree : {X Y : Type 0} (f g : X → Y) (d : X) (xs : List X) → ((i : ℕ) → i < length xs → f (get_or xs i d) ≡ g (get_or xs i d)) → map f xs ≡ map g xs
 map-agree f g d [] h = refl
@@ -106,8 +106,8 @@ missing-push done ds k q none h =
     let g = grows ds k in
     let other : q ≢ k = λ e. let clash = among (with_key ds k) q (number_of ds k) g.numbered (g.found ∙ sym e) in absurd (cc (clash, h)) in
     let absent : is_known ds q ≡ false = not_so (is_known ds q) (λ there.
-      let stands = known ds q there in
-      let clash = among (with_key ds k) q (number_of ds q) (omega (arith, stands.0, g.longer)) (g.kept (number_of ds q) stands.0 ∙ stands.1) in absurd (cc (clash, h))) in
+    let stands = known ds q there in
+    let clash = among (with_key ds k) q (number_of ds q) (omega (arith, stands.0, g.longer)) (g.kept (number_of ds q) stands.0 ∙ stands.1) in absurd (cc (clash, h))) in
     plain-other done k q other ∙ none q absent
 
 -- the tally with one more key

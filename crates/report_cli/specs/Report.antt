@@ -4,7 +4,6 @@ use Rattle.std.specs.Io.KnownBytes.{Appends, Keeps}
 use Rattle.std.specs.Str.{bytes_eq}
 use Rattle.lane_words.specs.declared.Refusal.{Refusal}
 use Rattle.lane_words.specs.declared.Refusal.TheVariants as r
-
 use Rattle.partition_log.specs.Keys.{Key, distinct, is_known, number_of}
 use Rattle.partition_log.specs.Logs.{finds_no_room, longest_key, place_of}
 use Rattle.report_cli.specs.CountRows.{count_rows, total_row}

@@ -85,16 +85,18 @@ fn tally(
 fn plain_report(
     rt: &impl RandomSource,
     alloc: Global,
-    keys: &KeyList,
+    keys: KeyList,
     partitions: u32,
 ) -> Result<Vec<u8>, Refusal>
     requires { (1 ≤ partitions) × (partitions ≤ 4096) }
-    ensures text { IfOk result (λ text. report_of_keys partitions keys.now ≡ Ok text.items) }
+    ensures text { IfOk result (λ text. report_of_keys partitions keys ≡ Ok text.items) }
     ensures kind { IfErr result IsKeyFault }
-    ensures refused { IfErr result (λ e. (e ≡ refusal.Memory) ⊎ (report_of_keys partitions keys.now ≡ Err e)) }
+    ensures refused { IfErr result (λ e. (e ≡ refusal.Memory) ⊎ (report_of_keys partitions keys ≡ Err e)) }
 {
-    let (logs, counts) = tally(rt, alloc, keys, partitions)?;
+    let (logs, counts) = tally(rt, alloc, &keys, partitions)?;
     let total = keys.len() as u64;
+    // The logs have a copy of each key that the text needs.
+    drop(keys);
     let text = count_rows_text(alloc, &logs, counts.as_slice(), total, total)?;
     Ok(text)
 }
@@ -116,7 +118,7 @@ fn file_report<S: Source>(
     let bytes = read_all(alloc, file)?;
     let keys = read_keys(alloc, bytes.as_slice(), options.column, options.header)?;
     drop(bytes);
-    plain_report(rt, alloc, &keys, options.partitions)
+    plain_report(rt, alloc, keys, options.partitions)
 }
 
 /// Counts how often each key occurs in a file of comma-separated records, and writes a row for each key, in the
@@ -146,3 +148,6 @@ pub fn count_text<S: Source, K: Sink>(
     let text = file_report(rt, alloc, file, options)?;
     write_all(out, text.as_slice())
 }
+
+#[cfg(test)]
+mod tests;

@@ -14,7 +14,7 @@ use std::io::{Read, Write};
 #[derive(Clone, Copy, Debug, PartialEq, Eq)]
 pub struct DeviceFailed;
 
-/// What bytes are read from.
+/// What bytes are read from. A caller asks no more of it once 2^64 - 1 reads have failed.
 pub trait Source {
     // The bytes that are left, where they are known.
     ghost left: { Self → Option (List ℕ) };
@@ -22,6 +22,8 @@ pub trait Source {
     // How many reads have failed.
     ghost failures: { Self → ℕ };
 
+    /// Reads bytes into the front of `buf`, and tells how many: none only at the end, or where `buf` has no room. A read
+    /// that failed has taken nothing.
     fn read(&mut self, buf: &mut [u8]) -> Result<usize, DeviceFailed>
         requires { failures self.old < 2 ^ 64 - 1 }
         ensures bound { ReadsAtMost result buf.new }
@@ -29,7 +31,7 @@ pub trait Source {
         ensures counted { failures self.new ≡ failures self.old + (if is_ok result then 0 else 1) };
 }
 
-/// What bytes are written to.
+/// What bytes are written to. A caller asks no more of it once 2^64 - 1 writes have failed.
 pub trait Sink {
     // The bytes that were written, where they are known.
     ghost written: { Self → Option (List ℕ) };
@@ -37,6 +39,8 @@ pub trait Sink {
     // How many writes have failed.
     ghost failures: { Self → ℕ };
 
+    /// Writes a beginning of `bytes`, and tells how many bytes it took: at least one, where there is one. A write that
+    /// failed has written nothing.
     fn write(&mut self, bytes: &[u8]) -> Result<usize, DeviceFailed>
         requires { failures self.old < 2 ^ 64 - 1 }
         ensures bound { WritesAtMost result bytes.now }
@@ -45,7 +49,7 @@ pub trait Sink {
         ensures counted { failures self.new ≡ failures self.old + (if is_ok result then 0 else 1) };
 }
 
-/// A source over any reader of std.
+/// A source over any reader of std. Whatever the error of a read, the read has failed.
 #[derive(Drop)]
 pub struct FromRead<R> {
     reader: R,
@@ -53,6 +57,7 @@ pub struct FromRead<R> {
 }
 
 impl<R: Read> FromRead<R> {
+    /// A source of the bytes that the reader has left, with no failed read.
     pub fn new(reader: R) -> FromRead<R>
         ensures left { ⟦<FromRead<R> as Source>⟧.left result ≡ R.remaining reader }
         ensures failures { ⟦<FromRead<R> as Source>⟧.failures result ≡ 0 }
@@ -88,6 +93,7 @@ pub struct FromWrite<W> {
 }
 
 impl<W: Write> FromWrite<W> {
+    /// A sink that writes on after what the writer holds, with no failed write.
     pub fn new(writer: W) -> FromWrite<W>
         ensures written { ⟦<FromWrite<W> as Sink>⟧.written result ≡ W.contents writer }
         ensures failures { ⟦<FromWrite<W> as Sink>⟧.failures result ≡ 0 }
@@ -163,6 +169,8 @@ pub fn read_all<S: Source>(alloc: Global, source: &mut S) -> Result<Vec<u8>, Ref
 }
 
 /// Writes all bytes, in as many pieces as the sink takes.
+///
+/// Refused with `WriteFailed` where a write failed: then a beginning of the bytes is written.
 pub fn write_all<K: Sink>(sink: &mut K, bytes: &[u8]) -> Result<(), Refusal>
     requires { K.failures sink.old < 2 ^ 64 - 1 }
     ensures all { OnOk result (Appends (K.written sink.old) (K.written sink.new) bytes.now) }

@@ -64,6 +64,8 @@ fn put_fault(line: &mut [u8; ROOM], fault: &Refusal) -> usize
 
 /// Writes the line of a fault: `fault` and its number, then ` at record` or ` at line` and a number where the fault
 /// has a place in a file, and a line feed. It takes no memory.
+///
+/// Refused with `WriteFailed` alone, where a write failed: then a beginning of the line is written.
 pub fn fault_line<K: Sink>(fault: &Refusal, out: &mut K) -> Result<(), Refusal>
     requires { K.failures out.old < 2 ^ 64 - 1 }
     ensures all { OnOk result (Appends (K.written out.old) (K.written out.new) (fault_text fault.now)) }

@@ -70,7 +70,8 @@ impl KeyList {
         self.ends.len()
     }
 
-    /// Adds a key at the end. Where memory is refused, the list stays as it was.
+    /// Adds a key at the end. Where memory is refused, the list stays as it was. There are always fewer than 2^63 keys,
+    /// since each has its end in memory.
     pub fn push(&mut self, key: &[u8]) -> Result<(), Memory>
         ensures ok { OnOk result (self.new ≡ self.old ++ key.now ∷ []) }
         ensures err { OnErr result (self.new ≡ self.old) }

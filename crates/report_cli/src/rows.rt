@@ -63,7 +63,7 @@ pub(crate) fn write_total(
     )
 }
 
-/// The text that a writer has written.
+/// The text that a writer has written. Its last bytes go into memory only here, so that this can be refused too.
 pub(crate) fn text_of(writer: Writer<Vec<u8>>) -> Result<Vec<u8>, Memory>
     ensures { (text : List ℕ) → HasText writer text → IfOk result (λ all. all.items ≡ text) }
 {
@@ -74,11 +74,7 @@ pub(crate) fn text_of(writer: Writer<Vec<u8>>) -> Result<Vec<u8>, Memory>
 }
 
 /// Writes the row of each key of some logs with its count, by number.
-fn write_counts(
-    writer: &mut Writer<Vec<u8>>,
-    logs: &Logs,
-    counts: &[u64],
-) -> Result<(), Memory>
+fn write_counts(writer: &mut Writer<Vec<u8>>, logs: &Logs, counts: &[u64]) -> Result<(), Memory>
     requires { length logs.now.keys ≡ length counts.now }
     ensures { OnOk result ((text : List ℕ) → HasText writer.old text
         → HasText writer.new (text ++ count_rows logs.now.keys counts.now)) }
@@ -105,3 +101,6 @@ pub(crate) fn count_rows_text(
     write_total(&mut writer, committed, appended)?;
     text_of(writer)
 }
+
+#[cfg(test)]
+mod tests;

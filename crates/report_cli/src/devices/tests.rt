@@ -8,10 +8,10 @@ use std::test::Fail;
 /// Gives one byte a read, and fails from the read at `fails_at` on.
 #[derive(Drop)]
 pub(crate) struct Drip {
-    bytes: Vec<u8>,
-    at: usize,
-    fails_at: usize,
-    failures: u64,
+    pub(crate) bytes: Vec<u8>,
+    pub(crate) at: usize,
+    pub(crate) fails_at: usize,
+    pub(crate) failures: u64,
 }
 
 impl Source for Drip {

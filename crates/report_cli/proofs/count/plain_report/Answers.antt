@@ -7,5 +7,5 @@ use Rattle.report_cli.proofs.count.plain_report.Goals as goal
 pub count_rows_text-requires : goal.count_rows_text-requires
 unfolding counts_of
 count_rows_text-requires g c =
-    let keys = c.args.keys.now in
+    let keys = c.args.keys in
     ap length c.in_ok-logs.ensures.keys ∙ sym (length-map (distinct keys) (plain keys)) ∙ sym (ap length (c.as_slice.ensures.value ∙ c.in_ok-logs.ensures.counts))

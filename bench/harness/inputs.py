@@ -1,0 +1,193 @@
+"""The inputs, which are made from a fixed seed: the same bytes on every machine."""
+
+from __future__ import annotations
+
+import hashlib
+import json
+import os
+from dataclasses import dataclass
+from itertools import accumulate, islice
+from pathlib import Path
+from random import Random
+from typing import Callable, Iterator
+
+SEED = 1729
+CHUNK = 100_000
+WORD = (1 << 64) - 1
+
+
+@dataclass(frozen=True)
+class Shape:
+    """A kind of input. Its tenth is the beginning of its full size."""
+
+    name: str
+    title: str
+    full: int
+    column: int
+    quoted: bool
+    chunks: Callable[[int], Iterator[str]]
+
+
+@dataclass(frozen=True)
+class Input:
+    """An input of a shape and a number of records."""
+
+    shape: Shape
+    records: int
+    path: Path
+
+    @property
+    def stamp(self) -> Path:
+        """Where it is noted how the file was made."""
+        return self.path.with_suffix(".made")
+
+
+@dataclass(frozen=True)
+class Made:
+    """What is noted of a made file: the maker, how long the file is, and the hash of its bytes."""
+
+    maker: str
+    size: int
+    digest: str
+
+
+def chunk_sizes(records: int) -> Iterator[int]:
+    """The numbers of records of the chunks of a file."""
+    for start in range(0, records, CHUNK):
+        yield min(CHUNK, records - start)
+
+
+def lines_of(records: Iterator[str] | list[str]) -> str:
+    """Records as lines."""
+    return "\n".join(records) + "\n"
+
+
+def zipf(count: int) -> list[float]:
+    """Summed weights of which the one of rank n is 1/n."""
+    return list(accumulate(1 / rank for rank in range(1, count + 1)))
+
+
+def short_keys(records: int) -> Iterator[str]:
+    """Short keys, Zipf-like over 100,000."""
+    rng = Random(SEED)
+    keys = [f"u{number}" for number in range(100_000)]
+    rng.shuffle(keys)
+    weights = zipf(len(keys))
+    for size in chunk_sizes(records):
+        yield lines_of(rng.choices(keys, cum_weights=weights, k=size))
+
+
+def distinct_words() -> Iterator[str]:
+    """Words of 16 digits, no two the same: the steps of a generator of full period, each mixed so that it can be
+    told back."""
+    state = SEED
+    while True:
+        state = (state * 6364136223846793005 + 1442695040888963407) & WORD
+        yield "%016x" % (state ^ (state >> 33))
+
+
+def distinct_keys(records: int) -> Iterator[str]:
+    """Keys of 16 bytes, each once."""
+    words = distinct_words()
+    for size in chunk_sizes(records):
+        yield lines_of(islice(words, size))
+
+
+def field(text: str) -> str:
+    """A field of a record, in quotes where it needs them."""
+    if "," in text or '"' in text:
+        return '"' + text.replace('"', '""') + '"'
+    return text
+
+
+def customer(number: int) -> str:
+    """A name: of nine, two have a comma, and one a comma and quotes."""
+    if number % 9 == 0:
+        return f'The "{number}" Shop, Ltd'
+    return f"Customer {number}, Sons" if number % 3 == 0 else f"Customer {number}"
+
+
+def item(number: int) -> str:
+    """A key: of two hundred, three have a comma, and one quotes."""
+    if number % 200 == 0:
+        return f'item-{number} 3" wide'
+    return f"item-{number}, red" if number % 50 == 0 else f"item-{number}"
+
+
+def note(number: int) -> str:
+    """A note: of four, one has a comma and quotes."""
+    return f'said "call {number}", twice' if number % 4 == 0 else f"note {number}"
+
+
+def quoted_records(records: int) -> Iterator[str]:
+    """Records of five fields, some of them quoted, the key in the third, Zipf-like over 20,000."""
+    rng = Random(SEED)
+    customers = [field(customer(number)) for number in range(5_000)]
+    items = [field(item(number)) for number in range(20_000)]
+    amounts = [f"{cents // 100}.{cents % 100:02}" for cents in range(0, 100_000, 7)]
+    notes = [field(note(number)) for number in range(5_000)]
+    rng.shuffle(items)
+    weights = zipf(len(items))
+    numbers = iter(range(1, records + 1))
+    for size in chunk_sizes(records):
+        columns = (
+            map(str, islice(numbers, size)),
+            rng.choices(customers, k=size),
+            rng.choices(items, cum_weights=weights, k=size),
+            rng.choices(amounts, k=size),
+            rng.choices(notes, k=size),
+        )
+        yield lines_of(map(",".join, zip(*columns)))
+
+
+SHAPES = (
+    Shape("short", "short keys, Zipf-like over 100,000", 10_000_000, 1, False, short_keys),
+    Shape("distinct", "distinct keys of 16 bytes", 5_000_000, 1, False, distinct_keys),
+    Shape("quoted", "records of five fields, some quoted, key in the third", 1_000_000, 3, True, quoted_records),
+)
+
+
+def input_of(shape: Shape, folder: Path, tenth: bool) -> Input:
+    """The input of a shape, in its full size or a tenth of it."""
+    if tenth:
+        return Input(shape, shape.full // 10, folder / f"{shape.name}-tenth.csv")
+    return Input(shape, shape.full, folder / f"{shape.name}.csv")
+
+
+def maker() -> str:
+    """Tells makers of inputs apart: the hash of this file."""
+    return hashlib.sha256(Path(__file__).read_bytes()).hexdigest()
+
+
+def noted(target: Input) -> Made | None:
+    """What is noted of an input, where it is there and whole, and this maker made it."""
+    try:
+        made = Made(**json.loads(target.stamp.read_text()))
+        whole = made.size == target.path.stat().st_size
+    except (OSError, ValueError, TypeError):
+        return None
+    return made if whole and made.maker == maker() else None
+
+
+def write(target: Input) -> Made:
+    """Writes an input, and tells what is to be noted."""
+    digest, size = hashlib.sha256(), 0
+    part = target.path.with_suffix(".part")
+    with open(part, "wb") as file:
+        for chunk in target.shape.chunks(target.records):
+            data = chunk.encode("ascii")
+            digest.update(data)
+            size += file.write(data)
+    os.replace(part, target.path)
+    return Made(maker(), size, digest.hexdigest())
+
+
+def make(target: Input) -> Made:
+    """Makes an input, unless it is there."""
+    made = noted(target)
+    if made is not None:
+        return made
+    target.stamp.unlink(missing_ok=True)
+    made = write(target)
+    target.stamp.write_text(json.dumps(made.__dict__) + "\n")
+    return made

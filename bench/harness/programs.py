@@ -1,0 +1,112 @@
+"""The programs that are measured: ours, what else counts keys, and the limits."""
+
+from __future__ import annotations
+
+import shutil
+import subprocess
+from dataclasses import dataclass
+from pathlib import Path
+from typing import Callable
+
+from harness.check import Reader, counted_lines, counted_rows, key_rows
+from harness.inputs import Input
+from harness.measure import Pipeline
+
+OURS = "keycount"
+
+
+@dataclass(frozen=True)
+class Program:
+    """A program over some input. A limit tells no counts, and has no reader."""
+
+    name: str
+    pipeline: Pipeline
+    reader: Reader | None
+
+
+@dataclass(frozen=True)
+class Tool:
+    """What a program needs to be there, the Debian package that has it, and the words that tell its version."""
+
+    command: str
+    package: str
+    version: tuple[str, ...]
+
+
+TOOLS = {
+    "mawk": Tool("mawk", "mawk", ("-W", "version")),
+    "gawk": Tool("gawk", "gawk", ("--version",)),
+    "sort | uniq -c": Tool("sort", "coreutils", ("--version",)),
+    "mlr": Tool("mlr", "miller", ("--version",)),
+    "Rust peer": Tool("rustc", "rustc", ("--version",)),
+}
+
+
+def ours(program: Path, target: Input) -> Program:
+    """The program of this repository."""
+    column = [] if target.shape.column == 1 else ["--column", str(target.shape.column)]
+    return Program(OURS, [[str(program), "count", *column, str(target.path)]], counted_rows)
+
+
+def awk(name: str, target: Input) -> Program:
+    """An awk, which splits at every comma where it has to split."""
+    column = target.shape.column
+    key, split = ("$0", []) if column == 1 else (f"${column}", ["-F,"])
+    text = f"{{ n[{key}]++ }} END {{ for (k in n) print n[k], k }}"
+    return Program(name, [[name, *split, text, str(target.path)]], counted_lines)
+
+
+def sort_uniq(target: Input) -> Program:
+    """sort and uniq, after a cut at every comma where there has to be one."""
+    path, column = str(target.path), target.shape.column
+    first = [["sort", path]] if column == 1 else [["cut", "-d,", f"-f{column}", path], ["sort"]]
+    return Program("sort | uniq -c", [*first, ["uniq", "-c"]], counted_lines)
+
+
+def miller(target: Input) -> Program:
+    """Miller, which reads quoted fields."""
+    form = ["--icsv", "--implicit-csv-header", "--ocsv", "--headerless-csv-output"]
+    work = ["count-distinct", "-f", str(target.shape.column)]
+    return Program("mlr", [["mlr", *form, *work, str(target.path)]], key_rows)
+
+
+def rust_peer(built: Path, target: Input) -> Program:
+    """The Rust program beside this one."""
+    words = [str(built), str(target.path), str(target.shape.column)]
+    return Program("Rust peer", [words], counted_rows)
+
+
+def limits(target: Input) -> list[Program]:
+    """What no program that reads the file can be below."""
+    path = str(target.path)
+    return [Program("cat", [["cat", path]], None), Program("wc -l", [["wc", "-l", path]], None)]
+
+
+def makers(built: Path) -> dict[str, Callable[[Input], Program]]:
+    """What makes the peers, by their names."""
+    return {
+        "mawk": lambda target: awk("mawk", target),
+        "gawk": lambda target: awk("gawk", target),
+        "sort | uniq -c": sort_uniq,
+        "mlr": miller,
+        "Rust peer": lambda target: rust_peer(built, target),
+    }
+
+
+def build_peer(source: Path, built: Path) -> bool:
+    """Builds the Rust peer, and tells whether that could be done."""
+    command = ["rustc", "--edition", "2021", "-O", "-o", str(built), str(source)]
+    return subprocess.run(command, stderr=subprocess.DEVNULL, check=False).returncode == 0
+
+
+def is_there(name: str) -> bool:
+    """Whether what a peer needs is there."""
+    return shutil.which(TOOLS[name].command) is not None
+
+
+def version_of(name: str) -> str:
+    """What a peer's tool tells of itself: the first line, up to a comma."""
+    tool = TOOLS[name]
+    told = subprocess.run([tool.command, *tool.version], capture_output=True, check=False)
+    lines = (told.stdout or told.stderr).decode(errors="replace").splitlines()
+    return lines[0].partition(",")[0].strip() if lines else tool.command

@@ -1,0 +1,117 @@
+"""What was measured, as tables."""
+
+from __future__ import annotations
+
+from dataclasses import dataclass, field
+from statistics import median
+from typing import Iterable, Sequence
+
+from harness.measure import Run
+
+MB = 1_000_000
+HEAD = ("program", "runs", "median s", "min..max s", "CPU s", "peak MB", "time/ours", "memory/ours")
+NONE = "-"
+
+
+@dataclass
+class Result:
+    """The runs of a program over an input, or why none of its runs counts."""
+
+    name: str
+    runs: list[Run] = field(default_factory=list)
+    verdict: str = ""
+    reason: str = ""
+
+    @property
+    def wall(self) -> float:
+        """The median of its seconds."""
+        return median(run.wall for run in self.runs)
+
+    @property
+    def cpu(self) -> float:
+        """The median of its processor seconds."""
+        return median(run.cpu for run in self.runs)
+
+    @property
+    def peak(self) -> int:
+        """The highest of its peaks."""
+        return max(run.peak for run in self.runs)
+
+
+@dataclass(frozen=True)
+class Scale:
+    """What results are told by: ours, how many runs were wanted, and the least peak that can be told."""
+
+    ours: Result
+    wanted: int
+    floor: int
+
+    def is_told(self, peak: int) -> bool:
+        """Whether a peak is one of the program, and not of its launch."""
+        return peak > self.floor * 1.05
+
+
+def runs_cell(result: Result, scale: Scale) -> str:
+    """How many runs there were, with a mark where they are fewer than wanted."""
+    return f"{len(result.runs)}{'*' if len(result.runs) < scale.wanted else ''}"
+
+
+def peak_cells(result: Result, scale: Scale) -> list[str]:
+    """The peak, and its ratio to ours."""
+    if not scale.is_told(result.peak):
+        return [f"<={scale.floor / MB:.1f}", NONE]
+    return [f"{result.peak / MB:.1f}", f"{result.peak / scale.ours.peak:.2f}"]
+
+
+def cells(result: Result, scale: Scale) -> list[str]:
+    """The row of a result."""
+    if not result.runs:
+        return [result.name, NONE, result.verdict, *[NONE] * 5]
+    walls = [run.wall for run in result.runs]
+    spread = f"{min(walls):.3f}..{max(walls):.3f}"
+    peak, memory_ratio = peak_cells(result, scale)
+    ratio = f"{result.wall / scale.ours.wall:.2f}"
+    seconds = [f"{result.wall:.3f}", spread, f"{result.cpu:.3f}"]
+    return [result.name, runs_cell(result, scale), *seconds, peak, ratio, memory_ratio]
+
+
+def plain(rows: Sequence[Sequence[str]]) -> str:
+    """Rows as a table in plain text."""
+    widths = [max(map(len, column)) for column in zip(*rows)]
+    return "\n".join(plain_line(row, widths) for row in rows)
+
+
+def plain_line(row: Sequence[str], widths: Sequence[int]) -> str:
+    """A row, with the name at the left and numbers at the right."""
+    numbers = (cell.rjust(width) for cell, width in zip(row[1:], widths[1:]))
+    return "  ".join([row[0].ljust(widths[0]), *numbers])
+
+
+def markdown(rows: Sequence[Sequence[str]]) -> str:
+    """Rows as a Markdown table."""
+    rule = ["---", *["---:"] * (len(rows[0]) - 1)]
+    return "\n".join(markdown_line(row) for row in (rows[0], rule, *rows[1:]))
+
+
+def markdown_line(row: Sequence[str]) -> str:
+    """A row of a Markdown table."""
+    return "| " + " | ".join(cell.replace("|", "\\|").replace("*", "\\*") for cell in row) + " |"
+
+
+def notes(results: Iterable[Result], scale: Scale) -> list[str]:
+    """What the table can't hold."""
+    results = list(results)
+    found = [f"{result.verdict}: {result.name}: {result.reason}" for result in results if result.verdict]
+    if any(0 < len(result.runs) < scale.wanted for result in results):
+        found.append(f"* fewer than {scale.wanted} runs: the time for this input would not have held more")
+    return found
+
+
+def growth(tenth: Iterable[Result], full: Iterable[Result], scale: Scale) -> list[str]:
+    """How many times as much a tenth becomes at full size: ten times is linear."""
+    before = {result.name: result for result in tenth if result.runs}
+    both = [(before[result.name], result) for result in full if result.runs and result.name in before]
+    times = [f"{after.name} {after.wall / small.wall:.1f}" for small, after in both]
+    told = [pair for pair in both if all(scale.is_told(result.peak) for result in pair)]
+    peaks = [f"{after.name} {after.peak / small.peak:.1f}" for small, after in told]
+    return [f"growth of time, full / tenth: {', '.join(times)}", f"growth of memory, full / tenth: {', '.join(peaks)}"]

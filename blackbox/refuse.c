@@ -1,0 +1,63 @@
+/* Refuses one call of the program that it is loaded into: of malloc and realloc, of read, or of write to standard output.
+   REFUSE is the kind of call, REFUSE_NTH its number, counted from 1; the file REFUSE_MARK is made when it is refused.
+   With REFUSE_SHORT each read and write moves one byte at the most. */
+#define _GNU_SOURCE
+#include <errno.h>
+#include <fcntl.h>
+#include <stdlib.h>
+#include <string.h>
+#include <sys/syscall.h>
+#include <unistd.h>
+
+extern void *__libc_malloc(size_t);
+extern void *__libc_realloc(void *, size_t);
+
+static long count;
+
+static int refuses(const char *kind) {
+    const char *wanted = getenv("REFUSE"), *nth = getenv("REFUSE_NTH"), *mark = getenv("REFUSE_MARK");
+    if (!wanted || !nth || !mark || strcmp(wanted, kind) != 0 || ++count != atol(nth))
+        return 0;
+    syscall(SYS_close, syscall(SYS_openat, AT_FDCWD, mark, O_CREAT | O_WRONLY, 0600));
+    return 1;
+}
+
+static size_t moved(size_t wanted) {
+    return getenv("REFUSE_SHORT") && wanted > 1 ? 1 : wanted;
+}
+
+void *malloc(size_t size) {
+    if (refuses("malloc")) {
+        errno = ENOMEM;
+        return NULL;
+    }
+    return __libc_malloc(size);
+}
+
+void *realloc(void *old, size_t size) {
+    if (refuses("malloc")) {
+        errno = ENOMEM;
+        return NULL;
+    }
+    return __libc_realloc(old, size);
+}
+
+ssize_t read(int fd, void *buf, size_t size) {
+    if (refuses("read")) {
+        errno = EIO;
+        return -1;
+    }
+    return syscall(SYS_read, fd, buf, moved(size));
+}
+
+ssize_t write(int fd, const void *buf, size_t size) {
+    if (fd == STDOUT_FILENO && refuses("write")) {
+        errno = ENOSPC;
+        return -1;
+    }
+    return syscall(SYS_write, fd, buf, moved(size));
+}
+
+ssize_t __write(int fd, const void *buf, size_t size) {
+    return write(fd, buf, size);
+}
