@@ -7,13 +7,18 @@ import hashlib
 import subprocess
 from collections import Counter
 from dataclasses import dataclass
+from itertools import islice
 from pathlib import Path
-from typing import Callable, Iterable, Iterator
+from typing import Callable, Iterable, Iterator, Sequence
 
 from harness.measure import ENVIRONMENT
 
-Pairs = Iterator["tuple[str, str]"]
-Reader = Callable[[Path], Pairs]
+# Some keys, and as many counts.
+Batch = tuple[Sequence[str], Sequence[str]]
+Reader = Callable[[Path], Iterator[Batch]]
+
+# How many rows of an output are held at once.
+HELD = 500
 
 
 @dataclass(frozen=True)
@@ -33,63 +38,75 @@ class Totals:
         return "" if self.digest == ours.digest else "other counts"
 
 
-def csv_rows(path: Path) -> Iterator[list[str]]:
+def csv_batches(path: Path) -> Iterator[list[list[str]]]:
     """The records of a CSV file, each byte of it as a character."""
     with open(path, encoding="latin-1", newline="") as file:
-        yield from csv.reader(file)
+        rows = csv.reader(file)
+        while batch := list(islice(rows, HELD)):
+            yield batch
 
 
-def counted_rows(path: Path) -> Pairs:
+def columns(rows: Sequence[Sequence[str]], width: int) -> list[tuple[str, ...]]:
+    """The columns of rows, which have to be of this width."""
+    if any(len(row) != width for row in rows):
+        raise ValueError(f"a row has not {width} fields")
+    return list(zip(*rows)) if rows else [()] * width
+
+
+def counted_rows(path: Path) -> Iterator[Batch]:
     """Of rows `count,KEY,N` and a last one `total,N,N`."""
-    records, total = 0, None
-    for row in csv_rows(path):
-        if total is not None or len(row) != 3:
-            raise ValueError(f"a row of {len(row)} fields")
-        if row[0] == "total":
-            total = row[1:]
-        else:
-            records += int(row[2])
-            yield row[1], row[2]
-    if total != [str(records)] * 2:
+    records, total = 0, [""]
+    for rows in csv_batches(path):
+        total = rows[-1]
+        if total[0] == "total":
+            rows.pop()
+        tags, keys, counts = columns(rows, 3)
+        if any(tag != "count" for tag in tags):
+            raise ValueError("a row is no row of a count")
+        records += sum(map(int, counts))
+        yield keys, counts
+    if total != ["total", str(records), str(records)]:
         raise ValueError("the last row is not the sum of the counts")
 
 
-def key_rows(path: Path) -> Pairs:
+def key_rows(path: Path) -> Iterator[Batch]:
     """Of rows `KEY,N`."""
-    for row in csv_rows(path):
-        if len(row) != 2:
-            raise ValueError(f"a row of {len(row)} fields")
-        yield row[0], row[1]
+    for rows in csv_batches(path):
+        keys, counts = columns(rows, 2)
+        yield keys, counts
 
 
-def counted_lines(path: Path) -> Pairs:
+def counted_lines(path: Path) -> Iterator[Batch]:
     """Of lines `N KEY`, with spaces before the count."""
     with open(path, encoding="latin-1", newline="\n") as file:
-        for line in file:
-            count, _, key = line.strip("\n").lstrip(" ").partition(" ")
-            yield key, count
+        while lines := list(islice(file, HELD)):
+            counts, keys = columns([line.rstrip("\n").lstrip(" ").split(" ", 1) for line in lines], 2)
+            yield keys, counts
 
 
-def totals(pairs: Iterable[tuple[str, str]], scratch: Path) -> Totals:
+def counts_by_csv(path: Path, column: int) -> Iterator[Batch]:
+    """The counts of an input by Python's own reader of CSV. All keys are held."""
+    held: Counter[str] = Counter()
+    for rows in csv_batches(path):
+        held.update(row[column - 1] for row in rows)
+    yield list(held.keys()), list(map(str, held.values()))
+
+
+def totals(batches: Iterable[Batch], scratch: Path) -> Totals:
     """The totals of some pairs. They are sorted by sort, in little memory."""
-    keys, records = 0, 0
+    keys_told, records = 0, 0
     command = ["sort", "-S", "256M", "-T", str(scratch)]
     sorter = subprocess.Popen(command, stdin=subprocess.PIPE, stdout=subprocess.PIPE, env=ENVIRONMENT)
     with sorter, sorter.stdout as lines:
         with sorter.stdin as sink:
-            for key, count in pairs:
-                keys += 1
-                records += int(count)
-                sink.write(f"{key}\t{count}\n".encode("latin-1"))
+            for keys, counts in batches:
+                keys_told += len(keys)
+                records += sum(map(int, counts))
+                text = "".join(f"{key}\t{count}\n" for key, count in zip(keys, counts))
+                sink.write(text.encode("latin-1"))
         digest = hashlib.sha256()
         while block := lines.read(1 << 20):
             digest.update(block)
     if sorter.returncode != 0:
         raise OSError(f"sort ended with status {sorter.returncode}")
-    return Totals(digest.hexdigest(), keys, records)
-
-
-def counts_by_csv(path: Path, column: int) -> Pairs:
-    """The counts of an input by Python's own reader of CSV. All keys are held."""
-    for key, count in Counter(row[column - 1] for row in csv_rows(path)).items():
-        yield key, str(count)
+    return Totals(digest.hexdigest(), keys_told, records)

@@ -154,19 +154,28 @@ def input_of(shape: Shape, folder: Path, tenth: bool) -> Input:
     return Input(shape, shape.full, folder / f"{shape.name}.csv")
 
 
+def digest_of(path: Path) -> str:
+    """The hash of the bytes of a file."""
+    digest = hashlib.sha256()
+    with open(path, "rb") as file:
+        while block := file.read(1 << 20):
+            digest.update(block)
+    return digest.hexdigest()
+
+
 def maker() -> str:
     """Tells makers of inputs apart: the hash of this file."""
-    return hashlib.sha256(Path(__file__).read_bytes()).hexdigest()
+    return digest_of(Path(__file__))
 
 
 def noted(target: Input) -> Made | None:
-    """What is noted of an input, where it is there and whole, and this maker made it."""
+    """What is noted of an input, where this maker made it and it is still the same."""
     try:
         made = Made(**json.loads(target.stamp.read_text()))
-        whole = made.size == target.path.stat().st_size
+        same = made.maker == maker() and made.digest == digest_of(target.path)
     except (OSError, ValueError, TypeError):
         return None
-    return made if whole and made.maker == maker() else None
+    return made if same else None
 
 
 def write(target: Input) -> Made:

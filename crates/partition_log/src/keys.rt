@@ -1,28 +1,32 @@
 //! The keys of all logs, numbered in the order of their first appearance.
 
-ghost use Rattle.std.specs.Prelude.{◌≡◌, ◌<◌, ◌≤◌, ◌-◌, ◌^◌, [], IfOk, IfSome, IfNone, OnOk, OnErr, MatchOption, length, true, false};
+ghost use Rattle.std.specs.Prelude.{◌≡◌, ◌<◌, ◌≤◌, ◌-◌, ◌^◌, [], IfOk, IfSome, IfNone, OnErr, length, true, false};
 ghost use Rattle.partition_log.specs.Keys.{is_known, key_at, number_of, with_key};
 
+use crate::stored_key::{SHORT, StoredKey};
 use indexmap::IndexSet;
 use lane_words::Memory;
 use std::alloc::Global;
 use std::hash::RandomState;
 use std::marker::Model;
+use std::mem;
 use std::random::RandomSource;
 
 /// Keys by their numbers. The hasher is drawn anew for each, since strangers choose the keys.
 #[derive(Drop)]
 pub(crate) struct KeyNumbers {
     alloc: Global,
-    set: IndexSet<Vec<u8>, RandomState>,
+    set: IndexSet<StoredKey, RandomState>,
+    // What a long key is looked up by: it keeps its memory from one look-up to the next.
+    query: Vec<u8>,
 }
 
 impl Model for KeyNumbers {
-    ghost use Rattle.std.specs.Prelude.{List, ℕ, map, vec_items, length, ◌≤◌, ◌-◌, ◌^◌};
+    ghost use Rattle.std.specs.Prelude.{List, ℕ, length, ◌≤◌, ◌-◌, ◌^◌};
 
     ghost Value = { List (List ℕ) };
 
-    ghost view = { λ k. map vec_items k.set.keys };
+    ghost view = { λ k. k.set.keys };
 
     ghost invariant = { λ k. length k.set.keys ≤ 2 ^ 32 - 1 };
 }
@@ -38,6 +42,7 @@ impl KeyNumbers {
         Ok(KeyNumbers {
             alloc,
             set: IndexSet::with_hasher(alloc, hasher),
+            query: Vec::new(alloc),
         })
     }
 
@@ -56,15 +61,21 @@ impl KeyNumbers {
         self.set.as_slice()[number as usize].as_slice()
     }
 
-    /// The number of a key, where it is known. It takes no memory.
-    pub(crate) fn find(&self, key: &[u8]) -> Option<u32>
-        ensures known { IfSome result (λ n. (n ≡ number_of self.now key.now) × (n < length self.now) × (is_known self.now key.now ≡ true)) }
-        ensures fresh { IfNone result (is_known self.now key.now ≡ false) }
+    /// The number of a key, where it is known. It takes memory only for a key longer than any that was sought before.
+    pub(crate) fn find(&mut self, key: &[u8]) -> Result<Option<u32>, Memory>
+        ensures known { IfOk result (λ found. IfSome found (λ n. (n ≡ number_of self.old key.now) × (n < length self.old) × (is_known self.old key.now ≡ true))) }
+        ensures fresh { IfOk result (λ found. IfNone found (is_known self.old key.now ≡ false)) }
+        ensures same { self.new ≡ self.old }
     {
-        let Some(number) = self.set.get_index_of(key) else {
-            return None;
-        };
-        Some(number as u32)
+        if key.len() <= SHORT {
+            return Ok(find_in(&self.set, &StoredKey::short(key)));
+        }
+        let query = long_query(self.alloc, &mut self.query, key)?;
+        let found = find_in(&self.set, &query);
+        if let Some(text) = query.into_text() {
+            self.query = text;
+        }
+        Ok(found)
     }
 
     /// Numbers a new key, whose bytes are stored once.
@@ -74,8 +85,44 @@ impl KeyNumbers {
         ensures ok { IfOk result (λ n. (n ≡ number_of self.old key.now) × (self.new ≡ with_key self.old key.now)) }
         ensures err { OnErr result (self.new ≡ self.old) }
     {
-        let copy = Vec::from_slice(self.alloc, key)?;
-        let (number, _) = self.set.insert_full(copy)?;
+        let stored = stored_key(self.alloc, key)?;
+        let (number, _) = self.set.insert_full(stored)?;
         Ok(number as u32)
     }
+}
+
+/// The number of a key of a set, where it is there.
+fn find_in(set: &IndexSet<StoredKey, RandomState>, key: &StoredKey) -> Option<u32>
+    requires { length set.now.keys ≤ 2 ^ 32 - 1 }
+    ensures known { IfSome result (λ n. (n ≡ number_of set.now.keys key.now) × (n < length set.now.keys) × (is_known set.now.keys key.now ≡ true)) }
+    ensures fresh { IfNone result (is_known set.now.keys key.now ≡ false) }
+{
+    let Some(number) = set.get_index_of(key) else {
+        return None;
+    };
+    Some(number as u32)
+}
+
+/// A long key to look up, in the memory of the last one.
+fn long_query(alloc: Global, last: &mut Vec<u8>, key: &[u8]) -> Result<StoredKey, Memory>
+    ensures { IfOk result (λ query. query ≡ key.now) }
+{
+    let mut text = mem::replace(last, Vec::new(alloc));
+    text.clear();
+    if text.extend_from_slice(key).is_err() {
+        *last = text;
+        return Err(Memory);
+    }
+    Ok(StoredKey::long(text))
+}
+
+/// A key to keep.
+fn stored_key(alloc: Global, key: &[u8]) -> Result<StoredKey, Memory>
+    ensures { IfOk result (λ stored. stored ≡ key.now) }
+{
+    if key.len() <= SHORT {
+        return Ok(StoredKey::short(key));
+    }
+    let text = Vec::from_slice(alloc, key)?;
+    Ok(StoredKey::long(text))
 }

@@ -9,6 +9,9 @@ ghost use Rattle.partition_log.specs.Keys.{Key, key_at, number_of, with_key};
 ghost use Rattle.partition_log.specs.Logs.{append_answer, with_record, log_at, place_in, finds_no_room, longest_key, most_records, AreLogs, AreLogsOf, PartitionLogs};
 
 mod keys;
+#[cfg(test)]
+mod plain_keys;
+mod stored_key;
 
 use keys::KeyNumbers;
 use lane_words::{Memory, Refusal};
@@ -204,7 +207,7 @@ fn push_number(keys: &mut KeyNumbers, log: &mut Vec<u32>, key: &[u8]) -> Result<
     if offset >= LIMIT as usize {
         return Err(Refusal::LogFull);
     }
-    if let Some(number) = keys.find(key) {
+    if let Some(number) = keys.find(key)? {
         log.push(number)?;
         return Ok(offset as u32);
     }

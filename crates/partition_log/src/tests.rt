@@ -19,12 +19,14 @@ fn appends_in_order_of_place(rt: HostRuntime) -> Result<(), Fail> {
         assert_eq!(rt; logs.append(key), Ok((place, offset)), "{key:?}");
     }
     assert_eq!(rt; logs.keys(), 4);
-    assert_eq!(rt; logs.len(0), 2);
-    assert_eq!(rt; logs.len(3), 1);
-    assert_eq!(rt; logs.ids(0, 0, 2), [0, 0].as_slice());
-    assert_eq!(rt; logs.ids(2, 1, 1), [].as_slice());
     assert_eq!(rt; logs.key(0), b"21".as_slice());
     assert_eq!(rt; logs.key(3), b"abc".as_slice());
+    let ids: [(u32, &[u32]); 4] = [(0, &[0, 0]), (1, &[1]), (2, &[2]), (3, &[3])];
+    for (p, numbers) in ids {
+        assert!(rt; p < logs.partitions());
+        assert_eq!(rt; logs.len(p) as usize, numbers.len());
+        assert_eq!(rt; logs.ids(p, 0, logs.len(p)), numbers);
+    }
     Ok(())
 }
 
@@ -37,5 +39,32 @@ fn takes_keys_up_to_the_longest(rt: HostRuntime) -> Result<(), Fail> {
     assert_eq!(rt; logs.append(b""), Ok((0, 1)));
     assert_eq!(rt; logs.keys(), 2);
     assert_eq!(rt; logs.key(0).len(), 65535);
+    Ok(())
+}
+
+#[test]
+fn keys_are_numbered_as_by_the_plain_form(rt: HostRuntime) -> Result<(), Fail> {
+    let mut keys = KeyNumbers::new(&rt, rt.alloc())?;
+    let mut plain = plain_keys::PlainKeys::new(&rt, rt.alloc())?;
+    let bytes = vec![in rt.alloc(); 0x80_u8; 64]?;
+    // Each length twice, round the longest that is kept in place, and then once more with another last byte.
+    for round in 0..3_u8 {
+        for size in 0..=40_usize {
+            let mut key = Vec::from_slice(rt.alloc(), &bytes[..size])?;
+            if round == 2 {
+                key.push(b'x')?;
+            }
+            match (keys.find(key.as_slice())?, plain.find(key.as_slice())) {
+                (None, None) if keys.count() < 1000 && plain.count() < 1000 => {
+                    assert_eq!(rt; keys.add(key.as_slice())?, plain.add(key.as_slice())?);
+                }
+                (found, known) => assert_eq!(rt; found, known),
+            }
+        }
+    }
+    assert_eq!(rt; keys.count(), plain.count());
+    for number in 0..keys.count().min(plain.count()) {
+        assert_eq!(rt; keys.key(number), plain.key(number));
+    }
     Ok(())
 }

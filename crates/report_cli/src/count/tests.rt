@@ -1,5 +1,8 @@
 //! The worked rows of a count, over devices that give and take little, and that fail.
 
+ghost use Rattle.std.specs.Prelude.{◌≡◌, ◌≤◌, IfOk};
+ghost use Rattle.report_cli.specs.Report.{AreInRange};
+
 use super::*;
 use crate::devices::tests::{Drip, Page};
 use crate::{FromRead, FromWrite};

@@ -4,7 +4,7 @@ use Rattle.std.specs.Str.{bytes_eq}
 use Rattle.std.proofs.lemmas.List.{length-map}
 use Rattle.partition_log.specs.Keys.{is_known, number_of}
 use Rattle.partition_log.proofs.Numbers.{list_any-map, position-is, position_or_len-map}
-use Rattle.partition_log.proofs.keys.KeyNumbers.find.Goals as goal
+use Rattle.partition_log.proofs.plain_keys.PlainKeys.find.Goals as goal
 
 pub returns-in_default-clause-fresh : goal.returns-in_default-clause-fresh
 returns-in_default-clause-fresh c =

@@ -4,7 +4,7 @@ use Rattle.std.specs.List.{list_any}
 use Rattle.std.specs.Str.{bytes_eq}
 use Rattle.partition_log.specs.Keys.{number_of, with_key}
 use Rattle.partition_log.proofs.Numbers.{added-map, list_any-map, position_or_len-map}
-use Rattle.partition_log.proofs.keys.KeyNumbers.add.Goals as goal
+use Rattle.partition_log.proofs.plain_keys.PlainKeys.add.Goals as goal
 
 pub returns-clause-ok : goal.returns-clause-ok
 returns-clause-ok c =

@@ -1,0 +1,115 @@
+//! A key as the set of keys keeps it.
+
+ghost use Rattle.std.specs.Prelude.{◌≡◌, ◌≤◌, length, Some, IfSome, vec_capacity};
+ghost use Rattle.std.proofs.Common.{rules};
+ghost use Rattle.std.specs.Cmp as compare;
+ghost use Rattle.std.specs.Cmp.Lexicographic.{nat_list_eq_equiv};
+ghost use Rattle.std.specs.Cmp.Rules.{comparing, hashing};
+ghost use Rattle.std.specs.Str.{bytes_eq};
+
+use std::hash::{Hash, Hasher};
+use std::marker::Model;
+
+/// The most bytes of a key that is kept in place: with its size and the variant it fills three words.
+pub(crate) const SHORT: usize = 22;
+
+/// Where a key's bytes lie.
+#[derive(Drop)]
+enum Place {
+    Here { bytes: [u8; 22], size: u8 },
+    Elsewhere(Vec<u8>),
+}
+
+/// A key. A short one lies in place, so that a look-up follows no pointer to it.
+#[derive(Drop)]
+pub(crate) struct StoredKey {
+    place: Place,
+}
+
+impl Model for StoredKey {
+    ghost use Rattle.std.specs.Prelude.{List, ℕ};
+
+    ghost Value = { List ℕ };
+
+    ghost use Rattle.partition_log.specs.StoredKey.{bytes_in, FitsInPlace};
+
+    ghost view = { λ k. bytes_in k.place };
+
+    ghost invariant = { λ k. FitsInPlace k.place };
+}
+
+impl StoredKey {
+    /// A short key, which takes no memory.
+    pub(crate) fn short(key: &[u8]) -> StoredKey
+        requires { length key.now ≤ 22 }
+        ensures { result ≡ key.now }
+    {
+        let mut bytes = [0u8; 22];
+        bytes[..key.len()].copy_from_slice(key);
+        StoredKey {
+            place: Place::Here {
+                bytes,
+                size: key.len() as u8,
+            },
+        }
+    }
+
+    /// A key in memory of its own.
+    pub(crate) fn long(text: Vec<u8>) -> StoredKey
+        ensures { result ≡ text.items }
+    {
+        StoredKey {
+            place: Place::Elsewhere(text),
+        }
+    }
+
+    /// The bytes of the key.
+    pub(crate) fn as_slice(&self) -> &[u8]
+        ensures { result.now ≡ self.now }
+    {
+        match &self.place {
+            Place::Here { bytes, size } => &bytes[..*size as usize],
+            Place::Elsewhere(text) => text.as_slice(),
+        }
+    }
+}
+
+impl StoredKey {
+    /// The memory of a long key, to be used again.
+    pub(crate) fn into_text(self) -> Option<Vec<u8>>
+        ensures { IfSome result (λ text. text.items ≡ self) }
+    {
+        let StoredKey { place } = self;
+        match place {
+            Place::Here { .. } => None,
+            Place::Elsewhere(text) => Some(text),
+        }
+    }
+}
+
+impl PartialEq for StoredKey {
+    ghost eq = { bytes_eq };
+
+    ghost laws = { compare.partial_equiv_from_equiv nat_list_eq_equiv };
+
+    fn eq(&self, other: &StoredKey) -> bool {
+        self.as_slice() == other.as_slice()
+    }
+}
+
+impl Eq for StoredKey {
+    ghost laws = { nat_list_eq_equiv };
+}
+
+// One write of all bytes: a slice's own hash would make a write a byte.
+impl Hash for StoredKey {
+    ghost use Rattle.std.specs.Prelude.{[], ◌∷◌};
+
+    ghost hash_input = { λ k. k ∷ [] };
+
+    ghost respects_eq = { Prim.search (hashing, rules) };
+
+    fn hash<H: Hasher>(&self, state: &mut H) {
+        state.write(self.as_slice());
+    }
+}
