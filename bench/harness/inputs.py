@@ -24,7 +24,6 @@ class Shape:
     title: str
     full: int
     column: int
-    quoted: bool
     chunks: Callable[[int], Iterator[str]]
 
 
@@ -141,9 +140,9 @@ def quoted_records(records: int) -> Iterator[str]:
 
 
 SHAPES = (
-    Shape("short", "short keys, Zipf-like over 100,000", 10_000_000, 1, False, short_keys),
-    Shape("distinct", "distinct keys of 16 bytes", 5_000_000, 1, False, distinct_keys),
-    Shape("quoted", "records of five fields, some quoted, key in the third", 1_000_000, 3, True, quoted_records),
+    Shape("short", "short keys, Zipf-like over 100,000", 10_000_000, 1, short_keys),
+    Shape("quoted", "records of five fields, some quoted, key in the third", 1_000_000, 3, quoted_records),
+    Shape("distinct", "distinct keys of 16 bytes", 5_000_000, 1, distinct_keys),
 )
 
 

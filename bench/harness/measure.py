@@ -80,13 +80,13 @@ def floor() -> int:
 
 
 def runs_each(seconds: Sequence[float], wanted: int, budget: float) -> list[int]:
-    """How many runs each program gets, from how long one run of each takes: as many as wanted, and where that is over
-    the budget, fewer of those that take the longest, but at least one. The first program gets all, and so do short
-    ones, of which little time is to be had."""
+    """How many more runs each program gets, from how long one run of each takes: as many as wanted, and where that is
+    over the budget, fewer of those that take the longest. The first program gets all, and so do short ones, of which
+    little time is to be had."""
     runs = [wanted] * len(seconds)
     long = [i for i in range(1, len(runs)) if seconds[i] >= LONG]
     while sum(n * s for n, s in zip(runs, seconds)) > budget:
-        spare = [i for i in long if runs[i] > 1]
+        spare = [i for i in long if runs[i] > 0]
         if not spare:
             break
         runs[max(spare, key=lambda i: runs[i] * seconds[i])] -= 1

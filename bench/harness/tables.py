@@ -3,7 +3,7 @@
 from __future__ import annotations
 
 from dataclasses import dataclass, field
-from statistics import median
+from statistics import fmean, median
 from typing import Iterable, Sequence
 
 from harness.measure import Run
@@ -21,6 +21,11 @@ class Result:
     runs: list[Run] = field(default_factory=list)
     verdict: str = ""
     reason: str = ""
+
+    @property
+    def mean(self) -> float:
+        """The mean of its seconds, which is none where there are no runs."""
+        return fmean(run.wall for run in self.runs) if self.runs else 0.0
 
     @property
     def wall(self) -> float:

@@ -1,5 +1,5 @@
 -- The logs of a list of keys, with one key more at its end.
-use Rattle.std.proofs.Common.{◌≡◌, ◌≢◌, ◌∙◌, ◌+◌, ◌<◌, ℕ, zero, suc, Bool, true, false, List, [], ◌∷◌, ◌++◌, length, map, get_or, sym, ap, refl, arith, inl, inr}
+use Rattle.std.proofs.Common.{◌≡◌, ◌≢◌, ◌∙◌, ◌<◌, ℕ, suc, Bool, true, false, List, [], ◌∷◌, ◌++◌, length, map, get_or, sym, ap, refl, arith, inl, inr}
 use Rattle.std.specs.Prelude.{◌==◌, filter}
 use Rattle.std.proofs.lemmas.Bool.{eq-eqb}
 use Rattle.std.proofs.lemmas.Bool.Decides.{eqb_tells}
@@ -8,7 +8,7 @@ use Rattle.std.proofs.lemmas.List.Elements.{filter-append}
 use Rattle.std.proofs.lemmas.List.Sums.{fold-append}
 use Rattle.partition_log.specs.Keys.{Key, distinct, key_at, number_of, with_key}
 use Rattle.partition_log.specs.Logs.{AreLogs, AreLogsOf, PartitionLogs, keys_of_log, log_at, place_in, with_record}
-use Rattle.partition_log.proofs.Growth.{Grows, grows}
+use Rattle.partition_log.proofs.Growth.{grows}
 use Rattle.partition_log.proofs.Kept.{is_place, log-other, log-same}
 
 -- two functions that agree at each element

@@ -12,7 +12,7 @@ use Rattle.lane_words.specs.declared.Refusal.TheVariants as r
 use Rattle.partitioner.proofs.Places.{place_of-below}
 use Rattle.partition_log.specs.Keys.{Key, is_known, key_at, number_of, with_key}
 use Rattle.partition_log.specs.Logs.{AreLogs, IsEntryOf, PartitionLogs, finds_no_room, is_full_for, log_at, longest_key, most_keys, most_records, place_in, with_record}
-use Rattle.partition_log.proofs.Growth.{Grows, grows, stays_apart}
+use Rattle.partition_log.proofs.Growth.{grows, stays_apart}
 
 -- the log of the key's place has one entry more
 pub log-same : (l : PartitionLogs) (key : Key) → place_in l key < length l.logs

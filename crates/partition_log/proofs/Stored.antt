@@ -1,6 +1,6 @@
 -- Where an appended record stands.
-use Rattle.std.proofs.Common.{◌≡◌, ◌∙◌, ◌+◌, ◌<◌, ◌≤◌, ℕ, Bool, true, false, List, [], ◌∷◌, ◌++◌, length, get_or, sym, ap, arith, inl, inr, length-append}
-use Rattle.std.specs.Prelude.{if◌then◌else◌, ◌⊎◌, nat_lt, Result, Ok, Err}
+use Rattle.std.proofs.Common.{◌≡◌, ◌∙◌, ◌+◌, ◌<◌, ℕ, Bool, true, false, List, [], ◌∷◌, ◌++◌, length, get_or, sym, ap, arith, inl, inr, length-append}
+use Rattle.std.specs.Prelude.{if◌then◌else◌, nat_lt, Result, Ok, Err}
 use Rattle.std.proofs.Math.Seq.{get_or-append_seam}
 use Rattle.lane_words.specs.Answers.{Answers}
 use Rattle.lane_words.specs.declared.Refusal.{Refusal}

@@ -1,6 +1,6 @@
 //! The keys of all logs, numbered in the order of their first appearance.
 
-ghost use Rattle.std.specs.Prelude.{◌≡◌, ◌<◌, ◌≤◌, ◌-◌, ◌^◌, [], IfOk, IfSome, IfNone, OnErr, length, true, false};
+ghost use Rattle.std.specs.Prelude.{◌≡◌, ◌<◌, ◌≤◌, ◌-◌, ◌^◌, [], IfOk, IfSome, IfNone, IsOk, OnErr, length, true, false};
 ghost use Rattle.partition_log.specs.Keys.{is_known, key_at, number_of, with_key};
 
 use crate::stored_key::{SHORT, StoredKey};
@@ -61,10 +61,11 @@ impl KeyNumbers {
         self.set.as_slice()[number as usize].as_slice()
     }
 
-    /// The number of a key, where it is known. It takes memory only for a key longer than any that was sought before.
+    /// The number of a key, where it is known. It takes memory only for a long key, where none as long was sought before.
     pub(crate) fn find(&mut self, key: &[u8]) -> Result<Option<u32>, Memory>
         ensures known { IfOk result (λ found. IfSome found (λ n. (n ≡ number_of self.old key.now) × (n < length self.old) × (is_known self.old key.now ≡ true))) }
         ensures fresh { IfOk result (λ found. IfNone found (is_known self.old key.now ≡ false)) }
+        ensures short { length key.now ≤ 22 → IsOk result }
         ensures same { self.new ≡ self.old }
     {
         if key.len() <= SHORT {

@@ -1,14 +1,14 @@
 -- The first key that can't be appended, as the logs tell it.
-use Rattle.std.proofs.Common.{◌≡◌, ◌∙◌, ◌+◌, ◌<◌, ℕ, Bool, true, false, List, [], ◌∷◌, ◌++◌, length, map, get_or, take, drop, suc, sym, ap, refl, inl, inr, subst, add-one, drop-cons}
-use Rattle.std.specs.Prelude.{if◌then◌else◌, ◌⊎◌, ◌==◌, filter, nat_lt, slice_get, Option, Some, None, Result, Ok, Err, IsOk}
+use Rattle.std.proofs.Common.{◌≡◌, ◌∙◌, ◌+◌, ◌<◌, ℕ, Bool, true, false, List, [], ◌∷◌, ◌++◌, length, get_or, take, drop, suc, sym, ap, refl, inl, inr, subst, add-one, drop-cons}
+use Rattle.std.specs.Prelude.{if◌then◌else◌, ◌⊎◌, nat_lt, slice_get, Option, Some, None, Result, Ok, Err, IsOk}
 use Rattle.std.proofs.lemmas.List.{length-map, take_more}
 use Rattle.lane_words.specs.declared.Refusal.{Refusal}
 use Rattle.lane_words.specs.declared.Refusal.TheVariants as r
-use Rattle.partition_log.specs.Keys.{Key, distinct, key_at}
-use Rattle.partition_log.specs.Logs.{AreLogs, AreLogsOf, PartitionLogs, append_answer, finds_no_room, is_full_for, log_at, longest_key, place_in, place_of}
+use Rattle.partition_log.specs.Keys.{Key, key_at}
+use Rattle.partition_log.specs.Logs.{AreLogs, AreLogsOf, PartitionLogs, append_answer, finds_no_room, is_full_for, log_at, longest_key, place_in}
 use Rattle.partition_log.proofs.Stored.{place_in-below}
 use Rattle.report_cli.proofs.Steps.{row_key}
-use Rattle.report_cli.specs.Report.{IsKeyFault, first_fault, key_fault, or_else, records_beside}
+use Rattle.report_cli.specs.Report.{IsKeyFault, first_fault, key_fault, records_beside}
 
 -- the fault that an answer tells
 abbrev pub fault_in : {T : Type 0} → Result T Refusal → Option Refusal

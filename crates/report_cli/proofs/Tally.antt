@@ -1,6 +1,6 @@
 -- One more key in a tally.
-use Rattle.std.proofs.Common.{◌≡◌, ◌≢◌, ◌∙◌, ◌+◌, ◌<◌, ◌≤◌, ℕ, suc, Bool, true, false, List, [], ◌∷◌, ◌++◌, length, map, get_or, set, sym, ap, refl, arith, inl, inr, add-zero, get_or-set_same, get_or-set_other, length-append, subst}
-use Rattle.std.specs.Prelude.{if◌then◌else◌, ◌⊎◌, count_by}
+use Rattle.std.proofs.Common.{◌≡◌, ◌≢◌, ◌∙◌, ◌+◌, ◌<◌, ◌≤◌, ℕ, suc, Bool, true, false, List, [], ◌∷◌, ◌++◌, length, map, get_or, set, sym, ap, refl, arith, inl, inr, add-zero, get_or-set_same, get_or-set_other, subst}
+use Rattle.std.specs.Prelude.{if◌then◌else◌, count_by}
 use Rattle.std.specs.Str.{bytes_eq}
 use Rattle.std.proofs.lemmas.Bool.{cases_eq}
 use Rattle.std.proofs.lemmas.Grind.{common_steps}
@@ -9,7 +9,7 @@ use Rattle.std.proofs.lemmas.List.Sums.{count_by-le-length}
 use Rattle.std.proofs.lemmas.Slice.Eq.{bytes_eq-Decides}
 use Rattle.std.proofs.Math.ListN.{length-set}
 use Rattle.partition_log.specs.Keys.{IsWithoutRepeats, Key, is_known, key_at, number_of, with_key}
-use Rattle.partition_log.proofs.Growth.{Grows, among, fresh, grows, known}
+use Rattle.partition_log.proofs.Growth.{among, fresh, grows, known}
 use Rattle.report_cli.specs.Report.{counted_once, plain}
 
 count_push : (p : Key → Bool) (done : List Key) (k : Key) → count_by p (done ++ k ∷ []) ≡ count_by p done + (if p k then 1 else 0)

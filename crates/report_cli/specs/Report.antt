@@ -1,5 +1,5 @@
 -- The report of a count: a text, or a fault.
-use Rattle.std.specs.Prelude.{◌≡◌, ◌≤◌, ℕ, ◌==◌, List, [], ◌∷◌, ◌++◌, length, map, filter, count_by, slice_set, slice_index, ◌+◌, if◌then◌else◌, nat_lt, Option, Some, None, Result, Ok, Err, Bool}
+use Rattle.std.specs.Prelude.{◌≡◌, ◌≤◌, ℕ, ◌==◌, List, [], ◌∷◌, ◌++◌, length, map, filter, count_by, slice_set, slice_index, ◌+◌, if◌then◌else◌, nat_lt, Option, Some, None, Result, Ok, Err}
 use Rattle.std.specs.Io.KnownBytes.{Appends, Keeps}
 use Rattle.std.specs.Str.{bytes_eq}
 use Rattle.lane_words.specs.declared.Refusal.{Refusal}

@@ -1,7 +1,7 @@
-use Rattle.std.proofs.Common.{◌≡◌, ◌∙◌, ◌<◌, [], ◌∷◌, ◌++◌, List, ap, map, arith, rules, sym, subst, length, vec_items}
+use Rattle.std.proofs.Common.{◌≡◌, ◌∙◌, ◌<◌, [], ◌∷◌, ◌++◌, ap, map, arith, rules, sym, subst, length, vec_items}
 use Rattle.std.proofs.lemmas.List.{length-map}
 use Rattle.partitioner.proofs.Places.{place_of-below}
-use Rattle.partition_log.specs.Logs.{AreLogs, AreLogsOf, PartitionLogs, with_record, place_in}
+use Rattle.partition_log.specs.Logs.{AreLogsOf, PartitionLogs, place_in}
 use Rattle.partition_log.proofs.History.{history}
 use Rattle.partition_log.proofs.Kept.{grown}
 use Rattle.partition_log.proofs.Logs.append_at.Goals as goal

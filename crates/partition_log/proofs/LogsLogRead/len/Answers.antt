@@ -1,4 +1,4 @@
-use Rattle.std.proofs.Common.{◌≡◌, ◌<◌, ◌≤◌, ◌∙◌, arith, length, map, vec_items, vec_len, ap, sym, get_or, [], rules}
+use Rattle.std.proofs.Common.{◌≡◌, ◌<◌, ◌∙◌, arith, length, map, vec_items, vec_len, ap, sym, get_or, [], rules}
 use Rattle.std.proofs.lemmas.List.{get_or-map, length-map}
 use Rattle.partition_log.proofs.LogsLogRead.len.Goals as goal
 

@@ -1,6 +1,6 @@
-use Rattle.std.proofs.Common.{◌≡◌, ◌∙◌, ◌<◌, length, vec_len, sym, rules, arith}
+use Rattle.std.proofs.Common.{◌≡◌, ◌∙◌, length, vec_len, sym, rules, arith}
 use Rattle.report_cli.proofs.Tally.{counted-is}
-use Rattle.partition_log.proofs.Stored.{IsStored, stored}
+use Rattle.partition_log.proofs.Stored.{stored}
 use Rattle.report_cli.proofs.count.count_key.Goals as goal
 
 pub number_at-number-requires-clause-place : goal.number_at-number-requires-clause-place

@@ -1,9 +1,9 @@
-use Rattle.std.proofs.Common.{◌≡◌, ◌∙◌, ◌+◌, ◌<◌, [], ◌∷◌, List, ℕ, Some, None, length, map, vec_len, drop, take, sym, ap, refl, rules, arith, subst}
+use Rattle.std.proofs.Common.{◌≡◌, ◌∙◌, ◌+◌, List, None, length, map, vec_len, drop, take, sym, ap, refl, rules, arith}
 use Rattle.std.proofs.lemmas.List.{drop_all, length-take, take_all}
 use Rattle.partition_log.specs.Keys.{Key, distinct, with_key}
 use Rattle.report_cli.specs.Report.{counts_of, first_fault, plain, key_fault}
 use Rattle.report_cli.proofs.Faulted.{first_fault-is, first_fault-later, first_fault-nil, key_fault-kind, next_key, taken}
-use Rattle.report_cli.proofs.Tally.{IsTally, tally-bound, tally-none, tally-push}
+use Rattle.report_cli.proofs.Tally.{tally-bound, tally-none, tally-push}
 use Rattle.report_cli.proofs.count.tally.Goals as goal
 
 pub loop-i-init : goal.loop-i-init
