@@ -19,7 +19,7 @@ map-agree f g d (x ∷ xs) h =
     rw first (ap (λ ys. g x ∷ ys) (map-agree f g d xs (λ i lt. h (suc i) (omega arith))))
 
 -- the entries of a log name the same keys as before
-names-same : (l : PartitionLogs) (key : Key) → AreLogs l → (p : ℕ) → map (key_at (with_key l.keys key)) (log_at l p) ≡ keys_of_log l p
+pub names-same : (l : PartitionLogs) (key : Key) → AreLogs l → (p : ℕ) → map (key_at (with_key l.keys key)) (log_at l p) ≡ keys_of_log l p
 names-same l key a p =
     let g = grows l.keys key in
     map-agree (key_at (with_key l.keys key)) (key_at l.keys) 0 (log_at l p) (λ i lt. g.kept (get_or (log_at l p) i 0) (a.entries p i lt).numbered)

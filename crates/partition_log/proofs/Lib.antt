@@ -1,5 +1,7 @@
+pub mod Copied
 pub mod Growth
 pub mod History
 pub mod Kept
 pub mod Numbers
+pub mod Parted
 pub mod Stored

@@ -1,7 +1,7 @@
 //! The keys of all logs, numbered in the order of their first appearance.
 
 ghost use Rattle.std.specs.Prelude.{◌≡◌, ◌<◌, ◌≤◌, ◌-◌, ◌^◌, [], IfOk, IfSome, IfNone, IsOk, OnErr, length, true, false};
-ghost use Rattle.partition_log.specs.Keys.{is_known, key_at, number_of, with_key};
+ghost use Rattle.partition_log.specs.Keys.{IsWithoutRepeats, is_known, key_at, number_of, with_key};
 
 use crate::stored_key::{SHORT, StoredKey};
 use indexmap::IndexSet;
@@ -44,6 +44,20 @@ impl KeyNumbers {
             set: IndexSet::with_hasher(alloc, hasher),
             query: Vec::new(alloc),
         })
+    }
+
+    /// The same keys by the same numbers, with a hasher of their own. It is refused for want of memory, or where the
+    /// random source fails.
+    pub(crate) fn copy(&self, rt: &impl RandomSource) -> Result<KeyNumbers, Memory>
+        requires { IsWithoutRepeats self.now }
+        ensures { IfOk result (λ copy. copy ≡ self.now) }
+    {
+        let mut copy = KeyNumbers::new(rt, self.alloc)?;
+        copy.set.reserve(self.set.len())?;
+        for number in 0..self.count() {
+            copy.add(self.key(number))?;
+        }
+        Ok(copy)
     }
 
     /// How many keys there are.

@@ -9,13 +9,16 @@ ghost use Rattle.partition_log.specs.Keys.{Key, key_at, number_of, with_key};
 ghost use Rattle.partition_log.specs.Logs.{append_answer, with_record, log_at, place_in, finds_no_room, longest_key, most_records, AreLogs, AreLogsOf, PartitionLogs};
 
 mod keys;
+pub mod laws;
 #[cfg(test)]
 mod plain_keys;
+mod sealed;
 mod stored_key;
 
 use keys::KeyNumbers;
 use lane_words::{Memory, Refusal};
 use partitioner::Partitions;
+pub use sealed::SealedLogs;
 use std::alloc::Global;
 use std::marker::Model;
 use std::random::RandomSource;
@@ -69,7 +72,8 @@ pub trait LogRead {
     fn ids(&self, p: u32, from: u32, to: u32) -> &[u32]
         requires partition { p < (contents self.now).partitions }
         requires range { (from ≤ to) × (to ≤ length (log_at (contents self.now) p)) }
-        ensures { result.now ≡ slice_range (log_at (contents self.now) p) from to };
+        ensures ids { result.now ≡ slice_range (log_at (contents self.now) p) from to }
+        ensures kept { AreLogs (contents self.now) };
 
     /// The key of a number.
     fn key(&self, id: u32) -> &[u8]
@@ -147,6 +151,28 @@ impl Logs {
         self.append_at(place, key)
     }
 
+    /// The same logs, to which nothing more is appended. It takes no memory.
+    pub fn seal(self) -> SealedLogs
+        ensures same { result ≡ self }
+        ensures kept { AreLogs self }
+    {
+        SealedLogs { logs: self }
+    }
+
+    /// Equal logs, whose keys have a hasher of their own.
+    fn copy(&self, rt: &impl RandomSource, alloc: Global) -> Result<Logs, Memory>
+        ensures equal { IfOk result (λ logs. logs ≡ self.now) }
+        ensures kept { IfOk result AreLogs }
+    {
+        let keys = self.keys.copy(rt)?;
+        let logs = copy_logs(alloc, &self.logs)?;
+        Ok(Logs {
+            partitions: Partitions::new(self.partitions.count()),
+            keys,
+            logs,
+        })
+    }
+
     /// The same, where the place is known.
     fn append_at(&mut self, place: u32, key: &[u8]) -> Result<(u32, u32), Refusal>
         requires { place ≡ place_in self.old key.now }
@@ -173,6 +199,17 @@ fn empty_logs(alloc: Global, count: usize) -> Result<Vec<Vec<u32>>, Memory>
         logs.push(Vec::new(alloc))?;
     }
     Ok(logs)
+}
+
+/// Logs with the same numbers.
+fn copy_logs(alloc: Global, logs: &Vec<Vec<u32>>) -> Result<Vec<Vec<u32>>, Memory>
+    ensures { IfOk result (λ copy. map vec_items copy.items ≡ map vec_items logs.now.items) }
+{
+    let mut copy = Vec::with_capacity(alloc, logs.len())?;
+    for log in logs {
+        copy.push(Vec::from_slice(alloc, log.as_slice())?)?;
+    }
+    Ok(copy)
 }
 
 /// Appends the number of a key to its log, and answers the number's offset there. A new key is numbered first.

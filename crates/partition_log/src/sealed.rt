@@ -1,0 +1,59 @@
+//! Logs to which nothing is appended any more.
+
+ghost use Rattle.std.specs.Prelude.{◌≡◌, IfOk};
+ghost use Rattle.partition_log.specs.Logs.{AreLogs, PartitionLogs};
+
+use crate::{LogRead, Logs};
+use lane_words::Memory;
+use std::alloc::Global;
+use std::marker::Model;
+use std::random::RandomSource;
+
+/// Logs that only can be read: nothing more is appended to them, so many may read them at once.
+#[derive(Drop)]
+pub struct SealedLogs {
+    pub(crate) logs: Logs,
+}
+
+impl Model for SealedLogs {
+    ghost use Rattle.partition_log.specs.Logs.{PartitionLogs};
+
+    ghost Value = { PartitionLogs };
+
+    ghost view = { λ s. s.logs };
+}
+
+impl LogRead for SealedLogs {
+    ghost contents = { λ l. l };
+
+    fn partitions(&self) -> u32 {
+        self.logs.partitions()
+    }
+
+    fn len(&self, p: u32) -> u32 {
+        self.logs.len(p)
+    }
+
+    fn ids(&self, p: u32, from: u32, to: u32) -> &[u32] {
+        self.logs.ids(p, from, to)
+    }
+
+    fn key(&self, id: u32) -> &[u8] {
+        self.logs.key(id)
+    }
+
+    fn keys(&self) -> u32 {
+        self.logs.keys()
+    }
+}
+
+impl SealedLogs {
+    /// Equal logs of their own, with the same key numbers, to which records can be appended. Refused, as `Logs::new`
+    /// is, for want of memory, or where the random source fails, from which the hasher of the new keys is drawn.
+    pub fn copy(&self, rt: &impl RandomSource, alloc: Global) -> Result<Logs, Memory>
+        ensures equal { IfOk result (λ logs. logs ≡ self.now) }
+        ensures kept { IfOk result AreLogs }
+    {
+        self.logs.copy(rt, alloc)
+    }
+}
