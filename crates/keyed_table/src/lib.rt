@@ -1,0 +1,8 @@
+//! Counts of key numbers: of one list, and the counters to which such counts are added.
+#![tactic(auto)]
+
+mod partial;
+mod table;
+
+pub use partial::Partial;
+pub use table::Table;

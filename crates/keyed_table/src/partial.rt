@@ -1,0 +1,103 @@
+//! A list of key numbers and its counts.
+
+ghost use Rattle.std.specs.Prelude.{◌≡◌, ◌≢◌, ◌+◌, ◌<◌, ◌^◌, ℕ, Some, IfOk, OnOk, false, length, slice_index};
+ghost use Rattle.std.specs.BTreeMap.{IsOrdered, get};
+ghost use Rattle.std.specs.Ordering.{nat_cmp};
+ghost use Rattle.keyed_table.specs.Counts.{HasRisingCountsOf, count_in, plain};
+
+use lane_words::Memory;
+use std::alloc::Global;
+use std::collections::BTreeMap;
+use std::marker::Model;
+
+/// A list of key numbers, and beside it how often each number is in it, in an ordered map.
+///
+/// The counts are always those of the list, whatever the list.
+#[derive(Drop)]
+pub struct Partial {
+    ids: Vec<u32>,
+    counts: BTreeMap<u32, u64>,
+}
+
+impl Model for Partial {
+    ghost use Rattle.std.specs.Prelude.{List, ℕ};
+    ghost use Rattle.keyed_table.specs.Counts.{HasRisingCountsOf};
+
+    ghost Value = { List ℕ };
+
+    ghost view = { λ p. p.ids.items };
+
+    ghost invariant = { λ p. HasRisingCountsOf p.ids.items p.counts };
+}
+
+impl Partial {
+    /// The list, with its counts. The only refusal is want of memory.
+    pub fn of(alloc: Global, ids: Vec<u32>) -> Result<Partial, Memory>
+        ensures { IfOk result (λ partial. partial ≡ ids.items) }
+    {
+        let mut sorted = Vec::from_slice(alloc, ids.as_slice())?;
+        sorted.sort_unstable();
+        let counts = counts_of(alloc, sorted.as_slice())?;
+        Ok(Partial { ids, counts })
+    }
+
+    /// The list.
+    pub fn ids(&self) -> &[u32]
+        ensures { result.now ≡ self.now }
+    {
+        self.ids.as_slice()
+    }
+
+    /// How often a number is in the list: 0 where it is not.
+    pub fn get(&self, id: u32) -> u64
+        ensures { result ≡ plain self.now id }
+    {
+        match self.counts.get(&id) {
+            Some(n) => *n,
+            None => 0,
+        }
+    }
+
+    /// The counts, by number.
+    pub(crate) fn counts(&self) -> &BTreeMap<u32, u64>
+        ensures { HasRisingCountsOf self.now result.now }
+    {
+        &self.counts
+    }
+}
+
+/// How often each number is in a list. Equal numbers side by side are counted together, so a sorted list takes one
+/// look-up for each of its different numbers.
+fn counts_of(alloc: Global, ids: &[u32]) -> Result<BTreeMap<u32, u64>, Memory>
+    ensures { IfOk result (HasRisingCountsOf ids.now) }
+{
+    let mut counts = BTreeMap::new(alloc);
+    let mut start = 0;
+    for at in 0..ids.len() {
+        if ends_run(ids, at) {
+            add_count(&mut counts, ids[at], (at + 1 - start) as u64)?;
+            start = at + 1;
+        }
+    }
+    Ok(counts)
+}
+
+/// Whether the number after this one is another, or there is none.
+fn ends_run(ids: &[u32], at: usize) -> bool
+    requires { at < length ids.now }
+    ensures { result ≡ false → (at + 1 < length ids.now) × (slice_index ids.now (at + 1) ≡ slice_index ids.now at) }
+{
+    at + 1 == ids.len() || ids[at + 1] != ids[at]
+}
+
+/// Adds to the count of a number.
+fn add_count(counts: &mut BTreeMap<u32, u64>, id: u32, more: u64) -> Result<(), Memory>
+    requires { count_in counts.old id + more < 2 ^ 64 }
+    ensures added { OnOk result (get nat_cmp counts.new id ≡ Some (count_in counts.old id + more)) }
+    ensures others { OnOk result ((x : ℕ) → x ≢ id → get nat_cmp counts.new x ≡ get nat_cmp counts.old x) }
+    ensures rising { IsOrdered nat_cmp counts.new }
+{
+    let n = counts.get(&id).copied().unwrap_or(0);
+    counts.insert(id, n + more)?;
+    Ok(())
+}
