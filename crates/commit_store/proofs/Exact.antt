@@ -1,0 +1,265 @@
+-- A store stays exact.
+use Rattle.std.proofs.Common.{◌≡◌, ◌≢◌, ◌∙◌, ◌+◌, ◌-◌, ◌<◌, ◌≤◌, ℕ, zero, suc, Bool, true, false, List, [], ◌∷◌, ◌++◌, length, map, take, drop, replicate, cond, get_or, sym, ap, refl, arith, inl, inr, get_or-set_same, get_or-set_other, get_or-take, get_or-drop}
+use Rattle.std.specs.Prelude.{◌==◌}
+use Rattle.std.specs.Str.{bytes_eq}
+use Rattle.std.proofs.lemmas.Bool.{cases_eq, cases_lt}
+use Rattle.std.proofs.lemmas.Bool.Decides.{eqb_tells}
+use Rattle.std.proofs.lemmas.List.{get_or_past, length-append, length-map, map-append, take-append-le, take-map, take_all}
+use Rattle.std.proofs.lemmas.List.Sums.{sum_by-cons}
+use Rattle.std.proofs.lemmas.Slice.Eq.{bytes_eq-Decides}
+use Rattle.keyed_table.specs.Counts as counts
+use Rattle.keyed_table.proofs.Raised.{counter-raised, length-raised}
+use Rattle.partition_log.proofs.Stored.{place_in-below}
+use Rattle.partition_log.specs.Keys.{IsWithoutRepeats, is_known, key_at, with_key}
+use Rattle.partition_log.specs.Logs.{place_in}
+use Rattle.partition_log.proofs.Growth.{among, fresh, grows, known, stays_apart}
+use Rattle.partition_log.proofs.History.{names-same}
+use Rattle.partition_log.proofs.Kept.{log-other, log-same}
+use Rattle.partition_log.proofs.Parted.{in_one_log, sum-same, sum-zero}
+use Rattle.commit_store.specs.Commits.{AreLogs, AreLogsOf, Commits, Fits, IsExact, Key, PartitionLogs, committed_at, count_at, keys_of_log, log_at, number_of, plain, raised, sum_below, with_commit, with_record}
+
+known_or_new : (b : Bool) → (b ≡ true → ⊥) → b ≡ false
+known_or_new true f = absurd (f refl)
+known_or_new false f = refl
+
+-- counts of two lists, one after the other
+plain-append : (ks js : List Key) (x : Key) → plain (ks ++ js) x ≡ plain ks x + plain js x
+plain-append [] js x = omega arith
+plain-append (k ∷ ks) js x = omega (arith, plain-append ks js x, sum_by-cons (λ y. cond (bytes_eq x y) 1 0) k ks, sum_by-cons (λ y. cond (bytes_eq x y) 1 0) k (ks ++ js))
+
+-- a number names a key exactly where it is the key's number
+names : (keys : List Key) (x : Key) (id : ℕ) → IsWithoutRepeats keys → id < length keys → bytes_eq x (key_at keys id) ≡ (number_of keys x == id)
+names keys x id apart lt =
+    elim (eqb_tells (number_of keys x) id) [
+      | inl t ↦
+          let stands : key_at keys id ≡ x = named_by (is_known keys x) keys x id refl lt t.1 in
+          (bytes_eq-Decides x (key_at keys id)).1 (sym stands) ∙ sym t.0
+      | inr f ↦
+          known_or_new (bytes_eq x (key_at keys id)) (λ e.
+          let same : key_at keys id ≡ x = sym ((bytes_eq-Decides x (key_at keys id)).0 e) in
+          let there = known keys x (among keys x id lt same) in
+          f.1 (apart (number_of keys x) id there.0 lt (there.1 ∙ sym same)))
+          ∙ sym f.0
+    ]
+  where
+    named_by : (b : Bool) (keys : List Key) (x : Key) (id : ℕ) → is_known keys x ≡ b → id < length keys → number_of keys x ≡ id → key_at keys id ≡ x
+    named_by true keys x id e lt is = ap (key_at keys) (sym is) ∙ (known keys x e).1
+    named_by false keys x id e lt is = absurd (omega (arith, fresh keys x e, is, lt))
+
+-- keys counted by their numbers
+pub by_number : (keys : List Key) (ids : List ℕ) (x : Key) → IsWithoutRepeats keys → ((i : ℕ) → i < length ids → get_or ids i 0 < length keys) → plain (map (key_at keys) ids) x ≡ counts.plain ids (number_of keys x)
+by_number keys [] x apart below = refl
+by_number keys (id ∷ ids) x apart below =
+    let first = names keys x id apart (below 0 (omega arith)) in
+    sum_by-cons (λ y. cond (bytes_eq x y) 1 0) (key_at keys id) (map (key_at keys) ids)
+    ∙ ap (λ b. cond b 1 0 + plain (map (key_at keys) ids) x) first
+    ∙ ap (λ n. cond (number_of keys x == id) 1 0 + n) (by_number keys ids x apart (λ i lt. below (suc i) (omega (arith, lt))))
+    ∙ sym (sum_by-cons (λ y. cond (number_of keys x == y) 1 0) id ids)
+
+-- a number that is in a list stands somewhere
+pub stands-somewhere : (ids : List ℕ) (x : ℕ) → 0 < counts.plain ids x → (i : ℕ) × (i < length ids) × (get_or ids i 0 ≡ x)
+stands-somewhere [] x more = absurd (omega (arith, more))
+stands-somewhere (id ∷ ids) x more =
+    elim (eqb_tells x id) [
+      | inl t ↦ (0, omega arith, sym t.1)
+      | inr f ↦
+          let rest = stands-somewhere ids x (omega (arith, more, sum_by-cons (λ y. cond (x == y) 1 0) id ids, ap (λ b. cond b 1 0 + counts.plain ids x) f.0)) in
+          (suc rest.0, omega (arith, rest.1), rest.2)
+    ]
+
+-- each number of a list is below a bound, so a number from the bound on is not in it
+pub none-past : (ids : List ℕ) (bound x : ℕ) → ((i : ℕ) → i < length ids → get_or ids i 0 < bound) → bound ≤ x → counts.plain ids x ≡ 0
+none-past [] bound x below le = refl
+none-past (id ∷ ids) bound x below le =
+    elim (eqb_tells x id) [
+      | inl t ↦ absurd (omega (arith, t.1, below 0 (omega arith), le))
+      | inr f ↦ sum_by-cons (λ y. cond (x == y) 1 0) id ids ∙ ap (λ b. cond b 1 0 + counts.plain ids x) f.0 ∙ omega (arith, none-past ids bound x (λ i lt. below (suc i) (omega (arith, lt))) le)
+    ]
+
+-- one term of a sum that is more
+pub sum_more : (n p d : ℕ) (f g : ℕ → ℕ) → p < n → ((q : ℕ) → q ≢ p → g q ≡ f q) → g p ≡ f p + d → sum_below n g ≡ sum_below n f + d
+sum_more zero p d f g lt others here = absurd (omega (arith, lt))
+sum_more (suc n) p d f g lt others here =
+    elim (cases_eq n p) [
+      | inl e ↦
+          let last : g n ≡ f n + d = ap g e ∙ here ∙ ap (λ q. f q + d) (sym e) in
+          let before = sum-same n g f (λ q below. others q (λ is. omega (arith, is, below, e))) in
+          omega (arith, last, before)
+      | inr ne ↦ omega (arith, others n ne, sum_more n p d f g (omega (arith, lt, ne)) others here)
+    ]
+
+take-plus : {A : Type 0} (c k : ℕ) (xs : List A) → take (c + k) xs ≡ take c xs ++ take k (drop c xs)
+take-plus zero k xs = let e : 0 + k ≡ k = omega arith in rw e refl
+take-plus (suc c) k [] = let e : suc c + k ≡ suc (c + k) = omega arith in rw e (sym (take-none k))
+  where
+    take-none : {A : Type 0} (k : ℕ) → take {A = A} k [] ≡ []
+    take-none zero = refl
+    take-none (suc k) = refl
+take-plus (suc c) k (x ∷ xs) = let e : suc c + k ≡ suc (c + k) = omega arith in rw e (ap (λ ys. x ∷ ys) (take-plus c k xs))
+
+-- the numbers of a commit that fits are those of keys
+pub numbers-below : (s : Commits) (l : PartitionLogs) (p from : ℕ) (ids : List ℕ) → AreLogs l → Fits s l p from ids → (i : ℕ) → i < length ids → get_or ids i 0 < length l.keys
+numbers-below s l p from ids a fits i lt =
+    let many : from + length ids - from ≡ length ids = omega arith in
+    let read : get_or ids i 0 ≡ get_or (log_at l p) (from + i) 0 =
+    ap (λ ns. get_or ns i 0) (sym fits.same) ∙ get_or-take (from + length ids - from) (drop from (log_at l p)) i 0 (omega (arith, many, lt)) ∙ get_or-drop from (log_at l p) i 0 in
+    rw read (a.entries p (from + i) (omega (arith, lt, fits.within))).numbered
+
+-- the counter of a number, raised
+pub counter_raised : (cs ids : List ℕ) (x : ℕ) → counts.HaveCounters cs ids → get_or (raised cs ids) x 0 ≡ get_or cs x 0 + counts.plain ids x
+unfolding raised
+counter_raised cs ids x have =
+    elim (cases_lt x (length cs)) [
+      | inl lt ↦ let e : 0 + x ≡ x = omega arith in counter-raised 0 cs ids x lt ∙ ap (λ y. get_or cs x 0 + counts.plain ids y) e
+      | inr le ↦
+          let none : counts.plain ids x ≡ 0 = nothing cs ids x have le in
+          get_or_past (counts.raised_from 0 cs ids) x 0 (omega (arith, length-raised 0 cs ids, le)) ∙ omega (arith, none, get_or_past cs x 0 le)
+    ]
+  where
+    nothing : (cs ids : List ℕ) (x : ℕ) → counts.HaveCounters cs ids → length cs ≤ x → counts.plain ids x ≡ 0
+    nothing cs ids x have le = at_none (counts.plain ids x) (λ more. omega (arith, have x more, le))
+      where
+        at_none : (n : ℕ) → (0 < n → ⊥) → n ≡ 0
+        at_none zero h = refl
+        at_none (suc n) h = absurd (h (omega arith))
+
+-- the committed part of a log, after a commit that fits
+more_committed : (s : Commits) (l : PartitionLogs) (p from : ℕ) (ids : List ℕ) (x : Key) → AreLogs l → Fits s l p from ids
+    → plain (take (committed_at s p + length ids) (keys_of_log l p)) x ≡ plain (take (committed_at s p) (keys_of_log l p)) x + counts.plain ids (number_of l.keys x)
+more_committed s l p from ids x a fits =
+    let c = committed_at s p in
+    let many : from + length ids - from ≡ length ids = omega arith in
+    let next : take (length ids) (drop c (log_at l p)) ≡ ids = ap (λ n. take (length ids) (drop n (log_at l p))) (sym fits.next) ∙ ap (λ n. take n (drop from (log_at l p))) (sym many) ∙ fits.same in
+    ap (λ ks. plain ks x) (take-map (key_at l.keys) (c + length ids) (log_at l p) ∙ ap (map (key_at l.keys)) (take-plus c (length ids) (log_at l p)) ∙ map-append (key_at l.keys) (take c (log_at l p)) (take (length ids) (drop c (log_at l p))))
+    ∙ plain-append (map (key_at l.keys) (take c (log_at l p))) (map (key_at l.keys) (take (length ids) (drop c (log_at l p)))) x
+    ∙ ap (λ ns. plain (map (key_at l.keys) (take c (log_at l p))) x + plain (map (key_at l.keys) ns) x) next
+    ∙ ap (λ ks. plain ks x + plain (map (key_at l.keys) ids) x) (sym (take-map (key_at l.keys) c (log_at l p)))
+    ∙ ap (λ n. plain (take c (keys_of_log l p)) x + n) (by_number l.keys ids x a.without_repeats (numbers-below s l p from ids a fits))
+
+-- each number of a commit that fits has a counter
+pub have-counters : (s : Commits) (l : PartitionLogs) (p from : ℕ) (ids : List ℕ) → AreLogs l → Fits s l p from ids → length l.keys ≤ length s.counts → counts.HaveCounters s.counts ids
+have-counters s l p from ids a fits many x more =
+    let there = stands-somewhere ids x more in
+    omega (arith, there.2, numbers-below s l p from ids a fits there.0 there.1, many)
+
+-- a commit that fits keeps a store exact
+pub commit-exact : (s : Commits) (l : PartitionLogs) (p from : ℕ) (ids : List ℕ) → AreLogs l → p < l.partitions → p < length s.offsets → length l.keys ≤ length s.counts → Fits s l p from ids → IsExact s l → IsExact (with_commit s p ids) l
+commit-exact s l p from ids a placed stored many fits e =
+    let c = committed_at s p in
+    let have = have-counters s l p from ids a fits many in
+    let here : committed_at (with_commit s p ids) p ≡ c + length ids = get_or-set_same s.offsets p (c + length ids) 0 stored in
+    let others : (q : ℕ) → q ≢ p → committed_at (with_commit s p ids) q ≡ committed_at s q = λ q ne. get_or-set_other s.offsets p q (c + length ids) 0 ne in
+    record {
+      within = λ q. elim (cases_eq q p) [
+        | inl is ↦ let at : committed_at (with_commit s p ids) q ≡ c + length ids = ap (committed_at (with_commit s p ids)) is ∙ here in
+            omega (arith, at, fits.next, fits.within, ap (λ r. length (log_at l r)) is)
+        | inr ne ↦ rw (others q ne) (e.within q)
+      ];
+      counted = λ x.
+          counter_raised s.counts ids (number_of l.keys x) have
+          ∙ ap (λ n. n + counts.plain ids (number_of l.keys x)) (e.counted x)
+          ∙ sym (sum_more l.partitions p (counts.plain ids (number_of l.keys x)) (λ q. plain (take (committed_at s q) (keys_of_log l q)) x) (λ q. plain (take (committed_at (with_commit s p ids) q) (keys_of_log l q)) x) placed
+          (λ q ne. ap (λ n. plain (take n (keys_of_log l q)) x) (others q ne))
+          (ap (λ n. plain (take n (keys_of_log l p)) x) here ∙ more_committed s l p from ids x a fits));
+      spare = λ n le.
+          let none = none-past ids (length l.keys) n (numbers-below s l p from ids a fits) le in
+          counter_raised s.counts ids n have ∙ omega (arith, none, e.spare n le);
+    }
+
+-- nothing committed and nothing counted is exact over any logs
+pub nothing-exact : (s : Commits) (l : PartitionLogs) → ((p : ℕ) → committed_at s p ≡ 0) → s.counts ≡ [] → IsExact s l
+nothing-exact s l none blank = record {
+  within = λ p. omega (arith, none p);
+  counted = λ x. ap (λ (cs : List ℕ). get_or cs (number_of l.keys x) 0) blank
+      ∙ sym (sum-same l.partitions (λ p. plain (take (committed_at s p) (keys_of_log l p)) x) (λ p. 0) (λ p lt. ap (λ n. plain (take n (keys_of_log l p)) x) (none p)) ∙ sum-zero l.partitions);
+  spare = λ n le. ap (λ (cs : List ℕ). get_or cs n 0) blank;
+}
+
+one_at_0 : (cs : List ℕ) (n : ℕ) → get_or (cs ++ 0 ∷ []) n 0 ≡ get_or cs n 0
+one_at_0 [] zero = refl
+one_at_0 [] (suc n) = refl
+one_at_0 (c ∷ cs) zero = refl
+one_at_0 (c ∷ cs) (suc n) = one_at_0 cs n
+
+-- one counter more, at 0
+pub counter-exact : (s : Commits) (room : ℕ) (l : PartitionLogs) → IsExact s l → IsExact (record s { counts = s.counts ++ 0 ∷ []; room = room }) l
+counter-exact s room l e = record {
+  within = e.within;
+  counted = λ x. one_at_0 s.counts (number_of l.keys x) ∙ e.counted x;
+  spare = λ n le. one_at_0 s.counts n ∙ e.spare n le;
+}
+
+-- a known key keeps its number
+same-number : (ks : List Key) (k x : Key) → IsWithoutRepeats ks → is_known ks x ≡ true → number_of (with_key ks k) x ≡ number_of ks x
+same-number ks k x apart h =
+    let g = grows ks k in
+    let old = known ks x h in
+    let stands : key_at (with_key ks k) (number_of ks x) ≡ x = g.kept (number_of ks x) old.0 ∙ old.1 in
+    let within : number_of ks x < length (with_key ks k) = omega (arith, old.0, g.longer) in
+    let new = known (with_key ks k) x (among (with_key ks k) x (number_of ks x) within stands) in
+    stays_apart ks k apart (number_of (with_key ks k) x) (number_of ks x) new.0 within (new.1 ∙ sym stands)
+
+-- a key that was new has no number of one that was known
+later-number : (ks : List Key) (k x : Key) → is_known ks x ≡ false → length ks ≤ number_of (with_key ks k) x
+later-number ks k x h =
+    elim (cases_lt (number_of (with_key ks k) x) (length ks)) [
+      | inr le ↦ le
+      | inl lt ↦ absurd (at (is_known (with_key ks k) x) refl lt)
+    ]
+  where
+    at : (b : Bool) → is_known (with_key ks k) x ≡ b → number_of (with_key ks k) x < length ks → ⊥
+    at true e lt =
+        let g = grows ks k in
+        let there = known (with_key ks k) x e in
+        let clash = among ks x (number_of (with_key ks k) x) lt (sym (g.kept (number_of (with_key ks k) x) lt) ∙ there.1) in cc (clash, h)
+    at false e lt = let g = grows ks k in omega (arith, fresh (with_key ks k) x e, g.longer, lt)
+
+-- an append leaves the committed part of each log
+same-part : (s : Commits) (l : PartitionLogs) (key : Key) (p : ℕ) → AreLogs l → IsExact s l → take (committed_at s p) (keys_of_log (with_record l key) p) ≡ take (committed_at s p) (keys_of_log l p)
+same-part s l key p a e =
+    let ws = with_key l.keys key in
+    let c = committed_at s p in
+    let placed : place_in l key < length l.logs = rw a.a_log_each (place_in-below l key a) in
+    elim (cases_eq p (place_in l key)) [
+      | inr ne ↦ ap (take c) (ap (map (key_at ws)) (log-other l key p ne) ∙ names-same l key a p)
+      | inl is ↦
+          let more : log_at (with_record l key) p ≡ log_at l p ++ number_of l.keys key ∷ [] = ap (log_at (with_record l key)) is ∙ log-same l key placed ∙ ap (λ q. log_at l q ++ number_of l.keys key ∷ []) (sym is) in
+          let fits : c ≤ length (keys_of_log l p) = omega (arith, e.within p, length-map (log_at l p) (key_at l.keys)) in
+          ap (take c) (ap (map (key_at ws)) more ∙ map-append (key_at ws) (log_at l p) (number_of l.keys key ∷ []) ∙ ap (λ ks. ks ++ key_at ws (number_of l.keys key) ∷ []) (names-same l key a p))
+          ∙ take-append-le c (keys_of_log l p) (key_at ws (number_of l.keys key) ∷ []) fits
+    ]
+
+longer-log : (l : PartitionLogs) (key : Key) (p : ℕ) → AreLogs l → length (log_at l p) ≤ length (log_at (with_record l key) p)
+longer-log l key p a =
+    let placed : place_in l key < length l.logs = rw a.a_log_each (place_in-below l key a) in
+    elim (cases_eq p (place_in l key)) [
+      | inr ne ↦ omega (arith, ap length (log-other l key p ne))
+      | inl is ↦
+          let more : log_at (with_record l key) p ≡ log_at l p ++ number_of l.keys key ∷ [] = ap (log_at (with_record l key)) is ∙ log-same l key placed ∙ ap (λ q. log_at l q ++ number_of l.keys key ∷ []) (sym is) in
+          omega (arith, ap length more, length-append (log_at l p) (number_of l.keys key ∷ []))
+    ]
+
+-- a record that is appended leaves a store exact
+pub append-exact : (s : Commits) (l : PartitionLogs) (key : Key) → AreLogs l → IsExact s l → IsExact s (with_record l key)
+append-exact s l key a e = record {
+  within = λ p. omega (arith, e.within p, longer-log l key p a);
+  counted = λ x. numbered (is_known l.keys x) x refl ∙ e.counted x ∙ sym (sum-same l.partitions (λ p. plain (take (committed_at s p) (keys_of_log (with_record l key) p)) x) (λ p. plain (take (committed_at s p) (keys_of_log l p)) x) (λ p lt. ap (λ ks. plain ks x) (same-part s l key p a e)));
+  spare = λ n le. e.spare n (omega (arith, le, (grows l.keys key).longer));
+}
+  where
+    numbered : (b : Bool) (x : Key) → is_known l.keys x ≡ b → count_at s (number_of (with_key l.keys key) x) ≡ count_at s (number_of l.keys x)
+    numbered true x h = ap (count_at s) (same-number l.keys key x a.without_repeats h)
+    numbered false x h = e.spare (number_of (with_key l.keys key) x) (later-number l.keys key x h) ∙ sym (e.spare (number_of l.keys x) (omega (arith, fresh l.keys x h)))
+
+-- where all ends are committed, all is counted
+pub all-counted : (s : Commits) (l : PartitionLogs) (appended : List Key) (x : Key) → AreLogs l → AreLogsOf appended l → IsExact s l → ((p : ℕ) → p < l.partitions → committed_at s p ≡ length (log_at l p)) → count_at s (number_of l.keys x) ≡ plain appended x
+all-counted s l appended x a h e ends =
+    e.counted x
+    ∙ sum-same l.partitions (λ p. plain (take (committed_at s p) (keys_of_log l p)) x) (λ p. plain (keys_of_log l p) x) (λ p lt. ap (λ ks. plain ks x) (take_all (committed_at s p) (keys_of_log l p) (omega (arith, ends p lt, length-map (log_at l p) (key_at l.keys)))))
+    ∙ in_one_log appended l x a h
+
+-- each of some zeros is 0
+pub zero-at : (n p : ℕ) → get_or {A = ℕ} (replicate n 0) p 0 ≡ 0
+zero-at zero p = refl
+zero-at (suc n) zero = refl
+zero-at (suc n) (suc p) = zero-at n p

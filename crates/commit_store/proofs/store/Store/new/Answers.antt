@@ -1,0 +1,9 @@
+use Rattle.std.proofs.Common.{◌∙◌, ap, get_or}
+use Rattle.commit_store.proofs.Exact.{nothing-exact, zero-at}
+use Rattle.commit_store.proofs.store.Store.new.Goals as goal
+
+pub returns-clause-exact : goal.returns-clause-exact
+returns-clause-exact c l = nothing-exact _ l (λ p. ap (λ offsets. get_or offsets p 0) c.in_ok-committed.ensures ∙ zero-at c.args.partitions p) c.new.ensures
+
+pub returns-clause-offsets : goal.returns-clause-offsets
+returns-clause-offsets c p = ap (λ offsets. get_or offsets p 0) c.in_ok-committed.ensures ∙ zero-at c.args.partitions p

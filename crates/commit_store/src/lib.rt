@@ -1,0 +1,7 @@
+//! Committed offsets and counts, taken together or not at all.
+#![tactic(auto)]
+
+pub mod laws;
+mod store;
+
+pub use store::Store;

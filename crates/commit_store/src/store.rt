@@ -1,0 +1,160 @@
+//! The store of committed offsets and counts.
+
+ghost use Rattle.std.specs.Prelude.{◌≡◌, ℕ, ◌≤◌, ◌<◌, ◌+◌, ◌-◌, ◌++◌, ◌∷◌, [], Ok, IsOk, IfOk, OnOk, OnErr, length, replicate};
+ghost use Rattle.commit_store.specs.Commits.{AreLogs, Commits, Fits, IsExact, PartitionLogs, commit_answer, committed_at, count_at, log_at, offset_answer, with_commit};
+
+use keyed_table::{Partial, Table};
+use lane_words::{Memory, Refusal};
+use partition_log::LogRead;
+use std::alloc::Global;
+use std::marker::Model;
+
+/// For each of 1 to 4096 partitions the committed offset, which is that of the next record to be read, and for each key
+/// number how often the key is in the committed records.
+///
+/// An offset and its counts are taken together: after each call the counters add up to the committed offsets.
+#[derive(Drop)]
+pub struct Store {
+    committed: Vec<u32>,
+    counts: Table,
+}
+
+impl Model for Store {
+    ghost use Rattle.commit_store.specs.Commits.{Commits};
+    ghost use Rattle.commit_store.specs.Shown.{IsShown, commits_of};
+
+    ghost Value = { Commits };
+
+    ghost view = { commits_of };
+
+    ghost invariant = { IsShown };
+}
+
+impl Store {
+    /// A store of this many partitions, with nothing committed and no counters. Refused for want of memory.
+    pub fn new(alloc: Global, partitions: u32) -> Result<Store, Memory>
+        requires { (1 ≤ partitions) × (partitions ≤ 4096) }
+        ensures partitions { IfOk result (λ store. length store.offsets ≡ partitions) }
+        ensures offsets { IfOk result (λ store. (p : ℕ) → committed_at store p ≡ 0) }
+        ensures counts { IfOk result (λ store. store.counts ≡ []) }
+        ensures exact { IfOk result (λ store. (l : PartitionLogs) → IsExact store l) }
+    {
+        let committed = zeros(alloc, partitions as usize)?;
+        Ok(Store {
+            committed,
+            counts: Table::new(alloc),
+        })
+    }
+
+    /// Makes room for at least one counter more. Refused, with all else as it was, for want of memory.
+    pub fn reserve_key(&mut self) -> Result<(), Memory>
+        ensures same { self.new ≡ record self.old { room = self.new.room } }
+        ensures room { OnOk result (1 ≤ self.new.room) }
+    {
+        self.counts.reserve()
+    }
+
+    /// A counter at 0 for the next key number, in the room that was made for it. It takes no memory.
+    pub fn add_key(&mut self)
+        requires { 1 ≤ self.old.room }
+        ensures added { self.new ≡ record self.old { counts = self.old.counts ++ 0 ∷ []; room = self.old.room - 1 } }
+        ensures exact { (l : PartitionLogs) → IsExact self.old l → IsExact self.new l }
+    {
+        self.counts.add_key();
+    }
+
+    /// Commits the records of log `p` from the offset `from` on whose key numbers are the list of the partial count, and
+    /// answers the new committed offset: it goes past them, and each counter rises by how often its key is among them.
+    /// It takes no memory.
+    ///
+    /// Refused, with everything as it was, by the first that holds: an empty list (`EmptyCommit`); an offset other than
+    /// the committed one, which is told (`OffsetMismatch`); records past the log's end (`PastEnd`); numbers other than
+    /// the log's there (`WrongRecords`).
+    pub fn commit<L: LogRead>(
+        &mut self,
+        logs: &L,
+        p: u32,
+        from: u32,
+        partial: &Partial,
+    ) -> Result<u32, Refusal>
+        requires partition { (p < length self.old.offsets) × (p < (L.contents logs.now).partitions) }
+        requires counters { length (L.contents logs.now).keys ≤ length self.old.counts }
+        ensures answer { result ≡ commit_answer self.old (L.contents logs.now) p from partial.now }
+        ensures accepts { Fits self.old (L.contents logs.now) p from partial.now → result ≡ Ok (from + length partial.now) }
+        ensures accepted { OnOk result (Fits self.old (L.contents logs.now) p from partial.now) }
+        ensures ok { OnOk result (self.new ≡ with_commit self.old p partial.now) }
+        ensures err { OnErr result (self.new ≡ self.old) }
+        ensures exact { IsExact self.old (L.contents logs.now) → IsExact self.new (L.contents logs.now) }
+    {
+        let end = next_offset(logs, p, self.committed(p), from, partial.ids())?;
+        self.counts.merge(partial);
+        self.committed[p as usize] = end;
+        Ok(end)
+    }
+
+    /// The committed offset of a partition.
+    pub fn committed(&self, p: u32) -> u32
+        requires { p < length self.now.offsets }
+        ensures { result ≡ committed_at self.now p }
+    {
+        self.committed[p as usize]
+    }
+
+    /// How often a key is in the committed records, by its number.
+    pub fn count(&self, id: u32) -> u64
+        requires { id < length self.now.counts }
+        ensures { result ≡ count_at self.now id }
+    {
+        self.counts.get(id)
+    }
+
+    /// How many partitions there are.
+    pub fn partitions(&self) -> u32
+        ensures { result ≡ length self.now.offsets }
+    {
+        self.committed.len() as u32
+    }
+
+    /// How many counters there are.
+    pub fn keys(&self) -> usize
+        ensures { result ≡ length self.now.counts }
+    {
+        self.counts.len()
+    }
+}
+
+/// This many offsets of 0.
+fn zeros(alloc: Global, count: usize) -> Result<Vec<u32>, Memory>
+    ensures { IfOk result (λ zeros. zeros.items ≡ replicate count 0) }
+{
+    let zeros = vec![in alloc; 0; count]?;
+    Ok(zeros)
+}
+
+/// The offset past the records of a commit, or why it is refused.
+fn next_offset<L: LogRead>(
+    logs: &L,
+    p: u32,
+    committed: u32,
+    from: u32,
+    ids: &[u32],
+) -> Result<u32, Refusal>
+    requires { p < (L.contents logs.now).partitions }
+    ensures answer { result ≡ offset_answer (L.contents logs.now) p committed from ids.now }
+    ensures kept { OnOk result (AreLogs (L.contents logs.now)) }
+{
+    if ids.is_empty() {
+        return Err(Refusal::EmptyCommit);
+    }
+    if from != committed {
+        return Err(Refusal::OffsetMismatch { committed });
+    }
+    let end = from as u64 + ids.len() as u64;
+    if end > logs.len(p) as u64 {
+        return Err(Refusal::PastEnd);
+    }
+    if logs.ids(p, from, end as u32) != ids {
+        return Err(Refusal::WrongRecords);
+    }
+    Ok(end as u32)
+}
