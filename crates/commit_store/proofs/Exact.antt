@@ -6,8 +6,8 @@ use Rattle.std.proofs.lemmas.Bool.{cases_eq, cases_lt}
 use Rattle.std.proofs.lemmas.Bool.Decides.{eqb_tells}
 use Rattle.std.proofs.lemmas.List.{get_or_past, length-append, length-map, map-append, take-append-le, take-map, take_all}
 use Rattle.std.proofs.lemmas.List.Sums.{sum_by-cons}
-use Rattle.std.proofs.lemmas.Slice.Eq.{bytes_eq-Decides}
 use Rattle.keyed_table.specs.Counts as counts
+use Rattle.keyed_table.proofs.Members.{none-past, stands-somewhere}
 use Rattle.keyed_table.proofs.Raised.{counter-raised, length-raised}
 use Rattle.partition_log.proofs.Stored.{place_in-below}
 use Rattle.partition_log.specs.Keys.{IsWithoutRepeats, is_known, key_at, with_key}
@@ -15,66 +15,14 @@ use Rattle.partition_log.specs.Logs.{place_in}
 use Rattle.partition_log.proofs.Growth.{among, fresh, grows, known, stays_apart}
 use Rattle.partition_log.proofs.History.{names-same}
 use Rattle.partition_log.proofs.Kept.{log-other, log-same}
+use Rattle.partition_log.proofs.Numbered.{by_number}
 use Rattle.partition_log.proofs.Parted.{in_one_log, sum-same, sum-zero}
 use Rattle.commit_store.specs.Commits.{AreLogs, AreLogsOf, Commits, Fits, IsExact, Key, PartitionLogs, committed_at, count_at, keys_of_log, log_at, number_of, plain, raised, sum_below, with_commit, with_record}
-
-known_or_new : (b : Bool) → (b ≡ true → ⊥) → b ≡ false
-known_or_new true f = absurd (f refl)
-known_or_new false f = refl
 
 -- counts of two lists, one after the other
 plain-append : (ks js : List Key) (x : Key) → plain (ks ++ js) x ≡ plain ks x + plain js x
 plain-append [] js x = omega arith
 plain-append (k ∷ ks) js x = omega (arith, plain-append ks js x, sum_by-cons (λ y. cond (bytes_eq x y) 1 0) k ks, sum_by-cons (λ y. cond (bytes_eq x y) 1 0) k (ks ++ js))
-
--- a number names a key exactly where it is the key's number
-names : (keys : List Key) (x : Key) (id : ℕ) → IsWithoutRepeats keys → id < length keys → bytes_eq x (key_at keys id) ≡ (number_of keys x == id)
-names keys x id apart lt =
-    elim (eqb_tells (number_of keys x) id) [
-      | inl t ↦
-          let stands : key_at keys id ≡ x = named_by (is_known keys x) keys x id refl lt t.1 in
-          (bytes_eq-Decides x (key_at keys id)).1 (sym stands) ∙ sym t.0
-      | inr f ↦
-          known_or_new (bytes_eq x (key_at keys id)) (λ e.
-          let same : key_at keys id ≡ x = sym ((bytes_eq-Decides x (key_at keys id)).0 e) in
-          let there = known keys x (among keys x id lt same) in
-          f.1 (apart (number_of keys x) id there.0 lt (there.1 ∙ sym same)))
-          ∙ sym f.0
-    ]
-  where
-    named_by : (b : Bool) (keys : List Key) (x : Key) (id : ℕ) → is_known keys x ≡ b → id < length keys → number_of keys x ≡ id → key_at keys id ≡ x
-    named_by true keys x id e lt is = ap (key_at keys) (sym is) ∙ (known keys x e).1
-    named_by false keys x id e lt is = absurd (omega (arith, fresh keys x e, is, lt))
-
--- keys counted by their numbers
-pub by_number : (keys : List Key) (ids : List ℕ) (x : Key) → IsWithoutRepeats keys → ((i : ℕ) → i < length ids → get_or ids i 0 < length keys) → plain (map (key_at keys) ids) x ≡ counts.plain ids (number_of keys x)
-by_number keys [] x apart below = refl
-by_number keys (id ∷ ids) x apart below =
-    let first = names keys x id apart (below 0 (omega arith)) in
-    sum_by-cons (λ y. cond (bytes_eq x y) 1 0) (key_at keys id) (map (key_at keys) ids)
-    ∙ ap (λ b. cond b 1 0 + plain (map (key_at keys) ids) x) first
-    ∙ ap (λ n. cond (number_of keys x == id) 1 0 + n) (by_number keys ids x apart (λ i lt. below (suc i) (omega (arith, lt))))
-    ∙ sym (sum_by-cons (λ y. cond (number_of keys x == y) 1 0) id ids)
-
--- a number that is in a list stands somewhere
-pub stands-somewhere : (ids : List ℕ) (x : ℕ) → 0 < counts.plain ids x → (i : ℕ) × (i < length ids) × (get_or ids i 0 ≡ x)
-stands-somewhere [] x more = absurd (omega (arith, more))
-stands-somewhere (id ∷ ids) x more =
-    elim (eqb_tells x id) [
-      | inl t ↦ (0, omega arith, sym t.1)
-      | inr f ↦
-          let rest = stands-somewhere ids x (omega (arith, more, sum_by-cons (λ y. cond (x == y) 1 0) id ids, ap (λ b. cond b 1 0 + counts.plain ids x) f.0)) in
-          (suc rest.0, omega (arith, rest.1), rest.2)
-    ]
-
--- each number of a list is below a bound, so a number from the bound on is not in it
-pub none-past : (ids : List ℕ) (bound x : ℕ) → ((i : ℕ) → i < length ids → get_or ids i 0 < bound) → bound ≤ x → counts.plain ids x ≡ 0
-none-past [] bound x below le = refl
-none-past (id ∷ ids) bound x below le =
-    elim (eqb_tells x id) [
-      | inl t ↦ absurd (omega (arith, t.1, below 0 (omega arith), le))
-      | inr f ↦ sum_by-cons (λ y. cond (x == y) 1 0) id ids ∙ ap (λ b. cond b 1 0 + counts.plain ids x) f.0 ∙ omega (arith, none-past ids bound x (λ i lt. below (suc i) (omega (arith, lt))) le)
-    ]
 
 -- one term of a sum that is more
 pub sum_more : (n p d : ℕ) (f g : ℕ → ℕ) → p < n → ((q : ℕ) → q ≢ p → g q ≡ f q) → g p ≡ f p + d → sum_below n g ≡ sum_below n f + d

@@ -5,3 +5,6 @@ pub mod laws;
 mod store;
 
 pub use store::Store;
+
+#[cfg(test)]
+mod tests;

@@ -6,3 +6,6 @@ mod table;
 
 pub use partial::Partial;
 pub use table::Table;
+
+#[cfg(test)]
+mod tests;

@@ -2,6 +2,7 @@
 use Rattle.std.proofs.Common.{◌≡◌, ◌∙◌, ◌+◌, ◌<◌, ℕ, Bool, true, false, List, [], ◌∷◌, ◌++◌, length, get_or, take, drop, suc, sym, ap, refl, inl, inr, subst, add-one, drop-cons}
 use Rattle.std.specs.Prelude.{if◌then◌else◌, ◌⊎◌, nat_lt, slice_get, Option, Some, None, Result, Ok, Err, IsOk}
 use Rattle.std.proofs.lemmas.List.{length-map, take_more}
+use Rattle.lane_words.specs.Answers.{Answers}
 use Rattle.lane_words.specs.declared.Refusal.{Refusal}
 use Rattle.lane_words.specs.declared.Refusal.TheVariants as r
 use Rattle.partition_log.specs.Keys.{Key, key_at}
@@ -88,3 +89,14 @@ first_fault-is partitions l keys i key fault lt at a h same faults (inl e) = inl
 first_fault-is partitions l keys i key fault lt at a h same faults (inr e) =
     let now : key_fault partitions (take i keys) key ≡ Some fault = ap (λ p. key_fault p (take i keys) key) (sym same) ∙ refused l (take i keys) key fault a h e in
     inr (faults ∙ ap (first_fault partitions (take i keys)) (next_key keys i key lt at).1 ∙ first_fault-now partitions (take i keys) key (drop (i + 1) keys) fault now)
+
+-- an append that answers with a place is accepted
+pub accepted : {T : Type 0} (expected : Result T Refusal) (v : T) → Answers expected (Ok v) → IsOk expected
+accepted (Ok w) v answer = refl
+accepted (Err fault) v (inl e) = absurd (cc e)
+accepted (Err fault) v (inr e) = absurd (cc e)
+
+-- one that is refused is refused for want of memory, or as is told
+pub refused_as_told : {T : Type 0} (expected : Result T Refusal) (fault : Refusal) → Answers expected (Err fault) → (fault ≡ r.Memory) ⊎ (expected ≡ Err fault)
+refused_as_told expected fault (inl e) = inr (sym e)
+refused_as_told expected fault (inr e) = inl (cc e)

@@ -1,3 +1,4 @@
+pub mod Counted
 pub mod Cuts
 pub mod Entered
 pub mod Faulted
@@ -5,4 +6,3 @@ pub mod Keys
 pub mod Known
 pub mod Progress
 pub mod Steps
-pub mod Tally

@@ -1,19 +1,14 @@
 -- The report of a count: a text, or a fault.
-use Rattle.std.specs.Prelude.{◌≡◌, ◌≤◌, ℕ, ◌==◌, List, [], ◌∷◌, ◌++◌, length, map, filter, count_by, slice_set, slice_index, ◌+◌, if◌then◌else◌, nat_lt, Option, Some, None, Result, Ok, Err}
+use Rattle.std.specs.Prelude.{◌≡◌, ◌≤◌, ℕ, ◌==◌, List, [], ◌∷◌, ◌++◌, length, map, filter, slice_index, ◌<◌, if◌then◌else◌, nat_lt, Option, Some, None, Result, Ok, Err}
 use Rattle.std.specs.Io.KnownBytes.{Appends, Keeps}
-use Rattle.std.specs.Str.{bytes_eq}
 use Rattle.lane_words.specs.declared.Refusal.{Refusal}
 use Rattle.lane_words.specs.declared.Refusal.TheVariants as r
-use Rattle.partition_log.specs.Keys.{Key, distinct, is_known, number_of}
-use Rattle.partition_log.specs.Logs.{finds_no_room, longest_key, place_of}
+use Rattle.partition_log.specs.Keys.{Key, distinct, key_at, plain}
+use Rattle.partition_log.specs.Logs.{PartitionLogs, finds_no_room, keys_of_log, longest_key, place_of, sum_below}
 use Rattle.report_cli.specs.CountRows.{count_rows, total_row}
 use Rattle.report_cli.specs.Devices.{AppendsBeginning}
 use Rattle.report_cli.specs.KeyFile.{keys_of}
 use Rattle.report_cli.specs.declared.command_line.Options.{Options}
-
--- how many of these keys are x
-abbrev pub plain : List Key → Key → ℕ
-plain keys x = count_by (bytes_eq x) keys
 
 -- the plain count of each key, in the order of first appearance
 unfoldable pub counts_of : List Key → List ℕ
@@ -105,10 +100,10 @@ IsKeyFault r.LogFull = Unit {0}
 IsKeyFault r.Memory = Unit {0}
 IsKeyFault _ = ⊥
 
--- counters of some keys, by number, after one more record of a key: a new key has a counter of its own
-abbrev pub counted_once : List Key → Key → List ℕ → List ℕ
-counted_once keys key counts =
-    if is_known keys key then slice_set counts (number_of keys key) (slice_index counts (number_of keys key) + 1) else counts ++ 1 ∷ []
+-- these are counters of the keys of logs, by number: how often each key is in all logs together
+pub record AreCountsByNumber (l : PartitionLogs) (counts : List ℕ) : Type 0 where
+  pub one_each : length counts ≡ length l.keys
+  pub counted : (n : ℕ) → n < length l.keys → slice_index counts n ≡ sum_below l.partitions (λ p. plain (keys_of_log l p) (key_at l.keys n))
 
 -- the options lie in their ranges
 pub record AreInRange (options : Options) : Type 0 where

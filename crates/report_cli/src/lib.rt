@@ -8,6 +8,7 @@ mod faults;
 mod key_file;
 mod key_list;
 mod rows;
+mod tally;
 
 pub use command_line::{Job, Options, Usage, read_words};
 pub use count::count_text;

@@ -1,0 +1,42 @@
+//! Commits of a log of two records of one key, in the order in which they are refused.
+
+use super::*;
+use keyed_table::Partial;
+use lane_words::Refusal;
+use partition_log::{LogRead, Logs};
+use std::test::Fail;
+
+#[test]
+fn a_commit_is_taken_exactly_where_it_fits(rt: HostRuntime) -> Result<(), Fail> {
+    let mut logs = Logs::new(&rt, rt.alloc(), 4)?;
+    for _ in 0..2 {
+        assert_eq!(rt; logs.append(b"21").map(|at| at.0), Ok(0));
+    }
+    let mut store = Store::new(rt.alloc(), 4)?;
+    store.reserve_key()?;
+    store.add_key();
+    let commits: [(u32, &[u32], Result<u32, Refusal>); 8] = [
+        (0, &[], Err(Refusal::EmptyCommit)),
+        (1, &[0], Err(Refusal::OffsetMismatch { committed: 0 })),
+        (0, &[0, 0, 0], Err(Refusal::PastEnd)),
+        (0, &[0, 1], Err(Refusal::WrongRecords)),
+        (0, &[0], Ok(1)),
+        (0, &[0], Err(Refusal::OffsetMismatch { committed: 1 })),
+        (1, &[0], Ok(2)),
+        (2, &[0], Err(Refusal::PastEnd)),
+    ];
+    for (from, ids, answer) in commits {
+        assert!(rt; logs.keys() as usize <= store.keys());
+        let partial = Partial::of(rt.alloc(), Vec::from_slice(rt.alloc(), ids)?)?;
+        assert_eq!(rt;
+            store.commit(&logs, 0, from, &partial),
+            answer,
+            "{from} {ids:?}"
+        );
+    }
+    assert!(rt; store.partitions() == 4 && store.keys() == 1);
+    assert_eq!(rt; store.committed(0), 2);
+    assert_eq!(rt; store.committed(3), 0);
+    assert_eq!(rt; store.count(0), 2);
+    Ok(())
+}

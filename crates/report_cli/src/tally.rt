@@ -1,0 +1,67 @@
+//! Keys in logs, and how often each key is in them.
+
+ghost use Rattle.std.specs.Prelude.{◌≡◌, ◌≤◌, ◌<◌, ◌⊎◌, [], ℕ, None, Some, IfOk, IfErr, OnOk, length, replicate};
+ghost use Rattle.lane_words.specs.declared.Refusal.TheVariants as refusal;
+ghost use Rattle.partition_log.specs.Logs.{AreLogs, AreLogsOf, log_at};
+ghost use Rattle.report_cli.specs.Report.{AreCountsByNumber, IsKeyFault, first_fault};
+
+use crate::key_list::KeyList;
+use keyed_table::{Partial, Table};
+use lane_words::{Memory, Refusal};
+use partition_log::{LogRead, Logs};
+use std::alloc::Global;
+use std::random::RandomSource;
+
+/// The logs of some keys, appended one after the other.
+pub(crate) fn logs_of(
+    rt: &impl RandomSource,
+    alloc: Global,
+    keys: &KeyList,
+    partitions: u32,
+) -> Result<Logs, Refusal>
+    requires { (1 ≤ partitions) × (partitions ≤ 4096) }
+    ensures logs { IfOk result (AreLogsOf keys.now) }
+    ensures kept { IfOk result AreLogs }
+    ensures accepted { OnOk result (first_fault partitions [] keys.now ≡ None) }
+    ensures kind { IfErr result IsKeyFault }
+    ensures refused { IfErr result (λ e. (e ≡ refusal.Memory) ⊎ (first_fault partitions [] keys.now ≡ Some e)) }
+{
+    let mut logs = Logs::new(rt, alloc, partitions)?;
+    for i in 0..keys.len() {
+        logs.append(keys.get(i))?;
+    }
+    Ok(logs)
+}
+
+/// How often each key is in all logs together, by its number.
+pub(crate) fn counts_in(alloc: Global, logs: &Logs) -> Result<Table, Memory>
+    requires { AreLogs logs.now }
+    ensures { IfOk result (λ table. AreCountsByNumber logs.now table.counts) }
+{
+    let mut table = zeros(alloc, logs.keys())?;
+    for p in 0..logs.partitions() {
+        table.merge(&log_counts(alloc, logs, p)?);
+    }
+    Ok(table)
+}
+
+/// How often each key is in one log.
+fn log_counts(alloc: Global, logs: &Logs, p: u32) -> Result<Partial, Memory>
+    requires { p < logs.now.partitions }
+    ensures { IfOk result (λ partial. partial ≡ log_at logs.now p) }
+{
+    let ids = Vec::from_slice(alloc, logs.ids(p, 0, logs.len(p)))?;
+    Partial::of(alloc, ids)
+}
+
+/// A counter at 0 for each of some key numbers.
+fn zeros(alloc: Global, keys: u32) -> Result<Table, Memory>
+    ensures { IfOk result (λ table. table.counts ≡ replicate keys 0) }
+{
+    let mut table = Table::new(alloc);
+    for _ in 0..keys {
+        table.reserve()?;
+        table.add_key();
+    }
+    Ok(table)
+}
