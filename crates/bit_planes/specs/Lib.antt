@@ -1,0 +1,4 @@
+pub mod NumbersLeft
+pub mod PartitionSet
+pub mod SetRows
+pub mod Shown

@@ -1,0 +1,94 @@
+-- Sets of partitions, which are numbers below a number P of partitions.
+use Rattle.std.specs.Prelude.{ℕ, zero, suc, ◌+◌, Bool, true, false, ◌&&◌, ◌||◌, not, ◌==◌, nat_lt, List, [], ◌∷◌, ◌++◌, length, if◌then◌else◌, slice_index_or}
+
+-- What stands behind a set: for each number below its P whether it is in the set. Of these words only `partitions`, `is_in` and `set_where` look behind it: all others, and all contracts, go by them
+pub record PartitionSet : Type 0 where
+  pub flags : List Bool
+
+-- the P of a set: its members are below it
+unfoldable pub partitions : PartitionSet → ℕ
+partitions s = length s.flags
+
+-- whether a number is in the set
+unfoldable pub is_in : PartitionSet → ℕ → Bool
+is_in s q = slice_index_or s.flags q false
+
+abbrev pub flags_where : ℕ → (ℕ → Bool) → List Bool
+flags_where zero f = []
+flags_where (suc p) f = f 0 ∷ flags_where p (λ q. f (suc q))
+
+-- the numbers below p of which f holds
+unfoldable pub set_where : ℕ → (ℕ → Bool) → PartitionSet
+set_where p f = record { flags = flags_where p f }
+
+-- 1 for true, 0 for false
+abbrev pub one : Bool → ℕ
+one true = 1
+one false = 0
+
+-- how many numbers below n there are of which f holds
+abbrev pub how_many : ℕ → (ℕ → Bool) → ℕ
+how_many zero f = 0
+how_many (suc n) f = how_many n f + one (f n)
+
+-- whether f holds of a number below n
+abbrev pub any_below : ℕ → (ℕ → Bool) → Bool
+any_below zero f = false
+any_below (suc n) f = any_below n f || f n
+
+-- the numbers below n of which f holds, in rising order
+abbrev pub list_where : ℕ → (ℕ → Bool) → List ℕ
+list_where zero f = []
+list_where (suc n) f = list_where n f ++ (if f n then n ∷ [] else [])
+
+-- how many members are below q
+unfoldable pub rank : PartitionSet → ℕ → ℕ
+rank s q = how_many q (is_in s)
+
+-- how many members there are
+unfoldable pub size : PartitionSet → ℕ
+size s = rank s (partitions s)
+
+-- the members, in rising order
+unfoldable pub numbers : PartitionSet → List ℕ
+numbers s = list_where (partitions s) (is_in s)
+
+-- no number
+unfoldable pub empty_set : ℕ → PartitionSet
+empty_set p = set_where p (λ q. false)
+
+-- every number below p
+unfoldable pub full_set : ℕ → PartitionSet
+full_set p = set_where p (λ q. true)
+
+-- the set with one number more
+unfoldable pub with_one : PartitionSet → ℕ → PartitionSet
+with_one s n = set_where (partitions s) (λ q. is_in s q || (q == n))
+
+-- the set without a number
+unfoldable pub without_one : PartitionSet → ℕ → PartitionSet
+without_one s n = set_where (partitions s) (λ q. is_in s q && not (q == n))
+
+-- what is in the one or in the other
+unfoldable pub union : PartitionSet → PartitionSet → PartitionSet
+union s t = set_where (partitions s) (λ q. is_in s q || is_in t q)
+
+-- what is in the one and not in the other
+unfoldable pub minus : PartitionSet → PartitionSet → PartitionSet
+minus s t = set_where (partitions s) (λ q. is_in s q && not (is_in t q))
+
+-- the n lowest members, or all
+unfoldable pub lowest : ℕ → PartitionSet → PartitionSet
+lowest n s = set_where (partitions s) (λ q. is_in s q && nat_lt (rank s q) n)
+
+-- whether some number is in both
+unfoldable pub meets : PartitionSet → PartitionSet → Bool
+meets s t = any_below (partitions s) (λ q. is_in s q && is_in t q)
+
+-- whether each member of the one is in the other
+unfoldable pub is_within : PartitionSet → PartitionSet → Bool
+is_within s t = not (any_below (partitions s) (λ q. is_in s q && not (is_in t q)))
+
+-- whether they have the same P and the same members
+unfoldable pub is_same : PartitionSet → PartitionSet → Bool
+is_same s t = (partitions s == partitions t) && (is_within s t && is_within t s)

@@ -1,0 +1,78 @@
+-- A set of partitions for each of some members.
+use Rattle.std.specs.Prelude.{◌≡◌, ℕ, ◌<◌, ◌≤◌, ◌==◌, nat_lt, List, [], ◌∷◌, Option, Some, None, length, map, if◌then◌else◌, slice_index_or}
+use Rattle.bit_planes.specs.PartitionSet.{PartitionSet, partitions, empty_set}
+
+-- sets of partitions below one P, by the numbers of their members, which rise
+pub record SetRows : Type 0 where
+  pub below : ℕ
+  pub rows : List (ℕ × PartitionSet)
+
+-- no members
+abbrev pub no_rows : ℕ → SetRows
+no_rows p = record { below = p; rows = [] }
+
+-- the numbers of the members, in rising order
+abbrev pub members : SetRows → List ℕ
+members r = map (λ row. row.0) r.rows
+
+abbrev pub find_row : List (ℕ × PartitionSet) → ℕ → Option PartitionSet
+find_row [] m = None
+find_row (row ∷ rows) m = if row.0 == m then Some row.1 else find_row rows m
+
+-- a member's set, if it has one
+abbrev pub row_of : SetRows → ℕ → Option PartitionSet
+row_of r m = find_row r.rows m
+
+abbrev pub put_row : List (ℕ × PartitionSet) → ℕ → PartitionSet → List (ℕ × PartitionSet)
+put_row [] m s = (m, s) ∷ []
+put_row (row ∷ rows) m s =
+    if row.0 == m then (m, s) ∷ rows
+    else if nat_lt m row.0 then (m, s) ∷ row ∷ rows
+    else row ∷ put_row rows m s
+
+-- the rows with this set for this member, and the others as they were
+abbrev pub with_row : SetRows → ℕ → PartitionSet → SetRows
+with_row r m s = record r { rows = put_row r.rows m s }
+
+abbrev pub set_or_empty : ℕ → Option PartitionSet → PartitionSet
+set_or_empty p None = empty_set p
+set_or_empty p (Some s) = s
+
+-- a member's set, and the empty set of a member without a row
+abbrev pub set_of : SetRows → ℕ → PartitionSet
+set_of r m = set_or_empty r.below (row_of r m)
+
+-- the sets of some members, in their order
+abbrev pub sets_of : SetRows → List ℕ → List PartitionSet
+sets_of r ms = map (set_of r) ms
+
+-- numbers that rise
+abbrev pub IsRising : List ℕ → Type 0
+IsRising ms = (i j : ℕ) → i < j → j < length ms → slice_index_or ms i 0 < slice_index_or ms j 0
+
+-- each set is over the same P
+abbrev pub AreOver : ℕ → List (ℕ × PartitionSet) → Type 0
+AreOver p [] = Unit {0}
+AreOver p (row ∷ rows) = (partitions row.1 ≡ p) × AreOver p rows
+
+-- what rows keep
+pub record AreRows (r : SetRows) : Type 0 where
+  pub some : 1 ≤ r.below
+  pub few : r.below ≤ 4096
+  pub rising : IsRising (members r)
+  pub over : AreOver r.below r.rows
+
+-- the number of the member at a place
+abbrev pub member_at : List (ℕ × PartitionSet) → ℕ → ℕ
+member_at rows i = slice_index_or (map (λ row. row.0) rows) i 0
+
+-- a member's row stands at this place
+pub record IsPlaceOf (rows : List (ℕ × PartitionSet)) (m i : ℕ) : Type 0 where
+  pub within : i < length rows
+  pub there : member_at rows i ≡ m
+
+-- a member has no row, and this is where one would go
+pub record IsGapFor (rows : List (ℕ × PartitionSet)) (m i : ℕ) : Type 0 where
+  pub within : i ≤ length rows
+  pub before : (j : ℕ) → j < i → member_at rows j < m
+  pub after : (j : ℕ) → i ≤ j → j < length rows → m < member_at rows j

@@ -1,0 +1,63 @@
+//! The members of a set in rising order.
+
+ghost use Rattle.std.specs.Prelude.{◌≡◌, ◌≤◌, length};
+ghost use Rattle.std.specs.Iterator.{YieldsFirst, item_count};
+ghost use Rattle.bit_planes.specs.PartitionSet.{numbers};
+
+use crate::plane::Plane;
+use std::marker::Model;
+
+/// The members of a set that are left, in rising order.
+#[derive(Drop)]
+pub struct Numbers<'a> {
+    plane: &'a Plane,
+    // The members below this have been given.
+    from: u32,
+    // P.
+    end: u32,
+}
+
+impl<'a> Model for Numbers<'a> {
+    ghost use Rattle.std.specs.Prelude.{List, ℕ};
+
+    ghost Value = { List ℕ };
+
+    ghost use Rattle.bit_planes.specs.NumbersLeft.{numbers_left, EndsWithPlane};
+
+    ghost view = { numbers_left };
+
+    ghost invariant = { EndsWithPlane };
+}
+
+impl<'a> Numbers<'a> {
+    /// All members of a set.
+    pub(crate) fn new(plane: &'a Plane) -> Numbers<'a>
+        ensures value { result ≡ numbers plane.now }
+        ensures few { length result ≤ 4096 }
+    {
+        Numbers {
+            plane,
+            from: 0,
+            end: plane.partitions(),
+        }
+    }
+}
+
+impl<'a> Iterator for Numbers<'a> {
+    type Item = u32;
+
+    ghost next_gives = { YieldsFirst (λ s. s) };
+
+    ghost remaining = { item_count (λ s. s) };
+
+    fn next(&mut self) -> Option<u32> {
+        for q in self.from..self.end {
+            if self.plane.contains(q) {
+                self.from = q + 1;
+                return Some(q);
+            }
+        }
+        self.from = self.end;
+        None
+    }
+}

@@ -1,0 +1,229 @@
+//! A set of partitions.
+
+ghost use Rattle.std.specs.Prelude.{◌≡◌, ◌<◌, ◌≤◌, ◌==◌, ◌&&◌, ◌||◌, ◌↔◌, ℕ, false, true, not, nat_lt, min, length, IsTrue};
+ghost use Rattle.bit_planes.specs.PartitionSet.{partitions, is_in, rank, size, numbers, empty_set, full_set, with_one, without_one, union, minus, lowest, meets, is_within, is_same};
+
+use crate::numbers::Numbers;
+use std::marker::Model;
+
+/// The most partitions.
+const MOST: usize = 4096;
+
+/// A set of partitions, which are the numbers below its P, a number from 1 to 4096. It stands in place: no call on it
+/// takes memory.
+#[derive(Drop)]
+pub struct Plane {
+    partitions: u32,
+    // Whether each number is in the set: false from P on.
+    flags: [bool; MOST],
+}
+
+impl Model for Plane {
+    ghost use Rattle.bit_planes.specs.PartitionSet.{PartitionSet};
+    ghost use Rattle.bit_planes.specs.Shown.{set_of_plane, IsPlane};
+
+    ghost Value = { PartitionSet };
+
+    ghost view = { set_of_plane };
+
+    ghost invariant = { IsPlane };
+}
+
+impl Plane {
+    /// The empty set of partitions below `p`, 1 to 4096.
+    pub fn new(p: u32) -> Plane
+        requires { (1 ≤ p) × (p ≤ 4096) }
+        ensures value { result ≡ empty_set p }
+        ensures members { (q : ℕ) → is_in result q ≡ false }
+        ensures partitions { partitions result ≡ p }
+    {
+        Plane {
+            partitions: p,
+            flags: [false; MOST],
+        }
+    }
+
+    /// The set of all partitions below `p`, 1 to 4096.
+    pub fn full(p: u32) -> Plane
+        requires { (1 ≤ p) × (p ≤ 4096) }
+        ensures value { result ≡ full_set p }
+        ensures members { (q : ℕ) → is_in result q ≡ nat_lt q p }
+        ensures partitions { partitions result ≡ p }
+    {
+        let mut flags = [false; MOST];
+        for q in 0..p as usize {
+            flags[q] = true;
+        }
+        Plane {
+            partitions: p,
+            flags,
+        }
+    }
+
+    /// An equal set.
+    pub fn copy(&self) -> Plane
+        ensures { result ≡ self.now }
+    {
+        Plane {
+            partitions: self.partitions,
+            flags: self.flags,
+        }
+    }
+
+    /// P: the members are below it.
+    pub fn partitions(&self) -> u32
+        ensures value { result ≡ partitions self.now }
+        ensures bounds { (1 ≤ result) × (result ≤ 4096) }
+    {
+        self.partitions
+    }
+
+    /// Puts a number below P into the set.
+    pub fn insert(&mut self, q: u32)
+        requires { q < partitions self.old }
+        ensures value { self.new ≡ with_one self.old q }
+        ensures members { (n : ℕ) → is_in self.new n ≡ (is_in self.old n || (n == q)) }
+        ensures partitions { partitions self.new ≡ partitions self.old }
+    {
+        self.flags[q as usize] = true;
+    }
+
+    /// Takes a number out of the set. One that is not in it, as each at P or above, leaves it as it was.
+    pub fn remove(&mut self, q: u32)
+        ensures value { self.new ≡ without_one self.old q }
+        ensures members { (n : ℕ) → is_in self.new n ≡ (is_in self.old n && not (n == q)) }
+        ensures partitions { partitions self.new ≡ partitions self.old }
+    {
+        if q < self.partitions {
+            self.flags[q as usize] = false;
+        }
+    }
+
+    /// Whether a number is in the set, which none at P or above is.
+    pub fn contains(&self, q: u32) -> bool
+        ensures value { result ≡ is_in self.now q }
+        ensures below { IsTrue result → q < partitions self.now }
+    {
+        q < self.partitions && self.flags[q as usize]
+    }
+
+    /// What is in this set or in the other, which has the same P.
+    pub fn union(&self, other: &Plane) -> Plane
+        requires { partitions self.now ≡ partitions other.now }
+        ensures value { result ≡ union self.now other.now }
+        ensures members { (q : ℕ) → is_in result q ≡ (is_in self.now q || is_in other.now q) }
+        ensures partitions { partitions result ≡ partitions self.now }
+    {
+        let mut flags = self.flags;
+        for q in 0..self.partitions as usize {
+            flags[q] |= other.flags[q];
+        }
+        Plane {
+            partitions: self.partitions,
+            flags,
+        }
+    }
+
+    /// What is in this set and not in the other, which has the same P.
+    pub fn minus(&self, other: &Plane) -> Plane
+        requires { partitions self.now ≡ partitions other.now }
+        ensures value { result ≡ minus self.now other.now }
+        ensures members { (q : ℕ) → is_in result q ≡ (is_in self.now q && not (is_in other.now q)) }
+        ensures partitions { partitions result ≡ partitions self.now }
+    {
+        let mut flags = self.flags;
+        for q in 0..self.partitions as usize {
+            flags[q] &= !other.flags[q];
+        }
+        Plane {
+            partitions: self.partitions,
+            flags,
+        }
+    }
+
+    /// The `n` lowest members, or all where there are no more.
+    pub fn lowest(&self, n: u32) -> Plane
+        ensures value { result ≡ lowest n self.now }
+        ensures members { (q : ℕ) → is_in result q ≡ (is_in self.now q && nat_lt (rank self.now q) n) }
+        ensures partitions { partitions result ≡ partitions self.now }
+        ensures size { size result ≡ min n (size self.now) }
+    {
+        let mut flags = self.flags;
+        let mut left = n;
+        for q in 0..self.partitions as usize {
+            if flags[q] {
+                flags[q] = left > 0;
+                left = left.saturating_sub(1);
+            }
+        }
+        Plane {
+            partitions: self.partitions,
+            flags,
+        }
+    }
+
+    /// Whether some number is in both this set and the other, which has the same P.
+    pub fn meets(&self, other: &Plane) -> bool
+        requires { partitions self.now ≡ partitions other.now }
+        ensures value { result ≡ meets self.now other.now }
+        ensures apart { (result ≡ false) ↔ ((q : ℕ) → (is_in self.now q && is_in other.now q) ≡ false) }
+    {
+        for q in 0..self.partitions as usize {
+            if self.flags[q] && other.flags[q] {
+                return true;
+            }
+        }
+        false
+    }
+
+    /// Whether each member is in the other set, which has the same P.
+    pub fn within(&self, other: &Plane) -> bool
+        requires { partitions self.now ≡ partitions other.now }
+        ensures value { result ≡ is_within self.now other.now }
+        ensures members { IsTrue result ↔ ((q : ℕ) → is_in self.now q ≡ true → is_in other.now q ≡ true) }
+    {
+        let end = self.partitions as usize;
+        for q in 0..end {
+            if self.flags[q] && !other.flags[q] {
+                return false;
+            }
+        }
+        true
+    }
+
+    /// Whether the other, which has the same P, is the same set.
+    pub fn same(&self, other: &Plane) -> bool
+        requires { partitions self.now ≡ partitions other.now }
+        ensures value { result ≡ is_same self.now other.now }
+        ensures equal { IsTrue result ↔ (self.now ≡ other.now) }
+    {
+        for q in 0..self.partitions as usize {
+            if self.flags[q] != other.flags[q] {
+                return false;
+            }
+        }
+        true
+    }
+
+    /// How many members there are.
+    pub fn count(&self) -> u32
+        ensures value { result ≡ size self.now }
+        ensures most { result ≤ partitions self.now }
+    {
+        let mut count = 0;
+        for q in 0..self.partitions as usize {
+            if self.flags[q] {
+                count += 1;
+            }
+        }
+        count
+    }
+
+    /// The members, in rising order.
+    pub fn iter(&self) -> Numbers<'_>
+        ensures value { result ≡ numbers self.now }
+        ensures few { length result ≤ 4096 }
+    {
+        Numbers::new(self)
+    }
+}

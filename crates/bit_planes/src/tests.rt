@@ -1,0 +1,87 @@
+//! Each call once on its happy path, at one partition, few, a number past a multiple of 64, and the most.
+
+ghost use Rattle.std.specs.Prelude.{◌≡◌, ◌≤◌};
+ghost use Rattle.bit_planes.specs.PartitionSet.{partitions};
+
+use super::*;
+use std::test::Fail;
+
+// The set of those of the numbers that are below P.
+fn set_of(p: u32, numbers: &[u32]) -> Plane
+    requires { (1 ≤ p) × (p ≤ 4096) }
+    ensures { partitions result ≡ p }
+{
+    let mut set = Plane::new(p);
+    for q in numbers {
+        if *q < p {
+            set.insert(*q);
+        }
+    }
+    set
+}
+
+#[test]
+fn holds_its_edges(rt: HostRuntime) -> Result<(), Fail> {
+    for p in [1, 4, 513, 4096] {
+        let mut set = Plane::new(p);
+        assert_eq!(rt; set.count(), 0);
+        set.insert(0);
+        set.insert(p - 1);
+        assert!(rt; set.contains(0) && set.contains(p - 1), "{p}");
+        assert!(rt; !set.contains(p) && !set.contains(u32::MAX), "{p}");
+        assert_eq!(rt; set.count(), if p == 1 { 1 } else { 2 });
+        set.remove(p);
+        set.remove(p - 1);
+        assert!(rt; !set.contains(p - 1), "{p}");
+        assert_eq!(rt; Plane::full(p).count(), p);
+        assert_eq!(rt; Plane::full(p).iter().count(), p as usize);
+        assert_eq!(rt; Plane::full(p).partitions(), p);
+    }
+    Ok(())
+}
+
+#[test]
+fn tells_sets_past_a_word(rt: HostRuntime) -> Result<(), Fail> {
+    let last = set_of(513, &[512]);
+    let first = set_of(513, &[0]);
+    let both = set_of(513, &[512, 0]);
+    assert!(rt; last.meets(&both));
+    assert!(rt; !first.meets(&last));
+    assert!(rt; first.within(&both) && !both.within(&first));
+    assert!(rt; !first.within(&last));
+    assert_eq!(rt; both.count(), 2);
+    assert!(rt; first.union(&last).same(&both));
+    assert!(rt; both.minus(&last).same(&first));
+    assert!(rt; both.lowest(1).same(&first) && !first.same(&last));
+    assert!(rt; both.lowest(9).copy().same(&both));
+    let mut numbers = both.iter();
+    assert_eq!(rt;
+        (numbers.next(), numbers.next(), numbers.next()),
+        (Some(0), Some(512), None)
+    );
+    Ok(())
+}
+
+#[test]
+fn keeps_a_row_for_each_member(rt: HostRuntime) -> Result<(), Fail> {
+    let mut rows = PlaneRows::new(rt.alloc(), 4);
+    assert!(rt; rows.get(7).is_none());
+    for (member, number) in [(7, 0), (2, 1), (4_000_000_000, 2), (7, 3)] {
+        rows.put(member, set_of(4, &[number]))?;
+    }
+    assert_eq!(rt; rows.partitions(), 4);
+    assert_eq!(rt; rows.rows().len(), 3);
+    let mut members = rows.members();
+    assert_eq!(rt; (members.next(), members.next()), (Some(2), Some(7)));
+    assert_eq!(rt;
+        (members.next(), members.next()),
+        (Some(4_000_000_000), None)
+    );
+    assert!(rt;
+        rows.get(7)
+            .is_some_and(|set| set.contains(3) && set.count() == 1)
+    );
+    assert!(rt; rows.get(2).is_some_and(|set| set.contains(1)));
+    assert!(rt; rows.get(3).is_none());
+    Ok(())
+}
