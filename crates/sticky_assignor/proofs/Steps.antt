@@ -1,0 +1,181 @@
+-- The steps of the loops.
+use Rattle.std.proofs.Common.{ℕ, zero, suc, ◌≡◌, ◌+◌, ◌-◌, ◌<◌, ◌≤◌, Bool, true, false, ◌&&◌, not, List, [], ◌∷◌, ◌++◌, length, map, drop, take, get_or, cond, append_assoc, refl, ap, sym, ◌∙◌, arith}
+use Rattle.std.proofs.lemmas.Bool.{lt-ltb, le-ltb}
+use Rattle.bit_planes.specs.PartitionSet.{PartitionSet, is_in, size, full_set, union, minus, lowest}
+use Rattle.bit_planes.specs.SetRows.{SetRows, members, put_row, with_row, set_of, sets_of, IsRising}
+use Rattle.bit_planes.proofs.Sets.{same_set, in_minus, partitions_minus}
+use Rattle.bit_planes.proofs.RowLaws.{put_last}
+use Rattle.sticky_assignor.specs.Assigned.{pair_up}
+use Rattle.sticky_assignor.specs.Filling.{one_of, shares, keeping, free_of, gaps, filled}
+use Rattle.sticky_assignor.specs.Target.{is_heavy, heavies}
+use Rattle.sticky_assignor.proofs.Balance.{heavies_cons}
+
+-- the sets from place i on
+pub sets_next : (owned : SetRows) (ms : List ℕ) (i m : ℕ) → i < length ms → m ≡ get_or ms i m → sets_of owned (drop i ms) ≡ set_of owned m ∷ sets_of owned (drop (i + 1) ms)
+sets_next owned [] i m lt e = absurd (omega arith)
+sets_next owned (x ∷ ms) zero m lt e = rw e refl
+sets_next owned (x ∷ ms) (suc i) m lt e = let n : suc i + 1 ≡ suc (i + 1) = omega arith in rw n (sets_next owned ms i m (omega arith) e)
+
+pub sets_end : (owned : SetRows) (ms : List ℕ) → sets_of owned (drop (length ms) ms) ≡ []
+sets_end owned [] = refl
+sets_end owned (m ∷ ms) = sets_end owned ms
+
+-- ---- how many are heavy
+pub heavies_next : (share : ℕ) (owned : SetRows) (ms : List ℕ) (i m : ℕ) (b : Bool) → i < length ms → m ≡ get_or ms i m → b ≡ is_heavy share (set_of owned m) → heavies share (sets_of owned (drop i ms)) ≡ cond b 1 0 + heavies share (sets_of owned (drop (i + 1) ms))
+heavies_next share owned ms i m b lt e is = rw (sets_next owned ms i m lt e, is) (heavies_cons share (set_of owned m) (sets_of owned (drop (i + 1) ms)))
+
+-- ---- shares
+pub heavy_share : (share h o : ℕ) (owned : SetRows) (ms : List ℕ) (i m c : ℕ) → i < length ms → m ≡ get_or ms i m → c ≡ size (set_of owned m) → share < c
+    → shares share h o (sets_of owned (drop i ms)) ≡ (share + one_of h) ∷ shares share (h - 1) o (sets_of owned (drop (i + 1) ms))
+heavy_share share h o owned ms i m c lt e is heavy =
+    let b : is_heavy share (set_of owned m) ≡ true = lt-ltb share (size (set_of owned m)) (omega arith) in
+    ap (λ rows. shares share h o rows) (sets_next owned ms i m lt e)
+    ∙ ap (λ t. cond t ((share + one_of h) ∷ shares share (h - 1) o (sets_of owned (drop (i + 1) ms))) ((share + one_of o) ∷ shares share h (o - 1) (sets_of owned (drop (i + 1) ms)))) b
+
+pub light_share : (share h o : ℕ) (owned : SetRows) (ms : List ℕ) (i m c : ℕ) → i < length ms → m ≡ get_or ms i m → c ≡ size (set_of owned m) → c ≤ share
+    → shares share h o (sets_of owned (drop i ms)) ≡ (share + one_of o) ∷ shares share h (o - 1) (sets_of owned (drop (i + 1) ms))
+light_share share h o owned ms i m c lt e is light =
+    let b : is_heavy share (set_of owned m) ≡ false = le-ltb share (size (set_of owned m)) (omega arith) in
+    ap (λ rows. shares share h o rows) (sets_next owned ms i m lt e)
+    ∙ ap (λ t. cond t ((share + one_of h) ∷ shares share (h - 1) o (sets_of owned (drop (i + 1) ms))) ((share + one_of o) ∷ shares share h (o - 1) (sets_of owned (drop (i + 1) ms)))) b
+
+-- ---- what is free
+-- what is left of a set by rows that are taken off in order
+abbrev pub left_by : PartitionSet → List PartitionSet → PartitionSet
+left_by free [] = free
+left_by free (row ∷ rows) = left_by (minus free row) rows
+
+off_both : (x y z : Bool) → ((x && not y) && not z) ≡ ((x && not z) && not y)
+off_both true true true = refl
+off_both true true false = refl
+off_both true false true = refl
+off_both true false false = refl
+off_both false y z = refl
+
+minus_both : (s t u : PartitionSet) → minus (minus s t) u ≡ minus (minus s u) t
+minus_both s t u =
+    same_set (minus (minus s t) u) (minus (minus s u) t)
+    (partitions_minus (minus s t) u ∙ partitions_minus s t ∙ sym (partitions_minus (minus s u) t ∙ partitions_minus s u))
+    (λ q lt. rw (in_minus (minus s t) u q, in_minus (minus s u) t q, in_minus s t q, in_minus s u q) (off_both (is_in s q) (is_in t q) (is_in u q)))
+
+left_last : (free row : PartitionSet) (rows : List PartitionSet) → left_by (minus free row) rows ≡ minus (left_by free rows) row
+left_last free row [] = refl
+left_last free row (r ∷ rows) = ap (λ s. left_by s rows) (minus_both free row r) ∙ left_last (minus free r) row rows
+
+pub left_is_free : (p : ℕ) (rows : List PartitionSet) → left_by (full_set p) rows ≡ free_of p rows
+left_is_free p [] = refl
+left_is_free p (row ∷ rows) = left_last (full_set p) row rows ∙ ap (λ s. minus s row) (left_is_free p rows)
+
+pub keeping_next : (owned : SetRows) (ms qs : List ℕ) (i m n : ℕ) → i < length ms → i < length qs → m ≡ get_or ms i m → n ≡ get_or qs i n
+    → keeping (drop i qs) (sets_of owned (drop i ms)) ≡ lowest n (set_of owned m) ∷ keeping (drop (i + 1) qs) (sets_of owned (drop (i + 1) ms))
+keeping_next owned [] qs i m n lm lq em en = absurd (omega arith)
+keeping_next owned (x ∷ ms) [] i m n lm lq em en = absurd (omega arith)
+keeping_next owned (x ∷ ms) (y ∷ qs) zero m n lm lq em en = rw (em, en) refl
+keeping_next owned (x ∷ ms) (y ∷ qs) (suc i) m n lm lq em en =
+    let k : suc i + 1 ≡ suc (i + 1) = omega arith in rw k (keeping_next owned ms qs i m n (omega arith) (omega arith) em en)
+
+-- ---- filling
+-- the rows of the members from place i on
+abbrev pub filled_from : SetRows → PartitionSet → List ℕ → List ℕ → ℕ → List (ℕ × PartitionSet)
+filled_from owned free ms qs i =
+    let ks = keeping (drop i qs) (sets_of owned (drop i ms)) in
+    pair_up (drop i ms) (filled free (gaps (drop i qs) ks) ks)
+
+pub filled_next : (owned : SetRows) (free : PartitionSet) (ms qs : List ℕ) (i m n : ℕ) → i < length ms → i < length qs → m ≡ get_or ms i m → n ≡ get_or qs i n
+    → filled_from owned free ms qs i ≡ (m, union (lowest n (set_of owned m)) (lowest (n - size (lowest n (set_of owned m))) free)) ∷ filled_from owned (minus free (lowest (n - size (lowest n (set_of owned m))) free)) ms qs (i + 1)
+filled_next owned free [] qs i m n lm lq em en = absurd (omega arith)
+filled_next owned free (x ∷ ms) [] i m n lm lq em en = absurd (omega arith)
+filled_next owned free (x ∷ ms) (y ∷ qs) zero m n lm lq em en = rw (em, en) refl
+filled_next owned free (x ∷ ms) (y ∷ qs) (suc i) m n lm lq em en =
+    let k : suc i + 1 ≡ suc (i + 1) = omega arith in rw k (filled_next owned free ms qs i m n (omega arith) (omega arith) em en)
+
+pub filled_end : (owned : SetRows) (free : PartitionSet) (ms qs : List ℕ) (i : ℕ) → length ms ≤ i → filled_from owned free ms qs i ≡ []
+filled_end owned free [] qs zero le = refl
+filled_end owned free [] qs (suc i) le = refl
+filled_end owned free (m ∷ ms) qs zero le = absurd (omega arith)
+filled_end owned free (m ∷ ms) [] (suc i) le = pair_nothing (drop i ms)
+  where
+    pair_nothing : (ns : List ℕ) → pair_up ns [] ≡ []
+    pair_nothing [] = refl
+    pair_nothing (n ∷ ns) = refl
+filled_end owned free (m ∷ ms) (q ∷ qs) (suc i) le = filled_end owned free ms qs i (omega arith)
+
+-- ---- the loops over plain values
+pub left_init : (p n : ℕ) (s : PartitionSet) (rows : List PartitionSet) → s ≡ full_set n → n ≡ p → left_by s rows ≡ free_of p rows
+left_init p n s rows is e = ap (λ t. left_by t rows) (is ∙ ap full_set e) ∙ left_is_free p rows
+
+pub left_step : (owned : SetRows) (ms qs : List ℕ) (i m n : ℕ) (free kept own next : PartitionSet) → i < length ms → i < length qs → m ≡ get_or ms i m → n ≡ get_or qs i n → own ≡ set_of owned m → kept ≡ lowest n own → next ≡ minus free kept
+    → left_by next (keeping (drop (i + 1) qs) (sets_of owned (drop (i + 1) ms))) ≡ left_by free (keeping (drop i qs) (sets_of owned (drop i ms)))
+left_step owned ms qs i m n free kept own next lm lq em en eo ek is =
+    let k : kept ≡ lowest n (set_of owned m) = ek ∙ ap (lowest n) eo in
+    sym (ap (λ rows. left_by free rows) (keeping_next owned ms qs i m n lm lq em en) ∙ ap (λ s. left_by s (keeping (drop (i + 1) qs) (sets_of owned (drop (i + 1) ms)))) (sym (is ∙ ap (minus free) k)))
+
+pub left_end : (owned : SetRows) (ms qs : List ℕ) (i : ℕ) (free : PartitionSet) → length qs ≤ i → left_by free (keeping (drop i qs) (sets_of owned (drop i ms))) ≡ free
+left_end owned ms qs i free le = ap (λ ns. left_by free (keeping ns (sets_of owned (drop i ms)))) (drop_all qs i le)
+  where
+    drop_all : (ns : List ℕ) (i : ℕ) → length ns ≤ i → drop i ns ≡ []
+    drop_all [] zero le = refl
+    drop_all [] (suc i) le = refl
+    drop_all (n ∷ ns) zero le = absurd (omega arith)
+    drop_all (n ∷ ns) (suc i) le = drop_all ns i (omega arith)
+
+firsts_append : (rows : List (ℕ × PartitionSet)) (m : ℕ) (s : PartitionSet) → map (λ row. row.0) (rows ++ (m, s) ∷ []) ≡ map (λ row. row.0) rows ++ m ∷ []
+firsts_append [] m s = refl
+firsts_append (row ∷ rows) m s = ap (λ ns. row.0 ∷ ns) (firsts_append rows m s)
+
+take_next : (ms : List ℕ) (i m : ℕ) → i < length ms → m ≡ get_or ms i m → take (i + 1) ms ≡ take i ms ++ m ∷ []
+take_next [] i m lt e = absurd (omega arith)
+take_next (x ∷ ms) zero m lt e = rw e refl
+take_next (x ∷ ms) (suc i) m lt e = let n : suc i + 1 ≡ suc (i + 1) = omega arith in rw n (ap (λ ns. x ∷ ns) (take_next ms i m (omega arith) e))
+
+length_take : (ms : List ℕ) (i : ℕ) → length (take i ms) ≤ i
+length_take ms zero = omega arith
+length_take [] (suc i) = omega arith
+length_take (m ∷ ms) (suc i) = omega (arith, length_take ms i)
+
+take_at : (ms : List ℕ) (i j : ℕ) → j < i → get_or (take i ms) j 0 ≡ get_or ms j 0
+take_at ms zero j lt = absurd (omega arith)
+take_at [] (suc i) j lt = refl
+take_at (m ∷ ms) (suc i) zero lt = refl
+take_at (m ∷ ms) (suc i) (suc j) lt = take_at ms i j (omega arith)
+
+any_default : (ms : List ℕ) (i m d : ℕ) → i < length ms → m ≡ get_or ms i m → m ≡ get_or ms i d
+any_default [] i m d lt e = absurd (omega arith)
+any_default (x ∷ ms) zero m d lt e = e
+any_default (x ∷ ms) (suc i) m d lt e = any_default ms i m d (omega arith) e
+
+-- the rows after a turn
+pub fill_step : (owned rows new : SetRows) (ms qs : List ℕ) (i m n count gap : ℕ) (free own kept given row next : PartitionSet) → IsRising ms → i < length ms → i < length qs → m ≡ get_or ms i m → n ≡ get_or qs i n
+    → own ≡ set_of owned m → kept ≡ lowest n own → count ≡ size kept → gap ≡ n - count → given ≡ lowest gap free → row ≡ union kept given → next ≡ minus free given → new ≡ with_row rows m row → members rows ≡ take i ms
+    → (new.below ≡ rows.below) × (members new ≡ take (i + 1) ms) × (new.rows ++ filled_from owned next ms qs (i + 1) ≡ rows.rows ++ filled_from owned free ms qs i)
+fill_step owned rows new ms qs i m n count gap free own kept given row next rising lm lq em en eo ek ec eg egiven er enext enew numbers =
+    let k : kept ≡ lowest n (set_of owned m) = ek ∙ ap (lowest n) eo in
+    let g : gap ≡ n - size (lowest n (set_of owned m)) = eg ∙ ap (λ x. n - x) (ec ∙ ap size k) in
+    let low : given ≡ lowest (n - size (lowest n (set_of owned m))) free = egiven ∙ ap (λ x. lowest x free) g in
+    let r : row ≡ union (lowest n (set_of owned m)) (lowest (n - size (lowest n (set_of owned m))) free) = er ∙ ap (λ s. union s given) k ∙ ap (union (lowest n (set_of owned m))) low in
+    let last : put_row rows.rows m row ≡ rows.rows ++ (m, row) ∷ [] = put_last rows.rows m row (λ j l.
+    let short : length (map (λ row. row.0) rows.rows) ≡ length (take i ms) = ap length numbers in
+    let lj : j < i = omega (arith, length_take ms i) in
+    let here : get_or (map (λ row. row.0) rows.rows) j 0 ≡ get_or ms j 0 = ap (λ ns. get_or ns j 0) numbers ∙ take_at ms i j lj in
+    let up : get_or ms j 0 < get_or ms i 0 = rising j i lj lm in
+    let mine : m ≡ get_or ms i 0 = any_default ms i m 0 lm em in
+    omega arith) in
+    let is : new.rows ≡ rows.rows ++ (m, row) ∷ [] = ap (λ x. x.rows) enew ∙ last in
+    let rest : List (ℕ × PartitionSet) = filled_from owned next ms qs (i + 1) in
+    let step : (m, row) ∷ rest ≡ filled_from owned free ms qs i =
+    ap (λ s. (m, s) ∷ rest) r ∙ ap (λ s. (m, union (lowest n (set_of owned m)) (lowest (n - size (lowest n (set_of owned m))) free)) ∷ filled_from owned s ms qs (i + 1)) (enext ∙ ap (minus free) low) ∙ sym (filled_next owned free ms qs i m n lm lq em en) in (
+      ap (λ x. x.below) enew,
+      ap (map (λ row. row.0)) is ∙ firsts_append rows.rows m row ∙ ap (λ ns. ns ++ m ∷ []) numbers ∙ sym (take_next ms i m lm em),
+      ap (λ rs. rs ++ rest) is ∙ append_assoc rows.rows ((m, row) ∷ []) rest ∙ ap (λ rs. rows.rows ++ rs) step,
+    )
+
+append_none : (rows : List (ℕ × PartitionSet)) → rows ++ [] ≡ rows
+append_none [] = refl
+append_none (row ∷ rows) = ap (λ rs. row ∷ rs) (append_none rows)
+
+-- the rows after the last turn
+pub fill_end : (owned rows : SetRows) (ms qs : List ℕ) (i : ℕ) (free all : PartitionSet) → length ms ≤ i → rows.below ≡ owned.below → rows.rows ++ filled_from owned free ms qs i ≡ filled_from owned all ms qs 0
+    → rows ≡ record { below = owned.below; rows = filled_from owned all ms qs 0 }
+fill_end owned rows ms qs i free all le below so_far =
+    let is : rows.rows ≡ filled_from owned all ms qs 0 = sym (append_none rows.rows) ∙ ap (λ rs. rows.rows ++ rs) (sym (filled_end owned free ms qs i le)) ∙ so_far in
+    ap (λ n. record { below = n; rows = rows.rows }) below ∙ ap (λ rs. record { below = owned.below; rows = rs }) is

@@ -1,0 +1,28 @@
+-- Balanced rows. A row is the set of the partitions that one member owns, or is to own.
+use Rattle.std.specs.Prelude.{◌≡◌, ◌+◌, ◌<◌, ◌≤◌, ℕ, zero, suc, List, [], ◌∷◌, length}
+use Rattle.bit_planes.specs.PartitionSet.{PartitionSet, partitions, is_in, one, size}
+
+-- how many rows have a partition
+abbrev pub holders : List PartitionSet → ℕ → ℕ
+holders [] q = 0
+holders (row ∷ rows) q = one (is_in row q) + holders rows q
+
+-- the size of the row at place i
+abbrev pub size_at : List PartitionSet → ℕ → ℕ
+size_at [] i = 0
+size_at (row ∷ rows) zero = size row
+size_at (row ∷ rows) (suc i) = size_at rows i
+
+-- Balanced as Kafka's StickyAssignor documents it: each partition below p is in exactly one row, and the sizes of two rows differ by at most one
+pub record IsBalanced (p : ℕ) (rows : List PartitionSet) : Type 0 where
+  pub once : (q : ℕ) → q < p → holders rows q ≡ 1
+  pub even : (i j : ℕ) → i < length rows → j < length rows → size_at rows i ≤ size_at rows j + 1
+
+-- no partition is in two rows
+abbrev pub AreApart : List PartitionSet → Type 0
+AreApart rows = (q : ℕ) → holders rows q ≤ 1
+
+-- each row is a set of the partitions below p
+abbrev pub AreBelow : ℕ → List PartitionSet → Type 0
+AreBelow p [] = Unit {0}
+AreBelow p (row ∷ rows) = (partitions row ≡ p) × AreBelow p rows

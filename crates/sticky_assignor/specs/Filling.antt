@@ -1,0 +1,55 @@
+-- The target as the code makes it, member after member. Only contracts of private functions cite it.
+use Rattle.std.specs.Prelude.{ℕ, zero, suc, ◌+◌, ◌-◌, ◌/◌, ◌%◌, List, [], ◌∷◌, length, min, if◌then◌else◌}
+use Rattle.bit_planes.specs.PartitionSet.{PartitionSet, size, full_set, union, minus, lowest}
+use Rattle.sticky_assignor.specs.Target.{is_heavy, heavies}
+
+-- one more, as long as some are left
+abbrev pub one_of : ℕ → ℕ
+one_of zero = 0
+one_of (suc left) = 1
+
+-- an even share for each, and one more for the first of the heavy ones and for the first of the others
+abbrev pub shares : ℕ → ℕ → ℕ → List PartitionSet → List ℕ
+shares share for_heavy for_others [] = []
+shares share for_heavy for_others (row ∷ rows) =
+    if is_heavy share row
+    then (share + one_of for_heavy) ∷ shares share (for_heavy - 1) for_others rows
+    else ((share + one_of for_others) ∷ shares share for_heavy (for_others - 1) rows)
+
+-- what each member is to own, by number
+abbrev pub quotas : ℕ → List PartitionSet → List ℕ
+quotas p rows =
+    let share = p / length rows in
+    let more = p % length rows in
+    let for_heavy = min more (heavies share rows) in
+    shares share for_heavy (more - for_heavy) rows
+
+-- each member keeps the lowest numbers that it owns, up to its quota
+abbrev pub keeping : List ℕ → List PartitionSet → List PartitionSet
+keeping [] rows = []
+keeping (q ∷ qs) [] = []
+keeping (q ∷ qs) (row ∷ rows) = lowest q row ∷ keeping qs rows
+
+-- the numbers that no row has
+abbrev pub free_of : ℕ → List PartitionSet → PartitionSet
+free_of p [] = full_set p
+free_of p (row ∷ rows) = minus (free_of p rows) row
+
+-- what is left to each quota
+abbrev pub gaps : List ℕ → List PartitionSet → List ℕ
+gaps [] kept = []
+gaps (q ∷ qs) [] = []
+gaps (q ∷ qs) (k ∷ ks) = (q - size k) ∷ gaps qs ks
+
+-- the free numbers, in rising order, fill the first gap in full, and then the next
+abbrev pub filled : PartitionSet → List ℕ → List PartitionSet → List PartitionSet
+filled free [] kept = []
+filled free (g ∷ gs) [] = []
+filled free (g ∷ gs) (k ∷ ks) = union k (lowest g free) ∷ filled (minus free (lowest g free)) gs ks
+
+abbrev pub filled_up : ℕ → List ℕ → List PartitionSet → List PartitionSet
+filled_up p qs kept = filled (free_of p kept) (gaps qs kept) kept
+
+-- quotas, then what is kept, then the free numbers
+abbrev pub filling : ℕ → List PartitionSet → List PartitionSet
+filling p owned = let qs = quotas p owned in filled_up p qs (keeping qs owned)

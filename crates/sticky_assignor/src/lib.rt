@@ -1,0 +1,175 @@
+//! The sticky assignment: who is to own which partition, so that the sizes are even and as much as can stays with
+//! its owner, as Kafka's StickyAssignor documents it.
+#![tactic(auto)]
+
+ghost use Rattle.std.specs.Prelude.{◌≡◌, ◌+◌, ◌-◌, ◌<◌, ◌≤◌, ℕ, List, length, vec_len, IfOk, IsSome};
+ghost use Rattle.bit_planes.specs.PartitionSet.{PartitionSet, partitions};
+ghost use Rattle.bit_planes.specs.SetRows.{AreRows, IsRising, members as members_of, row_of, set_of, sets_of};
+ghost use Rattle.sticky_assignor.specs.Assigned.{assigned, pair_up, HaveRows};
+ghost use Rattle.sticky_assignor.specs.Balanced.{AreApart, AreBelow, IsBalanced};
+ghost use Rattle.sticky_assignor.specs.Filling.{filled, free_of, gaps, keeping, one_of, quotas, shares};
+ghost use Rattle.sticky_assignor.specs.Kept.{kept};
+ghost use Rattle.sticky_assignor.specs.Target.{heavies, target};
+
+#[cfg(test)]
+mod tests;
+
+use bit_planes::{Plane, PlaneRows};
+use lane_words::Memory;
+use std::alloc::Global;
+
+/// Each target is balanced.
+pub fn target_is_balanced()
+    ensures { (p : ℕ) (owned : List PartitionSet) → 0 < length owned → AreBelow p owned → AreApart owned → IsBalanced p (target p owned) }
+{}
+
+/// No balanced rows leave more partitions with their owners.
+pub fn target_keeps_most()
+    ensures { (p : ℕ) (owned rows : List PartitionSet) → length rows ≡ length owned → AreBelow p owned → AreBelow p rows → IsBalanced p rows → kept owned rows ≤ kept owned (target p owned) }
+{}
+
+/// Nothing moves where the rows are balanced already.
+pub fn balanced_stays()
+    ensures { (p : ℕ) (rows : List PartitionSet) → AreBelow p rows → IsBalanced p rows → target p rows ≡ rows }
+{}
+
+/// The rows that the members are to own, of the partitions below `p`: balanced, and of all balanced rows those that
+/// leave the most partitions with their owners.
+///
+/// There is at least one member, the numbers of the members rise, and `owned`, of sets below `p`, has a row for each
+/// of them; these rows are disjoint. What `owned` has of other members is disregarded. Refused for want of memory
+/// alone. Its cost is linear in members times partitions.
+pub fn assign(
+    alloc: Global,
+    p: u32,
+    members: &[u32],
+    owned: &PlaneRows,
+) -> Result<PlaneRows, Memory>
+    requires below { owned.now.below ≡ p }
+    requires some { 0 < length members.now }
+    requires rising { IsRising members.now }
+    requires rows { HaveRows owned.now members.now }
+    requires apart { AreApart (sets_of owned.now members.now) }
+    ensures target { IfOk result (λ rows. rows ≡ assigned p members.now owned.now) }
+    ensures members { IfOk result (λ rows. members_of rows ≡ members.now) }
+    ensures balanced { IfOk result (λ rows. IsBalanced p (sets_of rows members.now)) }
+    ensures most { IfOk result (λ rows. (others : List PartitionSet) → length others ≡ length members.now → AreBelow p others → IsBalanced p others → kept (sets_of owned.now members.now) others ≤ kept (sets_of owned.now members.now) (sets_of rows members.now)) }
+    ensures kept { IfOk result AreRows }
+{
+    prove!(owned.partitions() == p);
+    let quotas = quotas_of(alloc, members, owned)?;
+    let free = free_beside(&quotas, members, owned);
+    fill(alloc, free, &quotas, members, owned)
+}
+
+/// How many partitions each member is to own.
+fn quotas_of(alloc: Global, members: &[u32], owned: &PlaneRows) -> Result<Vec<u32>, Memory>
+    requires some { 0 < length members.now }
+    requires rows { HaveRows owned.now members.now }
+    ensures { IfOk result (λ qs. qs.items ≡ quotas owned.now.below (sets_of owned.now members.now)) }
+{
+    let p = owned.partitions() as usize;
+    let share = (p / members.len()) as u32;
+    let more = p % members.len();
+    let heavy = count_heavy(share, members, owned);
+    let for_heavy = more.min(heavy);
+    shares_of(alloc, share, for_heavy, more - for_heavy, members, owned)
+}
+
+/// How many members own more than an even share.
+fn count_heavy(share: u32, members: &[u32], owned: &PlaneRows) -> usize
+    requires { HaveRows owned.now members.now }
+    ensures { result ≡ heavies share (sets_of owned.now members.now) }
+{
+    let mut heavy = 0;
+    for member in members {
+        if share < row_of(owned, *member).count() {
+            heavy += 1;
+        }
+    }
+    heavy
+}
+
+/// An even share for each member, and one more for the first heavy ones and for the first others.
+fn shares_of(
+    alloc: Global,
+    share: u32,
+    for_heavy: usize,
+    for_others: usize,
+    members: &[u32],
+    owned: &PlaneRows,
+) -> Result<Vec<u32>, Memory>
+    requires few { share ≤ 4096 }
+    requires rows { HaveRows owned.now members.now }
+    ensures { IfOk result (λ qs. qs.items ≡ shares share for_heavy for_others (sets_of owned.now members.now)) }
+{
+    let mut quotas = Vec::with_capacity(alloc, members.len())?;
+    let mut heavy_left = for_heavy;
+    let mut others_left = for_others;
+    for member in members {
+        if share < row_of(owned, *member).count() {
+            quotas.push(share + one_of(heavy_left))?;
+            heavy_left = heavy_left.saturating_sub(1);
+        } else {
+            quotas.push(share + one_of(others_left))?;
+            others_left = others_left.saturating_sub(1);
+        }
+    }
+    Ok(quotas)
+}
+
+/// One, as long as some are left.
+fn one_of(left: usize) -> u32
+    ensures one { result ≡ one_of left }
+    ensures most { result ≤ 1 }
+{
+    if left == 0 { 0 } else { 1 }
+}
+
+/// The partitions that no member keeps.
+fn free_beside(quotas: &[u32], members: &[u32], owned: &PlaneRows) -> Plane
+    requires long { length quotas.now ≡ length members.now }
+    requires rows { HaveRows owned.now members.now }
+    ensures free { result ≡ free_of owned.now.below (keeping quotas.now (sets_of owned.now members.now)) }
+    ensures below { partitions result ≡ owned.now.below }
+{
+    let mut free = Plane::full(owned.partitions());
+    for (member, quota) in members.iter().zip(quotas) {
+        free = free.minus(&row_of(owned, *member).lowest(*quota));
+    }
+    free
+}
+
+/// The rows: what each member keeps, and of the free partitions, in rising order, what its quota lacks.
+fn fill(
+    alloc: Global,
+    all_free: Plane,
+    quotas: &[u32],
+    members: &[u32],
+    owned: &PlaneRows,
+) -> Result<PlaneRows, Memory>
+    requires below { partitions all_free ≡ owned.now.below }
+    requires long { length quotas.now ≡ length members.now }
+    requires rising { IsRising members.now }
+    requires rows { HaveRows owned.now members.now }
+    ensures { IfOk result (λ rows. rows ≡ record { below = owned.now.below; rows = pair_up members.now (filled all_free (gaps quotas.now (keeping quotas.now (sets_of owned.now members.now))) (keeping quotas.now (sets_of owned.now members.now))) }) }
+{
+    let mut rows = PlaneRows::new(alloc, owned.partitions());
+    let mut free = all_free;
+    for (member, quota) in members.iter().zip(quotas) {
+        let kept = row_of(owned, *member).lowest(*quota);
+        let given = free.lowest(quota - kept.count());
+        rows.put(*member, kept.union(&given))?;
+        free = free.minus(&given);
+    }
+    Ok(rows)
+}
+
+/// What a member owns.
+fn row_of(owned: &PlaneRows, member: u32) -> &Plane
+    requires { IsSome (row_of owned.now member) }
+    ensures value { result.now ≡ set_of owned.now member }
+    ensures below { partitions result.now ≡ owned.now.below }
+{
+    owned.get(member).unwrap()
+}
