@@ -1,0 +1,114 @@
+-- What others are granted, by how often each partition is.
+use Rattle.std.proofs.Common.{ℕ, suc, ◌≡◌, ◌≢◌, ◌+◌, ◌<◌, ◌==◌, Bool, true, false, ◌||◌, ◌&&◌, not, List, [], ◌∷◌, ◌++◌, length, map, get_or, Some, None, cond, refl, ap, sym, ◌∙◌, arith}
+use Rattle.std.specs.Prelude.{nat_lt}
+use Rattle.std.proofs.lemmas.Bool.{le-ltb}
+use Rattle.std.proofs.lemmas.Bool.Decides.{nat_tests}
+use Rattle.bit_planes.specs.PartitionSet.{PartitionSet, partitions, is_in, one, union, minus, empty_set}
+use Rattle.bit_planes.specs.SetRows.{SetRows, AreRows, IsRising, find_row, set_or_empty}
+use Rattle.bit_planes.proofs.Sets.{in_empty, in_minus, in_union, partitions_empty, partitions_minus, partitions_union}
+use Rattle.bit_planes.proofs.RowLaws.{rising_rest}
+use Rattle.coop_rebalance.specs.Grants.{times_granted, AreGrants}
+use Rattle.coop_rebalance.specs.Withheld.{granted_to_other}
+
+abbrev Rows : Type 0
+Rows = List (ℕ × PartitionSet)
+
+eq_self : (n : ℕ) → (n == n) ≡ true
+eq_self n = grind (arith, nat_tests)
+
+eq_other : (m n : ℕ) → m ≢ n → (m == n) ≡ false
+eq_other m n ne = grind (arith, nat_tests)
+
+eq_says : (m n : ℕ) → (m == n) ≡ true → m ≡ n
+eq_says m n e = grind (arith, nat_tests)
+
+-- ---- how many others are granted a partition
+times_to_others : Rows → ℕ → ℕ → ℕ
+times_to_others [] m q = 0
+times_to_others (row ∷ rows) m q = one (not (row.0 == m) && is_in row.1 q) + times_to_others rows m q
+
+some_time : (x : Bool) (n : ℕ) → (x || nat_lt 0 n) ≡ nat_lt 0 (one x + n)
+some_time true n = grind (arith, nat_tests)
+some_time false n = let z : 0 + n ≡ n = omega arith in rw z refl
+
+to_other-counts : (rows : Rows) (m q : ℕ) → granted_to_other rows m q ≡ nat_lt 0 (times_to_others rows m q)
+unfolding times_to_others
+to_other-counts [] m q = grind (arith, nat_tests)
+to_other-counts (row ∷ rows) m q =
+    let mine : Bool = not (row.0 == m) && is_in row.1 q in
+    ap (λ b. mine || b) (to_other-counts rows m q) ∙ some_time mine (times_to_others rows m q)
+
+-- where all members are above, all are others
+above_are_others : (rows : Rows) (m q : ℕ) → ((i : ℕ) → i < length (map (λ row. row.0) rows) → m < get_or (map (λ row. row.0) rows) i 0) → times_to_others rows m q ≡ times_granted rows q
+unfolding times_to_others
+above_are_others [] m q above = refl
+above_are_others (row ∷ rows) m q above =
+    let first = above 0 (omega arith) in
+    let other = eq_other row.0 m (omega (arith, first)) in
+    rw (other, above_are_others rows m q (λ i lt. above (suc i) (omega arith))) refl
+
+own_or_not : (rows : Rows) (p m q : ℕ) → IsRising (map (λ row. row.0) rows) → times_granted rows q ≡ times_to_others rows m q + one (is_in (set_or_empty p (find_row rows m)) q)
+unfolding times_to_others
+own_or_not [] p m q rising = rw (in_empty p q) refl
+own_or_not (row ∷ rows) p m q rising =
+    let names : List ℕ = map (λ row. row.0) rows in
+    elim (row.0 == m) as (λ b. (row.0 == m) ≡ b → one (is_in row.1 q) + times_granted rows q ≡ (one (not b && is_in row.1 q) + times_to_others rows m q) + one (is_in (set_or_empty p (cond b (Some row.1) (find_row rows m))) q)) [
+      | true ↦ λ e.
+          let here = eq_says row.0 m e in
+          let rest = above_are_others rows m q (λ i lt. let above = rising 0 (suc i) (omega arith) (omega arith) in omega (arith, here, above)) in
+          omega (arith, rest)
+      | false ↦ λ e. omega (arith, own_or_not rows p m q (rising_rest row.0 names rising))
+    ] refl
+
+tells_others : (o : ℕ) (x : Bool) → (nat_lt 1 (o + one x) || (nat_lt 0 (o + one x) && not x)) ≡ nat_lt 0 o
+tells_others o true = grind (arith, nat_tests)
+tells_others o false = grind (arith, nat_tests)
+
+-- with a row of its own
+pub others_beside : (some several own : PartitionSet) (r : SetRows) (m q : ℕ) → AreRows r → AreGrants some several r → find_row r.rows m ≡ Some own → (is_in several q || (is_in some q && not (is_in own q))) ≡ granted_to_other r.rows m q
+others_beside some several own r m q kept grants found =
+    let own_is : one (is_in (set_or_empty r.below (find_row r.rows m)) q) ≡ one (is_in own q) = ap (λ o. one (is_in (set_or_empty r.below o) q)) found in
+    let times : times_granted r.rows q ≡ times_to_others r.rows m q + one (is_in own q) = own_or_not r.rows r.below m q kept.rising ∙ ap (λ n. times_to_others r.rows m q + n) own_is in
+    rw (grants.to_several q, grants.to_some q, times, to_other-counts r.rows m q) (tells_others (times_to_others r.rows m q) (is_in own q))
+
+-- without one
+pub others_alone : (some several : PartitionSet) (r : SetRows) (m q : ℕ) → AreRows r → AreGrants some several r → find_row r.rows m ≡ None → is_in some q ≡ granted_to_other r.rows m q
+others_alone some several r m q kept grants found =
+    let own_is : one (is_in (set_or_empty r.below (find_row r.rows m)) q) ≡ 0 = ap (λ o. one (is_in (set_or_empty r.below o) q)) found ∙ ap one (in_empty r.below q) in
+    let times : times_granted r.rows q ≡ times_to_others r.rows m q = omega (arith, own_or_not r.rows r.below m q kept.rising, own_is) in
+    rw (grants.to_some q, times, to_other-counts r.rows m q) refl
+
+-- ---- collecting
+times-last : (rows : Rows) (row : ℕ × PartitionSet) (q : ℕ) → times_granted (rows ++ row ∷ []) q ≡ times_granted rows q + one (is_in row.1 q)
+times-last [] row q = omega arith
+times-last (r ∷ rows) row q = omega (arith, times-last rows row q)
+
+more_some : (t : ℕ) (x : Bool) → (nat_lt 0 t || (x && not (nat_lt 0 t))) ≡ nat_lt 0 (t + one x)
+more_some t true = grind (arith, nat_tests)
+more_some t false = grind (arith, nat_tests)
+
+more_several : (t : ℕ) (x : Bool) → (nat_lt 1 t || (x && not (x && not (nat_lt 0 t)))) ≡ nat_lt 1 (t + one x)
+more_several t true = grind (arith, nat_tests)
+more_several t false = grind (arith, nat_tests)
+
+pub grants_none : (p : ℕ) → AreGrants (empty_set p) (empty_set p) (record { below = p; rows = [] })
+grants_none p = record {
+  some_below = partitions_empty p;
+  several_below = partitions_empty p;
+  to_some = λ q. in_empty p q ∙ sym (le-ltb 0 0 (omega arith));
+  to_several = λ q. in_empty p q ∙ sym (le-ltb 1 0 (omega arith));
+}
+
+-- one row more
+pub grants_more : (p : ℕ) (rows : Rows) (row : ℕ × PartitionSet) (some several : PartitionSet) → partitions row.1 ≡ p → AreGrants some several (record { below = p; rows = rows })
+    → AreGrants (union some (minus row.1 some)) (union several (minus row.1 (minus row.1 some))) (record { below = p; rows = rows ++ row ∷ [] })
+grants_more p rows row some several below g =
+    let fresh : PartitionSet = minus row.1 some in
+    let some_len : partitions some ≡ partitions fresh = g.some_below ∙ sym (partitions_minus row.1 some ∙ below) in
+    let several_len : partitions several ≡ partitions (minus row.1 fresh) = g.several_below ∙ sym (partitions_minus row.1 fresh ∙ below) in
+    record {
+      some_below = partitions_union some fresh ∙ g.some_below;
+      several_below = partitions_union several (minus row.1 fresh) ∙ g.several_below;
+      to_some = λ q. rw (in_union some fresh q some_len, in_minus row.1 some q, g.to_some q, times-last rows row q) (more_some (times_granted rows q) (is_in row.1 q));
+      to_several = λ q. rw (in_union several (minus row.1 fresh) q several_len, in_minus row.1 fresh q, in_minus row.1 some q, g.to_several q, g.to_some q, times-last rows row q) (more_several (times_granted rows q) (is_in row.1 q));
+    }

@@ -1,0 +1,5 @@
+pub mod Final
+pub mod Granted
+pub mod Items
+pub mod WithheldRows
+pub mod Rounds

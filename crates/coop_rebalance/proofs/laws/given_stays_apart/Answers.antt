@@ -1,0 +1,5 @@
+use Rattle.coop_rebalance.proofs.Rounds.{given_apart}
+use Rattle.coop_rebalance.proofs.laws.given_stays_apart.Goals as goal
+
+pub returns : goal.returns
+returns c = given_apart

@@ -1,0 +1,5 @@
+use Rattle.coop_rebalance.proofs.Rounds.{settles}
+use Rattle.coop_rebalance.proofs.laws.second_round_settles.Goals as goal
+
+pub returns : goal.returns
+returns c = settles
