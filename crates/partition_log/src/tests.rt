@@ -31,6 +31,27 @@ fn appends_in_order_of_place(rt: HostRuntime) -> Result<(), Fail> {
 }
 
 #[test]
+fn a_copy_of_sealed_logs_numbers_keys_as_they_do(rt: HostRuntime) -> Result<(), Fail> {
+    let mut logs = Logs::new(&rt, rt.alloc(), 4)?;
+    let keys: [&[u8]; 3] = [b"21", b"a key of more than 22 bytes", b"21"];
+    for key in keys {
+        logs.append(key)?;
+    }
+    let sealed = logs.seal();
+    let mut copy = sealed.copy(&rt, rt.alloc())?;
+    assert_eq!(rt; copy.append(b"21"), Ok((0, 2)));
+    assert!(rt; sealed.partitions() == 4);
+    assert!(rt; copy.partitions() == 4);
+    assert!(rt; sealed.len(0) == 2);
+    assert!(rt; copy.len(0) == 3);
+    assert!(rt; sealed.keys() == 2);
+    assert!(rt; copy.keys() == 2);
+    assert_eq!(rt; sealed.key(1), copy.key(1));
+    assert_eq!(rt; sealed.ids(0, 0, 2), [0, 0].as_slice());
+    Ok(())
+}
+
+#[test]
 fn takes_keys_up_to_the_longest(rt: HostRuntime) -> Result<(), Fail> {
     let mut logs = Logs::new(&rt, rt.alloc(), 1)?;
     let bytes = vec![in rt.alloc(); 0xff_u8; 65536]?;
