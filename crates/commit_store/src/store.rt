@@ -100,6 +100,13 @@ impl Store {
         self.committed[p as usize]
     }
 
+    /// The committed offsets, in the order of the partitions.
+    pub fn offsets(&self) -> &[u32]
+        ensures { result.now ≡ self.now.offsets }
+    {
+        self.committed.as_slice()
+    }
+
     /// How often a key is in the committed records, by its number.
     pub fn count(&self, id: u32) -> u64
         requires { id < length self.now.counts }

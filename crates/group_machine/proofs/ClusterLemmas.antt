@@ -1,0 +1,155 @@
+-- A cluster stays consistent.
+use Rattle.std.proofs.Common.{◌≡◌, ◌∙◌, ◌+◌, ◌<◌, ◌≤◌, ℕ, Bool, true, false, List, [], ◌∷◌, ◌++◌, length, sym, ap, refl, arith, inl, inr, length-append, subst}
+use Rattle.std.specs.Prelude.{Option, Some, None, Result, Ok, Err, OnOk, OnErr, if◌then◌else◌, ◌==◌, not}
+use Rattle.std.proofs.Math.ListN.{length-set}
+use Rattle.std.proofs.lemmas.Bool.Decides.{eqb_tells}
+use Rattle.lane_words.specs.declared.Refusal.{Refusal}
+use Rattle.lane_words.specs.declared.Refusal.TheVariants as r
+use Rattle.bit_planes.specs.PartitionSet.{PartitionSet, is_in, partitions}
+use Rattle.bit_planes.proofs.Sets.{in_below, partitions_empty}
+use Rattle.keyed_table.proofs.Raised.{length-raised}
+use Rattle.partition_log.specs.Keys.{distinct, with_key}
+use Rattle.partition_log.proofs.Growth.{grows}
+use Rattle.commit_store.specs.Commits.{raised}
+use Rattle.commit_store.proofs.Exact.{append-exact, counter-exact}
+use Rattle.group_machine.specs.declared.group.Seat.{Seat}
+use Rattle.group_machine.specs.State.{GroupState, assigned_of, granted_of, is_present, member_of, opening, seat_assigned}
+use Rattle.group_machine.specs.Good.{AllFit, IsFit, IsGood}
+use Rattle.group_machine.specs.Completion.{complete, completed, is_ready}
+use Rattle.group_machine.specs.Steps.{joined_by, joining, leaving, left_by, rejoined_by, rejoining}
+use Rattle.group_machine.specs.Cluster.{AreLogs, AreLogsOf, ClusterState, CommitTerms, Commits, Fits, IsConsistent, IsDue, IsExact, Key, PartitionLogs, and_then, appended_to, cluster_commit_answer, commit_answer, committed_by, fence, is_known, with_commit, with_counter_for, with_group, with_record, without_room}
+use Rattle.group_machine.proofs.GroupLemmas.{granted_over}
+use Rattle.group_machine.proofs.StepLemmas.{opening_good}
+
+-- ---- steps of the group
+either : (b : Bool) (g h : GroupState) (p : ℕ) → g.partitions ≡ p → h.partitions ≡ p → (if b then g else h).partitions ≡ p
+either true g h p same other = same
+either false g h p same other = other
+
+completed_partitions : (g : GroupState) → (completed g).partitions ≡ g.partitions
+completed_partitions g = either (is_ready g) (complete g) g g.partitions refl refl
+
+pub stepped_partitions : {A : Type 0} (old new before : GroupState) (answer : Result A Refusal) → OnOk answer (new ≡ completed before) → OnErr answer (new ≡ old) → before.partitions ≡ old.partitions → new.partitions ≡ old.partitions
+stepped_partitions old new before (Ok v) ok err same = ap (λ g. g.partitions) ok ∙ completed_partitions before ∙ same
+stepped_partitions old new before (Err why) ok err same = ap (λ g. g.partitions) err
+
+-- another good group of as many partitions
+pub regrouped : (s : ClusterState) (g : GroupState) → IsConsistent s → IsGood g → g.partitions ≡ s.group.partitions → IsConsistent (with_group s g)
+regrouped s g c good same = record {
+  good = good;
+  logs = c.logs;
+  exact = record { within = c.exact.within; counted = c.exact.counted; spare = c.exact.spare };
+  logs_partitions = c.logs_partitions ∙ sym same;
+  store_partitions = c.store_partitions ∙ sym same;
+  a_counter_each = c.a_counter_each;
+}
+
+-- ---- appends
+counters-at : (b : Bool) (l : PartitionLogs) (key : Key) (store : Commits) → is_known l.keys key ≡ b → length store.counts ≡ length l.keys
+    → length (if b then store else (record store { counts = store.counts ++ 0 ∷ [] })).counts ≡ length (if b then l.keys else l.keys ++ key ∷ [])
+counters-at true l key store e same = same
+counters-at false l key store e same = length-append store.counts (0 ∷ []) ∙ ap (λ n. n + 1) same ∙ sym (length-append l.keys (key ∷ []))
+
+exact-at : (b : Bool) (l : PartitionLogs) (store : Commits) → IsExact store l → IsExact (if b then store else (record store { counts = store.counts ++ 0 ∷ [] })) l
+exact-at true l store e = e
+exact-at false l store e = counter-exact store store.room l e
+
+offsets-at : (b : Bool) (store : Commits) → length (if b then store else (record store { counts = store.counts ++ 0 ∷ [] })).offsets ≡ length store.offsets
+offsets-at true store = refl
+offsets-at false store = refl
+
+pub append-kept : (s : ClusterState) (key : Key) → IsConsistent s → AreLogs (with_record s.logs key) → IsConsistent (appended_to s key)
+append-kept s key c logs = record {
+  good = c.good;
+  logs = logs;
+  exact = exact-at (is_known s.logs.keys key) (with_record s.logs key) s.store (append-exact s.store s.logs key c.logs c.exact);
+  logs_partitions = c.logs_partitions;
+  store_partitions = offsets-at (is_known s.logs.keys key) s.store ∙ c.store_partitions;
+  a_counter_each = counters-at (is_known s.logs.keys key) s.logs key s.store refl c.a_counter_each;
+}
+
+known-at : (b : Bool) (l : PartitionLogs) (key : Key) → length (if b then l.keys else l.keys ++ key ∷ []) ≤ length l.keys → b ≡ true
+known-at true l key few = refl
+known-at false l key few = absurd (omega (arith, length-append l.keys (key ∷ []), few))
+
+-- no key came to the logs, so no counter is wanted
+pub known-appended : (s : ClusterState) (key : Key) (logs : PartitionLogs) (store : Commits) → logs ≡ with_record s.logs key → store ≡ s.store → length (with_key s.logs.keys key) ≤ length s.logs.keys
+    → ◌≡◌ {A = ClusterState} (record { group = s.group; logs = logs; store = store }) (appended_to s key)
+known-appended s key logs store ls ss few =
+    let known : is_known s.logs.keys key ≡ true = known-at (is_known s.logs.keys key) s.logs key few in
+    rw (ls, ss, known) refl
+
+-- ---- commits
+passes : (present current granted : Bool)
+    → ◌≡◌ {A = Result (Unit {0}) Refusal} (if not present then Err r.UnknownMember else if not current then Err r.StaleGeneration else if not granted then Err r.NotOwner else Ok tt) (Ok tt)
+    → (present ≡ true) × (current ≡ true) × (granted ≡ true)
+passes false current granted e = absurd (cc e)
+passes true false granted e = absurd (cc e)
+passes true true false e = absurd (cc e)
+passes true true true e = (refl, refl, refl)
+
+is_current : (m n : ℕ) → (m == n) ≡ true → m ≡ n
+is_current m n e =
+    elim (eqb_tells m n) [
+      | inl t ↦ t.1
+      | inr f ↦ absurd (cc (f.0, e))
+    ]
+
+-- what a commit that is let through is
+pub let_through : (g : GroupState) (c : CommitTerms) → fence g c ≡ Ok tt → (is_present g c.member ≡ true) × (c.generation ≡ g.generation) × (is_in (granted_of g c.member) c.partition ≡ true)
+let_through g c e =
+    let tests = passes (is_present g c.member) (c.generation == g.generation) (is_in (granted_of g c.member) c.partition) e in
+    (tests.0, is_current c.generation g.generation tests.1, tests.2)
+
+-- its partition is one of the cluster's
+pub partition-below : (s : ClusterState) (c : CommitTerms) → IsConsistent s → fence s.group c ≡ Ok tt → (c.partition < length s.store.offsets) × (c.partition < s.logs.partitions)
+partition-below s c k e =
+    let below = in_below (granted_of s.group c.member) c.partition (let_through s.group c e).2 in
+    let over = granted_over s.group k.good.fit c.member in
+    (omega (arith, below, over, k.store_partitions), omega (arith, below, over, k.logs_partitions))
+
+store-lengths : {A : Type 0} (old new : Commits) (p : ℕ) (ids : List ℕ) (answer : Result A Refusal) → OnOk answer (new ≡ with_commit old p ids) → OnErr answer (new ≡ old)
+    → (length new.offsets ≡ length old.offsets) × (length new.counts ≡ length old.counts)
+unfolding raised
+store-lengths old new p ids (Ok v) ok err = (ap (λ s. length s.offsets) ok ∙ length-set old.offsets p _, ap (λ s. length s.counts) ok ∙ length-raised 0 old.counts ids)
+store-lengths old new p ids (Err why) ok err = (ap (λ s. length s.offsets) err, ap (λ s. length s.counts) err)
+
+-- what the store answers leaves a cluster consistent
+pub commit-kept : {A : Type 0} (g : GroupState) (l : PartitionLogs) (old new : Commits) (p : ℕ) (ids : List ℕ) (answer : Result A Refusal)
+    → IsConsistent (record { group = g; logs = l; store = without_room old }) → OnOk answer (new ≡ with_commit old p ids) → OnErr answer (new ≡ old) → (IsExact old l → IsExact new l)
+    → IsConsistent (record { group = g; logs = l; store = without_room new })
+commit-kept g l old new p ids answer k ok err exact =
+    let same = store-lengths old new p ids answer ok err in
+    let now = exact (record { within = k.exact.within; counted = k.exact.counted; spare = k.exact.spare }) in
+    record {
+      good = k.good;
+      logs = k.logs;
+      exact = record { within = now.within; counted = now.counted; spare = now.spare };
+      logs_partitions = k.logs_partitions;
+      store_partitions = same.0 ∙ k.store_partitions;
+      a_counter_each = same.1 ∙ k.a_counter_each;
+    }
+
+-- ---- leases
+-- what a member is to keep is a set of the group's partitions
+pub assigned_over : (g : GroupState) → AllFit g → (m : ℕ) → partitions (assigned_of g m) ≡ g.partitions
+assigned_over g fit m = go (member_of g m) (λ x is. fit m x is)
+  where
+    go : (seat : Option Seat) → ((x : Seat) → seat ≡ Some x → IsFit g.partitions x) → partitions (seat_assigned g.partitions seat) ≡ g.partitions
+    go None f = partitions_empty g.partitions
+    go (Some x) f = (f x refl).assigned_below
+
+-- ---- the beginning
+pub new-consistent : (p : ℕ) (g : GroupState) (l : PartitionLogs) (store : Commits) → 1 ≤ p → p ≤ 4096 → g ≡ opening p → l.partitions ≡ p → AreLogsOf [] l → AreLogs l
+    → length store.offsets ≡ p → store.counts ≡ [] → IsExact store l → IsConsistent (record { group = g; logs = l; store = without_room store })
+unfolding distinct
+new-consistent p g l store some few group parts none logs offsets counts exact =
+    let same : g.partitions ≡ p = ap (λ h. h.partitions) group in
+    record {
+      good = subst IsGood (sym group) (opening_good p some few);
+      logs = logs;
+      exact = record { within = exact.within; counted = exact.counted; spare = exact.spare };
+      logs_partitions = parts ∙ sym same;
+      store_partitions = offsets ∙ sym same;
+      a_counter_each = ap length counts ∙ sym (ap length none.numbers);
+    }

@@ -1,0 +1,13 @@
+pub mod ClusterLemmas
+pub mod SlotsLemmas
+pub mod PresentLemmas
+pub mod Below
+pub mod Rows
+pub mod GroupLemmas
+pub mod CompletionLemmas
+pub mod StepLemmas
+pub mod FinishLemmas
+pub mod MovesLemmas
+pub mod WalkLemmas
+pub mod TableLemmas
+pub mod KeptLemmas

@@ -1,0 +1,289 @@
+-- Each step leaves a good group.
+use Rattle.std.proofs.Common.{ℕ, zero, suc, ◌≡◌, ◌<◌, ◌≤◌, ◌==◌, Bool, true, false, ◌&&◌, ◌||◌, ◌⊎◌, inl, inr, List, [], ◌∷◌, ◌++◌, Option, Some, None, length, map, slice_get, refl, ap, sym, ◌∙◌, subst, arith, is_some, cond, replicate, length-append}
+use Rattle.std.proofs.lemmas.Bool.{false≢true}
+use Rattle.std.specs.List.{list_any, list_all}
+use Rattle.bit_planes.specs.PartitionSet.{is_in, is_within, empty_set}
+use Rattle.bit_planes.proofs.Sets.{in_empty, partitions_empty, within_of, within_says}
+use Rattle.sticky_assignor.specs.Balanced.{IsBalanced}
+use Rattle.group_machine.specs.declared.group.Slot.{Slot}
+use Rattle.group_machine.specs.declared.group.Seat.{Seat}
+use Rattle.group_machine.specs.Slots.{seat_in, seat_of, on_seat, each_changed, only_of, present}
+use Rattle.group_machine.specs.State.{GroupState, opening, member_of, members, is_present, is_anybody, is_joined, seat_joined, seat_granted, seat_assigned, granted_of, assigned_of}
+use Rattle.group_machine.specs.Completion.{all_joined}
+use Rattle.group_machine.specs.Rounds.{is_stable, agrees, is_settled}
+use Rattle.group_machine.specs.Steps.{most_members, newcomer, joining, joined_by, rejoined_seat, rejoining, rejoined_by, synced_seat, synced_by, leaving, left_by}
+use Rattle.group_machine.specs.Good.{IsApart, IsFit, AllFit, IsGood}
+use Rattle.group_machine.proofs.SlotsLemmas.{seat_each, seat_without, one_is_each, at_only}
+use Rattle.group_machine.proofs.PresentLemmas.{numbers_each, length_reseated, any_each, any_of, all_of, present_each}
+use Rattle.group_machine.proofs.Rows.{map_same}
+use Rattle.group_machine.proofs.CompletionLemmas.{IsNext, completed_good, seat_behind, some_of}
+
+-- ---- seats that are changed one by one
+abbrev pub with_slots : GroupState → List Slot → GroupState
+with_slots g slots = record g { slots = slots }
+
+pub fit_each : (g : GroupState) (f : ℕ → Seat → Seat) → ((m : ℕ) (x : Seat) → IsFit g.partitions x → IsFit g.partitions (f m x)) → AllFit g → AllFit (with_slots g (each_changed f g.slots))
+fit_each g f keeps fit m y is =
+    let b = seat_behind (f m) (member_of g m) y (sym (seat_each f g.slots m) ∙ is) in
+    subst (IsFit g.partitions) (sym b.2) (keeps m b.0 (fit m b.0 b.1))
+
+less_seat : (p : ℕ) (f : Seat → Seat) (o : Option Seat) (q : ℕ) → ((x : Seat) → o ≡ Some x → is_in (f x).granted q ≡ true → is_in x.granted q ≡ true) → is_in (seat_granted p (on_seat f o)) q ≡ true → is_in (seat_granted p o) q ≡ true
+less_seat p f None q less e = e
+less_seat p f (Some x) q less e = less x refl e
+
+pub granted_each : (g : GroupState) (f : ℕ → Seat → Seat) → ((m : ℕ) (x : Seat) → IsFit g.partitions x → (q : ℕ) → is_in (f m x).granted q ≡ true → is_in x.granted q ≡ true) → AllFit g → (m q : ℕ) → is_in (granted_of (with_slots g (each_changed f g.slots)) m) q ≡ true → is_in (granted_of g m) q ≡ true
+granted_each g f less fit m q e =
+    less_seat g.partitions (f m) (member_of g m) q (λ x is. less m x (fit m x is) q) (ap (λ o. is_in (seat_granted g.partitions o) q) (sym (seat_each f g.slots m)) ∙ e)
+
+pub apart_each : (g : GroupState) (f : ℕ → Seat → Seat) → ((m : ℕ) (x : Seat) → IsFit g.partitions x → (q : ℕ) → is_in (f m x).granted q ≡ true → is_in x.granted q ≡ true) → AllFit g → IsApart g → IsApart (with_slots g (each_changed f g.slots))
+apart_each g f less fit apart m n q e h = apart m n q (granted_each g f less fit m q e) (granted_each g f less fit n q h)
+
+-- ---- one member's seat
+pub only_fit : (p : ℕ) (f : Seat → Seat) → ((x : Seat) → IsFit p x → IsFit p (f x)) → (member m : ℕ) (x : Seat) → IsFit p x → IsFit p (at_only member f m x)
+only_fit p f keeps member m x fit = go (m == member)
+  where
+    go : (b : Bool) → IsFit p (cond b (f x) x)
+    go true = keeps x fit
+    go false = fit
+
+pub only_less : (f : Seat → Seat) (x : Seat) (q : ℕ) (member m : ℕ) → (is_in (f x).granted q ≡ true → is_in x.granted q ≡ true) → is_in (at_only member f m x).granted q ≡ true → is_in x.granted q ≡ true
+only_less f x q member m less e = go (m == member) e
+  where
+    go : (b : Bool) → is_in (cond b (f x) x).granted q ≡ true → is_in x.granted q ≡ true
+    go true h = less h
+    go false h = h
+
+pub only_same : {X : Type 0} (h : Seat → X) (f : Seat → Seat) → ((x : Seat) → h (f x) ≡ h x) → (member m : ℕ) (x : Seat) → h (at_only member f m x) ≡ h x
+only_same h f same member m x = go (m == member)
+  where
+    go : (b : Bool) → h (cond b (f x) x) ≡ h x
+    go true = same x
+    go false = refl
+
+-- ---- joining
+seat_more : (slots : List Slot) (s : Slot) (k : ℕ) (x : Seat) → seat_in (slice_get (slots ++ s ∷ []) k) ≡ Some x → (seat_in (slice_get slots k) ≡ Some x) ⊎ (s.seat ≡ Some x)
+seat_more [] s zero x is = inr is
+seat_more [] s (suc k) x is = cc
+seat_more (t ∷ slots) s zero x is = inl is
+seat_more (t ∷ slots) s (suc k) x is = seat_more slots s k x is
+
+member_more : (slots : List Slot) (s : Slot) (m : ℕ) (x : Seat) → seat_of (slots ++ s ∷ []) m ≡ Some x → (seat_of slots m ≡ Some x) ⊎ (s.seat ≡ Some x)
+member_more slots s zero x is = cc
+member_more slots s (suc k) x is = seat_more slots s k x is
+
+granted_more : (p : ℕ) (name : List ℕ) (slots : List Slot) (k q : ℕ) → is_in (seat_granted p (seat_in (slice_get (slots ++ newcomer p name ∷ []) k))) q ≡ true → is_in (seat_granted p (seat_in (slice_get slots k))) q ≡ true
+granted_more p name [] zero q e = e
+granted_more p name [] (suc k) q e = e
+granted_more p name (t ∷ slots) zero q e = e
+granted_more p name (t ∷ slots) (suc k) q e = granted_more p name slots k q e
+
+joined_granted : (g : GroupState) (name : List ℕ) (m q : ℕ) → is_in (granted_of (joining g name) m) q ≡ true → is_in (granted_of g m) q ≡ true
+joined_granted g name zero q e = e
+joined_granted g name (suc k) q e = granted_more g.partitions name g.slots k q e
+
+new_seat : ℕ → Seat
+new_seat p = record { joined = true; synced = false; granted = empty_set p; assigned = empty_set p }
+
+new_fit : (p : ℕ) → IsFit p (new_seat p)
+unfolding new_seat
+new_fit p = record { granted_below = partitions_empty p; assigned_below = partitions_empty p; within = within_of (empty_set p) (empty_set p) (λ q e. e); equal = λ e. refl }
+
+any_more : (slots : List Slot) (s : Slot) → is_some s.seat ≡ true → list_any (λ t. is_some t.seat) (slots ++ s ∷ []) ≡ true
+any_more [] s e = rw e refl
+any_more (t ∷ slots) s e = rw (any_more slots s e) (or_true (is_some t.seat))
+  where
+    or_true : (b : Bool) → (b || true) ≡ true
+    or_true true = refl
+    or_true false = refl
+
+-- the newcomer alone has joined
+alone_joined : (g : GroupState) (name : List ℕ) → is_anybody g ≡ false → all_joined (joining g name) ≡ true
+unfolding new_seat
+alone_joined g name none = all_of (λ x. x.joined) (joining g name).slots (λ m x is. go m x (member_more g.slots (newcomer g.partitions name) m x is))
+  where
+    go : (m : ℕ) (x : Seat) → (seat_of g.slots m ≡ Some x) ⊎ (Some (new_seat g.partitions) ≡ Some x) → x.joined ≡ true
+    go m x (inl is) = absurd (false≢true (sym none ∙ any_of g.slots m x is))
+    go m x (inr is) = let same : new_seat g.partitions ≡ x = cc in ap (λ y. y.joined) (sym same)
+
+pub joining_next : (g : GroupState) (name : List ℕ) → IsGood g → length g.slots < most_members → IsNext (joining g name)
+unfolding new_seat
+joining_next g name good room =
+    let any : is_anybody (joining g name) ≡ true = any_more g.slots (newcomer g.partitions name) refl in
+    record {
+      sized = record {
+        some_partitions = good.sized.some_partitions;
+        few_partitions = good.sized.few_partitions;
+        few_members = omega (arith, length-append g.slots (newcomer g.partitions name ∷ []), room);
+        a_holder_each = good.sized.a_holder_each;
+      };
+      apart = λ m n q e h. good.apart m n q (joined_granted g name m q e) (joined_granted g name n q h);
+      fit = λ m x is. fits m x (member_more g.slots (newcomer g.partitions name) m x is);
+      some = λ e. refl;
+      gone = λ e. absurd (false≢true (sym e ∙ any));
+      counted = λ e h. counts (is_anybody g) refl h;
+    }
+  where
+    fits : (m : ℕ) (x : Seat) → (seat_of g.slots m ≡ Some x) ⊎ (Some (new_seat g.partitions) ≡ Some x) → IsFit g.partitions x
+    fits m x (inl is) = good.fit m x is
+    fits m x (inr is) = let same : new_seat g.partitions ≡ x = cc in subst (IsFit g.partitions) same (new_fit g.partitions)
+
+    counts : (b : Bool) → is_anybody g ≡ b → all_joined (joining g name) ≡ false → 0 < g.generation
+    counts true e h = good.counted e
+    counts false e h = absurd (false≢true (sym h ∙ alone_joined g name e))
+
+pub join_good : (g : GroupState) (name : List ℕ) → IsGood g → length g.slots < most_members → IsGood (joined_by g name)
+join_good g name good room = completed_good (joining g name) (joining_next g name good room)
+
+-- ---- rejoining
+pub any_of_present : (g : GroupState) (member : ℕ) → is_present g member ≡ true → is_anybody g ≡ true
+any_of_present g member e = let x = some_of (member_of g member) e in any_of g.slots member x.0 x.1
+
+pub fit_rejoined : (p : ℕ) (x : Seat) → IsFit p x → IsFit p (rejoined_seat x)
+fit_rejoined p x fit = record { granted_below = fit.assigned_below; assigned_below = fit.assigned_below; within = within_of x.assigned x.assigned (λ q e. e); equal = λ e. refl }
+
+rejoined_less : (p : ℕ) (member m : ℕ) (x : Seat) → IsFit p x → (q : ℕ) → is_in (at_only member rejoined_seat m x).granted q ≡ true → is_in x.granted q ≡ true
+rejoined_less p member m x fit q e = only_less rejoined_seat x q member m (within_says x.assigned x.granted fit.within q) e
+
+pub rejoining_fit : (g : GroupState) (member : ℕ) → AllFit g → AllFit (rejoining g member)
+rejoining_fit g member fit = subst (λ (slots : List Slot). AllFit (with_slots g slots)) (sym (one_is_each rejoined_seat g.slots member)) (fit_each g (at_only member rejoined_seat) (only_fit g.partitions rejoined_seat (fit_rejoined g.partitions) member) fit)
+
+pub rejoining_apart : (g : GroupState) (member : ℕ) → AllFit g → IsApart g → IsApart (rejoining g member)
+rejoining_apart g member fit apart = subst (λ (slots : List Slot). IsApart (with_slots g slots)) (sym (one_is_each rejoined_seat g.slots member)) (apart_each g (at_only member rejoined_seat) (rejoined_less g.partitions member) fit apart)
+
+pub any_rejoining : (g : GroupState) (member : ℕ) → is_anybody (rejoining g member) ≡ is_anybody g
+any_rejoining g member = ap (λ slots. list_any (λ s. is_some s.seat) slots) (one_is_each rejoined_seat g.slots member) ∙ any_each (at_only member rejoined_seat) g.slots
+
+pub rejoining_next : (g : GroupState) (member : ℕ) → IsGood g → is_present g member ≡ true → IsNext (rejoining g member)
+rejoining_next g member good here =
+    let any : is_anybody g ≡ true = any_of_present g member here in
+    record {
+      sized = record {
+        some_partitions = good.sized.some_partitions;
+        few_partitions = good.sized.few_partitions;
+        few_members = omega (arith, length_reseated (only_of member (on_seat rejoined_seat)) g.slots, good.sized.few_members);
+        a_holder_each = good.sized.a_holder_each;
+      };
+      apart = rejoining_apart g member good.fit good.apart;
+      fit = rejoining_fit g member good.fit;
+      some = λ e. refl;
+      gone = λ e. absurd (false≢true (sym e ∙ any_rejoining g member ∙ any));
+      counted = λ e h. good.counted any;
+    }
+
+pub rejoin_good : (g : GroupState) (member : ℕ) → IsGood g → is_present g member ≡ true → IsGood (rejoined_by g member)
+rejoin_good g member good here = completed_good (rejoining g member) (rejoining_next g member good here)
+
+-- ---- leaving
+left_seat : (b : Bool) (o : Option Seat) (x : Seat) → cond b None o ≡ Some x → o ≡ Some x
+left_seat true o x e = cc
+left_seat false o x e = e
+
+left_granted : (p : ℕ) (b : Bool) (o : Option Seat) (q : ℕ) → is_in (seat_granted p (cond b None o)) q ≡ true → is_in (seat_granted p o) q ≡ true
+left_granted p true o q e = absurd (false≢true (sym (in_empty p q) ∙ e))
+left_granted p false o q e = e
+
+pub leaving_next : (g : GroupState) (member : ℕ) → IsGood g → is_present g member ≡ true → IsNext (leaving g member)
+leaving_next g member good here =
+    let any : is_anybody g ≡ true = any_of_present g member here in
+    let less : (m q : ℕ) → is_in (granted_of (leaving g member) m) q ≡ true → is_in (granted_of g m) q ≡ true =
+    λ m q e. left_granted g.partitions (m == member) (member_of g m) q (ap (λ o. is_in (seat_granted g.partitions o) q) (sym (seat_without g.slots member m)) ∙ e) in
+    record {
+      sized = record {
+        some_partitions = good.sized.some_partitions;
+        few_partitions = good.sized.few_partitions;
+        few_members = omega (arith, length_reseated (only_of member (λ before. None)) g.slots, good.sized.few_members);
+        a_holder_each = good.sized.a_holder_each;
+      };
+      apart = λ m n q e h. good.apart m n q (less m q e) (less n q h);
+      fit = λ m x is. good.fit m x (left_seat (m == member) (member_of g m) x (sym (seat_without g.slots member m) ∙ is));
+      some = λ e. rw e refl;
+      gone = λ e. rw e refl;
+      counted = λ e h. good.counted any;
+    }
+
+pub leave_good : (g : GroupState) (member : ℕ) → IsGood g → is_present g member ≡ true → IsGood (left_by g member)
+leave_good g member good here = completed_good (leaving g member) (leaving_next g member good here)
+
+-- ---- syncing
+all_map : (p : Seat → Bool) (f : ℕ → Seat → Seat) → ((m : ℕ) (x : Seat) → p (f m x) ≡ p x) → (xs : List (ℕ × Seat)) → list_all {X = ℕ × Seat} (λ r. p r.1) (map (λ r. (r.0, f r.0 r.1)) xs) ≡ list_all (λ r. p r.1) xs
+all_map p f same [] = refl
+all_map p f same (x ∷ xs) = rw (same x.0 x.1, all_map p f same xs) refl
+
+pub all_each : (p : Seat → Bool) (f : ℕ → Seat → Seat) → ((m : ℕ) (x : Seat) → p (f m x) ≡ p x) → (slots : List Slot) → list_all {X = ℕ × Seat} (λ r. p r.1) (present (each_changed f slots)) ≡ list_all (λ r. p r.1) (present slots)
+all_each p f same slots = ap (λ xs. list_all {X = ℕ × Seat} (λ r. p r.1) xs) (present_each f slots) ∙ all_map p f same (present slots)
+
+seat_same : {X : Type 0} (h : Option Seat → X) (f : Seat → Seat) → ((x : Seat) → h (Some (f x)) ≡ h (Some x)) → (o : Option Seat) → h (on_seat f o) ≡ h o
+seat_same h f same None = refl
+seat_same h f same (Some x) = same x
+
+-- what does not look at a member's synced flag is as it was
+pub synced_same : {X : Type 0} (h : Option Seat → X) → ((x : Seat) → h (Some (synced_seat x)) ≡ h (Some x)) → (g : GroupState) (member m : ℕ) → h (member_of (synced_by g member) m) ≡ h (member_of g m)
+synced_same h same g member m =
+    ap (λ slots. h (seat_of slots m)) (one_is_each synced_seat g.slots member)
+    ∙ ap h (seat_each (at_only member synced_seat) g.slots m)
+    ∙ seat_same h (at_only member synced_seat m) (λ x. only_same (λ y. h (Some y)) synced_seat same member m x) (member_of g m)
+
+pub any_synced : (g : GroupState) (member : ℕ) → is_anybody (synced_by g member) ≡ is_anybody g
+any_synced g member = ap (λ slots. list_any (λ s. is_some s.seat) slots) (one_is_each synced_seat g.slots member) ∙ any_each (at_only member synced_seat) g.slots
+
+pub members_synced : (g : GroupState) (member : ℕ) → members (synced_by g member) ≡ members g
+members_synced g member = ap (λ slots. map {A = ℕ × Seat} (λ r. r.0) (present slots)) (one_is_each synced_seat g.slots member) ∙ numbers_each (at_only member synced_seat) g.slots
+
+pub settled_synced : (g : GroupState) (member : ℕ) → is_settled (synced_by g member) ≡ is_settled g
+settled_synced g member =
+    ap (λ t. is_stable g.phase && t)
+    (ap (λ slots. list_all {X = ℕ × Seat} (λ r. agrees r.1) (present slots)) (one_is_each synced_seat g.slots member)
+    ∙ all_each agrees (at_only member synced_seat) (λ m x. only_same agrees synced_seat (λ y. refl) member m x) g.slots)
+
+pub sync_good : (g : GroupState) (member : ℕ) → IsGood g → IsGood (synced_by g member)
+sync_good g member good =
+    let p : ℕ = g.partitions in
+    let granted : (m : ℕ) → granted_of (synced_by g member) m ≡ granted_of g m = λ m. synced_same (seat_granted p) (λ x. refl) g member m in
+    let assigned : (m : ℕ) → assigned_of (synced_by g member) m ≡ assigned_of g m = λ m. synced_same (seat_assigned p) (λ x. refl) g member m in
+    let joined : (m : ℕ) → is_joined (synced_by g member) m ≡ is_joined g m = λ m. synced_same seat_joined (λ x. refl) g member m in
+    let here : (m : ℕ) → is_present (synced_by g member) m ≡ is_present g m = λ m. synced_same is_some (λ x. refl) g member m in
+    let same : members (synced_by g member) ≡ members g = members_synced g member in
+    let fit_synced : (x : Seat) → IsFit p x → IsFit p (synced_seat x) = λ x f. record { granted_below = f.granted_below; assigned_below = f.assigned_below; within = f.within; equal = f.equal } in
+    record {
+      sized = record {
+        some_partitions = good.sized.some_partitions;
+        few_partitions = good.sized.few_partitions;
+        few_members = omega (arith, length_reseated (only_of member (on_seat synced_seat)) g.slots, good.sized.few_members);
+        a_holder_each = good.sized.a_holder_each;
+      };
+      apart = λ m n q e h. good.apart m n q (ap (λ s. is_in s q) (sym (granted m)) ∙ e) (ap (λ s. is_in s q) (sym (granted n)) ∙ h);
+      fit = subst (λ (slots : List Slot). AllFit (with_slots g slots)) (sym (one_is_each synced_seat g.slots member)) (fit_each g (at_only member synced_seat) (only_fit p synced_seat fit_synced member) good.fit);
+      balanced = λ s.
+          let was = good.balanced (sym (settled_synced g member) ∙ s) in
+          let rows : map (granted_of g) (members g) ≡ map (granted_of (synced_by g member)) (members g) = map_same (granted_of g) (granted_of (synced_by g member)) (members g) (λ m listed. sym (granted m)) in
+          subst (λ (ms : List ℕ). IsBalanced p (map (granted_of (synced_by g member)) ms)) (sym same) (subst (IsBalanced p) rows was);
+      stable = λ s m. joined m ∙ good.stable s m;
+      near = λ s.
+          let was = good.near s in
+          (was.0, subst (λ (ms : List ℕ). IsBalanced p (map was.0 ms)) (sym same) was.1, λ m e. ap (λ t. is_within t (was.0 m)) (assigned m) ∙ was.2 m (sym (here m) ∙ e));
+      preparing = λ s. let was = good.preparing s in (was.0, here was.0 ∙ was.1, joined was.0 ∙ was.2);
+      empty = (λ s. any_synced g member ∙ good.empty.0 s, λ s. good.empty.1 (sym (any_synced g member) ∙ s));
+      counted = λ a. good.counted (sym (any_synced g member) ∙ a);
+    }
+
+-- ---- nobody
+nobody_at : (m : ℕ) → seat_of [] m ≡ None
+nobody_at zero = refl
+nobody_at (suc k) = refl
+
+length_replicate : {A : Type 0} (n : ℕ) (x : A) → length (replicate n x) ≡ n
+length_replicate zero x = refl
+length_replicate (suc n) x = ap (λ k. suc k) (length_replicate n x)
+
+pub opening_good : (p : ℕ) → 1 ≤ p → p ≤ 4096 → IsGood (opening p)
+opening_good p some few = record {
+  sized = record { some_partitions = some; few_partitions = few; few_members = omega arith; a_holder_each = length_replicate p None };
+  apart = λ m n q e h. absurd (false≢true (sym (in_empty p q) ∙ ap (λ o. is_in (seat_granted p o) q) (sym (nobody_at m)) ∙ e));
+  fit = λ m x is. let none : None ≡ Some x = sym (nobody_at m) ∙ is in cc;
+  balanced = λ s. absurd (false≢true s);
+  stable = λ s. cc;
+  near = λ s. cc;
+  preparing = λ s. cc;
+  empty = (λ s. refl, λ s. refl);
+  counted = λ a. absurd (false≢true a);
+}

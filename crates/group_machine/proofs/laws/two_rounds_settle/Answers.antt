@@ -1,0 +1,5 @@
+use Rattle.group_machine.proofs.FinishLemmas.{two_rounds}
+use Rattle.group_machine.proofs.laws.two_rounds_settle.Goals as goal
+
+pub returns : goal.returns
+returns c g sound any = two_rounds g sound.sized any sound.fit sound.apart

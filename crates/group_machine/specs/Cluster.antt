@@ -1,0 +1,100 @@
+-- A cluster: a group of members, the logs they read, and the store of what they committed.
+use Rattle.std.specs.Prelude.{◌≡◌, ℕ, ◌+◌, Bool, true, false, not, ◌==◌, List, [], ◌∷◌, ◌++◌, Option, Some, None, Result, Ok, Err, length, slice_index_or, if◌then◌else◌}
+use Rattle.lane_words.specs.declared.Refusal.{Refusal}
+use Rattle.lane_words.specs.declared.Refusal.TheVariants as r
+use Rattle.bit_planes.specs.PartitionSet.{PartitionSet, is_in}
+pub use Rattle.partition_log.specs.Keys.{Key, is_known}
+pub use Rattle.commit_store.specs.Commits.{AreLogs, AreLogsOf, Commits, Fits, IsExact, PartitionLogs, append_answer, commit_answer, committed_at, with_commit, with_record}
+use Rattle.group_machine.specs.State.{GroupState, assigned_of, granted_of, is_present}
+use Rattle.group_machine.specs.Good.{IsGood}
+use Rattle.group_machine.specs.Steps.{sync_answer, synced_by}
+
+-- a commit that is sent: of which member and in which generation, and of which records: those of a partition from an
+-- offset on, by their key numbers
+pub record CommitTerms : Type 0 where
+  pub member : ℕ
+  pub generation : ℕ
+  pub partition : ℕ
+  pub from : ℕ
+  pub ids : List ℕ
+
+-- a lease: what a member is to keep in a generation, and at which offset each partition is committed
+pub record LeaseTerms : Type 0 where
+  pub member : ℕ
+  pub generation : ℕ
+  pub assigned : PartitionSet
+  pub starts : List ℕ
+
+-- the committed offset of a partition by a lease
+abbrev pub start_of : LeaseTerms → ℕ → ℕ
+start_of lease p = slice_index_or lease.starts p 0
+
+-- the group, the logs, and the store, of which the room that is reserved for counters is not seen: it is always 0 here
+pub record ClusterState : Type 0 where
+  pub group : GroupState
+  pub logs : PartitionLogs
+  pub store : Commits
+
+-- a store without the room that is reserved in it
+abbrev pub without_room : Commits → Commits
+without_room s = record s { room = 0 }
+
+-- What a cluster keeps: its group is good, its store is exact over its logs, all three have the same partitions, and each
+-- key has a counter
+pub record IsConsistent (s : ClusterState) : Type 0 where
+  pub good : IsGood s.group
+  pub logs : AreLogs s.logs
+  pub exact : IsExact s.store s.logs
+  pub logs_partitions : s.logs.partitions ≡ s.group.partitions
+  pub store_partitions : length s.store.offsets ≡ s.group.partitions
+  pub a_counter_each : length s.store.counts ≡ length s.logs.keys
+
+-- ---- commit
+-- What a commit answers, in this order: nobody present has its number; it is of another generation, so its sender has
+-- missed a rebalance; its partition is not granted to the member, as none past the last is; else what the store answers.
+-- A member that was lost or that lags behind is fenced off by the first three (KIP-429: its partitions count as lost)
+abbrev pub fence : GroupState → CommitTerms → Result (Unit {0}) Refusal
+fence g c =
+    if not (is_present g c.member) then Err r.UnknownMember
+    else if not (c.generation == g.generation) then Err r.StaleGeneration
+    else if not (is_in (granted_of g c.member) c.partition) then Err r.NotOwner
+    else Ok tt
+
+abbrev pub and_then : {A : Type 0} → Result (Unit {0}) Refusal → Result A Refusal → Result A Refusal
+and_then (Ok _) answer = answer
+and_then (Err why) answer = Err why
+
+abbrev pub cluster_commit_answer : ClusterState → CommitTerms → Result ℕ Refusal
+cluster_commit_answer s c = and_then (fence s.group c) (commit_answer s.store s.logs c.partition c.from c.ids)
+
+-- a commit is due: its member is present, of this generation, is granted the partition, and the store takes it
+pub record IsDue (s : ClusterState) (c : CommitTerms) : Type 0 where
+  pub present : is_present s.group c.member ≡ true
+  pub current : c.generation ≡ s.group.generation
+  pub granted : is_in (granted_of s.group c.member) c.partition ≡ true
+  pub fits : Fits s.store s.logs c.partition c.from c.ids
+
+-- the store takes it, and all else is as it was
+abbrev pub committed_by : ClusterState → CommitTerms → ClusterState
+committed_by s c = record s { store = with_commit s.store c.partition c.ids }
+
+-- ---- append
+-- a key that is new has a counter at 0
+abbrev pub with_counter_for : PartitionLogs → Key → Commits → Commits
+with_counter_for l key store = if is_known l.keys key then store else (record store { counts = store.counts ++ 0 ∷ [] })
+
+-- one record more at the end of the log of its place, a counter at 0 for a new key, and all else as it was
+abbrev pub appended_to : ClusterState → Key → ClusterState
+appended_to s key = record s { logs = with_record s.logs key; store = with_counter_for s.logs key s.store }
+
+-- ---- sync
+-- what a member is leased: what it is to keep, and the committed offsets
+abbrev pub lease_of : ClusterState → ℕ → LeaseTerms
+lease_of s member = record { member = member; generation = s.group.generation; assigned = assigned_of s.group member; starts = s.store.offsets }
+
+abbrev pub cluster_sync_answer : ClusterState → ℕ → Result LeaseTerms Refusal
+cluster_sync_answer s member = and_then (sync_answer s.group member) (Ok (lease_of s member))
+
+-- a step of the group alone
+abbrev pub with_group : ClusterState → GroupState → ClusterState
+with_group s group = record s { group = group }

@@ -1,0 +1,55 @@
+-- Completion: the next generation.
+use Rattle.std.specs.Prelude.{ℕ, ◌+◌, Bool, false, ◌&&◌, ◌++◌, ◌==◌, if◌then◌else◌}
+use Rattle.std.specs.List.{list_all}
+use Rattle.bit_planes.specs.PartitionSet.{union}
+use Rattle.bit_planes.specs.SetRows.{SetRows, set_of}
+use Rattle.coop_rebalance.specs.Rounds.{next_rows}
+use Rattle.group_machine.specs.declared.group.Seat.{Seat}
+use Rattle.group_machine.specs.declared.group.Phase.TheVariants.{Stable}
+use Rattle.group_machine.specs.Slots.{present, each_changed}
+use Rattle.group_machine.specs.State.{GroupState, is_anybody, granted_rows}
+use Rattle.group_machine.specs.Moves.{moves_to, last_after}
+
+abbrev pub all_joined : GroupState → Bool
+all_joined g = list_all (λ m. m.1.joined) (present g.slots)
+
+-- a completion comes where somebody is present and all who are have joined
+abbrev pub is_ready : GroupState → Bool
+is_ready g = is_anybody g && all_joined g
+
+-- a member keeps its row of the next assignment. What it is granted it may go on reading until it gives it up, and what
+-- it is to keep it is granted at once (KIP-429: kept partitions are read during a rebalance, a partition that moves is
+-- revoked before it is assigned). Its flags are cleared
+abbrev pub completed_seat : SetRows → ℕ → Seat → Seat
+completed_seat next member seat = record {
+  joined = false;
+  synced = false;
+  granted = union seat.granted (set_of next member);
+  assigned = set_of next member;
+}
+
+-- the next generation, in which each present member has its row of these
+abbrev pub completed_with : GroupState → SetRows → GroupState
+completed_with g next = record {
+  generation = g.generation + 1;
+  phase = Stable;
+  partitions = g.partitions;
+  slots = each_changed (completed_seat next) g.slots;
+  last = last_after g next;
+  moves = g.moves ++ moves_to g next;
+}
+
+-- the next generation: each member's row is its sticky target of what is granted, without what any other member is granted
+abbrev pub complete : GroupState → GroupState
+complete g = completed_with g (next_rows (granted_rows g))
+
+-- the last generation
+abbrev pub last_generation : ℕ
+last_generation = 4294967295
+
+-- a completion would pass the last generation
+abbrev pub is_over : GroupState → Bool
+is_over g = is_ready g && (g.generation == last_generation)
+
+abbrev pub completed : GroupState → GroupState
+completed g = if is_ready g then complete g else g

@@ -1,0 +1,56 @@
+-- What a group keeps.
+use Rattle.std.specs.Prelude.{ℕ, ◌≡◌, ◌<◌, ◌≤◌, ◌↔◌, true, false, map, length, Some}
+use Rattle.bit_planes.specs.PartitionSet.{PartitionSet, partitions, is_in, is_within}
+use Rattle.sticky_assignor.specs.Balanced.{IsBalanced}
+use Rattle.group_machine.specs.declared.group.Seat.{Seat}
+use Rattle.group_machine.specs.declared.group.Phase.TheVariants.{Empty, Preparing, Stable}
+use Rattle.group_machine.specs.State.{GroupState, member_of, members, is_present, is_joined, granted_of, assigned_of, is_anybody}
+use Rattle.group_machine.specs.Rounds.{is_settled}
+use Rattle.group_machine.specs.Steps.{most_members}
+
+-- 1 to 4096 partitions, up to 512 members over all, and a last holder or none for each partition
+pub record IsSized (g : GroupState) : Type 0 where
+  pub some_partitions : 1 ≤ g.partitions
+  pub few_partitions : g.partitions ≤ 4096
+  pub few_members : length g.slots ≤ most_members
+  pub a_holder_each : length g.last ≡ g.partitions
+
+-- no partition is granted to two present members
+abbrev pub IsApart : GroupState → Type 0
+IsApart g = (m n q : ℕ) → is_in (granted_of g m) q ≡ true → is_in (granted_of g n) q ≡ true → m ≡ n
+
+-- a member's sets are over the group's partitions; what it is to keep is granted to it, and is all of that once it has joined
+pub record IsFit (p : ℕ) (seat : Seat) : Type 0 where
+  pub granted_below : partitions seat.granted ≡ p
+  pub assigned_below : partitions seat.assigned ≡ p
+  pub within : is_within seat.assigned seat.granted ≡ true
+  pub equal : seat.joined ≡ true → seat.assigned ≡ seat.granted
+
+abbrev pub AllFit : GroupState → Type 0
+AllFit g = (m : ℕ) (seat : Seat) → member_of g m ≡ Some seat → IsFit g.partitions seat
+
+-- within the limits, no partition is granted twice, and each member's sets are fit
+pub record IsSound (g : GroupState) : Type 0 where
+  pub sized : IsSized g
+  pub apart : IsApart g
+  pub fit : AllFit g
+
+-- each member's granted set is balanced with the others'
+abbrev pub IsGrantBalanced : GroupState → Type 0
+IsGrantBalanced g = IsBalanced g.partitions (map (λ m. granted_of g m) (members g))
+
+-- what members are to keep lies within balanced rows
+abbrev pub LiesInBalanced : GroupState → Type 0
+LiesInBalanced g = (b : ℕ → PartitionSet) × IsBalanced g.partitions (map b (members g)) × ((m : ℕ) → is_present g m ≡ true → is_within (assigned_of g m) (b m) ≡ true)
+
+-- what holds of a group after each step
+pub record IsGood (g : GroupState) : Type 0 where
+  pub sized : IsSized g
+  pub apart : IsApart g
+  pub fit : AllFit g
+  pub balanced : is_settled g ≡ true → IsGrantBalanced g
+  pub stable : g.phase ≡ Stable → (m : ℕ) → is_joined g m ≡ false
+  pub near : g.phase ≡ Stable → LiesInBalanced g
+  pub preparing : g.phase ≡ Preparing → (m : ℕ) × (is_present g m ≡ true) × (is_joined g m ≡ false)
+  pub empty : (g.phase ≡ Empty) ↔ (is_anybody g ≡ false)
+  pub counted : is_anybody g ≡ true → 0 < g.generation

@@ -1,0 +1,13 @@
+pub mod Cluster
+pub mod Completion
+pub mod Good
+pub mod MembersLeft
+pub mod Moves
+pub mod Name
+pub mod Rounds
+pub mod Shown
+pub mod ShownCluster
+pub mod Slots
+pub mod State
+pub mod Steps
+pub mod Walks

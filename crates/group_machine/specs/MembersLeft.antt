@@ -1,0 +1,11 @@
+-- How the members that are left are seen as a list of numbers.
+use Rattle.std.specs.Prelude.{ℕ, ◌+◌, ◌≤◌, List, map, drop, length}
+use Rattle.group_machine.specs.Slots.{present_from}
+use Rattle.group_machine.specs.declared.group.members.Members.TheInside.{Inside}
+
+-- the present members of the slots that were not passed
+abbrev pub members_left : Inside → List ℕ
+members_left a = map (λ m. m.0) (present_from (a.place + 1) (drop a.place a.slots.now))
+
+abbrev pub AreFewSlots : Inside → Type 0
+AreFewSlots a = length a.slots.now ≤ 512

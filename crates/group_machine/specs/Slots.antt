@@ -1,0 +1,54 @@
+-- Members by their numbers. Slot k is of member number k + 1: it has its name and, while the member is present, its seat.
+use Rattle.std.specs.Prelude.{ℕ, zero, suc, List, [], ◌∷◌, Option, Some, None, ◌==◌, slice_get, if◌then◌else◌}
+use Rattle.group_machine.specs.declared.group.Slot.{Slot}
+use Rattle.group_machine.specs.declared.group.Seat.{Seat}
+
+abbrev pub seat_in : Option Slot → Option Seat
+seat_in None = None
+seat_in (Some s) = s.seat
+
+-- the seat of a member, while it is present
+abbrev pub seat_of : List Slot → ℕ → Option Seat
+seat_of slots zero = None
+seat_of slots (suc k) = seat_in (slice_get slots k)
+
+abbrev pub and_member : ℕ → Option Seat → List (ℕ × Seat) → List (ℕ × Seat)
+and_member m None members = members
+and_member m (Some seat) members = (m, seat) ∷ members
+
+-- the present members of the slots of the numbers from m on
+abbrev pub present_from : ℕ → List Slot → List (ℕ × Seat)
+present_from m [] = []
+present_from m (s ∷ slots) = and_member m s.seat (present_from (suc m) slots)
+
+-- the present members with their seats, in rising order of numbers
+abbrev pub present : List Slot → List (ℕ × Seat)
+present slots = present_from 1 slots
+
+-- the slots from number m on, each with the seat that f gives for its number and its seat
+abbrev pub reseated_from : ℕ → (ℕ → Option Seat → Option Seat) → List Slot → List Slot
+reseated_from m f [] = []
+reseated_from m f (s ∷ slots) = record { name = s.name; seat = f m s.seat } ∷ reseated_from (suc m) f slots
+
+abbrev pub on_seat : (Seat → Seat) → Option Seat → Option Seat
+on_seat f None = None
+on_seat f (Some seat) = Some (f seat)
+
+abbrev pub only_of : ℕ → (Option Seat → Option Seat) → ℕ → Option Seat → Option Seat
+only_of member f m seat = if m == member then f seat else seat
+
+-- the slots with the seat of each present member changed
+abbrev pub each_changed : (ℕ → Seat → Seat) → List Slot → List Slot
+each_changed f slots = reseated_from 1 (λ m. on_seat (f m)) slots
+
+-- the slots with the seat of one member changed, where it is present
+abbrev pub one_changed : (Seat → Seat) → List Slot → ℕ → List Slot
+one_changed f slots member = reseated_from 1 (only_of member (on_seat f)) slots
+
+-- the slots with this seat, or none, for one member
+abbrev pub with_seat : List Slot → ℕ → Option Seat → List Slot
+with_seat slots member seat = reseated_from 1 (only_of member (λ before. seat)) slots
+
+-- the slots without one member
+abbrev pub without_seat : List Slot → ℕ → List Slot
+without_seat slots member = with_seat slots member None

@@ -1,0 +1,102 @@
+-- The steps of a group. Each answers what its table of refusals says, in the table's order, and a refused one changes nothing.
+use Rattle.std.specs.Prelude.{ℕ, ◌+◌, Bool, true, false, not, ◌&&◌, ◌==◌, List, [], ◌∷◌, ◌++◌, Option, Some, None, Result, Ok, Err, length, nat_le, is_some, if◌then◌else◌}
+use Rattle.std.specs.List.{list_any}
+use Rattle.std.specs.Str.{bytes_eq}
+use Rattle.lane_words.specs.declared.Refusal.{Refusal}
+use Rattle.lane_words.specs.declared.Refusal.TheVariants as r
+use Rattle.bit_planes.specs.PartitionSet.{PartitionSet, empty_set, is_same}
+use Rattle.group_machine.specs.declared.group.Seat.{Seat}
+use Rattle.group_machine.specs.declared.group.Slot.{Slot}
+use Rattle.group_machine.specs.declared.group.Phase.TheVariants.{Empty, Preparing}
+use Rattle.group_machine.specs.Slots.{one_changed, without_seat}
+use Rattle.group_machine.specs.State.{GroupState, member_of, is_present}
+use Rattle.group_machine.specs.Completion.{is_over, completed}
+use Rattle.group_machine.specs.Rounds.{is_stable, agrees}
+
+-- the most members of a group over its time
+abbrev pub most_members : ℕ
+most_members = 512
+
+-- the answer of a step, unless its completion would pass the last generation
+abbrev pub unless_over : {A : Type 0} → GroupState → A → Result A Refusal
+unless_over g answer = if is_over g then Err r.GenerationsOver else Ok answer
+
+-- ---- join
+abbrev pub is_name_used : GroupState → List ℕ → Bool
+is_name_used g name = list_any (λ s. bytes_eq s.name name) g.slots
+
+-- a member that joins is granted nothing yet
+abbrev pub newcomer : ℕ → List ℕ → Slot
+newcomer p name = record { name = name; seat = Some (record { joined = true; synced = false; granted = empty_set p; assigned = empty_set p }) }
+
+-- the group with one member more, before a completion
+abbrev pub joining : GroupState → List ℕ → GroupState
+joining g name = record g { slots = g.slots ++ newcomer g.partitions name ∷ []; phase = Preparing }
+
+-- the member's number, which is the next one
+abbrev pub join_answer : GroupState → List ℕ → Result ℕ Refusal
+join_answer g name =
+    if is_name_used g name then Err r.NameUsed
+    else if nat_le most_members (length g.slots) then Err r.TooManyMembers
+    else unless_over (joining g name) (length g.slots + 1)
+
+abbrev pub joined_by : GroupState → List ℕ → GroupState
+joined_by g name = completed (joining g name)
+
+-- ---- rejoin
+-- what it was not to keep it gives up
+abbrev pub rejoined_seat : Seat → Seat
+rejoined_seat seat = record { joined = true; synced = seat.synced; granted = seat.assigned; assigned = seat.assigned }
+
+-- the group with this member joined again, before a completion
+abbrev pub rejoining : GroupState → ℕ → GroupState
+rejoining g member = record g { slots = one_changed rejoined_seat g.slots member; phase = Preparing }
+
+-- why a rejoin is refused, but for the last generation
+abbrev pub rejoin_refusal : GroupState → ℕ → PartitionSet → Option Seat → Option Refusal
+rejoin_refusal g generation claim None = Some r.UnknownMember
+rejoin_refusal g generation claim (Some seat) =
+    if not (generation == g.generation) then Some r.StaleGeneration
+    else if seat.joined then Some r.AlreadyJoined
+    else if not seat.synced then Some r.SyncFirst
+    else if is_stable g.phase && agrees seat then Some r.NothingToGive
+    else if not (is_same claim seat.assigned) then Some r.ClaimDiffers
+    else None
+
+abbrev pub unless_refused : {A : Type 0} → Option Refusal → Result A Refusal → Result A Refusal
+unless_refused None answer = answer
+unless_refused (Some why) answer = Err why
+
+abbrev pub rejoin_answer : GroupState → ℕ → ℕ → PartitionSet → Result (Unit {0}) Refusal
+rejoin_answer g member generation claim = unless_refused (rejoin_refusal g generation claim (member_of g member)) (unless_over (rejoining g member) tt)
+
+abbrev pub rejoined_by : GroupState → ℕ → GroupState
+rejoined_by g member = completed (rejoining g member)
+
+-- ---- sync
+abbrev pub synced_seat : Seat → Seat
+synced_seat seat = record { joined = seat.joined; synced = true; granted = seat.granted; assigned = seat.assigned }
+
+abbrev pub sync_seat_answer : Option Seat → Result (Unit {0}) Refusal
+sync_seat_answer None = Err r.UnknownMember
+sync_seat_answer (Some seat) = if seat.joined then Err r.RebalanceInProgress else Ok tt
+
+abbrev pub sync_answer : GroupState → ℕ → Result (Unit {0}) Refusal
+sync_answer g member = sync_seat_answer (member_of g member)
+
+abbrev pub synced_by : GroupState → ℕ → GroupState
+synced_by g member = record g { slots = one_changed synced_seat g.slots member }
+
+-- ---- leave and lose, which are one
+-- what is left of a group, before a completion
+abbrev pub left : GroupState → List Slot → GroupState
+left g slots = record g { slots = slots; phase = if list_any (λ s. is_some s.seat) slots then Preparing else Empty }
+
+abbrev pub leaving : GroupState → ℕ → GroupState
+leaving g member = left g (without_seat g.slots member)
+
+abbrev pub leave_answer : GroupState → ℕ → Result (Unit {0}) Refusal
+leave_answer g member = if is_present g member then unless_over (leaving g member) tt else Err r.UnknownMember
+
+abbrev pub left_by : GroupState → ℕ → GroupState
+left_by g member = completed (leaving g member)

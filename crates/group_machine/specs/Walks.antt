@@ -1,0 +1,55 @@
+-- What walks over slots come to. Only contracts of private functions cite it.
+use Rattle.std.specs.Prelude.{◌≡◌, ℕ, ◌<◌, Bool, true, ◌&&◌, not, List, Option, Some, None, find, filter_map, map, slice_index_or, length}
+use Rattle.std.specs.List.{range_with_len}
+use Rattle.std.specs.Option.{option_map, option_or}
+use Rattle.bit_planes.specs.PartitionSet.{partitions, is_in}
+use Rattle.bit_planes.specs.SetRows.{SetRows, AreRows, members, set_of, sets_of}
+use Rattle.sticky_assignor.specs.Balanced.{AreApart}
+use Rattle.group_machine.specs.declared.group.Slot.{Slot}
+use Rattle.group_machine.specs.declared.group.Seat.{Seat}
+use Rattle.group_machine.specs.declared.group.Move.{Move}
+use Rattle.group_machine.specs.Slots.{seat_of, present}
+
+-- each present member's sets are over p
+pub record IsSeatOver (p : ℕ) (seat : Seat) : Type 0 where
+  pub granted : partitions seat.granted ≡ p
+  pub assigned : partitions seat.assigned ≡ p
+
+abbrev pub AreSeatsOver : ℕ → List Slot → Type 0
+AreSeatsOver p slots = (member : ℕ) (seat : Seat) → seat_of slots member ≡ Some seat → IsSeatOver p seat
+
+-- a test of a present member, which all others pass
+abbrev pub out_or : (Seat → Bool) → Option Seat → Bool
+out_or test None = true
+out_or test (Some seat) = test seat
+
+-- what present members are granted
+abbrev pub granted_in : ℕ → List Slot → SetRows
+granted_in p slots = record { below = p; rows = map (λ m. (m.0, m.1.granted)) (present slots) }
+
+-- rows of some members, with no partition in two of them
+pub record AreOwned (r : SetRows) : Type 0 where
+  pub kept : AreRows r
+  pub some : 0 < length (members r)
+  pub apart : AreApart (sets_of r (members r))
+
+abbrev pub numbers_in : List Slot → List ℕ
+numbers_in slots = map (λ m. m.0) (present slots)
+
+-- whether a member takes a partition of its row
+abbrev pub takes_of : SetRows → ℕ → (ℕ × Seat) → Bool
+takes_of next q m = is_in (set_of next m.0) q && not (is_in m.1.granted q)
+
+abbrev pub taker_of : List (ℕ × Seat) → SetRows → ℕ → Option ℕ
+taker_of present_members next q = option_map (λ m. m.0) (find (takes_of next q) present_members)
+
+abbrev pub move_of : ℕ → ℕ → Option ℕ → Option ℕ → Option Move
+move_of generation q last None = None
+move_of generation q last (Some holder) = Some (record { generation = generation; partition = q; last = last; holder = holder })
+
+-- the moves by who takes each partition, and by who had it last
+abbrev pub moves_by : ℕ → List (Option ℕ) → List (Option ℕ) → List Move
+moves_by generation takers last = filter_map (λ q. move_of generation q (slice_index_or last q None) (slice_index_or takers q None)) (range_with_len 0 (length takers))
+
+abbrev pub last_by : List (Option ℕ) → List (Option ℕ) → List (Option ℕ)
+last_by takers last = map (λ q. option_or (slice_index_or takers q None) (slice_index_or last q None)) (range_with_len 0 (length last))

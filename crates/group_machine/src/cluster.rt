@@ -1,0 +1,306 @@
+//! The cluster: members, logs, and what was committed of them.
+
+ghost use Rattle.std.specs.Prelude.{◌≡◌, ◌+◌, ◌≤◌, ℕ, [], Ok, Some, None, MatchOption, IfOk, IfSome, OnOk, OnErr, is_some, length};
+ghost use Rattle.lane_words.specs.Answers.{Answers};
+ghost use Rattle.group_machine.specs.State.{GroupState, assigned_of, granted_of, is_joined, is_present, is_synced, members, name_of, opening, owner_of};
+ghost use Rattle.group_machine.specs.Steps.{join_answer, joined_by, leave_answer, left_by, rejoin_answer, rejoined_by, synced_by};
+ghost use Rattle.group_machine.specs.Rounds.{is_settled};
+ghost use Rattle.group_machine.specs.Cluster.{AreLogsOf, ClusterState, IsDue, IsConsistent, append_answer, appended_to, cluster_commit_answer, cluster_sync_answer, committed_at, committed_by, fence, with_group, without_room};
+
+use crate::commit::{Commit, Lease};
+use crate::group::{Group, Members, Move, Phase};
+use crate::name::Name;
+use bit_planes::Plane;
+use commit_store::Store;
+use lane_words::{Memory, Refusal};
+use partition_log::{LogRead, Logs};
+use std::alloc::Global;
+use std::marker::Model;
+use std::random::RandomSource;
+
+/// Consumers that read partitioned logs, in one group: which partition is read by whom, and what was committed.
+///
+/// The group is that of Kafka's cooperative rebalancing (KIP-429) with the balance of its sticky assignor. After each
+/// call no partition is granted to two present members, and the counter of each key is how often the key is in the
+/// records below the committed offsets, each taken once.
+#[derive(Drop)]
+pub struct Cluster {
+    alloc: Global,
+    group: Group,
+    logs: Logs,
+    store: Store,
+}
+
+impl Model for Cluster {
+    ghost use Rattle.group_machine.specs.Cluster.{ClusterState};
+    ghost use Rattle.group_machine.specs.ShownCluster.{IsClusterShown, cluster_shown};
+
+    ghost Value = { ClusterState };
+
+    ghost view = { cluster_shown };
+
+    ghost invariant = { IsClusterShown };
+}
+
+impl Cluster {
+    /// A cluster of 1 to 4096 partitions, with nobody present and nothing appended. Refused for want of memory, or where
+    /// the random source fails, from which the hasher of the keys is drawn.
+    pub fn new(rt: &impl RandomSource, alloc: Global, partitions: u32) -> Result<Cluster, Memory>
+        requires { (1 ≤ partitions) × (partitions ≤ 4096) }
+        ensures group { IfOk result (λ cluster. cluster.group ≡ opening partitions) }
+        ensures logs { IfOk result (λ cluster. AreLogsOf [] cluster.logs) }
+        ensures counters { IfOk result (λ cluster. cluster.store.counts ≡ []) }
+        ensures offsets { IfOk result (λ cluster. (p : ℕ) → committed_at cluster.store p ≡ 0) }
+        ensures consistent { IfOk result IsConsistent }
+    {
+        let group = Group::new(alloc, partitions)?;
+        let logs = Logs::new(rt, alloc, partitions)?;
+        let store = Store::new(alloc, partitions)?;
+        Ok(Cluster {
+            alloc,
+            group,
+            logs,
+            store,
+        })
+    }
+
+    /// A new member joins, and gets the next number, from 1 on.
+    ///
+    /// Refused, with everything as it was: a name that was used (`NameUsed`); a 513th member (`TooManyMembers`); a
+    /// completion past the last generation (`GenerationsOver`); want of memory.
+    pub fn join(&mut self, name: Name) -> Result<u32, Refusal>
+        ensures answer { Answers (join_answer self.old.group name) result }
+        ensures ok { OnOk result (self.new ≡ with_group self.old (joined_by self.old.group name)) }
+        ensures err { OnErr result (self.new ≡ self.old) }
+    {
+        self.group.join(self.alloc, name)
+    }
+
+    /// A member gives up what it was not to keep, tells what it keeps, and joins the rebalance.
+    ///
+    /// Refused, with everything as it was: a member that is not present (`UnknownMember`); another generation than the
+    /// group's (`StaleGeneration`); one that joined (`AlreadyJoined`); one that has not synced (`SyncFirst`); in a stable
+    /// group one with nothing to give (`NothingToGive`); a claim other than what it is to keep (`ClaimDiffers`), as one
+    /// of another number of partitions; a completion past the last generation (`GenerationsOver`); want of memory.
+    pub fn rejoin(&mut self, member: u32, generation: u32, claim: &Plane) -> Result<(), Refusal>
+        ensures answer { Answers (rejoin_answer self.old.group member generation claim.now) result }
+        ensures ok { OnOk result (self.new ≡ with_group self.old (rejoined_by self.old.group member)) }
+        ensures err { OnErr result (self.new ≡ self.old) }
+    {
+        self.group.rejoin(self.alloc, member, generation, claim)
+    }
+
+    /// A member learns what it is to keep in this generation, and where to read on.
+    ///
+    /// Refused, with everything as it was: a member that is not present (`UnknownMember`); one that has joined the
+    /// rebalance that is to come (`RebalanceInProgress`); want of memory.
+    pub fn sync(&mut self, member: u32) -> Result<Lease, Refusal>
+        ensures answer { Answers (cluster_sync_answer self.old member) result }
+        ensures ok { OnOk result (self.new ≡ with_group self.old (synced_by self.old.group member)) }
+        ensures err { OnErr result (self.new ≡ self.old) }
+    {
+        let lease = self.lease(member)?;
+        self.group.mark_synced(member);
+        Ok(lease)
+    }
+
+    /// A member leaves. What it was granted is free for others.
+    ///
+    /// Refused, with everything as it was: a member that is not present (`UnknownMember`); a completion past the last
+    /// generation (`GenerationsOver`); want of memory.
+    pub fn leave(&mut self, member: u32) -> Result<(), Refusal>
+        ensures answer { Answers (leave_answer self.old.group member) result }
+        ensures ok { OnOk result (self.new ≡ with_group self.old (left_by self.old.group member)) }
+        ensures err { OnErr result (self.new ≡ self.old) }
+    {
+        self.group.leave(self.alloc, member)
+    }
+
+    /// A member is lost: as if it had left, whatever it still does. Refused as `leave` is.
+    pub fn lose(&mut self, member: u32) -> Result<(), Refusal>
+        ensures answer { Answers (leave_answer self.old.group member) result }
+        ensures ok { OnOk result (self.new ≡ with_group self.old (left_by self.old.group member)) }
+        ensures err { OnErr result (self.new ≡ self.old) }
+    {
+        self.leave(member)
+    }
+
+    /// Takes a commit whole, and answers the new committed offset of its partition. It takes no memory.
+    ///
+    /// Refused, with everything as it was, by the first that holds: its member is not present (`UnknownMember`); it is of
+    /// another generation (`StaleGeneration`); the partition is not granted to the member (`NotOwner`), as one past the
+    /// last; no records (`EmptyCommit`); an offset other than the committed one (`OffsetMismatch`); records past the log's
+    /// end (`PastEnd`); numbers other than the log's (`WrongRecords`).
+    pub fn commit(&mut self, commit: &Commit) -> Result<u32, Refusal>
+        ensures answer { result ≡ cluster_commit_answer self.old commit.now }
+        ensures accepts { IsDue self.old commit.now → result ≡ Ok (commit.now.from + length commit.now.ids) }
+        ensures accepted { OnOk result (IsDue self.old commit.now) }
+        ensures ok { OnOk result (self.new ≡ committed_by self.old commit.now) }
+        ensures err { OnErr result (self.new ≡ self.old) }
+    {
+        self.may_commit(commit)?;
+        self.store.commit(
+            &self.logs,
+            commit.partition(),
+            commit.from(),
+            commit.partial(),
+        )
+    }
+
+    /// Appends a record of this key to the log of its place, and answers the partition and the record's offset. A new key
+    /// gets a counter at 0.
+    ///
+    /// Refused, with everything as it was, as `Logs::append` is: `KeyTooLong`, `LogFull`, and for want of memory.
+    pub fn append(&mut self, key: &[u8]) -> Result<(u32, u32), Refusal>
+        ensures answer { Answers (append_answer self.old.logs key.now) result }
+        ensures ok { OnOk result (self.new ≡ appended_to self.old key.now) }
+        ensures err { OnErr result (self.new ≡ self.old) }
+    {
+        self.store.reserve_key()?;
+        let at = self.logs.append(key)?;
+        if self.store.keys() < self.logs.keys() as usize {
+            self.store.add_key();
+        }
+        Ok(at)
+    }
+
+    /// The generation: 0 until the first completion.
+    pub fn generation(&self) -> u32
+        ensures { result ≡ self.now.group.generation }
+    {
+        self.group.generation()
+    }
+
+    /// Whether the group is empty, prepares a generation or is stable.
+    pub fn phase(&self) -> Phase
+        ensures { result ≡ self.now.group.phase }
+    {
+        self.group.phase()
+    }
+
+    /// How many partitions there are.
+    pub fn partitions(&self) -> u32
+        ensures count { result ≡ self.now.group.partitions }
+        ensures consistent { IsConsistent self.now }
+    {
+        self.group.partitions()
+    }
+
+    /// Whether a member is present.
+    pub fn is_present(&self, member: u32) -> bool
+        ensures { result ≡ is_present self.now.group member }
+    {
+        self.group.is_present(member)
+    }
+
+    /// Whether a member has joined the rebalance that is to come; false where it is not present.
+    pub fn is_joined(&self, member: u32) -> bool
+        ensures { result ≡ is_joined self.now.group member }
+    {
+        self.group.is_joined(member)
+    }
+
+    /// Whether a member has synced since the last completion; false where it is not present.
+    pub fn is_synced(&self, member: u32) -> bool
+        ensures { result ≡ is_synced self.now.group member }
+    {
+        self.group.is_synced(member)
+    }
+
+    /// What a member may read and commit; nothing where it is not present.
+    pub fn granted(&self, member: u32) -> Option<&Plane>
+        ensures present { is_some result ≡ is_present self.now.group member }
+        ensures granted { IfSome result (λ plane. plane.now ≡ granted_of self.now.group member) }
+    {
+        self.group.granted(member)
+    }
+
+    /// What a member is to keep; nothing where it is not present.
+    pub fn assigned(&self, member: u32) -> Option<&Plane>
+        ensures present { is_some result ≡ is_present self.now.group member }
+        ensures assigned { IfSome result (λ plane. plane.now ≡ assigned_of self.now.group member) }
+    {
+        self.group.assigned(member)
+    }
+
+    /// The present member that is granted a partition.
+    pub fn owner(&self, partition: u32) -> Option<u32>
+        ensures { result ≡ owner_of self.now.group partition }
+    {
+        self.group.owner(partition)
+    }
+
+    /// The name of each member that was given a number, present or not.
+    pub fn name(&self, member: u32) -> Option<&Name>
+        ensures { MatchOption result (name_of self.now.group member ≡ None) (λ name. name_of self.now.group member ≡ Some name.now) }
+    {
+        self.group.name(member)
+    }
+
+    /// The numbers of the present members, in rising order.
+    pub fn members(&self) -> Members<'_>
+        ensures { result ≡ members self.now.group }
+    {
+        self.group.members()
+    }
+
+    /// The moves so far, in order.
+    pub fn moves(&self) -> &[Move]
+        ensures { result.now ≡ self.now.group.moves }
+    {
+        self.group.moves()
+    }
+
+    /// Whether the group is stable, and nobody has anything to give up.
+    pub fn is_settled(&self) -> bool
+        ensures { result ≡ is_settled self.now.group }
+    {
+        self.group.is_settled()
+    }
+
+    /// The logs.
+    pub fn logs(&self) -> &Logs
+        ensures logs { result.now ≡ self.now.logs }
+        ensures consistent { IsConsistent self.now }
+    {
+        &self.logs
+    }
+
+    /// The committed offsets and the counts.
+    pub fn store(&self) -> &Store
+        ensures store { without_room result.now ≡ self.now.store }
+        ensures consistent { IsConsistent self.now }
+    {
+        &self.store
+    }
+
+    /// What a member is leased, or why it is not.
+    fn lease(&self, member: u32) -> Result<Lease, Refusal>
+        ensures { Answers (cluster_sync_answer self.now member) result }
+    {
+        let assigned = self.group.leasable(member)?.copy();
+        let starts = Vec::from_slice(self.alloc, self.store.offsets())?;
+        Ok(Lease {
+            member,
+            generation: self.group.generation(),
+            assigned,
+            starts,
+        })
+    }
+
+    /// Whether the group lets a commit through, or why not.
+    fn may_commit(&self, commit: &Commit) -> Result<(), Refusal>
+        ensures { result ≡ fence self.now.group commit.now }
+    {
+        let Some(granted) = self.group.granted(commit.member()) else {
+            return Err(Refusal::UnknownMember);
+        };
+        if commit.generation() != self.group.generation() {
+            return Err(Refusal::StaleGeneration);
+        }
+        if !granted.contains(commit.partition()) {
+            return Err(Refusal::NotOwner);
+        }
+        Ok(())
+    }
+}

@@ -1,0 +1,90 @@
+//! Who takes which partition at a completion, and the moves that it makes.
+
+ghost use Rattle.std.specs.Prelude.{◌≡◌, ◌^◌, ◌<◌, ◌≤◌, ℕ, Some, None, true, length, slice_index_or, IfOk, if◌then◌else◌, ◌&&◌, not};
+ghost use Rattle.bit_planes.specs.PartitionSet.{partitions, is_in};
+ghost use Rattle.bit_planes.specs.SetRows.{set_of};
+ghost use Rattle.group_machine.specs.Slots.{present};
+ghost use Rattle.group_machine.specs.Walks.{AreSeatsOver, taker_of, moves_by, last_by};
+
+use super::{Move, Slot};
+use bit_planes::{Plane, PlaneRows};
+use coop_rebalance::added;
+use lane_words::Memory;
+use std::alloc::Global;
+
+/// Who takes each partition below `p`, where the present members are given their rows: a member takes what is in its
+/// row and was not granted to it.
+pub fn takers_of(
+    alloc: Global,
+    p: u32,
+    slots: &[Slot],
+    next: &PlaneRows,
+) -> Result<Vec<Option<u32>>, Memory>
+    requires below { next.now.below ≡ p }
+    requires few { length slots.now ≤ 512 }
+    requires over { AreSeatsOver p slots.now }
+    requires apart { (m n q : ℕ) → is_in (set_of next.now m) q ≡ true → is_in (set_of next.now n) q ≡ true → m ≡ n }
+    ensures takers { IfOk result (λ takers. (q : ℕ) → q < p → slice_index_or takers.items q None ≡ taker_of (present slots.now) next.now q) }
+    ensures long { IfOk result (λ takers. length takers.items ≡ p) }
+{
+    let mut takers: Vec<Option<u32>> = vec![in alloc; None; p as usize]?;
+    for (place, slot) in slots.iter().enumerate() {
+        if let Some(seat) = &slot.seat {
+            let member = place as u32 + 1;
+            if let Some(row) = next.get(member) {
+                take_added(&mut takers, member, &added(row, &seat.granted));
+            }
+        }
+    }
+    Ok(takers)
+}
+
+/// A member takes these partitions.
+fn take_added(takers: &mut [Option<u32>], member: u32, added: &Plane)
+    requires { length takers.old < 2 ^ 32 }
+    ensures taken { (q : ℕ) → q < length takers.old → slice_index_or takers.new q None ≡ (if is_in added.now q then Some member else slice_index_or takers.old q None) }
+    ensures long { length takers.new ≡ length takers.old }
+{
+    for q in 0..takers.len() {
+        if added.contains(q as u32) {
+            takers[q] = Some(member);
+        }
+    }
+}
+
+/// One move for each partition that is taken, in rising order.
+pub fn moves_of(
+    alloc: Global,
+    generation: u32,
+    takers: &[Option<u32>],
+    last: &[Option<u32>],
+) -> Result<Vec<Move>, Memory>
+    requires few { length takers.now < 2 ^ 32 }
+    requires long { length takers.now ≡ length last.now }
+    ensures { IfOk result (λ moves. moves.items ≡ moves_by generation takers.now last.now) }
+{
+    let mut moves = Vec::new(alloc);
+    for (partition, taker) in takers.iter().enumerate() {
+        if let Some(holder) = taker {
+            moves.push(Move {
+                generation,
+                partition: partition as u32,
+                last: last[partition],
+                holder: *holder,
+            })?;
+        }
+    }
+    Ok(moves)
+}
+
+/// Each taker is the last holder of what it takes.
+pub fn hold(last: &mut [Option<u32>], takers: &[Option<u32>])
+    requires { length takers.now ≡ length last.old }
+    ensures { last.new ≡ last_by takers.now last.old }
+{
+    for (partition, taker) in takers.iter().enumerate() {
+        if let Some(holder) = taker {
+            last[partition] = Some(*holder);
+        }
+    }
+}

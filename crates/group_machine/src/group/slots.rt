@@ -1,0 +1,128 @@
+//! Members by their numbers: slot k is of member number k + 1.
+
+ghost use Rattle.std.specs.Prelude.{◌≡◌, ◌&&◌, ◌<◌, ◌≤◌, Some, None, MatchOption, true, length, is_some, if◌then◌else◌, ℕ};
+ghost use Rattle.std.specs.List.{list_any, list_all};
+ghost use Rattle.std.specs.Str.{bytes_eq};
+ghost use Rattle.group_machine.specs.Slots.{on_seat, seat_of, present, with_seat, one_changed};
+ghost use Rattle.group_machine.specs.Steps.{rejoined_seat, synced_seat};
+ghost use Rattle.group_machine.specs.Rounds.{agrees};
+ghost use Rattle.group_machine.specs.Walks.{AreSeatsOver, out_or};
+ghost use Rattle.group_machine.specs.declared.group.Phase.TheVariants as phase;
+
+use super::{Phase, Seat, Slot};
+use crate::Name;
+
+/// Whether some member has had this name.
+pub fn is_used(slots: &[Slot], name: &Name) -> bool
+    ensures { result ≡ list_any (λ s. bytes_eq s.name name.now) slots.now }
+{
+    slots.iter().any(|slot| slot.name.text() == name.text())
+}
+
+/// The seat of a member, while it is present.
+pub fn seat_of(slots: &[Slot], member: u32) -> Option<&Seat>
+    ensures { MatchOption result (seat_of slots.now member ≡ None) (λ seat. seat_of slots.now member ≡ Some seat.now) }
+{
+    let place = member.checked_sub(1)?;
+    slots.get(place as usize)?.seat.as_ref()
+}
+
+/// Whether a member is present.
+pub fn is_present(slots: &[Slot], member: u32) -> bool
+    ensures { result ≡ is_some (seat_of slots.now member) }
+{
+    seat_of(slots, member).is_some()
+}
+
+/// Puts a seat, or none, for a member that was given a number, and answers the one before.
+pub fn put_seat(slots: &mut [Slot], member: u32, seat: Option<Seat>) -> Option<Seat>
+    requires given { (0 < member) × (member ≤ length slots.old) }
+    ensures put { slots.new ≡ with_seat slots.old member seat }
+    ensures before { result ≡ seat_of slots.old member }
+{
+    std::mem::replace(&mut slots[member as usize - 1].seat, seat)
+}
+
+/// A present member gives up what it is not to keep, and joins. Answers its seat before.
+pub fn begin_rejoin(slots: &mut [Slot], member: u32) -> Option<Seat>
+    requires { is_some (seat_of slots.old member) ≡ true }
+    ensures joined { slots.new ≡ one_changed rejoined_seat slots.old member }
+    ensures before { result ≡ seat_of slots.old member }
+    ensures given { (0 < member) × (member ≤ length slots.old) }
+{
+    let seat = put_seat(slots, member, None);
+    let joined = rejoined(&seat);
+    put_seat(slots, member, joined);
+    seat
+}
+
+fn rejoined(seat: &Option<Seat>) -> Option<Seat>
+    ensures { result ≡ on_seat rejoined_seat seat.now }
+{
+    seat.as_ref().map(|seat| Seat {
+        joined: true,
+        synced: seat.synced,
+        granted: seat.assigned.copy(),
+        assigned: seat.assigned.copy(),
+    })
+}
+
+/// A present member has synced.
+pub fn mark_synced(slots: &mut [Slot], member: u32)
+    requires { is_some (seat_of slots.old member) ≡ true }
+    ensures { slots.new ≡ one_changed synced_seat slots.old member }
+{
+    if let Some(seat) = &mut slots[member as usize - 1].seat {
+        seat.synced = true;
+    }
+}
+
+/// Whether somebody is present.
+pub fn is_anybody(slots: &[Slot]) -> bool
+    ensures { result ≡ list_any (λ s. is_some s.seat) slots.now }
+{
+    slots.iter().any(|slot| slot.seat.is_some())
+}
+
+/// The phase of a group that a member has left.
+pub fn phase_left(slots: &[Slot]) -> Phase
+    ensures { result ≡ (if list_any (λ s. is_some s.seat) slots.now then phase.Preparing else phase.Empty) }
+{
+    if is_anybody(slots) {
+        Phase::Preparing
+    } else {
+        Phase::Empty
+    }
+}
+
+/// Whether all who are present have joined.
+fn all_joined(slots: &[Slot]) -> bool
+    ensures { result ≡ list_all (λ s. out_or (λ seat. seat.joined) s.seat) slots.now }
+{
+    slots.iter().all(|slot| match &slot.seat {
+        Some(seat) => seat.joined,
+        None => true,
+    })
+}
+
+/// Whether somebody is present, and all who are have joined.
+pub fn is_ready(slots: &[Slot]) -> bool
+    ensures { result ≡ (list_any (λ s. is_some s.seat) slots.now && list_all (λ m. m.1.joined) (present slots.now)) }
+{
+    is_anybody(slots) && all_joined(slots)
+}
+
+/// Whether nobody has anything to give up.
+pub fn all_agree(slots: &[Slot]) -> bool
+    requires { (p : ℕ) × AreSeatsOver p slots.now }
+    ensures { result ≡ list_all (λ s. out_or agrees s.seat) slots.now }
+{
+    for slot in slots {
+        if let Some(seat) = &slot.seat {
+            if !seat.granted.same(&seat.assigned) {
+                return false;
+            }
+        }
+    }
+    true
+}

@@ -1,0 +1,17 @@
+//! The group: members, rebalances, moves.
+#![tactic(auto)]
+
+mod cluster;
+mod commit;
+mod group;
+mod laws;
+mod name;
+
+pub use cluster::Cluster;
+pub use commit::{Commit, Lease};
+pub use group::{Members, Move, Phase};
+pub use laws::{rejoin_keeps_the_end, sync_keeps_the_end, two_rounds_settle};
+pub use name::Name;
+
+#[cfg(test)]
+mod tests;

@@ -1,0 +1,94 @@
+//! Names of members.
+
+ghost use Rattle.std.specs.Prelude.{◌≡◌, true, Some, None, if◌then◌else◌};
+ghost use Rattle.std.specs.List.{list_all};
+ghost use Rattle.group_machine.specs.Name.{is_name, is_name_byte};
+
+use std::marker::Model;
+
+/// The most bytes of a name.
+const LONGEST_NAME: usize = 32;
+
+/// A member's name: 1 to 32 ASCII letters, digits, `-` and `_`. It lies in place and takes no memory.
+#[derive(Drop)]
+pub struct Name {
+    bytes: [u8; 32],
+    size: u8,
+}
+
+impl Model for Name {
+    ghost use Rattle.std.specs.Prelude.{List, ℕ};
+    ghost use Rattle.group_machine.specs.Name.{text_in, IsNameInPlace};
+
+    ghost Value = { List ℕ };
+
+    ghost view = { λ n. text_in n.size n.bytes };
+
+    ghost invariant = { λ n. IsNameInPlace n.size n.bytes };
+}
+
+impl Name {
+    /// The name of this text, if it is one.
+    pub fn new(text: &[u8]) -> Option<Name>
+        ensures { result ≡ (if is_name text.now then Some text.now else None) }
+    {
+        if is_name(text) {
+            Some(Name::in_place(text))
+        } else {
+            None
+        }
+    }
+
+    fn in_place(text: &[u8]) -> Name
+        requires { is_name text.now ≡ true }
+        ensures { result ≡ text.now }
+    {
+        let mut bytes = [0u8; 32];
+        bytes[..text.len()].copy_from_slice(text);
+        Name {
+            bytes,
+            size: text.len() as u8,
+        }
+    }
+
+    /// The text of the name.
+    pub fn text(&self) -> &[u8]
+        ensures text { result.now ≡ self.now }
+        ensures name { is_name self.now ≡ true }
+    {
+        &self.bytes[..self.size as usize]
+    }
+
+    /// The same name again.
+    pub fn copy(&self) -> Name
+        ensures { result ≡ self.now }
+    {
+        Name {
+            bytes: self.bytes,
+            size: self.size,
+        }
+    }
+}
+
+/// Whether a text is a name.
+fn is_name(text: &[u8]) -> bool
+    ensures { result ≡ is_name text.now }
+{
+    if text.is_empty() || text.len() > LONGEST_NAME {
+        return false;
+    }
+    has_name_bytes(text)
+}
+
+fn has_name_bytes(text: &[u8]) -> bool
+    ensures { result ≡ list_all is_name_byte text.now }
+{
+    text.iter().all(|byte| is_name_byte(*byte))
+}
+
+/// Whether a byte may stand in a name.
+fn is_name_byte(byte: u8) -> bool
+    ensures { result ≡ is_name_byte byte }
+{
+    byte.is_ascii_alphanumeric() || byte == b'-' || byte == b'_'
+}

@@ -1,0 +1,176 @@
+//! Worked rows, and each call once with ample memory.
+
+use super::*;
+use bit_planes::Plane;
+use keyed_table::Partial;
+use lane_words::{Memory, Refusal};
+use partition_log::LogRead;
+use std::alloc::Global;
+use std::process::Abort;
+use std::test::Fail;
+
+fn plane(list: &[u32]) -> Plane {
+    let mut plane = Plane::new(4);
+    for q in list {
+        if *q < plane.partitions() {
+            plane.insert(*q);
+        }
+    }
+    plane
+}
+
+fn is(set: &Plane, list: &[u32]) -> bool {
+    set.count() as usize == list.len() && list.iter().all(|q| set.contains(*q))
+}
+
+/// Whether a member is present with these sets.
+fn has(cluster: &Cluster, member: u32, granted: &[u32], assigned: &[u32]) -> bool {
+    match (cluster.granted(member), cluster.assigned(member)) {
+        (Some(may), Some(keeps)) => is(may, granted) && is(keeps, assigned),
+        _ => false,
+    }
+}
+
+fn name(rt: &impl Abort, text: &[u8]) -> Name {
+    Name::new(text).expect(rt, "a name")
+}
+
+/// Whether a member is leased these partitions in this generation.
+fn leases(
+    cluster: &mut Cluster,
+    member: u32,
+    generation: u32,
+    list: &[u32],
+) -> Result<bool, Refusal> {
+    let lease = cluster.sync(member)?;
+    let of_member = lease.member() == member && lease.generation() == generation;
+    Ok(of_member && is(lease.assigned(), list))
+}
+
+/// What a cluster answers a commit of these terms.
+fn commit(
+    alloc: Global,
+    cluster: &mut Cluster,
+    terms: (u32, u32, u32, u32),
+    ids: &[u32],
+) -> Result<Result<u32, Refusal>, Memory> {
+    let partial = Partial::of(alloc, Vec::from_slice(alloc, ids)?)?;
+    let (member, generation, partition, from) = terms;
+    let sent = Commit::new(member, generation, partition, from, partial);
+    Ok(cluster.commit(&sent))
+}
+
+#[test]
+fn a_partition_moves_once_it_is_revoked(rt: HostRuntime) -> Result<(), Fail> {
+    let mut cluster = Cluster::new(&rt, rt.alloc(), 4)?;
+    assert_eq!(rt; cluster.join(name(&rt, b"A")), Ok(1));
+    assert_eq!(rt; cluster.join(name(&rt, b"B")), Ok(2));
+    assert!(rt; cluster.phase() == Phase::Preparing && cluster.generation() == 1);
+    assert!(rt; cluster.is_joined(2) && !cluster.is_joined(1) && !cluster.is_synced(1));
+    assert_eq!(rt; leases(&mut cluster, 1, 1, &[0, 1, 2, 3]), Ok(true));
+    assert!(rt; cluster.is_synced(1));
+    assert_eq!(rt; cluster.rejoin(1, 1, &plane(&[0, 1, 2, 3])), Ok(()));
+    assert!(rt; cluster.generation() == 2 && !cluster.is_settled());
+    assert!(rt; has(&cluster, 1, &[0, 1, 2, 3], &[0, 1]) && has(&cluster, 2, &[], &[]));
+    assert_eq!(rt; leases(&mut cluster, 1, 2, &[0, 1]), Ok(true));
+    assert_eq!(rt; cluster.rejoin(1, 2, &plane(&[0, 1])), Ok(()));
+    assert_eq!(rt; leases(&mut cluster, 2, 2, &[]), Ok(true));
+    assert_eq!(rt; cluster.rejoin(2, 2, &plane(&[])), Ok(()));
+    assert!(rt; cluster.generation() == 3 && cluster.is_settled());
+    let last = cluster
+        .moves()
+        .iter()
+        .rev()
+        .map(|m| (m.generation, m.partition, m.last, m.holder));
+    let expected = [(3, 3, Some(1), 2), (3, 2, Some(1), 2), (1, 3, None, 1)];
+    for (moved, row) in last.zip(expected) {
+        assert_eq!(rt; moved, row);
+    }
+    assert_eq!(rt; cluster.moves().len(), 6);
+    assert_eq!(rt; cluster.owner(3), Some(2));
+    Ok(())
+}
+
+#[test]
+fn commits_are_fenced_and_taken_once(rt: HostRuntime) -> Result<(), Fail> {
+    let mut cluster = Cluster::new(&rt, rt.alloc(), 4)?;
+    assert_eq!(rt; cluster.append(b"21"), Ok((0, 0)));
+    assert_eq!(rt; cluster.append(b"21"), Ok((0, 1)));
+    assert_eq!(rt; cluster.join(name(&rt, b"A")), Ok(1));
+    assert_eq!(rt; cluster.rejoin(1, 1, &plane(&[])), Err(Refusal::SyncFirst));
+    assert_eq!(rt; leases(&mut cluster, 1, 1, &[0, 1, 2, 3]), Ok(true));
+    assert_eq!(rt; cluster.join(name(&rt, b"B")), Ok(2));
+    assert_eq!(rt;
+        cluster.rejoin(1, 1, &plane(&[0, 1])),
+        Err(Refusal::ClaimDiffers)
+    );
+    let commits: [((u32, u32, u32, u32), &[u32], Result<u32, Refusal>); 9] = [
+        ((9, 1, 0, 0), &[0], Err(Refusal::UnknownMember)),
+        ((1, 0, 0, 0), &[0], Err(Refusal::StaleGeneration)),
+        ((1, 1, 7, 0), &[0], Err(Refusal::NotOwner)),
+        ((1, 1, 0, 0), &[], Err(Refusal::EmptyCommit)),
+        (
+            (1, 1, 0, 1),
+            &[0],
+            Err(Refusal::OffsetMismatch { committed: 0 }),
+        ),
+        ((1, 1, 0, 0), &[0, 0, 0], Err(Refusal::PastEnd)),
+        ((1, 1, 0, 0), &[0, 1], Err(Refusal::WrongRecords)),
+        ((1, 1, 0, 0), &[0, 0], Ok(2)),
+        (
+            (1, 1, 0, 0),
+            &[0, 0],
+            Err(Refusal::OffsetMismatch { committed: 2 }),
+        ),
+    ];
+    for (terms, ids, answer) in commits {
+        assert_eq!(rt;
+            commit(rt.alloc(), &mut cluster, terms, ids)?,
+            answer,
+            "{terms:?} {ids:?}"
+        );
+    }
+    assert!(rt; cluster.partitions() == 4);
+    assert_eq!(rt; cluster.store().committed(0), 2);
+    assert_eq!(rt; cluster.logs().len(0), 2);
+    Ok(())
+}
+
+#[test]
+fn a_lost_member_is_fenced_off(rt: HostRuntime) -> Result<(), Fail> {
+    let mut cluster = Cluster::new(&rt, rt.alloc(), 4)?;
+    assert_eq!(rt; cluster.append(b"21"), Ok((0, 0)));
+    assert_eq!(rt; cluster.join(name(&rt, b"A")), Ok(1));
+    assert_eq!(rt; cluster.join(name(&rt, b"B")), Ok(2));
+    assert_eq!(rt; cluster.join(name(&rt, b"B")), Err(Refusal::NameUsed));
+    assert_eq!(rt; cluster.lose(1), Ok(()));
+    assert_eq!(rt; cluster.leave(1), Err(Refusal::UnknownMember));
+    assert!(rt; !cluster.is_present(1) && cluster.is_present(2) && cluster.is_settled());
+    assert_eq!(rt;
+        commit(rt.alloc(), &mut cluster, (1, 1, 0, 0), &[0])?,
+        Err(Refusal::UnknownMember)
+    );
+    assert_eq!(rt;
+        commit(rt.alloc(), &mut cluster, (2, 2, 0, 0), &[0])?,
+        Ok(1)
+    );
+    assert!(rt; cluster.members().eq([2]));
+    let lost = cluster.name(1).expect(&rt, "a number that was given");
+    assert_eq!(rt; lost.text(), b"A".as_slice());
+    Ok(())
+}
+
+#[test]
+fn names_are_of_letters_digits_and_two_marks(rt: HostRuntime) {
+    let texts: [(&[u8], bool); 6] = [
+        (b"", false),
+        (b"worker-1_B", true),
+        (b"a.b", false),
+        (b"a name", false),
+        (b"12345678901234567890123456789012", true),
+        (b"123456789012345678901234567890123", false),
+    ];
+    for (text, is_name) in texts {
+        assert_eq!(rt; Name::new(text).is_some(), is_name, "{text:?}");
+    }
+}
