@@ -183,28 +183,28 @@ impl Cluster {
         ensures count { result ≡ self.now.group.partitions }
         ensures consistent { IsConsistent self.now }
     {
-        self.group.partitions()
+        self.logs.partitions()
     }
 
     /// Whether a member is present.
     pub fn is_present(&self, member: u32) -> bool
         ensures { result ≡ is_present self.now.group member }
     {
-        self.group.is_present(member)
+        self.group.seat(member).is_some()
     }
 
     /// Whether a member has joined the rebalance that is to come; false where it is not present.
     pub fn is_joined(&self, member: u32) -> bool
         ensures { result ≡ is_joined self.now.group member }
     {
-        self.group.is_joined(member)
+        self.group.seat(member).is_some_and(|seat| seat.joined)
     }
 
     /// Whether a member has synced since the last completion; false where it is not present.
     pub fn is_synced(&self, member: u32) -> bool
         ensures { result ≡ is_synced self.now.group member }
     {
-        self.group.is_synced(member)
+        self.group.seat(member).is_some_and(|seat| seat.synced)
     }
 
     /// What a member may read and commit; nothing where it is not present.
@@ -212,7 +212,8 @@ impl Cluster {
         ensures present { is_some result ≡ is_present self.now.group member }
         ensures granted { IfSome result (λ plane. plane.now ≡ granted_of self.now.group member) }
     {
-        self.group.granted(member)
+        let seat = self.group.seat(member)?;
+        Some(&seat.granted)
     }
 
     /// What a member is to keep; nothing where it is not present.
@@ -220,7 +221,8 @@ impl Cluster {
         ensures present { is_some result ≡ is_present self.now.group member }
         ensures assigned { IfSome result (λ plane. plane.now ≡ assigned_of self.now.group member) }
     {
-        self.group.assigned(member)
+        let seat = self.group.seat(member)?;
+        Some(&seat.assigned)
     }
 
     /// The present member that is granted a partition.
@@ -292,13 +294,13 @@ impl Cluster {
     fn may_commit(&self, commit: &Commit) -> Result<(), Refusal>
         ensures { result ≡ fence self.now.group commit.now }
     {
-        let Some(granted) = self.group.granted(commit.member()) else {
+        let Some(seat) = self.group.seat(commit.member()) else {
             return Err(Refusal::UnknownMember);
         };
         if commit.generation() != self.group.generation() {
             return Err(Refusal::StaleGeneration);
         }
-        if !granted.contains(commit.partition()) {
+        if !seat.granted.contains(commit.partition()) {
             return Err(Refusal::NotOwner);
         }
         Ok(())

@@ -2,7 +2,7 @@
 
 ghost use Rattle.std.specs.Prelude.{◌≡◌, ◌≤◌, Ok, Err, Some, None, is_some, true, IfOk, IfErr, IfSome, OnOk, OnErr, MatchOption};
 ghost use Rattle.lane_words.specs.Answers.{Answers};
-ghost use Rattle.group_machine.specs.State.{opening, is_present, is_joined, is_synced, granted_of, assigned_of, owner_of, name_of, members};
+ghost use Rattle.group_machine.specs.State.{assigned_of, is_present, member_of, members, name_of, opening, owner_of};
 ghost use Rattle.group_machine.specs.Rounds.{is_settled};
 ghost use Rattle.group_machine.specs.Steps.{join_answer, joined_by, rejoin_answer, rejoined_by, sync_answer, synced_by, leave_answer, left_by};
 ghost use Rattle.group_machine.specs.Good.{IsGood};
@@ -96,13 +96,6 @@ impl Group {
         })
     }
 
-    /// What each group keeps.
-    pub(crate) fn stays_good(&self)
-        ensures { IsGood self.now }
-    {
-        let _ = &self.table;
-    }
-
     /// A member joins under a name that was never used, and is answered its number: 1 for the first, then one more for
     /// each. Where it is alone, or all others have joined, the next generation is completed.
     ///
@@ -181,50 +174,11 @@ impl Group {
         self.table.phase
     }
 
-    /// How many partitions there are.
-    pub(crate) fn partitions(&self) -> u32
-        ensures count { result ≡ self.now.partitions }
-        ensures bounds { (1 ≤ result) × (result ≤ 4096) }
+    /// What a member has, while it is present.
+    pub(crate) fn seat(&self, member: u32) -> Option<&Seat>
+        ensures { MatchOption result (member_of self.now member ≡ None) (λ seat. member_of self.now member ≡ Some seat.now) }
     {
-        self.table.partitions
-    }
-
-    pub(crate) fn is_present(&self, member: u32) -> bool
-        ensures { result ≡ is_present self.now member }
-    {
-        slots::is_present(&self.table.slots, member)
-    }
-
-    /// Whether a member has joined the rebalance that is to come; false where it is not present.
-    pub(crate) fn is_joined(&self, member: u32) -> bool
-        ensures { result ≡ is_joined self.now member }
-    {
-        slots::seat_of(&self.table.slots, member).is_some_and(|seat| seat.joined)
-    }
-
-    /// Whether a member has synced since the last completion; false where it is not present.
-    pub(crate) fn is_synced(&self, member: u32) -> bool
-        ensures { result ≡ is_synced self.now member }
-    {
-        slots::seat_of(&self.table.slots, member).is_some_and(|seat| seat.synced)
-    }
-
-    /// What a member may read and commit; nothing where it is not present.
-    pub(crate) fn granted(&self, member: u32) -> Option<&Plane>
-        ensures present { is_some result ≡ is_present self.now member }
-        ensures granted { IfSome result (λ plane. plane.now ≡ granted_of self.now member) }
-    {
-        let seat = slots::seat_of(&self.table.slots, member)?;
-        Some(&seat.granted)
-    }
-
-    /// What a member is to keep; nothing where it is not present.
-    pub(crate) fn assigned(&self, member: u32) -> Option<&Plane>
-        ensures present { is_some result ≡ is_present self.now member }
-        ensures assigned { IfSome result (λ plane. plane.now ≡ assigned_of self.now member) }
-    {
-        let seat = slots::seat_of(&self.table.slots, member)?;
-        Some(&seat.assigned)
+        slots::seat_of(&self.table.slots, member)
     }
 
     /// The present member that is granted a partition.
