@@ -1,4 +1,4 @@
-//! The group: members, rebalances, moves.
+//! The cluster: members who share partitions, the logs that they read, and what they committed.
 #![tactic(auto)]
 
 mod cluster;

@@ -1,18 +1,18 @@
--- Counts of a list, run by run of equal numbers.
-use Rattle.std.proofs.Common.{◌≡◌, ◌≢◌, ◌∙◌, ◌+◌, ◌-◌, ◌<◌, ◌≤◌, ℕ, zero, suc, true, false, List, [], ◌∷◌, ◌++◌, length, take, cond, get_or, sym, ap, refl, arith, Some, None, inl, inr}
+-- Counts of a list whose numbers rise, run by run of equal numbers.
+use Rattle.std.proofs.Common.{◌≡◌, ◌≢◌, ◌∙◌, ◌+◌, ◌-◌, ◌<◌, ◌≤◌, ℕ, zero, suc, true, false, List, [], ◌∷◌, ◌++◌, length, take, get_or-take, cond, get_or, sym, ap, refl, arith, Option, Some, None, inl, inr}
 use Rattle.std.specs.Prelude.{◌==◌}
+use Rattle.std.specs.Map.{update}
 use Rattle.std.specs.Option.{unwrap_or}
-use Rattle.std.proofs.lemmas.Bool.Decides.{eqb_tells}
+use Rattle.std.specs.Ordering.{eq_by_cmp, nat_cmp}
+use Rattle.std.specs.List.Sorted.{IsNonDecreasing, IsPermutation}
+use Rattle.std.proofs.lemmas.Bool.{cases_lt}
+use Rattle.std.proofs.lemmas.Bool.Decides.{eqb_tells, nat_tests}
 use Rattle.std.proofs.lemmas.Grind.{common_steps}
-use Rattle.std.proofs.lemmas.List.{take_more}
-use Rattle.std.specs.List.Sorted.{IsPermutation}
+use Rattle.std.proofs.lemmas.List.{length-take, take_all, take_more}
 use Rattle.std.proofs.lemmas.List.Sorted.{sum_by-IsPermutation}
-use Rattle.std.specs.BTreeMap.{BTreeMap, IsOrdered, get}
-use Rattle.std.specs.Ordering.{nat_cmp}
-use Rattle.std.proofs.lemmas.Bool.{cases_eq, cases_lt}
-use Rattle.std.proofs.lemmas.List.{length-take, take_all}
-use Rattle.std.proofs.lemmas.List.Sums.{count_by-le-length}
-use Rattle.keyed_table.specs.Counts.{HasRisingCountsOf, count_in, counted, plain}
+use Rattle.std.proofs.lemmas.List.Sums.{fold-append}
+use Rattle.keyed_table.specs.Counts.{counted, plain, value_in}
+use Rattle.keyed_table.proofs.Members.{none-past}
 
 pub plain-push : (ids : List ℕ) (y x : ℕ) → plain (ids ++ y ∷ []) x ≡ plain ids x + cond (x == y) 1 0
 plain-push [] y x = grind (arith, common_steps)
@@ -69,20 +69,13 @@ pub none-counted : (n : ℕ) → None ≡ counted n → 0 ≡ n
 none-counted zero e = refl
 none-counted (suc n) e = absurd (cc e)
 
--- a number before a place is there at most so often
-pub few-before : (ids : List ℕ) (start x : ℕ) → plain (take start ids) x ≤ start
-few-before ids start x = omega (arith, count_by-le-length (λ y. x == y) (take start ids), length-take start ids)
-
--- the runs before start are counted, and from start on there are equal numbers
-pub record AreCounted (counts : BTreeMap ℕ ℕ) (ids : List ℕ) (start at : ℕ) : Type 0 where
-  pub so_far : (x : ℕ) → get nat_cmp counts x ≡ counted (plain (take start ids) x)
+-- the runs before start are listed, from start on there are equal numbers, and those before start are smaller
+pub record AreListed (runs : List (ℕ × ℕ)) (ids : List ℕ) (start at : ℕ) : Type 0 where
+  pub so_far : (x : ℕ) → value_in runs x ≡ counted (plain (take start ids) x)
   pub order : start ≤ at
   pub run : at < length ids → (j : ℕ) → start ≤ j → j < at → get_or ids j 0 ≡ get_or ids at 0
+  pub below : at < length ids → (j : ℕ) → j < start → get_or ids j 0 < get_or ids at 0
   pub ended : at ≡ length ids → start ≡ at
-  pub rising : IsOrdered nat_cmp counts
-
-pub count-before : (counts : BTreeMap ℕ ℕ) (ids : List ℕ) (start at x : ℕ) → AreCounted counts ids start at → count_in counts x ≡ plain (take start ids) x
-count-before counts ids start at x h = ap (λ o. unwrap_or o 0) (h.so_far x) ∙ count-of-counted (plain (take start ids) x)
 
 all_equal : (ids : List ℕ) (start at j : ℕ) → ((j : ℕ) → start ≤ j → j < at → get_or ids j 0 ≡ get_or ids at 0) → start ≤ j → j < at + 1 → get_or ids j 0 ≡ get_or ids at 0
 all_equal ids start at j run from to =
@@ -91,42 +84,63 @@ all_equal ids start at j run from to =
       | inr le ↦ let e : j ≡ at = omega (arith, to, le) in ap (λ i. get_or ids i 0) e
     ]
 
--- a run that ends is counted
-pub run-counted : (old new : BTreeMap ℕ ℕ) (ids : List ℕ) (start at : ℕ) → at < length ids → AreCounted old ids start at
-    → get nat_cmp new (get_or ids at 0) ≡ Some (count_in old (get_or ids at 0) + (at + 1 - start))
-    → ((x : ℕ) → x ≢ get_or ids at 0 → get nat_cmp new x ≡ get nat_cmp old x) → IsOrdered nat_cmp new
-    → AreCounted new ids (at + 1) (at + 1)
-run-counted old new ids start at lt h added others rising =
+-- a pair more
+value-push : (runs : List (ℕ × ℕ)) (v n x : ℕ) → value_in (runs ++ (v, n) ∷ []) x ≡ cond (eq_by_cmp nat_cmp v x) (Some n) (value_in runs x)
+value-push runs v n x = ap (λ (f : ℕ → Option ℕ). f x) (fold-append (λ (g : ℕ → Option ℕ) (p : ℕ × ℕ). update (eq_by_cmp nat_cmp) g p.0 (Some p.1)) (λ y. None) runs ((v, n) ∷ []))
+
+same_test : (v x : ℕ) → eq_by_cmp nat_cmp v x ≡ (v == x)
+same_test v x = grind (arith, nat_tests)
+
+-- a number that is larger than those before start is not among them
+none-before : (ids : List ℕ) (start v : ℕ) → start ≤ length ids → ((j : ℕ) → j < start → get_or ids j 0 < v) → plain (take start ids) v ≡ 0
+none-before ids start v le below =
+    none-past (take start ids) v v
+    (λ i lt.
+    let before : i < start = omega (arith, lt, length-take start ids) in
+    rw (get_or-take start ids i 0 before) (below i before))
+    (omega arith)
+
+-- a run that ends is listed
+pub run-listed : (runs : List (ℕ × ℕ)) (ids : List ℕ) (start at : ℕ) → IsNonDecreasing ids → at < length ids → AreListed runs ids start at
+    → (at + 1 < length ids → get_or ids (at + 1) 0 ≢ get_or ids at 0)
+    → AreListed (runs ++ (get_or ids at 0, at + 1 - start) ∷ []) ids (at + 1) (at + 1)
+run-listed runs ids start at rising lt h ends =
     let v = get_or ids at 0 in
     let more = at + 1 - start in
     let to : start + more ≡ at + 1 = omega (arith, h.order) in
     let equal : (j : ℕ) → start ≤ j → j < start + more → get_or ids j 0 ≡ v = λ j from before. all_equal ids start at j (h.run lt) from (omega (arith, before, to)) in
+    let none = none-before ids start v (omega (arith, lt, h.order)) (h.below lt) in
     record {
-      so_far = λ x. elim (cases_eq x v) [
-        | inl same ↦
+      so_far = λ x. value-push runs v more x ∙ elim (eqb_tells v x) [
+        | inl t ↦
             let whole = run-same ids start more v (omega (arith, to, lt)) equal in
-            let before = count-before old ids start at v h in
-            let sum : count_in old v + more ≡ plain (take (at + 1) ids) v = omega (arith, before, whole, ap (λ n. plain (take n ids) v) to) in
-            ap (get nat_cmp new) same ∙ added ∙ ap (λ n. Some n) sum ∙ counted-some (plain (take (at + 1) ids) v) (omega (arith, sum, h.order)) ∙ ap (λ y. counted (plain (take (at + 1) ids) y)) (sym same)
-        | inr ne ↦
-            others x ne ∙ h.so_far x ∙ ap counted (sym (run-other ids start more v x (omega (arith, to, lt)) ne equal) ∙ ap (λ n. plain (take n ids) x) to)
+            let sum : more ≡ plain (take (at + 1) ids) v = omega (arith, none, whole, ap (λ n. plain (take n ids) v) to) in
+            rw (same_test v x, t.0) (ap (λ n. Some n) sum ∙ counted-some (plain (take (at + 1) ids) v) (omega (arith, sum, h.order)) ∙ ap (λ y. counted (plain (take (at + 1) ids) y)) t.1)
+        | inr f ↦
+            rw (same_test v x, f.0) (h.so_far x ∙ ap counted (sym (run-other ids start more v x (omega (arith, to, lt)) (λ e. f.1 (sym e)) equal) ∙ ap (λ n. plain (take n ids) x) to))
       ];
       order = omega arith;
       run = λ lt' j from before. absurd (omega (arith, from, before));
+      below = λ lt' j before.
+          let step = rising j at 0 (omega (arith, before)) lt in
+          let next = rising at (at + 1) 0 (omega arith) lt' in
+          elim (cases_lt (get_or ids at 0) (get_or ids (at + 1) 0)) [
+            | inl less ↦ omega (arith, step, less)
+            | inr le ↦ absurd (ends lt' (omega (arith, next, le)))
+          ];
       ended = λ e. refl;
-      rising = rising;
     }
 
 -- a run goes on
-pub run-grows : (counts : BTreeMap ℕ ℕ) (ids : List ℕ) (start at : ℕ) → AreCounted counts ids start at → at + 1 < length ids → get_or ids (at + 1) 0 ≡ get_or ids at 0 → AreCounted counts ids start (at + 1)
-run-grows counts ids start at h lt same = record {
+pub run-grows : (runs : List (ℕ × ℕ)) (ids : List ℕ) (start at : ℕ) → AreListed runs ids start at → at + 1 < length ids → get_or ids (at + 1) 0 ≡ get_or ids at 0 → AreListed runs ids start (at + 1)
+run-grows runs ids start at h lt same = record {
   so_far = h.so_far;
   order = omega (arith, h.order);
   run = λ lt' j from to. all_equal ids start at j (h.run (omega (arith, lt))) from to ∙ sym same;
+  below = λ lt' j before. rw same (h.below (omega (arith, lt)) j before);
   ended = λ e. absurd (omega (arith, e, lt));
-  rising = h.rising;
 }
 
--- in the end all is counted
-pub all-counted : (counts : BTreeMap ℕ ℕ) (ids : List ℕ) (start at : ℕ) → AreCounted counts ids start at → at ≡ length ids → HasRisingCountsOf ids counts
-all-counted counts ids start at h e = (λ x. h.so_far x ∙ ap (λ ys. counted (plain ys x)) (take_all start ids (omega (arith, e, h.ended e))), h.rising)
+-- in the end all is listed
+pub all-listed : (runs : List (ℕ × ℕ)) (ids : List ℕ) (start at : ℕ) → AreListed runs ids start at → at ≡ length ids → (x : ℕ) → value_in runs x ≡ counted (plain ids x)
+all-listed runs ids start at h e x = h.so_far x ∙ ap (λ ys. counted (plain ys x)) (take_all start ids (omega (arith, e, h.ended e)))

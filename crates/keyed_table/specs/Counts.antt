@@ -1,8 +1,8 @@
 -- How often key numbers are in a list, and counters by key number.
 use Rattle.std.specs.Prelude.{◌≡◌, ℕ, zero, suc, ◌+◌, ◌<◌, ◌^◌, ◌==◌, List, [], ◌∷◌, length, count_by, slice_index_or, Option, Some, None}
 use Rattle.std.specs.BTreeMap.{BTreeMap, IsOrdered, get}
-use Rattle.std.specs.Option.{unwrap_or}
-use Rattle.std.specs.Ordering.{nat_cmp}
+use Rattle.std.specs.Map.{update_all}
+use Rattle.std.specs.Ordering.{eq_by_cmp, nat_cmp}
 
 -- the plain count: at how many positions of the list x stands
 abbrev pub plain : List ℕ → ℕ → ℕ
@@ -13,9 +13,9 @@ abbrev pub counted : ℕ → Option ℕ
 counted zero = None
 counted (suc n) = Some (suc n)
 
--- the count of a number in a map
-abbrev pub count_in : BTreeMap ℕ ℕ → ℕ → ℕ
-count_in counts x = unwrap_or (get nat_cmp counts x) 0
+-- what pairs of a number and a count say of a number: the last pair that has it decides
+abbrev pub value_in : List (ℕ × ℕ) → ℕ → Option ℕ
+value_in pairs x = update_all (eq_by_cmp nat_cmp) (λ y. None) pairs x
 
 -- a map has the plain counts of a list, and nothing else
 abbrev pub HasCountsOf : List ℕ → BTreeMap ℕ ℕ → Type 0

@@ -1,12 +1,13 @@
 //! A list of key numbers and its counts.
 
-ghost use Rattle.std.specs.Prelude.{◌≡◌, ◌≢◌, ◌+◌, ◌<◌, ◌^◌, ℕ, Some, IfOk, OnOk, false, length, slice_index};
-ghost use Rattle.std.specs.BTreeMap.{IsOrdered, get};
+ghost use Rattle.std.specs.Prelude.{◌≡◌, ◌≢◌, ◌+◌, ◌<◌, ◌^◌, ℕ, Some, IfOk, OnOk, true, false, length, slice_index};
+ghost use Rattle.std.specs.BTreeMap.{IsFromIterResult};
+ghost use Rattle.std.specs.List.Sorted.{IsNonDecreasing};
 ghost use Rattle.std.specs.Ordering.{nat_cmp};
-ghost use Rattle.keyed_table.specs.Counts.{HasRisingCountsOf, count_in, plain};
+ghost use Rattle.keyed_table.specs.Counts.{HasRisingCountsOf, counted, plain, value_in};
 
 use lane_words::Memory;
-use std::alloc::Global;
+use std::alloc::{AllocError, Global};
 use std::collections::BTreeMap;
 use std::marker::Model;
 
@@ -66,38 +67,43 @@ impl Partial {
     }
 }
 
-/// How often each number is in a list. Equal numbers side by side are counted together, so a sorted list takes one
-/// look-up for each of its different numbers.
+/// How often each number is in a list whose numbers rise.
 fn counts_of(alloc: Global, ids: &[u32]) -> Result<BTreeMap<u32, u64>, Memory>
+    requires { IsNonDecreasing ids.now }
     ensures { IfOk result (HasRisingCountsOf ids.now) }
 {
-    let mut counts = BTreeMap::new(alloc);
+    let runs = runs_of(alloc, ids)?;
+    Ok(map_of(alloc, runs)?)
+}
+
+/// Each number of a list whose numbers rise, with how often it is there: equal numbers stand side by side.
+fn runs_of(alloc: Global, ids: &[u32]) -> Result<Vec<(u32, u64)>, Memory>
+    requires { IsNonDecreasing ids.now }
+    ensures { IfOk result (λ runs. (x : ℕ) → value_in runs.items x ≡ counted (plain ids.now x)) }
+{
+    let mut runs = Vec::new(alloc);
     let mut start = 0;
     for at in 0..ids.len() {
         if ends_run(ids, at) {
-            add_count(&mut counts, ids[at], (at + 1 - start) as u64)?;
+            runs.push((ids[at], (at + 1 - start) as u64))?;
             start = at + 1;
         }
     }
-    Ok(counts)
+    Ok(runs)
+}
+
+/// A map of pairs that are in the order of their keys, built whole.
+fn map_of(alloc: Global, pairs: Vec<(u32, u64)>) -> Result<BTreeMap<u32, u64>, AllocError>
+    ensures { IfOk result (IsFromIterResult nat_cmp pairs.items) }
+{
+    pairs.into_iter().collect(alloc)
 }
 
 /// Whether the number after this one is another, or there is none.
 fn ends_run(ids: &[u32], at: usize) -> bool
     requires { at < length ids.now }
-    ensures { result ≡ false → (at + 1 < length ids.now) × (slice_index ids.now (at + 1) ≡ slice_index ids.now at) }
+    ensures goes_on { result ≡ false → (at + 1 < length ids.now) × (slice_index ids.now (at + 1) ≡ slice_index ids.now at) }
+    ensures ends { result ≡ true → at + 1 < length ids.now → slice_index ids.now (at + 1) ≢ slice_index ids.now at }
 {
     at + 1 == ids.len() || ids[at + 1] != ids[at]
-}
-
-/// Adds to the count of a number.
-fn add_count(counts: &mut BTreeMap<u32, u64>, id: u32, more: u64) -> Result<(), Memory>
-    requires { count_in counts.old id + more < 2 ^ 64 }
-    ensures added { OnOk result (get nat_cmp counts.new id ≡ Some (count_in counts.old id + more)) }
-    ensures others { OnOk result ((x : ℕ) → x ≢ id → get nat_cmp counts.new x ≡ get nat_cmp counts.old x) }
-    ensures rising { IsOrdered nat_cmp counts.new }
-{
-    let n = counts.get(&id).copied().unwrap_or(0);
-    counts.insert(id, n + more)?;
-    Ok(())
 }

@@ -1,8 +1,15 @@
-use Rattle.std.proofs.Common.{◌∙◌, ap, rules}
-use Rattle.std.specs.List.Sorted.{IsPermutation}
+use Rattle.std.proofs.Common.{◌∙◌, ℕ, ap, rules}
+use Rattle.std.specs.Ordering.{nat_cmp}
+use Rattle.std.specs.List.Sorted.{IsPermutation, IsSortedByKey}
+use Rattle.std.proofs.lemmas.List.Sorted.{IsNonDecreasingBy-from_sort}
 use Rattle.keyed_table.specs.Counts.{counted}
 use Rattle.keyed_table.proofs.Runs.{plain-order}
 use Rattle.keyed_table.proofs.partial.Partial.of.Goals as goal
+
+pub counts_of-requires : goal.counts_of-requires
+counts_of-requires c =
+    let sorted : IsSortedByKey (λ (x : ℕ). x) nat_cmp c.as_slice-2.result.now = search rules in
+    IsNonDecreasingBy-from_sort (λ x. x) c.as_slice-2.result.now sorted
 
 pub invariant_of-result : goal.invariant_of-result
 invariant_of-result c =
