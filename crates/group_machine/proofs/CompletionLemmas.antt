@@ -3,31 +3,33 @@ use Rattle.std.proofs.Common.{ℕ, ◌≡◌, ◌<◌, Bool, true, false, ◌&&�
 use Rattle.std.proofs.lemmas.Bool.{false≢true}
 use Rattle.std.proofs.lemmas.List.FromFn.{length-map-range_with_len}
 use Rattle.std.specs.Option.{option_or}
-use Rattle.bit_planes.specs.PartitionSet.{partitions, is_in, is_within, union}
+use Rattle.bit_planes.specs.PartitionSet.{PartitionSet, partitions, is_in, is_within, union, empty_set}
 use Rattle.bit_planes.specs.SetRows.{SetRows, set_of, AreRows}
-use Rattle.bit_planes.proofs.Sets.{in_union, in_empty, partitions_union, within_of, same_says, both_true}
+use Rattle.bit_planes.proofs.Sets.{in_below, in_union, in_empty, partitions_union, within_of, same_says, both_true}
 use Rattle.sticky_assignor.specs.Balanced.{IsBalanced}
 use Rattle.coop_rebalance.specs.Rounds.{target_rows, next_rows}
 use Rattle.group_machine.specs.declared.group.Seat.{Seat}
 use Rattle.group_machine.specs.declared.group.Phase.TheVariants.{Empty, Preparing}
 use Rattle.group_machine.specs.Slots.{on_seat}
-use Rattle.group_machine.specs.State.{GroupState, member_of, members, is_anybody, seat_joined, seat_granted, seat_assigned, granted_of, assigned_of, granted_rows, last_holder}
+use Rattle.group_machine.specs.State.{GroupState, member_of, members, is_anybody, seat_joined, seat_granted, seat_assigned, granted_of, granted_rows, last_holder}
 use Rattle.group_machine.specs.Moves.{taker}
 use Rattle.group_machine.specs.Completion.{all_joined, is_ready, completed_seat, complete, completed}
 use Rattle.group_machine.specs.Rounds.{is_stable, agrees, all_agree}
-use Rattle.group_machine.specs.Good.{IsSized, IsApart, IsFit, AllFit, IsGood}
+use Rattle.group_machine.specs.Good.{IsSized, IsApart, IsHeldByLast, IsFit, AllFit, IsGood}
 use Rattle.group_machine.proofs.SlotsLemmas.{seat_each}
 use Rattle.group_machine.proofs.PresentLemmas.{Listed, listed_present, numbers_each, length_reseated, any_each, all_says, some_not}
-use Rattle.group_machine.proofs.Rows.{map_same, set_over}
+use Rattle.group_machine.proofs.Rows.{map_same, member_listed, set_over}
 use Rattle.group_machine.specs.Walks.{AreOwned}
-use Rattle.group_machine.proofs.Below.{target_balanced, next_kept, next_below, next_in_target, next_not_other, next_apart, next_is_target}
-use Rattle.group_machine.proofs.GroupLemmas.{members_granted, set_granted, granted_owned}
+use Rattle.group_machine.proofs.Below.{target_kept, target_below, target_balanced, next_members, next_kept, next_below, next_in_target, next_not_other, next_apart, next_is_target}
+use Rattle.group_machine.proofs.GroupLemmas.{members_granted, set_granted, granted_owned, granted_over}
+use Rattle.group_machine.proofs.TakerLemmas.{held_after}
 
 -- what holds before a completion
 pub record IsNext (g : GroupState) : Type 0 where
   pub sized : IsSized g
   pub apart : IsApart g
   pub fit : AllFit g
+  pub held : IsHeldByLast g
   pub some : is_anybody g ≡ true → g.phase ≡ Preparing
   pub gone : is_anybody g ≡ false → g.phase ≡ Empty
   pub counted : is_anybody g ≡ true → all_joined g ≡ false → 0 < g.generation
@@ -62,6 +64,7 @@ next_good g n e = record {
   sized = n.sized;
   apart = n.apart;
   fit = n.fit;
+  held = n.held;
   balanced = λ s. absurd (false≢true (sym (unstable g n) ∙ (both_true (is_stable g.phase) (all_agree g) s).0));
   stable = λ s. absurd (false≢true (sym (unstable g n) ∙ ap is_stable s));
   near = λ s. absurd (false≢true (sym (unstable g n) ∙ ap is_stable s));
@@ -116,17 +119,13 @@ granted_settled : (p : ℕ) (next : SetRows) (m : ℕ) (o : Option Seat) (x : Se
 granted_settled p next m None x is agree = cc
 granted_settled p next m (Some y) x is agree = same_says (union y.granted (set_of next m)) (set_of next m) (agree (completed_seat next m y) refl)
 
-assigned_completed : (p : ℕ) (next : SetRows) (m : ℕ) (o : Option Seat) (x : Seat) → o ≡ Some x → seat_assigned p (on_seat (completed_seat next m) o) ≡ set_of next m
-assigned_completed p next m None x is = cc
-assigned_completed p next m (Some y) x is = refl
+assigned_within : (p : ℕ) (next : SetRows) (row : PartitionSet) (m : ℕ) (o : Option Seat) → ((q : ℕ) → is_in (set_of next m) q ≡ true → is_in row q ≡ true) → is_within (seat_assigned p (on_seat (completed_seat next m) o)) row ≡ true
+assigned_within p next row m None lies = within_of (empty_set p) row (λ q e. absurd (false≢true (sym (in_empty p q) ∙ e)))
+assigned_within p next row m (Some x) lies = within_of (set_of next m) row lies
 
 pub some_of : (o : Option Seat) → is_some o ≡ true → (x : Seat) × (o ≡ Some x)
 some_of None e = absurd (false≢true e)
 some_of (Some x) e = (x, refl)
-
-some_on : (f : Seat → Seat) (o : Option Seat) → is_some (on_seat f o) ≡ is_some o
-some_on f None = refl
-some_on f (Some x) = refl
 
 not_joined : (next : SetRows) (m : ℕ) (o : Option Seat) → seat_joined (on_seat (completed_seat next m) o) ≡ false
 not_joined next m None = refl
@@ -167,6 +166,10 @@ complete_good g n e =
       fit = λ m y is.
           let b = seat_behind (completed_seat next m) (member_of g m) y (sym (at m) ∙ is) in
           subst (IsFit p) (sym b.2) (fit_completed p next m b.0 (n.fit m b.0 b.1) (over m));
+      held = λ m q h. held_after g next (next_apart r owned) (λ k j w. subst (Listed k) (next_members r owned ∙ members_granted g) (member_listed next k j w)) (λ a b j w y. next_not_other r a b j w (own b j y)) m q (elim (after m q h) [
+        | inl gx ↦ omega (arith, in_below (granted_of g m) q gx, granted_over g n.fit m)
+        | inr wx ↦ omega (arith, in_below (set_of next m) q wx, over m)
+      ]) (n.held m q) (after m q h);
       balanced = λ s.
           let agree : (m : ℕ) (y : Seat) → on_seat (completed_seat next m) (member_of g m) ≡ Some y → agrees y ≡ true = λ m y is. all_says agrees (complete g).slots m y s (at m ∙ is) in
           let stays : (m q : ℕ) → is_in (set_of r m) q ≡ true → is_in (set_of next m) q ≡ true = λ m q h.
@@ -183,11 +186,11 @@ complete_good g n e =
       stable = λ s m. ap seat_joined (at m) ∙ not_joined next m (member_of g m);
       near = λ s. (
         set_of (target_rows r),
-        subst (λ (ms : List ℕ). IsBalanced p (map (set_of (target_rows r)) ms)) (sym same) target,
-        λ m here.
-            let x = some_of (member_of g m) (sym (some_on (completed_seat next m) (member_of g m)) ∙ ap is_some (sym (at m)) ∙ here) in
-            let is : assigned_of (complete g) m ≡ set_of next m = ap (seat_assigned p) (at m) ∙ assigned_completed p next m (member_of g m) x.0 x.1 in
-            ap (λ t. is_within t (set_of (target_rows r) m)) is ∙ within_of (set_of next m) (set_of (target_rows r) m) (next_in_target r m),
+        record {
+          below = λ m. set_over (target_rows r) m (target_kept r owned.kept) ∙ target_below r;
+          balanced = subst (λ (ms : List ℕ). IsBalanced p (map (set_of (target_rows r)) ms)) (sym same) target;
+          within = λ m. ap (λ o. is_within (seat_assigned p o) (set_of (target_rows r) m)) (at m) ∙ assigned_within p next (set_of (target_rows r) m) m (member_of g m) (next_in_target r m);
+        },
       );
       preparing = λ s. cc;
       empty = (λ s. cc, λ s. absurd (false≢true (sym s ∙ any_each (completed_seat next) g.slots ∙ any)));

@@ -10,4 +10,5 @@ pub mod FinishLemmas
 pub mod MovesLemmas
 pub mod WalkLemmas
 pub mod TableLemmas
+pub mod TakerLemmas
 pub mod KeptLemmas

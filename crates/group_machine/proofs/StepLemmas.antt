@@ -118,6 +118,7 @@ joining_next g name good room =
       };
       apart = λ m n q e h. good.apart m n q (joined_granted g name m q e) (joined_granted g name n q h);
       fit = λ m x is. fits m x (member_more g.slots (newcomer g.partitions name) m x is);
+      held = λ m q e. good.held m q (joined_granted g name m q e);
       some = λ e. refl;
       gone = λ e. absurd (false≢true (sym e ∙ any));
       counted = λ e h. counts (is_anybody g) refl h;
@@ -150,6 +151,10 @@ rejoining_fit g member fit = subst (λ (slots : List Slot). AllFit (with_slots g
 pub rejoining_apart : (g : GroupState) (member : ℕ) → AllFit g → IsApart g → IsApart (rejoining g member)
 rejoining_apart g member fit apart = subst (λ (slots : List Slot). IsApart (with_slots g slots)) (sym (one_is_each rejoined_seat g.slots member)) (apart_each g (at_only member rejoined_seat) (rejoined_less g.partitions member) fit apart)
 
+rejoining_granted : (g : GroupState) (member : ℕ) → AllFit g → (m q : ℕ) → is_in (granted_of (rejoining g member) m) q ≡ true → is_in (granted_of g m) q ≡ true
+rejoining_granted g member fit m q e =
+    granted_each g (at_only member rejoined_seat) (rejoined_less g.partitions member) fit m q (ap (λ slots. is_in (seat_granted g.partitions (seat_of slots m)) q) (sym (one_is_each rejoined_seat g.slots member)) ∙ e)
+
 pub any_rejoining : (g : GroupState) (member : ℕ) → is_anybody (rejoining g member) ≡ is_anybody g
 any_rejoining g member = ap (λ slots. list_any (λ s. is_some s.seat) slots) (one_is_each rejoined_seat g.slots member) ∙ any_each (at_only member rejoined_seat) g.slots
 
@@ -165,6 +170,7 @@ rejoining_next g member good here =
       };
       apart = rejoining_apart g member good.fit good.apart;
       fit = rejoining_fit g member good.fit;
+      held = λ m q e. good.held m q (rejoining_granted g member good.fit m q e);
       some = λ e. refl;
       gone = λ e. absurd (false≢true (sym e ∙ any_rejoining g member ∙ any));
       counted = λ e h. good.counted any;
@@ -196,6 +202,7 @@ leaving_next g member good here =
       };
       apart = λ m n q e h. good.apart m n q (less m q e) (less n q h);
       fit = λ m x is. good.fit m x (left_seat (m == member) (member_of g m) x (sym (seat_without g.slots member m) ∙ is));
+      held = λ m q e. good.held m q (less m q e);
       some = λ e. rw e refl;
       gone = λ e. rw e refl;
       counted = λ e h. good.counted any;
@@ -253,14 +260,21 @@ sync_good g member good =
       };
       apart = λ m n q e h. good.apart m n q (ap (λ s. is_in s q) (sym (granted m)) ∙ e) (ap (λ s. is_in s q) (sym (granted n)) ∙ h);
       fit = subst (λ (slots : List Slot). AllFit (with_slots g slots)) (sym (one_is_each synced_seat g.slots member)) (fit_each g (at_only member synced_seat) (only_fit p synced_seat fit_synced member) good.fit);
+      held = λ m q e. good.held m q (ap (λ s. is_in s q) (sym (granted m)) ∙ e);
       balanced = λ s.
           let was = good.balanced (sym (settled_synced g member) ∙ s) in
           let rows : map (granted_of g) (members g) ≡ map (granted_of (synced_by g member)) (members g) = map_same (granted_of g) (granted_of (synced_by g member)) (members g) (λ m listed. sym (granted m)) in
           subst (λ (ms : List ℕ). IsBalanced p (map (granted_of (synced_by g member)) ms)) (sym same) (subst (IsBalanced p) rows was);
       stable = λ s m. joined m ∙ good.stable s m;
       near = λ s.
-          let was = good.near s in
-          (was.0, subst (λ (ms : List ℕ). IsBalanced p (map was.0 ms)) (sym same) was.1, λ m e. ap (λ t. is_within t (was.0 m)) (assigned m) ∙ was.2 m (sym (here m) ∙ e));
+          let was = good.near s in (
+            was.0,
+            record {
+              below = was.1.below;
+              balanced = subst (λ (ms : List ℕ). IsBalanced p (map was.0 ms)) (sym same) was.1.balanced;
+              within = λ m. ap (λ t. is_within t (was.0 m)) (assigned m) ∙ was.1.within m;
+            },
+          );
       preparing = λ s. let was = good.preparing s in (was.0, here was.0 ∙ was.1, joined was.0 ∙ was.2);
       empty = (λ s. any_synced g member ∙ good.empty.0 s, λ s. good.empty.1 (sym (any_synced g member) ∙ s));
       counted = λ a. good.counted (sym (any_synced g member) ∙ a);
@@ -280,6 +294,7 @@ opening_good p some few = record {
   sized = record { some_partitions = some; few_partitions = few; few_members = omega arith; a_holder_each = length_replicate p None };
   apart = λ m n q e h. absurd (false≢true (sym (in_empty p q) ∙ ap (λ o. is_in (seat_granted p o) q) (sym (nobody_at m)) ∙ e));
   fit = λ m x is. let none : None ≡ Some x = sym (nobody_at m) ∙ is in cc;
+  held = λ m q e. absurd (false≢true (sym (in_empty p q) ∙ ap (λ o. is_in (seat_granted p o) q) (sym (nobody_at m)) ∙ e));
   balanced = λ s. absurd (false≢true s);
   stable = λ s. cc;
   near = λ s. cc;

@@ -1,5 +1,5 @@
 -- Completion: the next generation.
-use Rattle.std.specs.Prelude.{ℕ, ◌+◌, Bool, false, ◌&&◌, ◌++◌, ◌==◌, if◌then◌else◌}
+use Rattle.std.specs.Prelude.{ℕ, ◌+◌, Bool, false, ◌&&◌, ◌++◌, ◌==◌, ◌-◌, ◌^◌, if◌then◌else◌}
 use Rattle.std.specs.List.{list_all}
 use Rattle.bit_planes.specs.PartitionSet.{union}
 use Rattle.bit_planes.specs.SetRows.{SetRows, set_of}
@@ -45,7 +45,7 @@ complete g = completed_with g (next_rows (granted_rows g))
 
 -- the last generation
 abbrev pub last_generation : ℕ
-last_generation = 4294967295
+last_generation = 2 ^ 32 - 1
 
 -- a completion would pass the last generation
 abbrev pub is_over : GroupState → Bool

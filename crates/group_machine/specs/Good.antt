@@ -4,7 +4,7 @@ use Rattle.bit_planes.specs.PartitionSet.{PartitionSet, partitions, is_in, is_wi
 use Rattle.sticky_assignor.specs.Balanced.{IsBalanced}
 use Rattle.group_machine.specs.declared.group.Seat.{Seat}
 use Rattle.group_machine.specs.declared.group.Phase.TheVariants.{Empty, Preparing, Stable}
-use Rattle.group_machine.specs.State.{GroupState, member_of, members, is_present, is_joined, granted_of, assigned_of, is_anybody}
+use Rattle.group_machine.specs.State.{GroupState, member_of, members, is_present, is_joined, granted_of, assigned_of, is_anybody, last_holder}
 use Rattle.group_machine.specs.Rounds.{is_settled}
 use Rattle.group_machine.specs.Steps.{most_members}
 
@@ -29,6 +29,10 @@ pub record IsFit (p : ℕ) (seat : Seat) : Type 0 where
 abbrev pub AllFit : GroupState → Type 0
 AllFit g = (m : ℕ) (seat : Seat) → member_of g m ≡ Some seat → IsFit g.partitions seat
 
+-- whoever is granted a partition is its last holder
+abbrev pub IsHeldByLast : GroupState → Type 0
+IsHeldByLast g = (m q : ℕ) → is_in (granted_of g m) q ≡ true → last_holder g q ≡ Some m
+
 -- within the limits, no partition is granted twice, and each member's sets are fit
 pub record IsSound (g : GroupState) : Type 0 where
   pub sized : IsSized g
@@ -39,18 +43,21 @@ pub record IsSound (g : GroupState) : Type 0 where
 abbrev pub IsGrantBalanced : GroupState → Type 0
 IsGrantBalanced g = IsBalanced g.partitions (map (λ m. granted_of g m) (members g))
 
--- what members are to keep lies within balanced rows
-abbrev pub LiesInBalanced : GroupState → Type 0
-LiesInBalanced g = (b : ℕ → PartitionSet) × IsBalanced g.partitions (map b (members g)) × ((m : ℕ) → is_present g m ≡ true → is_within (assigned_of g m) (b m) ≡ true)
+-- what members are to keep lies within balanced rows of the group's partitions
+pub record LieInBalanced (g : GroupState) (rows : ℕ → PartitionSet) : Type 0 where
+  pub below : (m : ℕ) → partitions (rows m) ≡ g.partitions
+  pub balanced : IsBalanced g.partitions (map rows (members g))
+  pub within : (m : ℕ) → is_within (assigned_of g m) (rows m) ≡ true
 
 -- what holds of a group after each step
 pub record IsGood (g : GroupState) : Type 0 where
   pub sized : IsSized g
   pub apart : IsApart g
   pub fit : AllFit g
+  pub held : IsHeldByLast g
   pub balanced : is_settled g ≡ true → IsGrantBalanced g
   pub stable : g.phase ≡ Stable → (m : ℕ) → is_joined g m ≡ false
-  pub near : g.phase ≡ Stable → LiesInBalanced g
+  pub near : g.phase ≡ Stable → (rows : ℕ → PartitionSet) × LieInBalanced g rows
   pub preparing : g.phase ≡ Preparing → (m : ℕ) × (is_present g m ≡ true) × (is_joined g m ≡ false)
   pub empty : (g.phase ≡ Empty) ↔ (is_anybody g ≡ false)
   pub counted : is_anybody g ≡ true → 0 < g.generation

@@ -1,0 +1,62 @@
+-- One member takes a partition, and whoever is granted one is its last holder.
+use Rattle.std.proofs.Common.{ℕ, ◌≡◌, ◌<◌, Bool, true, false, not, ◌⊎◌, inl, inr, List, [], ◌∷◌, Option, Some, None, find, cond, refl, ap, sym, ◌∙◌, arith}
+use Rattle.std.specs.Prelude.{slice_index_or}
+use Rattle.std.specs.Option.{option_or}
+use Rattle.std.proofs.lemmas.Bool.{false≢true}
+use Rattle.std.proofs.lemmas.List.FromFn.{get_or-map-range_with_len}
+use Rattle.bit_planes.specs.PartitionSet.{is_in}
+use Rattle.bit_planes.specs.SetRows.{SetRows, set_of}
+use Rattle.bit_planes.proofs.Sets.{both_true}
+use Rattle.group_machine.specs.State.{GroupState, members, granted_of, last_holder}
+use Rattle.group_machine.specs.Moves.{takes, taker, last_after}
+use Rattle.group_machine.proofs.PresentLemmas.{Listed}
+
+find_says : (p : ℕ → Bool) (ms : List ℕ) (n : ℕ) → find p ms ≡ Some n → p n ≡ true
+find_says p [] n e = cc
+find_says p (x ∷ ms) n e = go (λ h. find_says p ms n h) (p x) refl e
+  where
+    go : (find p ms ≡ Some n → p n ≡ true) → (b : Bool) → p x ≡ b → cond b (Some x) (find p ms) ≡ Some n → p n ≡ true
+    go later true is h = let same : x ≡ n = cc in ap p (sym same) ∙ is
+    go later false is h = later h
+
+find_some : (p : ℕ → Bool) (ms : List ℕ) (m : ℕ) → Listed m ms → p m ≡ true → (n : ℕ) × (find p ms ≡ Some n) × (p n ≡ true)
+find_some p [] m at e = absurd at
+find_some p (x ∷ ms) m (inl same) e = let here : p x ≡ true = ap p (sym same) ∙ e in (x, rw here refl, here)
+find_some p (x ∷ ms) m (inr at) e = go (find_some p ms m at e) (p x) refl
+  where
+    go : (n : ℕ) × (find p ms ≡ Some n) × (p n ≡ true) → (b : Bool) → p x ≡ b → (n : ℕ) × (cond (p x) (Some x) (find p ms) ≡ Some n) × (p n ≡ true)
+    go later true is = (x, rw is refl, is)
+    go later false is = (later.0, rw is later.1, later.2)
+
+-- where no two rows share a partition, the member that takes one is its taker
+pub one_taker : (g : GroupState) (next : SetRows) → ((m n q : ℕ) → is_in (set_of next m) q ≡ true → is_in (set_of next n) q ≡ true → m ≡ n) → ((m q : ℕ) → is_in (set_of next m) q ≡ true → Listed m (members g)) → (q m : ℕ) → takes g next q m ≡ true → taker g next q ≡ Some m
+one_taker g next apart listed q m e =
+    let row : is_in (set_of next m) q ≡ true = (both_true (is_in (set_of next m) q) (not (is_in (granted_of g m) q)) e).0 in
+    let n = find_some (takes g next q) (members g) m (listed m q row) e in
+    let same : n.0 ≡ m = apart n.0 m q ((both_true (is_in (set_of next n.0) q) (not (is_in (granted_of g n.0) q)) n.2).0) row in
+    n.1 ∙ ap (λ (k : ℕ). Some k) same
+
+pub holder_after : (g : GroupState) (next : SetRows) (q : ℕ) → q < g.partitions → slice_index_or (last_after g next) q None ≡ option_or (taker g next q) (last_holder g q)
+holder_after g next q lt = get_or-map-range_with_len (λ k. option_or (taker g next k) (last_holder g k)) 0 g.partitions q q None lt (omega arith)
+
+-- a member that is granted a partition after a completion is its last holder
+pub held_after : (g : GroupState) (next : SetRows) → ((m n q : ℕ) → is_in (set_of next m) q ≡ true → is_in (set_of next n) q ≡ true → m ≡ n) → ((m q : ℕ) → is_in (set_of next m) q ≡ true → Listed m (members g))
+    → ((m n q : ℕ) → is_in (set_of next m) q ≡ true → is_in (granted_of g n) q ≡ true → m ≡ n)
+    → (m q : ℕ) → q < g.partitions → (is_in (granted_of g m) q ≡ true → last_holder g q ≡ Some m) → (is_in (granted_of g m) q ≡ true) ⊎ (is_in (set_of next m) q ≡ true) → slice_index_or (last_after g next) q None ≡ Some m
+held_after g next apart listed others m q lt held now = holder_after g next q lt ∙ go (is_in (granted_of g m) q) refl
+  where
+    kept : is_in (granted_of g m) q ≡ true → (o : Option ℕ) → taker g next q ≡ o → option_or o (last_holder g q) ≡ Some m
+    kept own None e = held own
+    kept own (Some n) e =
+        let t = both_true (is_in (set_of next n) q) (not (is_in (granted_of g n) q)) (find_says (takes g next q) (members g) n e) in
+        let same : m ≡ n = sym (others n m q t.0 own) in
+        let mine : is_in (granted_of g n) q ≡ true = ap (λ k. is_in (granted_of g k) q) (sym same) ∙ own in
+        absurd (false≢true (ap not (sym mine) ∙ t.1))
+
+    given : is_in (granted_of g m) q ≡ false → (is_in (granted_of g m) q ≡ true) ⊎ (is_in (set_of next m) q ≡ true) → takes g next q m ≡ true
+    given out (inl own) = absurd (false≢true (sym out ∙ own))
+    given out (inr row) = rw (row, out) refl
+
+    go : (b : Bool) → is_in (granted_of g m) q ≡ b → option_or (taker g next q) (last_holder g q) ≡ Some m
+    go true own = kept own (taker g next q) refl
+    go false out = ap (λ o. option_or o (last_holder g q)) (one_taker g next apart listed q m (given out now))
