@@ -6,6 +6,7 @@ ghost use Rattle.report_cli.specs.Report.{AreInRange};
 use super::*;
 use crate::devices::tests::{Drip, Page};
 use crate::{FromRead, FromWrite};
+use lane_words::Memory;
 use std::test::Fail;
 
 const FILE: &[u8] = b"21\n4\nfoobar\nabc\n21\n";
