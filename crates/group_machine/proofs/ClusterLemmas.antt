@@ -5,19 +5,17 @@ use Rattle.std.proofs.Math.ListN.{length-set}
 use Rattle.std.proofs.lemmas.Bool.Decides.{eqb_tells}
 use Rattle.lane_words.specs.declared.Refusal.{Refusal}
 use Rattle.lane_words.specs.declared.Refusal.TheVariants as r
-use Rattle.bit_planes.specs.PartitionSet.{PartitionSet, is_in, partitions}
+use Rattle.bit_planes.specs.PartitionSet.{is_in, partitions}
 use Rattle.bit_planes.proofs.Sets.{in_below, partitions_empty}
 use Rattle.keyed_table.proofs.Raised.{length-raised}
 use Rattle.partition_log.specs.Keys.{distinct, with_key}
-use Rattle.partition_log.proofs.Growth.{grows}
 use Rattle.commit_store.specs.Commits.{raised}
 use Rattle.commit_store.proofs.Exact.{append-exact, counter-exact}
 use Rattle.group_machine.specs.declared.group.Seat.{Seat}
 use Rattle.group_machine.specs.State.{GroupState, assigned_of, granted_of, is_present, member_of, opening, seat_assigned}
 use Rattle.group_machine.specs.Good.{AllFit, IsFit, IsGood}
 use Rattle.group_machine.specs.Completion.{complete, completed, is_ready}
-use Rattle.group_machine.specs.Steps.{joined_by, joining, leaving, left_by, rejoined_by, rejoining}
-use Rattle.group_machine.specs.Cluster.{AreLogs, AreLogsOf, ClusterState, CommitTerms, Commits, Fits, IsConsistent, IsDue, IsExact, Key, PartitionLogs, and_then, appended_to, cluster_commit_answer, commit_answer, committed_by, fence, is_known, with_commit, with_counter_for, with_group, with_record, without_room}
+use Rattle.group_machine.specs.Cluster.{AreLogs, AreLogsOf, ClusterState, CommitTerms, Commits, IsConsistent, IsExact, Key, PartitionLogs, appended_to, fence, is_known, with_commit, with_group, with_record, without_room}
 use Rattle.group_machine.proofs.GroupLemmas.{granted_over}
 use Rattle.group_machine.proofs.StepLemmas.{opening_good}
 

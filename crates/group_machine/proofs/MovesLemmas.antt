@@ -1,5 +1,5 @@
 -- Who takes each partition, and the moves.
-use Rattle.std.proofs.Common.{ℕ, zero, suc, ◌≡◌, ◌+◌, ◌<◌, ◌≤◌, Bool, true, false, ◌&&◌, not, ◌⊎◌, inl, inr, List, [], ◌∷◌, ◌++◌, Option, Some, None, length, map, get_or, slice_get, cond, take, find, filter_map, refl, ap, sym, ◌∙◌, arith}
+use Rattle.std.proofs.Common.{ℕ, zero, suc, ◌≡◌, ◌+◌, ◌<◌, Bool, true, false, ◌&&◌, not, List, [], ◌∷◌, ◌++◌, Option, Some, None, length, get_or, cond, take, find, filter_map, refl, ap, sym, ◌∙◌, arith}
 use Rattle.std.proofs.lemmas.List.Folds.{find-append}
 use Rattle.std.specs.List.{range_with_len, cons_option}
 use Rattle.std.specs.Option.{option_map, option_or}
@@ -9,9 +9,9 @@ use Rattle.bit_planes.proofs.Sets.{both_true, in_empty}
 use Rattle.group_machine.specs.declared.group.Slot.{Slot}
 use Rattle.group_machine.specs.declared.group.Seat.{Seat}
 use Rattle.group_machine.specs.declared.group.Move.{Move}
-use Rattle.group_machine.specs.Slots.{seat_in, and_member, present_from, present}
-use Rattle.group_machine.specs.Walks.{takes_of, taker_of}
-use Rattle.group_machine.proofs.PresentLemmas.{Listed, listed_from}
+use Rattle.group_machine.specs.Slots.{and_member, present_from, present}
+use Rattle.group_machine.specs.Walks.{taker_in}
+use Rattle.coop_rebalance.proofs.Items.{items_more}
 
 -- ---- one number more
 range_suc : (a n : ℕ) → range_with_len a (suc n) ≡ range_with_len a n ++ (a + n) ∷ []
@@ -66,84 +66,65 @@ present_take slots i s lt e =
     let k : 1 + i ≡ suc i = omega arith in
     rw n (present_more 1 slots i s lt e ∙ ap (λ j. present (take i slots) ++ and_member j s.seat []) k)
 
-first_or : (a b : Option (ℕ × Seat)) → option_map (λ m. m.0) (option_or a b) ≡ option_or (option_map (λ m. m.0) a) (option_map (λ m. m.0) b)
+-- ---- one row more
+abbrev Rows : Type 0
+Rows = List (ℕ × PartitionSet)
+
+-- whether a member takes a partition of its next row
+abbrev takes_row : SetRows → ℕ → (ℕ × PartitionSet) → Bool
+takes_row next q row = is_in (set_of next row.0) q && not (is_in row.1 q)
+
+first_or : (a b : Option (ℕ × PartitionSet)) → option_map (λ m. m.0) (option_or a b) ≡ option_or (option_map (λ m. m.0) a) (option_map (λ m. m.0) b)
 first_or None b = refl
 first_or (Some x) b = refl
 
-taker_more : (slots : List Slot) (next : SetRows) (q i : ℕ) (s : Slot) → i < length slots → s ≡ get_or slots i s → taker_of (present (take (i + 1) slots)) next q ≡ option_or (taker_of (present (take i slots)) next q) (taker_of (and_member (suc i) s.seat []) next q)
-taker_more slots next q i s lt e =
-    ap (λ xs. taker_of xs next q) (present_take slots i s lt e)
-    ∙ ap (option_map (λ m. m.0)) (find-append (takes_of next q) (present (take i slots)) (and_member (suc i) s.seat []))
-    ∙ first_or (find (takes_of next q) (present (take i slots))) (find (takes_of next q) (and_member (suc i) s.seat []))
+taker_more : (rows : Rows) (row : ℕ × PartitionSet) (next : SetRows) (q : ℕ) → taker_in (rows ++ row ∷ []) next q ≡ option_or (taker_in rows next q) (taker_in (row ∷ []) next q)
+taker_more rows row next q = ap (option_map (λ m. m.0)) (find-append (takes_row next q) rows (row ∷ [])) ∙ first_or (find (takes_row next q) rows) (find (takes_row next q) (row ∷ []))
 
 or_none : {A : Type 0} (o : Option A) → o ≡ option_or o None
 or_none None = refl
 or_none (Some x) = refl
 
--- one that is not present takes nothing
-pub taker_absent : (slots : List Slot) (next : SetRows) (q i : ℕ) (s : Slot) → i < length slots → s ≡ get_or slots i s → s.seat ≡ None → taker_of (present (take i slots)) next q ≡ taker_of (present (take (i + 1) slots)) next q
-taker_absent slots next q i s lt e none =
-    or_none (taker_of (present (take i slots)) next q)
-    ∙ ap (λ o. option_or (taker_of (present (take i slots)) next q) (taker_of (and_member (suc i) o []) next q)) (sym none)
-    ∙ sym (taker_more slots next q i s lt e)
-
--- a taker has the partition in its row, and is one of the members
-found_taker : (next : SetRows) (q : ℕ) (xs : List (ℕ × Seat)) (n : ℕ) → taker_of xs next q ≡ Some n → (is_in (set_of next n) q ≡ true) × Listed n (map (λ r. r.0) xs)
+-- a taker has the partition in its row
+found_taker : (next : SetRows) (q : ℕ) (rows : Rows) (n : ℕ) → taker_in rows next q ≡ Some n → is_in (set_of next n) q ≡ true
 found_taker next q [] n e = cc
-found_taker next q (x ∷ xs) n e = go (λ h. found_taker next q xs n h) (takes_of next q x) refl e
+found_taker next q (row ∷ rows) n e = go (λ h. found_taker next q rows n h) (takes_row next q row) refl e
   where
-    go : (taker_of xs next q ≡ Some n → (is_in (set_of next n) q ≡ true) × Listed n (map (λ r. r.0) xs)) → (b : Bool) → takes_of next q x ≡ b → option_map (λ m. m.0) (cond b (Some x) (find (takes_of next q) xs)) ≡ Some n → (is_in (set_of next n) q ≡ true) × ((n ≡ x.0) ⊎ Listed n (map (λ r. r.0) xs))
+    go : (taker_in rows next q ≡ Some n → is_in (set_of next n) q ≡ true) → (b : Bool) → takes_row next q row ≡ b → option_map (λ (m : ℕ × PartitionSet). m.0) (cond b (Some row) (find (takes_row next q) rows)) ≡ Some n → is_in (set_of next n) q ≡ true
     go later true is h =
-        let same : x.0 ≡ n = cc in
-        (ap (λ k. is_in (set_of next k) q) (sym same) ∙ (both_true (is_in (set_of next x.0) q) (not (is_in x.1.granted q)) is).0, inl (sym same))
-    go later false is h = let r = later h in (r.0, inr r.1)
+        let same : row.0 ≡ n = cc in
+        ap (λ k. is_in (set_of next k) q) (sym same) ∙ (both_true (is_in (set_of next row.0) q) (not (is_in row.1 q)) is).0
+    go later false is h = later h
 
-place_below : (slots : List Slot) (i k : ℕ) (x : Seat) → seat_in (slice_get (take i slots) k) ≡ Some x → k < i
-place_below [] zero k x is = cc
-place_below [] (suc i) k x is = cc
-place_below (s ∷ slots) zero k x is = cc
-place_below (s ∷ slots) (suc i) zero x is = omega arith
-place_below (s ∷ slots) (suc i) (suc k) x is = omega (arith, place_below slots i k x is)
-
-taker_before : (slots : List Slot) (next : SetRows) (q i n : ℕ) → taker_of (present (take i slots)) next q ≡ Some n → n ≤ i
-taker_before slots next q i n e =
-    let at = listed_from n 1 (take i slots) ((found_taker next q (present (take i slots)) n e).1) in
-    omega (arith, at.1, place_below slots i at.0 at.2 at.3)
-
--- what a present member takes, nobody before it takes
-pub taker_present : (slots : List Slot) (next : SetRows) (q i : ℕ) (s : Slot) (x : Seat) → i < length slots → s ≡ get_or slots i s → s.seat ≡ Some x
-    → ((m n : ℕ) → is_in (set_of next m) q ≡ true → is_in (set_of next n) q ≡ true → m ≡ n)
-    → cond (takes_of next q (suc i, x)) (Some (suc i)) (taker_of (present (take i slots)) next q) ≡ taker_of (present (take (i + 1) slots)) next q
-taker_present slots next q i s x lt e is apart =
-    go (takes_of next q (suc i, x)) refl (taker_of (present (take i slots)) next q) refl
-    ∙ ap (λ o. option_or (taker_of (present (take i slots)) next q) (taker_of (and_member (suc i) o []) next q)) (sym is)
-    ∙ sym (taker_more slots next q i s lt e)
+-- what a member takes, nobody else takes
+taker_row : (rows : Rows) (row : ℕ × PartitionSet) (next : SetRows) (q : ℕ) → ((m n : ℕ) → is_in (set_of next m) q ≡ true → is_in (set_of next n) q ≡ true → m ≡ n)
+    → cond (takes_row next q row) (Some row.0) (taker_in rows next q) ≡ taker_in (rows ++ row ∷ []) next q
+taker_row rows row next q apart = go (takes_row next q row) refl (taker_in rows next q) refl ∙ sym (taker_more rows row next q)
   where
-    go : (b : Bool) → takes_of next q (suc i, x) ≡ b → (old : Option ℕ) → taker_of (present (take i slots)) next q ≡ old → cond (takes_of next q (suc i, x)) (Some (suc i)) (taker_of (present (take i slots)) next q) ≡ option_or (taker_of (present (take i slots)) next q) (option_map (λ (m : ℕ × Seat). m.0) (cond (takes_of next q (suc i, x)) (Some (suc i, x)) None))
-    go false t old was = rw t (or_none (taker_of (present (take i slots)) next q))
+    go : (b : Bool) → takes_row next q row ≡ b → (old : Option ℕ) → taker_in rows next q ≡ old → cond (takes_row next q row) (Some row.0) (taker_in rows next q) ≡ option_or (taker_in rows next q) (option_map (λ (m : ℕ × PartitionSet). m.0) (cond (takes_row next q row) (Some row) None))
+    go false t old was = rw t (or_none (taker_in rows next q))
     go true t None was = rw (t, was) refl
     go true t (Some n) was =
-        let row : is_in (set_of next (suc i)) q ≡ true = (both_true (is_in (set_of next (suc i)) q) (not (is_in x.granted q)) t).0 in
-        let same : n ≡ suc i = apart n (suc i) ((found_taker next q (present (take i slots)) n was).0) row in
-        absurd (omega (arith, same, taker_before slots next q i n was))
+        let own : is_in (set_of next row.0) q ≡ true = (both_true (is_in (set_of next row.0) q) (not (is_in row.1 q)) t).0 in
+        let same : row.0 ≡ n = apart row.0 n own (found_taker next q rows n was) in
+        rw (t, was) (ap (λ k. Some k) same)
 
--- a member with its row, and one without
-pub taker_given : (slots : List Slot) (next : SetRows) (q i : ℕ) (s : Slot) (x : Seat) (row added : PartitionSet) (old new : Option ℕ) → i < length slots → s ≡ get_or slots i s → s.seat ≡ Some x
+-- a member with its next row, and one without
+pub taker_given : (items : Rows) (i : ℕ) (row : ℕ × PartitionSet) (next : SetRows) (q : ℕ) (given added : PartitionSet) (old new : Option ℕ) → i < length items → row ≡ get_or items i row
     → ((m n : ℕ) → is_in (set_of next m) q ≡ true → is_in (set_of next n) q ≡ true → m ≡ n)
-    → row_of next (i + 1) ≡ Some row → is_in added q ≡ (is_in row q && not (is_in x.granted q)) → old ≡ taker_of (present (take i slots)) next q → new ≡ cond (is_in added q) (Some (i + 1)) old
-    → new ≡ taker_of (present (take (i + 1) slots)) next q
-taker_given slots next q i s x row added old new lt e is apart found adds was now =
-    let n : i + 1 ≡ suc i = omega arith in
-    let same : row ≡ set_of next (suc i) = ap (set_or_empty next.below) (sym found) ∙ ap (set_of next) n in
-    let takes : is_in added q ≡ takes_of next q (suc i, x) = adds ∙ ap (λ t. is_in t q && not (is_in x.granted q)) same in
-    now ∙ ap (λ b. cond b (Some (i + 1)) old) takes ∙ ap (λ k. cond (takes_of next q (suc i, x)) (Some k) old) n ∙ ap (λ o. cond (takes_of next q (suc i, x)) (Some (suc i)) o) was
-    ∙ taker_present slots next q i s x lt e is apart
+    → row_of next row.0 ≡ Some given → is_in added q ≡ (is_in given q && not (is_in row.1 q)) → old ≡ taker_in (take i items) next q → new ≡ cond (is_in added q) (Some row.0) old
+    → new ≡ taker_in (take (i + 1) items) next q
+taker_given items i row next q given added old new lt at apart found adds was now =
+    let same : given ≡ set_of next row.0 = ap (set_or_empty next.below) (sym found) in
+    let takes : is_in added q ≡ takes_row next q row = adds ∙ ap (λ t. is_in t q && not (is_in row.1 q)) same in
+    now ∙ ap (λ b. cond b (Some row.0) old) takes ∙ ap (λ o. cond (takes_row next q row) (Some row.0) o) was ∙ taker_row (take i items) row next q apart
+    ∙ ap (λ rows. taker_in rows next q) (sym (items_more items i row lt at))
 
-pub taker_rowless : (slots : List Slot) (next : SetRows) (q i : ℕ) (s : Slot) (x : Seat) (old : Option ℕ) → i < length slots → s ≡ get_or slots i s → s.seat ≡ Some x
+pub taker_rowless : (items : Rows) (i : ℕ) (row : ℕ × PartitionSet) (next : SetRows) (q : ℕ) (old : Option ℕ) → i < length items → row ≡ get_or items i row
     → ((m n : ℕ) → is_in (set_of next m) q ≡ true → is_in (set_of next n) q ≡ true → m ≡ n)
-    → row_of next (i + 1) ≡ None → old ≡ taker_of (present (take i slots)) next q → old ≡ taker_of (present (take (i + 1) slots)) next q
-taker_rowless slots next q i s x old lt e is apart none was =
-    let n : i + 1 ≡ suc i = omega arith in
-    let out : is_in (set_of next (suc i)) q ≡ false = ap (λ k. is_in (set_of next k) q) (sym n) ∙ ap (λ o. is_in (set_or_empty next.below o) q) none ∙ in_empty next.below q in
-    let takes : takes_of next q (suc i, x) ≡ false = ap (λ b. b && not (is_in x.granted q)) out in
-    was ∙ ap (λ b. cond b (Some (suc i)) (taker_of (present (take i slots)) next q)) (sym takes) ∙ taker_present slots next q i s x lt e is apart
+    → row_of next row.0 ≡ None → old ≡ taker_in (take i items) next q → old ≡ taker_in (take (i + 1) items) next q
+taker_rowless items i row next q old lt at apart none was =
+    let out : is_in (set_of next row.0) q ≡ false = ap (λ o. is_in (set_or_empty next.below o) q) none ∙ in_empty next.below q in
+    let takes : takes_row next q row ≡ false = ap (λ b. b && not (is_in row.1 q)) out in
+    was ∙ ap (λ b. cond b (Some row.0) (taker_in (take i items) next q)) (sym takes) ∙ taker_row (take i items) row next q apart
+    ∙ ap (λ rows. taker_in rows next q) (sym (items_more items i row lt at))

@@ -5,7 +5,7 @@ use Rattle.std.proofs.lemmas.Bool.Decides.{nat_tests}
 use Rattle.std.proofs.Math.ListN.{set}
 use Rattle.group_machine.specs.declared.group.Slot.{Slot}
 use Rattle.group_machine.specs.declared.group.Seat.{Seat}
-use Rattle.group_machine.specs.Slots.{seat_in, seat_of, reseated_from, on_seat, only_of, each_changed, one_changed, with_seat, without_seat}
+use Rattle.group_machine.specs.Slots.{seat_in, seat_of, reseated_from, on_seat, only_of, each_changed, one_changed, without_seat}
 
 abbrev pub slot_with : List ℕ → Option Seat → Slot
 slot_with name o = record { name = name; seat = o }
@@ -91,25 +91,6 @@ only_is false f (Some x) = refl
 pub one_is_each : (f : Seat → Seat) (slots : List Slot) (member : ℕ) → one_changed f slots member ≡ each_changed (at_only member f) slots
 one_is_each f slots member = reseated_same 1 (only_of member (on_seat f)) (λ m. on_seat (at_only member f m)) slots (λ k lt. only_is ((1 + k) == member) f (seat_in (slice_get slots k)))
 
--- ---- a seat that is put back
-put_back : (slots : List Slot) (member : ℕ) (f : Option Seat → Option Seat) → with_seat (reseated_from 1 (only_of member f) slots) member (seat_of slots member) ≡ slots
-put_back slots member f =
-    reseated_two 1 (only_of member (λ before. seat_of slots member)) (only_of member f) slots
-    ∙ reseated_same 1 (λ n o. only_of member (λ before. seat_of slots member) n (only_of member f n o)) (λ n o. o) slots (λ k lt. back k (1 + k == member) refl)
-    ∙ reseated_not 1 slots
-  where
-    back : (k : ℕ) (b : Bool) → (1 + k == member) ≡ b → cond b (seat_of slots member) (cond b (f (seat_in (slice_get slots k))) (seat_in (slice_get slots k))) ≡ seat_in (slice_get slots k)
-    back k false e = refl
-    back k true e =
-        let is : member ≡ suc k = omega (arith, number_is (1 + k) member e) in
-        ap (λ n. seat_of slots n) is
-
-pub without_back : (slots : List Slot) (member : ℕ) → with_seat (without_seat slots member) member (seat_of slots member) ≡ slots
-without_back slots member = put_back slots member (λ before. None)
-
-pub changed_back : (f : Seat → Seat) (slots : List Slot) (member : ℕ) → with_seat (one_changed f slots member) member (seat_of slots member) ≡ slots
-changed_back f slots member = put_back slots member (on_seat f)
-
 -- ---- a write to one slot
 set_at : (m : ℕ) (slots : List Slot) (k : ℕ) (s : Slot) (f : Option Seat → Option Seat) → k < length slots → s ≡ get_or slots k s → set slots k (slot_with s.name (f s.seat)) ≡ reseated_from m (only_of (m + k) f) slots
 set_at m [] k s f lt e = absurd (omega arith)
@@ -154,18 +135,6 @@ some_at (s ∷ slots) (suc k) e = omega (arith, some_at slots k e)
 pub number_given : (slots : List Slot) (member : ℕ) → is_some (seat_of slots member) ≡ true → (0 < member) × (member ≤ length slots)
 number_given slots zero e = absurd (false≢true e)
 number_given slots (suc k) e = (omega arith, omega (arith, some_at slots k e))
-
--- two changes of one member are one
-pub put_changed : (f : Seat → Seat) (slots : List Slot) (member : ℕ) → with_seat (without_seat slots member) member (on_seat f (seat_of slots member)) ≡ one_changed f slots member
-put_changed f slots member =
-    reseated_two 1 (only_of member (λ before. on_seat f (seat_of slots member))) (only_of member (λ before. None)) slots
-    ∙ reseated_same 1 (λ n o. only_of member (λ before. on_seat f (seat_of slots member)) n (only_of member (λ before. None) n o)) (only_of member (on_seat f)) slots (λ k lt. two k (1 + k == member) refl)
-  where
-    two : (k : ℕ) (b : Bool) → (1 + k == member) ≡ b → cond b (on_seat f (seat_of slots member)) (cond b None (seat_in (slice_get slots k))) ≡ cond b (on_seat f (seat_in (slice_get slots k))) (seat_in (slice_get slots k))
-    two k false e = refl
-    two k true e =
-        let is : member ≡ suc k = omega (arith, number_is (1 + k) member e) in
-        ap (λ n. on_seat f (seat_of slots n)) is
 
 some_is : (o : Option Seat) → is_some o ≡ true → (x : Seat) × (o ≡ Some x)
 some_is None e = absurd (false≢true e)

@@ -1,5 +1,5 @@
 -- What the calls of a table come to, in words of the group.
-use Rattle.std.proofs.Common.{ℕ, zero, suc, ◌≡◌, ◌+◌, ◌<◌, ◌≤◌, ◌==◌, Bool, true, false, ◌&&◌, not, inl, inr, List, [], ◌∷◌, ◌++◌, Option, Some, None, Result, Ok, Err, length, map, get_or, slice_get, cond, find, filter_map, nat_eq, nat_le, is_some, refl, ap, sym, ◌∙◌, arith}
+use Rattle.std.proofs.Common.{ℕ, zero, suc, ◌≡◌, ◌+◌, ◌<◌, ◌≤◌, ◌==◌, Bool, true, false, ◌&&◌, not, inl, inr, List, [], ◌∷◌, ◌++◌, Option, Some, None, Ok, Err, length, map, get_or, slice_get, cond, find, filter_map, nat_eq, nat_le, is_some, refl, ap, sym, ◌∙◌, arith}
 use Rattle.std.proofs.lemmas.Bool.Decides.{nat_tests}
 use Rattle.std.specs.List.{list_all, range_with_len, cons_option}
 use Rattle.std.specs.Option.{option_map, option_or}
@@ -16,12 +16,14 @@ use Rattle.group_machine.specs.declared.group.Move.{Move}
 use Rattle.group_machine.specs.declared.group.Phase.{Phase}
 use Rattle.group_machine.specs.declared.group.Phase.TheVariants.{Stable}
 use Rattle.group_machine.specs.Slots.{seat_in, and_member, present_from, present, each_changed}
-use Rattle.group_machine.specs.State.{GroupState, is_anybody, seat_granted, granted_of, granted_rows, owner_of, last_holder}
+use Rattle.group_machine.specs.State.{GroupState, member_of, is_present, is_anybody, seat_granted, granted_of, granted_rows, owner_of, last_holder}
 use Rattle.group_machine.specs.Moves.{takes, taker, move_by, moves_to, last_after}
-use Rattle.group_machine.specs.Completion.{completed_seat, completed_with, complete, is_ready, is_over, completed, last_generation}
-use Rattle.group_machine.specs.Steps.{most_members, unless_over, is_name_used, joining, join_answer, rejoin_refusal}
+use Rattle.group_machine.specs.Completion.{completed_seat, completed_with, complete, is_ready, last_generation}
+use Rattle.group_machine.specs.Steps.{most_members, unless_over, unless_refused, is_name_used, joining, join_answer, rejoin_refusal, rejoining, rejoin_answer, leaving, leave_answer}
 use Rattle.group_machine.specs.Good.{IsSound, AllFit}
-use Rattle.group_machine.specs.Walks.{AreOwned, AreSeatsOver, out_or, takes_of, taker_of, move_of, moves_by, last_by}
+use Rattle.group_machine.specs.declared.group.completion.Prepared.{Prepared}
+use Rattle.group_machine.specs.Changes.{IsPlanned, IsRefused}
+use Rattle.group_machine.specs.Walks.{AreOwned, AreSeatsOver, out_or, taker_in, move_of, moves_by, last_by}
 use Rattle.group_machine.proofs.GroupLemmas.{granted_owned}
 use Rattle.group_machine.proofs.Below.{next_below, next_apart}
 use Rattle.group_machine.proofs.CompletionLemmas.{IsNext}
@@ -78,8 +80,19 @@ find_from p t m (s ∷ slots) same =
     let e : suc m + k ≡ m + suc k = omega arith in
     ap (λ n. p (n, x)) e ∙ same (suc k) x is ∙ ap t (sym e)))
 
-pub taker_is : (g : GroupState) (next : SetRows) (q : ℕ) → taker_of (present g.slots) next q ≡ taker g next q
-taker_is g next q = find_from (takes_of next q) (takes g next q) 1 g.slots (λ k x is.
+taker_rows : (next : SetRows) (q : ℕ) (xs : List (ℕ × Seat)) → taker_in (map (λ m. (m.0, m.1.granted)) xs) next q ≡ option_map (λ m. m.0) (find (λ (m : ℕ × Seat). is_in (set_of next m.0) q && not (is_in m.1.granted q)) xs)
+taker_rows next q [] = refl
+taker_rows next q (x ∷ xs) = go (is_in (set_of next x.0) q && not (is_in x.1.granted q)) (taker_rows next q xs)
+  where
+    go : (b : Bool) → taker_in (map (λ m. (m.0, m.1.granted)) xs) next q ≡ option_map (λ m. m.0) (find (λ (m : ℕ × Seat). is_in (set_of next m.0) q && not (is_in m.1.granted q)) xs)
+        → option_map (λ (row : ℕ × PartitionSet). row.0) (cond b (Some (x.0, x.1.granted)) (find (λ row. is_in (set_of next row.0) q && not (is_in row.1 q)) (map (λ m. (m.0, m.1.granted)) xs)))
+        ≡ option_map (λ (m : ℕ × Seat). m.0) (cond b (Some x) (find (λ m. is_in (set_of next m.0) q && not (is_in m.1.granted q)) xs))
+    go true later = refl
+    go false later = later
+
+-- who takes a partition, by the rows of what is granted
+pub taker_is : (g : GroupState) (next : SetRows) (q : ℕ) → taker_in (granted_rows g).rows next q ≡ taker g next q
+taker_is g next q = taker_rows next q (present g.slots) ∙ find_from (λ m. is_in (set_of next m.0) q && not (is_in m.1.granted q)) (takes g next q) 1 g.slots (λ k x is.
     let e : 1 + k ≡ suc k = omega arith in
     let own : granted_of g (1 + k) ≡ x.granted = ap (granted_of g) e ∙ ap (seat_granted g.partitions) is in
     ap (λ s. is_in (set_of next (1 + k)) q && not (is_in s q)) (sym own))
@@ -103,17 +116,17 @@ move_is : (g : GroupState) (q : ℕ) (o : Option ℕ) → move_of (g.generation 
 move_is g q None = refl
 move_is g q (Some m) = refl
 
-pub moves_are : (g : GroupState) (next : SetRows) (takers : List (Option ℕ)) → length takers ≡ g.partitions → ((q : ℕ) → q < g.partitions → get_or takers q None ≡ taker_of (present g.slots) next q) → moves_by (g.generation + 1) takers g.last ≡ moves_to g next
+pub moves_are : (g : GroupState) (next : SetRows) (takers : List (Option ℕ)) → length takers ≡ g.partitions → ((q : ℕ) → q < g.partitions → get_or takers q None ≡ taker g next q) → moves_by (g.generation + 1) takers g.last ≡ moves_to g next
 moves_are g next takers long are =
     ap (λ n. filter_map (λ q. move_of (g.generation + 1) q (last_holder g q) (get_or takers q None)) (range_with_len 0 n)) long
     ∙ filtered_same 0 g.partitions (λ q. move_of (g.generation + 1) q (last_holder g q) (get_or takers q None)) (λ q. move_by g q (taker g next q)) (λ q lt.
-    ap (move_of (g.generation + 1) q (last_holder g q)) (are q (omega arith) ∙ taker_is g next q) ∙ move_is g q (taker g next q))
+    ap (move_of (g.generation + 1) q (last_holder g q)) (are q (omega arith)) ∙ move_is g q (taker g next q))
 
-pub last_is : (g : GroupState) (next : SetRows) (takers : List (Option ℕ)) → length g.last ≡ g.partitions → ((q : ℕ) → q < g.partitions → get_or takers q None ≡ taker_of (present g.slots) next q) → last_by takers g.last ≡ last_after g next
+pub last_is : (g : GroupState) (next : SetRows) (takers : List (Option ℕ)) → length g.last ≡ g.partitions → ((q : ℕ) → q < g.partitions → get_or takers q None ≡ taker g next q) → last_by takers g.last ≡ last_after g next
 last_is g next takers long are =
     ap (λ n. map (λ q. option_or (get_or takers q None) (last_holder g q)) (range_with_len 0 n)) long
     ∙ mapped_same 0 g.partitions (λ q. option_or (get_or takers q None) (last_holder g q)) (λ q. option_or (taker g next q) (last_holder g q)) (λ q lt.
-    ap (λ o. option_or o (last_holder g q)) (are q (omega arith) ∙ taker_is g next q))
+    ap (λ o. option_or o (last_holder g q)) (are q (omega arith)))
 
 abbrev parts : ℕ → ℕ → List Slot → List (Option ℕ) → List Move → GroupState
 parts generation p slots last moves = record { generation = generation; phase = Stable; partitions = p; slots = slots; last = last; moves = moves }
@@ -126,52 +139,25 @@ complete_is g next slots last moves is_next is_slots is_last is_moves =
     ∙ ap (λ m. parts (g.generation + 1) g.partitions (each_changed (completed_seat next) g.slots) (last_after g next) m) is_moves
     ∙ ap (completed_with g) is_next
 
--- ---- a completion where the group is ready
-abbrev unit : Unit {0}
-unit = tt
+-- ---- the answer of a step, by what was prepared for it
+pub refused_answer : {A : Type 0} (g : GroupState) (x : A) (why : Refusal) → IsRefused g why → Answers (unless_over g x) (Err why)
+refused_answer g x why (inl h) = inl (rw (h.0, h.1) refl)
+refused_answer g x why (inr h) = inr (ap (λ w. Err w) h)
 
-abbrev done : Result (Unit {0}) Refusal
-done = Ok tt
-
-pub not_ready_answer : (g : GroupState) → is_ready g ≡ false → done ≡ unless_over g unit
-not_ready_answer g e = rw e refl
-
-pub not_ready_same : (g : GroupState) → is_ready g ≡ false → g ≡ completed g
-not_ready_same g e = rw e refl
-
-pub over_answer : (g : GroupState) → is_ready g ≡ true → g.generation ≡ last_generation → Err r.GenerationsOver ≡ unless_over g unit
-over_answer g e last = rw (e, last) refl
-
-pub ready_answer : (g : GroupState) → (g.generation ≡ last_generation → ⊥) → done ≡ unless_over g unit
-ready_answer g more = go (g.generation == last_generation) refl
+pub planned_answer : {A : Type 0} (g : GroupState) (x : A) (planned : Option Prepared) → IsPlanned g planned → Ok x ≡ unless_over g x
+planned_answer g x None e = rw e refl
+planned_answer g x (Some a) e = go (g.generation == last_generation) refl
   where
-    go : (b : Bool) → (g.generation == last_generation) ≡ b → done ≡ cond (is_ready g && b) (Err r.GenerationsOver) (done)
-    go true e = absurd (more (grind (arith, nat_tests)))
-    go false e = go2 (is_ready g)
+    go : (b : Bool) → (g.generation == last_generation) ≡ b → Ok x ≡ cond (is_ready g && b) (Err r.GenerationsOver) (Ok x)
+    go true is = absurd (less (g.generation) e.1 is)
       where
-        go2 : (c : Bool) → done ≡ cond (c && false) (Err r.GenerationsOver) (done)
+        less : (n : ℕ) → n < last_generation → (n == last_generation) ≡ true → ⊥
+        less n lt is = grind (arith, nat_tests)
+    go false is = go2 (is_ready g)
+      where
+        go2 : (c : Bool) → Ok x ≡ cond (c && false) (Err r.GenerationsOver) (Ok x)
         go2 true = refl
         go2 false = refl
-
-pub ready_complete : (g : GroupState) → is_ready g ≡ true → complete g ≡ completed g
-ready_complete g e = rw e refl
-
--- ---- the answers of a step, by that of its completion
-pub answer_ok : {A : Type 0} (g : GroupState) (x : A) → Answers (unless_over g unit) (done) → Ok x ≡ unless_over g x
-answer_ok g x (inr e) = cc
-answer_ok g x (inl e) = go (is_over g) e
-  where
-    go : (b : Bool) → done ≡ cond b (Err r.GenerationsOver) (done) → Ok x ≡ cond b (Err r.GenerationsOver) (Ok x)
-    go true h = cc
-    go false h = refl
-
-pub answer_err : {A : Type 0} (g : GroupState) (x : A) (why : Refusal) → Answers (unless_over g unit) (Err why) → Answers (unless_over g x) (Err why)
-answer_err g x why (inl e) = inl (go (is_over g) e)
-  where
-    go : (b : Bool) → Err why ≡ cond b (Err r.GenerationsOver) (done) → Err why ≡ cond b (Err r.GenerationsOver) (Ok x)
-    go true h = let same : why ≡ r.GenerationsOver = cc in ap (λ w. Err w) same
-    go false h = cc
-answer_err g x why (inr e) = inr (let same : why ≡ r.Memory = cc in ap (λ w. Err w) same)
 
 pub next_sound : (g : GroupState) → IsNext g → IsSound g
 next_sound g n = record { sized = n.sized; apart = n.apart; fit = n.fit }
@@ -192,15 +178,16 @@ many_answer g name e le = rw (e, le_is most_members (length g.slots) le) refl
 pub join_go : (g : GroupState) (name : List ℕ) → is_name_used g name ≡ false → length g.slots < most_members → join_answer g name ≡ unless_over (joining g name) (length g.slots + 1)
 join_go g name e lt = rw (e, gt_is most_members (length g.slots) lt) refl
 
--- ---- a group whose slots and phase are others for a while
+-- ---- a group with other slots and another phase
 abbrev pub with_phase : GroupState → Phase → List Slot → GroupState
 with_phase g phase slots = record g { slots = slots; phase = phase }
 
--- put back as it was
-pub back : (g now : GroupState) (phase : Phase) (during slots : List Slot) → now ≡ with_phase g phase during → slots ≡ g.slots → record { generation = now.generation; phase = g.phase; partitions = now.partitions; slots = slots; last = now.last; moves = now.moves } ≡ g
-back g now phase during slots is_now is_slots =
-    ap (λ (a : GroupState). record { generation = a.generation; phase = g.phase; partitions = a.partitions; slots = slots; last = a.last; moves = a.moves }) is_now
-    ∙ ap (λ s. record g { slots = s }) is_slots
+-- ---- rejoining and leaving
+pub rejoin_go : (g : GroupState) (member generation : ℕ) (claim : PartitionSet) → rejoin_refusal g generation claim (member_of g member) ≡ None → rejoin_answer g member generation claim ≡ unless_over (rejoining g member) tt
+rejoin_go g member generation claim e = ap (λ o. unless_refused o (unless_over (rejoining g member) tt)) e
+
+pub leave_go : (g : GroupState) (member : ℕ) → is_present g member ≡ true → leave_answer g member ≡ unless_over (leaving g member) tt
+leave_go g member e = rw e refl
 
 pub accepted_present : (g : GroupState) (generation : ℕ) (claim : PartitionSet) (o : Option Seat) → rejoin_refusal g generation claim o ≡ None → is_some o ≡ true
 accepted_present g generation claim None e = cc

@@ -11,7 +11,7 @@ use Rattle.bit_planes.proofs.RowLaws.{put_last}
 use Rattle.group_machine.specs.declared.group.Slot.{Slot}
 use Rattle.group_machine.specs.declared.group.Seat.{Seat}
 use Rattle.group_machine.specs.Slots.{seat_in, seat_of, and_member, present_from, present, reseated_from}
-use Rattle.group_machine.specs.Walks.{granted_in, numbers_in}
+use Rattle.group_machine.specs.Walks.{granted_in}
 use Rattle.group_machine.proofs.SlotsLemmas.{slot_with, same_number, other_default}
 use Rattle.group_machine.proofs.MovesLemmas.{present_take}
 
@@ -65,12 +65,6 @@ granted_more p slots i s x lt e is =
 pub granted_same : (p : ℕ) (slots : List Slot) (i : ℕ) (s : Slot) → i < length slots → s ≡ get_or slots i s → s.seat ≡ None → granted_in p (take i slots) ≡ granted_in p (take (i + 1) slots)
 granted_same p slots i s lt e none = ap (λ xs. record { below = p; rows = rows_of xs }) (sym (present_absent slots i s lt e none))
 
-pub numbers_more : (slots : List Slot) (i : ℕ) (s : Slot) (x : Seat) → i < length slots → s ≡ get_or slots i s → s.seat ≡ Some x → numbers_in (take i slots) ++ (i + 1) ∷ [] ≡ numbers_in (take (i + 1) slots)
-numbers_more slots i s x lt e is = sym (ap (λ xs. map {A = ℕ × Seat} (λ r. r.0) xs) (present_one slots i s x lt e is) ∙ map_append (λ r. r.0) (present (take i slots)) ((i + 1, x) ∷ []))
-
-pub numbers_same : (slots : List Slot) (i : ℕ) (s : Slot) → i < length slots → s ≡ get_or slots i s → s.seat ≡ None → numbers_in (take i slots) ≡ numbers_in (take (i + 1) slots)
-numbers_same slots i s lt e none = ap (λ xs. map {A = ℕ × Seat} (λ r. r.0) xs) (sym (present_absent slots i s lt e none))
-
 -- ---- seats that are given place by place
 -- the slots, with the seats before a place changed
 abbrev pub AreGiven : (ℕ → Option Seat → Option Seat) → List Slot → List Slot → ℕ → Type 0
@@ -81,7 +75,7 @@ reseated_slot m f [] k = refl
 reseated_slot m f (s ∷ slots) zero = let z : m ≡ m + 0 = omega arith in ap (λ n. Some (slot_with s.name (f n s.seat))) z
 reseated_slot m f (s ∷ slots) (suc k) = let e : suc m + k ≡ m + suc k = omega arith in reseated_slot (suc m) f slots k ∙ ap (λ n. option_map (λ t. slot_with t.name (f n t.seat)) (slice_get slots k)) e
 
-slot_at : (slots : List Slot) (k : ℕ) (s : Slot) → k < length slots → s ≡ get_or slots k s → slice_get slots k ≡ Some s
+pub slot_at : (slots : List Slot) (k : ℕ) (s : Slot) → k < length slots → s ≡ get_or slots k s → slice_get slots k ≡ Some s
 slot_at [] k s lt e = absurd (omega arith)
 slot_at (t ∷ slots) zero s lt e = ap (λ u. Some u) (sym e)
 slot_at (t ∷ slots) (suc k) s lt e = slot_at slots k s (omega arith) e
@@ -119,7 +113,7 @@ given_more f before now after place given others here k = elim (cases_lt k place
 same_there : (f : ℕ → Option Seat → Option Seat) (before now : List Slot) (place : ℕ) (s : Slot) → AreGiven f before now place → place < length now → s ≡ get_or now place s → slice_get before place ≡ Some s
 same_there f before now place s given lt e = sym (given place ∙ ap (λ b. cond b (slice_get (reseated_from 1 f before) place) (slice_get before place)) (ge_is place place (omega arith))) ∙ slot_at now place s lt e
 
-changed_there : (f : ℕ → Option Seat → Option Seat) (before : List Slot) (place : ℕ) (s : Slot) → slice_get before place ≡ Some s → slice_get (reseated_from 1 f before) place ≡ Some (slot_with s.name (f (place + 1) s.seat))
+pub changed_there : (f : ℕ → Option Seat → Option Seat) (before : List Slot) (place : ℕ) (s : Slot) → slice_get before place ≡ Some s → slice_get (reseated_from 1 f before) place ≡ Some (slot_with s.name (f (place + 1) s.seat))
 changed_there f before place s e = let n : 1 + place ≡ place + 1 = omega arith in reseated_slot 1 f before place ∙ ap (option_map (λ t. slot_with t.name (f (1 + place) t.seat))) e ∙ ap (λ k. Some (slot_with s.name (f k s.seat))) n
 
 pub given_set : (f : ℕ → Option Seat → Option Seat) (before now : List Slot) (place : ℕ) (s : Slot) → AreGiven f before now place → place < length now → s ≡ get_or now place s → AreGiven f before (set now place (slot_with s.name (f (place + 1) s.seat))) (place + 1)
@@ -171,9 +165,6 @@ some_found (row ∷ rows) (suc k) d lt = go (row.0 == get_or (map (λ r. r.0) ro
 pub have_rows : (r : SetRows) → HaveRows r (members r)
 have_rows r k d lt = some_found r.rows k d lt
 
-pub members_in : (p : ℕ) (slots : List Slot) → members (granted_in p slots) ≡ numbers_in slots
-members_in p slots = numbers_mapped (present slots)
-
 some_seat : (o : Option Seat) → is_some o ≡ true → (x : Seat) × (o ≡ Some x)
 some_seat None e = absurd (false≢true e)
 some_seat (Some x) e = (x, refl)
@@ -181,12 +172,6 @@ some_seat (Some x) e = (x, refl)
 no_seat : (o : Option Seat) → is_some o ≡ false → o ≡ None
 no_seat None e = refl
 no_seat (Some x) e = absurd (false≢true (sym e))
-
-pub numbers_here : (slots : List Slot) (i : ℕ) (s : Slot) → i < length slots → s ≡ get_or slots i s → is_some s.seat ≡ true → numbers_in (take i slots) ++ (i + 1) ∷ [] ≡ numbers_in (take (i + 1) slots)
-numbers_here slots i s lt e here = let x = some_seat s.seat here in numbers_more slots i s x.0 lt e x.1
-
-pub numbers_gone : (slots : List Slot) (i : ℕ) (s : Slot) → i < length slots → s ≡ get_or slots i s → is_some s.seat ≡ false → numbers_in (take i slots) ≡ numbers_in (take (i + 1) slots)
-numbers_gone slots i s lt e gone = numbers_same slots i s lt e (no_seat s.seat gone)
 
 -- the same, by the slot at the place
 pub given_set_at : (f : ℕ → Option Seat → Option Seat) (before now : List Slot) (place : ℕ) (d : Slot) (new : Option Seat) → AreGiven f before now place → place < length now → new ≡ f (place + 1) (get_or now place d).seat → AreGiven f before (set now place (slot_with (get_or now place d).name new)) (place + 1)

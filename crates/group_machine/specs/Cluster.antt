@@ -1,5 +1,5 @@
 -- A cluster: a group of members, the logs they read, and the store of what they committed.
-use Rattle.std.specs.Prelude.{◌≡◌, ℕ, ◌+◌, Bool, true, false, not, ◌==◌, List, [], ◌∷◌, ◌++◌, Option, Some, None, Result, Ok, Err, length, slice_index_or, if◌then◌else◌}
+use Rattle.std.specs.Prelude.{◌≡◌, ℕ, true, not, ◌==◌, List, [], ◌∷◌, ◌++◌, Result, Ok, Err, length, slice_index_or, if◌then◌else◌}
 use Rattle.lane_words.specs.declared.Refusal.{Refusal}
 use Rattle.lane_words.specs.declared.Refusal.TheVariants as r
 use Rattle.bit_planes.specs.PartitionSet.{PartitionSet, is_in}
@@ -7,7 +7,7 @@ pub use Rattle.partition_log.specs.Keys.{Key, is_known}
 pub use Rattle.commit_store.specs.Commits.{AreLogs, AreLogsOf, Commits, Fits, IsExact, PartitionLogs, append_answer, commit_answer, committed_at, with_commit, with_record}
 use Rattle.group_machine.specs.State.{GroupState, assigned_of, granted_of, is_present}
 use Rattle.group_machine.specs.Good.{IsGood}
-use Rattle.group_machine.specs.Steps.{sync_answer, synced_by}
+use Rattle.group_machine.specs.Steps.{sync_answer}
 
 -- a commit that is sent: of which member and in which generation, and of which records: those of a partition from an
 -- offset on, by their key numbers

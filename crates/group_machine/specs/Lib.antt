@@ -1,3 +1,4 @@
+pub mod Changes
 pub mod Cluster
 pub mod Completion
 pub mod Good

@@ -2,7 +2,7 @@
 use Rattle.std.specs.Prelude.{◌≡◌, ℕ, ◌<◌, Bool, true, ◌&&◌, not, List, Option, Some, None, find, filter_map, map, slice_index_or, length}
 use Rattle.std.specs.List.{range_with_len}
 use Rattle.std.specs.Option.{option_map, option_or}
-use Rattle.bit_planes.specs.PartitionSet.{partitions, is_in}
+use Rattle.bit_planes.specs.PartitionSet.{PartitionSet, partitions, is_in}
 use Rattle.bit_planes.specs.SetRows.{SetRows, AreRows, members, set_of, sets_of}
 use Rattle.sticky_assignor.specs.Balanced.{AreApart}
 use Rattle.group_machine.specs.declared.group.Slot.{Slot}
@@ -36,12 +36,9 @@ pub record AreOwned (r : SetRows) : Type 0 where
 abbrev pub numbers_in : List Slot → List ℕ
 numbers_in slots = map (λ m. m.0) (present slots)
 
--- whether a member takes a partition of its row
-abbrev pub takes_of : SetRows → ℕ → (ℕ × Seat) → Bool
-takes_of next q m = is_in (set_of next m.0) q && not (is_in m.1.granted q)
-
-abbrev pub taker_of : List (ℕ × Seat) → SetRows → ℕ → Option ℕ
-taker_of present_members next q = option_map (λ m. m.0) (find (takes_of next q) present_members)
+-- the member that takes a partition, if one does: it is in its next row, and not in the row that it is granted
+abbrev pub taker_in : List (ℕ × PartitionSet) → SetRows → ℕ → Option ℕ
+taker_in granted next q = option_map (λ row. row.0) (find (λ row. is_in (set_of next row.0) q && not (is_in row.1 q)) granted)
 
 abbrev pub move_of : ℕ → ℕ → Option ℕ → Option ℕ → Option Move
 move_of generation q last None = None

@@ -7,6 +7,7 @@ ghost use Rattle.group_machine.specs.Rounds.{is_settled};
 ghost use Rattle.group_machine.specs.Steps.{join_answer, joined_by, rejoin_answer, rejoined_by, sync_answer, synced_by, leave_answer, left_by};
 ghost use Rattle.group_machine.specs.Good.{IsGood};
 
+mod change;
 mod completion;
 mod members;
 mod moves;

@@ -32,23 +32,15 @@ impl Name {
     pub fn new(text: &[u8]) -> Option<Name>
         ensures { result ≡ (if is_name text.now then Some text.now else None) }
     {
-        if is_name(text) {
-            Some(Name::in_place(text))
-        } else {
-            None
+        if !is_name(text) {
+            return None;
         }
-    }
-
-    fn in_place(text: &[u8]) -> Name
-        requires { is_name text.now ≡ true }
-        ensures { result ≡ text.now }
-    {
         let mut bytes = [0u8; 32];
         bytes[..text.len()].copy_from_slice(text);
-        Name {
+        Some(Name {
             bytes,
             size: text.len() as u8,
-        }
+        })
     }
 
     /// The text of the name.
@@ -57,16 +49,6 @@ impl Name {
         ensures name { is_name self.now ≡ true }
     {
         &self.bytes[..self.size as usize]
-    }
-
-    /// The same name again.
-    pub fn copy(&self) -> Name
-        ensures { result ≡ self.now }
-    {
-        Name {
-            bytes: self.bytes,
-            size: self.size,
-        }
     }
 }
 

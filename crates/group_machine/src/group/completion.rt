@@ -2,59 +2,48 @@
 
 ghost use Rattle.std.specs.Prelude.{◌≡◌, ◌≤◌, length, false, IfOk};
 ghost use Rattle.bit_planes.specs.PartitionSet.{partitions, union};
-ghost use Rattle.bit_planes.specs.SetRows.{set_of};
+ghost use Rattle.bit_planes.specs.SetRows.{members, set_of};
 ghost use Rattle.coop_rebalance.specs.Rounds.{next_rows};
 ghost use Rattle.group_machine.specs.Slots.{each_changed};
 ghost use Rattle.group_machine.specs.Completion.{completed_seat};
-ghost use Rattle.group_machine.specs.Walks.{AreSeatsOver, AreOwned, granted_in, numbers_in};
+ghost use Rattle.group_machine.specs.Walks.{AreSeatsOver, AreOwned};
 
-use super::{Seat, Slot};
+use super::{Move, Seat, Slot};
 use bit_planes::{Plane, PlaneRows};
 use coop_rebalance::withhold;
 use lane_words::Memory;
 use std::alloc::Global;
 use sticky_assignor::assign;
 
-/// What each present member is to keep: its sticky target, without what any other member is granted.
-pub fn next_rows(alloc: Global, p: u32, slots: &[Slot]) -> Result<PlaneRows, Memory>
-    requires bounds { (1 ≤ p) × (p ≤ 4096) }
-    requires few { length slots.now ≤ 512 }
-    requires over { AreSeatsOver p slots.now }
-    requires owned { AreOwned (granted_in p slots.now) }
-    ensures { IfOk result (λ rows. rows ≡ next_rows (granted_in p slots.now)) }
-{
-    let granted = granted_rows(alloc, p, slots)?;
-    let members = numbers_of(alloc, slots)?;
-    let target = assign(alloc, p, &members, &granted)?;
-    withhold(alloc, &target, &granted)
+/// All that a completion needs, grown before anything changes.
+#[derive(Drop)]
+pub struct Prepared {
+    /// What each member is to keep.
+    pub next: PlaneRows,
+    /// Who takes each partition.
+    pub takers: Vec<Option<u32>>,
+    /// The moves that this makes.
+    pub moves: Vec<Move>,
 }
 
-/// What each present member is granted.
-fn granted_rows(alloc: Global, p: u32, slots: &[Slot]) -> Result<PlaneRows, Memory>
-    requires bounds { (1 ≤ p) × (p ≤ 4096) }
-    requires few { length slots.now ≤ 512 }
-    requires over { AreSeatsOver p slots.now }
-    ensures { IfOk result (λ rows. rows ≡ granted_in p slots.now) }
+/// What each member is to keep, by what each is granted: its sticky target, without what any other member is granted.
+pub fn next_rows(alloc: Global, granted: &PlaneRows) -> Result<PlaneRows, Memory>
+    requires { AreOwned granted.now }
+    ensures { IfOk result (λ rows. rows ≡ next_rows granted.now) }
 {
-    let mut rows = PlaneRows::new(alloc, p);
-    for (place, slot) in slots.iter().enumerate() {
-        if let Some(seat) = &slot.seat {
-            rows.put(place as u32 + 1, seat.granted.copy())?;
-        }
-    }
-    Ok(rows)
+    let members = numbers_of(alloc, granted)?;
+    let target = assign(alloc, granted.partitions(), &members, granted)?;
+    withhold(alloc, &target, granted)
 }
 
-/// The numbers of the present members, in rising order.
-fn numbers_of(alloc: Global, slots: &[Slot]) -> Result<Vec<u32>, Memory>
-    requires { length slots.now ≤ 512 }
-    ensures { IfOk result (λ numbers. numbers.items ≡ numbers_in slots.now) }
+/// The numbers of the members, in rising order.
+fn numbers_of(alloc: Global, granted: &PlaneRows) -> Result<Vec<u32>, Memory>
+    ensures { IfOk result (λ numbers. numbers.items ≡ members granted.now) }
 {
-    let mut numbers = Vec::new(alloc);
-    for (place, slot) in slots.iter().enumerate() {
-        if slot.seat.is_some() {
-            numbers.push(place as u32 + 1)?;
-        }
+    let rows = granted.rows();
+    let mut numbers = Vec::with_capacity(alloc, rows.len())?;
+    for (member, _) in rows {
+        numbers.push_reserved(*member);
     }
     Ok(numbers)
 }

@@ -1,39 +1,33 @@
 //! Who takes which partition at a completion, and the moves that it makes.
 
-ghost use Rattle.std.specs.Prelude.{◌≡◌, ◌^◌, ◌<◌, ◌≤◌, ℕ, Some, None, true, length, slice_index_or, IfOk, if◌then◌else◌, ◌&&◌, not};
+ghost use Rattle.std.specs.Prelude.{◌≡◌, ◌^◌, ◌+◌, ◌++◌, ◌<◌, ◌≤◌, ℕ, Some, None, true, length, slice_index_or, IfOk, if◌then◌else◌};
+ghost use Rattle.std.specs.Vec.{vec_len, vec_capacity};
 ghost use Rattle.bit_planes.specs.PartitionSet.{partitions, is_in};
 ghost use Rattle.bit_planes.specs.SetRows.{set_of};
-ghost use Rattle.group_machine.specs.Slots.{present};
-ghost use Rattle.group_machine.specs.Walks.{AreSeatsOver, taker_of, moves_by, last_by};
+ghost use Rattle.group_machine.specs.Walks.{taker_in, moves_by, last_by};
 
-use super::{Move, Slot};
+use super::Move;
 use bit_planes::{Plane, PlaneRows};
 use coop_rebalance::added;
 use lane_words::Memory;
 use std::alloc::Global;
 
-/// Who takes each partition below `p`, where the present members are given their rows: a member takes what is in its
-/// row and was not granted to it.
+/// Who takes each partition, where members that are granted these rows are given the next ones: a member takes what is
+/// in its next row and was not granted to it.
 pub fn takers_of(
     alloc: Global,
-    p: u32,
-    slots: &[Slot],
+    granted: &PlaneRows,
     next: &PlaneRows,
 ) -> Result<Vec<Option<u32>>, Memory>
-    requires below { next.now.below ≡ p }
-    requires few { length slots.now ≤ 512 }
-    requires over { AreSeatsOver p slots.now }
+    requires below { next.now.below ≡ granted.now.below }
     requires apart { (m n q : ℕ) → is_in (set_of next.now m) q ≡ true → is_in (set_of next.now n) q ≡ true → m ≡ n }
-    ensures takers { IfOk result (λ takers. (q : ℕ) → q < p → slice_index_or takers.items q None ≡ taker_of (present slots.now) next.now q) }
-    ensures long { IfOk result (λ takers. length takers.items ≡ p) }
+    ensures takers { IfOk result (λ takers. (q : ℕ) → q < granted.now.below → slice_index_or takers.items q None ≡ taker_in granted.now.rows next.now q) }
+    ensures long { IfOk result (λ takers. length takers.items ≡ granted.now.below) }
 {
-    let mut takers: Vec<Option<u32>> = vec![in alloc; None; p as usize]?;
-    for (place, slot) in slots.iter().enumerate() {
-        if let Some(seat) = &slot.seat {
-            let member = place as u32 + 1;
-            if let Some(row) = next.get(member) {
-                take_added(&mut takers, member, &added(row, &seat.granted));
-            }
+    let mut takers: Vec<Option<u32>> = vec![in alloc; None; granted.partitions() as usize]?;
+    for (member, plane) in granted.rows() {
+        if let Some(row) = next.get(*member) {
+            take_added(&mut takers, *member, &added(row, plane));
         }
     }
     Ok(takers)
@@ -86,5 +80,15 @@ pub fn hold(last: &mut [Option<u32>], takers: &[Option<u32>])
         if let Some(holder) = taker {
             last[partition] = Some(*holder);
         }
+    }
+}
+
+/// Puts moves after those so far, for which there is room.
+pub fn append(moves: &mut Vec<Move>, new: &[Move])
+    requires { vec_len moves.old + length new.now ≤ vec_capacity moves.old }
+    ensures { moves.new.items ≡ moves.old.items ++ new.now }
+{
+    for made in new {
+        moves.push_reserved(*made);
     }
 }

@@ -1,9 +1,9 @@
 //! Members by their numbers: slot k is of member number k + 1.
 
-ghost use Rattle.std.specs.Prelude.{◌≡◌, ◌&&◌, ◌<◌, ◌≤◌, Some, None, MatchOption, true, length, is_some, if◌then◌else◌, ℕ};
+ghost use Rattle.std.specs.Prelude.{◌≡◌, Some, None, MatchOption, true, is_some, if◌then◌else◌, ℕ};
 ghost use Rattle.std.specs.List.{list_any, list_all};
 ghost use Rattle.std.specs.Str.{bytes_eq};
-ghost use Rattle.group_machine.specs.Slots.{on_seat, seat_of, present, with_seat, one_changed};
+ghost use Rattle.group_machine.specs.Slots.{seat_of, one_changed, without_seat};
 ghost use Rattle.group_machine.specs.Steps.{rejoined_seat, synced_seat};
 ghost use Rattle.group_machine.specs.Rounds.{agrees};
 ghost use Rattle.group_machine.specs.Walks.{AreSeatsOver, out_or};
@@ -34,37 +34,23 @@ pub fn is_present(slots: &[Slot], member: u32) -> bool
     seat_of(slots, member).is_some()
 }
 
-/// Puts a seat, or none, for a member that was given a number, and answers the one before.
-pub fn put_seat(slots: &mut [Slot], member: u32, seat: Option<Seat>) -> Option<Seat>
-    requires given { (0 < member) × (member ≤ length slots.old) }
-    ensures put { slots.new ≡ with_seat slots.old member seat }
-    ensures before { result ≡ seat_of slots.old member }
-{
-    std::mem::replace(&mut slots[member as usize - 1].seat, seat)
-}
-
-/// A present member gives up what it is not to keep, and joins. Answers its seat before.
-pub fn begin_rejoin(slots: &mut [Slot], member: u32) -> Option<Seat>
+/// A present member gives up what it is not to keep, and joins.
+pub fn rejoin(slots: &mut [Slot], member: u32)
     requires { is_some (seat_of slots.old member) ≡ true }
-    ensures joined { slots.new ≡ one_changed rejoined_seat slots.old member }
-    ensures before { result ≡ seat_of slots.old member }
-    ensures given { (0 < member) × (member ≤ length slots.old) }
+    ensures { slots.new ≡ one_changed rejoined_seat slots.old member }
 {
-    let seat = put_seat(slots, member, None);
-    let joined = rejoined(&seat);
-    put_seat(slots, member, joined);
-    seat
+    if let Some(seat) = &mut slots[member as usize - 1].seat {
+        seat.joined = true;
+        seat.granted = seat.assigned.copy();
+    }
 }
 
-fn rejoined(seat: &Option<Seat>) -> Option<Seat>
-    ensures { result ≡ on_seat rejoined_seat seat.now }
+/// A present member is taken out with its sets.
+pub fn remove(slots: &mut [Slot], member: u32)
+    requires { is_some (seat_of slots.old member) ≡ true }
+    ensures { slots.new ≡ without_seat slots.old member }
 {
-    seat.as_ref().map(|seat| Seat {
-        joined: true,
-        synced: seat.synced,
-        granted: seat.assigned.copy(),
-        assigned: seat.assigned.copy(),
-    })
+    slots[member as usize - 1].seat = None;
 }
 
 /// A present member has synced.
@@ -93,23 +79,6 @@ pub fn phase_left(slots: &[Slot]) -> Phase
     } else {
         Phase::Empty
     }
-}
-
-/// Whether all who are present have joined.
-fn all_joined(slots: &[Slot]) -> bool
-    ensures { result ≡ list_all (λ s. out_or (λ seat. seat.joined) s.seat) slots.now }
-{
-    slots.iter().all(|slot| match &slot.seat {
-        Some(seat) => seat.joined,
-        None => true,
-    })
-}
-
-/// Whether somebody is present, and all who are have joined.
-pub fn is_ready(slots: &[Slot]) -> bool
-    ensures { result ≡ (list_any (λ s. is_some s.seat) slots.now && list_all (λ m. m.1.joined) (present slots.now)) }
-{
-    is_anybody(slots) && all_joined(slots)
 }
 
 /// Whether nobody has anything to give up.

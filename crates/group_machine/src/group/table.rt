@@ -1,20 +1,23 @@
 //! What a group holds, and its steps.
 
-ghost use Rattle.std.specs.Prelude.{◌≡◌, ◌<◌, ◌≤◌, true, length, is_some, IfOk, IfErr, OnOk, OnErr, MatchOption, Ok, Err, Some, None};
+ghost use Rattle.std.specs.Prelude.{◌≡◌, ◌+◌, ◌<◌, ◌≤◌, ℕ, List, true, length, IfOk, IfErr, OnOk, OnErr, Ok, Err, Some, None};
 ghost use Rattle.lane_words.specs.Answers.{Answers};
 ghost use Rattle.bit_planes.specs.PartitionSet.{is_same};
 ghost use Rattle.group_machine.specs.State.{assigned_of, opening, is_present, member_of, is_anybody};
 ghost use Rattle.group_machine.specs.Completion.{complete, completed, last_generation};
+ghost use Rattle.group_machine.specs.Changes.{after, IsPrepared, IsPlanned, IsRefused};
+ghost use Rattle.group_machine.specs.declared.group.completion.Prepared.{Prepared};
+ghost use Rattle.std.specs.Vec.{vec_len, vec_capacity};
 ghost use Rattle.group_machine.specs.Rounds.{is_settled, is_stable};
-ghost use Rattle.group_machine.specs.Steps.{newcomer, unless_over, join_answer, joined_by, rejoin_refusal, rejoin_answer, rejoined_by, sync_answer, synced_by, leave_answer, left_by};
+ghost use Rattle.group_machine.specs.Steps.{newcomer, join_answer, joined_by, rejoin_refusal, rejoin_answer, rejoined_by, sync_answer, synced_by, leave_answer, left_by};
 ghost use Rattle.group_machine.specs.Good.{IsSound, IsGood};
 ghost use Rattle.group_machine.specs.Shown.{state_of};
 
-use super::completion::{give, next_rows};
-use super::moves::{hold, moves_of, takers_of};
+use super::change::{Change, granted_rows, is_ready_after};
+use super::completion::{Prepared, give, next_rows};
+use super::moves::{append, hold, moves_of, takers_of};
 use super::slots::{
-    all_agree, begin_rejoin, is_present, is_ready, is_used, mark_synced, phase_left, put_seat,
-    seat_of,
+    all_agree, is_present, is_used, mark_synced, phase_left, rejoin, remove, seat_of,
 };
 use super::{Move, Phase, Seat, Slot};
 use crate::Name;
@@ -60,41 +63,73 @@ impl Table {
         is_stable(self.phase) && all_agree(&self.slots)
     }
 
-    /// The next generation.
-    fn complete(&mut self, alloc: Global) -> Result<(), Memory>
-        requires sound { IsSound (state_of self.old) }
-        requires some { is_anybody (state_of self.old) ≡ true }
-        requires more { self.old.generation < last_generation }
-        ensures ok { OnOk result (state_of self.new ≡ complete (state_of self.old)) }
-        ensures err { OnErr result (state_of self.new ≡ state_of self.old) }
+    /// The completion that comes after a change, if one does: all that it needs is grown here, with room for its moves,
+    /// and nothing is changed. Refused, in this order: a completion past the last generation (`GenerationsOver`); want
+    /// of memory.
+    fn prepare(&mut self, alloc: Global, change: Change) -> Result<Option<Prepared>, Refusal>
+        requires good { IsGood (state_of self.old) }
+        requires sound { (name : List ℕ) → IsSound (after change name (state_of self.old)) }
+        ensures ok { (name : List ℕ) → IfOk result (IsPlanned (after change name (state_of self.old))) }
+        ensures room { IfOk result (λ planned. (a : Prepared) → planned ≡ Some a → vec_len self.new.moves + length a.moves.items ≤ vec_capacity self.new.moves) }
+        ensures err { (name : List ℕ) → IfErr result (IsRefused (after change name (state_of self.old))) }
+        ensures same { state_of self.new ≡ state_of self.old }
     {
-        let next = next_rows(alloc, self.partitions, &self.slots)?;
-        let takers = takers_of(alloc, self.partitions, &self.slots, &next)?;
-        let generation = self.generation + 1;
-        let moves = moves_of(alloc, generation, &takers, &self.last)?;
-        self.moves.extend_from_slice(&moves)?;
-        hold(&mut self.last, &takers);
-        give(&mut self.slots, &next);
-        self.generation = generation;
-        self.phase = Phase::Stable;
-        Ok(())
-    }
-
-    /// The next generation, where somebody is present and all who are have joined.
-    fn complete_if_ready(&mut self, alloc: Global) -> Result<(), Refusal>
-        requires { IsSound (state_of self.old) }
-        ensures answer { Answers (unless_over (state_of self.old) tt) result }
-        ensures ok { OnOk result (state_of self.new ≡ completed (state_of self.old)) }
-        ensures err { OnErr result (state_of self.new ≡ state_of self.old) }
-    {
-        if !is_ready(&self.slots) {
-            return Ok(());
+        if !is_ready_after(&self.slots, change) {
+            return Ok(None);
         }
         if self.generation == u32::MAX {
             return Err(Refusal::GenerationsOver);
         }
-        self.complete(alloc)?;
-        Ok(())
+        let prepared = self.plan(alloc, change)?;
+        self.moves.reserve(prepared.moves.len())?;
+        Ok(Some(prepared))
+    }
+
+    /// The completion after a change.
+    fn plan(&self, alloc: Global, change: Change) -> Result<Prepared, Memory>
+        requires good { IsGood (state_of self.now) }
+        requires sound { (name : List ℕ) → IsSound (after change name (state_of self.now)) }
+        requires some { (name : List ℕ) → is_anybody (after change name (state_of self.now)) ≡ true }
+        requires more { self.now.generation < last_generation }
+        ensures { (name : List ℕ) → IfOk result (λ a. IsPrepared (after change name (state_of self.now)) a.next a.takers.items a.moves.items) }
+    {
+        let granted = granted_rows(alloc, self.partitions, &self.slots, change)?;
+        let next = next_rows(alloc, &granted)?;
+        let takers = takers_of(alloc, &granted, &next)?;
+        let moves = moves_of(alloc, self.generation + 1, &takers, &self.last)?;
+        Ok(Prepared {
+            next,
+            takers,
+            moves,
+        })
+    }
+
+    /// The next generation, where one was prepared for this state. It takes no memory.
+    fn finish(&mut self, planned: Option<Prepared>)
+        requires sound { IsSound (state_of self.old) }
+        requires planned { IsPlanned (state_of self.old) planned }
+        requires room { (a : Prepared) → planned ≡ Some a → vec_len self.old.moves + length a.moves.items ≤ vec_capacity self.old.moves }
+        ensures { state_of self.new ≡ completed (state_of self.old) }
+    {
+        if let Some(prepared) = planned {
+            self.apply(&prepared);
+        }
+    }
+
+    /// The next generation, which was prepared for this state. It takes no memory.
+    fn apply(&mut self, prepared: &Prepared)
+        requires sound { IsSound (state_of self.old) }
+        requires more { self.old.generation < last_generation }
+        requires prepared { IsPrepared (state_of self.old) prepared.now.next prepared.now.takers.items prepared.now.moves.items }
+        requires room { vec_len self.old.moves + length prepared.now.moves.items ≤ vec_capacity self.old.moves }
+        requires some { is_anybody (state_of self.old) ≡ true }
+        ensures { state_of self.new ≡ complete (state_of self.old) }
+    {
+        append(&mut self.moves, &prepared.moves);
+        hold(&mut self.last, &prepared.takers);
+        give(&mut self.slots, &prepared.next);
+        self.generation += 1;
+        self.phase = Phase::Stable;
     }
 
     pub fn join(&mut self, alloc: Global, name: Name) -> Result<u32, Refusal>
@@ -109,18 +144,13 @@ impl Table {
         if self.slots.len() >= MOST_MEMBERS {
             return Err(Refusal::TooManyMembers);
         }
-        self.slots.push(newcomer(self.partitions, name))?;
-        let number = self.slots.len() as u32;
-        let before = self.phase;
+        let number = self.slots.len() as u32 + 1;
+        let planned = self.prepare(alloc, Change::Joins)?;
+        self.slots.reserve(1)?;
+        self.slots.push_reserved(newcomer(self.partitions, name));
         self.phase = Phase::Preparing;
-        match self.complete_if_ready(alloc) {
-            Ok(()) => Ok(number),
-            Err(why) => {
-                self.slots.pop();
-                self.phase = before;
-                Err(why)
-            }
-        }
+        self.finish(planned);
+        Ok(number)
     }
 
     pub fn rejoin(
@@ -138,17 +168,11 @@ impl Table {
         if let Some(why) = self.why_no_rejoin(member, generation, claim) {
             return Err(why);
         }
-        let seat = begin_rejoin(&mut self.slots, member);
-        let before = self.phase;
+        let planned = self.prepare(alloc, Change::Rejoins(member))?;
+        rejoin(&mut self.slots, member);
         self.phase = Phase::Preparing;
-        match self.complete_if_ready(alloc) {
-            Ok(()) => Ok(()),
-            Err(why) => {
-                put_seat(&mut self.slots, member, seat);
-                self.phase = before;
-                Err(why)
-            }
-        }
+        self.finish(planned);
+        Ok(())
     }
 
     /// Why a rejoin is refused, but for the last generation.
@@ -207,17 +231,11 @@ impl Table {
         if !is_present(&self.slots, member) {
             return Err(Refusal::UnknownMember);
         }
-        let seat = put_seat(&mut self.slots, member, None);
-        let before = self.phase;
+        let planned = self.prepare(alloc, Change::Leaves(member))?;
+        remove(&mut self.slots, member);
         self.phase = phase_left(&self.slots);
-        match self.complete_if_ready(alloc) {
-            Ok(()) => Ok(()),
-            Err(why) => {
-                put_seat(&mut self.slots, member, seat);
-                self.phase = before;
-                Err(why)
-            }
-        }
+        self.finish(planned);
+        Ok(())
     }
 }
 

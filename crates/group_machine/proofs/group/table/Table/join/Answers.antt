@@ -1,14 +1,14 @@
-use Rattle.std.proofs.Common.{◌∙◌, ◌+◌, ◌≡◌, ◌<◌, ◌∷◌, ◌++◌, [], ℕ, List, Result, Ok, Err, ap, sym, subst, length, arith, inl, true, false}
+use Rattle.std.proofs.Common.{rules, ◌∙◌, ◌+◌, ◌≡◌, ◌<◌, ◌∷◌, ◌++◌, [], ℕ, Result, Ok, Err, ap, sym, subst, length, arith, inl, true, false}
 use Rattle.lane_words.specs.Answers.{Answers}
 use Rattle.lane_words.specs.declared.Refusal.{Refusal}
-use Rattle.group_machine.specs.declared.group.Slot.{Slot}
 use Rattle.group_machine.specs.declared.group.Phase.TheVariants.{Preparing}
 use Rattle.group_machine.specs.State.{GroupState}
-use Rattle.group_machine.specs.Steps.{is_name_used, joining, unless_over, most_members}
+use Rattle.group_machine.specs.Steps.{is_name_used, newcomer, joining, join_answer, most_members}
 use Rattle.group_machine.specs.Good.{IsSound}
+use Rattle.group_machine.specs.Changes.{IsPlanned}
 use Rattle.group_machine.specs.Shown.{state_of}
 use Rattle.group_machine.proofs.StepLemmas.{joining_next}
-use Rattle.group_machine.proofs.TableLemmas.{used_answer, many_answer, join_go, answer_ok, answer_err, next_sound, with_phase}
+use Rattle.group_machine.proofs.TableLemmas.{used_answer, many_answer, join_go, refused_answer, planned_answer, next_sound, with_phase}
 use Rattle.group_machine.proofs.group.table.Table.join.Goals as goal
 
 pub returns-then-is_used-clause-answer : goal.returns-then-is_used-clause-answer
@@ -23,29 +23,42 @@ returns-then-len-ge-MOST_MEMBERS-clause-answer c =
     let fresh : is_name_used g c.args.name ≡ false = ap (λ slots. is_name_used (record g { slots = slots }) c.args.name) (sym c.deref.ensures.value) ∙ sym c.is_used.ensures ∙ c.if-is_used.false in
     inl (many_answer g c.args.name fresh (omega (arith, c.if-len-ge-MOST_MEMBERS.true, c.len.ensures, c.deref.ensures.len, ap length c.deref.ensures.value)))
 
-pub complete_if_ready-requires : goal.complete_if_ready-requires
-complete_if_ready-requires c =
+pub prepare-requires-clause-sound : goal.prepare-requires-clause-sound
+prepare-requires-clause-sound c name =
     let g : GroupState = state_of c.args.self.now in
-    let slots = c.in_ok-push.ensures.items ∙ ap (λ s. g.slots ++ s ∷ []) c.newcomer.ensures in
     let room : length g.slots < most_members = omega (arith, c.if-len-ge-MOST_MEMBERS.false, c.len.ensures, c.deref.ensures.len, ap length c.deref.ensures.value) in
-    subst (λ (s : List Slot). IsSound (with_phase g Preparing s)) (sym slots) (next_sound (joining g c.args.name) (joining_next g c.args.name c.requires room))
+    next_sound (joining g name) (joining_next g name c.requires room)
 
-pub returns-in-Ok-clause-answer : goal.returns-in-Ok-clause-answer
-returns-in-Ok-clause-answer c =
+pub returns-in_err-planned-clause-answer : goal.returns-in_err-planned-clause-answer
+returns-in_err-planned-clause-answer c =
     let g : GroupState = state_of c.args.self.now in
-    let slots = c.in_ok-push.ensures.items ∙ ap (λ s. g.slots ++ s ∷ []) c.newcomer.ensures in
-    let during = ap (with_phase g Preparing) slots in
     let fresh : is_name_used g c.args.name ≡ false = ap (λ slots. is_name_used (record g { slots = slots }) c.args.name) (sym c.deref.ensures.value) ∙ sym c.is_used.ensures ∙ c.if-is_used.false in
     let room : length g.slots < most_members = omega (arith, c.if-len-ge-MOST_MEMBERS.false, c.len.ensures, c.deref.ensures.len, ap length c.deref.ensures.value) in
-    let number : c.len-number.result ≡ length g.slots + 1 = omega (arith, c.len-number.ensures, c.in_ok-push.ensures.len, c.deref.ensures.len, ap length c.deref.ensures.value) in
-    inl (ap (λ (n : ℕ). Ok n) number ∙ answer_ok (with_phase g Preparing c.push.new.self.items) (length g.slots + 1) c.in-Ok.ensures.answer ∙ ap (λ h. unless_over h (length g.slots + 1)) during ∙ sym (join_go g c.args.name fresh room))
+    let same : c.from_residual.result ≡ Err c.in_err-planned.field-0.0 = search rules in
+    subst (λ (answer : Result ℕ Refusal). Answers (join_answer g c.args.name) answer) (sym same)
+    (subst (λ (expected : Result ℕ Refusal). Answers expected (Err c.in_err-planned.field-0.0)) (sym (join_go g c.args.name fresh room)) (refused_answer (joining g c.args.name) (length g.slots + 1) c.in_err-planned.field-0.0 (c.in_err-planned.ensures.err c.args.name)))
 
-pub returns-in-Err-clause-answer : goal.returns-in-Err-clause-answer
-returns-in-Err-clause-answer c =
+pub finish-requires-clause-sound : goal.finish-requires-clause-sound
+finish-requires-clause-sound c =
     let g : GroupState = state_of c.args.self.now in
-    let slots = c.in_ok-push.ensures.items ∙ ap (λ s. g.slots ++ s ∷ []) c.newcomer.ensures in
-    let during = ap (with_phase g Preparing) slots in
+    let same : state_of c.prepare.new.self ≡ g = c.prepare.ensures.same in
+    let slots = c.push_reserved.ensures.items ∙ ap (λ s. s ++ c.newcomer.result ∷ []) (c.reserve.ensures.items ∙ ap (λ a. a.slots) same) ∙ ap (λ s. g.slots ++ s ∷ []) (c.newcomer.ensures ∙ ap (λ a. newcomer a.partitions c.args.name) same) in
+    let during = ap (λ a. with_phase a Preparing c.push_reserved.new.self.items) same ∙ ap (with_phase g Preparing) slots in
+    let room : length g.slots < most_members = omega (arith, c.if-len-ge-MOST_MEMBERS.false, c.len.ensures, c.deref.ensures.len, ap length c.deref.ensures.value) in
+    subst IsSound (sym during) (next_sound (joining g c.args.name) (joining_next g c.args.name c.requires room))
+
+pub finish-requires-clause-planned : goal.finish-requires-clause-planned
+finish-requires-clause-planned c =
+    let g : GroupState = state_of c.args.self.now in
+    let same : state_of c.prepare.new.self ≡ g = c.prepare.ensures.same in
+    let slots = c.push_reserved.ensures.items ∙ ap (λ s. s ++ c.newcomer.result ∷ []) (c.reserve.ensures.items ∙ ap (λ a. a.slots) same) ∙ ap (λ s. g.slots ++ s ∷ []) (c.newcomer.ensures ∙ ap (λ a. newcomer a.partitions c.args.name) same) in
+    let during = ap (λ a. with_phase a Preparing c.push_reserved.new.self.items) same ∙ ap (with_phase g Preparing) slots in
+    subst (λ (h : GroupState). IsPlanned h c.in_ok-planned.planned) (sym during) (c.in_ok-planned.ensures.ok c.args.name)
+
+pub returns-clause-answer : goal.returns-clause-answer
+returns-clause-answer c =
+    let g : GroupState = state_of c.args.self.now in
     let fresh : is_name_used g c.args.name ≡ false = ap (λ slots. is_name_used (record g { slots = slots }) c.args.name) (sym c.deref.ensures.value) ∙ sym c.is_used.ensures ∙ c.if-is_used.false in
     let room : length g.slots < most_members = omega (arith, c.if-len-ge-MOST_MEMBERS.false, c.len.ensures, c.deref.ensures.len, ap length c.deref.ensures.value) in
-    subst (λ (expected : Result ℕ Refusal). Answers expected (Err c.in-Err.why)) (ap (λ h. unless_over h (length g.slots + 1)) during ∙ sym (join_go g c.args.name fresh room))
-    (answer_err (with_phase g Preparing c.push.new.self.items) (length g.slots + 1) c.in-Err.why c.in-Err.ensures.answer)
+    let number : c.len-2.result + 1 ≡ length g.slots + 1 = omega (arith, c.len-2.ensures, c.deref.ensures.len, ap length c.deref.ensures.value) in
+    inl (ap (λ (n : ℕ). Ok n) number ∙ planned_answer (joining g c.args.name) (length g.slots + 1) c.in_ok-planned.planned (c.in_ok-planned.ensures.ok c.args.name) ∙ sym (join_go g c.args.name fresh room))

@@ -1,45 +1,56 @@
-use Rattle.std.proofs.Common.{◌∙◌, ◌≡◌, List, None, ap, sym, subst, length, arith, true, is_some}
+use Rattle.std.proofs.Common.{rules, ◌∙◌, ◌≡◌, [], None, Result, Err, ap, sym, subst, length, inl, true, is_some}
 use Rattle.std.proofs.lemmas.List.{with_items_is}
 use Rattle.std.specs.Vec.{with_items}
-use Rattle.group_machine.specs.declared.group.Slot.{Slot}
-use Rattle.group_machine.specs.declared.group.Phase.{Phase}
-use Rattle.group_machine.specs.Slots.{seat_of, with_seat, without_seat, only_of}
+use Rattle.lane_words.specs.Answers.{Answers}
+use Rattle.lane_words.specs.declared.Refusal.{Refusal}
+use Rattle.group_machine.specs.Slots.{seat_of, without_seat, only_of}
 use Rattle.group_machine.specs.State.{GroupState, is_present}
+use Rattle.group_machine.specs.Steps.{leaving, left, leave_answer}
 use Rattle.group_machine.specs.Good.{IsSound}
+use Rattle.group_machine.specs.Changes.{IsPlanned}
 use Rattle.group_machine.specs.Shown.{state_of}
-use Rattle.group_machine.proofs.SlotsLemmas.{without_back, number_given}
 use Rattle.group_machine.proofs.PresentLemmas.{length_reseated}
-use Rattle.group_machine.specs.Steps.{leaving, left}
 use Rattle.group_machine.proofs.StepLemmas.{leaving_next}
-use Rattle.group_machine.proofs.TableLemmas.{next_sound, with_phase, back}
+use Rattle.group_machine.proofs.TableLemmas.{next_sound, with_phase, leave_go, refused_answer, planned_answer}
 use Rattle.group_machine.proofs.group.table.Table.leave.Goals as goal
 
-pub complete_if_ready-requires : goal.complete_if_ready-requires
-complete_if_ready-requires c =
+pub prepare-requires-clause-sound : goal.prepare-requires-clause-sound
+prepare-requires-clause-sound c name =
     let g : GroupState = state_of c.args.self.now in
     let here : is_present g c.args.member ≡ true = ap (λ slots. is_some (seat_of slots c.args.member)) (sym c.deref.ensures.value) ∙ sym c.is_present.ensures ∙ c.if-not-is_present.false in
-    let out : c.put_seat-seat.new.slots ≡ without_seat g.slots c.args.member = c.put_seat-seat.ensures.put ∙ ap (λ slots. without_seat slots c.args.member) c.deref_mut.ensures.value in
-    let items = with_items_is c.args.self.now.slots c.put_seat-seat.new.slots (ap length c.put_seat-seat.ensures.put ∙ length_reseated (only_of c.args.member (λ before. None)) c.deref_mut.result.now ∙ c.deref_mut.ensures.len) in
-    let phase = c.phase_left-self.ensures ∙ ap (λ slots. (left g slots).phase) (c.deref-2.ensures.value ∙ items ∙ out) in
-    subst (λ (p : Phase). IsSound (with_phase g p (with_items c.args.self.now.slots c.put_seat-seat.new.slots).items)) (sym phase) (subst (λ (slots : List Slot). IsSound (with_phase g (leaving g c.args.member).phase slots)) (sym (items ∙ out)) (next_sound (leaving g c.args.member) (leaving_next g c.args.member c.requires here)))
+    next_sound (leaving g c.args.member) (leaving_next g c.args.member c.requires here)
 
-pub put_seat-requires : goal.put_seat-requires
-put_seat-requires c =
+pub returns-in_err-planned-clause-answer : goal.returns-in_err-planned-clause-answer
+returns-in_err-planned-clause-answer c =
     let g : GroupState = state_of c.args.self.now in
     let here : is_present g c.args.member ≡ true = ap (λ slots. is_some (seat_of slots c.args.member)) (sym c.deref.ensures.value) ∙ sym c.is_present.ensures ∙ c.if-not-is_present.false in
-    let given = number_given g.slots c.args.member here in
-    let long = ap length c.put_seat-seat.ensures.put ∙ length_reseated (only_of c.args.member (λ before. None)) c.deref_mut.result.now in
-    let items = with_items_is c.args.self.now.slots c.put_seat-seat.new.slots (long ∙ c.deref_mut.ensures.len) in
-    let same : length c.deref_mut-in-Err.result.now ≡ length g.slots = ap length c.deref_mut-in-Err.ensures.value ∙ ap (λ h. length h.slots) c.in-Err.ensures.err ∙ ap length items ∙ long ∙ ap length c.deref_mut.ensures.value in
-    record { given = (given.0, omega (arith, given.1, same)) }
+    let same : c.from_residual.result ≡ Err c.in_err-planned.field-0.0 = search rules in
+    subst (λ (answer : Result (Unit {0}) Refusal). Answers (leave_answer g c.args.member) answer) (sym same)
+    (subst (λ (expected : Result (Unit {0}) Refusal). Answers expected (Err c.in_err-planned.field-0.0)) (sym (leave_go g c.args.member here)) (refused_answer (leaving g c.args.member) tt c.in_err-planned.field-0.0 (c.in_err-planned.ensures.err [])))
 
-pub returns-in-Err-clause-err : goal.returns-in-Err-clause-err
-returns-in-Err-clause-err c =
+pub finish-requires-clause-sound : goal.finish-requires-clause-sound
+finish-requires-clause-sound c =
     let g : GroupState = state_of c.args.self.now in
-    let items = with_items_is c.args.self.now.slots c.put_seat-seat.new.slots (ap length c.put_seat-seat.ensures.put ∙ length_reseated (only_of c.args.member (λ before. None)) c.deref_mut.result.now ∙ c.deref_mut.ensures.len) in
-    let out = items ∙ c.put_seat-seat.ensures.put ∙ ap (λ slots. without_seat slots c.args.member) c.deref_mut.ensures.value in
-    let same = ap (λ h. h.slots) c.in-Err.ensures.err ∙ out in
-    let seat = c.put_seat-seat.ensures.before ∙ ap (λ s. seat_of s c.args.member) c.deref_mut.ensures.value in
-    let put = c.put_seat.ensures.put ∙ ap (λ o. with_seat c.deref_mut-in-Err.result.now c.args.member o) seat ∙ ap (λ s. with_seat s c.args.member (seat_of g.slots c.args.member)) (c.deref_mut-in-Err.ensures.value ∙ same) ∙ without_back g.slots c.args.member in
-    let long = ap length c.put_seat.ensures.put ∙ length_reseated _ c.deref_mut-in-Err.result.now ∙ c.deref_mut-in-Err.ensures.len in
-    back g (state_of c.complete_if_ready.new.self) _ _ _ c.in-Err.ensures.err (with_items_is c.complete_if_ready.new.self.slots c.put_seat.new.slots long ∙ put)
+    let here : is_present g c.args.member ≡ true = ap (λ slots. is_some (seat_of slots c.args.member)) (sym c.deref.ensures.value) ∙ sym c.is_present.ensures ∙ c.if-not-is_present.false in
+    let same : state_of c.prepare.new.self ≡ g = c.prepare.ensures.same in
+    let items = with_items_is c.prepare.new.self.slots c.remove.new.slots (ap length c.remove.ensures ∙ length_reseated (only_of c.args.member (λ before. None)) c.deref_mut.result.now ∙ c.deref_mut.ensures.len) in
+    let slots = items ∙ c.remove.ensures ∙ ap (λ s. without_seat s c.args.member) (c.deref_mut.ensures.value ∙ ap (λ a. a.slots) same) in
+    let phase = c.phase_left-self.ensures ∙ ap (λ s. (left g s).phase) (c.deref-2.ensures.value ∙ slots) in
+    let during = ap (λ a. with_phase a c.phase_left-self.result (with_items c.prepare.new.self.slots c.remove.new.slots).items) same ∙ ap (with_phase g c.phase_left-self.result) slots ∙ ap (λ p. with_phase g p (without_seat g.slots c.args.member)) phase in
+    subst IsSound (sym during) (next_sound (leaving g c.args.member) (leaving_next g c.args.member c.requires here))
+
+pub finish-requires-clause-planned : goal.finish-requires-clause-planned
+finish-requires-clause-planned c =
+    let g : GroupState = state_of c.args.self.now in
+    let same : state_of c.prepare.new.self ≡ g = c.prepare.ensures.same in
+    let items = with_items_is c.prepare.new.self.slots c.remove.new.slots (ap length c.remove.ensures ∙ length_reseated (only_of c.args.member (λ before. None)) c.deref_mut.result.now ∙ c.deref_mut.ensures.len) in
+    let slots = items ∙ c.remove.ensures ∙ ap (λ s. without_seat s c.args.member) (c.deref_mut.ensures.value ∙ ap (λ a. a.slots) same) in
+    let phase = c.phase_left-self.ensures ∙ ap (λ s. (left g s).phase) (c.deref-2.ensures.value ∙ slots) in
+    let during = ap (λ a. with_phase a c.phase_left-self.result (with_items c.prepare.new.self.slots c.remove.new.slots).items) same ∙ ap (with_phase g c.phase_left-self.result) slots ∙ ap (λ p. with_phase g p (without_seat g.slots c.args.member)) phase in
+    subst (λ (h : GroupState). IsPlanned h c.in_ok-planned.planned) (sym during) (c.in_ok-planned.ensures.ok [])
+
+pub returns-clause-answer : goal.returns-clause-answer
+returns-clause-answer c =
+    let g : GroupState = state_of c.args.self.now in
+    let here : is_present g c.args.member ≡ true = ap (λ slots. is_some (seat_of slots c.args.member)) (sym c.deref.ensures.value) ∙ sym c.is_present.ensures ∙ c.if-not-is_present.false in
+    inl (planned_answer (leaving g c.args.member) tt c.in_ok-planned.planned (c.in_ok-planned.ensures.ok []) ∙ sym (leave_go g c.args.member here))

@@ -1,0 +1,8 @@
+use Rattle.std.proofs.Common.{◌≡◌, take}
+use Rattle.group_machine.specs.Slots.{reseated_from}
+use Rattle.group_machine.specs.Walks.{granted_in}
+use Rattle.group_machine.specs.Changes.{seat_after}
+use Rattle.group_machine.proofs.group.change.granted_rows.Given as goal
+
+abbrev pub invariant-loop-place : goal.invariant-loop-place
+invariant-loop-place l = l.rows ≡ granted_in l.p (take l.place (reseated_from 1 (seat_after l.change) l.slots))

@@ -1,0 +1,54 @@
+use Rattle.std.proofs.Common.{◌∙◌, ◌≡◌, ◌+◌, ◌<◌, ℕ, List, [], None, ap, sym, subst, length, get_or, arith}
+use Rattle.bit_planes.specs.SetRows.{SetRows}
+use Rattle.coop_rebalance.specs.Rounds.{next_rows}
+use Rattle.group_machine.specs.declared.group.Slot.{Slot}
+use Rattle.group_machine.specs.State.{GroupState, granted_rows}
+use Rattle.group_machine.specs.Moves.{taker}
+use Rattle.group_machine.specs.Walks.{AreSeatsOver, AreOwned, granted_in, taker_in, moves_by}
+use Rattle.group_machine.specs.Changes.{slots_after, after}
+use Rattle.group_machine.specs.Shown.{state_of}
+use Rattle.group_machine.proofs.TableLemmas.{seats_over, owned_rows, rows_below, rows_apart, taker_is, moves_are}
+use Rattle.group_machine.proofs.group.table.Table.plan.Goals as goal
+
+pub granted_rows-requires-clause-over : goal.granted_rows-requires-clause-over
+granted_rows-requires-clause-over c = subst (λ (slots : List Slot). AreSeatsOver c.args.self.now.partitions slots) (sym c.deref.ensures.value) (seats_over (state_of c.args.self.now) c.requires.good.fit)
+
+pub next_rows-requires : goal.next_rows-requires
+next_rows-requires c =
+    let g : GroupState = after c.args.change [] (state_of c.args.self.now) in
+    let is : c.in_ok-granted.granted ≡ granted_rows g = c.in_ok-granted.ensures [] ∙ ap (λ slots. granted_in g.partitions (slots_after g.partitions [] c.args.change slots)) c.deref.ensures.value in
+    subst AreOwned (sym is) (owned_rows g (c.requires.sound []) (c.requires.some []))
+
+pub takers_of-requires-clause-below : goal.takers_of-requires-clause-below
+takers_of-requires-clause-below c =
+    let g : GroupState = after c.args.change [] (state_of c.args.self.now) in
+    let is : c.in_ok-granted.granted ≡ granted_rows g = c.in_ok-granted.ensures [] ∙ ap (λ slots. granted_in g.partitions (slots_after g.partitions [] c.args.change slots)) c.deref.ensures.value in
+    rows_below g c.in_ok-next.next (c.requires.sound []) (c.requires.some []) (c.in_ok-next.ensures ∙ ap next_rows is) ∙ sym (ap (λ r. r.below) is)
+
+pub takers_of-requires-clause-apart : goal.takers_of-requires-clause-apart
+takers_of-requires-clause-apart c =
+    let g : GroupState = after c.args.change [] (state_of c.args.self.now) in
+    let is : c.in_ok-granted.granted ≡ granted_rows g = c.in_ok-granted.ensures [] ∙ ap (λ slots. granted_in g.partitions (slots_after g.partitions [] c.args.change slots)) c.deref.ensures.value in
+    rows_apart g c.in_ok-next.next (c.requires.sound []) (c.requires.some []) (c.in_ok-next.ensures ∙ ap next_rows is)
+
+pub moves_of-requires-clause-long : goal.moves_of-requires-clause-long
+moves_of-requires-clause-long c =
+    let g : GroupState = after c.args.change [] (state_of c.args.self.now) in
+    let is : c.in_ok-granted.granted ≡ granted_rows g = c.in_ok-granted.ensures [] ∙ ap (λ slots. granted_in g.partitions (slots_after g.partitions [] c.args.change slots)) c.deref.ensures.value in
+    ap length c.deref-2.ensures.value ∙ c.in_ok-takers.ensures.long ∙ ap (λ r. r.below) is ∙ sym c.requires.good.sized.a_holder_each ∙ sym (ap length c.deref-3.ensures.value)
+
+pub returns : goal.returns
+returns c name =
+    let g : GroupState = after c.args.change name (state_of c.args.self.now) in
+    let next : SetRows = c.in_ok-next.next in
+    let takers = c.in_ok-takers.takers.items in
+    let is : c.in_ok-granted.granted ≡ granted_rows g = c.in_ok-granted.ensures name ∙ ap (λ slots. granted_in g.partitions (slots_after g.partitions name c.args.change slots)) c.deref.ensures.value in
+    let long : length takers ≡ g.partitions = c.in_ok-takers.ensures.long ∙ ap (λ r. r.below) is in
+    let taken : (q : ℕ) → q < g.partitions → get_or takers q None ≡ taker g next q = λ q lt.
+    c.in_ok-takers.ensures.takers q (omega (arith, lt, ap (λ (r : SetRows). r.below) is)) ∙ ap (λ (r : SetRows). taker_in r.rows next q) is ∙ taker_is g next q in
+    record {
+      rows = c.in_ok-next.ensures ∙ ap next_rows is;
+      long = long;
+      taken = taken;
+      moved = c.in_ok-moves.ensures ∙ ap (λ ts. moves_by (g.generation + 1) ts c.deref-3.result.now) c.deref-2.ensures.value ∙ ap (moves_by (g.generation + 1) takers) c.deref-3.ensures.value ∙ moves_are g next takers long taken;
+    }

@@ -1,0 +1,65 @@
+-- What a step is to change, and what its completion needs. Only contracts of private functions cite it.
+use Rattle.std.specs.Prelude.{◌≡◌, ℕ, ◌<◌, Bool, true, false, ◌&&◌, List, [], ◌∷◌, ◌++◌, Option, Some, None, is_some, length, slice_index_or, if◌then◌else◌}
+use Rattle.std.specs.Prelude.{◌⊎◌}
+use Rattle.std.specs.List.{list_any, list_all}
+use Rattle.lane_words.specs.declared.Refusal.{Refusal}
+use Rattle.lane_words.specs.declared.Refusal.TheVariants as r
+use Rattle.bit_planes.specs.SetRows.{SetRows}
+use Rattle.coop_rebalance.specs.Rounds.{next_rows}
+use Rattle.group_machine.specs.declared.group.Slot.{Slot}
+use Rattle.group_machine.specs.declared.group.Seat.{Seat}
+use Rattle.group_machine.specs.declared.group.Move.{Move}
+use Rattle.group_machine.specs.declared.group.Phase.{Phase}
+use Rattle.group_machine.specs.declared.group.Phase.TheVariants.{Empty, Preparing}
+use Rattle.group_machine.specs.declared.group.change.Change.{Change}
+use Rattle.group_machine.specs.declared.group.change.Change.TheVariants.{Joins, Rejoins, Leaves}
+use Rattle.group_machine.specs.declared.group.completion.Prepared.{Prepared}
+use Rattle.group_machine.specs.Slots.{only_of, on_seat, one_changed, without_seat, present}
+use Rattle.group_machine.specs.State.{GroupState, granted_rows}
+use Rattle.group_machine.specs.Moves.{taker, moves_to}
+use Rattle.group_machine.specs.Completion.{is_ready, is_over, last_generation}
+use Rattle.group_machine.specs.Steps.{newcomer, rejoined_seat}
+
+-- the seat after a change of the member m that had this one
+abbrev pub seat_after : Change → ℕ → Option Seat → Option Seat
+seat_after Joins m seat = seat
+seat_after (Rejoins member) m seat = only_of member (on_seat rejoined_seat) m seat
+seat_after (Leaves member) m seat = only_of member (λ before. None) m seat
+
+-- the slots after a change, where one that is new has this name
+abbrev pub slots_after : ℕ → List ℕ → Change → List Slot → List Slot
+slots_after p name Joins slots = slots ++ newcomer p name ∷ []
+slots_after p name (Rejoins member) slots = one_changed rejoined_seat slots member
+slots_after p name (Leaves member) slots = without_seat slots member
+
+abbrev pub phase_after : Change → List Slot → Phase
+phase_after Joins slots = Preparing
+phase_after (Rejoins member) slots = Preparing
+phase_after (Leaves member) slots = if list_any (λ s. is_some s.seat) slots then Preparing else Empty
+
+-- the group after a change, before a completion: joining, rejoining or leaving
+abbrev pub after : Change → List ℕ → GroupState → GroupState
+after change name g = record g {
+  slots = slots_after g.partitions name change g.slots;
+  phase = phase_after change (slots_after g.partitions name change g.slots);
+}
+
+-- somebody is present, and all who are have joined
+abbrev pub is_ready_in : List Slot → Bool
+is_ready_in slots = list_any (λ s. is_some s.seat) slots && list_all (λ m. m.1.joined) (present slots)
+
+-- what a completion of a group is made of
+pub record IsPrepared (g : GroupState) (next : SetRows) (takers : List (Option ℕ)) (moves : List Move) : Type 0 where
+  pub rows : next ≡ next_rows (granted_rows g)
+  pub long : length takers ≡ g.partitions
+  pub taken : (q : ℕ) → q < g.partitions → slice_index_or takers q None ≡ taker g next q
+  pub moved : moves ≡ moves_to g next
+
+-- a completion is prepared where one comes
+abbrev pub IsPlanned : GroupState → Option Prepared → Type 0
+IsPlanned g None = is_ready g ≡ false
+IsPlanned g (Some a) = (is_ready g ≡ true) × (g.generation < last_generation) × IsPrepared g a.next a.takers.items a.moves.items
+
+-- why none is prepared: it would pass the last generation, or memory was refused
+abbrev pub IsRefused : GroupState → Refusal → Type 0
+IsRefused g why = ((is_over g ≡ true) × (why ≡ r.GenerationsOver)) ⊎ (why ≡ r.Memory)

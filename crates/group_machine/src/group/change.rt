@@ -1,0 +1,91 @@
+//! What a step is to change, and what members have after it.
+
+ghost use Rattle.std.specs.Prelude.{◌≡◌, ◌≤◌, ℕ, List, None, Some, MatchOption, IfOk, length};
+ghost use Rattle.std.specs.Option.{option_map};
+ghost use Rattle.group_machine.specs.declared.group.Seat.{Seat};
+ghost use Rattle.group_machine.specs.Walks.{AreSeatsOver, granted_in};
+ghost use Rattle.group_machine.specs.Changes.{seat_after, slots_after, is_ready_in};
+
+use super::Slot;
+use bit_planes::{Plane, PlaneRows};
+use lane_words::Memory;
+use std::alloc::Global;
+
+/// What a step is to do to the group's members.
+#[derive(Clone, Copy)]
+pub enum Change {
+    /// One that is new joins under the next number.
+    Joins,
+    /// This one gives up what it is not to keep, and joins.
+    Rejoins(u32),
+    /// This one leaves.
+    Leaves(u32),
+}
+
+impl Change {
+    /// What a member of before is granted after the change, while it is present then.
+    fn granted(self, member: u32, slot: &Slot) -> Option<&Plane>
+        ensures { MatchOption result (seat_after self member slot.now.seat ≡ None) (λ plane. (x : Seat) × (seat_after self member slot.now.seat ≡ Some x) × (plane.now ≡ x.granted)) }
+    {
+        let seat = slot.seat.as_ref()?;
+        match self {
+            Change::Rejoins(changed) if changed == member => Some(&seat.assigned),
+            Change::Leaves(changed) if changed == member => None,
+            _ => Some(&seat.granted),
+        }
+    }
+
+    /// Whether a member of before has joined after the change, while it is present then.
+    fn joined(self, member: u32, slot: &Slot) -> Option<bool>
+        ensures { result ≡ option_map (λ x. x.joined) (seat_after self member slot.now.seat) }
+    {
+        let seat = slot.seat.as_ref()?;
+        match self {
+            Change::Rejoins(changed) if changed == member => Some(true),
+            Change::Leaves(changed) if changed == member => None,
+            _ => Some(seat.joined),
+        }
+    }
+}
+
+/// Whether after the change somebody is present, and all who are have joined.
+pub fn is_ready_after(slots: &[Slot], change: Change) -> bool
+    requires { length slots.now ≤ 512 }
+    ensures { (p : ℕ) (name : List ℕ) → result ≡ is_ready_in (slots_after p name change slots.now) }
+{
+    let mut anybody = matches!(change, Change::Joins);
+    for (place, slot) in slots.iter().enumerate() {
+        if let Some(joined) = change.joined(place as u32 + 1, slot) {
+            if !joined {
+                return false;
+            }
+            anybody = true;
+        }
+    }
+    anybody
+}
+
+/// What each member that is present after the change is granted then.
+pub fn granted_rows(
+    alloc: Global,
+    p: u32,
+    slots: &[Slot],
+    change: Change,
+) -> Result<PlaneRows, Memory>
+    requires bounds { (1 ≤ p) × (p ≤ 4096) }
+    requires few { length slots.now ≤ 512 }
+    requires over { AreSeatsOver p slots.now }
+    ensures { (name : List ℕ) → IfOk result (λ rows. rows ≡ granted_in p (slots_after p name change slots.now)) }
+{
+    let mut rows = PlaneRows::new(alloc, p);
+    for (place, slot) in slots.iter().enumerate() {
+        let member = place as u32 + 1;
+        if let Some(granted) = change.granted(member, slot) {
+            rows.put(member, granted.copy())?;
+        }
+    }
+    if let Change::Joins = change {
+        rows.put(slots.len() as u32 + 1, Plane::new(p))?;
+    }
+    Ok(rows)
+}
