@@ -6,9 +6,9 @@ use Rattle.lane_words.specs.declared.Refusal.{Refusal}
 use Rattle.lane_words.specs.declared.Refusal.TheVariants as r
 use Rattle.bit_planes.specs.PartitionSet.{PartitionSet}
 use Rattle.group_machine.specs.State.{GroupState, is_present}
-use Rattle.group_machine.specs.Steps.{most_members, unless_over, is_name_used, joining, join_answer, joined_by, rejoin_answer, rejoined_by, synced_by, leaving, leave_answer, left_by}
+use Rattle.group_machine.specs.Steps.{most_members, unless_over, is_name_used, joining, join_answer, joined_by, rejoin_answer, rejoined_by, leaving, leave_answer, left_by}
 use Rattle.group_machine.specs.Good.{IsGood}
-use Rattle.group_machine.proofs.StepLemmas.{join_good, rejoin_good, sync_good, leave_good}
+use Rattle.group_machine.proofs.StepLemmas.{join_good, rejoin_good, leave_good}
 use Rattle.group_machine.proofs.FinishLemmas.{accepted}
 
 pub answers_ok : {A : Type 0} (e : Result A Refusal) (x : A) → Answers e (Ok x) → e ≡ Ok x
@@ -45,7 +45,3 @@ pub leave_kept : (old new : GroupState) (member : ℕ) (r : Result (Unit {0}) Re
 leave_kept old new member (Ok u) answer ok err good =
     stays (left_by old member) new ok (leave_good old member good (present_if (is_present old member) (unless_over (leaving old member) tt) (answers_ok (leave_answer old member) tt answer)))
 leave_kept old new member (Err why) answer ok err good = stays old new err good
-
-pub sync_kept : (old new : GroupState) (member : ℕ) (r : Result (Unit {0}) Refusal) → OnOk r (new ≡ synced_by old member) → OnErr r (new ≡ old) → IsGood old → IsGood new
-sync_kept old new member (Ok u) ok err good = stays (synced_by old member) new ok (sync_good old member good)
-sync_kept old new member (Err why) ok err good = stays old new err good

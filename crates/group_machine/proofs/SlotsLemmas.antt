@@ -36,9 +36,6 @@ only_none : (b : Bool) (f : Option Seat → Option Seat) → f None ≡ None →
 only_none true f e = e
 only_none false f e = refl
 
-pub seat_one : (f : Seat → Seat) (slots : List Slot) (member m : ℕ) → seat_of (one_changed f slots member) m ≡ cond (m == member) (on_seat f (seat_of slots m)) (seat_of slots m)
-seat_one f slots member m = seat_of_reseated (only_of member (on_seat f)) (λ n. only_none (n == member) (on_seat f) refl) slots m
-
 pub seat_without : (slots : List Slot) (member m : ℕ) → seat_of (without_seat slots member) m ≡ cond (m == member) None (seat_of slots m)
 seat_without slots member m = seat_of_reseated (only_of member (λ before. None)) (λ n. only_none (n == member) (λ before. None) refl) slots m
 

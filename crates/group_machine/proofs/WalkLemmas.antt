@@ -149,9 +149,6 @@ given_all f before now place given le = same_slots now (reseated_from 1 f before
   | inr ge ↦ given k ∙ ap (λ b. cond b (slice_get (reseated_from 1 f before) k) (slice_get before k)) (ge_is k place ge) ∙ past_slots before k (omega arith) ∙ sym (past_slots (reseated_from 1 f before) k (omega (arith, length_same 1 f before)))
 ])
 
-pub given_none : (f : ℕ → Option Seat → Option Seat) (before : List Slot) → AreGiven f before before 0
-given_none f before k = sym (ap (λ b. cond b (slice_get (reseated_from 1 f before) k) (slice_get before k)) (ge_is k 0 (omega arith)))
-
 some_found : (rows : List (ℕ × PartitionSet)) (k d : ℕ) → k < length (map (λ row. row.0) rows) → IsSome (find_row rows (get_or (map (λ row. row.0) rows) k d))
 some_found [] k d lt = absurd (omega arith)
 some_found (row ∷ rows) zero d lt = rw (same_number row.0) refl
