@@ -1,5 +1,5 @@
 pub mod Listed
-pub mod Places
+pub mod Indices
 pub mod RowLaws
 pub mod Seen
 pub mod Sets

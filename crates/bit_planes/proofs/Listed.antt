@@ -3,7 +3,7 @@ use Rattle.std.proofs.Common.{ℕ, zero, suc, ◌≡◌, ◌+◌, ◌<◌, Bool,
 use Rattle.std.specs.Prelude.{if◌then◌else◌}
 use Rattle.std.proofs.lemmas.Bool.{cases_lt}
 use Rattle.std.proofs.lemmas.List.{drop-append-le, drop_all}
-use Rattle.bit_planes.specs.PartitionSet.{PartitionSet, partitions, is_in, one, how_many, list_where, rank, numbers}
+use Rattle.bit_planes.specs.PartitionSet.{PartitionSet, partitions, is_in, one, how_many, list_where, rank, elements}
 use Rattle.bit_planes.proofs.Sets.{in_below, rank_is, rank_in, how_many-rises}
 
 one_listed : (x : Bool) (n : ℕ) → length (if x then n ∷ [] else []) ≡ one x
@@ -42,24 +42,24 @@ list_where-at (suc n) f q lt h = elim (cases_lt q n) [
 ]
 
 -- a member, and the members above it
-pub numbers-at : (s : PartitionSet) (q : ℕ) → is_in s q ≡ true → drop (rank s q) (numbers s) ≡ q ∷ drop (rank s (q + 1)) (numbers s)
-unfolding numbers
-numbers-at s q h =
+pub elements-at : (s : PartitionSet) (q : ℕ) → is_in s q ≡ true → drop (rank s q) (elements s) ≡ q ∷ drop (rank s (q + 1)) (elements s)
+unfolding elements
+elements-at s q h =
     let next : rank s (q + 1) ≡ suc (how_many q (is_in s)) = omega (arith, rank_in s q h, rank_is s q) in
     rw (next, rank_is s q) (list_where-at (partitions s) (is_in s) q (in_below s q h) h)
 
 -- all members
-pub numbers-first : (s : PartitionSet) → drop (rank s 0) (numbers s) ≡ numbers s
-numbers-first s = rw (rank_is s 0) refl
+pub elements-first : (s : PartitionSet) → drop (rank s 0) (elements s) ≡ elements s
+elements-first s = rw (rank_is s 0) refl
 
 -- no member
-pub numbers-end : (s : PartitionSet) (r : ℕ) → r ≡ rank s (partitions s) → drop r (numbers s) ≡ []
-unfolding numbers
-numbers-end s r e =
+pub elements-end : (s : PartitionSet) (r : ℕ) → r ≡ rank s (partitions s) → drop r (elements s) ≡ []
+unfolding elements
+elements-end s r e =
     let len = length-list_where (partitions s) (is_in s) in
     drop_all r (list_where (partitions s) (is_in s)) (omega (arith, e, rank_is s (partitions s)))
 
 -- as many as there are
-pub length-numbers : (s : PartitionSet) → length (numbers s) ≡ rank s (partitions s)
-unfolding numbers
-length-numbers s = length-list_where (partitions s) (is_in s) ∙ sym (rank_is s (partitions s))
+pub length-elements : (s : PartitionSet) → length (elements s) ≡ rank s (partitions s)
+unfolding elements
+length-elements s = length-list_where (partitions s) (is_in s) ∙ sym (rank_is s (partitions s))

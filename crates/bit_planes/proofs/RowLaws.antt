@@ -4,7 +4,7 @@ use Rattle.std.specs.Prelude.{nat_lt, if◌then◌else◌}
 use Rattle.std.proofs.lemmas.Bool.{cases_lt, cases_eq, le-ltb}
 use Rattle.std.proofs.lemmas.Bool.Decides.{nat_tests}
 use Rattle.bit_planes.specs.PartitionSet.{PartitionSet, partitions}
-use Rattle.bit_planes.specs.SetRows.{SetRows, AreRows, AreOver, IsRising, find_row, row_of, put_row, with_row}
+use Rattle.bit_planes.specs.SetRows.{SetRows, IsValidRows, AreOver, IsRising, find_row, row_of, put_row, with_row}
 
 eq_self : (n : ℕ) → (n == n) ≡ true
 eq_self n = grind (arith, nat_tests)
@@ -128,12 +128,12 @@ rising_put (row ∷ rows) m s rising =
       ] refl
     ] refl
 
-pub are_rows-with : (r : SetRows) (m : ℕ) (s : PartitionSet) → partitions s ≡ r.below → AreRows r → AreRows (with_row r m s)
-are_rows-with r m s e kept = record {
-  some = kept.some;
-  few = kept.few;
-  rising = rising_put r.rows m s kept.rising;
-  over = over_put r.below r.rows m s e kept.over;
+pub are_rows-with : (r : SetRows) (m : ℕ) (s : PartitionSet) → partitions s ≡ r.below → IsValidRows r → IsValidRows (with_row r m s)
+are_rows-with r m s e valid = record {
+  some = valid.some;
+  few = valid.few;
+  rising = rising_put r.rows m s valid.rising;
+  over = over_put r.below r.rows m s e valid.over;
 }
 
 -- a member above all others goes to the end
@@ -179,6 +179,6 @@ same_found (r ∷ rs) (t ∷ ts) up up' same =
       ]
     ]
 
-pub same_rows : (r s : SetRows) → AreRows r → AreRows s → r.below ≡ s.below → ((m : ℕ) → row_of r m ≡ row_of s m) → r ≡ s
-same_rows r s kept kept' below same =
-    ap (λ n. record r { below = n }) below ∙ ap (λ (rows : List (ℕ × PartitionSet)). record s { rows = rows }) (same_found r.rows s.rows kept.rising kept'.rising same)
+pub same_rows : (r s : SetRows) → IsValidRows r → IsValidRows s → r.below ≡ s.below → ((m : ℕ) → row_of r m ≡ row_of s m) → r ≡ s
+same_rows r s valid valid' below same =
+    ap (λ n. record r { below = n }) below ∙ ap (λ (rows : List (ℕ × PartitionSet)). record s { rows = rows }) (same_found r.rows s.rows valid.rising valid'.rising same)

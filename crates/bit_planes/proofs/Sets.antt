@@ -101,12 +101,12 @@ pub in_lowest : (n : ℕ) (s : PartitionSet) (q : ℕ) → is_in (lowest n s) q 
 unfolding lowest
 in_lowest n s q = in_where_cut (partitions s) _ q (λ le. not_first (is_in s q) (nat_lt (rank s q) n) (past s q le))
 
-other_number : (q n : ℕ) → n < q → (q == n) ≡ false
-other_number q n lt = grind (arith, nat_tests)
+other_id : (q n : ℕ) → n < q → (q == n) ≡ false
+other_id q n lt = grind (arith, nat_tests)
 
 pub in_with : (s : PartitionSet) (n q : ℕ) → n < partitions s → is_in (with_one s n) q ≡ (is_in s q || (q == n))
 unfolding with_one
-in_with s n q lt = in_where_cut (partitions s) _ q (λ le. neither (is_in s q) (q == n) (past s q le) (other_number q n (omega arith)))
+in_with s n q lt = in_where_cut (partitions s) _ q (λ le. neither (is_in s q) (q == n) (past s q le) (other_id q n (omega arith)))
 
 pub in_without : (s : PartitionSet) (n q : ℕ) → is_in (without_one s n) q ≡ (is_in s q && not (q == n))
 unfolding without_one

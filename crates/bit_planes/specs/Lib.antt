@@ -1,4 +1,4 @@
-pub mod NumbersLeft
+pub mod ElementsLeft
 pub mod PartitionSet
 pub mod SetRows
-pub mod Shown
+pub mod View

@@ -50,8 +50,8 @@ unfoldable pub size : PartitionSet → ℕ
 size s = rank s (partitions s)
 
 -- the members, in rising order
-unfoldable pub numbers : PartitionSet → List ℕ
-numbers s = list_where (partitions s) (is_in s)
+unfoldable pub elements : PartitionSet → List ℕ
+elements s = list_where (partitions s) (is_in s)
 
 -- no number
 unfoldable pub empty_set : ℕ → PartitionSet

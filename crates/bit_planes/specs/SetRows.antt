@@ -56,7 +56,7 @@ AreOver p [] = Unit {0}
 AreOver p (row ∷ rows) = (partitions row.1 ≡ p) × AreOver p rows
 
 -- what rows keep
-pub record AreRows (r : SetRows) : Type 0 where
+pub record IsValidRows (r : SetRows) : Type 0 where
   pub some : 1 ≤ r.below
   pub few : r.below ≤ 4096
   pub rising : IsRising (members r)
@@ -67,7 +67,7 @@ abbrev pub member_at : List (ℕ × PartitionSet) → ℕ → ℕ
 member_at rows i = slice_index_or (map (λ row. row.0) rows) i 0
 
 -- a member's row stands at this place
-pub record IsPlaceOf (rows : List (ℕ × PartitionSet)) (m i : ℕ) : Type 0 where
+pub record IsIndexOf (rows : List (ℕ × PartitionSet)) (m i : ℕ) : Type 0 where
   pub within : i < length rows
   pub there : member_at rows i ≡ m
 

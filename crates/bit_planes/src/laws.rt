@@ -2,7 +2,7 @@
 
 ghost use Rattle.std.specs.Prelude.{◌≡◌, ℕ};
 ghost use Rattle.bit_planes.specs.PartitionSet.{PartitionSet, partitions, is_in};
-ghost use Rattle.bit_planes.specs.SetRows.{SetRows, AreRows, row_of};
+ghost use Rattle.bit_planes.specs.SetRows.{SetRows, IsValidRows, row_of};
 
 /// Sets of one P with the same members are equal.
 pub fn equal_by_members()
@@ -11,5 +11,5 @@ pub fn equal_by_members()
 
 /// Rows of one P are equal where each member's look-up gives the same.
 pub fn equal_by_look_up()
-    ensures { (r s : SetRows) → AreRows r → AreRows s → r.below ≡ s.below → ((m : ℕ) → row_of r m ≡ row_of s m) → r ≡ s }
+    ensures { (r s : SetRows) → IsValidRows r → IsValidRows s → r.below ≡ s.below → ((m : ℕ) → row_of r m ≡ row_of s m) → r ≡ s }
 {}

@@ -2,12 +2,12 @@
 #![tactic(auto)]
 
 mod laws;
-mod numbers;
+mod elements;
 mod plane;
 mod rows;
 
 pub use laws::{equal_by_look_up, equal_by_members};
-pub use numbers::Numbers;
+pub use elements::Elements;
 pub use plane::Plane;
 pub use rows::{Members, PlaneRows};
 

@@ -1,9 +1,9 @@
 //! A set of partitions.
 
 ghost use Rattle.std.specs.Prelude.{◌≡◌, ◌<◌, ◌≤◌, ◌==◌, ◌&&◌, ◌||◌, ◌↔◌, ℕ, false, true, not, nat_lt, min, length, IsTrue};
-ghost use Rattle.bit_planes.specs.PartitionSet.{partitions, is_in, rank, size, numbers, empty_set, full_set, with_one, without_one, union, minus, lowest, meets, is_within, is_same};
+ghost use Rattle.bit_planes.specs.PartitionSet.{partitions, is_in, rank, size, elements, empty_set, full_set, with_one, without_one, union, minus, lowest, meets, is_within, is_same};
 
-use crate::numbers::Numbers;
+use crate::elements::Elements;
 use std::marker::Model;
 
 /// The most partitions.
@@ -20,13 +20,13 @@ pub struct Plane {
 
 impl Model for Plane {
     ghost use Rattle.bit_planes.specs.PartitionSet.{PartitionSet};
-    ghost use Rattle.bit_planes.specs.Shown.{set_of_plane, IsPlane};
+    ghost use Rattle.bit_planes.specs.View.{plane_view, IsValidPlane};
 
     ghost Value = { PartitionSet };
 
-    ghost view = { set_of_plane };
+    ghost view = { plane_view };
 
-    ghost invariant = { IsPlane };
+    ghost invariant = { IsValidPlane };
 }
 
 impl Plane {
@@ -34,7 +34,7 @@ impl Plane {
     pub fn new(p: u32) -> Plane
         requires { (1 ≤ p) × (p ≤ 4096) }
         ensures value { result ≡ empty_set p }
-        ensures members { (q : ℕ) → is_in result q ≡ false }
+        ensures elements { (q : ℕ) → is_in result q ≡ false }
         ensures partitions { partitions result ≡ p }
     {
         Plane {
@@ -47,7 +47,7 @@ impl Plane {
     pub fn full(p: u32) -> Plane
         requires { (1 ≤ p) × (p ≤ 4096) }
         ensures value { result ≡ full_set p }
-        ensures members { (q : ℕ) → is_in result q ≡ nat_lt q p }
+        ensures elements { (q : ℕ) → is_in result q ≡ nat_lt q p }
         ensures partitions { partitions result ≡ p }
     {
         let mut flags = [false; MOST];
@@ -82,7 +82,7 @@ impl Plane {
     pub fn insert(&mut self, q: u32)
         requires { q < partitions self.old }
         ensures value { self.new ≡ with_one self.old q }
-        ensures members { (n : ℕ) → is_in self.new n ≡ (is_in self.old n || (n == q)) }
+        ensures elements { (n : ℕ) → is_in self.new n ≡ (is_in self.old n || (n == q)) }
         ensures partitions { partitions self.new ≡ partitions self.old }
     {
         self.flags[q as usize] = true;
@@ -91,7 +91,7 @@ impl Plane {
     /// Takes a number out of the set. One that is not in it, as each at P or above, leaves it as it was.
     pub fn remove(&mut self, q: u32)
         ensures value { self.new ≡ without_one self.old q }
-        ensures members { (n : ℕ) → is_in self.new n ≡ (is_in self.old n && not (n == q)) }
+        ensures elements { (n : ℕ) → is_in self.new n ≡ (is_in self.old n && not (n == q)) }
         ensures partitions { partitions self.new ≡ partitions self.old }
     {
         if q < self.partitions {
@@ -111,7 +111,7 @@ impl Plane {
     pub fn union(&self, other: &Plane) -> Plane
         requires { partitions self.now ≡ partitions other.now }
         ensures value { result ≡ union self.now other.now }
-        ensures members { (q : ℕ) → is_in result q ≡ (is_in self.now q || is_in other.now q) }
+        ensures elements { (q : ℕ) → is_in result q ≡ (is_in self.now q || is_in other.now q) }
         ensures partitions { partitions result ≡ partitions self.now }
     {
         let mut flags = self.flags;
@@ -128,7 +128,7 @@ impl Plane {
     pub fn minus(&self, other: &Plane) -> Plane
         requires { partitions self.now ≡ partitions other.now }
         ensures value { result ≡ minus self.now other.now }
-        ensures members { (q : ℕ) → is_in result q ≡ (is_in self.now q && not (is_in other.now q)) }
+        ensures elements { (q : ℕ) → is_in result q ≡ (is_in self.now q && not (is_in other.now q)) }
         ensures partitions { partitions result ≡ partitions self.now }
     {
         let mut flags = self.flags;
@@ -144,7 +144,7 @@ impl Plane {
     /// The `n` lowest members, or all where there are no more.
     pub fn lowest(&self, n: u32) -> Plane
         ensures value { result ≡ lowest n self.now }
-        ensures members { (q : ℕ) → is_in result q ≡ (is_in self.now q && nat_lt (rank self.now q) n) }
+        ensures elements { (q : ℕ) → is_in result q ≡ (is_in self.now q && nat_lt (rank self.now q) n) }
         ensures partitions { partitions result ≡ partitions self.now }
         ensures size { size result ≡ min n (size self.now) }
     {
@@ -180,7 +180,7 @@ impl Plane {
     pub fn within(&self, other: &Plane) -> bool
         requires { partitions self.now ≡ partitions other.now }
         ensures value { result ≡ is_within self.now other.now }
-        ensures members { IsTrue result ↔ ((q : ℕ) → is_in self.now q ≡ true → is_in other.now q ≡ true) }
+        ensures elements { IsTrue result ↔ ((q : ℕ) → is_in self.now q ≡ true → is_in other.now q ≡ true) }
     {
         let end = self.partitions as usize;
         for q in 0..end {
@@ -220,10 +220,10 @@ impl Plane {
     }
 
     /// The members, in rising order.
-    pub fn iter(&self) -> Numbers<'_>
-        ensures value { result ≡ numbers self.now }
+    pub fn iter(&self) -> Elements<'_>
+        ensures value { result ≡ elements self.now }
         ensures few { length result ≤ 4096 }
     {
-        Numbers::new(self)
+        Elements::new(self)
     }
 }

@@ -3,7 +3,7 @@
 ghost use Rattle.std.specs.Prelude.{◌≡◌, ◌≢◌, ◌<◌, ◌≤◌, ℕ, [], None, Some, MatchOption, IfSome, IfOk, IfErr, OnOk, OnErr};
 ghost use Rattle.std.specs.Iterator.{YieldsFirst, item_count};
 ghost use Rattle.bit_planes.specs.PartitionSet.{partitions};
-ghost use Rattle.bit_planes.specs.SetRows.{SetRows, AreRows, IsPlaceOf, IsGapFor, no_rows, members, row_of, with_row};
+ghost use Rattle.bit_planes.specs.SetRows.{SetRows, IsValidRows, IsIndexOf, IsGapFor, no_rows, members, row_of, with_row};
 
 use crate::plane::Plane;
 use lane_words::Memory;
@@ -20,13 +20,13 @@ pub struct PlaneRows {
 }
 
 impl Model for PlaneRows {
-    ghost use Rattle.bit_planes.specs.SetRows.{SetRows, AreRows};
+    ghost use Rattle.bit_planes.specs.SetRows.{SetRows, IsValidRows};
 
     ghost Value = { SetRows };
 
     ghost view = { λ a. record { below = a.partitions; rows = a.rows.items } };
 
-    ghost invariant = { λ a. AreRows (record { below = a.partitions; rows = a.rows.items }) };
+    ghost invariant = { λ a. IsValidRows (record { below = a.partitions; rows = a.rows.items }) };
 }
 
 impl PlaneRows {
@@ -34,7 +34,7 @@ impl PlaneRows {
     pub fn new(alloc: Global, p: u32) -> PlaneRows
         requires { (1 ≤ p) × (p ≤ 4096) }
         ensures value { result ≡ no_rows p }
-        ensures kept { AreRows result }
+        ensures valid { IsValidRows result }
     {
         PlaneRows {
             partitions: p,
@@ -45,7 +45,7 @@ impl PlaneRows {
     /// P: the members of each set are below it.
     pub fn partitions(&self) -> u32
         ensures value { result ≡ self.now.below }
-        ensures kept { AreRows self.now }
+        ensures valid { IsValidRows self.now }
     {
         self.partitions
     }
@@ -59,14 +59,14 @@ impl PlaneRows {
         ensures others { OnOk result ((m : ℕ) → m ≢ member → row_of self.new m ≡ row_of self.old m) }
         ensures err { OnErr result (self.new ≡ self.old) }
         ensures below { self.new.below ≡ self.old.below }
-        ensures kept { AreRows self.new }
+        ensures valid { IsValidRows self.new }
     {
         match self.search(member) {
-            Ok(place) => {
-                self.rows[place] = (member, plane);
+            Ok(index) => {
+                self.rows[index] = (member, plane);
                 Ok(())
             }
-            Err(place) => Ok(self.rows.insert(place, (member, plane))?),
+            Err(index) => Ok(self.rows.insert(index, (member, plane))?),
         }
     }
 
@@ -74,10 +74,10 @@ impl PlaneRows {
     pub fn get(&self, member: u32) -> Option<&Plane>
         ensures value { MatchOption result (row_of self.now member ≡ None) (λ plane. row_of self.now member ≡ Some plane.now) }
         ensures partitions { IfSome result (λ plane. partitions plane.now ≡ self.now.below) }
-        ensures kept { AreRows self.now }
+        ensures valid { IsValidRows self.now }
     {
         match self.search(member) {
-            Ok(place) => Some(&self.rows[place].1),
+            Ok(index) => Some(&self.rows[index].1),
             Err(_) => None,
         }
     }
@@ -92,14 +92,14 @@ impl PlaneRows {
     /// The rows, in rising order of their members. It takes no memory.
     pub fn rows(&self) -> &[(u32, Plane)]
         ensures value { result.now ≡ self.now.rows }
-        ensures kept { AreRows self.now }
+        ensures valid { IsValidRows self.now }
     {
         &self.rows
     }
 
     // The place of a member's row, or the place where it would go.
     fn search(&self, member: u32) -> Result<usize, usize>
-        ensures found { IfOk result (IsPlaceOf self.now.rows member) }
+        ensures found { IfOk result (IsIndexOf self.now.rows member) }
         ensures absent { IfErr result (IsGapFor self.now.rows member) }
     {
         self.rows.binary_search_by_key(&member, |row| row.0)

@@ -7,12 +7,12 @@ use super::*;
 use std::test::Fail;
 
 // The set of those of the numbers that are below P.
-fn set_of(p: u32, numbers: &[u32]) -> Plane
+fn set_of(p: u32, elements: &[u32]) -> Plane
     requires { (1 ≤ p) × (p ≤ 4096) }
     ensures { partitions result ≡ p }
 {
     let mut set = Plane::new(p);
-    for q in numbers {
+    for q in elements {
         if *q < p {
             set.insert(*q);
         }
@@ -54,9 +54,9 @@ fn tells_sets_past_a_word(rt: HostRuntime) -> Result<(), Fail> {
     assert!(rt; both.minus(&last).same(&first));
     assert!(rt; both.lowest(1).same(&first) && !first.same(&last));
     assert!(rt; both.lowest(9).copy().same(&both));
-    let mut numbers = both.iter();
+    let mut elements = both.iter();
     assert_eq!(rt;
-        (numbers.next(), numbers.next(), numbers.next()),
+        (elements.next(), elements.next(), elements.next()),
         (Some(0), Some(512), None)
     );
     Ok(())

@@ -14,10 +14,10 @@ use Rattle.partition_log.specs.Keys.{IsWithoutRepeats, is_known, key_at, with_ke
 use Rattle.partition_log.specs.Logs.{place_in}
 use Rattle.partition_log.proofs.Growth.{among, fresh, grows, known, stays_apart}
 use Rattle.partition_log.proofs.History.{names-same}
-use Rattle.partition_log.proofs.Kept.{log-other, log-same}
+use Rattle.partition_log.proofs.Valid.{log-other, log-same}
 use Rattle.partition_log.proofs.Numbered.{by_number}
 use Rattle.partition_log.proofs.Parted.{in_one_log, sum-same, sum-zero}
-use Rattle.commit_store.specs.Commits.{AreLogs, AreLogsOf, Commits, Fits, IsExact, Key, PartitionLogs, committed_at, count_at, keys_of_log, log_at, number_of, plain, raised, sum_below, with_commit, with_record}
+use Rattle.commit_store.specs.Commits.{IsValidLogs, AreLogsOf, Commits, Fits, IsExact, Key, PartitionLogs, committed_at, count_at, keys_of_log, log_at, id_of, plain, raised, sum_below, with_commit, with_record}
 
 -- counts of two lists, one after the other
 plain-append : (ks js : List Key) (x : Key) → plain (ks ++ js) x ≡ plain ks x + plain js x
@@ -46,7 +46,7 @@ take-plus (suc c) k [] = let e : suc c + k ≡ suc (c + k) = omega arith in rw e
 take-plus (suc c) k (x ∷ xs) = let e : suc c + k ≡ suc (c + k) = omega arith in rw e (ap (λ ys. x ∷ ys) (take-plus c k xs))
 
 -- the numbers of a commit that fits are those of keys
-pub numbers-below : (s : Commits) (l : PartitionLogs) (p from : ℕ) (ids : List ℕ) → AreLogs l → Fits s l p from ids → (i : ℕ) → i < length ids → get_or ids i 0 < length l.keys
+pub numbers-below : (s : Commits) (l : PartitionLogs) (p from : ℕ) (ids : List ℕ) → IsValidLogs l → Fits s l p from ids → (i : ℕ) → i < length ids → get_or ids i 0 < length l.keys
 numbers-below s l p from ids a fits i lt =
     let many : from + length ids - from ≡ length ids = omega arith in
     let read : get_or ids i 0 ≡ get_or (log_at l p) (from + i) 0 =
@@ -72,8 +72,8 @@ counter_raised cs ids x have =
         at_none (suc n) h = absurd (h (omega arith))
 
 -- the committed part of a log, after a commit that fits
-more_committed : (s : Commits) (l : PartitionLogs) (p from : ℕ) (ids : List ℕ) (x : Key) → AreLogs l → Fits s l p from ids
-    → plain (take (committed_at s p + length ids) (keys_of_log l p)) x ≡ plain (take (committed_at s p) (keys_of_log l p)) x + counts.plain ids (number_of l.keys x)
+more_committed : (s : Commits) (l : PartitionLogs) (p from : ℕ) (ids : List ℕ) (x : Key) → IsValidLogs l → Fits s l p from ids
+    → plain (take (committed_at s p + length ids) (keys_of_log l p)) x ≡ plain (take (committed_at s p) (keys_of_log l p)) x + counts.plain ids (id_of l.keys x)
 more_committed s l p from ids x a fits =
     let c = committed_at s p in
     let many : from + length ids - from ≡ length ids = omega arith in
@@ -85,13 +85,13 @@ more_committed s l p from ids x a fits =
     ∙ ap (λ n. plain (take c (keys_of_log l p)) x + n) (by_number l.keys ids x a.without_repeats (numbers-below s l p from ids a fits))
 
 -- each number of a commit that fits has a counter
-pub have-counters : (s : Commits) (l : PartitionLogs) (p from : ℕ) (ids : List ℕ) → AreLogs l → Fits s l p from ids → length l.keys ≤ length s.counts → counts.HaveCounters s.counts ids
+pub have-counters : (s : Commits) (l : PartitionLogs) (p from : ℕ) (ids : List ℕ) → IsValidLogs l → Fits s l p from ids → length l.keys ≤ length s.counts → counts.HaveCounters s.counts ids
 have-counters s l p from ids a fits many x more =
     let there = stands-somewhere ids x more in
     omega (arith, there.2, numbers-below s l p from ids a fits there.0 there.1, many)
 
 -- a commit that fits keeps a store exact
-pub commit-exact : (s : Commits) (l : PartitionLogs) (p from : ℕ) (ids : List ℕ) → AreLogs l → p < l.partitions → p < length s.offsets → length l.keys ≤ length s.counts → Fits s l p from ids → IsExact s l → IsExact (with_commit s p ids) l
+pub commit-exact : (s : Commits) (l : PartitionLogs) (p from : ℕ) (ids : List ℕ) → IsValidLogs l → p < l.partitions → p < length s.offsets → length l.keys ≤ length s.counts → Fits s l p from ids → IsExact s l → IsExact (with_commit s p ids) l
 commit-exact s l p from ids a placed stored many fits e =
     let c = committed_at s p in
     let have = have-counters s l p from ids a fits many in
@@ -104,9 +104,9 @@ commit-exact s l p from ids a placed stored many fits e =
         | inr ne ↦ rw (others q ne) (e.within q)
       ];
       counted = λ x.
-          counter_raised s.counts ids (number_of l.keys x) have
-          ∙ ap (λ n. n + counts.plain ids (number_of l.keys x)) (e.counted x)
-          ∙ sym (sum_more l.partitions p (counts.plain ids (number_of l.keys x)) (λ q. plain (take (committed_at s q) (keys_of_log l q)) x) (λ q. plain (take (committed_at (with_commit s p ids) q) (keys_of_log l q)) x) placed
+          counter_raised s.counts ids (id_of l.keys x) have
+          ∙ ap (λ n. n + counts.plain ids (id_of l.keys x)) (e.counted x)
+          ∙ sym (sum_more l.partitions p (counts.plain ids (id_of l.keys x)) (λ q. plain (take (committed_at s q) (keys_of_log l q)) x) (λ q. plain (take (committed_at (with_commit s p ids) q) (keys_of_log l q)) x) placed
           (λ q ne. ap (λ n. plain (take n (keys_of_log l q)) x) (others q ne))
           (ap (λ n. plain (take n (keys_of_log l p)) x) here ∙ more_committed s l p from ids x a fits));
       spare = λ n le.
@@ -118,7 +118,7 @@ commit-exact s l p from ids a placed stored many fits e =
 pub nothing-exact : (s : Commits) (l : PartitionLogs) → ((p : ℕ) → committed_at s p ≡ 0) → s.counts ≡ [] → IsExact s l
 nothing-exact s l none blank = record {
   within = λ p. omega (arith, none p);
-  counted = λ x. ap (λ (cs : List ℕ). get_or cs (number_of l.keys x) 0) blank
+  counted = λ x. ap (λ (cs : List ℕ). get_or cs (id_of l.keys x) 0) blank
       ∙ sym (sum-same l.partitions (λ p. plain (take (committed_at s p) (keys_of_log l p)) x) (λ p. 0) (λ p lt. ap (λ n. plain (take n (keys_of_log l p)) x) (none p)) ∙ sum-zero l.partitions);
   spare = λ n le. ap (λ (cs : List ℕ). get_or cs n 0) blank;
 }
@@ -133,37 +133,37 @@ one_at_0 (c ∷ cs) (suc n) = one_at_0 cs n
 pub counter-exact : (s : Commits) (room : ℕ) (l : PartitionLogs) → IsExact s l → IsExact (record s { counts = s.counts ++ 0 ∷ []; room = room }) l
 counter-exact s room l e = record {
   within = e.within;
-  counted = λ x. one_at_0 s.counts (number_of l.keys x) ∙ e.counted x;
+  counted = λ x. one_at_0 s.counts (id_of l.keys x) ∙ e.counted x;
   spare = λ n le. one_at_0 s.counts n ∙ e.spare n le;
 }
 
 -- a known key keeps its number
-same-number : (ks : List Key) (k x : Key) → IsWithoutRepeats ks → is_known ks x ≡ true → number_of (with_key ks k) x ≡ number_of ks x
+same-number : (ks : List Key) (k x : Key) → IsWithoutRepeats ks → is_known ks x ≡ true → id_of (with_key ks k) x ≡ id_of ks x
 same-number ks k x apart h =
     let g = grows ks k in
     let old = known ks x h in
-    let stands : key_at (with_key ks k) (number_of ks x) ≡ x = g.kept (number_of ks x) old.0 ∙ old.1 in
-    let within : number_of ks x < length (with_key ks k) = omega (arith, old.0, g.longer) in
-    let new = known (with_key ks k) x (among (with_key ks k) x (number_of ks x) within stands) in
-    stays_apart ks k apart (number_of (with_key ks k) x) (number_of ks x) new.0 within (new.1 ∙ sym stands)
+    let stands : key_at (with_key ks k) (id_of ks x) ≡ x = g.stays (id_of ks x) old.0 ∙ old.1 in
+    let within : id_of ks x < length (with_key ks k) = omega (arith, old.0, g.longer) in
+    let new = known (with_key ks k) x (among (with_key ks k) x (id_of ks x) within stands) in
+    stays_apart ks k apart (id_of (with_key ks k) x) (id_of ks x) new.0 within (new.1 ∙ sym stands)
 
 -- a key that was new has no number of one that was known
-later-number : (ks : List Key) (k x : Key) → is_known ks x ≡ false → length ks ≤ number_of (with_key ks k) x
+later-number : (ks : List Key) (k x : Key) → is_known ks x ≡ false → length ks ≤ id_of (with_key ks k) x
 later-number ks k x h =
-    elim (cases_lt (number_of (with_key ks k) x) (length ks)) [
+    elim (cases_lt (id_of (with_key ks k) x) (length ks)) [
       | inr le ↦ le
       | inl lt ↦ absurd (at (is_known (with_key ks k) x) refl lt)
     ]
   where
-    at : (b : Bool) → is_known (with_key ks k) x ≡ b → number_of (with_key ks k) x < length ks → ⊥
+    at : (b : Bool) → is_known (with_key ks k) x ≡ b → id_of (with_key ks k) x < length ks → ⊥
     at true e lt =
         let g = grows ks k in
         let there = known (with_key ks k) x e in
-        let clash = among ks x (number_of (with_key ks k) x) lt (sym (g.kept (number_of (with_key ks k) x) lt) ∙ there.1) in cc (clash, h)
+        let clash = among ks x (id_of (with_key ks k) x) lt (sym (g.stays (id_of (with_key ks k) x) lt) ∙ there.1) in cc (clash, h)
     at false e lt = let g = grows ks k in omega (arith, fresh (with_key ks k) x e, g.longer, lt)
 
 -- an append leaves the committed part of each log
-same-part : (s : Commits) (l : PartitionLogs) (key : Key) (p : ℕ) → AreLogs l → IsExact s l → take (committed_at s p) (keys_of_log (with_record l key) p) ≡ take (committed_at s p) (keys_of_log l p)
+same-part : (s : Commits) (l : PartitionLogs) (key : Key) (p : ℕ) → IsValidLogs l → IsExact s l → take (committed_at s p) (keys_of_log (with_record l key) p) ≡ take (committed_at s p) (keys_of_log l p)
 same-part s l key p a e =
     let ws = with_key l.keys key in
     let c = committed_at s p in
@@ -171,36 +171,36 @@ same-part s l key p a e =
     elim (cases_eq p (place_in l key)) [
       | inr ne ↦ ap (take c) (ap (map (key_at ws)) (log-other l key p ne) ∙ names-same l key a p)
       | inl is ↦
-          let more : log_at (with_record l key) p ≡ log_at l p ++ number_of l.keys key ∷ [] = ap (log_at (with_record l key)) is ∙ log-same l key placed ∙ ap (λ q. log_at l q ++ number_of l.keys key ∷ []) (sym is) in
+          let more : log_at (with_record l key) p ≡ log_at l p ++ id_of l.keys key ∷ [] = ap (log_at (with_record l key)) is ∙ log-same l key placed ∙ ap (λ q. log_at l q ++ id_of l.keys key ∷ []) (sym is) in
           let fits : c ≤ length (keys_of_log l p) = omega (arith, e.within p, length-map (log_at l p) (key_at l.keys)) in
-          ap (take c) (ap (map (key_at ws)) more ∙ map-append (key_at ws) (log_at l p) (number_of l.keys key ∷ []) ∙ ap (λ ks. ks ++ key_at ws (number_of l.keys key) ∷ []) (names-same l key a p))
-          ∙ take-append-le c (keys_of_log l p) (key_at ws (number_of l.keys key) ∷ []) fits
+          ap (take c) (ap (map (key_at ws)) more ∙ map-append (key_at ws) (log_at l p) (id_of l.keys key ∷ []) ∙ ap (λ ks. ks ++ key_at ws (id_of l.keys key) ∷ []) (names-same l key a p))
+          ∙ take-append-le c (keys_of_log l p) (key_at ws (id_of l.keys key) ∷ []) fits
     ]
 
-longer-log : (l : PartitionLogs) (key : Key) (p : ℕ) → AreLogs l → length (log_at l p) ≤ length (log_at (with_record l key) p)
+longer-log : (l : PartitionLogs) (key : Key) (p : ℕ) → IsValidLogs l → length (log_at l p) ≤ length (log_at (with_record l key) p)
 longer-log l key p a =
     let placed : place_in l key < length l.logs = rw a.a_log_each (place_in-below l key a) in
     elim (cases_eq p (place_in l key)) [
       | inr ne ↦ omega (arith, ap length (log-other l key p ne))
       | inl is ↦
-          let more : log_at (with_record l key) p ≡ log_at l p ++ number_of l.keys key ∷ [] = ap (log_at (with_record l key)) is ∙ log-same l key placed ∙ ap (λ q. log_at l q ++ number_of l.keys key ∷ []) (sym is) in
-          omega (arith, ap length more, length-append (log_at l p) (number_of l.keys key ∷ []))
+          let more : log_at (with_record l key) p ≡ log_at l p ++ id_of l.keys key ∷ [] = ap (log_at (with_record l key)) is ∙ log-same l key placed ∙ ap (λ q. log_at l q ++ id_of l.keys key ∷ []) (sym is) in
+          omega (arith, ap length more, length-append (log_at l p) (id_of l.keys key ∷ []))
     ]
 
 -- a record that is appended leaves a store exact
-pub append-exact : (s : Commits) (l : PartitionLogs) (key : Key) → AreLogs l → IsExact s l → IsExact s (with_record l key)
+pub append-exact : (s : Commits) (l : PartitionLogs) (key : Key) → IsValidLogs l → IsExact s l → IsExact s (with_record l key)
 append-exact s l key a e = record {
   within = λ p. omega (arith, e.within p, longer-log l key p a);
   counted = λ x. numbered (is_known l.keys x) x refl ∙ e.counted x ∙ sym (sum-same l.partitions (λ p. plain (take (committed_at s p) (keys_of_log (with_record l key) p)) x) (λ p. plain (take (committed_at s p) (keys_of_log l p)) x) (λ p lt. ap (λ ks. plain ks x) (same-part s l key p a e)));
   spare = λ n le. e.spare n (omega (arith, le, (grows l.keys key).longer));
 }
   where
-    numbered : (b : Bool) (x : Key) → is_known l.keys x ≡ b → count_at s (number_of (with_key l.keys key) x) ≡ count_at s (number_of l.keys x)
+    numbered : (b : Bool) (x : Key) → is_known l.keys x ≡ b → count_at s (id_of (with_key l.keys key) x) ≡ count_at s (id_of l.keys x)
     numbered true x h = ap (count_at s) (same-number l.keys key x a.without_repeats h)
-    numbered false x h = e.spare (number_of (with_key l.keys key) x) (later-number l.keys key x h) ∙ sym (e.spare (number_of l.keys x) (omega (arith, fresh l.keys x h)))
+    numbered false x h = e.spare (id_of (with_key l.keys key) x) (later-number l.keys key x h) ∙ sym (e.spare (id_of l.keys x) (omega (arith, fresh l.keys x h)))
 
 -- where all ends are committed, all is counted
-pub all-counted : (s : Commits) (l : PartitionLogs) (appended : List Key) (x : Key) → AreLogs l → AreLogsOf appended l → IsExact s l → ((p : ℕ) → p < l.partitions → committed_at s p ≡ length (log_at l p)) → count_at s (number_of l.keys x) ≡ plain appended x
+pub all-counted : (s : Commits) (l : PartitionLogs) (appended : List Key) (x : Key) → IsValidLogs l → AreLogsOf appended l → IsExact s l → ((p : ℕ) → p < l.partitions → committed_at s p ≡ length (log_at l p)) → count_at s (id_of l.keys x) ≡ plain appended x
 all-counted s l appended x a h e ends =
     e.counted x
     ∙ sum-same l.partitions (λ p. plain (take (committed_at s p) (keys_of_log l p)) x) (λ p. plain (keys_of_log l p) x) (λ p lt. ap (λ ks. plain ks x) (take_all (committed_at s p) (keys_of_log l p) (omega (arith, ends p lt, length-map (log_at l p) (key_at l.keys)))))

@@ -8,7 +8,7 @@ use Rattle.std.proofs.lemmas.Bool.{cases_eq}
 use Rattle.std.proofs.lemmas.List.Sums.{count_by-le-length}
 use Rattle.std.proofs.lemmas.Nat.{mul-le}
 use Rattle.std.proofs.Math.ListN.{length-set}
-use Rattle.commit_store.specs.Commits.{AreCommits, Commits, committed_at, with_commit}
+use Rattle.commit_store.specs.Commits.{IsValidStore, Commits, committed_at, with_commit}
 use Rattle.keyed_table.specs.Counts.{HaveCounters, SumsFit, plain, raised, raised_from}
 
 sum-cons : (x : ℕ) (xs : List ℕ) → sum (x ∷ xs) ≡ x + sum xs
@@ -86,14 +86,14 @@ sum_raised counts (id ∷ ids) have =
     omega (arith, raised-here 0 counts id ids (omega arith) (omega (arith, within)), sum_raised counts ids (λ x more. have x (omega (arith, more, more-count id ids x))))
 
 -- sums of counters that add up to offsets fit in 64 bits
-pub sums-fit : (s : Commits) (ids : List ℕ) → AreCommits s → length ids < 2 ^ 32 → SumsFit s.counts ids
+pub sums-fit : (s : Commits) (ids : List ℕ) → IsValidStore s → length ids < 2 ^ 32 → SumsFit s.counts ids
 sums-fit s ids a few x =
     let offsets = sum-most s.offsets (2 ^ 32 - 1) (λ p. omega (arith, a.small p)) in
     let most : length s.offsets * (2 ^ 32 - 1) ≤ 4096 * (2 ^ 32 - 1) = mul-le (length s.offsets) (2 ^ 32 - 1) 4096 (2 ^ 32 - 1) a.few (omega arith) in
     omega (arith, one-of-sum s.counts x, a.adds_up, offsets, most, few, count_by-le-length (λ y. x == y) ids)
 
 -- a store stays one after a commit
-pub stays-commits : (s : Commits) (p : ℕ) (ids : List ℕ) → AreCommits s → p < length s.offsets → HaveCounters s.counts ids → committed_at s p + length ids < 2 ^ 32 → AreCommits (with_commit s p ids)
+pub stays-commits : (s : Commits) (p : ℕ) (ids : List ℕ) → IsValidStore s → p < length s.offsets → HaveCounters s.counts ids → committed_at s p + length ids < 2 ^ 32 → IsValidStore (with_commit s p ids)
 stays-commits s p ids a lt have fit =
     let end = committed_at s p + length ids in
     record {

@@ -3,8 +3,8 @@ use Rattle.std.specs.Prelude.{◌≡◌, ℕ, ◌+◌, ◌<◌, ◌≤◌, ◌^�
 use Rattle.std.specs.Str.{bytes_eq}
 use Rattle.lane_words.specs.declared.Refusal.{Refusal}
 use Rattle.lane_words.specs.declared.Refusal.TheVariants as r
-pub use Rattle.partition_log.specs.Keys.{Key, number_of, plain}
-pub use Rattle.partition_log.specs.Logs.{PartitionLogs, AreLogs, AreLogsOf, append_answer, keys_of_log, log_at, sum_below, with_record}
+pub use Rattle.partition_log.specs.Keys.{Key, id_of, plain}
+pub use Rattle.partition_log.specs.Logs.{PartitionLogs, IsValidLogs, AreLogsOf, append_answer, keys_of_log, log_at, sum_below, with_record}
 unfoldable pub use Rattle.keyed_table.specs.Counts.{raised}
 
 -- the committed offset of each partition, which is that of the next record to be read; the counter of each key number;
@@ -63,11 +63,11 @@ committed_count s l x = sum_below l.partitions (λ p. plain (take (committed_at 
 -- the records below the committed offsets, each taken once
 pub record IsExact (s : Commits) (l : PartitionLogs) : Type 0 where
   pub within : (p : ℕ) → committed_at s p ≤ length (log_at l p)
-  pub counted : (x : Key) → count_at s (number_of l.keys x) ≡ committed_count s l x
+  pub counted : (x : Key) → count_at s (id_of l.keys x) ≡ committed_count s l x
   pub spare : (n : ℕ) → length l.keys ≤ n → count_at s n ≡ 0
 
 -- what a store keeps: its counters add up to its committed offsets, so that a sum of them fits
-pub record AreCommits (s : Commits) : Type 0 where
+pub record IsValidStore (s : Commits) : Type 0 where
   pub some : 1 ≤ length s.offsets
   pub few : length s.offsets ≤ 4096
   pub small : (p : ℕ) → committed_at s p < 2 ^ 32

@@ -1,2 +1,2 @@
 pub mod Commits
-pub mod Shown
+pub mod View

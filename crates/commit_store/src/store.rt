@@ -1,7 +1,7 @@
 //! The store of committed offsets and counts.
 
 ghost use Rattle.std.specs.Prelude.{◌≡◌, ℕ, ◌≤◌, ◌<◌, ◌+◌, ◌-◌, ◌++◌, ◌∷◌, [], Ok, IsOk, IfOk, OnOk, OnErr, length, replicate};
-ghost use Rattle.commit_store.specs.Commits.{AreLogs, Commits, Fits, IsExact, PartitionLogs, commit_answer, committed_at, count_at, log_at, offset_answer, with_commit};
+ghost use Rattle.commit_store.specs.Commits.{IsValidLogs, Commits, Fits, IsExact, PartitionLogs, commit_answer, committed_at, count_at, log_at, offset_answer, with_commit};
 
 use keyed_table::{Partial, Table};
 use lane_words::{Memory, Refusal};
@@ -21,13 +21,13 @@ pub struct Store {
 
 impl Model for Store {
     ghost use Rattle.commit_store.specs.Commits.{Commits};
-    ghost use Rattle.commit_store.specs.Shown.{IsShown, commits_of};
+    ghost use Rattle.commit_store.specs.View.{IsValidStoreInside, store_view};
 
     ghost Value = { Commits };
 
-    ghost view = { commits_of };
+    ghost view = { store_view };
 
-    ghost invariant = { IsShown };
+    ghost invariant = { IsValidStoreInside };
 }
 
 impl Store {
@@ -148,7 +148,7 @@ fn next_offset<L: LogRead>(
 ) -> Result<u32, Refusal>
     requires { p < (L.contents logs.now).partitions }
     ensures answer { result ≡ offset_answer (L.contents logs.now) p committed from ids.now }
-    ensures kept { OnOk result (AreLogs (L.contents logs.now)) }
+    ensures valid { OnOk result (IsValidLogs (L.contents logs.now)) }
 {
     if ids.is_empty() {
         return Err(Refusal::EmptyCommit);

@@ -4,7 +4,7 @@ use Rattle.std.specs.Prelude.{nat_lt}
 use Rattle.std.proofs.lemmas.Bool.{le-ltb}
 use Rattle.std.proofs.lemmas.Bool.Decides.{nat_tests}
 use Rattle.bit_planes.specs.PartitionSet.{PartitionSet, partitions, is_in, one, union, minus, empty_set}
-use Rattle.bit_planes.specs.SetRows.{SetRows, AreRows, IsRising, find_row, set_or_empty}
+use Rattle.bit_planes.specs.SetRows.{SetRows, IsValidRows, IsRising, find_row, set_or_empty}
 use Rattle.bit_planes.proofs.Sets.{in_empty, in_minus, in_union, partitions_empty, partitions_minus, partitions_union}
 use Rattle.bit_planes.proofs.RowLaws.{rising_rest}
 use Rattle.coop_rebalance.specs.Grants.{times_granted, AreGrants}
@@ -65,17 +65,17 @@ tells_others o true = grind (arith, nat_tests)
 tells_others o false = grind (arith, nat_tests)
 
 -- with a row of its own
-pub others_beside : (some several own : PartitionSet) (r : SetRows) (m q : ℕ) → AreRows r → AreGrants some several r → find_row r.rows m ≡ Some own → (is_in several q || (is_in some q && not (is_in own q))) ≡ granted_to_other r.rows m q
-others_beside some several own r m q kept grants found =
+pub others_beside : (some several own : PartitionSet) (r : SetRows) (m q : ℕ) → IsValidRows r → AreGrants some several r → find_row r.rows m ≡ Some own → (is_in several q || (is_in some q && not (is_in own q))) ≡ granted_to_other r.rows m q
+others_beside some several own r m q valid grants found =
     let own_is : one (is_in (set_or_empty r.below (find_row r.rows m)) q) ≡ one (is_in own q) = ap (λ o. one (is_in (set_or_empty r.below o) q)) found in
-    let times : times_granted r.rows q ≡ times_to_others r.rows m q + one (is_in own q) = own_or_not r.rows r.below m q kept.rising ∙ ap (λ n. times_to_others r.rows m q + n) own_is in
+    let times : times_granted r.rows q ≡ times_to_others r.rows m q + one (is_in own q) = own_or_not r.rows r.below m q valid.rising ∙ ap (λ n. times_to_others r.rows m q + n) own_is in
     rw (grants.to_several q, grants.to_some q, times, to_other-counts r.rows m q) (tells_others (times_to_others r.rows m q) (is_in own q))
 
 -- without one
-pub others_alone : (some several : PartitionSet) (r : SetRows) (m q : ℕ) → AreRows r → AreGrants some several r → find_row r.rows m ≡ None → is_in some q ≡ granted_to_other r.rows m q
-others_alone some several r m q kept grants found =
+pub others_alone : (some several : PartitionSet) (r : SetRows) (m q : ℕ) → IsValidRows r → AreGrants some several r → find_row r.rows m ≡ None → is_in some q ≡ granted_to_other r.rows m q
+others_alone some several r m q valid grants found =
     let own_is : one (is_in (set_or_empty r.below (find_row r.rows m)) q) ≡ 0 = ap (λ o. one (is_in (set_or_empty r.below o) q)) found ∙ ap one (in_empty r.below q) in
-    let times : times_granted r.rows q ≡ times_to_others r.rows m q = omega (arith, own_or_not r.rows r.below m q kept.rising, own_is) in
+    let times : times_granted r.rows q ≡ times_to_others r.rows m q = omega (arith, own_or_not r.rows r.below m q valid.rising, own_is) in
     rw (grants.to_some q, times, to_other-counts r.rows m q) refl
 
 -- ---- collecting

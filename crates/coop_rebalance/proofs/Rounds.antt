@@ -3,7 +3,7 @@ use Rattle.std.proofs.Common.{ℕ, zero, suc, ◌≡◌, ◌+◌, ◌<◌, ◌�
 use Rattle.std.specs.Prelude.{Some, cond}
 use Rattle.std.proofs.lemmas.Bool.{cases_lt}
 use Rattle.bit_planes.specs.PartitionSet.{PartitionSet, partitions, is_in, one, empty_set, union, is_within}
-use Rattle.bit_planes.specs.SetRows.{SetRows, members, find_row, set_or_empty, set_of, sets_of, IsRising, AreRows}
+use Rattle.bit_planes.specs.SetRows.{SetRows, members, find_row, set_or_empty, set_of, sets_of, IsRising, IsValidRows}
 use Rattle.bit_planes.proofs.Sets.{one_le, same_set, partitions_where, in_where, past_where, past, in_union, within_of}
 use Rattle.bit_planes.proofs.RowLaws.{rising_rest}
 use Rattle.sticky_assignor.specs.Balanced.{holders, IsBalanced, AreApart, AreBelow}
@@ -224,7 +224,7 @@ settles_paired p ms gs len rising some over apart =
     let goal : target_rows (record { below = p; rows = pair_up ms ws }) ≡ record { below = p; rows = pair_up ms us } = target_paired p ms ws n.long rising in
     let none : taken_off (pair_up ms ws) ms us ≡ us = nothing_off ms us ws (length_target p ws ∙ n.long) n.long rising whole ua in
     let settled : Settles (record { below = p; rows = pair_up ms ws }) = record {
-      kept = subst (RowsWithin (record { below = p; rows = pair_up ms ws })) (sym goal) (within_paired p ms ws us whole);
+      keeps = subst (RowsWithin (record { below = p; rows = pair_up ms ws })) (sym goal) (within_paired p ms ws us whole);
       all = next_paired p ms ws n.long rising ∙ ap (λ rows. record { below = p; rows = pair_up ms rows }) none ∙ sym goal;
     } in
     subst Settles (sym (next_paired p ms gs len rising)) settled
@@ -234,15 +234,15 @@ length_members [] = refl
 length_members (row ∷ rows) = ap (λ n. suc n) (length_members rows)
 
 -- The next round keeps what this one assigned, and withholds nothing
-pub settles : (g : SetRows) → AreRows g → 0 < length g.rows → AreApart (sets_of g (members g)) → Settles (next_rows g)
-settles g kept some apart =
+pub settles : (g : SetRows) → IsValidRows g → 0 < length g.rows → AreApart (sets_of g (members g)) → Settles (next_rows g)
+settles g valid some apart =
     let ms : List ℕ = members g in
     let gs : List PartitionSet = sets_of g ms in
     let len : length gs ≡ length ms = length_sets g ms in
-    subst (λ r. Settles (next_rows r)) (sym (paired g kept.rising)) (settles_paired g.below ms gs len kept.rising (omega (arith, length_members g.rows)) (sets_over g ms kept) apart)
+    subst (λ r. Settles (next_rows r)) (sym (paired g valid.rising)) (settles_paired g.below ms gs len valid.rising (omega (arith, length_members g.rows)) (sets_over g ms valid) apart)
 
 -- ---- where the next rows lie
-rows_paired : (p : ℕ) (ms : List ℕ) (rows : List PartitionSet) → 1 ≤ p → p ≤ 4096 → length rows ≡ length ms → IsRising ms → AreBelow p rows → AreRows (record { below = p; rows = pair_up ms rows })
+rows_paired : (p : ℕ) (ms : List ℕ) (rows : List PartitionSet) → 1 ≤ p → p ≤ 4096 → length rows ≡ length ms → IsRising ms → AreBelow p rows → IsValidRows (record { below = p; rows = pair_up ms rows })
 rows_paired p ms rows some few len rising over = record {
   some = some;
   few = few;
@@ -264,7 +264,7 @@ next_within_paired p ms gs lo hi len rising some over apart =
     let lies : LieInBalanced g w = record {
       below = refl;
       same_members = members_paired ms ws n.long ∙ sym mine;
-      kept = rows_paired p ms ws lo hi n.long rising n.over;
+      valid = rows_paired p ms ws lo hi n.long rising n.over;
       apart = subst AreApart (sym (ap (sets_of w) (members_paired ms ws n.long) ∙ sets_paired p ms ws n.long rising)) (lies_apart ws ts n.lies (balanced_apart p ts n.target_over n.balanced));
       within = subst (RowsWithin w) (sym is_target) (within_paired p ms ws ts n.lies);
       balanced = subst (IsBalanced p) (sym (ap (λ r. sets_of r (members g)) is_target ∙ ap (λ ns. sets_of (record { below = p; rows = pair_up ms ts }) ns) mine ∙ sets)) n.balanced;
@@ -272,12 +272,12 @@ next_within_paired p ms gs lo hi len rising some over apart =
     subst (LieInBalanced g) (sym (next_paired p ms gs len rising)) lies
 
 -- What is next lies within balanced rows
-pub next_within : (g : SetRows) → AreRows g → 0 < length g.rows → AreApart (sets_of g (members g)) → LieInBalanced g (next_rows g)
-next_within g kept some apart =
+pub next_within : (g : SetRows) → IsValidRows g → 0 < length g.rows → AreApart (sets_of g (members g)) → LieInBalanced g (next_rows g)
+next_within g valid some apart =
     let ms : List ℕ = members g in
     let gs : List PartitionSet = sets_of g ms in
     let len : length gs ≡ length ms = length_sets g ms in
-    subst (λ r. LieInBalanced r (next_rows r)) (sym (paired g kept.rising)) (next_within_paired g.below ms gs kept.some kept.few len kept.rising (omega (arith, length_members g.rows)) (sets_over g ms kept) apart)
+    subst (λ r. LieInBalanced r (next_rows r)) (sym (paired g valid.rising)) (next_within_paired g.below ms gs valid.some valid.few len valid.rising (omega (arith, length_members g.rows)) (sets_over g ms valid) apart)
 
 -- ---- what is granted, with what is given
 abbrev unions : List PartitionSet → List PartitionSet → List PartitionSet
@@ -368,9 +368,9 @@ given_apart_paired p ms gs len rising some over apart =
     subst (λ r. AreApart (together g r)) (sym (next_paired p ms gs len rising)) (subst AreApart (sym same) (given_apart_lists p ms gs ts len n.target_long rising over n.target_over apart ta))
 
 -- What is granted and what is given besides stay apart
-pub given_apart : (g : SetRows) → AreRows g → 0 < length g.rows → AreApart (sets_of g (members g)) → AreApart (together g (next_rows g))
-given_apart g kept some apart =
+pub given_apart : (g : SetRows) → IsValidRows g → 0 < length g.rows → AreApart (sets_of g (members g)) → AreApart (together g (next_rows g))
+given_apart g valid some apart =
     let ms : List ℕ = members g in
     let gs : List PartitionSet = sets_of g ms in
     let len : length gs ≡ length ms = length_sets g ms in
-    subst (λ r. AreApart (together r (next_rows r))) (sym (paired g kept.rising)) (given_apart_paired g.below ms gs len kept.rising (omega (arith, length_members g.rows)) (sets_over g ms kept) apart)
+    subst (λ r. AreApart (together r (next_rows r))) (sym (paired g valid.rising)) (given_apart_paired g.below ms gs len valid.rising (omega (arith, length_members g.rows)) (sets_over g ms valid) apart)

@@ -4,7 +4,7 @@ use Rattle.std.proofs.lemmas.Bool.{cases_lt}
 use Rattle.std.proofs.lemmas.Bool.Decides.{nat_tests}
 use Rattle.std.proofs.lemmas.List.{length-map, length-take-le, get_or-take, get_or-map, map-append, take_all}
 use Rattle.bit_planes.specs.PartitionSet.{PartitionSet, partitions, is_in, set_where, minus}
-use Rattle.bit_planes.specs.SetRows.{SetRows, AreRows, IsRising, members, find_row, set_or_empty, set_of, put_row, with_row}
+use Rattle.bit_planes.specs.SetRows.{SetRows, IsValidRows, IsRising, members, find_row, set_or_empty, set_of, put_row, with_row}
 use Rattle.bit_planes.proofs.Sets.{in_empty, in_minus, in_where, past, past_where, partitions_minus, partitions_where, same_set}
 use Rattle.bit_planes.proofs.RowLaws.{put_last}
 use Rattle.coop_rebalance.proofs.Items.{items_more}
@@ -42,14 +42,14 @@ pub members_withheld : (target granted : SetRows) → members (withheld target g
 unfolding withheld
 members_withheld target granted = numbers_withheld granted.rows target.rows
 
-same_number : (m n : ℕ) → (m == n) ≡ true → m ≡ n
-same_number m n e = grind (arith, nat_tests)
+same_id : (m n : ℕ) → (m == n) ≡ true → m ≡ n
+same_id m n e = grind (arith, nat_tests)
 
 found_withheld : (p : ℕ) (granted rows : Rows) (m q : ℕ) → is_in (set_or_empty p (find_row (map (withheld_row granted) rows) m)) q ≡ (is_in (set_or_empty p (find_row rows m)) q && not (granted_to_other granted m q))
 found_withheld p granted [] m q = in_empty p q ∙ sym (not_first (is_in (set_or_empty p None) q) (not (granted_to_other granted m q)) (in_empty p q))
 found_withheld p granted (row ∷ rows) m q =
     elim (row.0 == m) as (λ b. (row.0 == m) ≡ b → is_in (set_or_empty p (cond b (Some (withheld_row granted row).1) (find_row (map (withheld_row granted) rows) m))) q ≡ (is_in (set_or_empty p (cond b (Some row.1) (find_row rows m))) q && not (granted_to_other granted m q))) [
-      | true ↦ λ e. in_withheld_row granted row q ∙ ap (λ n. is_in row.1 q && not (granted_to_other granted n q)) (same_number row.0 m e)
+      | true ↦ λ e. in_withheld_row granted row q ∙ ap (λ n. is_in row.1 q && not (granted_to_other granted n q)) (same_id row.0 m e)
       | false ↦ λ e. found_withheld p granted rows m q
     ] refl
 
@@ -81,11 +81,11 @@ earlier_below granted items i item rising lt at j few =
     omega (arith, rises, there, here)
 
 pub withheld_more : (target granted : SetRows) (items : Rows) (i : ℕ) (item : ℕ × PartitionSet) (others : PartitionSet) (rows new : SetRows)
-    → AreRows target → items ≡ target.rows → i < length items → item ≡ get_or items i item → ((q : ℕ) → is_in others q ≡ granted_to_other granted.rows item.0 q)
+    → IsValidRows target → items ≡ target.rows → i < length items → item ≡ get_or items i item → ((q : ℕ) → is_in others q ≡ granted_to_other granted.rows item.0 q)
     → rows ≡ withheld_first target granted items i → new ≡ with_row rows item.0 (minus item.1 others) → new ≡ withheld_first target granted items (i + 1)
-withheld_more target granted items i item others rows new kept same lt at known so_far put =
+withheld_more target granted items i item others rows new valid same lt at known so_far put =
     let w : Rows = map (withheld_row granted.rows) (take i items) in
-    let rising : IsRising (map (λ row. row.0) items) = subst (λ (xs : Rows). IsRising (map (λ row. row.0) xs)) (sym same) kept.rising in
+    let rising : IsRising (map (λ row. row.0) items) = subst (λ (xs : Rows). IsRising (map (λ row. row.0) xs)) (sym same) valid.rising in
     let last : put_row w item.0 (minus item.1 others) ≡ w ++ withheld_row granted.rows item ∷ [] = put_last w item.0 (minus item.1 others) (earlier_below granted.rows items i item rising lt at) ∙ ap (λ row. w ++ row ∷ []) (withheld_set granted.rows item others known) in
     let more : w ++ withheld_row granted.rows item ∷ [] ≡ map (withheld_row granted.rows) (take (i + 1) items) = sym (map-append (withheld_row granted.rows) (take i items) (item ∷ [])) ∙ ap (λ (xs : Rows). map (withheld_row granted.rows) xs) (sym (items_more items i item lt at)) in
     put ∙ ap (λ (r : SetRows). with_row r item.0 (minus item.1 others)) so_far ∙ ap (λ (xs : Rows). record target { rows = xs }) (last ∙ more)

@@ -1,7 +1,7 @@
 -- Rounds of a rebalance, by what is granted.
 use Rattle.std.specs.Prelude.{◌≡◌, ℕ, List, IsTrue, map}
 use Rattle.bit_planes.specs.PartitionSet.{PartitionSet, union, is_within}
-use Rattle.bit_planes.specs.SetRows.{SetRows, AreRows, members, set_of, sets_of}
+use Rattle.bit_planes.specs.SetRows.{SetRows, IsValidRows, members, set_of, sets_of}
 pub use Rattle.sticky_assignor.specs.Balanced.{AreApart, IsBalanced}
 pub use Rattle.coop_rebalance.specs.Withheld.{target_rows, next_rows}
 
@@ -11,14 +11,14 @@ RowsWithin rows others = (m : ℕ) → IsTrue (is_within (set_of rows m) (set_of
 
 -- the next round keeps all that these rows have, and withholds nothing
 pub record Settles (rows : SetRows) : Type 0 where
-  pub kept : RowsWithin rows (target_rows rows)
+  pub keeps : RowsWithin rows (target_rows rows)
   pub all : next_rows rows ≡ target_rows rows
 
 -- the next rows are rows of the same members and P, are disjoint, and lie within the target's, which are balanced
 pub record LieInBalanced (granted rows : SetRows) : Type 0 where
   pub below : rows.below ≡ granted.below
   pub same_members : members rows ≡ members granted
-  pub kept : AreRows rows
+  pub valid : IsValidRows rows
   pub apart : AreApart (sets_of rows (members rows))
   pub within : RowsWithin rows (target_rows granted)
   pub balanced : IsBalanced granted.below (sets_of (target_rows granted) (members granted))

@@ -2,7 +2,7 @@
 
 ghost use Rattle.std.specs.Prelude.{◌≡◌, ◌&&◌, ◌↔◌, ℕ, not, IfOk, IsTrue};
 ghost use Rattle.bit_planes.specs.PartitionSet.{partitions, is_in, minus};
-ghost use Rattle.bit_planes.specs.SetRows.{AreRows, members, set_of};
+ghost use Rattle.bit_planes.specs.SetRows.{IsValidRows, members, set_of};
 ghost use Rattle.coop_rebalance.specs.Grants.{AreGrants, HaveSameRows};
 ghost use Rattle.coop_rebalance.specs.Withheld.{granted_to_other, withheld};
 
@@ -20,7 +20,7 @@ pub fn withhold(alloc: Global, target: &PlaneRows, granted: &PlaneRows) -> Resul
     ensures sets { IfOk result (λ rows. (m q : ℕ) → is_in (set_of rows m) q ≡ (is_in (set_of target.now m) q && not (granted_to_other granted.now.rows m q))) }
     ensures members { IfOk result (λ rows. members rows ≡ members target.now) }
     ensures below { IfOk result (λ rows. rows.below ≡ target.now.below) }
-    ensures kept { IfOk result AreRows }
+    ensures valid { IfOk result IsValidRows }
 {
     let grants = Grants::of(granted);
     let mut rows = PlaneRows::new(alloc, target.partitions());
@@ -35,7 +35,7 @@ pub fn withhold(alloc: Global, target: &PlaneRows, granted: &PlaneRows) -> Resul
 pub fn to_give(granted: &Plane, assigned: &Plane) -> Plane
     requires { partitions granted.now ≡ partitions assigned.now }
     ensures value { result ≡ minus granted.now assigned.now }
-    ensures members { (q : ℕ) → is_in result q ≡ (is_in granted.now q && not (is_in assigned.now q)) }
+    ensures elements { (q : ℕ) → is_in result q ≡ (is_in granted.now q && not (is_in assigned.now q)) }
     ensures partitions { partitions result ≡ partitions granted.now }
 {
     granted.minus(assigned)
@@ -45,7 +45,7 @@ pub fn to_give(granted: &Plane, assigned: &Plane) -> Plane
 pub fn added(assigned: &Plane, granted: &Plane) -> Plane
     requires { partitions assigned.now ≡ partitions granted.now }
     ensures value { result ≡ minus assigned.now granted.now }
-    ensures members { (q : ℕ) → is_in result q ≡ (is_in assigned.now q && not (is_in granted.now q)) }
+    ensures elements { (q : ℕ) → is_in result q ≡ (is_in assigned.now q && not (is_in granted.now q)) }
     ensures partitions { partitions result ≡ partitions assigned.now }
 {
     assigned.minus(granted)
@@ -104,7 +104,7 @@ impl Grants {
     // What members other than this one are granted.
     fn of_others(&self, granted: &PlaneRows, member: u32) -> Plane
         requires { AreGrants self.now.some self.now.several granted.now }
-        ensures members { (q : ℕ) → is_in result q ≡ granted_to_other granted.now.rows member q }
+        ensures elements { (q : ℕ) → is_in result q ≡ granted_to_other granted.now.rows member q }
         ensures partitions { partitions result ≡ granted.now.below }
     {
         match granted.get(member) {

@@ -3,7 +3,7 @@ use Rattle.std.proofs.Common.{ℕ, suc, ◌≡◌, ◌<◌, ◌≤◌, ◌==◌,
 use Rattle.std.specs.Prelude.{Some, IsTrue}
 use Rattle.std.proofs.lemmas.Bool.{false≢true, cases_lt}
 use Rattle.bit_planes.specs.PartitionSet.{PartitionSet, partitions, is_in, is_within}
-use Rattle.bit_planes.specs.SetRows.{SetRows, AreRows, members, find_row, set_or_empty, set_of, sets_of}
+use Rattle.bit_planes.specs.SetRows.{SetRows, IsValidRows, members, find_row, set_or_empty, set_of, sets_of}
 use Rattle.bit_planes.proofs.Sets.{both_true, same_set, in_empty, in_where, past_where, past}
 use Rattle.sticky_assignor.specs.Balanced.{AreBelow, IsBalanced}
 use Rattle.sticky_assignor.proofs.AssignedLaws.{members_assigned, assigned_kept, below_assigned}
@@ -11,15 +11,15 @@ use Rattle.coop_rebalance.specs.Rounds.{target_rows, next_rows, LieInBalanced, S
 use Rattle.coop_rebalance.specs.Withheld.{granted_to_other, withheld_row, withheld}
 use Rattle.coop_rebalance.proofs.Rounds.{next_within, settles}
 use Rattle.group_machine.specs.Walks.{AreOwned}
-use Rattle.group_machine.proofs.SlotsLemmas.{number_is, same_number, other_number}
+use Rattle.group_machine.proofs.SlotsLemmas.{number_is, same_id, other_id}
 use Rattle.group_machine.proofs.PresentLemmas.{Listed, RisesFrom, rises}
 use Rattle.group_machine.proofs.Rows.{apart_says, balanced_apart, member_listed, set_over, sets_below}
 
 pub target_members : (r : SetRows) → members (target_rows r) ≡ members r
 target_members r = members_assigned r.below (members r) r
 
-pub target_kept : (r : SetRows) → AreRows r → AreRows (target_rows r)
-target_kept r kept = assigned_kept (members r) r kept kept.rising
+pub target_kept : (r : SetRows) → IsValidRows r → IsValidRows (target_rows r)
+target_kept r valid = assigned_kept (members r) r valid valid.rising
 
 pub target_below : (r : SetRows) → (target_rows r).below ≡ r.below
 target_below r = below_assigned r.below (members r) r
@@ -29,7 +29,7 @@ length_mapped [] = refl
 length_mapped (x ∷ xs) = ap (λ n. suc n) (length_mapped xs)
 
 next_lies : (r : SetRows) → AreOwned r → LieInBalanced r (next_rows r)
-next_lies r owned = next_within r owned.kept (omega (arith, owned.some, length_mapped r.rows)) owned.apart
+next_lies r owned = next_within r owned.valid (omega (arith, owned.some, length_mapped r.rows)) owned.apart
 
 pub target_balanced : (r : SetRows) → AreOwned r → IsBalanced r.below (sets_of (target_rows r) (members r))
 target_balanced r owned = (next_lies r owned).balanced
@@ -40,8 +40,8 @@ next_members r owned = (next_lies r owned).same_members
 pub next_below : (r : SetRows) → AreOwned r → (next_rows r).below ≡ r.below
 next_below r owned = (next_lies r owned).below
 
-pub next_kept : (r : SetRows) → AreOwned r → AreRows (next_rows r)
-next_kept r owned = (next_lies r owned).kept
+pub next_kept : (r : SetRows) → AreOwned r → IsValidRows (next_rows r)
+next_kept r owned = (next_lies r owned).valid
 
 -- ---- a row without what others are granted
 first_false : (x y : Bool) → x ≡ false → x ≡ (x && y)
@@ -85,13 +85,13 @@ or_second true b e = refl
 or_second false b e = e
 
 differs : (a b : ℕ) → not (a == b) ≡ true → b ≡ a → ⊥
-differs a b e same = false≢true (sym (ap not (same_number a)) ∙ ap (λ n. not (a == n)) (sym same) ∙ e)
+differs a b e same = false≢true (sym (ap not (same_id a)) ∙ ap (λ n. not (a == n)) (sym same) ∙ e)
 
 found_first : (p : ℕ) (row : ℕ × PartitionSet) (rows : List (ℕ × PartitionSet)) (q : ℕ) → is_in row.1 q ≡ true → is_in (set_or_empty p (find_row (row ∷ rows) row.0)) q ≡ true
-found_first p row rows q e = rw (same_number row.0) e
+found_first p row rows q e = rw (same_id row.0) e
 
 found_later : (p : ℕ) (row : ℕ × PartitionSet) (rows : List (ℕ × PartitionSet)) (n q : ℕ) → row.0 < n → is_in (set_or_empty p (find_row rows n)) q ≡ true → is_in (set_or_empty p (find_row (row ∷ rows) n)) q ≡ true
-found_later p row rows n q lt e = rw (other_number row.0 n (λ is. omega (arith, is, lt))) e
+found_later p row rows n q lt e = rw (other_id row.0 n (λ is. omega (arith, is, lt))) e
 
 other_found : (p m0 : ℕ) (rows : List (ℕ × PartitionSet)) (m q : ℕ) → RisesFrom m0 (map (λ row. row.0) rows) → granted_to_other rows m q ≡ true → (n : ℕ) × (m ≡ n → ⊥) × (is_in (set_or_empty p (find_row rows n)) q ≡ true) × Listed n (map (λ row. row.0) rows)
 other_found p m0 [] m q up e = absurd (false≢true e)
@@ -100,15 +100,15 @@ other_found p m0 (row ∷ rows) m q up e = elim (or_either (not (row.0 == m) && 
   | inr h ↦ (let o = other_found p (suc row.0) rows m q up.1 h in (o.0, o.1, found_later p row rows o.0 q (listed_above (suc row.0) (map (λ r. r.0) rows) o.0 up.1 o.3) o.2, inr o.3))
 ]
 
-pub other_says : (r : SetRows) → AreRows r → (m q : ℕ) → granted_to_other r.rows m q ≡ true → (n : ℕ) × (m ≡ n → ⊥) × (is_in (set_of r n) q ≡ true)
-other_says r kept m q e = let o = other_found r.below 0 r.rows m q (rises 0 (members r) (λ i lt. omega arith) kept.rising) e in (o.0, o.1, o.2)
+pub other_says : (r : SetRows) → IsValidRows r → (m q : ℕ) → granted_to_other r.rows m q ≡ true → (n : ℕ) × (m ≡ n → ⊥) × (is_in (set_of r n) q ≡ true)
+other_says r valid m q e = let o = other_found r.below 0 r.rows m q (rises 0 (members r) (λ i lt. omega arith) valid.rising) e in (o.0, o.1, o.2)
 
 found_other : (p : ℕ) (rows : List (ℕ × PartitionSet)) (m n q : ℕ) → (m ≡ n → ⊥) → is_in (set_or_empty p (find_row rows n)) q ≡ true → granted_to_other rows m q ≡ true
 found_other p [] m n q ne e = absurd (false≢true (sym (in_empty p q) ∙ e))
 found_other p (row ∷ rows) m n q ne e = go (λ h. found_other p rows m n q ne h) (row.0 == n) refl e
   where
     go : (is_in (set_or_empty p (find_row rows n)) q ≡ true → granted_to_other rows m q ≡ true) → (b : Bool) → (row.0 == n) ≡ b → is_in (set_or_empty p (cond b (Some row.1) (find_row rows n))) q ≡ true → ((not (row.0 == m) && is_in row.1 q) || granted_to_other rows m q) ≡ true
-    go later true is h = rw (other_number row.0 m (λ same. ne (sym same ∙ number_is row.0 n is)), h) refl
+    go later true is h = rw (other_id row.0 m (λ same. ne (sym same ∙ number_is row.0 n is)), h) refl
     go later false is h = or_second (not (row.0 == m) && is_in row.1 q) (granted_to_other rows m q) (later h)
 
 pub other_of : (r : SetRows) (m n q : ℕ) → (m ≡ n → ⊥) → is_in (set_of r n) q ≡ true → granted_to_other r.rows m q ≡ true
@@ -116,13 +116,13 @@ other_of r m n q ne e = found_other r.below r.rows m n q ne e
 
 -- ---- the second round keeps everything and withholds nothing
 second : (r : SetRows) → AreOwned r → Settles (next_rows r)
-second r owned = settles r owned.kept (omega (arith, owned.some, length_mapped r.rows)) owned.apart
+second r owned = settles r owned.valid (omega (arith, owned.some, length_mapped r.rows)) owned.apart
 
 pub second_all : (r : SetRows) → AreOwned r → next_rows (next_rows r) ≡ target_rows (next_rows r)
 second_all r owned = (second r owned).all
 
 pub second_within : (r : SetRows) → AreOwned r → (m : ℕ) → IsTrue (is_within (set_of (next_rows r) m) (set_of (target_rows (next_rows r)) m))
-second_within r owned m = (second r owned).kept m
+second_within r owned m = (second r owned).keeps m
 
 -- ---- by look-up
 pub next_in_target : (r : SetRows) → (m q : ℕ) → is_in (set_of (next_rows r) m) q ≡ true → is_in (set_of (target_rows r) m) q ≡ true
@@ -141,13 +141,13 @@ next_not_other r m n q e h = go (m == n) refl
 
     go : (b : Bool) → (m == n) ≡ b → m ≡ n
     go true is = number_is m n is
-    go false is = absurd (false≢true (sym free ∙ other_of r m n q (λ same. false≢true (sym is ∙ ap (λ k. m == k) (sym same) ∙ same_number m)) h))
+    go false is = absurd (false≢true (sym free ∙ other_of r m n q (λ same. false≢true (sym is ∙ ap (λ k. m == k) (sym same) ∙ same_id m)) h))
 
 pub target_apart : (r : SetRows) → AreOwned r → (m n q : ℕ) → is_in (set_of (target_rows r) m) q ≡ true → is_in (set_of (target_rows r) n) q ≡ true → m ≡ n
 target_apart r owned m n q e h =
     let ms = members (target_rows r) in
     let same : ms ≡ members r = target_members r in
-    let below : AreBelow r.below (sets_of (target_rows r) (members r)) = subst (λ (p : ℕ). AreBelow p (sets_of (target_rows r) (members r))) (target_below r) (sets_below (target_rows r) (members r) (target_kept r owned.kept)) in
+    let below : AreBelow r.below (sets_of (target_rows r) (members r)) = subst (λ (p : ℕ). AreBelow p (sets_of (target_rows r) (members r))) (target_below r) (sets_below (target_rows r) (members r) (target_kept r owned.valid)) in
     apart_says (set_of (target_rows r)) (members r) (balanced_apart r.below (sets_of (target_rows r) (members r)) below (target_balanced r owned)) m n q (subst (Listed m) same (member_listed (target_rows r) m q e)) (subst (Listed n) same (member_listed (target_rows r) n q h)) e h
 
 pub next_apart : (r : SetRows) → AreOwned r → (m n q : ℕ) → is_in (set_of (next_rows r) m) q ≡ true → is_in (set_of (next_rows r) n) q ≡ true → m ≡ n
@@ -156,12 +156,12 @@ next_apart r owned m n q e h = target_apart r owned m n q (next_in_target r m q 
 -- where nothing that is granted is taken from its member, nothing is withheld
 pub next_is_target : (r : SetRows) → AreOwned r → ((m q : ℕ) → is_in (set_of r m) q ≡ true → is_in (set_of (next_rows r) m) q ≡ true) → (m : ℕ) → set_of (next_rows r) m ≡ set_of (target_rows r) m
 next_is_target r owned stays m =
-    same_set (set_of (next_rows r) m) (set_of (target_rows r) m) (set_over (next_rows r) m (next_kept r owned) ∙ next_below r owned ∙ sym (set_over (target_rows r) m (target_kept r owned.kept) ∙ target_below r)) (λ q lt.
+    same_set (set_of (next_rows r) m) (set_of (target_rows r) m) (set_over (next_rows r) m (next_kept r owned) ∙ next_below r owned ∙ sym (set_over (target_rows r) m (target_kept r owned.valid) ∙ target_below r)) (λ q lt.
     next_in r m q ∙ go q (is_in (set_of (target_rows r) m) q) refl (granted_to_other r.rows m q) refl)
   where
     go : (q : ℕ) (t : Bool) → is_in (set_of (target_rows r) m) q ≡ t → (o : Bool) → granted_to_other r.rows m q ≡ o → (is_in (set_of (target_rows r) m) q && not (granted_to_other r.rows m q)) ≡ is_in (set_of (target_rows r) m) q
     go q false e o h = rw e refl
     go q true e false h = rw (e, h) refl
     go q true e true h =
-        let n = other_says r owned.kept m q h in
+        let n = other_says r owned.valid m q h in
         absurd (n.1 (target_apart r owned m n.0 q e (next_in_target r n.0 q (stays n.0 q n.2))))

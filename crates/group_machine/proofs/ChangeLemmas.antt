@@ -14,7 +14,7 @@ use Rattle.group_machine.specs.Slots.{on_seat, only_of, reseated_from, present}
 use Rattle.group_machine.specs.Steps.{newcomer, rejoined_seat}
 use Rattle.group_machine.specs.Walks.{AreSeatsOver, IsSeatOver, granted_in, out_or}
 use Rattle.group_machine.specs.Changes.{seat_after, slots_after, is_ready_in}
-use Rattle.group_machine.proofs.SlotsLemmas.{slot_with, same_number, reseated_not, seat_of_place}
+use Rattle.group_machine.proofs.SlotsLemmas.{slot_with, same_id, reseated_not, seat_of_index}
 use Rattle.group_machine.proofs.PresentLemmas.{length_reseated}
 use Rattle.group_machine.proofs.WalkLemmas.{slot_at, changed_there, granted_more, granted_same}
 use Rattle.group_machine.proofs.TableLemmas.{all_present}
@@ -159,7 +159,7 @@ seat_over p (Rejoins member) m o over x is = only_over p member m (on_seat rejoi
 seat_over p (Leaves member) m o over x is = only_over p member m (λ before. None) o over (λ y h. cc) x is
 
 pub granted_over : (p : ℕ) (change : Change) (slots : List Slot) (i : ℕ) (s : Slot) (x : Seat) → AreSeatsOver p slots → i < length slots → s ≡ get_or slots i s → seat_after change (i + 1) s.seat ≡ Some x → partitions x.granted ≡ p
-granted_over p change slots i s x over lt e is = (seat_over p change (i + 1) s.seat (λ y h. over (suc i) y (seat_of_place slots i s y lt e h)) x is).granted
+granted_over p change slots i s x over lt e is = (seat_over p change (i + 1) s.seat (λ y h. over (suc i) y (seat_of_index slots i s y lt e h)) x is).granted
 
 pub rows_more : (p : ℕ) (change : Change) (slots : List Slot) (i : ℕ) (s : Slot) (x : Seat) → i < length slots → s ≡ get_or slots i s → seat_after change (i + 1) s.seat ≡ Some x → with_row (granted_in p (take i (mid change slots))) (i + 1) x.granted ≡ granted_in p (take (i + 1) (mid change slots))
 rows_more p change slots i s x lt e is = granted_more p (mid change slots) i (slot_after change i s) x (mid_long change slots i lt) (mid_at change slots i s lt e) is
@@ -213,4 +213,4 @@ rows_all p name (Leaves member) slots i not le = ap (granted_in p) (mid_all (Lea
 pub rejoined_here : (change : Change) (changed member : ℕ) (o : Option Seat) (x : Seat) → change ≡ Rejoins changed → changed ≡ member → o ≡ Some x → seat_after change member o ≡ Some (rejoined_seat x)
 rejoined_here change changed member o x is same at =
     ap (λ ch. seat_after ch member o) is ∙ ap (λ n. only_of n (on_seat rejoined_seat) member o) same ∙ ap (only_of member (on_seat rejoined_seat) member) at
-    ∙ ap (λ b. cond b (Some (rejoined_seat x)) (Some x)) (same_number member)
+    ∙ ap (λ b. cond b (Some (rejoined_seat x)) (Some x)) (same_id member)

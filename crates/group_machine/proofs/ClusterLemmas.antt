@@ -13,9 +13,9 @@ use Rattle.commit_store.specs.Commits.{raised}
 use Rattle.commit_store.proofs.Exact.{append-exact, counter-exact}
 use Rattle.group_machine.specs.declared.group.Seat.{Seat}
 use Rattle.group_machine.specs.State.{GroupState, assigned_of, granted_of, is_present, member_of, opening, seat_assigned}
-use Rattle.group_machine.specs.Good.{AllFit, IsFit, IsGood}
+use Rattle.group_machine.specs.Good.{AllFit, IsFit, IsValidGroup}
 use Rattle.group_machine.specs.Completion.{complete, completed, is_ready}
-use Rattle.group_machine.specs.Cluster.{AreLogs, AreLogsOf, ClusterState, CommitTerms, Commits, IsConsistent, IsExact, Key, PartitionLogs, appended_to, fence, is_known, with_commit, with_group, with_record, without_room}
+use Rattle.group_machine.specs.Cluster.{IsValidLogs, AreLogsOf, ClusterState, CommitTerms, Commits, IsValidCluster, IsExact, Key, PartitionLogs, appended_to, fence, is_known, with_commit, with_group, with_record, without_room}
 use Rattle.group_machine.proofs.GroupLemmas.{granted_over}
 use Rattle.group_machine.proofs.StepLemmas.{opening_good}
 
@@ -32,7 +32,7 @@ stepped_partitions old new before (Ok v) ok err same = ap (λ g. g.partitions) o
 stepped_partitions old new before (Err why) ok err same = ap (λ g. g.partitions) err
 
 -- another good group of as many partitions
-pub regrouped : (s : ClusterState) (g : GroupState) → IsConsistent s → IsGood g → g.partitions ≡ s.group.partitions → IsConsistent (with_group s g)
+pub regrouped : (s : ClusterState) (g : GroupState) → IsValidCluster s → IsValidGroup g → g.partitions ≡ s.group.partitions → IsValidCluster (with_group s g)
 regrouped s g c good same = record {
   good = good;
   logs = c.logs;
@@ -56,7 +56,7 @@ offsets-at : (b : Bool) (store : Commits) → length (if b then store else (reco
 offsets-at true store = refl
 offsets-at false store = refl
 
-pub append-kept : (s : ClusterState) (key : Key) → IsConsistent s → AreLogs (with_record s.logs key) → IsConsistent (appended_to s key)
+pub append-kept : (s : ClusterState) (key : Key) → IsValidCluster s → IsValidLogs (with_record s.logs key) → IsValidCluster (appended_to s key)
 append-kept s key c logs = record {
   good = c.good;
   logs = logs;
@@ -100,7 +100,7 @@ let_through g c e =
     (tests.0, is_current c.generation g.generation tests.1, tests.2)
 
 -- its partition is one of the cluster's
-pub partition-below : (s : ClusterState) (c : CommitTerms) → IsConsistent s → fence s.group c ≡ Ok tt → (c.partition < length s.store.offsets) × (c.partition < s.logs.partitions)
+pub partition-below : (s : ClusterState) (c : CommitTerms) → IsValidCluster s → fence s.group c ≡ Ok tt → (c.partition < length s.store.offsets) × (c.partition < s.logs.partitions)
 partition-below s c k e =
     let below = in_below (granted_of s.group c.member) c.partition (let_through s.group c e).2 in
     let over = granted_over s.group k.good.fit c.member in
@@ -114,8 +114,8 @@ store-lengths old new p ids (Err why) ok err = (ap (λ s. length s.offsets) err,
 
 -- what the store answers leaves a cluster consistent
 pub commit-kept : {A : Type 0} (g : GroupState) (l : PartitionLogs) (old new : Commits) (p : ℕ) (ids : List ℕ) (answer : Result A Refusal)
-    → IsConsistent (record { group = g; logs = l; store = without_room old }) → OnOk answer (new ≡ with_commit old p ids) → OnErr answer (new ≡ old) → (IsExact old l → IsExact new l)
-    → IsConsistent (record { group = g; logs = l; store = without_room new })
+    → IsValidCluster (record { group = g; logs = l; store = without_room old }) → OnOk answer (new ≡ with_commit old p ids) → OnErr answer (new ≡ old) → (IsExact old l → IsExact new l)
+    → IsValidCluster (record { group = g; logs = l; store = without_room new })
 commit-kept g l old new p ids answer k ok err exact =
     let same = store-lengths old new p ids answer ok err in
     let now = exact (record { within = k.exact.within; counted = k.exact.counted; spare = k.exact.spare }) in
@@ -138,13 +138,13 @@ assigned_over g fit m = go (member_of g m) (λ x is. fit m x is)
     go (Some x) f = (f x refl).assigned_below
 
 -- ---- the beginning
-pub new-consistent : (p : ℕ) (g : GroupState) (l : PartitionLogs) (store : Commits) → 1 ≤ p → p ≤ 4096 → g ≡ opening p → l.partitions ≡ p → AreLogsOf [] l → AreLogs l
-    → length store.offsets ≡ p → store.counts ≡ [] → IsExact store l → IsConsistent (record { group = g; logs = l; store = without_room store })
+pub new-consistent : (p : ℕ) (g : GroupState) (l : PartitionLogs) (store : Commits) → 1 ≤ p → p ≤ 4096 → g ≡ opening p → l.partitions ≡ p → AreLogsOf [] l → IsValidLogs l
+    → length store.offsets ≡ p → store.counts ≡ [] → IsExact store l → IsValidCluster (record { group = g; logs = l; store = without_room store })
 unfolding distinct
 new-consistent p g l store some few group parts none logs offsets counts exact =
     let same : g.partitions ≡ p = ap (λ h. h.partitions) group in
     record {
-      good = subst IsGood (sym group) (opening_good p some few);
+      good = subst IsValidGroup (sym group) (opening_good p some few);
       logs = logs;
       exact = record { within = exact.within; counted = exact.counted; spare = exact.spare };
       logs_partitions = parts ∙ sym same;

@@ -4,7 +4,7 @@ use Rattle.std.proofs.lemmas.Bool.{false≢true}
 use Rattle.std.proofs.lemmas.List.FromFn.{length-map-range_with_len}
 use Rattle.std.specs.Option.{option_or}
 use Rattle.bit_planes.specs.PartitionSet.{PartitionSet, partitions, is_in, is_within, union, empty_set}
-use Rattle.bit_planes.specs.SetRows.{SetRows, set_of, AreRows}
+use Rattle.bit_planes.specs.SetRows.{SetRows, set_of, IsValidRows}
 use Rattle.bit_planes.proofs.Sets.{in_below, in_union, in_empty, partitions_union, within_of, same_says, both_true}
 use Rattle.sticky_assignor.specs.Balanced.{IsBalanced}
 use Rattle.coop_rebalance.specs.Rounds.{target_rows, next_rows}
@@ -15,7 +15,7 @@ use Rattle.group_machine.specs.State.{GroupState, member_of, members, is_anybody
 use Rattle.group_machine.specs.Moves.{taker}
 use Rattle.group_machine.specs.Completion.{all_joined, is_ready, completed_seat, complete, completed}
 use Rattle.group_machine.specs.Rounds.{is_stable, agrees, all_agree}
-use Rattle.group_machine.specs.Good.{IsSized, IsApart, IsHeldByLast, IsFit, AllFit, IsGood}
+use Rattle.group_machine.specs.Good.{IsSized, IsApart, IsHeldByLast, IsFit, AllFit, IsValidGroup}
 use Rattle.group_machine.proofs.SlotsLemmas.{seat_each}
 use Rattle.group_machine.proofs.PresentLemmas.{Listed, listed_present, numbers_each, length_reseated, any_each, all_says, some_not}
 use Rattle.group_machine.proofs.Rows.{map_same, member_listed, set_over}
@@ -59,7 +59,7 @@ not_all : (a b : Bool) → (a && b) ≡ false → a ≡ true → b ≡ false
 not_all true b e h = e
 not_all false b e h = absurd (false≢true h)
 
-next_good : (g : GroupState) → IsNext g → is_ready g ≡ false → IsGood g
+next_good : (g : GroupState) → IsNext g → is_ready g ≡ false → IsValidGroup g
 next_good g n e = record {
   sized = n.sized;
   apart = n.apart;
@@ -131,15 +131,15 @@ not_joined : (next : SetRows) (m : ℕ) (o : Option Seat) → seat_joined (on_se
 not_joined next m None = refl
 not_joined next m (Some x) = refl
 
-pub complete_good : (g : GroupState) → IsNext g → is_ready g ≡ true → IsGood (complete g)
+pub complete_good : (g : GroupState) → IsNext g → is_ready g ≡ true → IsValidGroup (complete g)
 complete_good g n e =
     let any : is_anybody g ≡ true = (both_true (is_anybody g) (all_joined g) e).0 in
     let p : ℕ = g.partitions in
     let r : SetRows = granted_rows g in
     let next : SetRows = next_rows r in
     let owned : AreOwned r = granted_owned g n.sized n.fit n.apart any in
-    let kept : AreRows next = next_kept r owned in
-    let over : (m : ℕ) → partitions (set_of next m) ≡ p = λ m. set_over next m kept ∙ next_below r owned in
+    let valid : IsValidRows next = next_kept r owned in
+    let over : (m : ℕ) → partitions (set_of next m) ≡ p = λ m. set_over next m valid ∙ next_below r owned in
     let at : (m : ℕ) → member_of (complete g) m ≡ on_seat (completed_seat next m) (member_of g m) = λ m. seat_each (completed_seat next) g.slots m in
     let same : members (complete g) ≡ members g = numbers_each (completed_seat next) g.slots in
     let own : (m q : ℕ) → is_in (granted_of g m) q ≡ true → is_in (set_of r m) q ≡ true = λ m q h. ap (λ s. is_in s q) (set_granted g m) ∙ h in
@@ -187,7 +187,7 @@ complete_good g n e =
       near = λ s. (
         set_of (target_rows r),
         record {
-          below = λ m. set_over (target_rows r) m (target_kept r owned.kept) ∙ target_below r;
+          below = λ m. set_over (target_rows r) m (target_kept r owned.valid) ∙ target_below r;
           balanced = subst (λ (ms : List ℕ). IsBalanced p (map (set_of (target_rows r)) ms)) (sym same) target;
           within = λ m. ap (λ o. is_within (seat_assigned p o) (set_of (target_rows r) m)) (at m) ∙ assigned_within p next (set_of (target_rows r) m) m (member_of g m) (next_in_target r m);
         },
@@ -198,9 +198,9 @@ complete_good g n e =
     }
 
 -- a completion, where there is one, leaves a good group
-pub completed_good : (g : GroupState) → IsNext g → IsGood (completed g)
+pub completed_good : (g : GroupState) → IsNext g → IsValidGroup (completed g)
 completed_good g n = go (is_ready g) refl
   where
-    go : (b : Bool) → is_ready g ≡ b → IsGood (cond b (complete g) g)
+    go : (b : Bool) → is_ready g ≡ b → IsValidGroup (cond b (complete g) g)
     go true e = complete_good g n e
     go false e = next_good g n e

@@ -8,7 +8,7 @@ use Rattle.lane_words.specs.declared.Refusal.{Refusal}
 use Rattle.lane_words.specs.declared.Refusal.TheVariants as r
 use Rattle.bit_planes.specs.PartitionSet.{PartitionSet, partitions, is_in, is_within, is_same, union}
 use Rattle.bit_planes.specs.SetRows as rows
-use Rattle.bit_planes.specs.SetRows.{SetRows, set_of, sets_of, AreRows}
+use Rattle.bit_planes.specs.SetRows.{SetRows, set_of, sets_of, IsValidRows}
 use Rattle.bit_planes.proofs.Sets.{in_union, partitions_union, within_says, same_set, same_self, both_true}
 use Rattle.sticky_assignor.specs.Assigned.{pair_up}
 use Rattle.sticky_assignor.proofs.AssignedLaws.{paired}
@@ -23,7 +23,7 @@ use Rattle.group_machine.specs.Moves.{move_by, moves_to, last_after}
 use Rattle.group_machine.specs.Completion.{all_joined, is_ready, completed_seat, completed_with, complete, completed}
 use Rattle.group_machine.specs.Rounds.{is_stable, agrees, all_agree, is_settled, bare_seat, bare, yielded_seat, yielded, round, finish}
 use Rattle.group_machine.specs.Steps.{unless_over, rejoined_seat, rejoining, rejoined_by, rejoin_refusal, unless_refused, rejoin_answer, synced_seat, synced_by}
-use Rattle.group_machine.specs.Good.{IsSized, IsApart, AllFit, IsGood}
+use Rattle.group_machine.specs.Good.{IsSized, IsApart, AllFit, IsValidGroup}
 use Rattle.group_machine.proofs.SlotsLemmas.{seat_each, each_two, each_same, one_is_each, at_only}
 use Rattle.group_machine.proofs.PresentLemmas.{length_reseated, present_each, numbers_each, any_each, any_of, all_of, all_says}
 use Rattle.group_machine.proofs.Rows.{set_over}
@@ -62,8 +62,8 @@ number_map : (f : ℕ → PartitionSet) (xs : List (ℕ × Seat)) → rows_by (�
 number_map f [] = refl
 number_map f (x ∷ xs) = ap (λ rs. (x.0, f x.0) ∷ rs) (number_map f xs)
 
-rows_by_members : (w : SetRows) → AreRows w → w ≡ record { below = w.below; rows = sets_by (set_of w) (rows.members w) }
-rows_by_members w kept = paired w kept.rising ∙ ap (λ rs. record { below = w.below; rows = rs }) (pair_map (set_of w) (rows.members w))
+rows_by_members : (w : SetRows) → IsValidRows w → w ≡ record { below = w.below; rows = sets_by (set_of w) (rows.members w) }
+rows_by_members w valid = paired w valid.rising ∙ ap (λ rs. record { below = w.below; rows = rs }) (pair_map (set_of w) (rows.members w))
 
 -- what a round assigns is what members are to keep after it
 pub round_assigned : (g : GroupState) → AreOwned (assigned_rows g) → rows.members (assigned_rows g) ≡ members g → assigned_rows (round g) ≡ next_rows (assigned_rows g)
@@ -98,11 +98,11 @@ two_rounds g sized any fit apart =
     let w : SetRows = next_rows (assigned_rows g) in
     let one : assigned_rows (round g) ≡ w = round_assigned g owned (members_assigned g) in
     let all : next_rows w ≡ target_rows w = second_all (assigned_rows g) owned in
-    let kept : AreRows w = next_kept (assigned_rows g) owned in
+    let valid : IsValidRows w = next_kept (assigned_rows g) owned in
     let t : SetRows = target_rows w in
     let now : next_rows (granted_rows (yielded (round g))) ≡ t = ap next_rows (granted_yielded (round g) ∙ one) ∙ all in
     let first : next_rows (granted_rows (yielded g)) ≡ w = ap next_rows (granted_yielded g) in
-    let over : (m : ℕ) → partitions (set_of w m) ≡ partitions (set_of t m) = λ m. set_over w m kept ∙ sym (set_over t m (target_kept w kept) ∙ target_below w) in
+    let over : (m : ℕ) → partitions (set_of w m) ≡ partitions (set_of t m) = λ m. set_over w m valid ∙ sym (set_over t m (target_kept w valid) ∙ target_below w) in
     let settled_by : (n : SetRows) → next_rows (granted_rows (yielded (round g))) ≡ n → n ≡ t → (m : ℕ) (x : Seat) → seat_of (each_changed (completed_seat n) (yielded (round g)).slots) m ≡ Some x → agrees x ≡ true = λ n is_n is_t m x is.
     let b = seat_behind (completed_seat n m) (seat_of (yielded (round g)).slots m) x (sym (seat_each (completed_seat n) (yielded (round g)).slots m) ∙ is) in
     let c = seat_behind yielded_seat (seat_of (round g).slots m) b.0 (sym (seat_each (λ k. yielded_seat) (round g).slots m) ∙ b.1) in
@@ -247,7 +247,7 @@ rejoining_sized g member sized = record {
   a_holder_each = sized.a_holder_each;
 }
 
-pub rejoin_finish : (g : GroupState) (member generation : ℕ) (claim : PartitionSet) → IsGood g → rejoin_answer g member generation claim ≡ Ok tt → finish (rejoined_by g member) ≡ finish g
+pub rejoin_finish : (g : GroupState) (member generation : ℕ) (claim : PartitionSet) → IsValidGroup g → rejoin_answer g member generation claim ≡ Ok tt → finish (rejoined_by g member) ≡ finish g
 rejoin_finish g member generation claim good ok =
     let a = accepted g member generation claim ok in
     completed_finish (rejoining g member) (rejoining_sized g member good.sized) (rejoining_fit g member good.fit) (rejoining_apart g member good.fit good.apart) refl

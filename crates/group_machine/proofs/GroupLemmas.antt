@@ -3,7 +3,7 @@ use Rattle.std.proofs.Common.{ℕ, suc, ◌≡◌, ◌<◌, true, List, [], ◌�
 use Rattle.std.specs.Option.{option_map}
 use Rattle.bit_planes.specs.PartitionSet.{PartitionSet, partitions, is_in}
 use Rattle.bit_planes.specs.SetRows as rows
-use Rattle.bit_planes.specs.SetRows.{SetRows, find_row, set_or_empty, set_of, sets_of, AreRows, AreOver}
+use Rattle.bit_planes.specs.SetRows.{SetRows, find_row, set_or_empty, set_of, sets_of, IsValidRows, AreOver}
 use Rattle.bit_planes.proofs.Sets.{partitions_empty, within_says}
 use Rattle.sticky_assignor.specs.Balanced.{AreApart}
 use Rattle.group_machine.specs.declared.group.Slot.{Slot}
@@ -51,7 +51,7 @@ over_from : (p : ℕ) (h : Seat → PartitionSet) (m : ℕ) (slots : List Slot) 
 over_from p h m [] each = tt
 over_from p h m (s ∷ slots) each = over_and p h m s.seat (present_from (suc m) slots) (λ x is. each 0 x is) (over_from p h (suc m) slots (λ k x is. each (suc k) x is))
 
-pub granted_kept : (g : GroupState) → IsSized g → AllFit g → AreRows (granted_rows g)
+pub granted_kept : (g : GroupState) → IsSized g → AllFit g → IsValidRows (granted_rows g)
 granted_kept g sized fit = record {
   some = sized.some_partitions;
   few = sized.few_partitions;
@@ -59,7 +59,7 @@ granted_kept g sized fit = record {
   over = over_from g.partitions (λ x. x.granted) 1 g.slots (λ k x is. (fit (suc k) x is).granted_below);
 }
 
-pub assigned_kept : (g : GroupState) → IsSized g → AllFit g → AreRows (assigned_rows g)
+pub assigned_kept : (g : GroupState) → IsSized g → AllFit g → IsValidRows (assigned_rows g)
 assigned_kept g sized fit = record {
   some = sized.some_partitions;
   few = sized.few_partitions;
@@ -79,7 +79,7 @@ rows_apart r up alone = apart_of (set_of r) 1 (rows.members r) up alone
 
 pub granted_owned : (g : GroupState) → IsSized g → AllFit g → IsApart g → is_anybody g ≡ true → AreOwned (granted_rows g)
 granted_owned g sized fit apart any = record {
-  kept = granted_kept g sized fit;
+  valid = granted_kept g sized fit;
   some = subst (λ ms. 0 < length ms) (sym (members_granted g)) (some_members g any);
   apart = rows_apart (granted_rows g) (subst (RisesFrom 1) (sym (members_granted g)) (members_rise g)) (λ m n q e h.
       apart m n q (ap (λ s. is_in s q) (sym (set_granted g m)) ∙ e) (ap (λ s. is_in s q) (sym (set_granted g n)) ∙ h));
@@ -95,7 +95,7 @@ assigned_in_granted g fit m q e = granted_within g.partitions (member_of g m) (�
 
 pub assigned_owned : (g : GroupState) → IsSized g → AllFit g → IsApart g → is_anybody g ≡ true → AreOwned (assigned_rows g)
 assigned_owned g sized fit apart any = record {
-  kept = assigned_kept g sized fit;
+  valid = assigned_kept g sized fit;
   some = subst (λ ms. 0 < length ms) (sym (members_assigned g)) (some_members g any);
   apart = rows_apart (assigned_rows g) (subst (RisesFrom 1) (sym (members_assigned g)) (members_rise g)) (λ m n q e h.
       apart m n q (assigned_in_granted g fit m q (ap (λ s. is_in s q) (sym (set_assigned g m)) ∙ e)) (assigned_in_granted g fit n q (ap (λ s. is_in s q) (sym (set_assigned g n)) ∙ h)));

@@ -8,7 +8,7 @@ use Rattle.bit_planes.specs.SetRows.{find_row, IsRising}
 use Rattle.group_machine.specs.declared.group.Slot.{Slot}
 use Rattle.group_machine.specs.declared.group.Seat.{Seat}
 use Rattle.group_machine.specs.Slots.{seat_in, seat_of, and_member, present_from, present, reseated_from, on_seat, each_changed}
-use Rattle.group_machine.proofs.SlotsLemmas.{other_number, same_number}
+use Rattle.group_machine.proofs.SlotsLemmas.{other_id, same_id}
 
 -- ---- numbers that rise from one on
 abbrev pub RisesFrom : ℕ → List ℕ → Type 0
@@ -61,7 +61,7 @@ present_each f slots = present_changed 1 f slots
 -- ---- look-ups
 find_and : (h : Seat → PartitionSet) (m n : ℕ) (o : Option Seat) (rows : List (ℕ × Seat)) → (m ≡ n → ⊥) → find_row (map (λ r. (r.0, h r.1)) (and_member m o rows)) n ≡ find_row (map (λ r. (r.0, h r.1)) rows) n
 find_and h m n None rows ne = refl
-find_and h m n (Some x) rows ne = rw (other_number m n ne) refl
+find_and h m n (Some x) rows ne = rw (other_id m n ne) refl
 
 find_before : (h : Seat → PartitionSet) (m : ℕ) (slots : List Slot) (n : ℕ) → n < m → find_row (map (λ r. (r.0, h r.1)) (present_from m slots)) n ≡ None
 find_before h m [] n lt = refl
@@ -69,7 +69,7 @@ find_before h m (s ∷ slots) n lt = find_and h m n s.seat (present_from (suc m)
 
 find_here : (h : Seat → PartitionSet) (m : ℕ) (o : Option Seat) (rows : List (ℕ × Seat)) → find_row (map (λ r. (r.0, h r.1)) rows) m ≡ None → find_row (map (λ r. (r.0, h r.1)) (and_member m o rows)) m ≡ option_map h o
 find_here h m None rows none = none
-find_here h m (Some x) rows none = rw (same_number m) refl
+find_here h m (Some x) rows none = rw (same_id m) refl
 
 find_from : (h : Seat → PartitionSet) (m : ℕ) (slots : List Slot) (k : ℕ) → find_row (map (λ r. (r.0, h r.1)) (present_from m slots)) (m + k) ≡ option_map h (seat_in (slice_get slots k))
 find_from h m [] k = refl

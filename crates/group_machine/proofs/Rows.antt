@@ -3,7 +3,7 @@ use Rattle.std.proofs.Common.{ℕ, suc, ◌≡◌, ◌+◌, ◌<◌, ◌≤◌, 
 use Rattle.std.specs.Prelude.{Some}
 use Rattle.std.proofs.lemmas.Bool.{false≢true, cases_lt}
 use Rattle.bit_planes.specs.PartitionSet.{PartitionSet, partitions, is_in, one}
-use Rattle.bit_planes.specs.SetRows.{SetRows, members, find_row, set_or_empty, set_of, sets_of, AreRows, AreOver}
+use Rattle.bit_planes.specs.SetRows.{SetRows, members, find_row, set_or_empty, set_of, sets_of, IsValidRows, AreOver}
 use Rattle.bit_planes.proofs.Sets.{past, in_empty, partitions_empty}
 use Rattle.sticky_assignor.specs.Balanced.{holders, AreBelow, AreApart, IsBalanced}
 use Rattle.group_machine.proofs.SlotsLemmas.{number_is}
@@ -82,9 +82,9 @@ found_over p (row ∷ rows) m over = go (row.0 == m) over.0 (found_over p rows m
     go true here later = here
     go false here later = later
 
-pub set_over : (r : SetRows) (m : ℕ) → AreRows r → partitions (set_of r m) ≡ r.below
-set_over r m kept = found_over r.below r.rows m kept.over
+pub set_over : (r : SetRows) (m : ℕ) → IsValidRows r → partitions (set_of r m) ≡ r.below
+set_over r m valid = found_over r.below r.rows m valid.over
 
-pub sets_below : (r : SetRows) (ms : List ℕ) → AreRows r → AreBelow r.below (sets_of r ms)
-sets_below r [] kept = tt
-sets_below r (m ∷ ms) kept = (set_over r m kept, sets_below r ms kept)
+pub sets_below : (r : SetRows) (ms : List ℕ) → IsValidRows r → AreBelow r.below (sets_of r ms)
+sets_below r [] valid = tt
+sets_below r (m ∷ ms) valid = (set_over r m valid, sets_below r ms valid)

@@ -10,11 +10,11 @@ use Rattle.group_machine.specs.Slots.{seat_in, seat_of, reseated_from, on_seat, 
 abbrev pub slot_with : List ℕ → Option Seat → Slot
 slot_with name o = record { name = name; seat = o }
 
-pub same_number : (n : ℕ) → (n == n) ≡ true
-same_number n = grind (arith, nat_tests)
+pub same_id : (n : ℕ) → (n == n) ≡ true
+same_id n = grind (arith, nat_tests)
 
-pub other_number : (m n : ℕ) → (m ≡ n → ⊥) → (m == n) ≡ false
-other_number m n ne = grind (arith, nat_tests)
+pub other_id : (m n : ℕ) → (m ≡ n → ⊥) → (m == n) ≡ false
+other_id m n ne = grind (arith, nat_tests)
 
 pub number_is : (m n : ℕ) → (m == n) ≡ true → m ≡ n
 number_is m n e = grind (arith, nat_tests)
@@ -93,13 +93,13 @@ set_at : (m : ℕ) (slots : List Slot) (k : ℕ) (s : Slot) (f : Option Seat →
 set_at m [] k s f lt e = absurd (omega arith)
 set_at m (x ∷ slots) zero s f lt e =
     let z : m + 0 ≡ m = omega arith in
-    rw (z, same_number m) (ap (λ t. slot_with t.name (f t.seat) ∷ slots) e ∙ ap (λ r. slot_with x.name (f x.seat) ∷ r) (sym (reseated_same (suc m) (only_of m f) (λ n o. o) slots (λ i l. past (suc m + i) (seat_in (slice_get slots i)) (omega arith)) ∙ reseated_not (suc m) slots)))
+    rw (z, same_id m) (ap (λ t. slot_with t.name (f t.seat) ∷ slots) e ∙ ap (λ r. slot_with x.name (f x.seat) ∷ r) (sym (reseated_same (suc m) (only_of m f) (λ n o. o) slots (λ i l. past (suc m + i) (seat_in (slice_get slots i)) (omega arith)) ∙ reseated_not (suc m) slots)))
   where
     past : (n : ℕ) (o : Option Seat) → m < n → only_of m f n o ≡ o
-    past n o lt = rw (other_number n m (λ is. omega (arith, is))) refl
+    past n o lt = rw (other_id n m (λ is. omega (arith, is))) refl
 set_at m (x ∷ slots) (suc k) s f lt e =
     let j : m + suc k ≡ suc m + k = omega arith in
-    let before : only_of (suc m + k) f m x.seat ≡ x.seat = rw (other_number m (suc m + k) (λ is. omega (arith, is))) refl in
+    let before : only_of (suc m + k) f m x.seat ≡ x.seat = rw (other_id m (suc m + k) (λ is. omega (arith, is))) refl in
     rw j (ap (λ r. x ∷ r) (set_at (suc m) slots k s f (omega arith) e) ∙ ap (λ o. slot_with x.name o ∷ reseated_from (suc m) (only_of (suc m + k) f) slots) (sym before))
 
 pub set_one : (slots : List Slot) (member k : ℕ) (s : Slot) (f : Option Seat → Option Seat) → member ≡ k + 1 → k < length slots → s ≡ get_or slots k s → set slots k (slot_with s.name (f s.seat)) ≡ reseated_from 1 (only_of member f) slots
@@ -110,14 +110,14 @@ other_default [] k a b lt = absurd (omega arith)
 other_default (s ∷ slots) zero a b lt = refl
 other_default (s ∷ slots) (suc k) a b lt = other_default slots k a b (omega arith)
 
-seat_at_place : (slots : List Slot) (k : ℕ) (d : Slot) → k < length slots → (get_or slots k d).seat ≡ seat_in (slice_get slots k)
-seat_at_place [] k d lt = absurd (omega arith)
-seat_at_place (s ∷ slots) zero d lt = refl
-seat_at_place (s ∷ slots) (suc k) d lt = seat_at_place slots k d (omega arith)
+seat_at_index : (slots : List Slot) (k : ℕ) (d : Slot) → k < length slots → (get_or slots k d).seat ≡ seat_in (slice_get slots k)
+seat_at_index [] k d lt = absurd (omega arith)
+seat_at_index (s ∷ slots) zero d lt = refl
+seat_at_index (s ∷ slots) (suc k) d lt = seat_at_index slots k d (omega arith)
 
 pub seat_at : (slots : List Slot) (member : ℕ) (d : Slot) → 0 < member → member ≤ length slots → (get_or slots (member - 1) d).seat ≡ seat_of slots member
 seat_at slots zero d some few = absurd (omega arith)
-seat_at slots (suc k) d some few = let n : suc k - 1 ≡ k = omega arith in rw n (seat_at_place slots k d (omega arith))
+seat_at slots (suc k) d some few = let n : suc k - 1 ≡ k = omega arith in rw n (seat_at_index slots k d (omega arith))
 
 -- a seat that is put, and one that is changed
 pub seat_put : (slots : List Slot) (member : ℕ) (d : Slot) (f : Option Seat → Option Seat) → 0 < member → member ≤ length slots → set slots (member - 1) (slot_with (get_or slots (member - 1) d).name (f (get_or slots (member - 1) d).seat)) ≡ reseated_from 1 (only_of member f) slots
@@ -144,5 +144,5 @@ present_at slots member d e =
     (x.0, seat_at slots member d given.0 given.1 ∙ x.1)
 
 -- the seat at a place is that of the next number
-pub seat_of_place : (slots : List Slot) (i : ℕ) (s : Slot) (x : Seat) → i < length slots → s ≡ get_or slots i s → s.seat ≡ Some x → seat_of slots (suc i) ≡ Some x
-seat_of_place slots i s x lt e is = sym (seat_at_place slots i s lt) ∙ ap (λ t. t.seat) (sym e) ∙ is
+pub seat_of_index : (slots : List Slot) (i : ℕ) (s : Slot) (x : Seat) → i < length slots → s ≡ get_or slots i s → s.seat ≡ Some x → seat_of slots (suc i) ≡ Some x
+seat_of_index slots i s x lt e is = sym (seat_at_index slots i s lt) ∙ ap (λ t. t.seat) (sym e) ∙ is

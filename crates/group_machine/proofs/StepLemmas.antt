@@ -12,7 +12,7 @@ use Rattle.group_machine.specs.State.{GroupState, opening, member_of, members, i
 use Rattle.group_machine.specs.Completion.{all_joined}
 use Rattle.group_machine.specs.Rounds.{is_stable, agrees, is_settled}
 use Rattle.group_machine.specs.Steps.{most_members, newcomer, joining, joined_by, rejoined_seat, rejoining, rejoined_by, synced_seat, synced_by, leaving, left_by}
-use Rattle.group_machine.specs.Good.{IsApart, IsFit, AllFit, IsGood}
+use Rattle.group_machine.specs.Good.{IsApart, IsFit, AllFit, IsValidGroup}
 use Rattle.group_machine.proofs.SlotsLemmas.{seat_each, seat_without, one_is_each, at_only}
 use Rattle.group_machine.proofs.PresentLemmas.{numbers_each, length_reseated, any_each, any_of, all_of, present_each}
 use Rattle.group_machine.proofs.Rows.{map_same}
@@ -105,7 +105,7 @@ alone_joined g name none = all_of (λ x. x.joined) (joining g name).slots (λ m 
     go m x (inl is) = absurd (false≢true (sym none ∙ any_of g.slots m x is))
     go m x (inr is) = let same : new_seat g.partitions ≡ x = cc in ap (λ y. y.joined) (sym same)
 
-pub joining_next : (g : GroupState) (name : List ℕ) → IsGood g → length g.slots < most_members → IsNext (joining g name)
+pub joining_next : (g : GroupState) (name : List ℕ) → IsValidGroup g → length g.slots < most_members → IsNext (joining g name)
 unfolding new_seat
 joining_next g name good room =
     let any : is_anybody (joining g name) ≡ true = any_more g.slots (newcomer g.partitions name) refl in
@@ -132,7 +132,7 @@ joining_next g name good room =
     counts true e h = good.counted e
     counts false e h = absurd (false≢true (sym h ∙ alone_joined g name e))
 
-pub join_good : (g : GroupState) (name : List ℕ) → IsGood g → length g.slots < most_members → IsGood (joined_by g name)
+pub join_good : (g : GroupState) (name : List ℕ) → IsValidGroup g → length g.slots < most_members → IsValidGroup (joined_by g name)
 join_good g name good room = completed_good (joining g name) (joining_next g name good room)
 
 -- ---- rejoining
@@ -158,7 +158,7 @@ rejoining_granted g member fit m q e =
 pub any_rejoining : (g : GroupState) (member : ℕ) → is_anybody (rejoining g member) ≡ is_anybody g
 any_rejoining g member = ap (λ slots. list_any (λ s. is_some s.seat) slots) (one_is_each rejoined_seat g.slots member) ∙ any_each (at_only member rejoined_seat) g.slots
 
-pub rejoining_next : (g : GroupState) (member : ℕ) → IsGood g → is_present g member ≡ true → IsNext (rejoining g member)
+pub rejoining_next : (g : GroupState) (member : ℕ) → IsValidGroup g → is_present g member ≡ true → IsNext (rejoining g member)
 rejoining_next g member good here =
     let any : is_anybody g ≡ true = any_of_present g member here in
     record {
@@ -176,7 +176,7 @@ rejoining_next g member good here =
       counted = λ e h. good.counted any;
     }
 
-pub rejoin_good : (g : GroupState) (member : ℕ) → IsGood g → is_present g member ≡ true → IsGood (rejoined_by g member)
+pub rejoin_good : (g : GroupState) (member : ℕ) → IsValidGroup g → is_present g member ≡ true → IsValidGroup (rejoined_by g member)
 rejoin_good g member good here = completed_good (rejoining g member) (rejoining_next g member good here)
 
 -- ---- leaving
@@ -188,7 +188,7 @@ left_granted : (p : ℕ) (b : Bool) (o : Option Seat) (q : ℕ) → is_in (seat_
 left_granted p true o q e = absurd (false≢true (sym (in_empty p q) ∙ e))
 left_granted p false o q e = e
 
-pub leaving_next : (g : GroupState) (member : ℕ) → IsGood g → is_present g member ≡ true → IsNext (leaving g member)
+pub leaving_next : (g : GroupState) (member : ℕ) → IsValidGroup g → is_present g member ≡ true → IsNext (leaving g member)
 leaving_next g member good here =
     let any : is_anybody g ≡ true = any_of_present g member here in
     let less : (m q : ℕ) → is_in (granted_of (leaving g member) m) q ≡ true → is_in (granted_of g m) q ≡ true =
@@ -208,7 +208,7 @@ leaving_next g member good here =
       counted = λ e h. good.counted any;
     }
 
-pub leave_good : (g : GroupState) (member : ℕ) → IsGood g → is_present g member ≡ true → IsGood (left_by g member)
+pub leave_good : (g : GroupState) (member : ℕ) → IsValidGroup g → is_present g member ≡ true → IsValidGroup (left_by g member)
 leave_good g member good here = completed_good (leaving g member) (leaving_next g member good here)
 
 -- ---- syncing
@@ -242,7 +242,7 @@ settled_synced g member =
     (ap (λ slots. list_all {X = ℕ × Seat} (λ r. agrees r.1) (present slots)) (one_is_each synced_seat g.slots member)
     ∙ all_each agrees (at_only member synced_seat) (λ m x. only_same agrees synced_seat (λ y. refl) member m x) g.slots)
 
-pub sync_good : (g : GroupState) (member : ℕ) → IsGood g → IsGood (synced_by g member)
+pub sync_good : (g : GroupState) (member : ℕ) → IsValidGroup g → IsValidGroup (synced_by g member)
 sync_good g member good =
     let p : ℕ = g.partitions in
     let granted : (m : ℕ) → granted_of (synced_by g member) m ≡ granted_of g m = λ m. synced_same (seat_granted p) (λ x. refl) g member m in
@@ -289,7 +289,7 @@ length_replicate : {A : Type 0} (n : ℕ) (x : A) → length (replicate n x) ≡
 length_replicate zero x = refl
 length_replicate (suc n) x = ap (λ k. suc k) (length_replicate n x)
 
-pub opening_good : (p : ℕ) → 1 ≤ p → p ≤ 4096 → IsGood (opening p)
+pub opening_good : (p : ℕ) → 1 ≤ p → p ≤ 4096 → IsValidGroup (opening p)
 opening_good p some few = record {
   sized = record { some_partitions = some; few_partitions = few; few_members = omega arith; a_holder_each = length_replicate p None };
   apart = λ m n q e h. absurd (false≢true (sym (in_empty p q) ∙ ap (λ o. is_in (seat_granted p o) q) (sym (nobody_at m)) ∙ e));

@@ -12,7 +12,7 @@ use Rattle.group_machine.specs.declared.group.Slot.{Slot}
 use Rattle.group_machine.specs.declared.group.Seat.{Seat}
 use Rattle.group_machine.specs.Slots.{seat_in, seat_of, and_member, present_from, present, reseated_from}
 use Rattle.group_machine.specs.Walks.{granted_in}
-use Rattle.group_machine.proofs.SlotsLemmas.{slot_with, same_number, other_default}
+use Rattle.group_machine.proofs.SlotsLemmas.{slot_with, same_id, other_default}
 use Rattle.group_machine.proofs.MovesLemmas.{present_take}
 
 -- ---- rows of the members before a place
@@ -68,7 +68,7 @@ granted_same p slots i s lt e none = ap (λ xs. record { below = p; rows = rows_
 -- ---- seats that are given place by place
 -- the slots, with the seats before a place changed
 abbrev pub AreGiven : (ℕ → Option Seat → Option Seat) → List Slot → List Slot → ℕ → Type 0
-AreGiven f before now place = (k : ℕ) → slice_get now k ≡ cond (nat_lt k place) (slice_get (reseated_from 1 f before) k) (slice_get before k)
+AreGiven f before now index = (k : ℕ) → slice_get now k ≡ cond (nat_lt k index) (slice_get (reseated_from 1 f before) k) (slice_get before k)
 
 reseated_slot : (m : ℕ) (f : ℕ → Option Seat → Option Seat) (slots : List Slot) (k : ℕ) → slice_get (reseated_from m f slots) k ≡ option_map (λ s. slot_with s.name (f (m + k) s.seat)) (slice_get slots k)
 reseated_slot m f [] k = refl
@@ -99,30 +99,30 @@ ge_is : (a b : ℕ) → b ≤ a → nat_lt a b ≡ false
 ge_is a b le = grind (arith, nat_tests)
 
 -- one place more, where the slot there is the changed one and the others are as they were
-given_more : (f : ℕ → Option Seat → Option Seat) (before now after : List Slot) (place : ℕ) → AreGiven f before now place → ((k : ℕ) → (k ≡ place → ⊥) → slice_get after k ≡ slice_get now k) → slice_get after place ≡ slice_get (reseated_from 1 f before) place → AreGiven f before after (place + 1)
-given_more f before now after place given others here k = elim (cases_lt k place) [
-  | inl lt ↦ others k (λ e. omega (arith, e)) ∙ given k ∙ ap (λ b. cond b (slice_get (reseated_from 1 f before) k) (slice_get before k)) (lt_is k place lt ∙ sym (lt_is k (place + 1) (omega arith)))
-  | inr ge ↦ elim (cases_lt place k) [
-    | inl gt ↦ others k (λ e. omega (arith, e)) ∙ given k ∙ ap (λ b. cond b (slice_get (reseated_from 1 f before) k) (slice_get before k)) (ge_is k place ge ∙ sym (ge_is k (place + 1) (omega arith)))
+given_more : (f : ℕ → Option Seat → Option Seat) (before now after : List Slot) (index : ℕ) → AreGiven f before now index → ((k : ℕ) → (k ≡ index → ⊥) → slice_get after k ≡ slice_get now k) → slice_get after index ≡ slice_get (reseated_from 1 f before) index → AreGiven f before after (index + 1)
+given_more f before now after index given others here k = elim (cases_lt k index) [
+  | inl lt ↦ others k (λ e. omega (arith, e)) ∙ given k ∙ ap (λ b. cond b (slice_get (reseated_from 1 f before) k) (slice_get before k)) (lt_is k index lt ∙ sym (lt_is k (index + 1) (omega arith)))
+  | inr ge ↦ elim (cases_lt index k) [
+    | inl gt ↦ others k (λ e. omega (arith, e)) ∙ given k ∙ ap (λ b. cond b (slice_get (reseated_from 1 f before) k) (slice_get before k)) (ge_is k index ge ∙ sym (ge_is k (index + 1) (omega arith)))
     | inr le ↦
-        let e : k ≡ place = omega arith in
-        ap (λ j. slice_get after j) e ∙ here ∙ ap (λ j. slice_get (reseated_from 1 f before) j) (sym e) ∙ ap (λ b. cond b (slice_get (reseated_from 1 f before) k) (slice_get before k)) (sym (lt_is k (place + 1) (omega arith)))
+        let e : k ≡ index = omega arith in
+        ap (λ j. slice_get after j) e ∙ here ∙ ap (λ j. slice_get (reseated_from 1 f before) j) (sym e) ∙ ap (λ b. cond b (slice_get (reseated_from 1 f before) k) (slice_get before k)) (sym (lt_is k (index + 1) (omega arith)))
   ]
 ]
 
-same_there : (f : ℕ → Option Seat → Option Seat) (before now : List Slot) (place : ℕ) (s : Slot) → AreGiven f before now place → place < length now → s ≡ get_or now place s → slice_get before place ≡ Some s
-same_there f before now place s given lt e = sym (given place ∙ ap (λ b. cond b (slice_get (reseated_from 1 f before) place) (slice_get before place)) (ge_is place place (omega arith))) ∙ slot_at now place s lt e
+same_there : (f : ℕ → Option Seat → Option Seat) (before now : List Slot) (index : ℕ) (s : Slot) → AreGiven f before now index → index < length now → s ≡ get_or now index s → slice_get before index ≡ Some s
+same_there f before now index s given lt e = sym (given index ∙ ap (λ b. cond b (slice_get (reseated_from 1 f before) index) (slice_get before index)) (ge_is index index (omega arith))) ∙ slot_at now index s lt e
 
-pub changed_there : (f : ℕ → Option Seat → Option Seat) (before : List Slot) (place : ℕ) (s : Slot) → slice_get before place ≡ Some s → slice_get (reseated_from 1 f before) place ≡ Some (slot_with s.name (f (place + 1) s.seat))
-changed_there f before place s e = let n : 1 + place ≡ place + 1 = omega arith in reseated_slot 1 f before place ∙ ap (option_map (λ t. slot_with t.name (f (1 + place) t.seat))) e ∙ ap (λ k. Some (slot_with s.name (f k s.seat))) n
+pub changed_there : (f : ℕ → Option Seat → Option Seat) (before : List Slot) (index : ℕ) (s : Slot) → slice_get before index ≡ Some s → slice_get (reseated_from 1 f before) index ≡ Some (slot_with s.name (f (index + 1) s.seat))
+changed_there f before index s e = let n : 1 + index ≡ index + 1 = omega arith in reseated_slot 1 f before index ∙ ap (option_map (λ t. slot_with t.name (f (1 + index) t.seat))) e ∙ ap (λ k. Some (slot_with s.name (f k s.seat))) n
 
-pub given_set : (f : ℕ → Option Seat → Option Seat) (before now : List Slot) (place : ℕ) (s : Slot) → AreGiven f before now place → place < length now → s ≡ get_or now place s → AreGiven f before (set now place (slot_with s.name (f (place + 1) s.seat))) (place + 1)
-given_set f before now place s given lt e =
-    given_more f before now (set now place (slot_with s.name (f (place + 1) s.seat))) place given (λ k ne. set_other now place k (slot_with s.name (f (place + 1) s.seat)) ne)
-    (set_here now place (slot_with s.name (f (place + 1) s.seat)) lt ∙ sym (changed_there f before place s (same_there f before now place s given lt e)))
+pub given_set : (f : ℕ → Option Seat → Option Seat) (before now : List Slot) (index : ℕ) (s : Slot) → AreGiven f before now index → index < length now → s ≡ get_or now index s → AreGiven f before (set now index (slot_with s.name (f (index + 1) s.seat))) (index + 1)
+given_set f before now index s given lt e =
+    given_more f before now (set now index (slot_with s.name (f (index + 1) s.seat))) index given (λ k ne. set_other now index k (slot_with s.name (f (index + 1) s.seat)) ne)
+    (set_here now index (slot_with s.name (f (index + 1) s.seat)) lt ∙ sym (changed_there f before index s (same_there f before now index s given lt e)))
 
-pub given_seat : (f : ℕ → Option Seat → Option Seat) (before now : List Slot) (place : ℕ) (s : Slot) (x : Seat) → AreGiven f before now place → place < length now → s ≡ get_or now place s → s.seat ≡ Some x → seat_of before (suc place) ≡ Some x
-given_seat f before now place s x given lt e is = ap seat_in (same_there f before now place s given lt e) ∙ is
+pub given_seat : (f : ℕ → Option Seat → Option Seat) (before now : List Slot) (index : ℕ) (s : Slot) (x : Seat) → AreGiven f before now index → index < length now → s ≡ get_or now index s → s.seat ≡ Some x → seat_of before (suc index) ≡ Some x
+given_seat f before now index s x given lt e is = ap seat_in (same_there f before now index s given lt e) ∙ is
 
 same_slots : (xs ys : List Slot) → ((k : ℕ) → slice_get xs k ≡ slice_get ys k) → xs ≡ ys
 same_slots [] [] same = refl
@@ -143,15 +143,15 @@ length_same m f [] = refl
 length_same m f (s ∷ slots) = ap (λ n. suc n) (length_same (suc m) f slots)
 
 -- all places
-pub given_all : (f : ℕ → Option Seat → Option Seat) (before now : List Slot) (place : ℕ) → AreGiven f before now place → length before ≤ place → now ≡ reseated_from 1 f before
-given_all f before now place given le = same_slots now (reseated_from 1 f before) (λ k. elim (cases_lt k place) [
-  | inl lt ↦ given k ∙ ap (λ b. cond b (slice_get (reseated_from 1 f before) k) (slice_get before k)) (lt_is k place lt)
-  | inr ge ↦ given k ∙ ap (λ b. cond b (slice_get (reseated_from 1 f before) k) (slice_get before k)) (ge_is k place ge) ∙ past_slots before k (omega arith) ∙ sym (past_slots (reseated_from 1 f before) k (omega (arith, length_same 1 f before)))
+pub given_all : (f : ℕ → Option Seat → Option Seat) (before now : List Slot) (index : ℕ) → AreGiven f before now index → length before ≤ index → now ≡ reseated_from 1 f before
+given_all f before now index given le = same_slots now (reseated_from 1 f before) (λ k. elim (cases_lt k index) [
+  | inl lt ↦ given k ∙ ap (λ b. cond b (slice_get (reseated_from 1 f before) k) (slice_get before k)) (lt_is k index lt)
+  | inr ge ↦ given k ∙ ap (λ b. cond b (slice_get (reseated_from 1 f before) k) (slice_get before k)) (ge_is k index ge) ∙ past_slots before k (omega arith) ∙ sym (past_slots (reseated_from 1 f before) k (omega (arith, length_same 1 f before)))
 ])
 
 some_found : (rows : List (ℕ × PartitionSet)) (k d : ℕ) → k < length (map (λ row. row.0) rows) → IsSome (find_row rows (get_or (map (λ row. row.0) rows) k d))
 some_found [] k d lt = absurd (omega arith)
-some_found (row ∷ rows) zero d lt = rw (same_number row.0) refl
+some_found (row ∷ rows) zero d lt = rw (same_id row.0) refl
 some_found (row ∷ rows) (suc k) d lt = go (row.0 == get_or (map (λ r. r.0) rows) k d) (some_found rows k d (omega arith))
   where
     go : (b : Bool) → IsSome (find_row rows (get_or (map (λ r. r.0) rows) k d)) → IsSome (cond b (Some row.1) (find_row rows (get_or (map (λ r. r.0) rows) k d)))
@@ -171,11 +171,11 @@ no_seat None e = refl
 no_seat (Some x) e = absurd (false≢true (sym e))
 
 -- the same, by the slot at the place
-pub given_set_at : (f : ℕ → Option Seat → Option Seat) (before now : List Slot) (place : ℕ) (d : Slot) (new : Option Seat) → AreGiven f before now place → place < length now → new ≡ f (place + 1) (get_or now place d).seat → AreGiven f before (set now place (slot_with (get_or now place d).name new)) (place + 1)
-given_set_at f before now place d new given lt e = rw e (given_set f before now place (get_or now place d) given lt (other_default now place d (get_or now place d) lt))
+pub given_set_at : (f : ℕ → Option Seat → Option Seat) (before now : List Slot) (index : ℕ) (d : Slot) (new : Option Seat) → AreGiven f before now index → index < length now → new ≡ f (index + 1) (get_or now index d).seat → AreGiven f before (set now index (slot_with (get_or now index d).name new)) (index + 1)
+given_set_at f before now index d new given lt e = rw e (given_set f before now index (get_or now index d) given lt (other_default now index d (get_or now index d) lt))
 
-pub given_seat_at : (f : ℕ → Option Seat → Option Seat) (before now : List Slot) (place : ℕ) (d : Slot) (x : Seat) → AreGiven f before now place → place < length now → (get_or now place d).seat ≡ Some x → seat_of before (suc place) ≡ Some x
-given_seat_at f before now place d x given lt is = given_seat f before now place (get_or now place d) x given lt (other_default now place d (get_or now place d) lt) is
+pub given_seat_at : (f : ℕ → Option Seat → Option Seat) (before now : List Slot) (index : ℕ) (d : Slot) (x : Seat) → AreGiven f before now index → index < length now → (get_or now index d).seat ≡ Some x → seat_of before (suc index) ≡ Some x
+given_seat_at f before now index d x given lt is = given_seat f before now index (get_or now index d) x given lt (other_default now index d (get_or now index d) lt) is
 
 -- ---- the members from a place on
 drop_from : (m : ℕ) (slots : List Slot) (i : ℕ) (s : Slot) → i < length slots → s ≡ get_or slots i s → present_from m (drop i slots) ≡ and_member m s.seat (present_from (suc m) (drop (suc i) slots))

@@ -4,9 +4,9 @@ use Rattle.lane_words.specs.declared.Refusal.{Refusal}
 use Rattle.lane_words.specs.declared.Refusal.TheVariants as r
 use Rattle.bit_planes.specs.PartitionSet.{PartitionSet, is_in}
 pub use Rattle.partition_log.specs.Keys.{Key, is_known}
-pub use Rattle.commit_store.specs.Commits.{AreLogs, AreLogsOf, Commits, Fits, IsExact, PartitionLogs, append_answer, commit_answer, committed_at, with_commit, with_record}
+pub use Rattle.commit_store.specs.Commits.{IsValidLogs, AreLogsOf, Commits, Fits, IsExact, PartitionLogs, append_answer, commit_answer, committed_at, with_commit, with_record}
 use Rattle.group_machine.specs.State.{GroupState, assigned_of, granted_of, is_present}
-use Rattle.group_machine.specs.Good.{IsGood}
+use Rattle.group_machine.specs.Good.{IsValidGroup}
 use Rattle.group_machine.specs.Steps.{sync_answer}
 
 -- a commit that is sent: of which member and in which generation, and of which records: those of a partition from an
@@ -41,9 +41,9 @@ without_room s = record s { room = 0 }
 
 -- What a cluster keeps: its group is good, its store is exact over its logs, all three have the same partitions, and each
 -- key has a counter
-pub record IsConsistent (s : ClusterState) : Type 0 where
-  pub good : IsGood s.group
-  pub logs : AreLogs s.logs
+pub record IsValidCluster (s : ClusterState) : Type 0 where
+  pub good : IsValidGroup s.group
+  pub logs : IsValidLogs s.logs
   pub exact : IsExact s.store s.logs
   pub logs_partitions : s.logs.partitions ≡ s.group.partitions
   pub store_partitions : length s.store.offsets ≡ s.group.partitions

@@ -50,7 +50,7 @@ pub record LieInBalanced (g : GroupState) (rows : ℕ → PartitionSet) : Type 0
   pub within : (m : ℕ) → is_within (assigned_of g m) (rows m) ≡ true
 
 -- what holds of a group after each step
-pub record IsGood (g : GroupState) : Type 0 where
+pub record IsValidGroup (g : GroupState) : Type 0 where
   pub sized : IsSized g
   pub apart : IsApart g
   pub fit : AllFit g

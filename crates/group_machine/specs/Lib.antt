@@ -6,8 +6,8 @@ pub mod MembersLeft
 pub mod Moves
 pub mod Name
 pub mod Rounds
-pub mod Shown
-pub mod ShownCluster
+pub mod GroupView
+pub mod ClusterView
 pub mod Slots
 pub mod State
 pub mod Steps

@@ -5,7 +5,7 @@ use Rattle.group_machine.specs.declared.group.members.Members.TheInside.{Inside}
 
 -- the present members of the slots that were not passed
 abbrev pub members_left : Inside → List ℕ
-members_left a = map (λ m. m.0) (present_from (a.place + 1) (drop a.place a.slots.now))
+members_left a = map (λ m. m.0) (present_from (a.index + 1) (drop a.index a.slots.now))
 
-abbrev pub AreFewSlots : Inside → Type 0
-AreFewSlots a = length a.slots.now ≤ 512
+abbrev pub IsValidMembers : Inside → Type 0
+IsValidMembers a = length a.slots.now ≤ 512

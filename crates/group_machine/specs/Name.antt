@@ -20,6 +20,6 @@ is_name text = nat_le 1 (length text) && nat_le (length text) 32 && list_all is_
 abbrev pub text_in : ℕ → List ℕ → List ℕ
 text_in size bytes = take size bytes
 
-pub record IsNameInPlace (size : ℕ) (bytes : List ℕ) : Type 0 where
+pub record IsValidName (size : ℕ) (bytes : List ℕ) : Type 0 where
   pub short : size ≤ 32
   pub name : is_name (take size bytes) ≡ true

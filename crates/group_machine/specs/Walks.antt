@@ -3,7 +3,7 @@ use Rattle.std.specs.Prelude.{◌≡◌, ℕ, ◌<◌, Bool, true, ◌&&◌, not
 use Rattle.std.specs.List.{range_with_len}
 use Rattle.std.specs.Option.{option_map, option_or}
 use Rattle.bit_planes.specs.PartitionSet.{PartitionSet, partitions, is_in}
-use Rattle.bit_planes.specs.SetRows.{SetRows, AreRows, members, set_of, sets_of}
+use Rattle.bit_planes.specs.SetRows.{SetRows, IsValidRows, members, set_of, sets_of}
 use Rattle.sticky_assignor.specs.Balanced.{AreApart}
 use Rattle.group_machine.specs.declared.group.Slot.{Slot}
 use Rattle.group_machine.specs.declared.group.Seat.{Seat}
@@ -29,12 +29,12 @@ granted_in p slots = record { below = p; rows = map (λ m. (m.0, m.1.granted)) (
 
 -- rows of some members, with no partition in two of them
 pub record AreOwned (r : SetRows) : Type 0 where
-  pub kept : AreRows r
+  pub valid : IsValidRows r
   pub some : 0 < length (members r)
   pub apart : AreApart (sets_of r (members r))
 
-abbrev pub numbers_in : List Slot → List ℕ
-numbers_in slots = map (λ m. m.0) (present slots)
+abbrev pub members_in : List Slot → List ℕ
+members_in slots = map (λ m. m.0) (present slots)
 
 -- the member that takes a partition, if one does: it is in its next row, and not in the row that it is granted
 abbrev pub taker_in : List (ℕ × PartitionSet) → SetRows → ℕ → Option ℕ

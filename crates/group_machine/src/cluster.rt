@@ -5,7 +5,7 @@ ghost use Rattle.lane_words.specs.Answers.{Answers};
 ghost use Rattle.group_machine.specs.State.{GroupState, assigned_of, granted_of, is_joined, is_present, is_synced, members, name_of, opening, owner_of};
 ghost use Rattle.group_machine.specs.Steps.{join_answer, joined_by, leave_answer, left_by, rejoin_answer, rejoined_by, synced_by};
 ghost use Rattle.group_machine.specs.Rounds.{is_settled};
-ghost use Rattle.group_machine.specs.Cluster.{AreLogsOf, ClusterState, IsDue, IsConsistent, append_answer, appended_to, cluster_commit_answer, cluster_sync_answer, committed_at, committed_by, fence, with_group, without_room};
+ghost use Rattle.group_machine.specs.Cluster.{AreLogsOf, ClusterState, IsDue, IsValidCluster, append_answer, appended_to, cluster_commit_answer, cluster_sync_answer, committed_at, committed_by, fence, with_group, without_room};
 
 use crate::commit::{Commit, Lease};
 use crate::group::{Group, Members, Move, Phase};
@@ -33,13 +33,13 @@ pub struct Cluster {
 
 impl Model for Cluster {
     ghost use Rattle.group_machine.specs.Cluster.{ClusterState};
-    ghost use Rattle.group_machine.specs.ShownCluster.{IsClusterShown, cluster_shown};
+    ghost use Rattle.group_machine.specs.ClusterView.{IsValidClusterInside, cluster_view};
 
     ghost Value = { ClusterState };
 
-    ghost view = { cluster_shown };
+    ghost view = { cluster_view };
 
-    ghost invariant = { IsClusterShown };
+    ghost invariant = { IsValidClusterInside };
 }
 
 impl Cluster {
@@ -51,7 +51,7 @@ impl Cluster {
         ensures logs { IfOk result (λ cluster. AreLogsOf [] cluster.logs) }
         ensures counters { IfOk result (λ cluster. cluster.store.counts ≡ []) }
         ensures offsets { IfOk result (λ cluster. (p : ℕ) → committed_at cluster.store p ≡ 0) }
-        ensures consistent { IfOk result IsConsistent }
+        ensures valid { IfOk result IsValidCluster }
     {
         let group = Group::new(alloc, partitions)?;
         let logs = Logs::new(rt, alloc, partitions)?;
@@ -181,7 +181,7 @@ impl Cluster {
     /// How many partitions there are.
     pub fn partitions(&self) -> u32
         ensures count { result ≡ self.now.group.partitions }
-        ensures consistent { IsConsistent self.now }
+        ensures valid { IsValidCluster self.now }
     {
         self.logs.partitions()
     }
@@ -263,7 +263,7 @@ impl Cluster {
     /// The logs.
     pub fn logs(&self) -> &Logs
         ensures logs { result.now ≡ self.now.logs }
-        ensures consistent { IsConsistent self.now }
+        ensures valid { IsValidCluster self.now }
     {
         &self.logs
     }
@@ -271,7 +271,7 @@ impl Cluster {
     /// The committed offsets and the counts.
     pub fn store(&self) -> &Store
         ensures store { without_room result.now ≡ self.now.store }
-        ensures consistent { IsConsistent self.now }
+        ensures valid { IsValidCluster self.now }
     {
         &self.store
     }

@@ -5,7 +5,7 @@ ghost use Rattle.lane_words.specs.Answers.{Answers};
 ghost use Rattle.group_machine.specs.State.{assigned_of, is_present, member_of, members, name_of, opening, owner_of};
 ghost use Rattle.group_machine.specs.Rounds.{is_settled};
 ghost use Rattle.group_machine.specs.Steps.{join_answer, joined_by, rejoin_answer, rejoined_by, sync_answer, synced_by, leave_answer, left_by};
-ghost use Rattle.group_machine.specs.Good.{IsGood};
+ghost use Rattle.group_machine.specs.Good.{IsValidGroup};
 
 mod change;
 mod completion;
@@ -77,13 +77,13 @@ pub(crate) struct Group {
 
 impl Model for Group {
     ghost use Rattle.group_machine.specs.State.{GroupState};
-    ghost use Rattle.group_machine.specs.Shown.{state_shown, IsShown};
+    ghost use Rattle.group_machine.specs.GroupView.{group_view, IsValidGroupInside};
 
     ghost Value = { GroupState };
 
-    ghost view = { state_shown };
+    ghost view = { group_view };
 
-    ghost invariant = { IsShown };
+    ghost invariant = { IsValidGroupInside };
 }
 
 impl Group {

@@ -7,7 +7,7 @@ ghost use Rattle.group_machine.specs.State.{GroupState, is_anybody, granted_rows
 ghost use Rattle.group_machine.specs.Moves.{takes, taker};
 ghost use Rattle.group_machine.specs.Rounds.{is_settled, round, finish};
 ghost use Rattle.group_machine.specs.Steps.{rejoin_answer, rejoined_by, synced_by};
-ghost use Rattle.group_machine.specs.Good.{IsSound, IsGood};
+ghost use Rattle.group_machine.specs.Good.{IsSound, IsValidGroup};
 
 /// After two rounds a group with a member is settled, where no partition is granted to two members and each member's
 /// sets are fit.
@@ -22,7 +22,7 @@ pub fn sync_keeps_the_end()
 
 /// An accepted rejoin changes nothing of where a rebalance ends, moves and last holders included.
 pub fn rejoin_keeps_the_end()
-    ensures { (g : GroupState) (member generation : ℕ) (claim : PartitionSet) → IsGood g → rejoin_answer g member generation claim ≡ Ok tt → finish (rejoined_by g member) ≡ finish g }
+    ensures { (g : GroupState) (member generation : ℕ) (claim : PartitionSet) → IsValidGroup g → rejoin_answer g member generation claim ≡ Ok tt → finish (rejoined_by g member) ≡ finish g }
 {}
 
 /// At a completion no partition comes to two members: each that takes one, of its next row and not granted to it just

@@ -18,13 +18,13 @@ pub struct Name {
 
 impl Model for Name {
     ghost use Rattle.std.specs.Prelude.{List, ℕ};
-    ghost use Rattle.group_machine.specs.Name.{text_in, IsNameInPlace};
+    ghost use Rattle.group_machine.specs.Name.{text_in, IsValidName};
 
     ghost Value = { List ℕ };
 
     ghost view = { λ n. text_in n.size n.bytes };
 
-    ghost invariant = { λ n. IsNameInPlace n.size n.bytes };
+    ghost invariant = { λ n. IsValidName n.size n.bytes };
 }
 
 impl Name {

@@ -22,8 +22,8 @@ abbrev pub HasCountsOf : List ℕ → BTreeMap ℕ ℕ → Type 0
 HasCountsOf ids counts = (x : ℕ) → get nat_cmp counts x ≡ counted (plain ids x)
 
 -- the same, of a map whose numbers rise
-abbrev pub HasRisingCountsOf : List ℕ → BTreeMap ℕ ℕ → Type 0
-HasRisingCountsOf ids counts = HasCountsOf ids counts × IsOrdered nat_cmp counts
+abbrev pub IsValidPartial : List ℕ → BTreeMap ℕ ℕ → Type 0
+IsValidPartial ids counts = HasCountsOf ids counts × IsOrdered nat_cmp counts
 
 -- counters by key number, and for how many more there is room
 pub record Counters : Type 0 where

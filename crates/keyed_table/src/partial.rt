@@ -4,7 +4,7 @@ ghost use Rattle.std.specs.Prelude.{◌≡◌, ◌≢◌, ◌+◌, ◌<◌, ◌^
 ghost use Rattle.std.specs.BTreeMap.{IsFromIterResult};
 ghost use Rattle.std.specs.List.Sorted.{IsNonDecreasing};
 ghost use Rattle.std.specs.Ordering.{nat_cmp};
-ghost use Rattle.keyed_table.specs.Counts.{HasRisingCountsOf, counted, plain, value_in};
+ghost use Rattle.keyed_table.specs.Counts.{IsValidPartial, counted, plain, value_in};
 
 use lane_words::Memory;
 use std::alloc::{AllocError, Global};
@@ -22,13 +22,13 @@ pub struct Partial {
 
 impl Model for Partial {
     ghost use Rattle.std.specs.Prelude.{List, ℕ};
-    ghost use Rattle.keyed_table.specs.Counts.{HasRisingCountsOf};
+    ghost use Rattle.keyed_table.specs.Counts.{IsValidPartial};
 
     ghost Value = { List ℕ };
 
     ghost view = { λ p. p.ids.items };
 
-    ghost invariant = { λ p. HasRisingCountsOf p.ids.items p.counts };
+    ghost invariant = { λ p. IsValidPartial p.ids.items p.counts };
 }
 
 impl Partial {
@@ -61,7 +61,7 @@ impl Partial {
 
     /// The counts, by number.
     pub(crate) fn counts(&self) -> &BTreeMap<u32, u64>
-        ensures { HasRisingCountsOf self.now result.now }
+        ensures { IsValidPartial self.now result.now }
     {
         &self.counts
     }
@@ -70,7 +70,7 @@ impl Partial {
 /// How often each number is in a list whose numbers rise.
 fn counts_of(alloc: Global, ids: &[u32]) -> Result<BTreeMap<u32, u64>, Memory>
     requires { IsNonDecreasing ids.now }
-    ensures { IfOk result (HasRisingCountsOf ids.now) }
+    ensures { IfOk result (IsValidPartial ids.now) }
 {
     let runs = runs_of(alloc, ids)?;
     Ok(map_of(alloc, runs)?)

@@ -37,7 +37,7 @@ impl Table {
     pub fn reserve(&mut self) -> Result<(), Memory>
         ensures counts { self.new.counts ≡ self.old.counts }
         ensures room { OnOk result (1 ≤ self.new.room) }
-        ensures kept { self.old.room ≤ self.new.room }
+        ensures room_stays { self.old.room ≤ self.new.room }
     {
         self.counts.reserve(1)?;
         Ok(())

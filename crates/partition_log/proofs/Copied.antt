@@ -1,7 +1,7 @@
 -- Keys that are copied in the order of their numbers.
 use Rattle.std.proofs.Common.{◌≡◌, ◌∙◌, ◌+◌, ◌<◌, ℕ, Bool, true, false, List, [], ◌∷◌, ◌++◌, length, map, take, get_or, get_or-take, ap, sym, refl, arith}
 use Rattle.std.proofs.lemmas.List.{get_or-map, length-map, length-take, map-append, take_more}
-use Rattle.partition_log.specs.Keys.{Key, IsWithoutRepeats, is_known, key_at, number_of, with_key}
+use Rattle.partition_log.specs.Keys.{Key, IsWithoutRepeats, is_known, key_at, id_of, with_key}
 use Rattle.partition_log.proofs.Growth.{known}
 
 not_so : (b : Bool) → (b ≡ true → ⊥) → b ≡ false
@@ -18,7 +18,7 @@ pub is_new : (ks : List Key) (n : ℕ) → IsWithoutRepeats ks → n < length ks
 is_new ks n apart lt =
     not_so (is_known (take n ks) (key_at ks n)) (λ h.
     let there = known (take n ks) (key_at ks n) h in
-    clash ks n (number_of (take n ks) (key_at ks n)) apart lt (omega (arith, there.0, length-take n ks)) there.1)
+    clash ks n (id_of (take n ks) (key_at ks n)) apart lt (omega (arith, there.0, length-take n ks)) there.1)
 
 -- the keys up to one, and that one
 pub next_copied : (ks : List Key) (n : ℕ) → IsWithoutRepeats ks → n < length ks → with_key (take n ks) (key_at ks n) ≡ take (n + 1) ks

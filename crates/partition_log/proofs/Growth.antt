@@ -6,20 +6,20 @@ use Rattle.std.proofs.lemmas.Bool.{cases_lt}
 use Rattle.std.proofs.lemmas.List.{get_or_append_left}
 use Rattle.std.proofs.lemmas.Slice.Eq.{bytes_eq-Decides}
 use Rattle.std.proofs.Math.Seq.{get_or-append_seam}
-use Rattle.partition_log.specs.Keys.{Key, IsWithoutRepeats, is_known, key_at, number_of, with_key}
+use Rattle.partition_log.specs.Keys.{Key, IsWithoutRepeats, is_known, key_at, id_of, with_key}
 
 known-at : (b : Bool) (x k : Key) (ks : List Key) → bytes_eq k x ≡ b
-    → (is_known ks k ≡ true → (number_of ks k < length ks) × (key_at ks (number_of ks k) ≡ k))
+    → (is_known ks k ≡ true → (id_of ks k < length ks) × (key_at ks (id_of ks k) ≡ k))
     → (b || is_known ks k) ≡ true
-    → (cond (not b) (1 + number_of ks k) 0 < suc (length ks)) × (key_at (x ∷ ks) (cond (not b) (1 + number_of ks k) 0) ≡ k)
+    → (cond (not b) (1 + id_of ks k) 0 < suc (length ks)) × (key_at (x ∷ ks) (cond (not b) (1 + id_of ks k) 0) ≡ k)
 known-at true x k ks e ih h = (omega arith, sym ((bytes_eq-Decides k x).0 e))
 known-at false x k ks e ih h =
-    let next : 1 + number_of ks k ≡ suc (number_of ks k) = omega arith in
+    let next : 1 + id_of ks k ≡ suc (id_of ks k) = omega arith in
     let there = ih h in
     rw next (omega (arith, there.0), there.1)
 
 -- a known key stands at its number
-pub known : (ks : List Key) (k : Key) → is_known ks k ≡ true → (number_of ks k < length ks) × (key_at ks (number_of ks k) ≡ k)
+pub known : (ks : List Key) (k : Key) → is_known ks k ≡ true → (id_of ks k < length ks) × (key_at ks (id_of ks k) ≡ k)
 known [] k h = absurd (cc h)
 known (x ∷ ks) k h = known-at (bytes_eq k x) x k ks refl (known ks k) h
 
@@ -28,9 +28,9 @@ fresh-at true n m rest ih h = absurd (cc h)
 fresh-at false n m rest ih h = let same = ih h in omega (arith, same)
 
 -- a new key gets the next number
-pub fresh : (ks : List Key) (k : Key) → is_known ks k ≡ false → number_of ks k ≡ length ks
+pub fresh : (ks : List Key) (k : Key) → is_known ks k ≡ false → id_of ks k ≡ length ks
 fresh [] k h = refl
-fresh (x ∷ ks) k h = fresh-at (bytes_eq k x) (number_of ks k) (length ks) (is_known ks k) (fresh ks k) h
+fresh (x ∷ ks) k h = fresh-at (bytes_eq k x) (id_of ks k) (length ks) (is_known ks k) (fresh ks k) h
 
 or-right : (b rest : Bool) → rest ≡ true → (b || rest) ≡ true
 or-right true rest h = refl
@@ -48,18 +48,18 @@ pub record Grows (ks ws : List Key) (k : Key) (n : ℕ) : Type 0 where
   pub by_one : length ws ≤ length ks + 1
   pub numbered : n < length ws
   pub found : key_at ws n ≡ k
-  pub kept : (i : ℕ) → i < length ks → key_at ws i ≡ key_at ks i
+  pub stays : (i : ℕ) → i < length ks → key_at ws i ≡ key_at ks i
   pub new_only : (i : ℕ) → length ks ≤ i → i < length ws → i ≡ n
   pub same_count : is_known ks k ≡ true → ws ≡ ks
 
-grows-at : (b : Bool) (ks : List Key) (k : Key) → is_known ks k ≡ b → Grows ks (if b then ks else ks ++ k ∷ []) k (number_of ks k)
+grows-at : (b : Bool) (ks : List Key) (k : Key) → is_known ks k ≡ b → Grows ks (if b then ks else ks ++ k ∷ []) k (id_of ks k)
 grows-at true ks k e =
     let there = known ks k e in record {
       longer = omega arith;
       by_one = omega arith;
       numbered = there.0;
       found = there.1;
-      kept = λ i lt. refl;
+      stays = λ i lt. refl;
       new_only = λ i le lt. absurd (omega (arith, le, lt));
       same_count = λ h. refl;
     }
@@ -71,12 +71,12 @@ grows-at false ks k e =
       by_one = omega (arith, one_more);
       numbered = omega (arith, one_more, next);
       found = rw next (get_or-append_seam ks k [] []);
-      kept = λ i lt. get_or_append_left ks (k ∷ []) [] i lt;
+      stays = λ i lt. get_or_append_left ks (k ∷ []) [] i lt;
       new_only = λ i le lt. omega (arith, one_more, next, le, lt);
       same_count = λ h. absurd (cc (e, h));
     }
 
-pub grows : (ks : List Key) (k : Key) → Grows ks (with_key ks k) k (number_of ks k)
+pub grows : (ks : List Key) (k : Key) → Grows ks (with_key ks k) k (id_of ks k)
 grows ks k = grows-at (is_known ks k) ks k refl
 
 apart-at : (b : Bool) (ks : List Key) (k : Key) → is_known ks k ≡ b → IsWithoutRepeats ks → IsWithoutRepeats (if b then ks else ks ++ k ∷ [])

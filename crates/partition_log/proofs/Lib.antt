@@ -1,7 +1,7 @@
 pub mod Copied
 pub mod Growth
 pub mod History
-pub mod Kept
+pub mod Valid
 pub mod Numbered
 pub mod Numbers
 pub mod Parted

@@ -5,7 +5,7 @@ use Rattle.std.specs.Str.{bytes_eq}
 use Rattle.std.proofs.lemmas.Bool.Decides.{eqb_tells}
 use Rattle.std.proofs.lemmas.List.Sums.{sum_by-cons}
 use Rattle.std.proofs.lemmas.Slice.Eq.{bytes_eq-Decides}
-use Rattle.partition_log.specs.Keys.{IsWithoutRepeats, Key, is_known, key_at, number_of, plain}
+use Rattle.partition_log.specs.Keys.{IsWithoutRepeats, Key, is_known, key_at, id_of, plain}
 use Rattle.partition_log.proofs.Growth.{among, fresh, known}
 
 not_so : (b : Bool) → (b ≡ true → ⊥) → b ≡ false
@@ -13,9 +13,9 @@ not_so true f = absurd (f refl)
 not_so false f = refl
 
 -- a number names a key exactly where it is the key's number
-names : (keys : List Key) (x : Key) (id : ℕ) → IsWithoutRepeats keys → id < length keys → bytes_eq x (key_at keys id) ≡ (number_of keys x == id)
+names : (keys : List Key) (x : Key) (id : ℕ) → IsWithoutRepeats keys → id < length keys → bytes_eq x (key_at keys id) ≡ (id_of keys x == id)
 names keys x id apart lt =
-    elim (eqb_tells (number_of keys x) id) [
+    elim (eqb_tells (id_of keys x) id) [
       | inl t ↦
           let stands : key_at keys id ≡ x = named_by (is_known keys x) keys x id refl lt t.1 in
           (bytes_eq-Decides x (key_at keys id)).1 (sym stands) ∙ sym t.0
@@ -23,26 +23,26 @@ names keys x id apart lt =
           not_so (bytes_eq x (key_at keys id)) (λ e.
           let same : key_at keys id ≡ x = sym ((bytes_eq-Decides x (key_at keys id)).0 e) in
           let there = known keys x (among keys x id lt same) in
-          f.1 (apart (number_of keys x) id there.0 lt (there.1 ∙ sym same)))
+          f.1 (apart (id_of keys x) id there.0 lt (there.1 ∙ sym same)))
           ∙ sym f.0
     ]
   where
-    named_by : (b : Bool) (keys : List Key) (x : Key) (id : ℕ) → is_known keys x ≡ b → id < length keys → number_of keys x ≡ id → key_at keys id ≡ x
+    named_by : (b : Bool) (keys : List Key) (x : Key) (id : ℕ) → is_known keys x ≡ b → id < length keys → id_of keys x ≡ id → key_at keys id ≡ x
     named_by true keys x id e lt is = ap (key_at keys) (sym is) ∙ (known keys x e).1
     named_by false keys x id e lt is = absurd (omega (arith, fresh keys x e, is, lt))
 
 -- keys counted by their numbers
-pub by_number : (keys : List Key) (ids : List ℕ) (x : Key) → IsWithoutRepeats keys → ((i : ℕ) → i < length ids → get_or ids i 0 < length keys) → plain (map (key_at keys) ids) x ≡ count_by (λ y. number_of keys x == y) ids
+pub by_number : (keys : List Key) (ids : List ℕ) (x : Key) → IsWithoutRepeats keys → ((i : ℕ) → i < length ids → get_or ids i 0 < length keys) → plain (map (key_at keys) ids) x ≡ count_by (λ y. id_of keys x == y) ids
 by_number keys [] x apart below = refl
 by_number keys (id ∷ ids) x apart below =
     let first = names keys x id apart (below 0 (omega arith)) in
     sum_by-cons (λ y. cond (bytes_eq x y) 1 0) (key_at keys id) (map (key_at keys) ids)
     ∙ ap (λ b. cond b 1 0 + plain (map (key_at keys) ids) x) first
-    ∙ ap (λ n. cond (number_of keys x == id) 1 0 + n) (by_number keys ids x apart (λ i lt. below (suc i) (omega (arith, lt))))
-    ∙ sym (sum_by-cons (λ y. cond (number_of keys x == y) 1 0) id ids)
+    ∙ ap (λ n. cond (id_of keys x == id) 1 0 + n) (by_number keys ids x apart (λ i lt. below (suc i) (omega (arith, lt))))
+    ∙ sym (sum_by-cons (λ y. cond (id_of keys x == y) 1 0) id ids)
 
 -- the number of a key that stands at a number
-pub number-back : (keys : List Key) (id : ℕ) → IsWithoutRepeats keys → id < length keys → number_of keys (key_at keys id) ≡ id
+pub number-back : (keys : List Key) (id : ℕ) → IsWithoutRepeats keys → id < length keys → id_of keys (key_at keys id) ≡ id
 number-back keys id apart lt =
     let there = known keys (key_at keys id) (among keys (key_at keys id) id lt refl) in
-    apart (number_of keys (key_at keys id)) id there.0 lt there.1
+    apart (id_of keys (key_at keys id)) id there.0 lt there.1

@@ -6,7 +6,7 @@ use Rattle.std.proofs.lemmas.Bool.Decides.{eqb_tells}
 use Rattle.std.proofs.lemmas.List.Sums.{sum_by-cons}
 use Rattle.partitioner.proofs.Places.{place_of-below}
 use Rattle.partition_log.specs.Keys.{Key, plain}
-use Rattle.partition_log.specs.Logs.{AreLogs, AreLogsOf, PartitionLogs, keys_of_log, place_in, sum_below}
+use Rattle.partition_log.specs.Logs.{IsValidLogs, AreLogsOf, PartitionLogs, keys_of_log, place_in, sum_below}
 
 -- sums of functions that agree
 pub sum-same : (n : ℕ) (f g : ℕ → ℕ) → ((p : ℕ) → p < n → f p ≡ g p) → sum_below n f ≡ sum_below n g
@@ -63,7 +63,7 @@ parted n place (k ∷ ks) x below =
     ∙ sym (sum_by-cons (λ y. cond (bytes_eq x y) 1 0) k ks)
 
 -- in the logs of a list of keys each key is as often as in the list
-pub in_one_log : (appended : List Key) (l : PartitionLogs) (x : Key) → AreLogs l → AreLogsOf appended l → sum_below l.partitions (λ p. plain (keys_of_log l p) x) ≡ plain appended x
+pub in_one_log : (appended : List Key) (l : PartitionLogs) (x : Key) → IsValidLogs l → AreLogsOf appended l → sum_below l.partitions (λ p. plain (keys_of_log l p) x) ≡ plain appended x
 in_one_log appended l x a h =
     sum-same l.partitions (λ p. plain (keys_of_log l p) x) (λ p. plain (filter (λ k. place_in l k == p) appended) x) (λ p lt. ap (λ ks. plain ks x) (h.records p lt))
     ∙ parted l.partitions (place_in l) appended x (λ k. place_of-below l.partitions k a.some_partitions)

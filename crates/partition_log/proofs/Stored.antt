@@ -6,15 +6,15 @@ use Rattle.lane_words.specs.Answers.{Answers}
 use Rattle.lane_words.specs.declared.Refusal.{Refusal}
 use Rattle.lane_words.specs.declared.Refusal.TheVariants as r
 use Rattle.partitioner.proofs.Places.{place_of-below}
-use Rattle.partition_log.specs.Keys.{Key, number_of}
-use Rattle.partition_log.specs.Logs.{AreLogs, PartitionLogs, append_answer, is_full_for, log_at, longest_key, place_in, with_record}
-use Rattle.partition_log.proofs.Kept.{log-same}
+use Rattle.partition_log.specs.Keys.{Key, id_of}
+use Rattle.partition_log.specs.Logs.{IsValidLogs, PartitionLogs, append_answer, is_full_for, log_at, longest_key, place_in, with_record}
+use Rattle.partition_log.proofs.Valid.{log-same}
 
 -- the record of a key that was appended to logs stands at this place and offset, as the number of the key
 pub record IsStored (l : PartitionLogs) (key : Key) (new : PartitionLogs) (place offset : ℕ) : Type 0 where
   pub placed : place < new.partitions
   pub within : offset < length (log_at new place)
-  pub numbered : get_or (log_at new place) offset 0 ≡ number_of l.keys key
+  pub numbered : get_or (log_at new place) offset 0 ≡ id_of l.keys key
 
 answered : {T : Type 0} (a b : Bool) (v w : T) → (if a then Err r.KeyTooLong else if b then Err r.LogFull else Ok v) ≡ Ok w → v ≡ w
 answered true b v w e = absurd (cc e)
@@ -26,7 +26,7 @@ pub accepted : {T : Type 0} (expected : Result T Refusal) (v : T) → Answers ex
 accepted expected v (inl e) = sym e
 accepted expected v (inr e) = absurd (cc e)
 
-pub stored : (l new : PartitionLogs) (key : Key) (place offset : ℕ) → AreLogs l → new ≡ with_record l key → Answers {T = ℕ × ℕ} (append_answer l key) (Ok (place, offset))
+pub stored : (l new : PartitionLogs) (key : Key) (place offset : ℕ) → IsValidLogs l → new ≡ with_record l key → Answers {T = ℕ × ℕ} (append_answer l key) (Ok (place, offset))
     → IsStored l key new place offset
 stored l new key place offset a e h =
     let pair : (let v : ℕ × ℕ = (place_in l key, length (log_at l (place_in l key))) in v) ≡ (place, offset) =
@@ -35,16 +35,16 @@ stored l new key place offset a e h =
     let end : length (log_at l (place_in l key)) ≡ offset = ap (λ (v : ℕ × ℕ). v.1) pair in
     let below : place_in l key < l.partitions = place_of-below l.partitions key a.some_partitions in
     let old = log_at l (place_in l key) in
-    let log : log_at new place ≡ old ++ number_of l.keys key ∷ [] =
+    let log : log_at new place ≡ old ++ id_of l.keys key ∷ [] =
     ap (λ (x : PartitionLogs). log_at x place) e ∙ ap (log_at (with_record l key)) (sym at) ∙ log-same l key (rw a.a_log_each below) in
-    let long : length (log_at new place) ≡ length old + 1 = ap length log ∙ length-append old (number_of l.keys key ∷ []) in
+    let long : length (log_at new place) ≡ length old + 1 = ap length log ∙ length-append old (id_of l.keys key ∷ []) in
     let same : new.partitions ≡ l.partitions = ap (λ (x : PartitionLogs). x.partitions) e in
     record {
       placed = omega (arith, at, below, same);
       within = omega (arith, long, end);
-      numbered = ap (λ (xs : List ℕ). get_or xs offset 0) log ∙ ap (λ n. get_or (old ++ number_of l.keys key ∷ []) n 0) (sym end) ∙ get_or-append_seam old (number_of l.keys key) [] 0;
+      numbered = ap (λ (xs : List ℕ). get_or xs offset 0) log ∙ ap (λ n. get_or (old ++ id_of l.keys key ∷ []) n 0) (sym end) ∙ get_or-append_seam old (id_of l.keys key) [] 0;
     }
 
 -- a key's place is a partition
-pub place_in-below : (l : PartitionLogs) (key : Key) → AreLogs l → place_in l key < l.partitions
+pub place_in-below : (l : PartitionLogs) (key : Key) → IsValidLogs l → place_in l key < l.partitions
 place_in-below l key a = place_of-below l.partitions key a.some_partitions

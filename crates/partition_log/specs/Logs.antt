@@ -1,9 +1,9 @@
 -- Append-only logs of keyed records, one a partition.
 use Rattle.std.specs.Prelude.{◌≡◌, ℕ, zero, suc, ◌+◌, ◌-◌, ◌^◌, ◌<◌, ◌≤◌, ◌==◌, ◌&&◌, ◌||◌, nat_lt, nat_le, not, Bool, List, [], ◌∷◌, ◌++◌, length, filter, map, if◌then◌else◌, slice_index_or, slice_set, Contains, Result, Ok, Err}
-pub use Rattle.partitioner.specs.Place.{place_of}
+pub use Rattle.partitioner.specs.Storage.{place_of}
 use Rattle.lane_words.specs.declared.Refusal.{Refusal}
 use Rattle.lane_words.specs.declared.Refusal.TheVariants as r
-use Rattle.partition_log.specs.Keys.{Key, is_known, with_key, number_of, key_at, distinct, IsWithoutRepeats}
+use Rattle.partition_log.specs.Keys.{Key, is_known, with_key, id_of, key_at, distinct, IsWithoutRepeats}
 
 -- logs: how many partitions there are, the keys by their numbers, and for each partition the numbers of its records' keys
 pub record PartitionLogs : Type 0 where
@@ -54,7 +54,7 @@ append_answer l key =
 abbrev pub with_record : PartitionLogs → Key → PartitionLogs
 with_record l key = record l {
   keys = with_key l.keys key;
-  logs = slice_set l.logs (place_in l key) (log_at l (place_in l key) ++ number_of l.keys key ∷ []);
+  logs = slice_set l.logs (place_in l key) (log_at l (place_in l key) ++ id_of l.keys key ∷ []);
 }
 
 -- an entry of log p is the number of a key whose place is p
@@ -63,7 +63,7 @@ pub record IsEntryOf (l : PartitionLogs) (p number : ℕ) : Type 0 where
   pub placed : place_in l (key_at l.keys number) ≡ p
 
 -- what logs keep
-pub record AreLogs (l : PartitionLogs) : Type 0 where
+pub record IsValidLogs (l : PartitionLogs) : Type 0 where
   pub some_partitions : 1 ≤ l.partitions
   pub few_partitions : l.partitions ≤ 4096
   pub a_log_each : length l.logs ≡ l.partitions

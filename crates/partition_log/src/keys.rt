@@ -1,7 +1,7 @@
 //! The keys of all logs, numbered in the order of their first appearance.
 
 ghost use Rattle.std.specs.Prelude.{◌≡◌, ◌<◌, ◌≤◌, ◌-◌, ◌^◌, [], IfOk, IfSome, IfNone, IsOk, OnErr, length, true, false};
-ghost use Rattle.partition_log.specs.Keys.{IsWithoutRepeats, is_known, key_at, number_of, with_key};
+ghost use Rattle.partition_log.specs.Keys.{IsWithoutRepeats, is_known, key_at, id_of, with_key};
 
 use crate::stored_key::{SHORT, StoredKey};
 use indexmap::IndexSet;
@@ -14,14 +14,14 @@ use std::random::RandomSource;
 
 /// Keys by their numbers. The hasher is drawn anew for each, since strangers choose the keys.
 #[derive(Drop)]
-pub(crate) struct KeyNumbers {
+pub(crate) struct KeyIds {
     alloc: Global,
     set: IndexSet<StoredKey, RandomState>,
     // What a long key is looked up by: it keeps its memory from one look-up to the next.
     query: Vec<u8>,
 }
 
-impl Model for KeyNumbers {
+impl Model for KeyIds {
     ghost use Rattle.std.specs.Prelude.{List, ℕ, length, ◌≤◌, ◌-◌, ◌^◌};
 
     ghost Value = { List (List ℕ) };
@@ -31,15 +31,15 @@ impl Model for KeyNumbers {
     ghost invariant = { λ k. length k.set.keys ≤ 2 ^ 32 - 1 };
 }
 
-impl KeyNumbers {
+impl KeyIds {
     /// No keys. It is refused where the random source fails.
-    pub(crate) fn new(rt: &impl RandomSource, alloc: Global) -> Result<KeyNumbers, Memory>
+    pub(crate) fn new(rt: &impl RandomSource, alloc: Global) -> Result<KeyIds, Memory>
         ensures { IfOk result (λ keys. keys ≡ []) }
     {
         let Ok(hasher) = RandomState::new(rt) else {
             return Err(Memory);
         };
-        Ok(KeyNumbers {
+        Ok(KeyIds {
             alloc,
             set: IndexSet::with_hasher(alloc, hasher),
             query: Vec::new(alloc),
@@ -48,11 +48,11 @@ impl KeyNumbers {
 
     /// The same keys by the same numbers, with a hasher of their own. It is refused for want of memory, or where the
     /// random source fails.
-    pub(crate) fn copy(&self, rt: &impl RandomSource) -> Result<KeyNumbers, Memory>
+    pub(crate) fn copy(&self, rt: &impl RandomSource) -> Result<KeyIds, Memory>
         requires { IsWithoutRepeats self.now }
         ensures { IfOk result (λ copy. copy ≡ self.now) }
     {
-        let mut copy = KeyNumbers::new(rt, self.alloc)?;
+        let mut copy = KeyIds::new(rt, self.alloc)?;
         copy.set.reserve(self.set.len())?;
         for number in 0..self.count() {
             copy.add(self.key(number))?;
@@ -77,7 +77,7 @@ impl KeyNumbers {
 
     /// The number of a key, where it is known. It takes memory only for a long key, where none as long was sought before.
     pub(crate) fn find(&mut self, key: &[u8]) -> Result<Option<u32>, Memory>
-        ensures known { IfOk result (λ found. IfSome found (λ n. (n ≡ number_of self.old key.now) × (n < length self.old) × (is_known self.old key.now ≡ true))) }
+        ensures known { IfOk result (λ found. IfSome found (λ n. (n ≡ id_of self.old key.now) × (n < length self.old) × (is_known self.old key.now ≡ true))) }
         ensures fresh { IfOk result (λ found. IfNone found (is_known self.old key.now ≡ false)) }
         ensures short { length key.now ≤ 22 → IsOk result }
         ensures same { self.new ≡ self.old }
@@ -97,7 +97,7 @@ impl KeyNumbers {
     pub(crate) fn add(&mut self, key: &[u8]) -> Result<u32, Memory>
         requires room { length self.old < 2 ^ 32 - 1 }
         requires fresh { is_known self.old key.now ≡ false }
-        ensures ok { IfOk result (λ n. (n ≡ number_of self.old key.now) × (self.new ≡ with_key self.old key.now)) }
+        ensures ok { IfOk result (λ n. (n ≡ id_of self.old key.now) × (self.new ≡ with_key self.old key.now)) }
         ensures err { OnErr result (self.new ≡ self.old) }
     {
         let stored = stored_key(self.alloc, key)?;
@@ -109,7 +109,7 @@ impl KeyNumbers {
 /// The number of a key of a set, where it is there.
 fn find_in(set: &IndexSet<StoredKey, RandomState>, key: &StoredKey) -> Option<u32>
     requires { length set.now.keys ≤ 2 ^ 32 - 1 }
-    ensures known { IfSome result (λ n. (n ≡ number_of set.now.keys key.now) × (n < length set.now.keys) × (is_known set.now.keys key.now ≡ true)) }
+    ensures known { IfSome result (λ n. (n ≡ id_of set.now.keys key.now) × (n < length set.now.keys) × (is_known set.now.keys key.now ≡ true)) }
     ensures fresh { IfNone result (is_known set.now.keys key.now ≡ false) }
 {
     let Some(number) = set.get_index_of(key) else {

@@ -4,9 +4,9 @@
 ghost use Rattle.std.specs.Prelude.{◌≡◌, ◌<◌, ◌≤◌, ◌++◌, ◌∷◌, [], Ok, Err, List, map, length, vec_items, vec_len, slice_set, slice_range, replicate, slice_index_or, IfOk, OnOk, OnErr, if◌then◌else◌};
 ghost use Rattle.lane_words.specs.Answers.{Answers};
 ghost use Rattle.lane_words.specs.declared.Refusal.TheVariants as refusal;
-ghost use Rattle.partitioner.specs.Place.{place_of};
-ghost use Rattle.partition_log.specs.Keys.{Key, key_at, number_of, with_key};
-ghost use Rattle.partition_log.specs.Logs.{append_answer, with_record, log_at, place_in, finds_no_room, longest_key, most_records, AreLogs, AreLogsOf, PartitionLogs};
+ghost use Rattle.partitioner.specs.Storage.{place_of};
+ghost use Rattle.partition_log.specs.Keys.{Key, key_at, id_of, with_key};
+ghost use Rattle.partition_log.specs.Logs.{append_answer, with_record, log_at, place_in, finds_no_room, longest_key, most_records, IsValidLogs, AreLogsOf, PartitionLogs};
 
 mod keys;
 pub mod laws;
@@ -15,7 +15,7 @@ mod plain_keys;
 mod sealed;
 mod stored_key;
 
-use keys::KeyNumbers;
+use keys::KeyIds;
 use lane_words::{Memory, Refusal};
 use partitioner::Partitions;
 pub use sealed::SealedLogs;
@@ -37,19 +37,19 @@ const LIMIT: u32 = u32::MAX;
 #[derive(Drop)]
 pub struct Logs {
     partitions: Partitions,
-    keys: KeyNumbers,
+    keys: KeyIds,
     logs: Vec<Vec<u32>>,
 }
 
 impl Model for Logs {
     ghost use Rattle.std.specs.Prelude.{map, vec_items};
-    ghost use Rattle.partition_log.specs.Logs.{AreLogs, PartitionLogs};
+    ghost use Rattle.partition_log.specs.Logs.{IsValidLogs, PartitionLogs};
 
     ghost Value = { PartitionLogs };
 
     ghost view = { λ l. record { partitions = l.partitions; keys = l.keys; logs = map vec_items l.logs.items } };
 
-    ghost invariant = { λ l. AreLogs (record { partitions = l.partitions; keys = l.keys; logs = map vec_items l.logs.items }) };
+    ghost invariant = { λ l. IsValidLogs (record { partitions = l.partitions; keys = l.keys; logs = map vec_items l.logs.items }) };
 }
 
 /// Logs that can be read.
@@ -60,7 +60,7 @@ pub trait LogRead {
     /// How many partitions there are.
     fn partitions(&self) -> u32
         ensures count { result ≡ (contents self.now).partitions }
-        ensures kept { AreLogs (contents self.now) };
+        ensures valid { IsValidLogs (contents self.now) };
 
     /// How many records the log of partition `p` holds, which is the offset of its next one.
     fn len(&self, p: u32) -> u32
@@ -73,7 +73,7 @@ pub trait LogRead {
         requires partition { p < (contents self.now).partitions }
         requires range { (from ≤ to) × (to ≤ length (log_at (contents self.now) p)) }
         ensures ids { result.now ≡ slice_range (log_at (contents self.now) p) from to }
-        ensures kept { AreLogs (contents self.now) };
+        ensures valid { IsValidLogs (contents self.now) };
 
     /// The key of a number.
     fn key(&self, id: u32) -> &[u8]
@@ -116,9 +116,9 @@ impl Logs {
         requires { (1 ≤ partitions) × (partitions ≤ 4096) }
         ensures partitions { IfOk result (λ logs. logs.partitions ≡ partitions) }
         ensures empty { IfOk result (AreLogsOf []) }
-        ensures kept { IfOk result AreLogs }
+        ensures valid { IfOk result IsValidLogs }
     {
-        let keys = KeyNumbers::new(rt, alloc)?;
+        let keys = KeyIds::new(rt, alloc)?;
         let logs = empty_logs(alloc, partitions as usize)?;
         Ok(Logs {
             partitions: Partitions::new(partitions),
@@ -144,7 +144,7 @@ impl Logs {
         ensures answer { Answers (append_answer self.old key.now) result }
         ensures ok { OnOk result (self.new ≡ with_record self.old key.now) }
         ensures err { OnErr result (self.new ≡ self.old) }
-        ensures kept { OnOk result (AreLogs self.new) }
+        ensures valid { OnOk result (IsValidLogs self.new) }
         ensures history { OnOk result ((appended : List Key) → AreLogsOf appended self.old → AreLogsOf (appended ++ key.now ∷ []) self.new) }
     {
         let place = self.partitions.place(key);
@@ -154,7 +154,7 @@ impl Logs {
     /// The same logs, to which nothing more is appended. It takes no memory.
     pub fn seal(self) -> SealedLogs
         ensures same { result ≡ self }
-        ensures kept { AreLogs self }
+        ensures valid { IsValidLogs self }
     {
         SealedLogs { logs: self }
     }
@@ -162,7 +162,7 @@ impl Logs {
     /// Equal logs, whose keys have a hasher of their own.
     fn copy(&self, rt: &impl RandomSource, alloc: Global) -> Result<Logs, Memory>
         ensures equal { IfOk result (λ logs. logs ≡ self.now) }
-        ensures kept { IfOk result AreLogs }
+        ensures valid { IfOk result IsValidLogs }
     {
         let keys = self.keys.copy(rt)?;
         let logs = copy_logs(alloc, &self.logs)?;
@@ -179,13 +179,13 @@ impl Logs {
         ensures answer { Answers (append_answer self.old key.now) result }
         ensures ok { OnOk result (self.new ≡ with_record self.old key.now) }
         ensures err { OnErr result (self.new ≡ self.old) }
-        ensures kept { OnOk result (AreLogs self.new) }
+        ensures valid { OnOk result (IsValidLogs self.new) }
         ensures history { OnOk result ((appended : List Key) → AreLogsOf appended self.old → AreLogsOf (appended ++ key.now ∷ []) self.new) }
     {
         if key.len() > LONGEST_KEY {
             return Err(Refusal::KeyTooLong);
         }
-        let offset = append_number(&mut self.keys, &mut self.logs, place as usize, key)?;
+        let offset = append_id(&mut self.keys, &mut self.logs, place as usize, key)?;
         Ok((place, offset))
     }
 }
@@ -213,8 +213,8 @@ fn copy_logs(alloc: Global, logs: &Vec<Vec<u32>>) -> Result<Vec<Vec<u32>>, Memor
 }
 
 /// Appends the number of a key to its log, and answers the number's offset there. A new key is numbered first.
-fn append_number(
-    keys: &mut KeyNumbers,
+fn append_id(
+    keys: &mut KeyIds,
     logs: &mut Vec<Vec<u32>>,
     place: usize,
     key: &[u8],
@@ -224,19 +224,19 @@ fn append_number(
         Answers (if finds_no_room keys.old (length log) key.now then Err refusal.LogFull else Ok (length log)) result }
     ensures keys { OnOk result (keys.new ≡ with_key keys.old key.now) }
     ensures logs { let log = slice_index_or (map vec_items logs.old.items) place [] in
-        OnOk result (map vec_items logs.new.items ≡ slice_set (map vec_items logs.old.items) place (log ++ number_of keys.old key.now ∷ [])) }
+        OnOk result (map vec_items logs.new.items ≡ slice_set (map vec_items logs.old.items) place (log ++ id_of keys.old key.now ∷ [])) }
     ensures same_keys { OnErr result (keys.new ≡ keys.old) }
     ensures same_logs { OnErr result (map vec_items logs.new.items ≡ map vec_items logs.old.items) }
 {
     let log = &mut logs[place];
-    push_number(keys, log, key)
+    push_id(keys, log, key)
 }
 
 /// Appends the number of a key to this log, and answers the number's offset.
-fn push_number(keys: &mut KeyNumbers, log: &mut Vec<u32>, key: &[u8]) -> Result<u32, Refusal>
+fn push_id(keys: &mut KeyIds, log: &mut Vec<u32>, key: &[u8]) -> Result<u32, Refusal>
     ensures answer { Answers (if finds_no_room keys.old (length log.old.items) key.now then Err refusal.LogFull else Ok (length log.old.items)) result }
     ensures keys { OnOk result (keys.new ≡ with_key keys.old key.now) }
-    ensures log { OnOk result (log.new.items ≡ log.old.items ++ number_of keys.old key.now ∷ []) }
+    ensures log { OnOk result (log.new.items ≡ log.old.items ++ id_of keys.old key.now ∷ []) }
     ensures same_keys { OnErr result (keys.new ≡ keys.old) }
     ensures same_log { OnErr result (log.new.items ≡ log.old.items) }
 {

@@ -1,7 +1,7 @@
 //! The keys of all logs in the plainest form, a vector a key: what `keys` is compared with.
 
 ghost use Rattle.std.specs.Prelude.{◌≡◌, ◌<◌, ◌≤◌, ◌-◌, ◌^◌, [], IfOk, IfSome, IfNone, OnOk, OnErr, MatchOption, length, true, false};
-ghost use Rattle.partition_log.specs.Keys.{is_known, key_at, number_of, with_key};
+ghost use Rattle.partition_log.specs.Keys.{is_known, key_at, id_of, with_key};
 
 use indexmap::IndexSet;
 use lane_words::Memory;
@@ -58,7 +58,7 @@ impl PlainKeys {
 
     /// The number of a key, where it is known. It takes no memory.
     pub(crate) fn find(&self, key: &[u8]) -> Option<u32>
-        ensures known { IfSome result (λ n. (n ≡ number_of self.now key.now) × (n < length self.now) × (is_known self.now key.now ≡ true)) }
+        ensures known { IfSome result (λ n. (n ≡ id_of self.now key.now) × (n < length self.now) × (is_known self.now key.now ≡ true)) }
         ensures fresh { IfNone result (is_known self.now key.now ≡ false) }
     {
         let Some(number) = self.set.get_index_of(key) else {
@@ -71,7 +71,7 @@ impl PlainKeys {
     pub(crate) fn add(&mut self, key: &[u8]) -> Result<u32, Memory>
         requires room { length self.old < 2 ^ 32 - 1 }
         requires fresh { is_known self.old key.now ≡ false }
-        ensures ok { IfOk result (λ n. (n ≡ number_of self.old key.now) × (self.new ≡ with_key self.old key.now)) }
+        ensures ok { IfOk result (λ n. (n ≡ id_of self.old key.now) × (self.new ≡ with_key self.old key.now)) }
         ensures err { OnErr result (self.new ≡ self.old) }
     {
         let copy = Vec::from_slice(self.alloc, key)?;

@@ -1,7 +1,7 @@
 //! Logs to which nothing is appended any more.
 
 ghost use Rattle.std.specs.Prelude.{◌≡◌, IfOk};
-ghost use Rattle.partition_log.specs.Logs.{AreLogs, PartitionLogs};
+ghost use Rattle.partition_log.specs.Logs.{IsValidLogs, PartitionLogs};
 
 use crate::{LogRead, Logs};
 use lane_words::Memory;
@@ -52,7 +52,7 @@ impl SealedLogs {
     /// is, for want of memory, or where the random source fails, from which the hasher of the new keys is drawn.
     pub fn copy(&self, rt: &impl RandomSource, alloc: Global) -> Result<Logs, Memory>
         ensures equal { IfOk result (λ logs. logs ≡ self.now) }
-        ensures kept { IfOk result AreLogs }
+        ensures valid { IfOk result IsValidLogs }
     {
         self.logs.copy(rt, alloc)
     }

@@ -15,15 +15,15 @@ pub(crate) const SHORT: usize = 22;
 
 /// Where a key's bytes lie.
 #[derive(Drop)]
-enum Place {
-    Here { bytes: [u8; 22], size: u8 },
-    Elsewhere(Vec<u8>),
+enum Storage {
+    InPlace { bytes: [u8; 22], size: u8 },
+    OnHeap(Vec<u8>),
 }
 
 /// A key. A short one lies in place, so that a look-up follows no pointer to it.
 #[derive(Drop)]
 pub(crate) struct StoredKey {
-    place: Place,
+    place: Storage,
 }
 
 impl Model for StoredKey {
@@ -31,11 +31,11 @@ impl Model for StoredKey {
 
     ghost Value = { List ℕ };
 
-    ghost use Rattle.partition_log.specs.StoredKey.{bytes_in, FitsInPlace};
+    ghost use Rattle.partition_log.specs.StoredKey.{bytes_in, IsValidStoredKey};
 
     ghost view = { λ k. bytes_in k.place };
 
-    ghost invariant = { λ k. FitsInPlace k.place };
+    ghost invariant = { λ k. IsValidStoredKey k.place };
 }
 
 impl StoredKey {
@@ -47,7 +47,7 @@ impl StoredKey {
         let mut bytes = [0u8; 22];
         bytes[..key.len()].copy_from_slice(key);
         StoredKey {
-            place: Place::Here {
+            place: Storage::InPlace {
                 bytes,
                 size: key.len() as u8,
             },
@@ -59,7 +59,7 @@ impl StoredKey {
         ensures { result ≡ text.items }
     {
         StoredKey {
-            place: Place::Elsewhere(text),
+            place: Storage::OnHeap(text),
         }
     }
 
@@ -68,8 +68,8 @@ impl StoredKey {
         ensures { result.now ≡ self.now }
     {
         match &self.place {
-            Place::Here { bytes, size } => &bytes[..*size as usize],
-            Place::Elsewhere(text) => text.as_slice(),
+            Storage::InPlace { bytes, size } => &bytes[..*size as usize],
+            Storage::OnHeap(text) => text.as_slice(),
         }
     }
 }
@@ -81,8 +81,8 @@ impl StoredKey {
     {
         let StoredKey { place } = self;
         match place {
-            Place::Here { .. } => None,
-            Place::Elsewhere(text) => Some(text),
+            Storage::InPlace { .. } => None,
+            Storage::OnHeap(text) => Some(text),
         }
     }
 }

@@ -65,7 +65,7 @@ fn takes_keys_up_to_the_longest(rt: HostRuntime) -> Result<(), Fail> {
 
 #[test]
 fn keys_are_numbered_as_by_the_plain_form(rt: HostRuntime) -> Result<(), Fail> {
-    let mut keys = KeyNumbers::new(&rt, rt.alloc())?;
+    let mut keys = KeyIds::new(&rt, rt.alloc())?;
     let mut plain = plain_keys::PlainKeys::new(&rt, rt.alloc())?;
     let bytes = vec![in rt.alloc(); 0x80_u8; 64]?;
     // Each length twice, round the longest that is kept in place, and then once more with another last byte.

@@ -4,6 +4,7 @@
 ghost use Rattle.std.specs.Prelude.{◌≡◌, ◌≤◌, ◌<◌};
 ghost use Rattle.partitioner.specs.Place.{place_of};
 
+use lane_words::MOST_PARTITIONS;
 use murmur_lanes::murmur2;
 use std::marker::Model;
 
@@ -15,12 +16,13 @@ pub struct Partitions {
 
 impl Model for Partitions {
     ghost use Rattle.std.specs.Prelude.{ℕ, ◌≤◌};
+    ghost use Rattle.lane_words.specs.declared.limits.TheConstants.{MOST_PARTITIONS};
 
     ghost Value = { ℕ };
 
     ghost view = { λ p. p.count };
 
-    ghost invariant = { λ p. (1 ≤ p.count) × (p.count ≤ 4096) };
+    ghost invariant = { λ p. (1 ≤ p.count) × (p.count ≤ MOST_PARTITIONS) };
 
     ghost inverse = { λ n. record { count = n } };
 }
@@ -28,7 +30,7 @@ impl Model for Partitions {
 impl Partitions {
     /// This many partitions.
     pub fn new(count: u32) -> Partitions
-        requires { (1 ≤ count) × (count ≤ 4096) }
+        requires { (1 ≤ count) × (count ≤ MOST_PARTITIONS) }
         ensures { result ≡ count }
     {
         Partitions { count }
@@ -37,7 +39,7 @@ impl Partitions {
     /// How many there are.
     pub fn count(&self) -> u32
         ensures count { result ≡ self.now }
-        ensures range { (1 ≤ self.now) × (self.now ≤ 4096) }
+        ensures range { (1 ≤ self.now) × (self.now ≤ MOST_PARTITIONS) }
     {
         self.count
     }

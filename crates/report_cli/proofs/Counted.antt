@@ -9,7 +9,7 @@ use Rattle.keyed_table.specs.Counts as table
 use Rattle.keyed_table.proofs.Members.{stands-somewhere}
 use Rattle.keyed_table.proofs.Raised.{counter-raised, length-raised}
 use Rattle.partition_log.specs.Keys.{Key, distinct, key_at, plain}
-use Rattle.partition_log.specs.Logs.{AreLogs, AreLogsOf, PartitionLogs, keys_of_log, log_at, sum_below}
+use Rattle.partition_log.specs.Logs.{IsValidLogs, AreLogsOf, PartitionLogs, keys_of_log, log_at, sum_below}
 use Rattle.partition_log.proofs.Numbered.{by_number, number-back}
 use Rattle.partition_log.proofs.Parted.{in_one_log, sum-same}
 use Rattle.report_cli.specs.Report.{AreCountsByNumber, counts_of}
@@ -24,19 +24,19 @@ pub record AreCountsBelow (l : PartitionLogs) (p : ℕ) (counts : List ℕ) : Ty
   pub counted : (n : ℕ) → n < length l.keys → get_or counts n 0 ≡ so_far l p n
 
 -- the logs below p have at most so many records
-most-so-far : (l : PartitionLogs) (p n : ℕ) → AreLogs l → so_far l p n ≤ p * (2 ^ 32 - 1)
+most-so-far : (l : PartitionLogs) (p n : ℕ) → IsValidLogs l → so_far l p n ≤ p * (2 ^ 32 - 1)
 most-so-far l zero n a = omega arith
 most-so-far l (suc p) n a =
     let step : suc p * (2 ^ 32 - 1) ≡ p * (2 ^ 32 - 1) + (2 ^ 32 - 1) = suc-mul p (2 ^ 32 - 1) in
     omega (arith, step, most-so-far l p n a, a.few_records p, count_by-le-length (λ y. n == y) (log_at l p))
 
 -- each number in a log has a counter
-pub in-counters : (l : PartitionLogs) (p : ℕ) (counts : List ℕ) → AreLogs l → AreCountsBelow l p counts → table.HaveCounters counts (log_at l p)
+pub in-counters : (l : PartitionLogs) (p : ℕ) (counts : List ℕ) → IsValidLogs l → AreCountsBelow l p counts → table.HaveCounters counts (log_at l p)
 in-counters l p counts a h x more =
     let there = stands-somewhere (log_at l p) x more in
     omega (arith, there.2, (a.entries p there.0 there.1).numbered, h.one_each)
 
-pub in-range : (l : PartitionLogs) (p : ℕ) (counts : List ℕ) → AreLogs l → AreCountsBelow l p counts → p < l.partitions → table.SumsFit counts (log_at l p)
+pub in-range : (l : PartitionLogs) (p : ℕ) (counts : List ℕ) → IsValidLogs l → AreCountsBelow l p counts → p < l.partitions → table.SumsFit counts (log_at l p)
 in-range l p counts a h lt x =
     let some = count_by-le-length (λ y. x == y) (log_at l p) in
     elim (cases_lt x (length l.keys)) [
@@ -58,7 +58,7 @@ next-log l p counts h = record {
 }
 
 -- all logs
-pub all-logs : (l : PartitionLogs) (p : ℕ) (counts : List ℕ) → AreLogs l → p ≡ l.partitions → AreCountsBelow l p counts → AreCountsByNumber l counts
+pub all-logs : (l : PartitionLogs) (p : ℕ) (counts : List ℕ) → IsValidLogs l → p ≡ l.partitions → AreCountsBelow l p counts → AreCountsByNumber l counts
 all-logs l p counts a e h = record {
   one_each = h.one_each;
   counted = λ n lt. h.counted n lt ∙ ap (λ q. so_far l q n) e ∙ sum-same l.partitions (λ q. table.plain (log_at l q) n) (λ q. plain (keys_of_log l q) (key_at l.keys n))
@@ -66,7 +66,7 @@ all-logs l p counts a e h = record {
 }
 
 -- in the logs of some keys the counts are those of the keys
-pub counts-are : (keys : List Key) (l : PartitionLogs) (counts : List ℕ) → AreLogs l → AreLogsOf keys l → AreCountsByNumber l counts → counts ≡ counts_of keys
+pub counts-are : (keys : List Key) (l : PartitionLogs) (counts : List ℕ) → IsValidLogs l → AreLogsOf keys l → AreCountsByNumber l counts → counts ≡ counts_of keys
 unfolding counts_of
 counts-are keys l counts a h c =
     let long : length counts ≡ length (map (plain keys) (distinct keys)) = c.one_each ∙ ap length h.numbers ∙ sym (length-map (distinct keys) (plain keys)) in

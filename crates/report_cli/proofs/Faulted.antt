@@ -6,7 +6,7 @@ use Rattle.lane_words.specs.Answers.{Answers}
 use Rattle.lane_words.specs.declared.Refusal.{Refusal}
 use Rattle.lane_words.specs.declared.Refusal.TheVariants as r
 use Rattle.partition_log.specs.Keys.{Key, key_at}
-use Rattle.partition_log.specs.Logs.{AreLogs, AreLogsOf, PartitionLogs, append_answer, finds_no_room, is_full_for, log_at, longest_key, place_in}
+use Rattle.partition_log.specs.Logs.{IsValidLogs, AreLogsOf, PartitionLogs, append_answer, finds_no_room, is_full_for, log_at, longest_key, place_in}
 use Rattle.partition_log.proofs.Stored.{place_in-below}
 use Rattle.report_cli.proofs.Steps.{row_key}
 use Rattle.report_cli.specs.Report.{IsKeyFault, first_fault, key_fault, records_beside}
@@ -62,11 +62,11 @@ none_in (Ok v) h = refl
 none_in (Err fault) h = absurd (cc h)
 
 -- a key that the logs take is at no fault
-pub taken : (l : PartitionLogs) (before : List Key) (key : Key) → AreLogs l → AreLogsOf before l → IsOk (append_answer l key) → key_fault l.partitions before key ≡ None
+pub taken : (l : PartitionLogs) (before : List Key) (key : Key) → IsValidLogs l → AreLogsOf before l → IsOk (append_answer l key) → key_fault l.partitions before key ≡ None
 taken l before key a h ok = sym (key_fault-is l before key h (place_in-below l key a)) ∙ none_in (append_answer l key) ok
 
 -- a key that the logs refuse is at that fault
-pub refused : (l : PartitionLogs) (before : List Key) (key : Key) (fault : Refusal) → AreLogs l → AreLogsOf before l → append_answer l key ≡ Err fault → key_fault l.partitions before key ≡ Some fault
+pub refused : (l : PartitionLogs) (before : List Key) (key : Key) (fault : Refusal) → IsValidLogs l → AreLogsOf before l → append_answer l key ≡ Err fault → key_fault l.partitions before key ≡ Some fault
 refused l before key fault a h e = sym (key_fault-is l before key h (place_in-below l key a)) ∙ ap fault_in e
 
 kind-at : {T : Type 0} (a b : Bool) (v : T) (fault : Refusal) → (if a then Err r.KeyTooLong else if b then Err r.LogFull else Ok v) ≡ Err fault → IsKeyFault fault
@@ -81,7 +81,7 @@ key_fault-kind l key fault (inr e) = kind-at (nat_lt longest_key (length key)) (
 
 -- the fault of the next key is that of all keys
 pub first_fault-is : (partitions : ℕ) (l : PartitionLogs) (keys : List Key) (i : ℕ) (key : Key) (fault : Refusal) → i < length keys → slice_get keys i ≡ Some key
-    → AreLogs l → AreLogsOf (take i keys) l → l.partitions ≡ partitions
+    → IsValidLogs l → AreLogsOf (take i keys) l → l.partitions ≡ partitions
     → first_fault partitions [] keys ≡ first_fault partitions (take i keys) (drop i keys)
     → (fault ≡ r.Memory) ⊎ (append_answer l key ≡ Err fault)
     → (fault ≡ r.Memory) ⊎ (first_fault partitions [] keys ≡ Some fault)

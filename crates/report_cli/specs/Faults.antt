@@ -6,16 +6,16 @@ use Rattle.lane_words.specs.declared.Refusal.{Refusal}
 use Rattle.lane_words.specs.declared.Refusal.TheVariants as r
 
 -- the place of a fault in the file, where it has one: the number of a record or of a line, from 1 on
-abbrev pub place_text : Refusal → List ℕ
-place_text (r.NoSuchColumn nth) = codes " at record " ++ decimal nth
-place_text (r.BadCsv nth) = codes " at record " ++ decimal nth
-place_text (r.BadLine line) = codes " at line " ++ decimal line
-place_text (r.NobodyLeft line) = codes " at line " ++ decimal line
-place_text _ = []
+abbrev pub location_text : Refusal → List ℕ
+location_text (r.NoSuchColumn nth) = codes " at record " ++ decimal nth
+location_text (r.BadCsv nth) = codes " at record " ++ decimal nth
+location_text (r.BadLine line) = codes " at line " ++ decimal line
+location_text (r.NobodyLeft line) = codes " at line " ++ decimal line
+location_text _ = []
 
 -- the line of a fault: its number, its place, and a line feed
 unfoldable pub fault_text : Refusal → List ℕ
-fault_text fault = codes "fault " ++ decimal (code_of fault) ++ place_text fault ++ codes "\n"
+fault_text fault = codes "fault " ++ decimal (code_of fault) ++ location_text fault ++ codes "\n"
 
 -- the numbers of the faults that lie in what the program was given to read
 abbrev pub input_codes : List ℕ

@@ -4,7 +4,7 @@ ghost use Rattle.std.specs.Prelude.{◌≡◌, ◌≤◌, ◌<◌, ◌+◌, ◌-
 ghost use Rattle.std.specs.Io.KnownBytes.{Appends};
 ghost use Rattle.lane_words.specs.declared.Refusal.TheVariants as refusal;
 ghost use Rattle.report_cli.specs.Devices.{AppendsBeginning};
-ghost use Rattle.report_cli.specs.Faults.{fault_text, place_text, status_of};
+ghost use Rattle.report_cli.specs.Faults.{fault_text, location_text, status_of};
 
 use crate::devices::{Sink, write_all};
 use itoa::write_digits;
@@ -25,7 +25,7 @@ fn put_before(line: &mut [u8], end: usize, bytes: &[u8]) -> usize
 }
 
 /// Puts a place before `end`: what is counted there, and its number.
-fn put_place(line: &mut [u8], end: usize, counted: &[u8], number: u64) -> usize
+fn put_location(line: &mut [u8], end: usize, counted: &[u8], number: u64) -> usize
     requires { (length counted.now + 20 ≤ end) × (end ≤ length line.old) }
     ensures start { result + length counted.now + length (decimal number) ≡ end }
     ensures room { end ≤ result + length counted.now + 20 }
@@ -36,17 +36,17 @@ fn put_place(line: &mut [u8], end: usize, counted: &[u8], number: u64) -> usize
 }
 
 /// Puts the place of a fault before `end`, if it has one.
-fn put_place_of(line: &mut [u8], end: usize, fault: &Refusal) -> usize
+fn put_location_of(line: &mut [u8], end: usize, fault: &Refusal) -> usize
     requires { (31 ≤ end) × (end ≤ length line.old) }
-    ensures start { result + length (place_text fault.now) ≡ end }
+    ensures start { result + length (location_text fault.now) ≡ end }
     ensures room { end ≤ result + 31 }
-    ensures line { drop result line.new ≡ place_text fault.now ++ drop end line.old }
+    ensures line { drop result line.new ≡ location_text fault.now ++ drop end line.old }
 {
     match fault {
-        Refusal::NoSuchColumn { nth } => put_place(line, end, b" at record ", *nth),
-        Refusal::BadCsv { nth } => put_place(line, end, b" at record ", *nth),
-        Refusal::BadLine { line: number } => put_place(line, end, b" at line ", *number),
-        Refusal::NobodyLeft { line: number } => put_place(line, end, b" at line ", *number),
+        Refusal::NoSuchColumn { nth } => put_location(line, end, b" at record ", *nth),
+        Refusal::BadCsv { nth } => put_location(line, end, b" at record ", *nth),
+        Refusal::BadLine { line: number } => put_location(line, end, b" at line ", *number),
+        Refusal::NobodyLeft { line: number } => put_location(line, end, b" at line ", *number),
         _ => end,
     }
 }
@@ -57,7 +57,7 @@ fn put_fault(line: &mut [u8; ROOM], fault: &Refusal) -> usize
     ensures line { drop result line.new ≡ fault_text fault.now }
 {
     line[ROOM - 1] = b'\n';
-    let end = put_place_of(line, ROOM - 1, fault);
+    let end = put_location_of(line, ROOM - 1, fault);
     let code = write_digits(fault.code() as u64, line, end);
     put_before(line, code, b"fault ")
 }

@@ -1,7 +1,7 @@
 //! A list of keys in one buffer.
 
 ghost use Rattle.std.specs.Prelude.{◌≡◌, ◌<◌, ◌^◌, ◌∷◌, ◌++◌, [], ℕ, List, Some, OnOk, OnErr, length, slice_get, slice_index, slice_range, ◌≤◌};
-ghost use Rattle.report_cli.specs.KeyList.{AreEnds, keys_between};
+ghost use Rattle.report_cli.specs.KeyList.{IsValidKeyList, keys_between};
 
 use lane_words::Memory;
 use std::alloc::Global;
@@ -18,13 +18,13 @@ pub struct KeyList {
 
 impl Model for KeyList {
     ghost use Rattle.std.specs.Prelude.{ℕ, List, length};
-    ghost use Rattle.report_cli.specs.KeyList.{AreEnds, keys_between};
+    ghost use Rattle.report_cli.specs.KeyList.{IsValidKeyList, keys_between};
 
     ghost Value = { List (List ℕ) };
 
     ghost view = { λ s. keys_between 0 s.ends.items s.text.items };
 
-    ghost invariant = { λ s. AreEnds 0 s.ends.items (length s.text.items) };
+    ghost invariant = { λ s. IsValidKeyList 0 s.ends.items (length s.text.items) };
 }
 
 /// Where the key of number i starts: where the one before it ends.
@@ -46,7 +46,7 @@ fn part_of(text: &[u8], start: usize, end: usize) -> &[u8]
 /// The key of number i of a text with these ends.
 fn key_within<'a>(text: &'a [u8], ends: &[usize], i: usize) -> &'a [u8]
     requires number { i < length ends.now }
-    requires ends { AreEnds 0 ends.now (length text.now) }
+    requires ends { IsValidKeyList 0 ends.now (length text.now) }
     ensures { slice_get (keys_between 0 ends.now text.now) i ≡ Some result.now }
 {
     part_of(text, start_of(ends, i), ends[i])

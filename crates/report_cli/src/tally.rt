@@ -2,7 +2,7 @@
 
 ghost use Rattle.std.specs.Prelude.{◌≡◌, ◌≤◌, ◌<◌, ◌⊎◌, [], ℕ, None, Some, IfOk, IfErr, OnOk, length, replicate};
 ghost use Rattle.lane_words.specs.declared.Refusal.TheVariants as refusal;
-ghost use Rattle.partition_log.specs.Logs.{AreLogs, AreLogsOf, log_at};
+ghost use Rattle.partition_log.specs.Logs.{IsValidLogs, AreLogsOf, log_at};
 ghost use Rattle.report_cli.specs.Report.{AreCountsByNumber, IsKeyFault, first_fault};
 
 use crate::key_list::KeyList;
@@ -21,7 +21,7 @@ pub(crate) fn logs_of(
 ) -> Result<Logs, Refusal>
     requires { (1 ≤ partitions) × (partitions ≤ 4096) }
     ensures logs { IfOk result (AreLogsOf keys.now) }
-    ensures kept { IfOk result AreLogs }
+    ensures valid { IfOk result IsValidLogs }
     ensures accepted { OnOk result (first_fault partitions [] keys.now ≡ None) }
     ensures kind { IfErr result IsKeyFault }
     ensures refused { IfErr result (λ e. (e ≡ refusal.Memory) ⊎ (first_fault partitions [] keys.now ≡ Some e)) }
@@ -35,7 +35,7 @@ pub(crate) fn logs_of(
 
 /// How often each key is in all logs together, by its number.
 pub(crate) fn counts_in(alloc: Global, logs: &Logs) -> Result<Table, Memory>
-    requires { AreLogs logs.now }
+    requires { IsValidLogs logs.now }
     ensures { IfOk result (λ table. AreCountsByNumber logs.now table.counts) }
 {
     let mut table = zeros(alloc, logs.keys())?;

@@ -2,7 +2,7 @@
 use Rattle.std.proofs.Common.{ℕ, suc, ◌≡◌, ◌<◌, ◌≤◌, ◌==◌, true, false, List, [], ◌∷◌, length, map, get_or, cond, refl, ap, sym, ◌∙◌, subst, arith}
 use Rattle.std.specs.Prelude.{Some}
 use Rattle.bit_planes.specs.PartitionSet.{PartitionSet, partitions}
-use Rattle.bit_planes.specs.SetRows.{SetRows, members, find_row, set_or_empty, sets_of, IsRising, AreOver, AreRows}
+use Rattle.bit_planes.specs.SetRows.{SetRows, members, find_row, set_or_empty, sets_of, IsRising, AreOver, IsValidRows}
 use Rattle.bit_planes.proofs.Sets.{partitions_empty}
 use Rattle.sticky_assignor.specs.Balanced.{AreApart, AreBelow, IsBalanced}
 use Rattle.sticky_assignor.specs.Filling.{quotas, keeping, free_of, gaps, filled}
@@ -49,7 +49,7 @@ partitions_found p (row ∷ rows) m over =
       | false ↦ partitions_found p rows m over.1
     ]
 
-pub sets_over : (r : SetRows) (ms : List ℕ) → AreRows r → AreBelow r.below (sets_of r ms)
+pub sets_over : (r : SetRows) (ms : List ℕ) → IsValidRows r → AreBelow r.below (sets_of r ms)
 sets_over r [] kept = tt
 sets_over r (m ∷ ms) kept = (partitions_found r.below r.rows m kept.over, sets_over r ms kept)
 
@@ -75,7 +75,7 @@ unfolding assigned
 sets_assigned p ms owned rising =
     sets_paired p ms (target p (sets_of owned ms)) (length_target p (sets_of owned ms) ∙ length_sets owned ms) rising
 
-pub assigned_kept : (ms : List ℕ) (owned : SetRows) → AreRows owned → IsRising ms → AreRows (assigned owned.below ms owned)
+pub assigned_kept : (ms : List ℕ) (owned : SetRows) → IsValidRows owned → IsRising ms → IsValidRows (assigned owned.below ms owned)
 unfolding assigned
 assigned_kept ms owned kept rising = record {
   some = kept.some;
@@ -132,13 +132,13 @@ is_assigned p ms owned qs ns ks free rows below eq en ek ef er =
     ∙ ap (λ t. record { below = owned.below; rows = pair_up ms t }) (filling_is_target owned.below sets)
     ∙ ap (λ m. record { below = m; rows = pair_up ms (target m sets) }) below
 
-pub balanced_assigned : (p : ℕ) (ms : List ℕ) (owned : SetRows) → owned.below ≡ p → AreRows owned → 0 < length ms → IsRising ms → AreApart (sets_of owned ms) → IsBalanced p (sets_of (assigned p ms owned) ms)
+pub balanced_assigned : (p : ℕ) (ms : List ℕ) (owned : SetRows) → owned.below ≡ p → IsValidRows owned → 0 < length ms → IsRising ms → AreApart (sets_of owned ms) → IsBalanced p (sets_of (assigned p ms owned) ms)
 balanced_assigned p ms owned below kept some rising apart =
     let over : AreBelow p (sets_of owned ms) = subst (λ n. AreBelow n (sets_of owned ms)) below (sets_over owned ms kept) in
     let many : 0 < length (sets_of owned ms) = omega (arith, length_sets owned ms) in
     subst (IsBalanced p) (sym (sets_assigned p ms owned rising)) (is_balanced p (sets_of owned ms) many over apart)
 
-pub most_assigned : (p : ℕ) (ms : List ℕ) (owned : SetRows) → owned.below ≡ p → AreRows owned → IsRising ms
+pub most_assigned : (p : ℕ) (ms : List ℕ) (owned : SetRows) → owned.below ≡ p → IsValidRows owned → IsRising ms
     → (others : List PartitionSet) → length others ≡ length ms → AreBelow p others → IsBalanced p others → kept (sets_of owned ms) others ≤ kept (sets_of owned ms) (sets_of (assigned p ms owned) ms)
 most_assigned p ms owned below is rising others len over balanced =
     let mine : AreBelow p (sets_of owned ms) = subst (λ n. AreBelow n (sets_of owned ms)) below (sets_over owned ms is) in

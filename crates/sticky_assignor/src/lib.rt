@@ -4,7 +4,7 @@
 
 ghost use Rattle.std.specs.Prelude.{◌≡◌, ◌+◌, ◌-◌, ◌<◌, ◌≤◌, ℕ, List, length, vec_len, IfOk, IsSome};
 ghost use Rattle.bit_planes.specs.PartitionSet.{PartitionSet, partitions};
-ghost use Rattle.bit_planes.specs.SetRows.{AreRows, IsRising, members as members_of, row_of, set_of, sets_of};
+ghost use Rattle.bit_planes.specs.SetRows.{IsValidRows, IsRising, members as members_of, row_of, set_of, sets_of};
 ghost use Rattle.sticky_assignor.specs.Assigned.{assigned, pair_up, HaveRows};
 ghost use Rattle.sticky_assignor.specs.Balanced.{AreApart, AreBelow, IsBalanced};
 ghost use Rattle.sticky_assignor.specs.Filling.{filled, free_of, gaps, keeping, one_of, quotas, shares};
@@ -54,7 +54,7 @@ pub fn assign(
     ensures members { IfOk result (λ rows. members_of rows ≡ members.now) }
     ensures balanced { IfOk result (λ rows. IsBalanced p (sets_of rows members.now)) }
     ensures most { IfOk result (λ rows. (others : List PartitionSet) → length others ≡ length members.now → AreBelow p others → IsBalanced p others → kept (sets_of owned.now members.now) others ≤ kept (sets_of owned.now members.now) (sets_of rows members.now)) }
-    ensures kept { IfOk result AreRows }
+    ensures valid { IfOk result IsValidRows }
 {
     prove!(owned.partitions() == p);
     let quotas = quotas_of(alloc, members, owned)?;

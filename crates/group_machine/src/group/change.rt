@@ -54,8 +54,8 @@ pub fn is_ready_after(slots: &[Slot], change: Change) -> bool
     ensures { (p : ℕ) (name : List ℕ) → result ≡ is_ready_in (slots_after p name change slots.now) }
 {
     let mut anybody = matches!(change, Change::Joins);
-    for (place, slot) in slots.iter().enumerate() {
-        if let Some(joined) = change.joined(place as u32 + 1, slot) {
+    for (index, slot) in slots.iter().enumerate() {
+        if let Some(joined) = change.joined(index as u32 + 1, slot) {
             if !joined {
                 return false;
             }
@@ -78,8 +78,8 @@ pub fn granted_rows(
     ensures { (name : List ℕ) → IfOk result (λ rows. rows ≡ granted_in p (slots_after p name change slots.now)) }
 {
     let mut rows = PlaneRows::new(alloc, p);
-    for (place, slot) in slots.iter().enumerate() {
-        let member = place as u32 + 1;
+    for (index, slot) in slots.iter().enumerate() {
+        let member = index as u32 + 1;
         if let Some(granted) = change.granted(member, slot) {
             rows.put(member, granted.copy())?;
         }

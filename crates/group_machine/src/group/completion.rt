@@ -54,9 +54,9 @@ pub fn give(slots: &mut [Slot], next: &PlaneRows)
     requires over { AreSeatsOver next.now.below slots.old }
     ensures { slots.new ≡ each_changed (completed_seat next.now) slots.old }
 {
-    for place in 0..slots.len() {
-        if let Some(seat) = &mut slots[place].seat {
-            complete_seat(seat, row_for(next, place as u32 + 1));
+    for index in 0..slots.len() {
+        if let Some(seat) = &mut slots[index].seat {
+            complete_seat(seat, row_for(next, index as u32 + 1));
         }
     }
 }

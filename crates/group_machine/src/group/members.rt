@@ -6,7 +6,7 @@ ghost use Rattle.std.specs.Option.{option_map};
 ghost use Rattle.bit_planes.specs.PartitionSet.{is_in};
 ghost use Rattle.group_machine.specs.Slots.{present};
 ghost use Rattle.group_machine.specs.State.{name_at};
-ghost use Rattle.group_machine.specs.Walks.{numbers_in};
+ghost use Rattle.group_machine.specs.Walks.{members_in};
 
 use super::Slot;
 use crate::Name;
@@ -17,7 +17,7 @@ use std::marker::Model;
 pub struct Members<'a> {
     slots: &'a [Slot],
     // The slots before this one have been passed.
-    place: usize,
+    index: usize,
 }
 
 impl<'a> Model for Members<'a> {
@@ -25,20 +25,20 @@ impl<'a> Model for Members<'a> {
 
     ghost Value = { List ℕ };
 
-    ghost use Rattle.group_machine.specs.MembersLeft.{members_left, AreFewSlots};
+    ghost use Rattle.group_machine.specs.MembersLeft.{members_left, IsValidMembers};
 
     ghost view = { members_left };
 
-    ghost invariant = { AreFewSlots };
+    ghost invariant = { IsValidMembers };
 }
 
 impl<'a> Members<'a> {
     /// All present members.
     pub(crate) fn new(slots: &'a [Slot]) -> Members<'a>
         requires { length slots.now ≤ 512 }
-        ensures { result ≡ numbers_in slots.now }
+        ensures { result ≡ members_in slots.now }
     {
-        Members { slots, place: 0 }
+        Members { slots, index: 0 }
     }
 }
 
@@ -51,13 +51,13 @@ impl<'a> Iterator for Members<'a> {
 
     fn next(&mut self) -> Option<u32> {
         let slots = self.slots;
-        for place in self.place..slots.len() {
-            if slots[place].seat.is_some() {
-                self.place = place + 1;
-                return Some(place as u32 + 1);
+        for index in self.index..slots.len() {
+            if slots[index].seat.is_some() {
+                self.index = index + 1;
+                return Some(index as u32 + 1);
             }
         }
-        self.place = slots.len();
+        self.index = slots.len();
         None
     }
 }
@@ -67,10 +67,10 @@ pub fn owner_of(slots: &[Slot], q: u32) -> Option<u32>
     requires { length slots.now ≤ 512 }
     ensures { result ≡ option_map (λ m. m.0) (find (λ m. is_in m.1.granted q) (present slots.now)) }
 {
-    for (place, slot) in slots.iter().enumerate() {
+    for (index, slot) in slots.iter().enumerate() {
         if let Some(seat) = &slot.seat {
             if seat.granted.contains(q) {
-                return Some(place as u32 + 1);
+                return Some(index as u32 + 1);
             }
         }
     }
@@ -81,7 +81,7 @@ pub fn owner_of(slots: &[Slot], q: u32) -> Option<u32>
 pub fn name_of(slots: &[Slot], member: u32) -> Option<&Name>
     ensures { MatchOption result (name_at slots.now member ≡ None) (λ name. name_at slots.now member ≡ Some name.now) }
 {
-    let place = member.checked_sub(1)?;
-    let slot = slots.get(place as usize)?;
+    let index = member.checked_sub(1)?;
+    let slot = slots.get(index as usize)?;
     Some(&slot.name)
 }

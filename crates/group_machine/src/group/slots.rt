@@ -23,8 +23,8 @@ pub fn is_used(slots: &[Slot], name: &Name) -> bool
 pub fn seat_of(slots: &[Slot], member: u32) -> Option<&Seat>
     ensures { MatchOption result (seat_of slots.now member ≡ None) (λ seat. seat_of slots.now member ≡ Some seat.now) }
 {
-    let place = member.checked_sub(1)?;
-    slots.get(place as usize)?.seat.as_ref()
+    let index = member.checked_sub(1)?;
+    slots.get(index as usize)?.seat.as_ref()
 }
 
 /// Whether a member is present.

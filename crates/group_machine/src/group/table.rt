@@ -10,8 +10,8 @@ ghost use Rattle.group_machine.specs.declared.group.completion.Prepared.{Prepare
 ghost use Rattle.std.specs.Vec.{vec_len, vec_capacity};
 ghost use Rattle.group_machine.specs.Rounds.{is_settled, is_stable};
 ghost use Rattle.group_machine.specs.Steps.{newcomer, join_answer, joined_by, rejoin_refusal, rejoin_answer, rejoined_by, sync_answer, synced_by, leave_answer, left_by};
-ghost use Rattle.group_machine.specs.Good.{IsSound, IsGood};
-ghost use Rattle.group_machine.specs.Shown.{state_of};
+ghost use Rattle.group_machine.specs.Good.{IsSound, IsValidGroup};
+ghost use Rattle.group_machine.specs.GroupView.{state_of};
 
 use super::change::{Change, granted_rows, is_ready_after};
 use super::completion::{Prepared, give, next_rows};
@@ -57,7 +57,7 @@ impl Table {
 
     /// Whether the group is stable, and nobody has anything to give up.
     pub fn is_settled(&self) -> bool
-        requires { IsGood (state_of self.now) }
+        requires { IsValidGroup (state_of self.now) }
         ensures { result ≡ is_settled (state_of self.now) }
     {
         is_stable(self.phase) && all_agree(&self.slots)
@@ -67,7 +67,7 @@ impl Table {
     /// and nothing is changed. Refused, in this order: a completion past the last generation (`GenerationsOver`); want
     /// of memory.
     fn prepare(&mut self, alloc: Global, change: Change) -> Result<Option<Prepared>, Refusal>
-        requires good { IsGood (state_of self.old) }
+        requires good { IsValidGroup (state_of self.old) }
         requires sound { (name : List ℕ) → IsSound (after change name (state_of self.old)) }
         ensures ok { (name : List ℕ) → IfOk result (IsPlanned (after change name (state_of self.old))) }
         ensures room { IfOk result (λ planned. (a : Prepared) → planned ≡ Some a → vec_len self.new.moves + length a.moves.items ≤ vec_capacity self.new.moves) }
@@ -87,7 +87,7 @@ impl Table {
 
     /// The completion after a change.
     fn plan(&self, alloc: Global, change: Change) -> Result<Prepared, Memory>
-        requires good { IsGood (state_of self.now) }
+        requires good { IsValidGroup (state_of self.now) }
         requires sound { (name : List ℕ) → IsSound (after change name (state_of self.now)) }
         requires some { (name : List ℕ) → is_anybody (after change name (state_of self.now)) ≡ true }
         requires more { self.now.generation < last_generation }
@@ -133,7 +133,7 @@ impl Table {
     }
 
     pub fn join(&mut self, alloc: Global, name: Name) -> Result<u32, Refusal>
-        requires { IsGood (state_of self.old) }
+        requires { IsValidGroup (state_of self.old) }
         ensures answer { Answers (join_answer (state_of self.old) name) result }
         ensures ok { OnOk result (state_of self.new ≡ joined_by (state_of self.old) name) }
         ensures err { OnErr result (state_of self.new ≡ state_of self.old) }
@@ -160,7 +160,7 @@ impl Table {
         generation: u32,
         claim: &Plane,
     ) -> Result<(), Refusal>
-        requires { IsGood (state_of self.old) }
+        requires { IsValidGroup (state_of self.old) }
         ensures answer { Answers (rejoin_answer (state_of self.old) member generation claim.now) result }
         ensures ok { OnOk result (state_of self.new ≡ rejoined_by (state_of self.old) member) }
         ensures err { OnErr result (state_of self.new ≡ state_of self.old) }
@@ -177,7 +177,7 @@ impl Table {
 
     /// Why a rejoin is refused, but for the last generation.
     fn why_no_rejoin(&self, member: u32, generation: u32, claim: &Plane) -> Option<Refusal>
-        requires { IsGood (state_of self.now) }
+        requires { IsValidGroup (state_of self.now) }
         ensures { result ≡ rejoin_refusal (state_of self.now) generation claim.now (member_of (state_of self.now) member) }
     {
         let Some(seat) = seat_of(&self.slots, member) else {
@@ -223,7 +223,7 @@ impl Table {
     }
 
     pub fn leave(&mut self, alloc: Global, member: u32) -> Result<(), Refusal>
-        requires { IsGood (state_of self.old) }
+        requires { IsValidGroup (state_of self.old) }
         ensures answer { Answers (leave_answer (state_of self.old) member) result }
         ensures ok { OnOk result (state_of self.new ≡ left_by (state_of self.old) member) }
         ensures err { OnErr result (state_of self.new ≡ state_of self.old) }

@@ -28,9 +28,9 @@ returns-clause-members c =
 pub returns-clause-balanced : goal.returns-clause-balanced
 returns-clause-balanced c =
     let P : SetRows → Type 0 = λ rows. IsBalanced c.args.p (sets_of rows c.args.members.now) in
-    IfOk-weaker c.fill.result _ P (λ rows e. subst P (sym e) (balanced_assigned _ _ _ c.requires.below c.partitions.ensures.kept c.requires.some c.requires.rising c.requires.apart)) (is_target c)
+    IfOk-weaker c.fill.result _ P (λ rows e. subst P (sym e) (balanced_assigned _ _ _ c.requires.below c.partitions.ensures.valid c.requires.some c.requires.rising c.requires.apart)) (is_target c)
 
 pub returns-clause-most : goal.returns-clause-most
 returns-clause-most c =
     let P : SetRows → Type 0 = λ rows. (others : List PartitionSet) → length others ≡ length c.args.members.now → AreBelow c.args.p others → IsBalanced c.args.p others → kept (sets_of c.args.owned.now c.args.members.now) others ≤ kept (sets_of c.args.owned.now c.args.members.now) (sets_of rows c.args.members.now) in
-    IfOk-weaker c.fill.result _ P (λ rows e. subst P (sym e) (most_assigned _ _ _ c.requires.below c.partitions.ensures.kept c.requires.rising)) (is_target c)
+    IfOk-weaker c.fill.result _ P (λ rows e. subst P (sym e) (most_assigned _ _ _ c.requires.below c.partitions.ensures.valid c.requires.rising)) (is_target c)

@@ -7,25 +7,25 @@ use Rattle.coop_rebalance.specs.Withheld.{withheld}
 use Rattle.coop_rebalance.proofs.withholding.withhold.Goals as goal
 
 pub loop-member-init : goal.loop-member-init
-loop-member-init c = record { so_far = c.new-rows.ensures.value ∙ ap no_rows c.partitions.ensures.value; kept = c.new-rows.ensures.kept }
+loop-member-init c = record { so_far = c.new-rows.ensures.value ∙ ap no_rows c.partitions.ensures.value; valid = c.new-rows.ensures.valid }
 
 pub minus-requires : goal.minus-requires
 minus-requires c =
-    item_over c.args.target.now c.rows-member-items.result.now c.loop-member.member-index c.loop-member-item.result c.rows-member-items.ensures.kept c.rows-member-items.ensures.value c.loop-member-test.true c.loop-member-item.is
+    item_over c.args.target.now c.rows-member-items.result.now c.loop-member.member-index c.loop-member-item.result c.rows-member-items.ensures.valid c.rows-member-items.ensures.value c.loop-member-test.true c.loop-member-item.is
     ∙ c.requires ∙ sym c.of_others-others.ensures.partitions
 
 pub put-requires : goal.put-requires
 put-requires c =
     c.minus.ensures.partitions
-    ∙ item_over c.args.target.now c.rows-member-items.result.now c.loop-member.member-index c.loop-member-item.result c.rows-member-items.ensures.kept c.rows-member-items.ensures.value c.loop-member-test.true c.loop-member-item.is
+    ∙ item_over c.args.target.now c.rows-member-items.result.now c.loop-member.member-index c.loop-member-item.result c.rows-member-items.ensures.valid c.rows-member-items.ensures.value c.loop-member-test.true c.loop-member-item.is
     ∙ sym (ap (λ (r : SetRows). r.below) c.loop-member.invariant.so_far)
 
 pub loop-member-preserved : goal.loop-member-preserved
 loop-member-preserved c = record {
   so_far = withheld_more c.args.target.now c.args.granted.now c.rows-member-items.result.now c.loop-member.member-index c.loop-member-item.result c.of_others-others.result c.loop-member.rows c.put.new.self
-      c.rows-member-items.ensures.kept c.rows-member-items.ensures.value c.loop-member-test.true c.loop-member-item.is c.of_others-others.ensures.members c.loop-member.invariant.so_far
+      c.rows-member-items.ensures.valid c.rows-member-items.ensures.value c.loop-member-test.true c.loop-member-item.is c.of_others-others.ensures.members c.loop-member.invariant.so_far
       (c.in_ok-put.ensures.value ∙ ap (λ s. with_row c.loop-member.rows c.loop-member-item.result.0 s) c.minus.ensures.value);
-  kept = c.put.ensures.kept;
+  valid = c.put.ensures.valid;
 }
 
 pub returns : goal.returns
@@ -36,5 +36,5 @@ returns c =
       sets = λ m q. ap (λ r. is_in (set_of r m) q) value ∙ set_withheld c.args.target.now c.args.granted.now m q;
       members = ap members value ∙ members_withheld c.args.target.now c.args.granted.now;
       below = ap (λ (r : SetRows). r.below) c.loop-member.invariant.so_far;
-      kept = c.loop-member.invariant.kept;
+      valid = c.loop-member.invariant.valid;
     }

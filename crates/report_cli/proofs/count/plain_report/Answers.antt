@@ -12,7 +12,7 @@ pub returns-clause-text : goal.returns-clause-text
 returns-clause-text g c =
     let keys = c.args.keys in
     let logs = c.in_ok-logs.ensures in
-    let counts = c.counts-2.ensures ∙ counts-are keys c.in_ok-logs.logs _ logs.kept logs.logs c.in_ok-counts.ensures in
+    let counts = c.counts-2.ensures ∙ counts-are keys c.in_ok-logs.logs _ logs.valid logs.logs c.in_ok-counts.ensures in
     let total = c.len-total.result in
     let rows = c.in_ok-text.ensures ∙ ap (λ (ks : List Key). count_rows ks c.counts-2.result.now ++ total_row total total) logs.logs.numbers
     ∙ ap (λ ns. count_rows (distinct keys) ns ++ total_row total total) counts ∙ ap (λ n. count_rows (distinct keys) (counts_of keys) ++ total_row n n) c.len-total.ensures in

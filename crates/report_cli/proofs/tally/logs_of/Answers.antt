@@ -15,9 +15,9 @@ loop-i-preserved g c =
     let ok = c.in_ok-append.ensures in
     let step = next_key keys i key (omega arith) c.get.ensures in
     let fine : key_fault c.args.partitions (take i keys) key ≡ None =
-    ap (λ p. key_fault p (take i keys) key) (sym now.partitions) ∙ taken c.loop-i.logs (take i keys) key now.kept now.logs (accepted (append_answer c.loop-i.logs key) _ ok.answer) in
+    ap (λ p. key_fault p (take i keys) key) (sym now.partitions) ∙ taken c.loop-i.logs (take i keys) key now.valid now.logs (accepted (append_answer c.loop-i.logs key) _ ok.answer) in
     record {
-      kept = ok.kept;
+      valid = ok.valid;
       logs = rw step.0 (ok.history (take i keys) now.logs);
       partitions = ap (λ l. l.partitions) ok.ok ∙ now.partitions;
       faults = now.faults ∙ ap (first_fault c.args.partitions (take i keys)) step.1 ∙ first_fault-later c.args.partitions (take i keys) key (drop (i + 1) keys) fine
@@ -34,7 +34,7 @@ pub returns-in_err-append-clause-refused : goal.returns-in_err-append-clause-ref
 returns-in_err-append-clause-refused g c =
     let fault = c.in_err-append.field-0.0 in
     let now = c.loop-i.invariant in
-    let told = first_fault-is c.args.partitions c.loop-i.logs c.args.keys.now c.loop-i.i c.get.result.now fault (omega arith) c.get.ensures now.kept now.logs now.partitions now.faults
+    let told = first_fault-is c.args.partitions c.loop-i.logs c.args.keys.now c.loop-i.i c.get.result.now fault (omega arith) c.get.ensures now.valid now.logs now.partitions now.faults
     (refused_as_told (append_answer c.loop-i.logs c.get.result.now) fault c.in_err-append.ensures.answer) in
     search rules
 

@@ -22,6 +22,6 @@ pub returns : goal.returns
 returns c =
     let e = seen_full c.args.p c.loop-q.q (replicate 4096 false) c.loop-q.flags c.requires.1 c.loop-q-test.false c.loop-q.invariant in record {
       value = e;
-      members = λ q. ap (λ s. is_in s q) e ∙ in_full_all c.args.p q;
+      elements = λ q. ap (λ s. is_in s q) e ∙ in_full_all c.args.p q;
       partitions = ap partitions e ∙ partitions_full c.args.p;
     }

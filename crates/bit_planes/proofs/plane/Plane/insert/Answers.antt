@@ -25,6 +25,6 @@ returns c =
     let e = seen_with _ _ _ c.args.q c.self.invariant.few c.self.told c.self.view_is (omega (arith, p, c.requires)) in
     record {
       value = e;
-      members = λ n. ap (λ s. is_in s n) e ∙ in_with c.args.self.now c.args.q n c.requires;
+      elements = λ n. ap (λ s. is_in s n) e ∙ in_with c.args.self.now c.args.q n c.requires;
       partitions = ap partitions e ∙ partitions_with c.args.self.now c.args.q;
     }

@@ -24,7 +24,7 @@ returns c =
     let e = seen_lowest _ c.loop-q.q _ c.loop-q.flags c.args.n c.args.self.now c.self.invariant.few p c.loop-q-test.false c.loop-q.invariant.marked in
     record {
       value = e;
-      members = λ q. ap (λ s. is_in s q) e ∙ in_lowest c.args.n c.args.self.now q;
+      elements = λ q. ap (λ s. is_in s q) e ∙ in_lowest c.args.n c.args.self.now q;
       partitions = ap partitions e ∙ partitions_lowest c.args.n c.args.self.now;
       size = ap size e ∙ size_lowest c.args.n c.args.self.now;
     }

@@ -11,6 +11,6 @@ pub returns : goal.returns
 returns c =
     let e = seen_empty c.args.p c.requires.1 in record {
       value = e;
-      members = λ q. ap (λ s. is_in s q) e ∙ in_empty c.args.p q;
+      elements = λ q. ap (λ s. is_in s q) e ∙ in_empty c.args.p q;
       partitions = ap partitions e ∙ partitions_empty c.args.p;
     }

@@ -9,7 +9,7 @@ returns-then-q-self c =
     let e = seen_without _ _ _ c.args.q c.self.invariant.few c.self.told c.self.view_is c.if-q-self.true in
     record {
       value = e;
-      members = λ n. ap (λ s. is_in s n) e ∙ in_without c.args.self.now c.args.q n;
+      elements = λ n. ap (λ s. is_in s n) e ∙ in_without c.args.self.now c.args.q n;
       partitions = ap partitions e ∙ partitions_without c.args.self.now c.args.q;
     }
 
@@ -19,6 +19,6 @@ returns-else-q-self c =
     let e = without_past c.args.self.now c.args.q (omega (arith, p, c.if-q-self.false)) in
     record {
       value = e;
-      members = λ n. ap (λ s. is_in s n) e ∙ in_without c.args.self.now c.args.q n;
+      elements = λ n. ap (λ s. is_in s n) e ∙ in_without c.args.self.now c.args.q n;
       partitions = refl;
     }

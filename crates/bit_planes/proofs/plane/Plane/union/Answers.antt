@@ -19,6 +19,6 @@ returns c =
     let e = seen_union _ c.loop-q.q _ c.loop-q.flags c.args.self.now c.args.other.now c.self.invariant.few p c.loop-q-test.false c.loop-q.invariant in
     record {
       value = e;
-      members = λ q. ap (λ s. is_in s q) e ∙ in_union c.args.self.now c.args.other.now q c.requires;
+      elements = λ q. ap (λ s. is_in s q) e ∙ in_union c.args.self.now c.args.other.now q c.requires;
       partitions = ap partitions e ∙ partitions_union c.args.self.now c.args.other.now;
     }

@@ -1,20 +1,20 @@
 use Rattle.std.proofs.Common.{ap}
 use Rattle.bit_planes.specs.SetRows.{SetRows}
-use Rattle.bit_planes.proofs.Places.{puts_there, puts_between}
+use Rattle.bit_planes.proofs.Indices.{puts_there, puts_between}
 use Rattle.bit_planes.proofs.rows.PlaneRows.put.Goals as goal
 
 pub invariant_of-self : goal.invariant_of-self
-invariant_of-self c = (puts_there _ c.args.self.now c.args.member c.in-Ok.place c.args.plane c.self.view_is c.self.invariant c.requires c.in-Ok.ensures.found).kept
+invariant_of-self c = (puts_there _ c.args.self.now c.args.member c.in-Ok.index c.args.plane c.self.view_is c.self.invariant c.requires c.in-Ok.ensures.found).valid
 
 pub returns-in-Ok : goal.returns-in-Ok
 returns-in-Ok c =
-    let put = puts_there _ c.args.self.now c.args.member c.in-Ok.place c.args.plane c.self.view_is c.self.invariant c.requires c.in-Ok.ensures.found in
-    record { value = put.value; this = put.this; others = put.others; err = tt; below = ap (λ (r : SetRows). r.below) put.value; kept = put.kept }
+    let put = puts_there _ c.args.self.now c.args.member c.in-Ok.index c.args.plane c.self.view_is c.self.invariant c.requires c.in-Ok.ensures.found in
+    record { value = put.value; this = put.this; others = put.others; err = tt; below = ap (λ (r : SetRows). r.below) put.value; valid = put.valid }
 
 pub invariant_of-self-in-Err : goal.invariant_of-self-in-Err
-invariant_of-self-in-Err c = (puts_between _ c.args.self.now c.insert.new.self.items c.args.member c.in-Err.place c.args.plane c.self.view_is c.self.invariant c.requires c.in-Err.ensures.absent c.in_ok-insert-in-Err.ensures.items).kept
+invariant_of-self-in-Err c = (puts_between _ c.args.self.now c.insert.new.self.items c.args.member c.in-Err.index c.args.plane c.self.view_is c.self.invariant c.requires c.in-Err.ensures.absent c.in_ok-insert-in-Err.ensures.items).valid
 
 pub returns-in_ok-insert-in-Err : goal.returns-in_ok-insert-in-Err
 returns-in_ok-insert-in-Err c =
-    let put = puts_between _ c.args.self.now c.insert.new.self.items c.args.member c.in-Err.place c.args.plane c.self.view_is c.self.invariant c.requires c.in-Err.ensures.absent c.in_ok-insert-in-Err.ensures.items in
-    record { value = put.value; this = put.this; others = put.others; err = tt; below = ap (λ (r : SetRows). r.below) put.value; kept = put.kept }
+    let put = puts_between _ c.args.self.now c.insert.new.self.items c.args.member c.in-Err.index c.args.plane c.self.view_is c.self.invariant c.requires c.in-Err.ensures.absent c.in_ok-insert-in-Err.ensures.items in
+    record { value = put.value; this = put.this; others = put.others; err = tt; below = ap (λ (r : SetRows). r.below) put.value; valid = put.valid }

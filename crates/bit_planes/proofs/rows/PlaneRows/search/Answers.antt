@@ -1,6 +1,6 @@
 use Rattle.std.proofs.Common.{rules}
 use Rattle.std.proofs.lemmas.List.Sorted.{answers_always}
-use Rattle.bit_planes.proofs.Places.{places}
+use Rattle.bit_planes.proofs.Indices.{places}
 use Rattle.bit_planes.proofs.rows.PlaneRows.search.Goals as goal
 
 pub returns : goal.returns

@@ -1,11 +1,11 @@
 use Rattle.std.proofs.Common.{◌≡◌, ◌-◌, ◌++◌, ◌∷◌, [], rules, subst, sym}
 use Rattle.commit_store.specs.Commits.{Commits, IsExact}
-use Rattle.commit_store.specs.Shown.{commits_of}
+use Rattle.commit_store.specs.View.{store_view}
 use Rattle.commit_store.proofs.Exact.{counter-exact}
 use Rattle.commit_store.proofs.store.Store.add_key.Goals as goal
 
 pub returns-clause-exact : goal.returns-clause-exact
 returns-clause-exact c l e =
     let old = c.args.self.now in
-    let new : commits_of (record { committed = c.self.inside.committed; counts = c.add_key.new.self }) ≡ record old { counts = old.counts ++ 0 ∷ []; room = old.room - 1 } = search rules in
+    let new : store_view (record { committed = c.self.inside.committed; counts = c.add_key.new.self }) ≡ record old { counts = old.counts ++ 0 ∷ []; room = old.room - 1 } = search rules in
     subst (λ (s : Commits). IsExact s l) (sym new) (counter-exact old (old.room - 1) l e)

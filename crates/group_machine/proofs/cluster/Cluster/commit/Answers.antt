@@ -1,12 +1,12 @@
 use Rattle.std.proofs.Common.{◌≡◌, Ok, rules}
 use Rattle.group_machine.specs.Cluster.{fence}
-use Rattle.group_machine.specs.ShownCluster.{cluster_shown}
+use Rattle.group_machine.specs.ClusterView.{cluster_view}
 use Rattle.group_machine.proofs.ClusterLemmas.{partition-below, commit-kept}
 use Rattle.group_machine.proofs.cluster.Cluster.commit.Goals as goal
 
 pub commit-requires-clause-partition : goal.commit-requires-clause-partition
 commit-requires-clause-partition c =
-    let old = cluster_shown c.self.inside in
+    let old = cluster_view c.self.inside in
     let through : fence old.group c.args.commit.now ≡ Ok tt = search rules in
     rw c.partition.ensures (partition-below old c.args.commit.now c.self.invariant through)
 

@@ -1,6 +1,6 @@
 use Rattle.std.proofs.Common.{refl}
 use Rattle.group_machine.specs.Steps.{joining}
-use Rattle.group_machine.specs.ShownCluster.{cluster_shown}
+use Rattle.group_machine.specs.ClusterView.{cluster_view}
 use Rattle.group_machine.proofs.ClusterLemmas.{regrouped, stepped_partitions}
 use Rattle.group_machine.proofs.KeptLemmas.{join_kept}
 use Rattle.group_machine.proofs.cluster.Cluster.join.Goals as goal
@@ -11,4 +11,4 @@ invariant_of-self c =
     let new = c.join.new.self in
     let step = c.join.ensures in
     let good = join_kept old new c.args.name c.join.result step.answer step.ok step.err c.self.invariant.good in
-    regrouped (cluster_shown c.self.inside) new c.self.invariant good (stepped_partitions old new (joining old c.args.name) c.join.result step.ok step.err refl)
+    regrouped (cluster_view c.self.inside) new c.self.invariant good (stepped_partitions old new (joining old c.args.name) c.join.result step.ok step.err refl)

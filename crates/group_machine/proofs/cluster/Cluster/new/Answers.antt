@@ -5,10 +5,10 @@ pub invariant_of-result : goal.invariant_of-result
 invariant_of-result g c =
     let logs = c.in_ok-logs.ensures in
     let store = c.in_ok-store.ensures in
-    new-consistent c.args.partitions c.in_ok-group.group c.in_ok-logs.logs c.in_ok-store.store c.requires.0 c.requires.1 c.in_ok-group.ensures logs.partitions logs.empty logs.kept store.partitions store.counts (store.exact c.in_ok-logs.logs)
+    new-consistent c.args.partitions c.in_ok-group.group c.in_ok-logs.logs c.in_ok-store.store c.requires.0 c.requires.1 c.in_ok-group.ensures logs.partitions logs.empty logs.valid store.partitions store.counts (store.exact c.in_ok-logs.logs)
 
-pub returns-clause-consistent : goal.returns-clause-consistent
-returns-clause-consistent g c =
+pub returns-clause-valid : goal.returns-clause-valid
+returns-clause-valid g c =
     let logs = c.in_ok-logs.ensures in
     let store = c.in_ok-store.ensures in
-    new-consistent c.args.partitions c.in_ok-group.group c.in_ok-logs.logs c.in_ok-store.store c.requires.0 c.requires.1 c.in_ok-group.ensures logs.partitions logs.empty logs.kept store.partitions store.counts (store.exact c.in_ok-logs.logs)
+    new-consistent c.args.partitions c.in_ok-group.group c.in_ok-logs.logs c.in_ok-store.store c.requires.0 c.requires.1 c.in_ok-group.ensures logs.partitions logs.empty logs.valid store.partitions store.counts (store.exact c.in_ok-logs.logs)

@@ -1,4 +1,4 @@
-use Rattle.group_machine.specs.Shown.{state_of}
+use Rattle.group_machine.specs.GroupView.{state_of}
 use Rattle.group_machine.proofs.KeptLemmas.{join_kept}
 use Rattle.group_machine.proofs.group.Group.join.Goals as goal
 

@@ -3,7 +3,7 @@ use Rattle.std.specs.Option.{option_map}
 use Rattle.bit_planes.specs.PartitionSet.{is_in}
 use Rattle.group_machine.specs.Slots.{present}
 use Rattle.group_machine.specs.State.{owner_of}
-use Rattle.group_machine.specs.Shown.{state_of}
+use Rattle.group_machine.specs.GroupView.{state_of}
 use Rattle.group_machine.proofs.TableLemmas.{owner_is}
 use Rattle.group_machine.proofs.group.Group.owner.Goals as goal
 

@@ -9,36 +9,36 @@ use Rattle.group_machine.proofs.group.change.granted_rows.Goals.{in-Some+in_ok-p
 pub put-requires : goal.put-requires
 put-requires c =
     let e = c.in-Some.ensures in
-    ap partitions (c.copy.ensures ∙ e.2) ∙ granted_over c.args.p c.args.change c.args.slots.now c.loop-place.place c.index-slots-place.result e.0 c.requires.over c.loop-place-test.true c.index-slots-place.is e.1
-    ∙ sym (ap (λ r. r.below) c.loop-place.invariant)
+    ap partitions (c.copy.ensures ∙ e.2) ∙ granted_over c.args.p c.args.change c.args.slots.now c.loop-index.index c.index-slots-index.result e.0 c.requires.over c.loop-index-test.true c.index-slots-index.is e.1
+    ∙ sym (ap (λ r. r.below) c.loop-index.invariant)
 
-pub loop-place-preserved : goal.loop-place-preserved
-loop-place-preserved c =
+pub loop-index-preserved : goal.loop-index-preserved
+loop-index-preserved c =
     let p = c.args.p in
     let slots = c.args.slots.now in
-    let place = c.loop-place.place in
+    let index = c.loop-index.index in
     elim c.match-granted.branch [
       | in-Some+in_ok-put w ↦
           let e = w.in-Some.ensures in
           w.rows-is ∙ w.in_ok-put.ensures.value
-          ∙ ap (λ r. with_row r (place + 1) w.copy.result) c.loop-place.invariant
-          ∙ ap (λ s. with_row (granted_in p (take place (mid c.args.change slots))) (place + 1) s) (w.copy.ensures ∙ e.2)
-          ∙ rows_more p c.args.change slots place c.index-slots-place.result e.0 c.loop-place-test.true c.index-slots-place.is e.1
+          ∙ ap (λ r. with_row r (index + 1) w.copy.result) c.loop-index.invariant
+          ∙ ap (λ s. with_row (granted_in p (take index (mid c.args.change slots))) (index + 1) s) (w.copy.ensures ∙ e.2)
+          ∙ rows_more p c.args.change slots index c.index-slots-index.result e.0 c.loop-index-test.true c.index-slots-index.is e.1
       | in_default w ↦
-          w.rows-is ∙ c.loop-place.invariant
-          ∙ rows_same p c.args.change slots place c.index-slots-place.result c.loop-place-test.true c.index-slots-place.is w.in_default.ensures
+          w.rows-is ∙ c.loop-index.invariant
+          ∙ rows_same p c.args.change slots index c.index-slots-index.result c.loop-index-test.true c.index-slots-index.is w.in_default.ensures
     ]
 
 pub returns : goal.returns
 returns c name =
     let p = c.args.p in
     let slots = c.args.slots.now in
-    let place = c.loop-place.place in
+    let index = c.loop-index.index in
     elim c.match-change.branch [
       | in-Joins+in_ok-put-2 w ↦
           w.rows-is ∙ w.in_ok-put-2.ensures.value
-          ∙ ap (λ r. with_row r (length slots + 1) w.new.result) c.loop-place.invariant
-          ∙ ap (λ s. with_row (granted_in p (take place (mid c.args.change slots))) (length slots + 1) s) w.new.ensures.value
-          ∙ rows_joined p name c.args.change slots place w.in-Joins.is c.loop-place-test.false
-      | in_default-change w ↦ w.rows-is ∙ c.loop-place.invariant ∙ rows_all p name c.args.change slots place w.in_default-change.not-Joins c.loop-place-test.false
+          ∙ ap (λ r. with_row r (length slots + 1) w.new.result) c.loop-index.invariant
+          ∙ ap (λ s. with_row (granted_in p (take index (mid c.args.change slots))) (length slots + 1) s) w.new.ensures.value
+          ∙ rows_joined p name c.args.change slots index w.in-Joins.is c.loop-index-test.false
+      | in_default-change w ↦ w.rows-is ∙ c.loop-index.invariant ∙ rows_all p name c.args.change slots index w.in_default-change.not-Joins c.loop-index-test.false
     ]

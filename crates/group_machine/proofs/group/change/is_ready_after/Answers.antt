@@ -6,28 +6,28 @@ use Rattle.group_machine.proofs.group.change.is_ready_after.Goals.{in-Some+else-
 pub returns-then-not-joined : goal.returns-then-not-joined
 returns-then-not-joined c p name =
     let is = sym c.joined.ensures ∙ c.in-Some.is ∙ ap (λ b. Some b) c.if-not-joined.true in
-    ready_not p name c.args.change c.args.slots.now (c.loop-place.invariant.all ∙ all_more c.args.change c.args.slots.now c.loop-place.place c.index-slots-place.result _ c.loop-place-test.true c.index-slots-place.is is)
+    ready_not p name c.args.change c.args.slots.now (c.loop-index.invariant.all ∙ all_more c.args.change c.args.slots.now c.loop-index.index c.index-slots-index.result _ c.loop-index-test.true c.index-slots-index.is is)
 
-pub loop-place-preserved : goal.loop-place-preserved
-loop-place-preserved c =
+pub loop-index-preserved : goal.loop-index-preserved
+loop-index-preserved c =
     let change = c.args.change in
     let slots = c.args.slots.now in
-    let at = c.loop-place.place in
-    let was = c.loop-place.invariant in
+    let at = c.loop-index.index in
+    let was = c.loop-index.invariant in
     elim c.match-joined.branch [
       | in-Some+else-not-joined w ↦
           let is = sym c.joined.ensures ∙ w.in-Some.is ∙ ap (λ b. Some b) w.if-not-joined.false in
           record {
-            some = was.some ∙ any_more change slots at c.index-slots-place.result c.loop-place.anybody c.loop-place-test.true c.index-slots-place.is is ∙ ap (λ b. b || any_seat (drop (at + 1) (mid change slots))) (sym w.anybody-is);
-            all = was.all ∙ all_more change slots at c.index-slots-place.result _ c.loop-place-test.true c.index-slots-place.is is;
+            some = was.some ∙ any_more change slots at c.index-slots-index.result c.loop-index.anybody c.loop-index-test.true c.index-slots-index.is is ∙ ap (λ b. b || any_seat (drop (at + 1) (mid change slots))) (sym w.anybody-is);
+            all = was.all ∙ all_more change slots at c.index-slots-index.result _ c.loop-index-test.true c.index-slots-index.is is;
           }
       | in_default-joined w ↦
           let none = sym c.joined.ensures ∙ w.in_default-joined.is in
           record {
-            some = was.some ∙ ap (λ b. c.loop-place.anybody || b) (any_same change slots at c.index-slots-place.result c.loop-place-test.true c.index-slots-place.is none) ∙ ap (λ b. b || any_seat (drop (at + 1) (mid change slots))) (sym w.anybody-is);
-            all = was.all ∙ all_same change slots at c.index-slots-place.result c.loop-place-test.true c.index-slots-place.is none;
+            some = was.some ∙ ap (λ b. c.loop-index.anybody || b) (any_same change slots at c.index-slots-index.result c.loop-index-test.true c.index-slots-index.is none) ∙ ap (λ b. b || any_seat (drop (at + 1) (mid change slots))) (sym w.anybody-is);
+            all = was.all ∙ all_same change slots at c.index-slots-index.result c.loop-index-test.true c.index-slots-index.is none;
           }
     ]
 
 pub returns : goal.returns
-returns c p name = ready_end p name c.args.change c.args.slots.now c.loop-place.place c.loop-place.anybody c.loop-place-test.false c.loop-place.invariant.some c.loop-place.invariant.all
+returns c p name = ready_end p name c.args.change c.args.slots.now c.loop-index.index c.loop-index.anybody c.loop-index-test.false c.loop-index.invariant.some c.loop-index.invariant.all

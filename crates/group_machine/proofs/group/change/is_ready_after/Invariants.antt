@@ -4,8 +4,8 @@ use Rattle.group_machine.specs.Changes.{seat_after}
 use Rattle.group_machine.proofs.ChangeLemmas.{starts, any_seat, all_joined_in}
 use Rattle.group_machine.proofs.group.change.is_ready_after.Given as goal
 
-abbrev pub invariant-loop-place : goal.invariant-loop-place
-invariant-loop-place l = record {
-  some : (starts l.change || any_seat (reseated_from 1 (seat_after l.change) l.slots)) ≡ (l.anybody || any_seat (drop l.place (reseated_from 1 (seat_after l.change) l.slots)));
-  all : all_joined_in (reseated_from 1 (seat_after l.change) l.slots) ≡ all_joined_in (drop l.place (reseated_from 1 (seat_after l.change) l.slots));
+abbrev pub invariant-loop-index : goal.invariant-loop-index
+invariant-loop-index l = record {
+  some : (starts l.change || any_seat (reseated_from 1 (seat_after l.change) l.slots)) ≡ (l.anybody || any_seat (drop l.index (reseated_from 1 (seat_after l.change) l.slots)));
+  all : all_joined_in (reseated_from 1 (seat_after l.change) l.slots) ≡ all_joined_in (drop l.index (reseated_from 1 (seat_after l.change) l.slots));
 }

@@ -10,31 +10,31 @@ use Rattle.group_machine.proofs.group.completion.give.Goals.{in-Some, in_default
 
 pub complete_seat-requires : goal.complete_seat-requires
 complete_seat-requires c =
-    let at = given_seat_at (λ m. on_seat (completed_seat c.args.next.now m)) c.args.slots.now c.loop-place.slots c.loop-place.place c.index-slots-place.result c.in-Some.seat c.loop-place.invariant.given (omega (arith, c.loop-place-test.true, c.loop-place.auto.slots)) c.in-Some.is in
-    (c.requires.over (suc c.loop-place.place) c.in-Some.seat at).granted ∙ sym c.row_for.ensures.partitions
+    let at = given_seat_at (λ m. on_seat (completed_seat c.args.next.now m)) c.args.slots.now c.loop-index.slots c.loop-index.index c.index-slots-index.result c.in-Some.seat c.loop-index.invariant.given (omega (arith, c.loop-index-test.true, c.loop-index.auto.slots)) c.in-Some.is in
+    (c.requires.over (suc c.loop-index.index) c.in-Some.seat at).granted ∙ sym c.row_for.ensures.partitions
 
-pub loop-place-preserved : goal.loop-place-preserved
-loop-place-preserved c =
+pub loop-index-preserved : goal.loop-index-preserved
+loop-index-preserved c =
     let next = c.args.next.now in
-    let place = c.loop-place.place in
-    let now = c.loop-place.slots in
-    let d = c.index-slots-place.result in
-    elim c.match-slots-place.branch [
+    let index = c.loop-index.index in
+    let now = c.loop-index.slots in
+    let d = c.index-slots-index.result in
+    elim c.match-slots-index.branch [
       | in-Some w ↦
-          let new : w.complete_seat.new.seat ≡ completed_seat next (place + 1) w.in-Some.seat =
+          let new : w.complete_seat.new.seat ≡ completed_seat next (index + 1) w.in-Some.seat =
           w.complete_seat.ensures ∙ ap (λ r. record { joined = false; synced = false; granted = union w.in-Some.seat.granted r; assigned = r }) w.row_for.ensures.row in
-          let seat : Some w.complete_seat.new.seat ≡ on_seat (completed_seat next (place + 1)) (get_or now place d).seat = ap (λ x. Some x) new ∙ ap (on_seat (completed_seat next (place + 1))) (sym w.in-Some.is) in
+          let seat : Some w.complete_seat.new.seat ≡ on_seat (completed_seat next (index + 1)) (get_or now index d).seat = ap (λ x. Some x) new ∙ ap (on_seat (completed_seat next (index + 1))) (sym w.in-Some.is) in
           record {
-            long = c.match-slots-place.auto.slots ∙ c.loop-place.invariant.long;
-            given = subst (λ (slots : List Slot). AreGiven (λ m. on_seat (completed_seat next m)) c.args.slots.now slots (place + 1)) (sym w.slots-is)
-                (given_set_at (λ m. on_seat (completed_seat next m)) c.args.slots.now now place d (Some w.complete_seat.new.seat) c.loop-place.invariant.given (omega (arith, c.loop-place-test.true, c.loop-place.auto.slots)) seat);
+            long = c.match-slots-index.auto.slots ∙ c.loop-index.invariant.long;
+            given = subst (λ (slots : List Slot). AreGiven (λ m. on_seat (completed_seat next m)) c.args.slots.now slots (index + 1)) (sym w.slots-is)
+                (given_set_at (λ m. on_seat (completed_seat next m)) c.args.slots.now now index d (Some w.complete_seat.new.seat) c.loop-index.invariant.given (omega (arith, c.loop-index-test.true, c.loop-index.auto.slots)) seat);
           }
       | in_default w ↦ record {
-        long = c.match-slots-place.auto.slots ∙ c.loop-place.invariant.long;
-        given = subst (λ (slots : List Slot). AreGiven (λ m. on_seat (completed_seat next m)) c.args.slots.now slots (place + 1)) (sym w.slots-is)
-            (given_set_at (λ m. on_seat (completed_seat next m)) c.args.slots.now now place d (get_or now place d).seat c.loop-place.invariant.given (omega (arith, c.loop-place-test.true, c.loop-place.auto.slots)) (w.in_default.is ∙ ap (on_seat (completed_seat next (place + 1))) (sym w.in_default.is)));
+        long = c.match-slots-index.auto.slots ∙ c.loop-index.invariant.long;
+        given = subst (λ (slots : List Slot). AreGiven (λ m. on_seat (completed_seat next m)) c.args.slots.now slots (index + 1)) (sym w.slots-is)
+            (given_set_at (λ m. on_seat (completed_seat next m)) c.args.slots.now now index d (get_or now index d).seat c.loop-index.invariant.given (omega (arith, c.loop-index-test.true, c.loop-index.auto.slots)) (w.in_default.is ∙ ap (on_seat (completed_seat next (index + 1))) (sym w.in_default.is)));
       }
     ]
 
 pub returns : goal.returns
-returns c = given_all (λ m. on_seat (completed_seat c.args.next.now m)) c.args.slots.now c.loop-place.slots c.loop-place.place c.loop-place.invariant.given (omega (arith, c.loop-place-test.false))
+returns c = given_all (λ m. on_seat (completed_seat c.args.next.now m)) c.args.slots.now c.loop-index.slots c.loop-index.index c.loop-index.invariant.given (omega (arith, c.loop-index-test.false))

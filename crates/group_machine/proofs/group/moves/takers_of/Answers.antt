@@ -8,7 +8,7 @@ use Rattle.group_machine.proofs.group.moves.takers_of.Goals.{in-Some, in_default
 pub added-requires : goal.added-requires
 added-requires c =
     c.in-Some.ensures.partitions ∙ c.requires.below
-    ∙ sym (item_over c.args.granted.now c.rows-member-items.result.now c.loop-member.member-index c.loop-member-item.result c.rows-member-items.ensures.kept c.rows-member-items.ensures.value c.loop-member-test.true c.loop-member-item.is)
+    ∙ sym (item_over c.args.granted.now c.rows-member-items.result.now c.loop-member.member-index c.loop-member-item.result c.rows-member-items.ensures.valid c.rows-member-items.ensures.value c.loop-member-test.true c.loop-member-item.is)
 
 pub loop-member-preserved : goal.loop-member-preserved
 loop-member-preserved c =

@@ -7,14 +7,14 @@ use Rattle.keyed_table.proofs.partial.Partial.get.Goals as goal
 
 pub returns-in-Some : goal.returns-in-Some
 returns-in-Some c =
-    let kept : get nat_cmp c.self.inside.counts c.args.id ≡ counted (plain c.self.inside.ids.items c.args.id) = c.self.invariant.0 c.args.id in
+    let valid : get nat_cmp c.self.inside.counts c.args.id ≡ counted (plain c.self.inside.ids.items c.args.id) = c.self.invariant.0 c.args.id in
     let found : Some c.in-Some.n.now ≡ get nat_cmp c.self.inside.counts c.args.id = search rules in
-    let seen : c.in-Some.n.now ≡ plain c.self.inside.ids.items c.args.id = of-counted _ _ (found ∙ kept) in
+    let seen : c.in-Some.n.now ≡ plain c.self.inside.ids.items c.args.id = of-counted _ _ (found ∙ valid) in
     search rules
 
 pub returns-in-None : goal.returns-in-None
 returns-in-None c =
-    let kept : get nat_cmp c.self.inside.counts c.args.id ≡ counted (plain c.self.inside.ids.items c.args.id) = c.self.invariant.0 c.args.id in
+    let valid : get nat_cmp c.self.inside.counts c.args.id ≡ counted (plain c.self.inside.ids.items c.args.id) = c.self.invariant.0 c.args.id in
     let found : None ≡ get nat_cmp c.self.inside.counts c.args.id = search rules in
-    let seen : 0 ≡ plain c.self.inside.ids.items c.args.id = none-counted _ (found ∙ kept) in
+    let seen : 0 ≡ plain c.self.inside.ids.items c.args.id = none-counted _ (found ∙ valid) in
     search rules

@@ -2,7 +2,7 @@ use Rattle.std.proofs.Common.{◌≡◌, ◌<◌, ◌∙◌, List, true, false, 
 use Rattle.std.specs.List.{list_any}
 use Rattle.std.specs.Str.{bytes_eq}
 use Rattle.std.proofs.lemmas.List.{length-map}
-use Rattle.partition_log.specs.Keys.{is_known, number_of}
+use Rattle.partition_log.specs.Keys.{is_known, id_of}
 use Rattle.partition_log.proofs.Numbers.{list_any-map, position-is, position_or_len-map}
 use Rattle.partition_log.proofs.plain_keys.PlainKeys.find.Goals as goal
 
@@ -17,7 +17,7 @@ returns-clause-known c =
     let key = c.args.key.now in
     let keys = c.self.inside.set.keys in
     let there : list_any (λ k. bytes_eq key (vec_items k)) keys ≡ true = search rules in (
-      position-is _ keys c.in-Some.number c.in-Some.ensures.index ∙ sym (position_or_len-map (bytes_eq key) vec_items keys) ∙ ap (λ ks. number_of ks key) c.self.view_is,
+      position-is _ keys c.in-Some.number c.in-Some.ensures.index ∙ sym (position_or_len-map (bytes_eq key) vec_items keys) ∙ ap (λ ks. id_of ks key) c.self.view_is,
       rw (← c.self.view_is, length-map keys vec_items) c.in-Some.ensures.within,
       ap (λ ks. is_known ks key) (sym c.self.view_is) ∙ list_any-map (bytes_eq key) vec_items keys ∙ there,
     )

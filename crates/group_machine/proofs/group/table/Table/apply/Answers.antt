@@ -8,7 +8,7 @@ use Rattle.group_machine.specs.Slots.{on_seat, each_changed}
 use Rattle.group_machine.specs.State.{GroupState}
 use Rattle.group_machine.specs.Completion.{completed_seat}
 use Rattle.group_machine.specs.Walks.{AreSeatsOver, last_by}
-use Rattle.group_machine.specs.Shown.{state_of}
+use Rattle.group_machine.specs.GroupView.{state_of}
 use Rattle.group_machine.proofs.PresentLemmas.{length_reseated}
 use Rattle.group_machine.proofs.TableLemmas.{seats_over, rows_below, last_is, complete_is}
 use Rattle.group_machine.proofs.group.table.Table.apply.Goals as goal

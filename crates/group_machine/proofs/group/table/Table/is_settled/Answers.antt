@@ -3,7 +3,7 @@ use Rattle.std.specs.List.{list_all}
 use Rattle.group_machine.specs.declared.group.Slot.{Slot}
 use Rattle.group_machine.specs.Rounds.{agrees, all_agree}
 use Rattle.group_machine.specs.Walks.{AreSeatsOver, out_or}
-use Rattle.group_machine.specs.Shown.{state_of}
+use Rattle.group_machine.specs.GroupView.{state_of}
 use Rattle.group_machine.proofs.TableLemmas.{seats_over, all_present}
 use Rattle.group_machine.proofs.group.table.Table.is_settled.Goals as goal
 

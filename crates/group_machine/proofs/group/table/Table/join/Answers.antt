@@ -6,7 +6,7 @@ use Rattle.group_machine.specs.State.{GroupState}
 use Rattle.group_machine.specs.Steps.{is_name_used, newcomer, joining, join_answer, most_members}
 use Rattle.group_machine.specs.Good.{IsSound}
 use Rattle.group_machine.specs.Changes.{IsPlanned}
-use Rattle.group_machine.specs.Shown.{state_of}
+use Rattle.group_machine.specs.GroupView.{state_of}
 use Rattle.group_machine.proofs.StepLemmas.{joining_next}
 use Rattle.group_machine.proofs.TableLemmas.{used_answer, many_answer, join_go, refused_answer, planned_answer, next_sound, with_phase}
 use Rattle.group_machine.proofs.group.table.Table.join.Goals as goal

@@ -8,7 +8,7 @@ use Rattle.group_machine.specs.State.{GroupState, is_present}
 use Rattle.group_machine.specs.Steps.{leaving, left, leave_answer}
 use Rattle.group_machine.specs.Good.{IsSound}
 use Rattle.group_machine.specs.Changes.{IsPlanned}
-use Rattle.group_machine.specs.Shown.{state_of}
+use Rattle.group_machine.specs.GroupView.{state_of}
 use Rattle.group_machine.proofs.PresentLemmas.{length_reseated}
 use Rattle.group_machine.proofs.StepLemmas.{leaving_next}
 use Rattle.group_machine.proofs.TableLemmas.{next_sound, with_phase, leave_go, refused_answer, planned_answer}

@@ -6,7 +6,7 @@ use Rattle.group_machine.specs.State.{GroupState, granted_rows}
 use Rattle.group_machine.specs.Moves.{taker}
 use Rattle.group_machine.specs.Walks.{AreSeatsOver, AreOwned, granted_in, taker_in, moves_by}
 use Rattle.group_machine.specs.Changes.{slots_after, after}
-use Rattle.group_machine.specs.Shown.{state_of}
+use Rattle.group_machine.specs.GroupView.{state_of}
 use Rattle.group_machine.proofs.TableLemmas.{seats_over, owned_rows, rows_below, rows_apart, taker_is, moves_are}
 use Rattle.group_machine.proofs.group.table.Table.plan.Goals as goal
 

@@ -9,7 +9,7 @@ use Rattle.group_machine.specs.State.{GroupState, is_present, member_of}
 use Rattle.group_machine.specs.Steps.{rejoined_seat, rejoining, rejoin_refusal, rejoin_answer}
 use Rattle.group_machine.specs.Good.{IsSound}
 use Rattle.group_machine.specs.Changes.{IsPlanned}
-use Rattle.group_machine.specs.Shown.{state_of}
+use Rattle.group_machine.specs.GroupView.{state_of}
 use Rattle.group_machine.proofs.PresentLemmas.{length_reseated}
 use Rattle.group_machine.proofs.StepLemmas.{rejoining_next}
 use Rattle.group_machine.proofs.TableLemmas.{next_sound, with_phase, accepted_present, rejoin_go, refused_answer, planned_answer}

@@ -8,7 +8,7 @@ use Rattle.std.proofs.lemmas.List.Sorted.{searched}
 use Rattle.std.proofs.lemmas.Bool.{cases_lt, lt-ltb, le-ltb}
 use Rattle.std.proofs.lemmas.Bool.Decides.{nat_tests}
 use Rattle.bit_planes.specs.PartitionSet.{PartitionSet, partitions, empty_set}
-use Rattle.bit_planes.specs.SetRows.{SetRows, AreRows, row_of, with_row, IsRising, IsPlaceOf, IsGapFor, member_at, find_row, put_row}
+use Rattle.bit_planes.specs.SetRows.{SetRows, IsValidRows, row_of, with_row, IsRising, IsIndexOf, IsGapFor, member_at, find_row, put_row}
 use Rattle.bit_planes.proofs.RowLaws.{rising_rest, row_of-this, row_of-other, are_rows-with}
 
 abbrev Rows : Type 0
@@ -64,8 +64,8 @@ put_in_gap (row ∷ rows) m (suc i) s le before after =
     let not_before = le-ltb m row.0 (omega (arith, above)) in
     rw (other, not_before) (ap (λ rest. row ∷ rest) (put_in_gap rows m i s (omega arith) (λ j lt. before (suc j) (omega arith)) (λ j ge lt. after (suc j) (omega arith) (omega arith))))
 
-pub found : (rows : Rows) (m i : ℕ) (d : ℕ × PartitionSet) → IsRising (map (λ row. row.0) rows) → IsPlaceOf rows m i → find_row rows m ≡ Some (get_or rows i d).1
-found rows m i d rising place = found_at rows m i d rising place.within place.there
+pub found : (rows : Rows) (m i : ℕ) (d : ℕ × PartitionSet) → IsRising (map (λ row. row.0) rows) → IsIndexOf rows m i → find_row rows m ≡ Some (get_or rows i d).1
+found rows m i d rising index = found_at rows m i d rising index.within index.there
 
 pub not_found : (rows : Rows) (m i : ℕ) → IsGapFor rows m i → find_row rows m ≡ None
 not_found rows m i gap = found_none rows m (λ j lt. elim (cases_lt j i) [
@@ -73,8 +73,8 @@ not_found rows m i gap = found_none rows m (λ j lt. elim (cases_lt j i) [
   | inr after ↦ let above = gap.after j after lt in λ e. omega (arith, above, e)
 ])
 
-pub put_there : (rows : Rows) (m i : ℕ) (s : PartitionSet) → IsRising (map (λ row. row.0) rows) → IsPlaceOf rows m i → put_row rows m s ≡ set rows i (m, s)
-put_there rows m i s rising place = put_at rows m i s rising place.within place.there
+pub put_there : (rows : Rows) (m i : ℕ) (s : PartitionSet) → IsRising (map (λ row. row.0) rows) → IsIndexOf rows m i → put_row rows m s ≡ set rows i (m, s)
+put_there rows m i s rising index = put_at rows m i s rising index.within index.there
 
 pub put_between : (rows : Rows) (m i : ℕ) (s : PartitionSet) → IsGapFor rows m i → put_row rows m s ≡ insert rows i (m, s)
 put_between rows m i s gap = put_in_gap rows m i s gap.within gap.before gap.after
@@ -101,7 +101,7 @@ by_member rows m (Err i) h = λ rises.
       λ k d ge lt. ap (λ n. nat_cmp n m) (member_or rows k (d, empty_set 0)) ∙ parted.1 k (d, empty_set 0) ge (omega arith),
     )
 
-pub places : (rows : Rows) (m : ℕ) (r : Result ℕ ℕ) → IsRising (map (λ row. row.0) rows) → IsBinarySearchResult (λ y. nat_cmp y.0 m) rows r → IfOk r (IsPlaceOf rows m) × IfErr r (IsGapFor rows m)
+pub places : (rows : Rows) (m : ℕ) (r : Result ℕ ℕ) → IsRising (map (λ row. row.0) rows) → IsBinarySearchResult (λ y. nat_cmp y.0 m) rows r → IfOk r (IsIndexOf rows m) × IfErr r (IsGapFor rows m)
 places rows m (Ok i) rising h =
     let long = length-map rows (λ (row : ℕ × PartitionSet). row.0) in
     let s = searched (map (λ row. row.0) rows) m (Ok i) (by_member rows m (Ok i) h) (never_falls (map (λ row. row.0) rows) rising) in
@@ -116,29 +116,29 @@ pub record IsPut (old new : SetRows) (m : ℕ) (s : PartitionSet) : Type 0 where
   pub value : new ≡ with_row old m s
   pub this : row_of new m ≡ Some s
   pub others : (n : ℕ) → n ≢ m → row_of new n ≡ row_of old n
-  pub kept : AreRows new
+  pub valid : IsValidRows new
 
-puts : (old new : SetRows) (m : ℕ) (s : PartitionSet) → AreRows old → partitions s ≡ old.below → new ≡ with_row old m s → IsPut old new m s
-puts old new m s kept below e = record {
+puts : (old new : SetRows) (m : ℕ) (s : PartitionSet) → IsValidRows old → partitions s ≡ old.below → new ≡ with_row old m s → IsPut old new m s
+puts old new m s valid below e = record {
   value = e;
   this = ap (λ r. row_of r m) e ∙ row_of-this old m s;
   others = λ n ne. ap (λ r. row_of r n) e ∙ row_of-other old m s n ne;
-  kept = subst AreRows (sym e) (are_rows-with old m s below kept);
+  valid = subst IsValidRows (sym e) (are_rows-with old m s below valid);
 }
 
-pub puts_there : (inside old : SetRows) (m i : ℕ) (s : PartitionSet) → inside ≡ old → AreRows inside → partitions s ≡ old.below → IsPlaceOf old.rows m i → IsPut old (record inside { rows = set inside.rows i (m, s) }) m s
-puts_there inside old m i s seen kept below place =
+pub puts_there : (inside old : SetRows) (m i : ℕ) (s : PartitionSet) → inside ≡ old → IsValidRows inside → partitions s ≡ old.below → IsIndexOf old.rows m i → IsPut old (record inside { rows = set inside.rows i (m, s) }) m s
+puts_there inside old m i s seen valid below index =
     subst (λ (r : SetRows). IsPut r (record inside { rows = set inside.rows i (m, s) }) m s) seen
-    (puts inside (record inside { rows = set inside.rows i (m, s) }) m s kept (below ∙ ap (λ (r : SetRows). r.below) (sym seen))
-    (ap (λ (rows : Rows). record inside { rows = rows }) (sym (put_there inside.rows m i s kept.rising (subst (λ (r : SetRows). IsPlaceOf r.rows m i) (sym seen) place)))))
+    (puts inside (record inside { rows = set inside.rows i (m, s) }) m s valid (below ∙ ap (λ (r : SetRows). r.below) (sym seen))
+    (ap (λ (rows : Rows). record inside { rows = rows }) (sym (put_there inside.rows m i s valid.rising (subst (λ (r : SetRows). IsIndexOf r.rows m i) (sym seen) index)))))
 
-pub puts_between : (inside old : SetRows) (rows : Rows) (m i : ℕ) (s : PartitionSet) → inside ≡ old → AreRows inside → partitions s ≡ old.below → IsGapFor old.rows m i → rows ≡ insert inside.rows i (m, s) → IsPut old (record inside { rows = rows }) m s
-puts_between inside old rows m i s seen kept below gap e =
+pub puts_between : (inside old : SetRows) (rows : Rows) (m i : ℕ) (s : PartitionSet) → inside ≡ old → IsValidRows inside → partitions s ≡ old.below → IsGapFor old.rows m i → rows ≡ insert inside.rows i (m, s) → IsPut old (record inside { rows = rows }) m s
+puts_between inside old rows m i s seen valid below gap e =
     subst (λ (r : SetRows). IsPut r (record inside { rows = rows }) m s) seen
-    (puts inside (record inside { rows = rows }) m s kept (below ∙ ap (λ (r : SetRows). r.below) (sym seen))
+    (puts inside (record inside { rows = rows }) m s valid (below ∙ ap (λ (r : SetRows). r.below) (sym seen))
     (ap (λ (rows : Rows). record inside { rows = rows }) (e ∙ sym (put_between inside.rows m i s (subst (λ (r : SetRows). IsGapFor r.rows m i) (sym seen) gap)))))
 
 -- ---- what a look-up gives
-pub found_in : (inside old : SetRows) (m i : ℕ) (row : ℕ × PartitionSet) → inside ≡ old → AreRows inside → IsPlaceOf old.rows m i → row ≡ get_or inside.rows i row → row_of old m ≡ Some row.1
-found_in inside old m i row seen kept place at =
-    ap (λ (r : SetRows). row_of r m) (sym seen) ∙ found inside.rows m i row kept.rising (subst (λ (r : SetRows). IsPlaceOf r.rows m i) (sym seen) place) ∙ ap (λ (r : ℕ × PartitionSet). Some r.1) (sym at)
+pub found_in : (inside old : SetRows) (m i : ℕ) (row : ℕ × PartitionSet) → inside ≡ old → IsValidRows inside → IsIndexOf old.rows m i → row ≡ get_or inside.rows i row → row_of old m ≡ Some row.1
+found_in inside old m i row seen valid index at =
+    ap (λ (r : SetRows). row_of r m) (sym seen) ∙ found inside.rows m i row valid.rising (subst (λ (r : SetRows). IsIndexOf r.rows m i) (sym seen) index) ∙ ap (λ (r : ℕ × PartitionSet). Some r.1) (sym at)

@@ -1,8 +1,8 @@
 use Rattle.std.proofs.Common.{rules, suc, ◌<◌, ◌≡◌, ◌∙◌, ℕ, drop, length, ap, sym, refl, arith}
-use Rattle.bit_planes.specs.PartitionSet.{partitions, numbers, rank}
-use Rattle.bit_planes.proofs.Listed.{numbers-at, numbers-end}
+use Rattle.bit_planes.specs.PartitionSet.{partitions, elements, rank}
+use Rattle.bit_planes.proofs.Listed.{elements-at, elements-end}
 use Rattle.bit_planes.proofs.Sets.{rank_out, rank_past}
-use Rattle.bit_planes.proofs.numbers.NumbersIterator.next.Goals as goal
+use Rattle.bit_planes.proofs.elements.ElementsIterator.next.Goals as goal
 
 gone : {m n : ℕ} → m ≡ suc n → n < m
 gone e = omega (arith, e)
@@ -12,13 +12,13 @@ loop-q-init c = record { left = c.self.view_is; same_end = refl; end = c.self.in
 
 pub returns-then-contains : goal.returns-then-contains
 returns-then-contains c =
-    let steps = sym c.loop-q.invariant.left ∙ numbers-at _ c.loop-q.q (sym c.contains.ensures.value ∙ c.if-contains.true) in
+    let steps = sym c.loop-q.invariant.left ∙ elements-at _ c.loop-q.q (sym c.contains.ensures.value ∙ c.if-contains.true) in
     let shorter = gone (ap length steps) in
     record { steps = steps; goes = search rules }
 
 pub loop-q-preserved : goal.loop-q-preserved
 loop-q-preserved c = record {
-  left = ap (λ r. drop r (numbers c.loop-q.self-inside.plane.now)) (rank_out _ c.loop-q.q (sym c.contains.ensures.value ∙ c.if-contains.false)) ∙ c.loop-q.invariant.left;
+  left = ap (λ r. drop r (elements c.loop-q.self-inside.plane.now)) (rank_out _ c.loop-q.q (sym c.contains.ensures.value ∙ c.if-contains.false)) ∙ c.loop-q.invariant.left;
   same_end = c.loop-q.invariant.same_end;
   end = c.loop-q.invariant.end;
 }
@@ -29,4 +29,4 @@ returns-clause-steps c =
     let same_end = c.loop-q.invariant.same_end in
     let s = c.loop-q.self-inside.plane.now in
     let past = rank_past s c.loop-q.q (omega (arith, c.loop-q-test.false)) ∙ sym (rank_past s (partitions s) (omega arith)) in
-    (sym c.loop-q.invariant.left ∙ numbers-end s _ past, numbers-end s _ (ap (rank s) end))
+    (sym c.loop-q.invariant.left ∙ elements-end s _ past, elements-end s _ (ap (rank s) end))

@@ -1,7 +1,7 @@
 use Rattle.std.proofs.Common.{take, arith, ◌∙◌, ap}
 use Rattle.partition_log.specs.Keys.{with_key}
 use Rattle.partition_log.proofs.Copied.{is_new, next_copied}
-use Rattle.partition_log.proofs.keys.KeyNumbers.copy.Goals as goal
+use Rattle.partition_log.proofs.keys.KeyIds.copy.Goals as goal
 
 pub add-requires-clause-fresh : goal.add-requires-clause-fresh
 add-requires-clause-fresh g c = rw (c.loop-number.invariant, c.key.ensures) (is_new c.args.self.now c.loop-number.number c.requires (omega arith))

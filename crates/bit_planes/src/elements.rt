@@ -2,14 +2,14 @@
 
 ghost use Rattle.std.specs.Prelude.{◌≡◌, ◌≤◌, length};
 ghost use Rattle.std.specs.Iterator.{YieldsFirst, item_count};
-ghost use Rattle.bit_planes.specs.PartitionSet.{numbers};
+ghost use Rattle.bit_planes.specs.PartitionSet.{elements};
 
 use crate::plane::Plane;
 use std::marker::Model;
 
 /// The members of a set that are left, in rising order.
 #[derive(Drop)]
-pub struct Numbers<'a> {
+pub struct Elements<'a> {
     plane: &'a Plane,
     // The members below this have been given.
     from: u32,
@@ -17,25 +17,25 @@ pub struct Numbers<'a> {
     end: u32,
 }
 
-impl<'a> Model for Numbers<'a> {
+impl<'a> Model for Elements<'a> {
     ghost use Rattle.std.specs.Prelude.{List, ℕ};
 
     ghost Value = { List ℕ };
 
-    ghost use Rattle.bit_planes.specs.NumbersLeft.{numbers_left, EndsWithPlane};
+    ghost use Rattle.bit_planes.specs.ElementsLeft.{elements_left, IsValidElements};
 
-    ghost view = { numbers_left };
+    ghost view = { elements_left };
 
-    ghost invariant = { EndsWithPlane };
+    ghost invariant = { IsValidElements };
 }
 
-impl<'a> Numbers<'a> {
+impl<'a> Elements<'a> {
     /// All members of a set.
-    pub(crate) fn new(plane: &'a Plane) -> Numbers<'a>
-        ensures value { result ≡ numbers plane.now }
+    pub(crate) fn new(plane: &'a Plane) -> Elements<'a>
+        ensures value { result ≡ elements plane.now }
         ensures few { length result ≤ 4096 }
     {
-        Numbers {
+        Elements {
             plane,
             from: 0,
             end: plane.partitions(),
@@ -43,7 +43,7 @@ impl<'a> Numbers<'a> {
     }
 }
 
-impl<'a> Iterator for Numbers<'a> {
+impl<'a> Iterator for Elements<'a> {
     type Item = u32;
 
     ghost next_gives = { YieldsFirst (λ s. s) };

@@ -10,13 +10,13 @@ use Rattle.std.proofs.Math.Seq.{get_or-append_seam}
 use Rattle.lane_words.specs.Answers.{Answers}
 use Rattle.lane_words.specs.declared.Refusal.TheVariants as r
 use Rattle.partitioner.proofs.Places.{place_of-below}
-use Rattle.partition_log.specs.Keys.{Key, is_known, key_at, number_of, with_key}
-use Rattle.partition_log.specs.Logs.{AreLogs, IsEntryOf, PartitionLogs, finds_no_room, is_full_for, log_at, longest_key, most_keys, most_records, place_in, with_record}
+use Rattle.partition_log.specs.Keys.{Key, is_known, key_at, id_of, with_key}
+use Rattle.partition_log.specs.Logs.{IsValidLogs, IsEntryOf, PartitionLogs, finds_no_room, is_full_for, log_at, longest_key, most_keys, most_records, place_in, with_record}
 use Rattle.partition_log.proofs.Growth.{grows, stays_apart}
 
 -- the log of the key's place has one entry more
 pub log-same : (l : PartitionLogs) (key : Key) → place_in l key < length l.logs
-    → log_at (with_record l key) (place_in l key) ≡ log_at l (place_in l key) ++ number_of l.keys key ∷ []
+    → log_at (with_record l key) (place_in l key) ≡ log_at l (place_in l key) ++ id_of l.keys key ∷ []
 log-same l key lt = get_or-set_same l.logs (place_in l key) _ [] lt
 
 -- the other logs are as before
@@ -64,10 +64,10 @@ entry-more : (l : PartitionLogs) (key : Key) (p n : ℕ) → IsEntryOf l p n →
 entry-more l key p n e =
     let g = grows l.keys key in record {
       numbered = omega (arith, g.longer, e.numbered);
-      placed = ap (place_in l) (g.kept n e.numbered) ∙ e.placed;
+      placed = ap (place_in l) (g.stays n e.numbered) ∙ e.placed;
     }
 
-entries-more : (l : PartitionLogs) (key : Key) → AreLogs l → place_in l key < length l.logs → (p i : ℕ) → i < length (log_at (with_record l key) p)
+entries-more : (l : PartitionLogs) (key : Key) → IsValidLogs l → place_in l key < length l.logs → (p i : ℕ) → i < length (log_at (with_record l key) p)
     → IsEntryOf (with_record l key) p (get_or (log_at (with_record l key) p) i 0)
 entries-more l key a lt p i i_in =
     let g = grows l.keys key in
@@ -77,17 +77,17 @@ entries-more l key a lt p i i_in =
           subst (λ (log : List ℕ). IsEntryOf (with_record l key) p (get_or log i 0)) (sym same) (entry-more l key p _ (a.entries p i (rw (← same) i_in)))
       | inl is ↦
           let old = log_at l (place_in l key) in
-          let more : log_at (with_record l key) p ≡ old ++ number_of l.keys key ∷ [] = ap (log_at (with_record l key)) is ∙ log-same l key lt in
-          let long : length (old ++ number_of l.keys key ∷ []) ≡ length old + 1 = length-append old (number_of l.keys key ∷ []) in
-          let within : i < length (old ++ number_of l.keys key ∷ []) = rw (← more) i_in in
+          let more : log_at (with_record l key) p ≡ old ++ id_of l.keys key ∷ [] = ap (log_at (with_record l key)) is ∙ log-same l key lt in
+          let long : length (old ++ id_of l.keys key ∷ []) ≡ length old + 1 = length-append old (id_of l.keys key ∷ []) in
+          let within : i < length (old ++ id_of l.keys key ∷ []) = rw (← more) i_in in
           subst (λ (log : List ℕ). IsEntryOf (with_record l key) p (get_or log i 0)) (sym more)
           (elim (cases_lt i (length old)) [
             | inl i_old ↦
-                subst (λ n. IsEntryOf (with_record l key) p n) (sym (get_or_append_left old (number_of l.keys key ∷ []) 0 i i_old))
+                subst (λ n. IsEntryOf (with_record l key) p n) (sym (get_or_append_left old (id_of l.keys key ∷ []) 0 i i_old))
                 (subst (λ q. IsEntryOf (with_record l key) q (get_or old i 0)) (sym is) (entry-more l key (place_in l key) _ (a.entries (place_in l key) i i_old)))
             | inr i_new ↦
                 let last : i ≡ length old = omega (arith, long, within, i_new) in
-                subst (λ n. IsEntryOf (with_record l key) p n) (sym (ap (λ j. get_or (old ++ number_of l.keys key ∷ []) j 0) last ∙ get_or-append_seam old (number_of l.keys key) [] 0))
+                subst (λ n. IsEntryOf (with_record l key) p n) (sym (ap (λ j. get_or (old ++ id_of l.keys key ∷ []) j 0) last ∙ get_or-append_seam old (id_of l.keys key) [] 0))
                 (record { numbered = g.numbered; placed = ap (place_in l) g.found ∙ sym is })
           ])
     ]
@@ -98,49 +98,49 @@ contains-more l key q n lt h =
       | inr ne ↦ subst (λ (log : List ℕ). Contains log n) (sym (log-other l key q ne)) h
       | inl is ↦
           subst (λ (log : List ℕ). Contains log n) (sym (ap (log_at (with_record l key)) is ∙ log-same l key lt))
-          (Contains-append_left (log_at l (place_in l key)) (number_of l.keys key ∷ []) n (subst (λ r. Contains (log_at l r) n) is h))
+          (Contains-append_left (log_at l (place_in l key)) (id_of l.keys key ∷ []) n (subst (λ r. Contains (log_at l r) n) is h))
     ]
 
-used-more : (l : PartitionLogs) (key : Key) → AreLogs l → place_in l key < length l.logs → (n : ℕ) → n < length (with_key l.keys key)
+used-more : (l : PartitionLogs) (key : Key) → IsValidLogs l → place_in l key < length l.logs → (n : ℕ) → n < length (with_key l.keys key)
     → Contains (log_at (with_record l key) (place_in l (key_at (with_key l.keys key) n))) n
 used-more l key a lt n n_in =
     let g = grows l.keys key in
     elim (cases_lt n (length l.keys)) [
       | inl n_old ↦
-          subst (λ (k : Key). Contains (log_at (with_record l key) (place_in l k)) n) (sym (g.kept n n_old)) (contains-more l key (place_in l (key_at l.keys n)) n lt (a.used n n_old))
+          subst (λ (k : Key). Contains (log_at (with_record l key) (place_in l k)) n) (sym (g.stays n n_old)) (contains-more l key (place_in l (key_at l.keys n)) n lt (a.used n n_old))
       | inr n_new ↦
-          let is : n ≡ number_of l.keys key = g.new_only n n_new n_in in
+          let is : n ≡ id_of l.keys key = g.new_only n n_new n_in in
           let old = log_at l (place_in l key) in
           let stands : key_at (with_key l.keys key) n ≡ key = ap (key_at (with_key l.keys key)) is ∙ g.found in
-          let long : length (old ++ number_of l.keys key ∷ []) ≡ length old + 1 = length-append old (number_of l.keys key ∷ []) in
-          let last : Contains (old ++ number_of l.keys key ∷ []) n = (length old, omega (arith, long), get_or-append_seam old (number_of l.keys key) [] n ∙ sym is) in
+          let long : length (old ++ id_of l.keys key ∷ []) ≡ length old + 1 = length-append old (id_of l.keys key ∷ []) in
+          let last : Contains (old ++ id_of l.keys key ∷ []) n = (length old, omega (arith, long), get_or-append_seam old (id_of l.keys key) [] n ∙ sym is) in
           subst (λ (k : Key). Contains (log_at (with_record l key) (place_in l k)) n) (sym stands) (subst (λ (log : List ℕ). Contains log n) (sym (log-same l key lt)) last)
     ]
 
-records-more : (l : PartitionLogs) (key : Key) → AreLogs l → place_in l key < length l.logs → is_full_for l key ≡ false → (p : ℕ) → length (log_at (with_record l key) p) ≤ most_records
+records-more : (l : PartitionLogs) (key : Key) → IsValidLogs l → place_in l key < length l.logs → is_full_for l key ≡ false → (p : ℕ) → length (log_at (with_record l key) p) ≤ most_records
 records-more l key a lt room p =
     elim (is_place p (place_in l key)) [
       | inr ne ↦ rw (log-other l key p ne) (a.few_records p)
       | inl is ↦
           let old = log_at l (place_in l key) in
           let long : length (log_at (with_record l key) p) ≡ length old + 1 =
-          ap (λ q. length (log_at (with_record l key) q)) is ∙ ap length (log-same l key lt) ∙ length-append old (number_of l.keys key ∷ []) in
+          ap (λ q. length (log_at (with_record l key) q)) is ∙ ap length (log-same l key lt) ∙ length-append old (id_of l.keys key ∷ []) in
           omega (arith, long, has_room l.keys (length old) key room)
     ]
 
-short-more : (l : PartitionLogs) (key : Key) → AreLogs l → length key ≤ longest_key → (n : ℕ) → n < length (with_key l.keys key) → length (key_at (with_key l.keys key) n) ≤ longest_key
+short-more : (l : PartitionLogs) (key : Key) → IsValidLogs l → length key ≤ longest_key → (n : ℕ) → n < length (with_key l.keys key) → length (key_at (with_key l.keys key) n) ≤ longest_key
 short-more l key a short n n_in =
     let g = grows l.keys key in
     elim (cases_lt n (length l.keys)) [
-      | inl n_old ↦ rw (g.kept n n_old) (a.short n n_old)
+      | inl n_old ↦ rw (g.stays n n_old) (a.short n n_old)
       | inr n_new ↦
           let stands : key_at (with_key l.keys key) n ≡ key = ap (key_at (with_key l.keys key)) (g.new_only n n_new n_in) ∙ g.found in
           rw stands short
     ]
 
 -- logs with one more record are logs
-pub kept : (l : PartitionLogs) (key : Key) → AreLogs l → place_in l key < l.partitions → length key ≤ longest_key → is_full_for l key ≡ false → AreLogs (with_record l key)
-kept l key a placed short room =
+pub valid : (l : PartitionLogs) (key : Key) → IsValidLogs l → place_in l key < l.partitions → length key ≤ longest_key → is_full_for l key ≡ false → IsValidLogs (with_record l key)
+valid l key a placed short room =
     let lt : place_in l key < length l.logs = rw a.a_log_each placed in record {
       some_partitions = a.some_partitions;
       few_partitions = a.few_partitions;
@@ -159,11 +159,11 @@ room-of true n offset (inr e) = absurd (cc e)
 room-of false n offset answer = refl
 
 -- logs of which the parts are those with one more record
-pub grown : (l : PartitionLogs) (key : Key) (place offset : ℕ) (keys : List Key) (logs : List (List ℕ)) → AreLogs l → place ≡ place_in l key → length key ≤ longest_key
-    → keys ≡ with_key l.keys key → logs ≡ slice_set l.logs place (get_or l.logs place [] ++ number_of l.keys key ∷ [])
+pub grown : (l : PartitionLogs) (key : Key) (place offset : ℕ) (keys : List Key) (logs : List (List ℕ)) → IsValidLogs l → place ≡ place_in l key → length key ≤ longest_key
+    → keys ≡ with_key l.keys key → logs ≡ slice_set l.logs place (get_or l.logs place [] ++ id_of l.keys key ∷ [])
     → Answers {T = ℕ} (if finds_no_room l.keys (length (get_or l.logs place [])) key then Err r.LogFull else Ok (length (get_or l.logs place []))) (Ok offset)
-    → (let new : PartitionLogs = record { partitions = l.partitions; keys = keys; logs = logs } in (new ≡ with_record l key) × AreLogs new)
+    → (let new : PartitionLogs = record { partitions = l.partitions; keys = keys; logs = logs } in (new ≡ with_record l key) × IsValidLogs new)
 grown l key place offset keys logs a at short ks ls answer =
     let same : (let new : PartitionLogs = record { partitions = l.partitions; keys = keys; logs = logs } in new) ≡ with_record l key = rw (ks, ls, at) refl in
     let room : is_full_for l key ≡ false = ap (λ p. finds_no_room l.keys (length (get_or l.logs p [])) key) (sym at) ∙ room-of _ _ _ answer in
-    (same, subst AreLogs (sym same) (kept l key a (place_of-below l.partitions key a.some_partitions) short room))
+    (same, subst IsValidLogs (sym same) (valid l key a (place_of-below l.partitions key a.some_partitions) short room))
