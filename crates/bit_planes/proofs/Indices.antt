@@ -7,7 +7,7 @@ use Rattle.std.proofs.lemmas.List.{length-map}
 use Rattle.std.proofs.lemmas.List.Sorted.{searched}
 use Rattle.std.proofs.lemmas.Bool.{cases_lt, lt-ltb, le-ltb}
 use Rattle.std.proofs.lemmas.Bool.Decides.{nat_tests}
-use Rattle.bit_planes.specs.PartitionSet.{PartitionSet, partitions, empty_set}
+use Rattle.bit_planes.specs.PartitionSet.{PartitionSet, partitions_of, empty_set}
 use Rattle.bit_planes.specs.SetRows.{SetRows, IsValidRows, row_of, with_row, IsRising, IsIndexOf, IsGapFor, member_at, find_row, put_row}
 use Rattle.bit_planes.proofs.RowLaws.{rising_rest, row_of-this, row_of-other, are_rows-with}
 
@@ -118,7 +118,7 @@ pub record IsPut (old new : SetRows) (m : ℕ) (s : PartitionSet) : Type 0 where
   pub others : (n : ℕ) → n ≢ m → row_of new n ≡ row_of old n
   pub valid : IsValidRows new
 
-puts : (old new : SetRows) (m : ℕ) (s : PartitionSet) → IsValidRows old → partitions s ≡ old.below → new ≡ with_row old m s → IsPut old new m s
+puts : (old new : SetRows) (m : ℕ) (s : PartitionSet) → IsValidRows old → partitions_of s ≡ old.partitions → new ≡ with_row old m s → IsPut old new m s
 puts old new m s valid below e = record {
   value = e;
   this = ap (λ r. row_of r m) e ∙ row_of-this old m s;
@@ -126,16 +126,16 @@ puts old new m s valid below e = record {
   valid = subst IsValidRows (sym e) (are_rows-with old m s below valid);
 }
 
-pub puts_there : (inside old : SetRows) (m i : ℕ) (s : PartitionSet) → inside ≡ old → IsValidRows inside → partitions s ≡ old.below → IsIndexOf old.rows m i → IsPut old (record inside { rows = set inside.rows i (m, s) }) m s
+pub puts_there : (inside old : SetRows) (m i : ℕ) (s : PartitionSet) → inside ≡ old → IsValidRows inside → partitions_of s ≡ old.partitions → IsIndexOf old.rows m i → IsPut old (record inside { rows = set inside.rows i (m, s) }) m s
 puts_there inside old m i s seen valid below index =
     subst (λ (r : SetRows). IsPut r (record inside { rows = set inside.rows i (m, s) }) m s) seen
-    (puts inside (record inside { rows = set inside.rows i (m, s) }) m s valid (below ∙ ap (λ (r : SetRows). r.below) (sym seen))
+    (puts inside (record inside { rows = set inside.rows i (m, s) }) m s valid (below ∙ ap (λ (r : SetRows). r.partitions) (sym seen))
     (ap (λ (rows : Rows). record inside { rows = rows }) (sym (put_there inside.rows m i s valid.rising (subst (λ (r : SetRows). IsIndexOf r.rows m i) (sym seen) index)))))
 
-pub puts_between : (inside old : SetRows) (rows : Rows) (m i : ℕ) (s : PartitionSet) → inside ≡ old → IsValidRows inside → partitions s ≡ old.below → IsGapFor old.rows m i → rows ≡ insert inside.rows i (m, s) → IsPut old (record inside { rows = rows }) m s
+pub puts_between : (inside old : SetRows) (rows : Rows) (m i : ℕ) (s : PartitionSet) → inside ≡ old → IsValidRows inside → partitions_of s ≡ old.partitions → IsGapFor old.rows m i → rows ≡ insert inside.rows i (m, s) → IsPut old (record inside { rows = rows }) m s
 puts_between inside old rows m i s seen valid below gap e =
     subst (λ (r : SetRows). IsPut r (record inside { rows = rows }) m s) seen
-    (puts inside (record inside { rows = rows }) m s valid (below ∙ ap (λ (r : SetRows). r.below) (sym seen))
+    (puts inside (record inside { rows = rows }) m s valid (below ∙ ap (λ (r : SetRows). r.partitions) (sym seen))
     (ap (λ (rows : Rows). record inside { rows = rows }) (e ∙ sym (put_between inside.rows m i s (subst (λ (r : SetRows). IsGapFor r.rows m i) (sym seen) gap)))))
 
 -- ---- what a look-up gives

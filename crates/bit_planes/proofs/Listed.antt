@@ -3,7 +3,7 @@ use Rattle.std.proofs.Common.{ℕ, zero, suc, ◌≡◌, ◌+◌, ◌<◌, Bool,
 use Rattle.std.specs.Prelude.{if◌then◌else◌}
 use Rattle.std.proofs.lemmas.Bool.{cases_lt}
 use Rattle.std.proofs.lemmas.List.{drop-append-le, drop_all}
-use Rattle.bit_planes.specs.PartitionSet.{PartitionSet, partitions, is_in, one, how_many, list_where, rank, elements}
+use Rattle.bit_planes.specs.PartitionSet.{PartitionSet, partitions_of, is_in, one, how_many, list_where, rank, elements}
 use Rattle.bit_planes.proofs.Sets.{in_below, rank_is, rank_in, how_many-rises}
 
 one_listed : (x : Bool) (n : ℕ) → length (if x then n ∷ [] else []) ≡ one x
@@ -46,20 +46,20 @@ pub elements-at : (s : PartitionSet) (q : ℕ) → is_in s q ≡ true → drop (
 unfolding elements
 elements-at s q h =
     let next : rank s (q + 1) ≡ suc (how_many q (is_in s)) = omega (arith, rank_in s q h, rank_is s q) in
-    rw (next, rank_is s q) (list_where-at (partitions s) (is_in s) q (in_below s q h) h)
+    rw (next, rank_is s q) (list_where-at (partitions_of s) (is_in s) q (in_below s q h) h)
 
 -- all members
 pub elements-first : (s : PartitionSet) → drop (rank s 0) (elements s) ≡ elements s
 elements-first s = rw (rank_is s 0) refl
 
 -- no member
-pub elements-end : (s : PartitionSet) (r : ℕ) → r ≡ rank s (partitions s) → drop r (elements s) ≡ []
+pub elements-end : (s : PartitionSet) (r : ℕ) → r ≡ rank s (partitions_of s) → drop r (elements s) ≡ []
 unfolding elements
 elements-end s r e =
-    let len = length-list_where (partitions s) (is_in s) in
-    drop_all r (list_where (partitions s) (is_in s)) (omega (arith, e, rank_is s (partitions s)))
+    let len = length-list_where (partitions_of s) (is_in s) in
+    drop_all r (list_where (partitions_of s) (is_in s)) (omega (arith, e, rank_is s (partitions_of s)))
 
 -- as many as there are
-pub length-elements : (s : PartitionSet) → length (elements s) ≡ rank s (partitions s)
+pub length-elements : (s : PartitionSet) → length (elements s) ≡ rank s (partitions_of s)
 unfolding elements
-length-elements s = length-list_where (partitions s) (is_in s) ∙ sym (rank_is s (partitions s))
+length-elements s = length-list_where (partitions_of s) (is_in s) ∙ sym (rank_is s (partitions_of s))

@@ -3,7 +3,7 @@ use Rattle.std.proofs.Common.{ℕ, zero, suc, ◌≡◌, ◌≢◌, ◌<◌, ◌
 use Rattle.std.specs.Prelude.{nat_lt, if◌then◌else◌}
 use Rattle.std.proofs.lemmas.Bool.{cases_lt, cases_eq, le-ltb}
 use Rattle.std.proofs.lemmas.Bool.Decides.{nat_tests}
-use Rattle.bit_planes.specs.PartitionSet.{PartitionSet, partitions}
+use Rattle.bit_planes.specs.PartitionSet.{PartitionSet, partitions_of}
 use Rattle.bit_planes.specs.SetRows.{SetRows, IsValidRows, AreOver, IsRising, find_row, row_of, put_row, with_row}
 
 eq_self : (n : ℕ) → (n == n) ≡ true
@@ -60,7 +60,7 @@ pub row_of-other : (r : SetRows) (m : ℕ) (s : PartitionSet) (n : ℕ) → n �
 row_of-other r m s n ne = found_other r.rows m s n ne
 
 -- ---- sets over one P
-pub over_put : (p : ℕ) (rows : List (ℕ × PartitionSet)) (m : ℕ) (s : PartitionSet) → partitions s ≡ p → AreOver p rows → AreOver p (put_row rows m s)
+pub over_put : (p : ℕ) (rows : List (ℕ × PartitionSet)) (m : ℕ) (s : PartitionSet) → partitions_of s ≡ p → AreOver p rows → AreOver p (put_row rows m s)
 over_put p [] m s e over = (e, tt)
 over_put p (row ∷ rows) m s e over = elim (row.0 == m) as (λ h. AreOver p (if h then (m, s) ∷ rows else if nat_lt m row.0 then (m, s) ∷ row ∷ rows else row ∷ put_row rows m s)) [
   | true ↦ (e, over.1)
@@ -70,14 +70,14 @@ over_put p (row ∷ rows) m s e over = elim (row.0 == m) as (λ h. AreOver p (if
   ]
 ]
 
-pub over_found : (p : ℕ) (rows : List (ℕ × PartitionSet)) (m : ℕ) (s : PartitionSet) → AreOver p rows → find_row rows m ≡ Some s → partitions s ≡ p
+pub over_found : (p : ℕ) (rows : List (ℕ × PartitionSet)) (m : ℕ) (s : PartitionSet) → AreOver p rows → find_row rows m ≡ Some s → partitions_of s ≡ p
 over_found p [] m s over e = absurd (cc e)
-over_found p (row ∷ rows) m s over e = elim (row.0 == m) as (λ h. (if h then Some row.1 else find_row rows m) ≡ Some s → partitions s ≡ p) [
-  | true ↦ λ f. let same : row.1 ≡ s = cc f in ap partitions (sym same) ∙ over.0
+over_found p (row ∷ rows) m s over e = elim (row.0 == m) as (λ h. (if h then Some row.1 else find_row rows m) ≡ Some s → partitions_of s ≡ p) [
+  | true ↦ λ f. let same : row.1 ≡ s = cc f in ap partitions_of (sym same) ∙ over.0
   | false ↦ λ f. over_found p rows m s over.1 f
 ] e
 
-pub over_at : (p : ℕ) (rows : List (ℕ × PartitionSet)) (i : ℕ) (d : ℕ × PartitionSet) → AreOver p rows → i < length rows → partitions (get_or rows i d).1 ≡ p
+pub over_at : (p : ℕ) (rows : List (ℕ × PartitionSet)) (i : ℕ) (d : ℕ × PartitionSet) → AreOver p rows → i < length rows → partitions_of (get_or rows i d).1 ≡ p
 over_at p [] i d over lt = absurd (omega arith)
 over_at p (row ∷ rows) zero d over lt = over.0
 over_at p (row ∷ rows) (suc i) d over lt = over_at p rows i d over.1 (omega arith)
@@ -128,12 +128,12 @@ rising_put (row ∷ rows) m s rising =
       ] refl
     ] refl
 
-pub are_rows-with : (r : SetRows) (m : ℕ) (s : PartitionSet) → partitions s ≡ r.below → IsValidRows r → IsValidRows (with_row r m s)
+pub are_rows-with : (r : SetRows) (m : ℕ) (s : PartitionSet) → partitions_of s ≡ r.partitions → IsValidRows r → IsValidRows (with_row r m s)
 are_rows-with r m s e valid = record {
   some = valid.some;
   few = valid.few;
   rising = rising_put r.rows m s valid.rising;
-  over = over_put r.below r.rows m s e valid.over;
+  over = over_put r.partitions r.rows m s e valid.over;
 }
 
 -- a member above all others goes to the end
@@ -179,6 +179,6 @@ same_found (r ∷ rs) (t ∷ ts) up up' same =
       ]
     ]
 
-pub same_rows : (r s : SetRows) → IsValidRows r → IsValidRows s → r.below ≡ s.below → ((m : ℕ) → row_of r m ≡ row_of s m) → r ≡ s
+pub same_rows : (r s : SetRows) → IsValidRows r → IsValidRows s → r.partitions ≡ s.partitions → ((m : ℕ) → row_of r m ≡ row_of s m) → r ≡ s
 same_rows r s valid valid' below same =
-    ap (λ n. record r { below = n }) below ∙ ap (λ (rows : List (ℕ × PartitionSet)). record s { rows = rows }) (same_found r.rows s.rows valid.rising valid'.rising same)
+    ap (λ n. record r { partitions = n }) below ∙ ap (λ (rows : List (ℕ × PartitionSet)). record s { rows = rows }) (same_found r.rows s.rows valid.rising valid'.rising same)

@@ -4,15 +4,15 @@ use Rattle.std.specs.Prelude.{slice_set, nat_lt}
 use Rattle.std.proofs.lemmas.Bool.{cases_lt, cases_eq}
 use Rattle.std.proofs.lemmas.Bool.Decides.{nat_tests}
 use Rattle.std.proofs.lemmas.List.{get_or-take, length-take-le, get_or-set_other, get_or-set_same, get_or-replicate, length-set, length-replicate}
-use Rattle.bit_planes.specs.PartitionSet.{PartitionSet, partitions, is_in, set_where, rank, union, minus, lowest, full_set, empty_set, with_one, without_one}
+use Rattle.bit_planes.specs.PartitionSet.{PartitionSet, partitions_of, is_in, set_where, rank, union, minus, lowest, full_set, empty_set, with_one, without_one}
 use Rattle.bit_planes.proofs.Sets.{partitions_where, in_where, rank_is, rank_in, rank_out, in_without, partitions_without, same_set}
 
 -- the flags below p
 abbrev pub seen : ℕ → List Bool → PartitionSet
 seen p flags = record { flags = take p flags }
 
-seen_below : (p : ℕ) (flags : List Bool) → p ≤ length flags → partitions (seen p flags) ≡ p
-unfolding partitions
+seen_below : (p : ℕ) (flags : List Bool) → p ≤ length flags → partitions_of (seen p flags) ≡ p
+unfolding partitions_of
 seen_below p flags le = length-take-le p flags le
 
 seen_flag : (p : ℕ) (flags : List Bool) (q : ℕ) → q < p → is_in (seen p flags) q ≡ get_or flags q false
@@ -20,8 +20,8 @@ unfolding is_in
 seen_flag p flags q lt = get_or-take p flags q false lt
 
 -- P and the flags of what is seen
-pub below_is : (p : ℕ) (flags : List Bool) (s : PartitionSet) → p ≤ 4096 → length flags ≡ 4096 → seen p flags ≡ s → partitions s ≡ p
-below_is p flags s few len e = sym (ap partitions e) ∙ seen_below p flags (omega arith)
+pub below_is : (p : ℕ) (flags : List Bool) (s : PartitionSet) → p ≤ 4096 → length flags ≡ 4096 → seen p flags ≡ s → partitions_of s ≡ p
+below_is p flags s few len e = sym (ap partitions_of e) ∙ seen_below p flags (omega arith)
 
 pub flag_is : (p : ℕ) (flags : List Bool) (s : PartitionSet) (q : ℕ) → q < p → seen p flags ≡ s → get_or flags q false ≡ is_in s q
 flag_is p flags s q lt e = sym (seen_flag p flags q lt) ∙ ap (λ t. is_in t q) e
@@ -75,15 +75,15 @@ pub none_at : (q : ℕ) → q < 4096 → get_or (replicate 4096 false) q false �
 none_at q lt = get_or-replicate 4096 q false false lt
 
 -- ---- what a loop has marked below P, as the set that it makes
-pub seen_union : (p n : ℕ) (old flags : List Bool) (s t : PartitionSet) → p ≤ 4096 → partitions s ≡ p → p ≤ n → AreMarked old (λ q. is_in s q || is_in t q) n flags → seen p flags ≡ union s t
+pub seen_union : (p n : ℕ) (old flags : List Bool) (s t : PartitionSet) → p ≤ 4096 → partitions_of s ≡ p → p ≤ n → AreMarked old (λ q. is_in s q || is_in t q) n flags → seen p flags ≡ union s t
 unfolding union
 seen_union p n old flags s t few below le m = marked_all old _ p n flags few le m ∙ ap (λ k. set_where k (λ q. is_in s q || is_in t q)) (sym below)
 
-pub seen_minus : (p n : ℕ) (old flags : List Bool) (s t : PartitionSet) → p ≤ 4096 → partitions s ≡ p → p ≤ n → AreMarked old (λ q. is_in s q && not (is_in t q)) n flags → seen p flags ≡ minus s t
+pub seen_minus : (p n : ℕ) (old flags : List Bool) (s t : PartitionSet) → p ≤ 4096 → partitions_of s ≡ p → p ≤ n → AreMarked old (λ q. is_in s q && not (is_in t q)) n flags → seen p flags ≡ minus s t
 unfolding minus
 seen_minus p n old flags s t few below le m = marked_all old _ p n flags few le m ∙ ap (λ k. set_where k (λ q. is_in s q && not (is_in t q))) (sym below)
 
-pub seen_lowest : (p n : ℕ) (old flags : List Bool) (k : ℕ) (s : PartitionSet) → p ≤ 4096 → partitions s ≡ p → p ≤ n → AreMarked old (λ q. is_in s q && nat_lt (rank s q) k) n flags → seen p flags ≡ lowest k s
+pub seen_lowest : (p n : ℕ) (old flags : List Bool) (k : ℕ) (s : PartitionSet) → p ≤ 4096 → partitions_of s ≡ p → p ≤ n → AreMarked old (λ q. is_in s q && nat_lt (rank s q) k) n flags → seen p flags ≡ lowest k s
 unfolding lowest
 seen_lowest p n old flags k s few below le m = marked_all old _ p n flags few le m ∙ ap (λ j. set_where j (λ q. is_in s q && nat_lt (rank s q) k)) (sym below)
 
@@ -139,7 +139,7 @@ seen_without p flags s n few len e lt =
     ]) ∙ ap (λ k. set_where k f) (sym below)
 
 -- a number that is not in the set is taken out of it
-pub without_past : (s : PartitionSet) (n : ℕ) → partitions s ≤ n → s ≡ without_one s n
+pub without_past : (s : PartitionSet) (n : ℕ) → partitions_of s ≤ n → s ≡ without_one s n
 without_past s n le = same_set s (without_one s n) (sym (partitions_without s n)) (λ q lt. let other : q ≢ n = omega arith in and_other (is_in s q) (q == n) (elsewhere q n other) ∙ sym (in_without s n q))
 
 -- ---- the lowest members, kept as far as n with so many left

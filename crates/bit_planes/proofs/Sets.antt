@@ -3,7 +3,7 @@ use Rattle.std.proofs.Common.{ℕ, zero, suc, ◌≡◌, ◌+◌, ◌<◌, ◌�
 use Rattle.std.specs.Prelude.{nat_lt, slice_index_or, IsTrue, ◌↔◌}
 use Rattle.std.proofs.lemmas.Bool.{cases_lt, lt-ltb, le-ltb}
 use Rattle.std.proofs.lemmas.Bool.Decides.{nat_tests}
-use Rattle.bit_planes.specs.PartitionSet.{PartitionSet, partitions, is_in, flags_where, set_where, one, how_many, any_below, rank, size, empty_set, full_set, with_one, without_one, union, minus, lowest, meets, is_within, is_same}
+use Rattle.bit_planes.specs.PartitionSet.{PartitionSet, partitions_of, is_in, flags_where, set_where, one, how_many, any_below, rank, size, empty_set, full_set, with_one, without_one, union, minus, lowest, meets, is_within, is_same}
 
 -- ---- what stands behind a set
 length-flags_where : (p : ℕ) (f : ℕ → Bool) → length (flags_where p f) ≡ p
@@ -27,57 +27,57 @@ same_flags (x ∷ xs) [] len same = absurd (omega arith)
 same_flags (x ∷ xs) (y ∷ ys) len same =
     rw (same 0 (omega arith)) (ap (λ zs. y ∷ zs) (same_flags xs ys (omega arith) (λ q lt. same (suc q) (omega arith))))
 
-pub partitions_where : (p : ℕ) (f : ℕ → Bool) → partitions (set_where p f) ≡ p
-unfolding partitions set_where
+pub partitions_where : (p : ℕ) (f : ℕ → Bool) → partitions_of (set_where p f) ≡ p
+unfolding partitions_of set_where
 partitions_where p f = length-flags_where p f
 
 pub in_where : (p : ℕ) (f : ℕ → Bool) (q : ℕ) → q < p → is_in (set_where p f) q ≡ f q
 unfolding is_in set_where
 in_where p f q lt = flags_where-at p f q lt
 
-pub past : (s : PartitionSet) (q : ℕ) → partitions s ≤ q → is_in s q ≡ false
-unfolding partitions is_in
+pub past : (s : PartitionSet) (q : ℕ) → partitions_of s ≤ q → is_in s q ≡ false
+unfolding partitions_of is_in
 past s q le = flags-past s.flags q le
 
-pub same_set : (s t : PartitionSet) → partitions s ≡ partitions t → ((q : ℕ) → q < partitions s → is_in s q ≡ is_in t q) → s ≡ t
-unfolding partitions is_in
+pub same_set : (s t : PartitionSet) → partitions_of s ≡ partitions_of t → ((q : ℕ) → q < partitions_of s → is_in s q ≡ is_in t q) → s ≡ t
+unfolding partitions_of is_in
 same_set s t len same = ap (λ xs. record { flags = xs }) (same_flags s.flags t.flags len same)
 
 pub past_where : (p : ℕ) (f : ℕ → Bool) (q : ℕ) → p ≤ q → is_in (set_where p f) q ≡ false
 past_where p f q le = let e = partitions_where p f in past (set_where p f) q (omega arith)
 
-pub in_below : (s : PartitionSet) (q : ℕ) → is_in s q ≡ true → q < partitions s
-in_below s q h = elim (cases_lt q (partitions s)) [ inl lt ↦ lt | inr le ↦ let e = past s q le in absurd (grind (arith, h, e)) ]
+pub in_below : (s : PartitionSet) (q : ℕ) → is_in s q ≡ true → q < partitions_of s
+in_below s q h = elim (cases_lt q (partitions_of s)) [ inl lt ↦ lt | inr le ↦ let e = past s q le in absurd (grind (arith, h, e)) ]
 
 -- ---- membership
 in_where_cut : (p : ℕ) (f : ℕ → Bool) (q : ℕ) → (p ≤ q → f q ≡ false) → is_in (set_where p f) q ≡ f q
 in_where_cut p f q cut = elim (cases_lt q p) [ inl lt ↦ in_where p f q lt | inr le ↦ past_where p f q le ∙ sym (cut le) ]
 
-pub partitions_union : (s t : PartitionSet) → partitions (union s t) ≡ partitions s
+pub partitions_union : (s t : PartitionSet) → partitions_of (union s t) ≡ partitions_of s
 unfolding union
-partitions_union s t = partitions_where (partitions s) _
+partitions_union s t = partitions_where (partitions_of s) _
 
-pub partitions_minus : (s t : PartitionSet) → partitions (minus s t) ≡ partitions s
+pub partitions_minus : (s t : PartitionSet) → partitions_of (minus s t) ≡ partitions_of s
 unfolding minus
-partitions_minus s t = partitions_where (partitions s) _
+partitions_minus s t = partitions_where (partitions_of s) _
 
-pub partitions_lowest : (n : ℕ) (s : PartitionSet) → partitions (lowest n s) ≡ partitions s
+pub partitions_lowest : (n : ℕ) (s : PartitionSet) → partitions_of (lowest n s) ≡ partitions_of s
 unfolding lowest
-partitions_lowest n s = partitions_where (partitions s) _
+partitions_lowest n s = partitions_where (partitions_of s) _
 
-pub partitions_with : (s : PartitionSet) (n : ℕ) → partitions (with_one s n) ≡ partitions s
+pub partitions_with : (s : PartitionSet) (n : ℕ) → partitions_of (with_one s n) ≡ partitions_of s
 unfolding with_one
-partitions_with s n = partitions_where (partitions s) _
+partitions_with s n = partitions_where (partitions_of s) _
 
-pub partitions_without : (s : PartitionSet) (n : ℕ) → partitions (without_one s n) ≡ partitions s
+pub partitions_without : (s : PartitionSet) (n : ℕ) → partitions_of (without_one s n) ≡ partitions_of s
 unfolding without_one
-partitions_without s n = partitions_where (partitions s) _
+partitions_without s n = partitions_where (partitions_of s) _
 
-pub partitions_empty : (p : ℕ) → partitions (empty_set p) ≡ p
+pub partitions_empty : (p : ℕ) → partitions_of (empty_set p) ≡ p
 unfolding empty_set
 partitions_empty p = partitions_where p _
 
-pub partitions_full : (p : ℕ) → partitions (full_set p) ≡ p
+pub partitions_full : (p : ℕ) → partitions_of (full_set p) ≡ p
 unfolding full_set
 partitions_full p = partitions_where p _
 
@@ -89,28 +89,28 @@ not_first : (x y : Bool) → x ≡ false → (x && y) ≡ false
 not_first true y h = absurd (grind (arith, h))
 not_first false y h = refl
 
-pub in_union : (s t : PartitionSet) (q : ℕ) → partitions s ≡ partitions t → is_in (union s t) q ≡ (is_in s q || is_in t q)
+pub in_union : (s t : PartitionSet) (q : ℕ) → partitions_of s ≡ partitions_of t → is_in (union s t) q ≡ (is_in s q || is_in t q)
 unfolding union
-in_union s t q len = in_where_cut (partitions s) _ q (λ le. neither (is_in s q) (is_in t q) (past s q le) (past t q (omega arith)))
+in_union s t q len = in_where_cut (partitions_of s) _ q (λ le. neither (is_in s q) (is_in t q) (past s q le) (past t q (omega arith)))
 
 pub in_minus : (s t : PartitionSet) (q : ℕ) → is_in (minus s t) q ≡ (is_in s q && not (is_in t q))
 unfolding minus
-in_minus s t q = in_where_cut (partitions s) _ q (λ le. not_first (is_in s q) (not (is_in t q)) (past s q le))
+in_minus s t q = in_where_cut (partitions_of s) _ q (λ le. not_first (is_in s q) (not (is_in t q)) (past s q le))
 
 pub in_lowest : (n : ℕ) (s : PartitionSet) (q : ℕ) → is_in (lowest n s) q ≡ (is_in s q && nat_lt (rank s q) n)
 unfolding lowest
-in_lowest n s q = in_where_cut (partitions s) _ q (λ le. not_first (is_in s q) (nat_lt (rank s q) n) (past s q le))
+in_lowest n s q = in_where_cut (partitions_of s) _ q (λ le. not_first (is_in s q) (nat_lt (rank s q) n) (past s q le))
 
 other_id : (q n : ℕ) → n < q → (q == n) ≡ false
 other_id q n lt = grind (arith, nat_tests)
 
-pub in_with : (s : PartitionSet) (n q : ℕ) → n < partitions s → is_in (with_one s n) q ≡ (is_in s q || (q == n))
+pub in_with : (s : PartitionSet) (n q : ℕ) → n < partitions_of s → is_in (with_one s n) q ≡ (is_in s q || (q == n))
 unfolding with_one
-in_with s n q lt = in_where_cut (partitions s) _ q (λ le. neither (is_in s q) (q == n) (past s q le) (other_id q n (omega arith)))
+in_with s n q lt = in_where_cut (partitions_of s) _ q (λ le. neither (is_in s q) (q == n) (past s q le) (other_id q n (omega arith)))
 
 pub in_without : (s : PartitionSet) (n q : ℕ) → is_in (without_one s n) q ≡ (is_in s q && not (q == n))
 unfolding without_one
-in_without s n q = in_where_cut (partitions s) _ q (λ le. not_first (is_in s q) (not (q == n)) (past s q le))
+in_without s n q = in_where_cut (partitions_of s) _ q (λ le. not_first (is_in s q) (not (q == n)) (past s q le))
 
 pub in_empty : (p q : ℕ) → is_in (empty_set p) q ≡ false
 unfolding empty_set
@@ -168,23 +168,23 @@ pub rank_is : (s : PartitionSet) (q : ℕ) → rank s q ≡ how_many q (is_in s)
 unfolding rank
 rank_is s q = refl
 
-pub size_is : (s : PartitionSet) → size s ≡ how_many (partitions s) (is_in s)
+pub size_is : (s : PartitionSet) → size s ≡ how_many (partitions_of s) (is_in s)
 unfolding size
-size_is s = rank_is s (partitions s)
+size_is s = rank_is s (partitions_of s)
 
 pub rank_next : (s : PartitionSet) (q : ℕ) → rank s (suc q) ≡ rank s q + one (is_in s q)
 unfolding rank
 rank_next s q = refl
 
 pub rank_most : (s : PartitionSet) (q : ℕ) → rank s q ≤ size s
-rank_most s q = elim (cases_lt q (partitions s)) [
-  | inl lt ↦ omega (arith, rank_is s q, size_is s, how_many-rises q (partitions s) (is_in s) (omega arith))
-  | inr le ↦ omega (arith, rank_is s q, size_is s, how_many-stops (partitions s) q (is_in s) (past s) le)
+rank_most s q = elim (cases_lt q (partitions_of s)) [
+  | inl lt ↦ omega (arith, rank_is s q, size_is s, how_many-rises q (partitions_of s) (is_in s) (omega arith))
+  | inr le ↦ omega (arith, rank_is s q, size_is s, how_many-stops (partitions_of s) q (is_in s) (past s) le)
 ]
 
 -- from P on every member is below
-pub rank_past : (s : PartitionSet) (q : ℕ) → partitions s ≤ q → rank s q ≡ size s
-rank_past s q le = omega (arith, rank_is s q, size_is s, how_many-stops (partitions s) q (is_in s) (past s) le)
+pub rank_past : (s : PartitionSet) (q : ℕ) → partitions_of s ≤ q → rank s q ≡ size s
+rank_past s q le = omega (arith, rank_is s q, size_is s, how_many-stops (partitions_of s) q (is_in s) (past s) le)
 
 one_of : (x : Bool) → x ≡ true → one x ≡ 1
 one_of true h = refl
@@ -193,16 +193,16 @@ one_of false h = absurd (grind (arith, h))
 pub rank_below : (s : PartitionSet) (q : ℕ) → is_in s q ≡ true → rank s q < size s
 rank_below s q h = omega (arith, rank_most s (suc q), rank_next s q, one_of (is_in s q) h)
 
-pub size_most : (s : PartitionSet) → size s ≤ partitions s
-size_most s = omega (arith, size_is s, how_many-le (partitions s) (is_in s))
+pub size_most : (s : PartitionSet) → size s ≤ partitions_of s
+size_most s = omega (arith, size_is s, how_many-le (partitions_of s) (is_in s))
 
 pub size_empty : (p : ℕ) → size (empty_set p) ≡ 0
-size_empty p = size_is (empty_set p) ∙ how_many-none (partitions (empty_set p)) (is_in (empty_set p)) (λ q lt. in_empty p q)
+size_empty p = size_is (empty_set p) ∙ how_many-none (partitions_of (empty_set p)) (is_in (empty_set p)) (λ q lt. in_empty p q)
 
 pub size_full : (p : ℕ) → size (full_set p) ≡ p
 size_full p =
     let e = partitions_full p in
-    size_is (full_set p) ∙ how_many-all (partitions (full_set p)) (is_in (full_set p)) (λ q lt. in_full p q (omega arith)) ∙ e
+    size_is (full_set p) ∙ how_many-all (partitions_of (full_set p)) (is_in (full_set p)) (λ q lt. in_full p q (omega arith)) ∙ e
 
 lowest_step : (x : Bool) (r n : ℕ) → min n r + one (x && nat_lt r n) ≡ min n (r + one x)
 lowest_step true r n = grind (arith, nat_tests)
@@ -216,7 +216,7 @@ rank_lowest n s (suc q) =
 pub size_lowest : (n : ℕ) (s : PartitionSet) → size (lowest n s) ≡ min n (size s)
 size_lowest n s =
     let e = partitions_lowest n s in
-    sym (rank_past (lowest n s) (partitions s) (omega arith)) ∙ rank_lowest n s (partitions s) ∙ ap (λ k. min n k) (rank_past s (partitions s) (omega arith))
+    sym (rank_past (lowest n s) (partitions_of s) (omega arith)) ∙ rank_lowest n s (partitions_of s) ∙ ap (λ k. min n k) (rank_past s (partitions_of s) (omega arith))
 
 pub one_or : (x y : Bool) → one x + one y ≤ 1 → one (x || y) ≡ one x + one y
 one_or true true h = absurd (omega arith)
@@ -230,21 +230,21 @@ one_minus true false h = refl
 one_minus false true h = absurd (omega arith)
 one_minus false false h = refl
 
-size_over : (s : PartitionSet) (p : ℕ) → partitions s ≡ p → size s ≡ how_many p (is_in s)
+size_over : (s : PartitionSet) (p : ℕ) → partitions_of s ≡ p → size s ≡ how_many p (is_in s)
 size_over s p e = size_is s ∙ ap (λ n. how_many n (is_in s)) e
 
-pub size_union : (s t : PartitionSet) → partitions s ≡ partitions t → ((q : ℕ) → one (is_in s q) + one (is_in t q) ≤ 1) → size (union s t) ≡ size s + size t
+pub size_union : (s t : PartitionSet) → partitions_of s ≡ partitions_of t → ((q : ℕ) → one (is_in s q) + one (is_in t q) ≤ 1) → size (union s t) ≡ size s + size t
 size_union s t len apart =
-    let p : ℕ = partitions s in
+    let p : ℕ = partitions_of s in
     let add = how_many-add p (is_in s) (is_in t) (is_in (union s t)) (λ q lt. rw (in_union s t q len) (one_or (is_in s q) (is_in t q) (apart q))) in
     omega (arith, add, size_over (union s t) p (partitions_union s t), size_over s p refl, size_over t p (sym len))
 
 pub one_in_minus : (s t : PartitionSet) (q : ℕ) → one (is_in t q) ≤ one (is_in s q) → one (is_in (minus s t) q) + one (is_in t q) ≡ one (is_in s q)
 one_in_minus s t q within = rw (in_minus s t q) (one_minus (is_in s q) (is_in t q) within)
 
-pub size_minus : (s t : PartitionSet) → partitions s ≡ partitions t → ((q : ℕ) → one (is_in t q) ≤ one (is_in s q)) → size (minus s t) + size t ≡ size s
+pub size_minus : (s t : PartitionSet) → partitions_of s ≡ partitions_of t → ((q : ℕ) → one (is_in t q) ≤ one (is_in s q)) → size (minus s t) + size t ≡ size s
 size_minus s t len within =
-    let p : ℕ = partitions s in
+    let p : ℕ = partitions_of s in
     let add = how_many-add p (is_in (minus s t)) (is_in t) (is_in s) (λ q lt. sym (one_in_minus s t q (within q))) in
     omega (arith, add, size_over (minus s t) p (partitions_minus s t), size_over s p refl, size_over t p (sym len))
 
@@ -298,23 +298,23 @@ not_alone false y h = refl
 pub within_says : (s t : PartitionSet) → is_within s t ≡ true → (q : ℕ) → is_in s q ≡ true → is_in t q ≡ true
 unfolding is_within
 within_says s t h q e =
-    let none = any_below-none (partitions s) (λ k. is_in s k && not (is_in t k)) (not_false (any_below (partitions s) (λ k. is_in s k && not (is_in t k))) h) in
+    let none = any_below-none (partitions_of s) (λ k. is_in s k && not (is_in t k)) (not_false (any_below (partitions_of s) (λ k. is_in s k && not (is_in t k))) h) in
     second_too (is_in s q) (is_in t q) (none q (in_below s q e)) e
 
 pub within_of : (s t : PartitionSet) → ((q : ℕ) → is_in s q ≡ true → is_in t q ≡ true) → is_within s t ≡ true
 unfolding is_within
-within_of s t h = ap not (any_below-of_none (partitions s) (λ k. is_in s k && not (is_in t k)) (λ q lt. not_alone (is_in s q) (is_in t q) (h q)))
+within_of s t h = ap not (any_below-of_none (partitions_of s) (λ k. is_in s k && not (is_in t k)) (λ q lt. not_alone (is_in s q) (is_in t q) (h q)))
 
 pub meets_says : (s t : PartitionSet) → meets s t ≡ false → (q : ℕ) → (is_in s q && is_in t q) ≡ false
 unfolding meets
-meets_says s t h q = elim (cases_lt q (partitions s)) [
-  | inl lt ↦ any_below-none (partitions s) (λ k. is_in s k && is_in t k) h q lt
+meets_says s t h q = elim (cases_lt q (partitions_of s)) [
+  | inl lt ↦ any_below-none (partitions_of s) (λ k. is_in s k && is_in t k) h q lt
   | inr le ↦ not_first (is_in s q) (is_in t q) (past s q le)
 ]
 
 pub meets_of : (s t : PartitionSet) → ((q : ℕ) → (is_in s q && is_in t q) ≡ false) → meets s t ≡ false
 unfolding meets
-meets_of s t none = any_below-of_none (partitions s) (λ k. is_in s k && is_in t k) (λ q lt. none q)
+meets_of s t none = any_below-of_none (partitions_of s) (λ k. is_in s k && is_in t k) (λ q lt. none q)
 
 pub both_true : (x y : Bool) → (x && y) ≡ true → (x ≡ true) × (y ≡ true)
 both_true true y h = (refl, h)
@@ -334,13 +334,13 @@ eq_self n = grind (arith, nat_tests)
 pub same_says : (s t : PartitionSet) → is_same s t ≡ true → s ≡ t
 unfolding is_same
 same_says s t h =
-    let parts = both_true (partitions s == partitions t) (is_within s t && is_within t s) h in
+    let parts = both_true (partitions_of s == partitions_of t) (is_within s t && is_within t s) h in
     let withins = both_true (is_within s t) (is_within t s) parts.1 in
-    same_set s t (eq_says (partitions s) (partitions t) parts.0) (λ q lt. same_truth (is_in s q) (is_in t q) (within_says s t withins.0 q) (within_says t s withins.1 q))
+    same_set s t (eq_says (partitions_of s) (partitions_of t) parts.0) (λ q lt. same_truth (is_in s q) (is_in t q) (within_says s t withins.0 q) (within_says t s withins.1 q))
 
 pub same_self : (s : PartitionSet) → is_same s s ≡ true
 unfolding is_same
-same_self s = rw (eq_self (partitions s), within_of s s (λ q h. h)) refl
+same_self s = rw (eq_self (partitions_of s), within_of s s (λ q h. h)) refl
 
 pub in_full_all : (p q : ℕ) → is_in (full_set p) q ≡ nat_lt q p
 in_full_all p q = elim (cases_lt q p) [
@@ -381,16 +381,16 @@ tells_same s t true e = (λ h. same_says s t (sym e), λ h. refl)
 tells_same s t false e = (λ h. absurd (cc h), λ h. let so : is_same s t ≡ true = ap (is_same s) (sym h) ∙ same_self s in absurd (grind (arith, e, so)))
 
 -- ---- what a walk over all numbers shows
-pub meets_none : (s t : PartitionSet) (n : ℕ) → partitions s ≤ n → ((q : ℕ) → q < n → (is_in s q && is_in t q) ≡ false) → false ≡ meets s t
+pub meets_none : (s t : PartitionSet) (n : ℕ) → partitions_of s ≤ n → ((q : ℕ) → q < n → (is_in s q && is_in t q) ≡ false) → false ≡ meets s t
 meets_none s t n le none = sym (meets_of s t (λ q. elim (cases_lt q n) [
   | inl lt ↦ none q lt
   | inr past_n ↦ not_first (is_in s q) (is_in t q) (past s q (omega arith))
 ]))
 
-pub within_all : (s t : PartitionSet) (n : ℕ) → partitions s ≤ n → ((q : ℕ) → q < n → is_in s q ≡ true → is_in t q ≡ true) → true ≡ is_within s t
+pub within_all : (s t : PartitionSet) (n : ℕ) → partitions_of s ≤ n → ((q : ℕ) → q < n → is_in s q ≡ true → is_in t q ≡ true) → true ≡ is_within s t
 within_all s t n le all = sym (within_of s t (λ q e. let lt = in_below s q e in all q (omega arith) e))
 
-pub same_all : (s t : PartitionSet) (n : ℕ) → partitions s ≡ partitions t → partitions s ≤ n → ((q : ℕ) → q < n → is_in s q ≡ is_in t q) → true ≡ is_same s t
+pub same_all : (s t : PartitionSet) (n : ℕ) → partitions_of s ≡ partitions_of t → partitions_of s ≤ n → ((q : ℕ) → q < n → is_in s q ≡ is_in t q) → true ≡ is_same s t
 same_all s t n len le all =
     let e = same_set s t len (λ q lt. all q (omega arith)) in
     sym (ap (is_same s) (sym e) ∙ same_self s)

@@ -1,6 +1,6 @@
 -- How the members that are left of a set are seen as a list.
 use Rattle.std.specs.Prelude.{◌≡◌, ℕ, List, drop}
-use Rattle.bit_planes.specs.PartitionSet.{partitions, rank, elements}
+use Rattle.bit_planes.specs.PartitionSet.{partitions_of, rank, elements}
 use Rattle.bit_planes.specs.declared.elements.Elements.TheInside.{Inside}
 
 -- the members that are not below the next number
@@ -9,4 +9,4 @@ elements_left a = drop (rank a.plane.now a.from) (elements a.plane.now)
 
 -- the last number is below P
 abbrev pub IsValidElements : Inside → Type 0
-IsValidElements a = a.end ≡ partitions a.plane.now
+IsValidElements a = a.end ≡ partitions_of a.plane.now

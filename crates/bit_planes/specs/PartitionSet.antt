@@ -6,8 +6,8 @@ pub record PartitionSet : Type 0 where
   pub flags : List Bool
 
 -- the P of a set: its members are below it
-unfoldable pub partitions : PartitionSet → ℕ
-partitions s = length s.flags
+unfoldable pub partitions_of : PartitionSet → ℕ
+partitions_of s = length s.flags
 
 -- whether a number is in the set
 unfoldable pub is_in : PartitionSet → ℕ → Bool
@@ -15,11 +15,11 @@ is_in s q = slice_index_or s.flags q false
 
 abbrev pub flags_where : ℕ → (ℕ → Bool) → List Bool
 flags_where zero f = []
-flags_where (suc p) f = f 0 ∷ flags_where p (λ q. f (suc q))
+flags_where (suc partitions) f = f 0 ∷ flags_where partitions (λ q. f (suc q))
 
 -- the numbers below p of which f holds
 unfoldable pub set_where : ℕ → (ℕ → Bool) → PartitionSet
-set_where p f = record { flags = flags_where p f }
+set_where partitions f = record { flags = flags_where partitions f }
 
 -- 1 for true, 0 for false
 abbrev pub one : Bool → ℕ
@@ -47,48 +47,48 @@ rank s q = how_many q (is_in s)
 
 -- how many members there are
 unfoldable pub size : PartitionSet → ℕ
-size s = rank s (partitions s)
+size s = rank s (partitions_of s)
 
 -- the members, in rising order
 unfoldable pub elements : PartitionSet → List ℕ
-elements s = list_where (partitions s) (is_in s)
+elements s = list_where (partitions_of s) (is_in s)
 
 -- no number
 unfoldable pub empty_set : ℕ → PartitionSet
-empty_set p = set_where p (λ q. false)
+empty_set partitions = set_where partitions (λ q. false)
 
 -- every number below p
 unfoldable pub full_set : ℕ → PartitionSet
-full_set p = set_where p (λ q. true)
+full_set partitions = set_where partitions (λ q. true)
 
 -- the set with one number more
 unfoldable pub with_one : PartitionSet → ℕ → PartitionSet
-with_one s n = set_where (partitions s) (λ q. is_in s q || (q == n))
+with_one s n = set_where (partitions_of s) (λ q. is_in s q || (q == n))
 
 -- the set without a number
 unfoldable pub without_one : PartitionSet → ℕ → PartitionSet
-without_one s n = set_where (partitions s) (λ q. is_in s q && not (q == n))
+without_one s n = set_where (partitions_of s) (λ q. is_in s q && not (q == n))
 
 -- what is in the one or in the other
 unfoldable pub union : PartitionSet → PartitionSet → PartitionSet
-union s t = set_where (partitions s) (λ q. is_in s q || is_in t q)
+union s t = set_where (partitions_of s) (λ q. is_in s q || is_in t q)
 
 -- what is in the one and not in the other
 unfoldable pub minus : PartitionSet → PartitionSet → PartitionSet
-minus s t = set_where (partitions s) (λ q. is_in s q && not (is_in t q))
+minus s t = set_where (partitions_of s) (λ q. is_in s q && not (is_in t q))
 
 -- the n lowest members, or all
 unfoldable pub lowest : ℕ → PartitionSet → PartitionSet
-lowest n s = set_where (partitions s) (λ q. is_in s q && nat_lt (rank s q) n)
+lowest n s = set_where (partitions_of s) (λ q. is_in s q && nat_lt (rank s q) n)
 
 -- whether some number is in both
 unfoldable pub meets : PartitionSet → PartitionSet → Bool
-meets s t = any_below (partitions s) (λ q. is_in s q && is_in t q)
+meets s t = any_below (partitions_of s) (λ q. is_in s q && is_in t q)
 
 -- whether each member of the one is in the other
 unfoldable pub is_within : PartitionSet → PartitionSet → Bool
-is_within s t = not (any_below (partitions s) (λ q. is_in s q && not (is_in t q)))
+is_within s t = not (any_below (partitions_of s) (λ q. is_in s q && not (is_in t q)))
 
 -- whether they have the same P and the same members
 unfoldable pub is_same : PartitionSet → PartitionSet → Bool
-is_same s t = (partitions s == partitions t) && (is_within s t && is_within t s)
+is_same s t = (partitions_of s == partitions_of t) && (is_within s t && is_within t s)

@@ -1,15 +1,15 @@
 -- A set of partitions for each of some members.
 use Rattle.std.specs.Prelude.{◌≡◌, ℕ, ◌<◌, ◌≤◌, ◌==◌, nat_lt, List, [], ◌∷◌, Option, Some, None, length, map, if◌then◌else◌, slice_index_or}
-use Rattle.bit_planes.specs.PartitionSet.{PartitionSet, partitions, empty_set}
+use Rattle.bit_planes.specs.PartitionSet.{PartitionSet, partitions_of, empty_set}
 
 -- sets of partitions below one P, by the numbers of their members, which rise
 pub record SetRows : Type 0 where
-  pub below : ℕ
+  pub partitions : ℕ
   pub rows : List (ℕ × PartitionSet)
 
 -- no members
 abbrev pub no_rows : ℕ → SetRows
-no_rows p = record { below = p; rows = [] }
+no_rows partitions = record { partitions = partitions; rows = [] }
 
 -- the numbers of the members, in rising order
 abbrev pub members : SetRows → List ℕ
@@ -35,12 +35,12 @@ abbrev pub with_row : SetRows → ℕ → PartitionSet → SetRows
 with_row r m s = record r { rows = put_row r.rows m s }
 
 abbrev pub set_or_empty : ℕ → Option PartitionSet → PartitionSet
-set_or_empty p None = empty_set p
-set_or_empty p (Some s) = s
+set_or_empty partitions None = empty_set partitions
+set_or_empty partitions (Some s) = s
 
 -- a member's set, and the empty set of a member without a row
 abbrev pub set_of : SetRows → ℕ → PartitionSet
-set_of r m = set_or_empty r.below (row_of r m)
+set_of r m = set_or_empty r.partitions (row_of r m)
 
 -- the sets of some members, in their order
 abbrev pub sets_of : SetRows → List ℕ → List PartitionSet
@@ -52,15 +52,15 @@ IsRising ms = (i j : ℕ) → i < j → j < length ms → slice_index_or ms i 0 
 
 -- each set is over the same P
 abbrev pub AreOver : ℕ → List (ℕ × PartitionSet) → Type 0
-AreOver p [] = Unit {0}
-AreOver p (row ∷ rows) = (partitions row.1 ≡ p) × AreOver p rows
+AreOver partitions [] = Unit {0}
+AreOver partitions (row ∷ rows) = (partitions_of row.1 ≡ partitions) × AreOver partitions rows
 
 -- what rows keep
 pub record IsValidRows (r : SetRows) : Type 0 where
-  pub some : 1 ≤ r.below
-  pub few : r.below ≤ 4096
+  pub some : 1 ≤ r.partitions
+  pub few : r.partitions ≤ 4096
   pub rising : IsRising (members r)
-  pub over : AreOver r.below r.rows
+  pub over : AreOver r.partitions r.rows
 
 -- the number of the member at a place
 abbrev pub member_at : List (ℕ × PartitionSet) → ℕ → ℕ

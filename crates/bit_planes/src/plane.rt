@@ -1,7 +1,7 @@
 //! A set of partitions.
 
 ghost use Rattle.std.specs.Prelude.{◌≡◌, ◌<◌, ◌≤◌, ◌==◌, ◌&&◌, ◌||◌, ◌↔◌, ℕ, false, true, not, nat_lt, min, length, IsTrue};
-ghost use Rattle.bit_planes.specs.PartitionSet.{partitions, is_in, rank, size, elements, empty_set, full_set, with_one, without_one, union, minus, lowest, meets, is_within, is_same};
+ghost use Rattle.bit_planes.specs.PartitionSet.{partitions_of, is_in, rank, size, elements, empty_set, full_set, with_one, without_one, union, minus, lowest, meets, is_within, is_same};
 
 use crate::elements::Elements;
 use std::marker::Model;
@@ -31,31 +31,31 @@ impl Model for Plane {
 
 impl Plane {
     /// The empty set of partitions below `p`, 1 to 4096.
-    pub fn new(p: u32) -> Plane
-        requires { (1 ≤ p) × (p ≤ 4096) }
-        ensures value { result ≡ empty_set p }
+    pub fn new(partitions: u32) -> Plane
+        requires { (1 ≤ partitions) × (partitions ≤ 4096) }
+        ensures value { result ≡ empty_set partitions }
         ensures elements { (q : ℕ) → is_in result q ≡ false }
-        ensures partitions { partitions result ≡ p }
+        ensures partitions { partitions_of result ≡ partitions }
     {
         Plane {
-            partitions: p,
+            partitions,
             flags: [false; MOST],
         }
     }
 
     /// The set of all partitions below `p`, 1 to 4096.
-    pub fn full(p: u32) -> Plane
-        requires { (1 ≤ p) × (p ≤ 4096) }
-        ensures value { result ≡ full_set p }
-        ensures elements { (q : ℕ) → is_in result q ≡ nat_lt q p }
-        ensures partitions { partitions result ≡ p }
+    pub fn full(partitions: u32) -> Plane
+        requires { (1 ≤ partitions) × (partitions ≤ 4096) }
+        ensures value { result ≡ full_set partitions }
+        ensures elements { (q : ℕ) → is_in result q ≡ nat_lt q partitions }
+        ensures partitions { partitions_of result ≡ partitions }
     {
         let mut flags = [false; MOST];
-        for q in 0..p as usize {
+        for q in 0..partitions as usize {
             flags[q] = true;
         }
         Plane {
-            partitions: p,
+            partitions,
             flags,
         }
     }
@@ -72,7 +72,7 @@ impl Plane {
 
     /// P: the members are below it.
     pub fn partitions(&self) -> u32
-        ensures value { result ≡ partitions self.now }
+        ensures value { result ≡ partitions_of self.now }
         ensures bounds { (1 ≤ result) × (result ≤ 4096) }
     {
         self.partitions
@@ -80,10 +80,10 @@ impl Plane {
 
     /// Puts a number below P into the set.
     pub fn insert(&mut self, q: u32)
-        requires { q < partitions self.old }
+        requires { q < partitions_of self.old }
         ensures value { self.new ≡ with_one self.old q }
         ensures elements { (n : ℕ) → is_in self.new n ≡ (is_in self.old n || (n == q)) }
-        ensures partitions { partitions self.new ≡ partitions self.old }
+        ensures partitions { partitions_of self.new ≡ partitions_of self.old }
     {
         self.flags[q as usize] = true;
     }
@@ -92,7 +92,7 @@ impl Plane {
     pub fn remove(&mut self, q: u32)
         ensures value { self.new ≡ without_one self.old q }
         ensures elements { (n : ℕ) → is_in self.new n ≡ (is_in self.old n && not (n == q)) }
-        ensures partitions { partitions self.new ≡ partitions self.old }
+        ensures partitions { partitions_of self.new ≡ partitions_of self.old }
     {
         if q < self.partitions {
             self.flags[q as usize] = false;
@@ -102,17 +102,17 @@ impl Plane {
     /// Whether a number is in the set, which none at P or above is.
     pub fn contains(&self, q: u32) -> bool
         ensures value { result ≡ is_in self.now q }
-        ensures below { IsTrue result → q < partitions self.now }
+        ensures below { IsTrue result → q < partitions_of self.now }
     {
         q < self.partitions && self.flags[q as usize]
     }
 
     /// What is in this set or in the other, which has the same P.
     pub fn union(&self, other: &Plane) -> Plane
-        requires { partitions self.now ≡ partitions other.now }
+        requires { partitions_of self.now ≡ partitions_of other.now }
         ensures value { result ≡ union self.now other.now }
         ensures elements { (q : ℕ) → is_in result q ≡ (is_in self.now q || is_in other.now q) }
-        ensures partitions { partitions result ≡ partitions self.now }
+        ensures partitions { partitions_of result ≡ partitions_of self.now }
     {
         let mut flags = self.flags;
         for q in 0..self.partitions as usize {
@@ -126,10 +126,10 @@ impl Plane {
 
     /// What is in this set and not in the other, which has the same P.
     pub fn minus(&self, other: &Plane) -> Plane
-        requires { partitions self.now ≡ partitions other.now }
+        requires { partitions_of self.now ≡ partitions_of other.now }
         ensures value { result ≡ minus self.now other.now }
         ensures elements { (q : ℕ) → is_in result q ≡ (is_in self.now q && not (is_in other.now q)) }
-        ensures partitions { partitions result ≡ partitions self.now }
+        ensures partitions { partitions_of result ≡ partitions_of self.now }
     {
         let mut flags = self.flags;
         for q in 0..self.partitions as usize {
@@ -145,7 +145,7 @@ impl Plane {
     pub fn lowest(&self, n: u32) -> Plane
         ensures value { result ≡ lowest n self.now }
         ensures elements { (q : ℕ) → is_in result q ≡ (is_in self.now q && nat_lt (rank self.now q) n) }
-        ensures partitions { partitions result ≡ partitions self.now }
+        ensures partitions { partitions_of result ≡ partitions_of self.now }
         ensures size { size result ≡ min n (size self.now) }
     {
         let mut flags = self.flags;
@@ -164,7 +164,7 @@ impl Plane {
 
     /// Whether some number is in both this set and the other, which has the same P.
     pub fn meets(&self, other: &Plane) -> bool
-        requires { partitions self.now ≡ partitions other.now }
+        requires { partitions_of self.now ≡ partitions_of other.now }
         ensures value { result ≡ meets self.now other.now }
         ensures apart { (result ≡ false) ↔ ((q : ℕ) → (is_in self.now q && is_in other.now q) ≡ false) }
     {
@@ -178,7 +178,7 @@ impl Plane {
 
     /// Whether each member is in the other set, which has the same P.
     pub fn within(&self, other: &Plane) -> bool
-        requires { partitions self.now ≡ partitions other.now }
+        requires { partitions_of self.now ≡ partitions_of other.now }
         ensures value { result ≡ is_within self.now other.now }
         ensures elements { IsTrue result ↔ ((q : ℕ) → is_in self.now q ≡ true → is_in other.now q ≡ true) }
     {
@@ -193,7 +193,7 @@ impl Plane {
 
     /// Whether the other, which has the same P, is the same set.
     pub fn same(&self, other: &Plane) -> bool
-        requires { partitions self.now ≡ partitions other.now }
+        requires { partitions_of self.now ≡ partitions_of other.now }
         ensures value { result ≡ is_same self.now other.now }
         ensures equal { IsTrue result ↔ (self.now ≡ other.now) }
     {
@@ -208,7 +208,7 @@ impl Plane {
     /// How many members there are.
     pub fn count(&self) -> u32
         ensures value { result ≡ size self.now }
-        ensures most { result ≤ partitions self.now }
+        ensures most { result ≤ partitions_of self.now }
     {
         let mut count = 0;
         for q in 0..self.partitions as usize {

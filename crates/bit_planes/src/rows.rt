@@ -2,7 +2,7 @@
 
 ghost use Rattle.std.specs.Prelude.{◌≡◌, ◌≢◌, ◌<◌, ◌≤◌, ℕ, [], None, Some, MatchOption, IfSome, IfOk, IfErr, OnOk, OnErr};
 ghost use Rattle.std.specs.Iterator.{YieldsFirst, item_count};
-ghost use Rattle.bit_planes.specs.PartitionSet.{partitions};
+ghost use Rattle.bit_planes.specs.PartitionSet.{partitions_of};
 ghost use Rattle.bit_planes.specs.SetRows.{SetRows, IsValidRows, IsIndexOf, IsGapFor, no_rows, members, row_of, with_row};
 
 use crate::plane::Plane;
@@ -24,27 +24,27 @@ impl Model for PlaneRows {
 
     ghost Value = { SetRows };
 
-    ghost view = { λ a. record { below = a.partitions; rows = a.rows.items } };
+    ghost view = { λ a. record { partitions = a.partitions; rows = a.rows.items } };
 
-    ghost invariant = { λ a. IsValidRows (record { below = a.partitions; rows = a.rows.items }) };
+    ghost invariant = { λ a. IsValidRows (record { partitions = a.partitions; rows = a.rows.items }) };
 }
 
 impl PlaneRows {
     /// No rows yet, of sets below `p`, 1 to 4096. It takes no memory.
-    pub fn new(alloc: Global, p: u32) -> PlaneRows
-        requires { (1 ≤ p) × (p ≤ 4096) }
-        ensures value { result ≡ no_rows p }
+    pub fn new(alloc: Global, partitions: u32) -> PlaneRows
+        requires { (1 ≤ partitions) × (partitions ≤ 4096) }
+        ensures value { result ≡ no_rows partitions }
         ensures valid { IsValidRows result }
     {
         PlaneRows {
-            partitions: p,
+            partitions,
             rows: Vec::new(alloc),
         }
     }
 
     /// P: the members of each set are below it.
     pub fn partitions(&self) -> u32
-        ensures value { result ≡ self.now.below }
+        ensures value { result ≡ self.now.partitions }
         ensures valid { IsValidRows self.now }
     {
         self.partitions
@@ -53,12 +53,12 @@ impl PlaneRows {
     /// Gives a member this set, below the same P, in place of the one that it may have, and leaves every other row.
     /// Refused for want of memory alone, with everything as it was.
     pub fn put(&mut self, member: u32, plane: Plane) -> Result<(), Memory>
-        requires { partitions plane ≡ self.old.below }
+        requires { partitions_of plane ≡ self.old.partitions }
         ensures value { OnOk result (self.new ≡ with_row self.old member plane) }
         ensures this { OnOk result (row_of self.new member ≡ Some plane) }
         ensures others { OnOk result ((m : ℕ) → m ≢ member → row_of self.new m ≡ row_of self.old m) }
         ensures err { OnErr result (self.new ≡ self.old) }
-        ensures below { self.new.below ≡ self.old.below }
+        ensures partitions { self.new.partitions ≡ self.old.partitions }
         ensures valid { IsValidRows self.new }
     {
         match self.search(member) {
@@ -73,7 +73,7 @@ impl PlaneRows {
     /// The set of a member, or nothing where it has no row. It takes no memory.
     pub fn get(&self, member: u32) -> Option<&Plane>
         ensures value { MatchOption result (row_of self.now member ≡ None) (λ plane. row_of self.now member ≡ Some plane.now) }
-        ensures partitions { IfSome result (λ plane. partitions plane.now ≡ self.now.below) }
+        ensures partitions { IfSome result (λ plane. partitions_of plane.now ≡ self.now.partitions) }
         ensures valid { IsValidRows self.now }
     {
         match self.search(member) {

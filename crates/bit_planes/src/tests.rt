@@ -1,19 +1,19 @@
 //! Each call once on its happy path, at one partition, few, a number past a multiple of 64, and the most.
 
 ghost use Rattle.std.specs.Prelude.{◌≡◌, ◌≤◌};
-ghost use Rattle.bit_planes.specs.PartitionSet.{partitions};
+ghost use Rattle.bit_planes.specs.PartitionSet.{partitions_of};
 
 use super::*;
 use std::test::Fail;
 
 // The set of those of the numbers that are below P.
-fn set_of(p: u32, elements: &[u32]) -> Plane
-    requires { (1 ≤ p) × (p ≤ 4096) }
-    ensures { partitions result ≡ p }
+fn set_of(partitions: u32, elements: &[u32]) -> Plane
+    requires { (1 ≤ partitions) × (partitions ≤ 4096) }
+    ensures { partitions_of result ≡ partitions }
 {
-    let mut set = Plane::new(p);
+    let mut set = Plane::new(partitions);
     for q in elements {
-        if *q < p {
+        if *q < partitions {
             set.insert(*q);
         }
     }
@@ -22,20 +22,20 @@ fn set_of(p: u32, elements: &[u32]) -> Plane
 
 #[test]
 fn holds_its_edges(rt: HostRuntime) -> Result<(), Fail> {
-    for p in [1, 4, 513, 4096] {
-        let mut set = Plane::new(p);
+    for partitions in [1, 4, 513, 4096] {
+        let mut set = Plane::new(partitions);
         assert_eq!(rt; set.count(), 0);
         set.insert(0);
-        set.insert(p - 1);
-        assert!(rt; set.contains(0) && set.contains(p - 1), "{p}");
-        assert!(rt; !set.contains(p) && !set.contains(u32::MAX), "{p}");
-        assert_eq!(rt; set.count(), if p == 1 { 1 } else { 2 });
-        set.remove(p);
-        set.remove(p - 1);
-        assert!(rt; !set.contains(p - 1), "{p}");
-        assert_eq!(rt; Plane::full(p).count(), p);
-        assert_eq!(rt; Plane::full(p).iter().count(), p as usize);
-        assert_eq!(rt; Plane::full(p).partitions(), p);
+        set.insert(partitions - 1);
+        assert!(rt; set.contains(0) && set.contains(partitions - 1), "{partitions}");
+        assert!(rt; !set.contains(partitions) && !set.contains(u32::MAX), "{partitions}");
+        assert_eq!(rt; set.count(), if partitions == 1 { 1 } else { 2 });
+        set.remove(partitions);
+        set.remove(partitions - 1);
+        assert!(rt; !set.contains(partitions - 1), "{partitions}");
+        assert_eq!(rt; Plane::full(partitions).count(), partitions);
+        assert_eq!(rt; Plane::full(partitions).iter().count(), partitions as usize);
+        assert_eq!(rt; Plane::full(partitions).partitions(), partitions);
     }
     Ok(())
 }

@@ -15,13 +15,13 @@ pub record TellsSame (r s : SetRows) (b : Bool) : Type 0 where
   pub rows : IsTrue b ↔ HaveSameRows r s
   pub equal : IsTrue b ↔ (r ≡ s)
 
-tells : (r s : SetRows) (b : Bool) → IsValidRows r → IsValidRows s → r.below ≡ s.below → IsTrue b ↔ (r ≡ s) → TellsSame r s b
+tells : (r s : SetRows) (b : Bool) → IsValidRows r → IsValidRows s → r.partitions ≡ s.partitions → IsTrue b ↔ (r ≡ s) → TellsSame r s b
 tells r s b valid valid' below equal = record {
   rows = (λ yes m. ap (λ x. row_of x m) (equal.0 yes), λ same. equal.1 (same_rows r s valid valid' below same));
   equal = equal;
 }
 
-pub tells_not : (r s : SetRows) → IsValidRows r → IsValidRows s → r.below ≡ s.below → (r.rows ≡ s.rows → ⊥) → TellsSame r s false
+pub tells_not : (r s : SetRows) → IsValidRows r → IsValidRows s → r.partitions ≡ s.partitions → (r.rows ≡ s.rows → ⊥) → TellsSame r s false
 tells_not r s valid valid' below differ = tells r s false valid valid' below (λ no. absurd (cc no), λ same. absurd (differ (ap (λ (x : SetRows). x.rows) same)))
 
 pub same_items : (xs ys : Rows) → length xs ≡ length ys → ((j : ℕ) (d : ℕ × PartitionSet) → j < length xs → get_or xs j d ≡ get_or ys j d) → xs ≡ ys
@@ -30,9 +30,9 @@ same_items [] (y ∷ ys) len same = absurd (omega arith)
 same_items (x ∷ xs) [] len same = absurd (omega arith)
 same_items (x ∷ xs) (y ∷ ys) len same = rw (same 0 x (omega arith)) (ap (λ zs. y ∷ zs) (same_items xs ys (omega arith) (λ j d lt. same (suc j) d (omega arith))))
 
-pub tells_so : (r s : SetRows) → IsValidRows r → IsValidRows s → r.below ≡ s.below → r.rows ≡ s.rows → TellsSame r s true
+pub tells_so : (r s : SetRows) → IsValidRows r → IsValidRows s → r.partitions ≡ s.partitions → r.rows ≡ s.rows → TellsSame r s true
 tells_so r s valid valid' below same =
-    tells r s true valid valid' below (λ yes. ap (λ n. record r { below = n }) below ∙ ap (λ (rows : Rows). record s { rows = rows }) same, λ same. refl)
+    tells r s true valid valid' below (λ yes. ap (λ n. record r { partitions = n }) below ∙ ap (λ (rows : Rows). record s { rows = rows }) same, λ same. refl)
 
 -- equal rows have equal items at a place
 pub same_at : (xs ys : Rows) (i : ℕ) (x y : ℕ × PartitionSet) → xs ≡ ys → i < length xs → x ≡ get_or xs i x → y ≡ get_or ys i y → x ≡ y

@@ -3,7 +3,7 @@ use Rattle.std.proofs.Common.{ℕ, suc, ◌≡◌, ◌≢◌, ◌+◌, ◌<◌, 
 use Rattle.std.specs.Prelude.{nat_lt}
 use Rattle.std.proofs.lemmas.Bool.{le-ltb}
 use Rattle.std.proofs.lemmas.Bool.Decides.{nat_tests}
-use Rattle.bit_planes.specs.PartitionSet.{PartitionSet, partitions, is_in, one, union, minus, empty_set}
+use Rattle.bit_planes.specs.PartitionSet.{PartitionSet, partitions_of, is_in, one, union, minus, empty_set}
 use Rattle.bit_planes.specs.SetRows.{SetRows, IsValidRows, IsRising, find_row, set_or_empty}
 use Rattle.bit_planes.proofs.Sets.{in_empty, in_minus, in_union, partitions_empty, partitions_minus, partitions_union}
 use Rattle.bit_planes.proofs.RowLaws.{rising_rest}
@@ -67,15 +67,15 @@ tells_others o false = grind (arith, nat_tests)
 -- with a row of its own
 pub others_beside : (some several own : PartitionSet) (r : SetRows) (m q : ℕ) → IsValidRows r → AreGrants some several r → find_row r.rows m ≡ Some own → (is_in several q || (is_in some q && not (is_in own q))) ≡ granted_to_other r.rows m q
 others_beside some several own r m q valid grants found =
-    let own_is : one (is_in (set_or_empty r.below (find_row r.rows m)) q) ≡ one (is_in own q) = ap (λ o. one (is_in (set_or_empty r.below o) q)) found in
-    let times : times_granted r.rows q ≡ times_to_others r.rows m q + one (is_in own q) = own_or_not r.rows r.below m q valid.rising ∙ ap (λ n. times_to_others r.rows m q + n) own_is in
+    let own_is : one (is_in (set_or_empty r.partitions (find_row r.rows m)) q) ≡ one (is_in own q) = ap (λ o. one (is_in (set_or_empty r.partitions o) q)) found in
+    let times : times_granted r.rows q ≡ times_to_others r.rows m q + one (is_in own q) = own_or_not r.rows r.partitions m q valid.rising ∙ ap (λ n. times_to_others r.rows m q + n) own_is in
     rw (grants.to_several q, grants.to_some q, times, to_other-counts r.rows m q) (tells_others (times_to_others r.rows m q) (is_in own q))
 
 -- without one
 pub others_alone : (some several : PartitionSet) (r : SetRows) (m q : ℕ) → IsValidRows r → AreGrants some several r → find_row r.rows m ≡ None → is_in some q ≡ granted_to_other r.rows m q
 others_alone some several r m q valid grants found =
-    let own_is : one (is_in (set_or_empty r.below (find_row r.rows m)) q) ≡ 0 = ap (λ o. one (is_in (set_or_empty r.below o) q)) found ∙ ap one (in_empty r.below q) in
-    let times : times_granted r.rows q ≡ times_to_others r.rows m q = omega (arith, own_or_not r.rows r.below m q valid.rising, own_is) in
+    let own_is : one (is_in (set_or_empty r.partitions (find_row r.rows m)) q) ≡ 0 = ap (λ o. one (is_in (set_or_empty r.partitions o) q)) found ∙ ap one (in_empty r.partitions q) in
+    let times : times_granted r.rows q ≡ times_to_others r.rows m q = omega (arith, own_or_not r.rows r.partitions m q valid.rising, own_is) in
     rw (grants.to_some q, times, to_other-counts r.rows m q) refl
 
 -- ---- collecting
@@ -91,7 +91,7 @@ more_several : (t : ℕ) (x : Bool) → (nat_lt 1 t || (x && not (x && not (nat_
 more_several t true = grind (arith, nat_tests)
 more_several t false = grind (arith, nat_tests)
 
-pub grants_none : (p : ℕ) → AreGrants (empty_set p) (empty_set p) (record { below = p; rows = [] })
+pub grants_none : (p : ℕ) → AreGrants (empty_set p) (empty_set p) (record { partitions = p; rows = [] })
 grants_none p = record {
   some_below = partitions_empty p;
   several_below = partitions_empty p;
@@ -100,12 +100,12 @@ grants_none p = record {
 }
 
 -- one row more
-pub grants_more : (p : ℕ) (rows : Rows) (row : ℕ × PartitionSet) (some several : PartitionSet) → partitions row.1 ≡ p → AreGrants some several (record { below = p; rows = rows })
-    → AreGrants (union some (minus row.1 some)) (union several (minus row.1 (minus row.1 some))) (record { below = p; rows = rows ++ row ∷ [] })
+pub grants_more : (p : ℕ) (rows : Rows) (row : ℕ × PartitionSet) (some several : PartitionSet) → partitions_of row.1 ≡ p → AreGrants some several (record { partitions = p; rows = rows })
+    → AreGrants (union some (minus row.1 some)) (union several (minus row.1 (minus row.1 some))) (record { partitions = p; rows = rows ++ row ∷ [] })
 grants_more p rows row some several below g =
     let fresh : PartitionSet = minus row.1 some in
-    let some_len : partitions some ≡ partitions fresh = g.some_below ∙ sym (partitions_minus row.1 some ∙ below) in
-    let several_len : partitions several ≡ partitions (minus row.1 fresh) = g.several_below ∙ sym (partitions_minus row.1 fresh ∙ below) in
+    let some_len : partitions_of some ≡ partitions_of fresh = g.some_below ∙ sym (partitions_minus row.1 some ∙ below) in
+    let several_len : partitions_of several ≡ partitions_of (minus row.1 fresh) = g.several_below ∙ sym (partitions_minus row.1 fresh ∙ below) in
     record {
       some_below = partitions_union some fresh ∙ g.some_below;
       several_below = partitions_union several (minus row.1 fresh) ∙ g.several_below;

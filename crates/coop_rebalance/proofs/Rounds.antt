@@ -2,7 +2,7 @@
 use Rattle.std.proofs.Common.{ℕ, zero, suc, ◌≡◌, ◌+◌, ◌<◌, ◌≤◌, ◌==◌, Bool, true, false, ◌||◌, ◌&&◌, not, List, [], ◌∷◌, length, map, get_or, refl, ap, sym, ◌∙◌, subst, arith, inl, inr}
 use Rattle.std.specs.Prelude.{Some, cond}
 use Rattle.std.proofs.lemmas.Bool.{cases_lt}
-use Rattle.bit_planes.specs.PartitionSet.{PartitionSet, partitions, is_in, one, empty_set, union, is_within}
+use Rattle.bit_planes.specs.PartitionSet.{PartitionSet, partitions_of, is_in, one, empty_set, union, is_within}
 use Rattle.bit_planes.specs.SetRows.{SetRows, members, find_row, set_or_empty, set_of, sets_of, IsRising, IsValidRows}
 use Rattle.bit_planes.proofs.Sets.{one_le, same_set, partitions_where, in_where, past_where, past, in_union, within_of}
 use Rattle.bit_planes.proofs.RowLaws.{rising_rest}
@@ -95,7 +95,7 @@ off_at granted (m ∷ ms) (row ∷ rows) (suc i) len lt = off_at granted ms rows
 off_over : (p : ℕ) (granted : List (ℕ × PartitionSet)) (ms : List ℕ) (rows : List PartitionSet) → AreBelow p rows → AreBelow p (taken_off granted ms rows)
 off_over p granted [] rows over = tt
 off_over p granted (m ∷ ms) [] over = tt
-off_over p granted (m ∷ ms) (row ∷ rows) over = (partitions_where (partitions row) _ ∙ over.0, off_over p granted ms rows over.1)
+off_over p granted (m ∷ ms) (row ∷ rows) over = (partitions_where (partitions_of row) _ ∙ over.0, off_over p granted ms rows over.1)
 
 not_first : (x y : Bool) → x ≡ false → x ≡ (x && y)
 not_first true y e = cc
@@ -103,9 +103,9 @@ not_first false y e = refl
 
 -- membership of a row without what others are granted
 in_off : (granted : List (ℕ × PartitionSet)) (m : ℕ) (row : PartitionSet) (q : ℕ) → is_in (withheld_row granted (m, row)).1 q ≡ (is_in row q && not (granted_to_other granted m q))
-in_off granted m row q = elim (cases_lt q (partitions row)) [
-  | inl lt ↦ in_where (partitions row) _ q lt
-  | inr le ↦ past_where (partitions row) _ q le ∙ sym (past row q le) ∙ not_first (is_in row q) (not (granted_to_other granted m q)) (past row q le)
+in_off granted m row q = elim (cases_lt q (partitions_of row)) [
+  | inl lt ↦ in_where (partitions_of row) _ q lt
+  | inr le ↦ past_where (partitions_of row) _ q le ∙ sym (past row q le) ∙ not_first (is_in row q) (not (granted_to_other granted m q)) (past row q le)
 ]
 
 and_most : (x y : Bool) → one (x && not y) ≤ one x
@@ -158,25 +158,25 @@ nothing_off ms ts gs lt lg rising lies apart =
     let t : PartitionSet = row_at ts i in
     let off : PartitionSet = (withheld_row granted (m, t)).1 in
     off_at granted ms ts i lt li
-    ∙ same_set off t (partitions_where (partitions t) _) (λ q few.
+    ∙ same_set off t (partitions_where (partitions_of t) _) (λ q few.
     let a = apart q in
     let clear : one (is_in t q) + one (granted_to_other granted m q) ≤ 1 = omega (arith, granted_most ms gs m q, lies_others ms gs ts m q lies, mine_and_others ms ts i q lt rising li) in
     in_off granted m t q ∙ and_not_none (is_in t q) (granted_to_other granted m q) clear))
 
 -- ---- the next rows, as lists of sets
 next_paired : (p : ℕ) (ms : List ℕ) (gs : List PartitionSet) → length gs ≡ length ms → IsRising ms
-    → next_rows (record { below = p; rows = pair_up ms gs }) ≡ record { below = p; rows = pair_up ms (taken_off (pair_up ms gs) ms (target p gs)) }
+    → next_rows (record { partitions = p; rows = pair_up ms gs }) ≡ record { partitions = p; rows = pair_up ms (taken_off (pair_up ms gs) ms (target p gs)) }
 unfolding withheld
 next_paired p ms gs len rising =
-    ap (λ t. withheld t (record { below = p; rows = pair_up ms gs })) (target_paired p ms gs len rising)
-    ∙ ap (λ rows. record { below = p; rows = rows }) (off_paired (pair_up ms gs) ms (target p gs))
+    ap (λ t. withheld t (record { partitions = p; rows = pair_up ms gs })) (target_paired p ms gs len rising)
+    ∙ ap (λ rows. record { partitions = p; rows = rows }) (off_paired (pair_up ms gs) ms (target p gs))
 
 one_says : (x y : Bool) → one x ≤ one y → x ≡ true → y ≡ true
 one_says x true le e = refl
 one_says true false le e = absurd (omega arith)
 one_says false false le e = e
 
-within_paired : (p : ℕ) (ms : List ℕ) (rows bs : List PartitionSet) → Lies rows bs → RowsWithin (record { below = p; rows = pair_up ms rows }) (record { below = p; rows = pair_up ms bs })
+within_paired : (p : ℕ) (ms : List ℕ) (rows bs : List PartitionSet) → Lies rows bs → RowsWithin (record { partitions = p; rows = pair_up ms rows }) (record { partitions = p; rows = pair_up ms bs })
 within_paired p [] rows bs lies m = within_of (empty_set p) (empty_set p) (λ q h. h)
 within_paired p (n ∷ ms) [] [] lies m = within_of (empty_set p) (empty_set p) (λ q h. h)
 within_paired p (n ∷ ms) [] (b ∷ bs) lies m = absurd lies
@@ -209,7 +209,7 @@ are_next p ms gs len some over apart =
       balanced = is_balanced p gs some over apart;
     }
 
-settles_paired : (p : ℕ) (ms : List ℕ) (gs : List PartitionSet) → length gs ≡ length ms → IsRising ms → 0 < length gs → AreBelow p gs → AreApart gs → Settles (next_rows (record { below = p; rows = pair_up ms gs }))
+settles_paired : (p : ℕ) (ms : List ℕ) (gs : List PartitionSet) → length gs ≡ length ms → IsRising ms → 0 < length gs → AreBelow p gs → AreApart gs → Settles (next_rows (record { partitions = p; rows = pair_up ms gs }))
 settles_paired p ms gs len rising some over apart =
     let ts : List PartitionSet = target p gs in
     let ws : List PartitionSet = taken_off (pair_up ms gs) ms ts in
@@ -221,11 +221,11 @@ settles_paired p ms gs len rising some over apart =
     let wa : AreApart ws = lies_apart ws ts n.lies ta in
     let whole : Lies ws us = kept_whole p ws ts many n.over n.target_over n.balanced n.lies in
     let ua : AreApart us = balanced_apart p us (target_over p ws n.over) (is_balanced p ws many n.over wa) in
-    let goal : target_rows (record { below = p; rows = pair_up ms ws }) ≡ record { below = p; rows = pair_up ms us } = target_paired p ms ws n.long rising in
+    let goal : target_rows (record { partitions = p; rows = pair_up ms ws }) ≡ record { partitions = p; rows = pair_up ms us } = target_paired p ms ws n.long rising in
     let none : taken_off (pair_up ms ws) ms us ≡ us = nothing_off ms us ws (length_target p ws ∙ n.long) n.long rising whole ua in
-    let settled : Settles (record { below = p; rows = pair_up ms ws }) = record {
-      keeps = subst (RowsWithin (record { below = p; rows = pair_up ms ws })) (sym goal) (within_paired p ms ws us whole);
-      all = next_paired p ms ws n.long rising ∙ ap (λ rows. record { below = p; rows = pair_up ms rows }) none ∙ sym goal;
+    let settled : Settles (record { partitions = p; rows = pair_up ms ws }) = record {
+      keeps = subst (RowsWithin (record { partitions = p; rows = pair_up ms ws })) (sym goal) (within_paired p ms ws us whole);
+      all = next_paired p ms ws n.long rising ∙ ap (λ rows. record { partitions = p; rows = pair_up ms rows }) none ∙ sym goal;
     } in
     subst Settles (sym (next_paired p ms gs len rising)) settled
 
@@ -239,10 +239,10 @@ settles g valid some apart =
     let ms : List ℕ = members g in
     let gs : List PartitionSet = sets_of g ms in
     let len : length gs ≡ length ms = length_sets g ms in
-    subst (λ r. Settles (next_rows r)) (sym (paired g valid.rising)) (settles_paired g.below ms gs len valid.rising (omega (arith, length_members g.rows)) (sets_over g ms valid) apart)
+    subst (λ r. Settles (next_rows r)) (sym (paired g valid.rising)) (settles_paired g.partitions ms gs len valid.rising (omega (arith, length_members g.rows)) (sets_over g ms valid) apart)
 
 -- ---- where the next rows lie
-rows_paired : (p : ℕ) (ms : List ℕ) (rows : List PartitionSet) → 1 ≤ p → p ≤ 4096 → length rows ≡ length ms → IsRising ms → AreBelow p rows → IsValidRows (record { below = p; rows = pair_up ms rows })
+rows_paired : (p : ℕ) (ms : List ℕ) (rows : List PartitionSet) → 1 ≤ p → p ≤ 4096 → length rows ≡ length ms → IsRising ms → AreBelow p rows → IsValidRows (record { partitions = p; rows = pair_up ms rows })
 rows_paired p ms rows some few len rising over = record {
   some = some;
   few = few;
@@ -251,23 +251,23 @@ rows_paired p ms rows some few len rising over = record {
 }
 
 next_within_paired : (p : ℕ) (ms : List ℕ) (gs : List PartitionSet) → 1 ≤ p → p ≤ 4096 → length gs ≡ length ms → IsRising ms → 0 < length gs → AreBelow p gs → AreApart gs
-    → LieInBalanced (record { below = p; rows = pair_up ms gs }) (next_rows (record { below = p; rows = pair_up ms gs }))
+    → LieInBalanced (record { partitions = p; rows = pair_up ms gs }) (next_rows (record { partitions = p; rows = pair_up ms gs }))
 next_within_paired p ms gs lo hi len rising some over apart =
     let ts : List PartitionSet = target p gs in
     let ws : List PartitionSet = taken_off (pair_up ms gs) ms ts in
     let n : AreNext p ms gs ts ws = are_next p ms gs len some over apart in
-    let g : SetRows = record { below = p; rows = pair_up ms gs } in
-    let w : SetRows = record { below = p; rows = pair_up ms ws } in
-    let is_target : target_rows g ≡ record { below = p; rows = pair_up ms ts } = target_paired p ms gs len rising in
+    let g : SetRows = record { partitions = p; rows = pair_up ms gs } in
+    let w : SetRows = record { partitions = p; rows = pair_up ms ws } in
+    let is_target : target_rows g ≡ record { partitions = p; rows = pair_up ms ts } = target_paired p ms gs len rising in
     let mine : members g ≡ ms = members_paired ms gs len in
-    let sets : sets_of (record { below = p; rows = pair_up ms ts }) ms ≡ ts = sets_paired p ms ts n.target_long rising in
+    let sets : sets_of (record { partitions = p; rows = pair_up ms ts }) ms ≡ ts = sets_paired p ms ts n.target_long rising in
     let lies : LieInBalanced g w = record {
       below = refl;
       same_members = members_paired ms ws n.long ∙ sym mine;
       valid = rows_paired p ms ws lo hi n.long rising n.over;
       apart = subst AreApart (sym (ap (sets_of w) (members_paired ms ws n.long) ∙ sets_paired p ms ws n.long rising)) (lies_apart ws ts n.lies (balanced_apart p ts n.target_over n.balanced));
       within = subst (RowsWithin w) (sym is_target) (within_paired p ms ws ts n.lies);
-      balanced = subst (IsBalanced p) (sym (ap (λ r. sets_of r (members g)) is_target ∙ ap (λ ns. sets_of (record { below = p; rows = pair_up ms ts }) ns) mine ∙ sets)) n.balanced;
+      balanced = subst (IsBalanced p) (sym (ap (λ r. sets_of r (members g)) is_target ∙ ap (λ ns. sets_of (record { partitions = p; rows = pair_up ms ts }) ns) mine ∙ sets)) n.balanced;
     } in
     subst (LieInBalanced g) (sym (next_paired p ms gs len rising)) lies
 
@@ -277,7 +277,7 @@ next_within g valid some apart =
     let ms : List ℕ = members g in
     let gs : List PartitionSet = sets_of g ms in
     let len : length gs ≡ length ms = length_sets g ms in
-    subst (λ r. LieInBalanced r (next_rows r)) (sym (paired g valid.rising)) (next_within_paired g.below ms gs valid.some valid.few len valid.rising (omega (arith, length_members g.rows)) (sets_over g ms valid) apart)
+    subst (λ r. LieInBalanced r (next_rows r)) (sym (paired g valid.rising)) (next_within_paired g.partitions ms gs valid.some valid.few len valid.rising (omega (arith, length_members g.rows)) (sets_over g ms valid) apart)
 
 -- ---- what is granted, with what is given
 abbrev unions : List PartitionSet → List PartitionSet → List PartitionSet
@@ -296,7 +296,7 @@ union_at (g ∷ gs) [] i len lt = absurd (omega arith)
 union_at (g ∷ gs) (w ∷ ws) zero len lt = refl
 union_at (g ∷ gs) (w ∷ ws) (suc i) len lt = union_at gs ws i (omega arith) (omega arith)
 
-below_at : (p : ℕ) (rows : List PartitionSet) (i : ℕ) → AreBelow p rows → i < length rows → partitions (row_at rows i) ≡ p
+below_at : (p : ℕ) (rows : List PartitionSet) (i : ℕ) → AreBelow p rows → i < length rows → partitions_of (row_at rows i) ≡ p
 below_at p [] i over lt = absurd (omega arith)
 below_at p (row ∷ rows) zero over lt = over.0
 below_at p (row ∷ rows) (suc i) over lt = below_at p rows i over.1 (omega arith)
@@ -352,13 +352,13 @@ map_unions f g [] = refl
 map_unions f g (m ∷ ms) = ap (λ rows. union (f m) (g m) ∷ rows) (map_unions f g ms)
 
 given_apart_paired : (p : ℕ) (ms : List ℕ) (gs : List PartitionSet) → length gs ≡ length ms → IsRising ms → 0 < length gs → AreBelow p gs → AreApart gs
-    → AreApart (together (record { below = p; rows = pair_up ms gs }) (next_rows (record { below = p; rows = pair_up ms gs })))
+    → AreApart (together (record { partitions = p; rows = pair_up ms gs }) (next_rows (record { partitions = p; rows = pair_up ms gs })))
 given_apart_paired p ms gs len rising some over apart =
     let ts : List PartitionSet = target p gs in
     let ws : List PartitionSet = taken_off (pair_up ms gs) ms ts in
     let n : AreNext p ms gs ts ws = are_next p ms gs len some over apart in
-    let g : SetRows = record { below = p; rows = pair_up ms gs } in
-    let w : SetRows = record { below = p; rows = pair_up ms ws } in
+    let g : SetRows = record { partitions = p; rows = pair_up ms gs } in
+    let w : SetRows = record { partitions = p; rows = pair_up ms ws } in
     let ta : AreApart ts = balanced_apart p ts n.target_over n.balanced in
     let same : together g w ≡ unions gs ws =
     ap (λ ns. map (λ m. union (set_of g m) (set_of w m)) ns) (members_paired ms gs len)
@@ -373,4 +373,4 @@ given_apart g valid some apart =
     let ms : List ℕ = members g in
     let gs : List PartitionSet = sets_of g ms in
     let len : length gs ≡ length ms = length_sets g ms in
-    subst (λ r. AreApart (together r (next_rows r))) (sym (paired g valid.rising)) (given_apart_paired g.below ms gs len valid.rising (omega (arith, length_members g.rows)) (sets_over g ms valid) apart)
+    subst (λ r. AreApart (together r (next_rows r))) (sym (paired g valid.rising)) (given_apart_paired g.partitions ms gs len valid.rising (omega (arith, length_members g.rows)) (sets_over g ms valid) apart)

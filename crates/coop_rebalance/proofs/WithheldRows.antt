@@ -3,7 +3,7 @@ use Rattle.std.proofs.Common.{ℕ, ◌≡◌, ◌+◌, ◌<◌, ◌≤◌, ◌==
 use Rattle.std.proofs.lemmas.Bool.{cases_lt}
 use Rattle.std.proofs.lemmas.Bool.Decides.{nat_tests}
 use Rattle.std.proofs.lemmas.List.{length-map, length-take-le, get_or-take, get_or-map, map-append, take_all}
-use Rattle.bit_planes.specs.PartitionSet.{PartitionSet, partitions, is_in, set_where, minus}
+use Rattle.bit_planes.specs.PartitionSet.{PartitionSet, partitions_of, is_in, set_where, minus}
 use Rattle.bit_planes.specs.SetRows.{SetRows, IsValidRows, IsRising, members, find_row, set_or_empty, set_of, put_row, with_row}
 use Rattle.bit_planes.proofs.Sets.{in_empty, in_minus, in_where, past, past_where, partitions_minus, partitions_where, same_set}
 use Rattle.bit_planes.proofs.RowLaws.{put_last}
@@ -21,15 +21,15 @@ not_first false y h = refl
 in_withheld_row : (granted : Rows) (row : ℕ × PartitionSet) (q : ℕ) → is_in (withheld_row granted row).1 q ≡ (is_in row.1 q && not (granted_to_other granted row.0 q))
 in_withheld_row granted row q =
     let f : ℕ → Bool = λ n. is_in row.1 n && not (granted_to_other granted row.0 n) in
-    elim (cases_lt q (partitions row.1)) [
-      | inl lt ↦ in_where (partitions row.1) f q lt
-      | inr le ↦ past_where (partitions row.1) f q le ∙ sym (not_first (is_in row.1 q) (not (granted_to_other granted row.0 q)) (past row.1 q le))
+    elim (cases_lt q (partitions_of row.1)) [
+      | inl lt ↦ in_where (partitions_of row.1) f q lt
+      | inr le ↦ past_where (partitions_of row.1) f q le ∙ sym (not_first (is_in row.1 q) (not (granted_to_other granted row.0 q)) (past row.1 q le))
     ]
 
 pub withheld_set : (granted : Rows) (row : ℕ × PartitionSet) (others : PartitionSet) → ((q : ℕ) → is_in others q ≡ granted_to_other granted row.0 q) → (row.0, minus row.1 others) ≡ withheld_row granted row
 withheld_set granted row others known =
     let f : ℕ → Bool = λ n. is_in row.1 n && not (granted_to_other granted row.0 n) in
-    let same : minus row.1 others ≡ set_where (partitions row.1) f = same_set (minus row.1 others) (set_where (partitions row.1) f) (partitions_minus row.1 others ∙ sym (partitions_where (partitions row.1) f))
+    let same : minus row.1 others ≡ set_where (partitions_of row.1) f = same_set (minus row.1 others) (set_where (partitions_of row.1) f) (partitions_minus row.1 others ∙ sym (partitions_where (partitions_of row.1) f))
     (λ q lt. in_minus row.1 others q ∙ ap (λ b. is_in row.1 q && not b) (known q) ∙ sym (in_withheld_row granted row q)) in
     ap (λ s. (row.0, s)) same
 
@@ -55,7 +55,7 @@ found_withheld p granted (row ∷ rows) m q =
 
 pub set_withheld : (target granted : SetRows) (m q : ℕ) → is_in (set_of (withheld target granted) m) q ≡ (is_in (set_of target m) q && not (granted_to_other granted.rows m q))
 unfolding withheld
-set_withheld target granted m q = found_withheld target.below granted.rows target.rows m q
+set_withheld target granted m q = found_withheld target.partitions granted.rows target.rows m q
 
 -- ---- the rows that a loop has made
 -- the first rows of a target, withheld

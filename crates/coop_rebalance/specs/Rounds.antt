@@ -16,12 +16,12 @@ pub record Settles (rows : SetRows) : Type 0 where
 
 -- the next rows are rows of the same members and P, are disjoint, and lie within the target's, which are balanced
 pub record LieInBalanced (granted rows : SetRows) : Type 0 where
-  pub below : rows.below ≡ granted.below
+  pub below : rows.partitions ≡ granted.partitions
   pub same_members : members rows ≡ members granted
   pub valid : IsValidRows rows
   pub apart : AreApart (sets_of rows (members rows))
   pub within : RowsWithin rows (target_rows granted)
-  pub balanced : IsBalanced granted.below (sets_of (target_rows granted) (members granted))
+  pub balanced : IsBalanced granted.partitions (sets_of (target_rows granted) (members granted))
 
 -- what each member is granted and what it is given, together
 abbrev pub together : SetRows → SetRows → List PartitionSet

@@ -1,6 +1,6 @@
 -- What a member is not to be given yet: KIP-429 has a partition that changes its owner revoked by the old one before it is assigned to the new.
 use Rattle.std.specs.Prelude.{ℕ, ◌==◌, Bool, false, ◌&&◌, ◌||◌, not, List, [], ◌∷◌, map}
-use Rattle.bit_planes.specs.PartitionSet.{PartitionSet, partitions, is_in, set_where}
+use Rattle.bit_planes.specs.PartitionSet.{PartitionSet, partitions_of, is_in, set_where}
 use Rattle.bit_planes.specs.SetRows.{SetRows}
 pub use Rattle.sticky_assignor.specs.Assigned.{target_rows}
 
@@ -11,7 +11,7 @@ granted_to_other (row ∷ rows) m q = (not (row.0 == m) && is_in row.1 q) || gra
 
 -- a member's row without what any other member is granted
 abbrev pub withheld_row : List (ℕ × PartitionSet) → (ℕ × PartitionSet) → (ℕ × PartitionSet)
-withheld_row granted row = (row.0, set_where (partitions row.1) (λ q. is_in row.1 q && not (granted_to_other granted row.0 q)))
+withheld_row granted row = (row.0, set_where (partitions_of row.1) (λ q. is_in row.1 q && not (granted_to_other granted row.0 q)))
 
 -- each member's row of the target without what any other member is granted
 unfoldable pub withheld : SetRows → SetRows → SetRows

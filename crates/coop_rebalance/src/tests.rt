@@ -1,7 +1,7 @@
 //! A partition that moves from member 1 to member 2, step by step, and each call once.
 
 ghost use Rattle.std.specs.Prelude.{◌≡◌, ◌≤◌};
-ghost use Rattle.bit_planes.specs.PartitionSet.{partitions};
+ghost use Rattle.bit_planes.specs.PartitionSet.{partitions_of};
 
 use super::*;
 use bit_planes::{Plane, PlaneRows};
@@ -9,7 +9,7 @@ use std::test::Fail;
 
 // The set of these of four partitions.
 fn of_four(numbers: &[u32]) -> Plane
-    ensures { partitions result ≡ 4 }
+    ensures { partitions_of result ≡ 4 }
 {
     let mut set = Plane::new(4);
     for q in numbers {

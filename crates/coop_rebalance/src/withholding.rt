@@ -1,7 +1,7 @@
 //! What members may be given at once, and what they have to give up first.
 
 ghost use Rattle.std.specs.Prelude.{◌≡◌, ◌&&◌, ◌↔◌, ℕ, not, IfOk, IsTrue};
-ghost use Rattle.bit_planes.specs.PartitionSet.{partitions, is_in, minus};
+ghost use Rattle.bit_planes.specs.PartitionSet.{partitions_of, is_in, minus};
 ghost use Rattle.bit_planes.specs.SetRows.{IsValidRows, members, set_of};
 ghost use Rattle.coop_rebalance.specs.Grants.{AreGrants, HaveSameRows};
 ghost use Rattle.coop_rebalance.specs.Withheld.{granted_to_other, withheld};
@@ -15,11 +15,11 @@ use std::alloc::Global;
 ///
 /// Its cost is linear in members times P. It is refused for want of memory alone.
 pub fn withhold(alloc: Global, target: &PlaneRows, granted: &PlaneRows) -> Result<PlaneRows, Memory>
-    requires { target.now.below ≡ granted.now.below }
+    requires { target.now.partitions ≡ granted.now.partitions }
     ensures value { IfOk result (λ rows. rows ≡ withheld target.now granted.now) }
     ensures sets { IfOk result (λ rows. (m q : ℕ) → is_in (set_of rows m) q ≡ (is_in (set_of target.now m) q && not (granted_to_other granted.now.rows m q))) }
     ensures members { IfOk result (λ rows. members rows ≡ members target.now) }
-    ensures below { IfOk result (λ rows. rows.below ≡ target.now.below) }
+    ensures below { IfOk result (λ rows. rows.partitions ≡ target.now.partitions) }
     ensures valid { IfOk result IsValidRows }
 {
     let grants = Grants::of(granted);
@@ -33,20 +33,20 @@ pub fn withhold(alloc: Global, target: &PlaneRows, granted: &PlaneRows) -> Resul
 
 /// What a member has to give up: what it is granted and not assigned, at one P. It takes no memory.
 pub fn to_give(granted: &Plane, assigned: &Plane) -> Plane
-    requires { partitions granted.now ≡ partitions assigned.now }
+    requires { partitions_of granted.now ≡ partitions_of assigned.now }
     ensures value { result ≡ minus granted.now assigned.now }
     ensures elements { (q : ℕ) → is_in result q ≡ (is_in granted.now q && not (is_in assigned.now q)) }
-    ensures partitions { partitions result ≡ partitions granted.now }
+    ensures partitions { partitions_of result ≡ partitions_of granted.now }
 {
     granted.minus(assigned)
 }
 
 /// What a member gets anew: what it is assigned and not granted, at one P. It takes no memory.
 pub fn added(assigned: &Plane, granted: &Plane) -> Plane
-    requires { partitions assigned.now ≡ partitions granted.now }
+    requires { partitions_of assigned.now ≡ partitions_of granted.now }
     ensures value { result ≡ minus assigned.now granted.now }
     ensures elements { (q : ℕ) → is_in result q ≡ (is_in assigned.now q && not (is_in granted.now q)) }
-    ensures partitions { partitions result ≡ partitions assigned.now }
+    ensures partitions { partitions_of result ≡ partitions_of assigned.now }
 {
     assigned.minus(granted)
 }
@@ -54,7 +54,7 @@ pub fn added(assigned: &Plane, granted: &Plane) -> Plane
 /// Whether each member is granted what it is assigned, at one P. Where a member has a row on one side only, also an
 /// empty one, it is not. It takes no memory.
 pub fn is_final(granted: &PlaneRows, assigned: &PlaneRows) -> bool
-    requires { granted.now.below ≡ assigned.now.below }
+    requires { granted.now.partitions ≡ assigned.now.partitions }
     ensures rows { IsTrue result ↔ HaveSameRows granted.now assigned.now }
     ensures equal { IsTrue result ↔ (granted.now ≡ assigned.now) }
 {
@@ -73,7 +73,7 @@ pub fn is_final(granted: &PlaneRows, assigned: &PlaneRows) -> bool
 
 // Whether two rows have the same member and the same set.
 fn is_same_row(row: &(u32, Plane), other: &(u32, Plane)) -> bool
-    requires { partitions row.now.1 ≡ partitions other.now.1 }
+    requires { partitions_of row.now.1 ≡ partitions_of other.now.1 }
     ensures { IsTrue result ↔ (row.now ≡ other.now) }
 {
     row.0 == other.0 && row.1.same(&other.1)
@@ -105,7 +105,7 @@ impl Grants {
     fn of_others(&self, granted: &PlaneRows, member: u32) -> Plane
         requires { AreGrants self.now.some self.now.several granted.now }
         ensures elements { (q : ℕ) → is_in result q ≡ granted_to_other granted.now.rows member q }
-        ensures partitions { partitions result ≡ granted.now.below }
+        ensures partitions { partitions_of result ≡ granted.now.partitions }
     {
         match granted.get(member) {
             Some(own) => self.several.union(&self.some.minus(own)),

@@ -2,7 +2,7 @@
 use Rattle.std.proofs.Common.{ℕ, suc, ◌≡◌, ◌<◌, ◌≤◌, ◌==◌, Bool, true, false, ◌&&◌, ◌||◌, ◌⊎◌, inl, inr, not, List, [], ◌∷◌, length, map, cond, refl, ap, sym, ◌∙◌, subst, arith}
 use Rattle.std.specs.Prelude.{Some, IsTrue}
 use Rattle.std.proofs.lemmas.Bool.{false≢true, cases_lt}
-use Rattle.bit_planes.specs.PartitionSet.{PartitionSet, partitions, is_in, is_within}
+use Rattle.bit_planes.specs.PartitionSet.{PartitionSet, partitions_of, is_in, is_within}
 use Rattle.bit_planes.specs.SetRows.{SetRows, IsValidRows, members, find_row, set_or_empty, set_of, sets_of}
 use Rattle.bit_planes.proofs.Sets.{both_true, same_set, in_empty, in_where, past_where, past}
 use Rattle.sticky_assignor.specs.Balanced.{AreBelow, IsBalanced}
@@ -16,13 +16,13 @@ use Rattle.group_machine.proofs.PresentLemmas.{Listed, RisesFrom, rises}
 use Rattle.group_machine.proofs.Rows.{apart_says, balanced_apart, member_listed, set_over, sets_below}
 
 pub target_members : (r : SetRows) → members (target_rows r) ≡ members r
-target_members r = members_assigned r.below (members r) r
+target_members r = members_assigned r.partitions (members r) r
 
 pub target_kept : (r : SetRows) → IsValidRows r → IsValidRows (target_rows r)
 target_kept r valid = assigned_kept (members r) r valid valid.rising
 
-pub target_below : (r : SetRows) → (target_rows r).below ≡ r.below
-target_below r = below_assigned r.below (members r) r
+pub target_below : (r : SetRows) → (target_rows r).partitions ≡ r.partitions
+target_below r = below_assigned r.partitions (members r) r
 
 length_mapped : (xs : List (ℕ × PartitionSet)) → length (map (λ row. row.0) xs) ≡ length xs
 length_mapped [] = refl
@@ -31,14 +31,14 @@ length_mapped (x ∷ xs) = ap (λ n. suc n) (length_mapped xs)
 next_lies : (r : SetRows) → AreOwned r → LieInBalanced r (next_rows r)
 next_lies r owned = next_within r owned.valid (omega (arith, owned.some, length_mapped r.rows)) owned.apart
 
-pub target_balanced : (r : SetRows) → AreOwned r → IsBalanced r.below (sets_of (target_rows r) (members r))
+pub target_balanced : (r : SetRows) → AreOwned r → IsBalanced r.partitions (sets_of (target_rows r) (members r))
 target_balanced r owned = (next_lies r owned).balanced
 
 pub next_members : (r : SetRows) → AreOwned r → members (next_rows r) ≡ members r
 next_members r owned = (next_lies r owned).same_members
 
-pub next_below : (r : SetRows) → AreOwned r → (next_rows r).below ≡ r.below
-next_below r owned = (next_lies r owned).below
+pub next_below : (r : SetRows) → AreOwned r → (next_rows r).partitions ≡ r.partitions
+next_below r owned = (next_lies r owned).partitions
 
 pub next_kept : (r : SetRows) → AreOwned r → IsValidRows (next_rows r)
 next_kept r owned = (next_lies r owned).valid
@@ -49,9 +49,9 @@ first_false true y e = absurd (false≢true (sym e))
 first_false false y e = refl
 
 in_withheld : (granted : List (ℕ × PartitionSet)) (m : ℕ) (row : PartitionSet) (q : ℕ) → is_in (withheld_row granted (m, row)).1 q ≡ (is_in row q && not (granted_to_other granted m q))
-in_withheld granted m row q = elim (cases_lt q (partitions row)) [
-  | inl lt ↦ in_where (partitions row) _ q lt
-  | inr le ↦ past_where (partitions row) _ q le ∙ sym (past row q le) ∙ first_false (is_in row q) (not (granted_to_other granted m q)) (past row q le)
+in_withheld granted m row q = elim (cases_lt q (partitions_of row)) [
+  | inl lt ↦ in_where (partitions_of row) _ q lt
+  | inr le ↦ past_where (partitions_of row) _ q le ∙ sym (past row q le) ∙ first_false (is_in row q) (not (granted_to_other granted m q)) (past row q le)
 ]
 
 found_withheld : (p : ℕ) (granted rows : List (ℕ × PartitionSet)) (m q : ℕ) → is_in (set_or_empty p (find_row (map (withheld_row granted) rows) m)) q ≡ (is_in (set_or_empty p (find_row rows m)) q && not (granted_to_other granted m q))
@@ -65,7 +65,7 @@ found_withheld p granted (row ∷ rows) m q = go (found_withheld p granted rows 
 
 next_found : (t r : SetRows) (m q : ℕ) → is_in (set_of (withheld t r) m) q ≡ (is_in (set_of t m) q && not (granted_to_other r.rows m q))
 unfolding withheld
-next_found t r m q = found_withheld t.below r.rows t.rows m q
+next_found t r m q = found_withheld t.partitions r.rows t.rows m q
 
 pub next_in : (r : SetRows) (m q : ℕ) → is_in (set_of (next_rows r) m) q ≡ (is_in (set_of (target_rows r) m) q && not (granted_to_other r.rows m q))
 next_in r m q = next_found (target_rows r) r m q
@@ -101,7 +101,7 @@ other_found p m0 (row ∷ rows) m q up e = elim (or_either (not (row.0 == m) && 
 ]
 
 pub other_says : (r : SetRows) → IsValidRows r → (m q : ℕ) → granted_to_other r.rows m q ≡ true → (n : ℕ) × (m ≡ n → ⊥) × (is_in (set_of r n) q ≡ true)
-other_says r valid m q e = let o = other_found r.below 0 r.rows m q (rises 0 (members r) (λ i lt. omega arith) valid.rising) e in (o.0, o.1, o.2)
+other_says r valid m q e = let o = other_found r.partitions 0 r.rows m q (rises 0 (members r) (λ i lt. omega arith) valid.rising) e in (o.0, o.1, o.2)
 
 found_other : (p : ℕ) (rows : List (ℕ × PartitionSet)) (m n q : ℕ) → (m ≡ n → ⊥) → is_in (set_or_empty p (find_row rows n)) q ≡ true → granted_to_other rows m q ≡ true
 found_other p [] m n q ne e = absurd (false≢true (sym (in_empty p q) ∙ e))
@@ -112,7 +112,7 @@ found_other p (row ∷ rows) m n q ne e = go (λ h. found_other p rows m n q ne 
     go later false is h = or_second (not (row.0 == m) && is_in row.1 q) (granted_to_other rows m q) (later h)
 
 pub other_of : (r : SetRows) (m n q : ℕ) → (m ≡ n → ⊥) → is_in (set_of r n) q ≡ true → granted_to_other r.rows m q ≡ true
-other_of r m n q ne e = found_other r.below r.rows m n q ne e
+other_of r m n q ne e = found_other r.partitions r.rows m n q ne e
 
 -- ---- the second round keeps everything and withholds nothing
 second : (r : SetRows) → AreOwned r → Settles (next_rows r)
@@ -147,8 +147,8 @@ pub target_apart : (r : SetRows) → AreOwned r → (m n q : ℕ) → is_in (set
 target_apart r owned m n q e h =
     let ms = members (target_rows r) in
     let same : ms ≡ members r = target_members r in
-    let below : AreBelow r.below (sets_of (target_rows r) (members r)) = subst (λ (p : ℕ). AreBelow p (sets_of (target_rows r) (members r))) (target_below r) (sets_below (target_rows r) (members r) (target_kept r owned.valid)) in
-    apart_says (set_of (target_rows r)) (members r) (balanced_apart r.below (sets_of (target_rows r) (members r)) below (target_balanced r owned)) m n q (subst (Listed m) same (member_listed (target_rows r) m q e)) (subst (Listed n) same (member_listed (target_rows r) n q h)) e h
+    let below : AreBelow r.partitions (sets_of (target_rows r) (members r)) = subst (λ (p : ℕ). AreBelow p (sets_of (target_rows r) (members r))) (target_below r) (sets_below (target_rows r) (members r) (target_kept r owned.valid)) in
+    apart_says (set_of (target_rows r)) (members r) (balanced_apart r.partitions (sets_of (target_rows r) (members r)) below (target_balanced r owned)) m n q (subst (Listed m) same (member_listed (target_rows r) m q e)) (subst (Listed n) same (member_listed (target_rows r) n q h)) e h
 
 pub next_apart : (r : SetRows) → AreOwned r → (m n q : ℕ) → is_in (set_of (next_rows r) m) q ≡ true → is_in (set_of (next_rows r) n) q ≡ true → m ≡ n
 next_apart r owned m n q e h = target_apart r owned m n q (next_in_target r m q e) (next_in_target r n q h)

@@ -4,7 +4,7 @@ use Rattle.std.proofs.lemmas.List.Folds.{list_all-append, list_any-append}
 use Rattle.std.proofs.Math.Seq.{drop-cons}
 use Rattle.std.specs.List.{list_any, list_all}
 use Rattle.std.specs.Option.{option_map}
-use Rattle.bit_planes.specs.PartitionSet.{partitions, empty_set}
+use Rattle.bit_planes.specs.PartitionSet.{partitions_of, empty_set}
 use Rattle.bit_planes.specs.SetRows.{with_row}
 use Rattle.group_machine.specs.declared.group.Slot.{Slot}
 use Rattle.group_machine.specs.declared.group.Seat.{Seat}
@@ -151,14 +151,14 @@ rejoined_over p None over x is = cc
 rejoined_over p (Some y) over x is =
     let same : rejoined_seat y ≡ x = cc in
     let own = over y refl in
-    record { granted = ap (λ z. partitions z.granted) (sym same) ∙ own.assigned; assigned = ap (λ z. partitions z.assigned) (sym same) ∙ own.assigned }
+    record { granted = ap (λ z. partitions_of z.granted) (sym same) ∙ own.assigned; assigned = ap (λ z. partitions_of z.assigned) (sym same) ∙ own.assigned }
 
 seat_over : (p : ℕ) (change : Change) (m : ℕ) (o : Option Seat) → ((y : Seat) → o ≡ Some y → IsSeatOver p y) → (x : Seat) → seat_after change m o ≡ Some x → IsSeatOver p x
 seat_over p Joins m o over x is = over x is
 seat_over p (Rejoins member) m o over x is = only_over p member m (on_seat rejoined_seat) o over (rejoined_over p o over) x is
 seat_over p (Leaves member) m o over x is = only_over p member m (λ before. None) o over (λ y h. cc) x is
 
-pub granted_over : (p : ℕ) (change : Change) (slots : List Slot) (i : ℕ) (s : Slot) (x : Seat) → AreSeatsOver p slots → i < length slots → s ≡ get_or slots i s → seat_after change (i + 1) s.seat ≡ Some x → partitions x.granted ≡ p
+pub granted_over : (p : ℕ) (change : Change) (slots : List Slot) (i : ℕ) (s : Slot) (x : Seat) → AreSeatsOver p slots → i < length slots → s ≡ get_or slots i s → seat_after change (i + 1) s.seat ≡ Some x → partitions_of x.granted ≡ p
 granted_over p change slots i s x over lt e is = (seat_over p change (i + 1) s.seat (λ y h. over (suc i) y (seat_of_index slots i s y lt e h)) x is).granted
 
 pub rows_more : (p : ℕ) (change : Change) (slots : List Slot) (i : ℕ) (s : Slot) (x : Seat) → i < length slots → s ≡ get_or slots i s → seat_after change (i + 1) s.seat ≡ Some x → with_row (granted_in p (take i (mid change slots))) (i + 1) x.granted ≡ granted_in p (take (i + 1) (mid change slots))

@@ -5,7 +5,7 @@ use Rattle.std.proofs.Math.ListN.{length-set}
 use Rattle.std.proofs.lemmas.Bool.Decides.{eqb_tells}
 use Rattle.lane_words.specs.declared.Refusal.{Refusal}
 use Rattle.lane_words.specs.declared.Refusal.TheVariants as r
-use Rattle.bit_planes.specs.PartitionSet.{is_in, partitions}
+use Rattle.bit_planes.specs.PartitionSet.{is_in, partitions_of}
 use Rattle.bit_planes.proofs.Sets.{in_below, partitions_empty}
 use Rattle.keyed_table.proofs.Raised.{length-raised}
 use Rattle.partition_log.specs.Keys.{distinct, with_key}
@@ -130,10 +130,10 @@ commit-kept g l old new p ids answer k ok err exact =
 
 -- ---- leases
 -- what a member is to keep is a set of the group's partitions
-pub assigned_over : (g : GroupState) → AllFit g → (m : ℕ) → partitions (assigned_of g m) ≡ g.partitions
+pub assigned_over : (g : GroupState) → AllFit g → (m : ℕ) → partitions_of (assigned_of g m) ≡ g.partitions
 assigned_over g fit m = go (member_of g m) (λ x is. fit m x is)
   where
-    go : (seat : Option Seat) → ((x : Seat) → seat ≡ Some x → IsFit g.partitions x) → partitions (seat_assigned g.partitions seat) ≡ g.partitions
+    go : (seat : Option Seat) → ((x : Seat) → seat ≡ Some x → IsFit g.partitions x) → partitions_of (seat_assigned g.partitions seat) ≡ g.partitions
     go None f = partitions_empty g.partitions
     go (Some x) f = (f x refl).assigned_below
 

@@ -3,7 +3,7 @@ use Rattle.std.proofs.Common.{ℕ, ◌≡◌, ◌<◌, Bool, true, false, ◌&&�
 use Rattle.std.proofs.lemmas.Bool.{false≢true}
 use Rattle.std.proofs.lemmas.List.FromFn.{length-map-range_with_len}
 use Rattle.std.specs.Option.{option_or}
-use Rattle.bit_planes.specs.PartitionSet.{PartitionSet, partitions, is_in, is_within, union, empty_set}
+use Rattle.bit_planes.specs.PartitionSet.{PartitionSet, partitions_of, is_in, is_within, union, empty_set}
 use Rattle.bit_planes.specs.SetRows.{SetRows, set_of, IsValidRows}
 use Rattle.bit_planes.proofs.Sets.{in_below, in_union, in_empty, partitions_union, within_of, same_says, both_true}
 use Rattle.sticky_assignor.specs.Balanced.{IsBalanced}
@@ -89,11 +89,11 @@ or_right true b e = refl
 or_right false b e = e
 
 -- what a member is granted after a completion it was granted before, or it is given it
-completed_in : (p : ℕ) (next : SetRows) (m q : ℕ) (o : Option Seat) → ((x : Seat) → o ≡ Some x → IsFit p x) → partitions (set_of next m) ≡ p → is_in (seat_granted p (on_seat (completed_seat next m) o)) q ≡ true → (is_in (seat_granted p o) q ≡ true) ⊎ (is_in (set_of next m) q ≡ true)
+completed_in : (p : ℕ) (next : SetRows) (m q : ℕ) (o : Option Seat) → ((x : Seat) → o ≡ Some x → IsFit p x) → partitions_of (set_of next m) ≡ p → is_in (seat_granted p (on_seat (completed_seat next m) o)) q ≡ true → (is_in (seat_granted p o) q ≡ true) ⊎ (is_in (set_of next m) q ≡ true)
 completed_in p next m q None fit over e = inl e
 completed_in p next m q (Some x) fit over e = or_cases (is_in x.granted q) (is_in (set_of next m) q) (sym (in_union x.granted (set_of next m) q ((fit x refl).granted_below ∙ sym over)) ∙ e)
 
-fit_completed : (p : ℕ) (next : SetRows) (m : ℕ) (x : Seat) → IsFit p x → partitions (set_of next m) ≡ p → IsFit p (completed_seat next m x)
+fit_completed : (p : ℕ) (next : SetRows) (m : ℕ) (x : Seat) → IsFit p x → partitions_of (set_of next m) ≡ p → IsFit p (completed_seat next m x)
 fit_completed p next m x fit over = record {
   granted_below = partitions_union x.granted (set_of next m) ∙ fit.granted_below;
   assigned_below = over;
@@ -106,7 +106,7 @@ pub seat_behind : (f : Seat → Seat) (o : Option Seat) (y : Seat) → on_seat f
 seat_behind f None y e = cc
 seat_behind f (Some x) y e = (x, refl, let same : f x ≡ y = cc in sym same)
 
-seat_agrees : (p : ℕ) (next : SetRows) (m : ℕ) (o : Option Seat) → ((x : Seat) → o ≡ Some x → IsFit p x) → partitions (set_of next m) ≡ p → ((y : Seat) → on_seat (completed_seat next m) o ≡ Some y → agrees y ≡ true) → (q : ℕ) → is_in (seat_granted p o) q ≡ true → o ≡ None ⊎ (is_in (set_of next m) q ≡ true)
+seat_agrees : (p : ℕ) (next : SetRows) (m : ℕ) (o : Option Seat) → ((x : Seat) → o ≡ Some x → IsFit p x) → partitions_of (set_of next m) ≡ p → ((y : Seat) → on_seat (completed_seat next m) o ≡ Some y → agrees y ≡ true) → (q : ℕ) → is_in (seat_granted p o) q ≡ true → o ≡ None ⊎ (is_in (set_of next m) q ≡ true)
 seat_agrees p next m None fit over agree q e = inl refl
 seat_agrees p next m (Some x) fit over agree q e =
     let same : union x.granted (set_of next m) ≡ set_of next m = same_says (union x.granted (set_of next m)) (set_of next m) (agree (completed_seat next m x) refl) in
@@ -139,7 +139,7 @@ complete_good g n e =
     let next : SetRows = next_rows r in
     let owned : AreOwned r = granted_owned g n.sized n.fit n.apart any in
     let valid : IsValidRows next = next_kept r owned in
-    let over : (m : ℕ) → partitions (set_of next m) ≡ p = λ m. set_over next m valid ∙ next_below r owned in
+    let over : (m : ℕ) → partitions_of (set_of next m) ≡ p = λ m. set_over next m valid ∙ next_below r owned in
     let at : (m : ℕ) → member_of (complete g) m ≡ on_seat (completed_seat next m) (member_of g m) = λ m. seat_each (completed_seat next) g.slots m in
     let same : members (complete g) ≡ members g = numbers_each (completed_seat next) g.slots in
     let own : (m q : ℕ) → is_in (granted_of g m) q ≡ true → is_in (set_of r m) q ≡ true = λ m q h. ap (λ s. is_in s q) (set_granted g m) ∙ h in

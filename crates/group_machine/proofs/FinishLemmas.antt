@@ -6,7 +6,7 @@ use Rattle.std.specs.List.{range_with_len}
 use Rattle.std.specs.Option.{option_or}
 use Rattle.lane_words.specs.declared.Refusal.{Refusal}
 use Rattle.lane_words.specs.declared.Refusal.TheVariants as r
-use Rattle.bit_planes.specs.PartitionSet.{PartitionSet, partitions, is_in, is_within, is_same, union}
+use Rattle.bit_planes.specs.PartitionSet.{PartitionSet, partitions_of, is_in, is_within, is_same, union}
 use Rattle.bit_planes.specs.SetRows as rows
 use Rattle.bit_planes.specs.SetRows.{SetRows, set_of, sets_of, IsValidRows}
 use Rattle.bit_planes.proofs.Sets.{in_union, partitions_union, within_says, same_set, same_self, both_true}
@@ -45,10 +45,10 @@ rows_each : (h : Seat → PartitionSet) (f : ℕ → Seat → Seat) (k : ℕ →
 rows_each h f k same slots = ap (λ xs. rows_by (λ m. h) xs) (present_each f slots) ∙ changed_map h f k same (present slots)
 
 pub granted_yielded : (g : GroupState) → granted_rows (yielded g) ≡ assigned_rows g
-granted_yielded g = ap (λ xs. record { below = g.partitions; rows = xs }) (rows_each (λ x. x.granted) (λ m. yielded_seat) (λ m x. x.assigned) (λ m x. refl) g.slots)
+granted_yielded g = ap (λ xs. record { partitions = g.partitions; rows = xs }) (rows_each (λ x. x.granted) (λ m. yielded_seat) (λ m x. x.assigned) (λ m x. refl) g.slots)
 
 pub granted_bare : (g : GroupState) → granted_rows (bare g) ≡ granted_rows g
-granted_bare g = ap (λ xs. record { below = g.partitions; rows = xs }) (rows_each (λ x. x.granted) (λ m. bare_seat) (λ m x. x.granted) (λ m x. refl) g.slots)
+granted_bare g = ap (λ xs. record { partitions = g.partitions; rows = xs }) (rows_each (λ x. x.granted) (λ m. bare_seat) (λ m x. x.granted) (λ m x. refl) g.slots)
 
 -- rows are their members with their sets
 abbrev sets_by : (ℕ → PartitionSet) → List ℕ → List (ℕ × PartitionSet)
@@ -62,8 +62,8 @@ number_map : (f : ℕ → PartitionSet) (xs : List (ℕ × Seat)) → rows_by (�
 number_map f [] = refl
 number_map f (x ∷ xs) = ap (λ rs. (x.0, f x.0) ∷ rs) (number_map f xs)
 
-rows_by_members : (w : SetRows) → IsValidRows w → w ≡ record { below = w.below; rows = sets_by (set_of w) (rows.members w) }
-rows_by_members w valid = paired w valid.rising ∙ ap (λ rs. record { below = w.below; rows = rs }) (pair_map (set_of w) (rows.members w))
+rows_by_members : (w : SetRows) → IsValidRows w → w ≡ record { partitions = w.partitions; rows = sets_by (set_of w) (rows.members w) }
+rows_by_members w valid = paired w valid.rising ∙ ap (λ rs. record { partitions = w.partitions; rows = rs }) (pair_map (set_of w) (rows.members w))
 
 -- what a round assigns is what members are to keep after it
 pub round_assigned : (g : GroupState) → AreOwned (assigned_rows g) → rows.members (assigned_rows g) ≡ members g → assigned_rows (round g) ≡ next_rows (assigned_rows g)
@@ -71,12 +71,12 @@ round_assigned g owned same =
     let w : SetRows = next_rows (assigned_rows g) in
     let next : next_rows (granted_rows (yielded g)) ≡ w = ap next_rows (granted_yielded g) in
     let slots : List Slot = each_changed (λ m. yielded_seat) g.slots in
-    ap (λ n. record { below = g.partitions; rows = rows_by (λ m x. x.assigned) (present (each_changed (completed_seat n) slots)) }) next
-    ∙ ap (λ rs. record { below = g.partitions; rows = rs }) (
+    ap (λ n. record { partitions = g.partitions; rows = rows_by (λ m x. x.assigned) (present (each_changed (completed_seat n) slots)) }) next
+    ∙ ap (λ rs. record { partitions = g.partitions; rows = rs }) (
     rows_each (λ x. x.assigned) (completed_seat w) (λ m x. set_of w m) (λ m x. refl) slots
     ∙ number_map (set_of w) (present slots)
     ∙ ap (λ ms. sets_by (set_of w) ms) (numbers_each (λ m. yielded_seat) g.slots ∙ sym same ∙ sym (next_members (assigned_rows g) owned)))
-    ∙ ap (λ p. record { below = p; rows = sets_by (set_of w) (rows.members w) }) (sym (next_below (assigned_rows g) owned))
+    ∙ ap (λ p. record { partitions = p; rows = sets_by (set_of w) (rows.members w) }) (sym (next_below (assigned_rows g) owned))
     ∙ sym (rows_by_members w (next_kept (assigned_rows g) owned))
 
 -- ---- after two rounds a group is settled
@@ -84,7 +84,7 @@ implies_or : (a b : Bool) → (a ≡ true → b ≡ true) → (a || b) ≡ b
 implies_or true b h = sym (h refl)
 implies_or false b h = refl
 
-union_within : (s t : PartitionSet) → partitions s ≡ partitions t → is_within s t ≡ true → union s t ≡ t
+union_within : (s t : PartitionSet) → partitions_of s ≡ partitions_of t → is_within s t ≡ true → union s t ≡ t
 union_within s t over within = same_set (union s t) t (partitions_union s t ∙ over) (λ q lt. in_union s t q over ∙ implies_or (is_in s q) (is_in t q) (within_says s t within q))
 
 seat_assigned_is : (g : GroupState) (next : SetRows) (m : ℕ) (y : Seat) → seat_of (each_changed (completed_seat next) g.slots) m ≡ Some y → y.assigned ≡ set_of next m
@@ -102,7 +102,7 @@ two_rounds g sized any fit apart =
     let t : SetRows = target_rows w in
     let now : next_rows (granted_rows (yielded (round g))) ≡ t = ap next_rows (granted_yielded (round g) ∙ one) ∙ all in
     let first : next_rows (granted_rows (yielded g)) ≡ w = ap next_rows (granted_yielded g) in
-    let over : (m : ℕ) → partitions (set_of w m) ≡ partitions (set_of t m) = λ m. set_over w m valid ∙ sym (set_over t m (target_kept w valid) ∙ target_below w) in
+    let over : (m : ℕ) → partitions_of (set_of w m) ≡ partitions_of (set_of t m) = λ m. set_over w m valid ∙ sym (set_over t m (target_kept w valid) ∙ target_below w) in
     let settled_by : (n : SetRows) → next_rows (granted_rows (yielded (round g))) ≡ n → n ≡ t → (m : ℕ) (x : Seat) → seat_of (each_changed (completed_seat n) (yielded (round g)).slots) m ≡ Some x → agrees x ≡ true = λ n is_n is_t m x is.
     let b = seat_behind (completed_seat n m) (seat_of (yielded (round g)).slots m) x (sym (seat_each (completed_seat n) (yielded (round g)).slots m) ∙ is) in
     let c = seat_behind yielded_seat (seat_of (round g).slots m) b.0 (sym (seat_each (λ k. yielded_seat) (round g).slots m) ∙ b.1) in

@@ -1,7 +1,7 @@
 -- A group's rows, and the look-up of one member.
 use Rattle.std.proofs.Common.{ℕ, suc, ◌≡◌, ◌<◌, true, List, [], ◌∷◌, Option, Some, None, length, map, slice_get, refl, ap, sym, ◌∙◌, subst, arith}
 use Rattle.std.specs.Option.{option_map}
-use Rattle.bit_planes.specs.PartitionSet.{PartitionSet, partitions, is_in}
+use Rattle.bit_planes.specs.PartitionSet.{PartitionSet, partitions_of, is_in}
 use Rattle.bit_planes.specs.SetRows as rows
 use Rattle.bit_planes.specs.SetRows.{SetRows, find_row, set_or_empty, set_of, sets_of, IsValidRows, AreOver}
 use Rattle.bit_planes.proofs.Sets.{partitions_empty, within_says}
@@ -43,11 +43,11 @@ set_assigned g m = ap (λ o. set_or_empty g.partitions o) (find_present (λ x. x
 pub members_rise : (g : GroupState) → RisesFrom 1 (members g)
 members_rise g = present_rises 1 g.slots
 
-over_and : (p : ℕ) (h : Seat → PartitionSet) (m : ℕ) (o : Option Seat) (xs : List (ℕ × Seat)) → ((x : Seat) → o ≡ Some x → partitions (h x) ≡ p) → AreOver p (map (λ r. (r.0, h r.1)) xs) → AreOver p (map (λ r. (r.0, h r.1)) (and_member m o xs))
+over_and : (p : ℕ) (h : Seat → PartitionSet) (m : ℕ) (o : Option Seat) (xs : List (ℕ × Seat)) → ((x : Seat) → o ≡ Some x → partitions_of (h x) ≡ p) → AreOver p (map (λ r. (r.0, h r.1)) xs) → AreOver p (map (λ r. (r.0, h r.1)) (and_member m o xs))
 over_and p h m None xs here rest = rest
 over_and p h m (Some x) xs here rest = (here x refl, rest)
 
-over_from : (p : ℕ) (h : Seat → PartitionSet) (m : ℕ) (slots : List Slot) → ((k : ℕ) (x : Seat) → seat_in (slice_get slots k) ≡ Some x → partitions (h x) ≡ p) → AreOver p (map (λ r. (r.0, h r.1)) (present_from m slots))
+over_from : (p : ℕ) (h : Seat → PartitionSet) (m : ℕ) (slots : List Slot) → ((k : ℕ) (x : Seat) → seat_in (slice_get slots k) ≡ Some x → partitions_of (h x) ≡ p) → AreOver p (map (λ r. (r.0, h r.1)) (present_from m slots))
 over_from p h m [] each = tt
 over_from p h m (s ∷ slots) each = over_and p h m s.seat (present_from (suc m) slots) (λ x is. each 0 x is) (over_from p h (suc m) slots (λ k x is. each (suc k) x is))
 
@@ -101,9 +101,9 @@ assigned_owned g sized fit apart any = record {
       apart m n q (assigned_in_granted g fit m q (ap (λ s. is_in s q) (sym (set_assigned g m)) ∙ e)) (assigned_in_granted g fit n q (ap (λ s. is_in s q) (sym (set_assigned g n)) ∙ h)));
 }
 
-pub granted_over : (g : GroupState) → AllFit g → (m : ℕ) → partitions (granted_of g m) ≡ g.partitions
+pub granted_over : (g : GroupState) → AllFit g → (m : ℕ) → partitions_of (granted_of g m) ≡ g.partitions
 granted_over g fit m = go (member_of g m) (λ x is. fit m x is)
   where
-    go : (o : Option Seat) → ((x : Seat) → o ≡ Some x → IsFit g.partitions x) → partitions (seat_granted g.partitions o) ≡ g.partitions
+    go : (o : Option Seat) → ((x : Seat) → o ≡ Some x → IsFit g.partitions x) → partitions_of (seat_granted g.partitions o) ≡ g.partitions
     go None f = partitions_empty g.partitions
     go (Some x) f = (f x refl).granted_below

@@ -115,7 +115,7 @@ pub taker_given : (items : Rows) (i : ℕ) (row : ℕ × PartitionSet) (next : S
     → row_of next row.0 ≡ Some given → is_in added q ≡ (is_in given q && not (is_in row.1 q)) → old ≡ taker_in (take i items) next q → new ≡ cond (is_in added q) (Some row.0) old
     → new ≡ taker_in (take (i + 1) items) next q
 taker_given items i row next q given added old new lt at apart found adds was now =
-    let same : given ≡ set_of next row.0 = ap (set_or_empty next.below) (sym found) in
+    let same : given ≡ set_of next row.0 = ap (set_or_empty next.partitions) (sym found) in
     let takes : is_in added q ≡ takes_row next q row = adds ∙ ap (λ t. is_in t q && not (is_in row.1 q)) same in
     now ∙ ap (λ b. cond b (Some row.0) old) takes ∙ ap (λ o. cond (takes_row next q row) (Some row.0) o) was ∙ taker_row (take i items) row next q apart
     ∙ ap (λ rows. taker_in rows next q) (sym (items_more items i row lt at))
@@ -124,7 +124,7 @@ pub taker_rowless : (items : Rows) (i : ℕ) (row : ℕ × PartitionSet) (next :
     → ((m n : ℕ) → is_in (set_of next m) q ≡ true → is_in (set_of next n) q ≡ true → m ≡ n)
     → row_of next row.0 ≡ None → old ≡ taker_in (take i items) next q → old ≡ taker_in (take (i + 1) items) next q
 taker_rowless items i row next q old lt at apart none was =
-    let out : is_in (set_of next row.0) q ≡ false = ap (λ o. is_in (set_or_empty next.below o) q) none ∙ in_empty next.below q in
+    let out : is_in (set_of next row.0) q ≡ false = ap (λ o. is_in (set_or_empty next.partitions o) q) none ∙ in_empty next.partitions q in
     let takes : takes_row next q row ≡ false = ap (λ b. b && not (is_in row.1 q)) out in
     was ∙ ap (λ b. cond b (Some row.0) (taker_in (take i items) next q)) (sym takes) ∙ taker_row (take i items) row next q apart
     ∙ ap (λ rows. taker_in rows next q) (sym (items_more items i row lt at))

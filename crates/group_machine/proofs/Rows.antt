@@ -2,7 +2,7 @@
 use Rattle.std.proofs.Common.{ℕ, suc, ◌≡◌, ◌+◌, ◌<◌, ◌≤◌, ◌==◌, Bool, true, false, ◌⊎◌, inl, inr, List, [], ◌∷◌, map, cond, refl, ap, sym, ◌∙◌, arith}
 use Rattle.std.specs.Prelude.{Some}
 use Rattle.std.proofs.lemmas.Bool.{false≢true, cases_lt}
-use Rattle.bit_planes.specs.PartitionSet.{PartitionSet, partitions, is_in, one}
+use Rattle.bit_planes.specs.PartitionSet.{PartitionSet, partitions_of, is_in, one}
 use Rattle.bit_planes.specs.SetRows.{SetRows, members, find_row, set_or_empty, set_of, sets_of, IsValidRows, AreOver}
 use Rattle.bit_planes.proofs.Sets.{past, in_empty, partitions_empty}
 use Rattle.sticky_assignor.specs.Balanced.{holders, AreBelow, AreApart, IsBalanced}
@@ -72,19 +72,19 @@ found_listed p (row ∷ rows) m q e = go (λ h. found_listed p rows m q h) (row.
 
 -- a member that has something has a row
 pub member_listed : (r : SetRows) (m q : ℕ) → is_in (set_of r m) q ≡ true → Listed m (members r)
-member_listed r m q e = found_listed r.below r.rows m q e
+member_listed r m q e = found_listed r.partitions r.rows m q e
 
-found_over : (p : ℕ) (rows : List (ℕ × PartitionSet)) (m : ℕ) → AreOver p rows → partitions (set_or_empty p (find_row rows m)) ≡ p
+found_over : (p : ℕ) (rows : List (ℕ × PartitionSet)) (m : ℕ) → AreOver p rows → partitions_of (set_or_empty p (find_row rows m)) ≡ p
 found_over p [] m over = partitions_empty p
 found_over p (row ∷ rows) m over = go (row.0 == m) over.0 (found_over p rows m over.1)
   where
-    go : (b : Bool) → partitions row.1 ≡ p → partitions (set_or_empty p (find_row rows m)) ≡ p → partitions (set_or_empty p (cond b (Some row.1) (find_row rows m))) ≡ p
+    go : (b : Bool) → partitions_of row.1 ≡ p → partitions_of (set_or_empty p (find_row rows m)) ≡ p → partitions_of (set_or_empty p (cond b (Some row.1) (find_row rows m))) ≡ p
     go true here later = here
     go false here later = later
 
-pub set_over : (r : SetRows) (m : ℕ) → IsValidRows r → partitions (set_of r m) ≡ r.below
-set_over r m valid = found_over r.below r.rows m valid.over
+pub set_over : (r : SetRows) (m : ℕ) → IsValidRows r → partitions_of (set_of r m) ≡ r.partitions
+set_over r m valid = found_over r.partitions r.rows m valid.over
 
-pub sets_below : (r : SetRows) (ms : List ℕ) → IsValidRows r → AreBelow r.below (sets_of r ms)
+pub sets_below : (r : SetRows) (ms : List ℕ) → IsValidRows r → AreBelow r.partitions (sets_of r ms)
 sets_below r [] valid = tt
 sets_below r (m ∷ ms) valid = (set_over r m valid, sets_below r ms valid)

@@ -6,7 +6,7 @@ use Rattle.std.specs.Option.{option_map, option_or}
 use Rattle.lane_words.specs.Answers.{Answers}
 use Rattle.lane_words.specs.declared.Refusal.{Refusal}
 use Rattle.lane_words.specs.declared.Refusal.TheVariants as r
-use Rattle.bit_planes.specs.PartitionSet.{PartitionSet, partitions, is_in, is_same}
+use Rattle.bit_planes.specs.PartitionSet.{PartitionSet, partitions_of, is_in, is_same}
 use Rattle.bit_planes.specs.SetRows.{SetRows, set_of}
 use Rattle.bit_planes.proofs.Sets.{same_says}
 use Rattle.coop_rebalance.specs.Rounds.{next_rows}
@@ -29,7 +29,7 @@ use Rattle.group_machine.proofs.Below.{next_below, next_apart}
 use Rattle.group_machine.proofs.CompletionLemmas.{IsNext}
 
 -- ---- tests
-pub not_same : (s t : PartitionSet) (a b : ℕ) → a ≡ partitions s → b ≡ partitions t → (a ≡ b → ⊥) → nat_eq a b ≡ is_same s t
+pub not_same : (s t : PartitionSet) (a b : ℕ) → a ≡ partitions_of s → b ≡ partitions_of t → (a ≡ b → ⊥) → nat_eq a b ≡ is_same s t
 not_same s t a b pa pb ne = other (nat_eq a b) refl ∙ sym (go (is_same s t) refl)
   where
     other : (c : Bool) → nat_eq a b ≡ c → nat_eq a b ≡ false
@@ -38,7 +38,7 @@ not_same s t a b pa pb ne = other (nat_eq a b) refl ∙ sym (go (is_same s t) re
 
     go : (c : Bool) → is_same s t ≡ c → is_same s t ≡ false
     go false e = e
-    go true e = absurd (ne (pa ∙ ap partitions (same_says s t e) ∙ sym pb))
+    go true e = absurd (ne (pa ∙ ap partitions_of (same_says s t e) ∙ sym pb))
 
 all_and : (test : Seat → Bool) (m : ℕ) (o : Option Seat) (xs : List (ℕ × Seat)) → list_all {X = ℕ × Seat} (λ r. test r.1) (and_member m o xs) ≡ (out_or test o && list_all (λ r. test r.1) xs)
 all_and test m None xs = refl
@@ -58,8 +58,8 @@ seats_over g fit m x is = record { granted = (fit m x is).granted_below; assigne
 pub owned_rows : (g : GroupState) → IsSound g → is_anybody g ≡ true → AreOwned (granted_rows g)
 owned_rows g sound any = granted_owned g sound.sized sound.fit sound.apart any
 
-pub rows_below : (g : GroupState) (next : SetRows) → IsSound g → is_anybody g ≡ true → next ≡ next_rows (granted_rows g) → next.below ≡ g.partitions
-rows_below g next sound any is = ap (λ n. n.below) is ∙ next_below (granted_rows g) (owned_rows g sound any)
+pub rows_below : (g : GroupState) (next : SetRows) → IsSound g → is_anybody g ≡ true → next ≡ next_rows (granted_rows g) → next.partitions ≡ g.partitions
+rows_below g next sound any is = ap (λ n. n.partitions) is ∙ next_below (granted_rows g) (owned_rows g sound any)
 
 pub rows_apart : (g : GroupState) (next : SetRows) → IsSound g → is_anybody g ≡ true → next ≡ next_rows (granted_rows g) → (m n q : ℕ) → is_in (set_of next m) q ≡ true → is_in (set_of next n) q ≡ true → m ≡ n
 rows_apart g next sound any is m n q e h = next_apart (granted_rows g) (owned_rows g sound any) m n q (ap (λ k. is_in (set_of k m) q) (sym is) ∙ e) (ap (λ k. is_in (set_of k n) q) (sym is) ∙ h)

@@ -60,10 +60,10 @@ granted_more p slots i s x lt e is =
     let last : put_row (rows_of before) (i + 1) x.granted ≡ rows_of before ++ (i + 1, x.granted) ∷ [] =
     put_last (rows_of before) (i + 1) x.granted (λ j within. rw (numbers_mapped before) (numbers_below 1 (i + 1) (take i slots) (omega (arith, length_front slots i)) j (rw (numbers_mapped before) at within))) in
     let all : rows_of (present (take (i + 1) slots)) ≡ rows_of before ++ (i + 1, x.granted) ∷ [] = ap rows_of (present_one slots i s x lt e is) ∙ map_append (λ m. (m.0, m.1.granted)) before ((i + 1, x) ∷ []) in
-    ap (λ rows. record { below = p; rows = rows }) (last ∙ sym all)
+    ap (λ rows. record { partitions = p; rows = rows }) (last ∙ sym all)
 
 pub granted_same : (p : ℕ) (slots : List Slot) (i : ℕ) (s : Slot) → i < length slots → s ≡ get_or slots i s → s.seat ≡ None → granted_in p (take i slots) ≡ granted_in p (take (i + 1) slots)
-granted_same p slots i s lt e none = ap (λ xs. record { below = p; rows = rows_of xs }) (sym (present_absent slots i s lt e none))
+granted_same p slots i s lt e none = ap (λ xs. record { partitions = p; rows = rows_of xs }) (sym (present_absent slots i s lt e none))
 
 -- ---- seats that are given place by place
 -- the slots, with the seats before a place changed

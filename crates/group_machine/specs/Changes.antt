@@ -27,9 +27,9 @@ seat_after (Leaves member) m seat = only_of member (λ before. None) m seat
 
 -- the slots after a change, where one that is new has this name
 abbrev pub slots_after : ℕ → List ℕ → Change → List Slot → List Slot
-slots_after p name Joins slots = slots ++ newcomer p name ∷ []
-slots_after p name (Rejoins member) slots = one_changed rejoined_seat slots member
-slots_after p name (Leaves member) slots = without_seat slots member
+slots_after partitions name Joins slots = slots ++ newcomer partitions name ∷ []
+slots_after partitions name (Rejoins member) slots = one_changed rejoined_seat slots member
+slots_after partitions name (Leaves member) slots = without_seat slots member
 
 abbrev pub phase_after : Change → List Slot → Phase
 phase_after Joins slots = Preparing

@@ -1,6 +1,6 @@
 -- What a group keeps.
 use Rattle.std.specs.Prelude.{ℕ, ◌≡◌, ◌<◌, ◌≤◌, ◌↔◌, true, false, map, length, Some}
-use Rattle.bit_planes.specs.PartitionSet.{PartitionSet, partitions, is_in, is_within}
+use Rattle.bit_planes.specs.PartitionSet.{PartitionSet, partitions_of, is_in, is_within}
 use Rattle.sticky_assignor.specs.Balanced.{IsBalanced}
 use Rattle.group_machine.specs.declared.group.Seat.{Seat}
 use Rattle.group_machine.specs.declared.group.Phase.TheVariants.{Empty, Preparing, Stable}
@@ -20,9 +20,9 @@ abbrev pub IsApart : GroupState → Type 0
 IsApart g = (m n q : ℕ) → is_in (granted_of g m) q ≡ true → is_in (granted_of g n) q ≡ true → m ≡ n
 
 -- a member's sets are over the group's partitions; what it is to keep is granted to it, and is all of that once it has joined
-pub record IsFit (p : ℕ) (seat : Seat) : Type 0 where
-  pub granted_below : partitions seat.granted ≡ p
-  pub assigned_below : partitions seat.assigned ≡ p
+pub record IsFit (partitions : ℕ) (seat : Seat) : Type 0 where
+  pub granted_below : partitions_of seat.granted ≡ partitions
+  pub assigned_below : partitions_of seat.assigned ≡ partitions
   pub within : is_within seat.assigned seat.granted ≡ true
   pub equal : seat.joined ≡ true → seat.assigned ≡ seat.granted
 
@@ -45,7 +45,7 @@ IsGrantBalanced g = IsBalanced g.partitions (map (λ m. granted_of g m) (members
 
 -- what members are to keep lies within balanced rows of the group's partitions
 pub record LieInBalanced (g : GroupState) (rows : ℕ → PartitionSet) : Type 0 where
-  pub below : (m : ℕ) → partitions (rows m) ≡ g.partitions
+  pub below : (m : ℕ) → partitions_of (rows m) ≡ g.partitions
   pub balanced : IsBalanced g.partitions (map rows (members g))
   pub within : (m : ℕ) → is_within (assigned_of g m) (rows m) ≡ true
 

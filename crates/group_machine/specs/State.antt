@@ -22,7 +22,7 @@ pub record GroupState : Type 0 where
 
 -- nobody has joined
 abbrev pub opening : ℕ → GroupState
-opening p = record { generation = 0; phase = Empty; partitions = p; slots = []; last = replicate p None; moves = [] }
+opening partitions = record { generation = 0; phase = Empty; partitions = partitions; slots = []; last = replicate partitions None; moves = [] }
 
 -- the one look-up: a member's seat, nothing where it is not present
 abbrev pub member_of : GroupState → ℕ → Option Seat
@@ -54,12 +54,12 @@ abbrev pub is_synced : GroupState → ℕ → Bool
 is_synced g member = seat_synced (member_of g member)
 
 abbrev pub seat_granted : ℕ → Option Seat → PartitionSet
-seat_granted p None = empty_set p
-seat_granted p (Some seat) = seat.granted
+seat_granted partitions None = empty_set partitions
+seat_granted partitions (Some seat) = seat.granted
 
 abbrev pub seat_assigned : ℕ → Option Seat → PartitionSet
-seat_assigned p None = empty_set p
-seat_assigned p (Some seat) = seat.assigned
+seat_assigned partitions None = empty_set partitions
+seat_assigned partitions (Some seat) = seat.assigned
 
 -- what a member may read and commit; nothing where it is not present
 abbrev pub granted_of : GroupState → ℕ → PartitionSet
@@ -71,11 +71,11 @@ assigned_of g member = seat_assigned g.partitions (member_of g member)
 
 -- what each present member is granted
 abbrev pub granted_rows : GroupState → SetRows
-granted_rows g = record { below = g.partitions; rows = map (λ m. (m.0, m.1.granted)) (present g.slots) }
+granted_rows g = record { partitions = g.partitions; rows = map (λ m. (m.0, m.1.granted)) (present g.slots) }
 
 -- what each present member is to keep
 abbrev pub assigned_rows : GroupState → SetRows
-assigned_rows g = record { below = g.partitions; rows = map (λ m. (m.0, m.1.assigned)) (present g.slots) }
+assigned_rows g = record { partitions = g.partitions; rows = map (λ m. (m.0, m.1.assigned)) (present g.slots) }
 
 -- the present member that is granted a partition
 abbrev pub owner_of : GroupState → ℕ → Option ℕ

@@ -27,7 +27,7 @@ is_name_used g name = list_any (λ s. bytes_eq s.name name) g.slots
 
 -- a member that joins is granted nothing yet
 abbrev pub newcomer : ℕ → List ℕ → Slot
-newcomer p name = record { name = name; seat = Some (record { joined = true; synced = false; granted = empty_set p; assigned = empty_set p }) }
+newcomer partitions name = record { name = name; seat = Some (record { joined = true; synced = false; granted = empty_set partitions; assigned = empty_set partitions }) }
 
 -- the group with one member more, before a completion
 abbrev pub joining : GroupState → List ℕ → GroupState

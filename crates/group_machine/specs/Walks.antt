@@ -2,7 +2,7 @@
 use Rattle.std.specs.Prelude.{◌≡◌, ℕ, ◌<◌, Bool, true, ◌&&◌, not, List, Option, Some, None, find, filter_map, map, slice_index_or, length}
 use Rattle.std.specs.List.{range_with_len}
 use Rattle.std.specs.Option.{option_map, option_or}
-use Rattle.bit_planes.specs.PartitionSet.{PartitionSet, partitions, is_in}
+use Rattle.bit_planes.specs.PartitionSet.{PartitionSet, partitions_of, is_in}
 use Rattle.bit_planes.specs.SetRows.{SetRows, IsValidRows, members, set_of, sets_of}
 use Rattle.sticky_assignor.specs.Balanced.{AreApart}
 use Rattle.group_machine.specs.declared.group.Slot.{Slot}
@@ -11,12 +11,12 @@ use Rattle.group_machine.specs.declared.group.Move.{Move}
 use Rattle.group_machine.specs.Slots.{seat_of, present}
 
 -- each present member's sets are over p
-pub record IsSeatOver (p : ℕ) (seat : Seat) : Type 0 where
-  pub granted : partitions seat.granted ≡ p
-  pub assigned : partitions seat.assigned ≡ p
+pub record IsSeatOver (partitions : ℕ) (seat : Seat) : Type 0 where
+  pub granted : partitions_of seat.granted ≡ partitions
+  pub assigned : partitions_of seat.assigned ≡ partitions
 
 abbrev pub AreSeatsOver : ℕ → List Slot → Type 0
-AreSeatsOver p slots = (member : ℕ) (seat : Seat) → seat_of slots member ≡ Some seat → IsSeatOver p seat
+AreSeatsOver partitions slots = (member : ℕ) (seat : Seat) → seat_of slots member ≡ Some seat → IsSeatOver partitions seat
 
 -- a test of a present member, which all others pass
 abbrev pub out_or : (Seat → Bool) → Option Seat → Bool
@@ -25,7 +25,7 @@ out_or test (Some seat) = test seat
 
 -- what present members are granted
 abbrev pub granted_in : ℕ → List Slot → SetRows
-granted_in p slots = record { below = p; rows = map (λ m. (m.0, m.1.granted)) (present slots) }
+granted_in partitions slots = record { partitions = partitions; rows = map (λ m. (m.0, m.1.granted)) (present slots) }
 
 -- rows of some members, with no partition in two of them
 pub record AreOwned (r : SetRows) : Type 0 where

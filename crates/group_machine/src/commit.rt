@@ -1,7 +1,7 @@
 //! What members and a cluster hand to one another: leases and commits.
 
 ghost use Rattle.std.specs.Prelude.{◌≡◌, ◌<◌};
-ghost use Rattle.bit_planes.specs.PartitionSet.{partitions};
+ghost use Rattle.bit_planes.specs.PartitionSet.{partitions_of};
 ghost use Rattle.group_machine.specs.Cluster.{CommitTerms, LeaseTerms, start_of};
 
 use bit_planes::Plane;
@@ -88,14 +88,14 @@ pub struct Lease {
 
 impl Model for Lease {
     ghost use Rattle.std.specs.Prelude.{◌≡◌, length};
-    ghost use Rattle.bit_planes.specs.PartitionSet.{partitions};
+    ghost use Rattle.bit_planes.specs.PartitionSet.{partitions_of};
     ghost use Rattle.group_machine.specs.Cluster.{LeaseTerms};
 
     ghost Value = { LeaseTerms };
 
     ghost view = { λ l. record { member = l.member; generation = l.generation; assigned = l.assigned; starts = l.starts.items } };
 
-    ghost invariant = { λ l. length l.starts.items ≡ partitions l.assigned };
+    ghost invariant = { λ l. length l.starts.items ≡ partitions_of l.assigned };
 }
 
 impl Lease {
@@ -122,7 +122,7 @@ impl Lease {
 
     /// The committed offset of a partition, which is that of the next record to be read.
     pub fn start(&self, p: u32) -> u32
-        requires { p < partitions self.now.assigned }
+        requires { p < partitions_of self.now.assigned }
         ensures { result ≡ start_of self.now p }
     {
         self.starts[p as usize]

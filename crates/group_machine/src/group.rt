@@ -88,12 +88,12 @@ impl Model for Group {
 
 impl Group {
     /// A group of `p` partitions, 1 to 4096, that nobody has joined. Refused for want of memory alone.
-    pub(crate) fn new(alloc: Global, p: u32) -> Result<Group, Memory>
-        requires { (1 ≤ p) × (p ≤ 4096) }
-        ensures { IfOk result (λ g. g ≡ opening p) }
+    pub(crate) fn new(alloc: Global, partitions: u32) -> Result<Group, Memory>
+        requires { (1 ≤ partitions) × (partitions ≤ 4096) }
+        ensures { IfOk result (λ g. g ≡ opening partitions) }
     {
         Ok(Group {
-            table: Table::new(alloc, p)?,
+            table: Table::new(alloc, partitions)?,
         })
     }
 

@@ -1,6 +1,6 @@
 -- Append-only logs of keyed records, one a partition.
 use Rattle.std.specs.Prelude.{◌≡◌, ℕ, zero, suc, ◌+◌, ◌-◌, ◌^◌, ◌<◌, ◌≤◌, ◌==◌, ◌&&◌, ◌||◌, nat_lt, nat_le, not, Bool, List, [], ◌∷◌, ◌++◌, length, filter, map, if◌then◌else◌, slice_index_or, slice_set, Contains, Result, Ok, Err}
-pub use Rattle.partitioner.specs.Storage.{place_of}
+pub use Rattle.partitioner.specs.Place.{place_of}
 use Rattle.lane_words.specs.declared.Refusal.{Refusal}
 use Rattle.lane_words.specs.declared.Refusal.TheVariants as r
 use Rattle.partition_log.specs.Keys.{Key, is_known, with_key, id_of, key_at, distinct, IsWithoutRepeats}

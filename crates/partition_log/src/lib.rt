@@ -4,7 +4,7 @@
 ghost use Rattle.std.specs.Prelude.{◌≡◌, ◌<◌, ◌≤◌, ◌++◌, ◌∷◌, [], Ok, Err, List, map, length, vec_items, vec_len, slice_set, slice_range, replicate, slice_index_or, IfOk, OnOk, OnErr, if◌then◌else◌};
 ghost use Rattle.lane_words.specs.Answers.{Answers};
 ghost use Rattle.lane_words.specs.declared.Refusal.TheVariants as refusal;
-ghost use Rattle.partitioner.specs.Storage.{place_of};
+ghost use Rattle.partitioner.specs.Place.{place_of};
 ghost use Rattle.partition_log.specs.Keys.{Key, key_at, id_of, with_key};
 ghost use Rattle.partition_log.specs.Logs.{append_answer, with_record, log_at, place_in, finds_no_room, longest_key, most_records, IsValidLogs, AreLogsOf, PartitionLogs};
 

@@ -1,7 +1,7 @@
 -- The assigned rows under their members' numbers.
 use Rattle.std.proofs.Common.{ℕ, suc, ◌≡◌, ◌<◌, ◌≤◌, ◌==◌, true, false, List, [], ◌∷◌, length, map, get_or, cond, refl, ap, sym, ◌∙◌, subst, arith}
 use Rattle.std.specs.Prelude.{Some}
-use Rattle.bit_planes.specs.PartitionSet.{PartitionSet, partitions}
+use Rattle.bit_planes.specs.PartitionSet.{PartitionSet, partitions_of}
 use Rattle.bit_planes.specs.SetRows.{SetRows, members, find_row, set_or_empty, sets_of, IsRising, AreOver, IsValidRows}
 use Rattle.bit_planes.proofs.Sets.{partitions_empty}
 use Rattle.sticky_assignor.specs.Balanced.{AreApart, AreBelow, IsBalanced}
@@ -41,24 +41,24 @@ over_paired p (m ∷ ms) [] over = tt
 over_paired p (m ∷ ms) (row ∷ rows) over = (over.0, over_paired p ms rows over.1)
 
 -- ---- sets of rows
-partitions_found : (p : ℕ) (rows : List (ℕ × PartitionSet)) (m : ℕ) → AreOver p rows → partitions (set_or_empty p (find_row rows m)) ≡ p
+partitions_found : (p : ℕ) (rows : List (ℕ × PartitionSet)) (m : ℕ) → AreOver p rows → partitions_of (set_or_empty p (find_row rows m)) ≡ p
 partitions_found p [] m over = partitions_empty p
 partitions_found p (row ∷ rows) m over =
-    elim (row.0 == m) as (λ b. partitions (set_or_empty p (cond b (Some row.1) (find_row rows m))) ≡ p) [
+    elim (row.0 == m) as (λ b. partitions_of (set_or_empty p (cond b (Some row.1) (find_row rows m))) ≡ p) [
       | true ↦ over.0
       | false ↦ partitions_found p rows m over.1
     ]
 
-pub sets_over : (r : SetRows) (ms : List ℕ) → IsValidRows r → AreBelow r.below (sets_of r ms)
+pub sets_over : (r : SetRows) (ms : List ℕ) → IsValidRows r → AreBelow r.partitions (sets_of r ms)
 sets_over r [] kept = tt
-sets_over r (m ∷ ms) kept = (partitions_found r.below r.rows m kept.over, sets_over r ms kept)
+sets_over r (m ∷ ms) kept = (partitions_found r.partitions r.rows m kept.over, sets_over r ms kept)
 
 pub length_sets : (r : SetRows) (ms : List ℕ) → length (sets_of r ms) ≡ length ms
 length_sets r [] = refl
 length_sets r (m ∷ ms) = ap (λ n. suc n) (length_sets r ms)
 
 -- ---- what is assigned
-pub below_assigned : (p : ℕ) (ms : List ℕ) (owned : SetRows) → (assigned p ms owned).below ≡ p
+pub below_assigned : (p : ℕ) (ms : List ℕ) (owned : SetRows) → (assigned p ms owned).partitions ≡ p
 unfolding assigned
 below_assigned p ms owned = refl
 
@@ -75,13 +75,13 @@ unfolding assigned
 sets_assigned p ms owned rising =
     sets_paired p ms (target p (sets_of owned ms)) (length_target p (sets_of owned ms) ∙ length_sets owned ms) rising
 
-pub assigned_kept : (ms : List ℕ) (owned : SetRows) → IsValidRows owned → IsRising ms → IsValidRows (assigned owned.below ms owned)
+pub assigned_kept : (ms : List ℕ) (owned : SetRows) → IsValidRows owned → IsRising ms → IsValidRows (assigned owned.partitions ms owned)
 unfolding assigned
 assigned_kept ms owned kept rising = record {
   some = kept.some;
   few = kept.few;
-  rising = subst IsRising (sym (members_assigned owned.below ms owned)) rising;
-  over = over_paired owned.below ms (target owned.below (sets_of owned ms)) (target_over owned.below (sets_of owned ms) (sets_over owned ms kept));
+  rising = subst IsRising (sym (members_assigned owned.partitions ms owned)) rising;
+  over = over_paired owned.partitions ms (target owned.partitions (sets_of owned ms)) (target_over owned.partitions (sets_of owned ms) (sets_over owned ms kept));
 }
 
 -- ---- rows as pairs of members and sets
@@ -97,48 +97,48 @@ length_seconds (row ∷ rows) = ap (λ n. suc n) (length_seconds rows)
 pub sets_all : (r : SetRows) → IsRising (members r) → sets_of r (members r) ≡ map (λ row. row.1) r.rows
 sets_all r rising =
     let seconds : List PartitionSet = map (λ row. row.1) r.rows in
-    ap (λ rows. map (λ m. set_or_empty r.below (find_row rows m)) (members r)) (pairs_are r.rows)
-    ∙ sets_paired r.below (members r) seconds (length_seconds r.rows) rising
+    ap (λ rows. map (λ m. set_or_empty r.partitions (find_row rows m)) (members r)) (pairs_are r.rows)
+    ∙ sets_paired r.partitions (members r) seconds (length_seconds r.rows) rising
 
 -- rows are their members with their sets
-pub paired : (r : SetRows) → IsRising (members r) → r ≡ record { below = r.below; rows = pair_up (members r) (sets_of r (members r)) }
+pub paired : (r : SetRows) → IsRising (members r) → r ≡ record { partitions = r.partitions; rows = pair_up (members r) (sets_of r (members r)) }
 paired r rising =
-    ap (λ rows. record { below = r.below; rows = rows }) (pairs_are r.rows ∙ ap (λ sets. pair_up (members r) sets) (sym (sets_all r rising)))
+    ap (λ rows. record { partitions = r.partitions; rows = rows }) (pairs_are r.rows ∙ ap (λ sets. pair_up (members r) sets) (sym (sets_all r rising)))
 
 -- the target of paired rows
-pub target_paired : (p : ℕ) (ms : List ℕ) (rows : List PartitionSet) → length rows ≡ length ms → IsRising ms → target_rows (record { below = p; rows = pair_up ms rows }) ≡ record { below = p; rows = pair_up ms (target p rows) }
+pub target_paired : (p : ℕ) (ms : List ℕ) (rows : List PartitionSet) → length rows ≡ length ms → IsRising ms → target_rows (record { partitions = p; rows = pair_up ms rows }) ≡ record { partitions = p; rows = pair_up ms (target p rows) }
 unfolding assigned
 target_paired p ms rows len rising =
-    ap (λ ns. assigned p ns (record { below = p; rows = pair_up ms rows })) (members_paired ms rows len)
-    ∙ ap (λ sets. record { below = p; rows = pair_up ms (target p sets) }) (sets_paired p ms rows len rising)
+    ap (λ ns. assigned p ns (record { partitions = p; rows = pair_up ms rows })) (members_paired ms rows len)
+    ∙ ap (λ sets. record { partitions = p; rows = pair_up ms (target p sets) }) (sets_paired p ms rows len rising)
 
 -- ---- the assignment by the parts that the code makes
 pub quotas_long : (p : ℕ) (ms : List ℕ) (owned : SetRows) (qs ns : List ℕ) → qs ≡ quotas p (sets_of owned ms) → ns ≡ qs → length ns ≡ length ms
 quotas_long p ms owned qs ns e same = ap length (same ∙ e) ∙ length_quotas p (sets_of owned ms) ∙ length_sets owned ms
 
-pub is_assigned : (p : ℕ) (ms : List ℕ) (owned : SetRows) (qs ns ks : List ℕ) (free : PartitionSet) (rows : SetRows) → owned.below ≡ p → qs ≡ quotas owned.below (sets_of owned ms) → ns ≡ qs → ks ≡ qs
-    → free ≡ free_of owned.below (keeping ns (sets_of owned ms))
-    → rows ≡ record { below = owned.below; rows = pair_up ms (filled free (gaps ks (keeping ks (sets_of owned ms))) (keeping ks (sets_of owned ms))) }
+pub is_assigned : (p : ℕ) (ms : List ℕ) (owned : SetRows) (qs ns ks : List ℕ) (free : PartitionSet) (rows : SetRows) → owned.partitions ≡ p → qs ≡ quotas owned.partitions (sets_of owned ms) → ns ≡ qs → ks ≡ qs
+    → free ≡ free_of owned.partitions (keeping ns (sets_of owned ms))
+    → rows ≡ record { partitions = owned.partitions; rows = pair_up ms (filled free (gaps ks (keeping ks (sets_of owned ms))) (keeping ks (sets_of owned ms))) }
     → rows ≡ assigned p ms owned
 unfolding assigned
 is_assigned p ms owned qs ns ks free rows below eq en ek ef er =
     let sets : List PartitionSet = sets_of owned ms in
-    let n : ns ≡ quotas owned.below sets = en ∙ eq in
-    let k : ks ≡ quotas owned.below sets = ek ∙ eq in
-    let f : free ≡ free_of owned.below (keeping (quotas owned.below sets) sets) = ef ∙ ap (λ xs. free_of owned.below (keeping xs sets)) n in
+    let n : ns ≡ quotas owned.partitions sets = en ∙ eq in
+    let k : ks ≡ quotas owned.partitions sets = ek ∙ eq in
+    let f : free ≡ free_of owned.partitions (keeping (quotas owned.partitions sets) sets) = ef ∙ ap (λ xs. free_of owned.partitions (keeping xs sets)) n in
     er
-    ∙ ap (λ xs. record { below = owned.below; rows = pair_up ms (filled free (gaps xs (keeping xs sets)) (keeping xs sets)) }) k
-    ∙ ap (λ s. record { below = owned.below; rows = pair_up ms (filled s (gaps (quotas owned.below sets) (keeping (quotas owned.below sets) sets)) (keeping (quotas owned.below sets) sets)) }) f
-    ∙ ap (λ t. record { below = owned.below; rows = pair_up ms t }) (filling_is_target owned.below sets)
-    ∙ ap (λ m. record { below = m; rows = pair_up ms (target m sets) }) below
+    ∙ ap (λ xs. record { partitions = owned.partitions; rows = pair_up ms (filled free (gaps xs (keeping xs sets)) (keeping xs sets)) }) k
+    ∙ ap (λ s. record { partitions = owned.partitions; rows = pair_up ms (filled s (gaps (quotas owned.partitions sets) (keeping (quotas owned.partitions sets) sets)) (keeping (quotas owned.partitions sets) sets)) }) f
+    ∙ ap (λ t. record { partitions = owned.partitions; rows = pair_up ms t }) (filling_is_target owned.partitions sets)
+    ∙ ap (λ m. record { partitions = m; rows = pair_up ms (target m sets) }) below
 
-pub balanced_assigned : (p : ℕ) (ms : List ℕ) (owned : SetRows) → owned.below ≡ p → IsValidRows owned → 0 < length ms → IsRising ms → AreApart (sets_of owned ms) → IsBalanced p (sets_of (assigned p ms owned) ms)
+pub balanced_assigned : (p : ℕ) (ms : List ℕ) (owned : SetRows) → owned.partitions ≡ p → IsValidRows owned → 0 < length ms → IsRising ms → AreApart (sets_of owned ms) → IsBalanced p (sets_of (assigned p ms owned) ms)
 balanced_assigned p ms owned below kept some rising apart =
     let over : AreBelow p (sets_of owned ms) = subst (λ n. AreBelow n (sets_of owned ms)) below (sets_over owned ms kept) in
     let many : 0 < length (sets_of owned ms) = omega (arith, length_sets owned ms) in
     subst (IsBalanced p) (sym (sets_assigned p ms owned rising)) (is_balanced p (sets_of owned ms) many over apart)
 
-pub most_assigned : (p : ℕ) (ms : List ℕ) (owned : SetRows) → owned.below ≡ p → IsValidRows owned → IsRising ms
+pub most_assigned : (p : ℕ) (ms : List ℕ) (owned : SetRows) → owned.partitions ≡ p → IsValidRows owned → IsRising ms
     → (others : List PartitionSet) → length others ≡ length ms → AreBelow p others → IsBalanced p others → kept (sets_of owned ms) others ≤ kept (sets_of owned ms) (sets_of (assigned p ms owned) ms)
 most_assigned p ms owned below is rising others len over balanced =
     let mine : AreBelow p (sets_of owned ms) = subst (λ n. AreBelow n (sets_of owned ms)) below (sets_over owned ms is) in

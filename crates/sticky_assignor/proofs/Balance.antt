@@ -2,7 +2,7 @@
 use Rattle.std.proofs.Common.{ℕ, zero, suc, ◌≡◌, ◌+◌, ◌-◌, ◌*◌, ◌/◌, ◌%◌, ◌<◌, ◌≤◌, true, false, List, [], ◌∷◌, length, min, suc-mul, refl, ap, sym, ◌∙◌, arith, cond, inl, inr}
 use Rattle.std.proofs.lemmas.List.Sums.{sum_by-cons}
 use Rattle.std.proofs.lemmas.Bool.{cases_lt}
-use Rattle.bit_planes.specs.PartitionSet.{PartitionSet, partitions, is_in, one, size, full_set, union, minus, lowest}
+use Rattle.bit_planes.specs.PartitionSet.{PartitionSet, partitions_of, is_in, one, size, full_set, union, minus, lowest}
 use Rattle.bit_planes.proofs.Sets.{one_le, one_or, one_in_minus, in_union, in_full, partitions_full, partitions_lowest, partitions_minus, lowest_splits, size_lowest, size_union, size_minus, size_full}
 use Rattle.sticky_assignor.specs.Balanced.{holders, size_at, IsBalanced, AreApart, AreBelow}
 use Rattle.sticky_assignor.specs.Filling.{one_of, shares, quotas, keeping, free_of, gaps, filled, filled_up, filling}
@@ -41,7 +41,7 @@ clear_rest g k ks free clear q = let h = clear q in omega (arith, lowest_splits 
 apart_low : (g : ℕ) (k : PartitionSet) (ks : List PartitionSet) (free : PartitionSet) → Clear (k ∷ ks) free → (q : ℕ) → one (is_in k q) + one (is_in (lowest g free) q) ≤ 1
 apart_low g k ks free clear q = let h = clear q in omega (arith, lowest_splits g free q)
 
-filled_holders : (p : ℕ) (free : PartitionSet) (gs : List ℕ) (ks : List PartitionSet) → length gs ≡ length ks → partitions free ≡ p → AreBelow p ks → Clear ks free → size free ≤ total gs → (q : ℕ) → holders (filled free gs ks) q ≡ holders ks q + one (is_in free q)
+filled_holders : (p : ℕ) (free : PartitionSet) (gs : List ℕ) (ks : List PartitionSet) → length gs ≡ length ks → partitions_of free ≡ p → AreBelow p ks → Clear ks free → size free ≤ total gs → (q : ℕ) → holders (filled free gs ks) q ≡ holders ks q + one (is_in free q)
 filled_holders p free [] [] len long over clear le q = omega (arith, one_none free q (omega arith))
 filled_holders p free [] (k ∷ ks) len long over clear le q = absurd (omega arith)
 filled_holders p free (g ∷ gs) [] len long over clear le q = absurd (omega arith)
@@ -52,7 +52,7 @@ filled_holders p free (g ∷ gs) (k ∷ ks) len long over clear le q =
     let ih : holders (filled rest gs ks) q ≡ holders ks q + one (is_in rest q) = filled_holders p rest gs ks (omega arith) (partitions_minus free low ∙ long) over.1 (clear_rest g k ks free clear) (omega (arith, size_beyond g free, size_lowest g free)) q in
     omega (arith, lowest_splits g free q)
 
-filled_sized : (p : ℕ) (free : PartitionSet) (qs : List ℕ) (ks : List PartitionSet) → Fits qs ks → partitions free ≡ p → AreBelow p ks → Clear ks free → total (gaps qs ks) ≤ size free → Sized qs (filled free (gaps qs ks) ks)
+filled_sized : (p : ℕ) (free : PartitionSet) (qs : List ℕ) (ks : List PartitionSet) → Fits qs ks → partitions_of free ≡ p → AreBelow p ks → Clear ks free → total (gaps qs ks) ≤ size free → Sized qs (filled free (gaps qs ks) ks)
 filled_sized p free [] [] fits long over clear le = tt
 filled_sized p free [] (k ∷ ks) fits long over clear le = absurd fits
 filled_sized p free (q ∷ qs) [] fits long over clear le = absurd fits
@@ -82,7 +82,7 @@ keeping_holders (q ∷ qs) [] n = omega arith
 keeping_holders (q ∷ qs) (row ∷ rows) n = omega (arith, keeping_holders qs rows n, lowest_splits q row n)
 
 -- ---- what is free
-pub partitions_free : (p : ℕ) (rows : List PartitionSet) → partitions (free_of p rows) ≡ p
+pub partitions_free : (p : ℕ) (rows : List PartitionSet) → partitions_of (free_of p rows) ≡ p
 partitions_free p [] = partitions_full p
 partitions_free p (row ∷ rows) = partitions_minus (free_of p rows) row ∙ partitions_free p rows
 

@@ -2,7 +2,7 @@
 use Rattle.std.proofs.Common.{ℕ, zero, suc, ◌≡◌, ◌+◌, ◌-◌, ◌*◌, ◌/◌, ◌%◌, ◌<◌, ◌≤◌, List, [], ◌∷◌, length, suc-mul, refl, ap, ◌∙◌, arith, inl, inr}
 use Rattle.std.proofs.Math.Nat.{mul-le-mul_left}
 use Rattle.std.proofs.lemmas.Bool.{cases_lt}
-use Rattle.bit_planes.specs.PartitionSet.{PartitionSet, partitions, is_in, one, size, full_set}
+use Rattle.bit_planes.specs.PartitionSet.{PartitionSet, partitions_of, is_in, one, size, full_set}
 use Rattle.bit_planes.proofs.Sets.{one_le, size_is, how_many-none, partitions_full}
 use Rattle.sticky_assignor.specs.Balanced.{size_at, IsBalanced, AreApart, AreBelow}
 use Rattle.sticky_assignor.specs.Filling.{free_of}
@@ -31,7 +31,7 @@ total_sizes (row ∷ rows) = omega (arith, total_sizes rows)
 
 -- ---- the sizes come to p
 pub empty_size : (s : PartitionSet) → ((q : ℕ) → one (is_in s q) ≡ 0) → size s ≡ 0
-empty_size s empty = size_is s ∙ how_many-none (partitions s) (is_in s) (λ q lt. is_false (is_in s q) (empty q))
+empty_size s empty = size_is s ∙ how_many-none (partitions_of s) (is_in s) (λ q lt. is_false (is_in s q) (empty q))
 
 -- balanced rows leave nothing free
 pub nothing_free : (p : ℕ) (rows : List PartitionSet) → AreBelow p rows → IsBalanced p rows → size (free_of p rows) ≡ 0

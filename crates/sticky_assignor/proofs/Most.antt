@@ -2,7 +2,7 @@
 use Rattle.std.proofs.Common.{ℕ, zero, suc, ◌≡◌, ◌+◌, ◌-◌, ◌*◌, ◌/◌, ◌%◌, ◌<◌, ◌≤◌, Bool, true, false, ◌||◌, ◌&&◌, List, [], ◌∷◌, length, min, refl, ap, sym, ◌∙◌, arith, cond}
 use Rattle.std.specs.Prelude.{nat_lt}
 use Rattle.std.proofs.lemmas.Bool.Decides.{nat_tests}
-use Rattle.bit_planes.specs.PartitionSet.{PartitionSet, partitions, is_in, one, rank, size, union, minus, lowest}
+use Rattle.bit_planes.specs.PartitionSet.{PartitionSet, partitions_of, is_in, one, rank, size, union, minus, lowest}
 use Rattle.bit_planes.proofs.Sets.{how_many-same, size_is, in_lowest, in_union, partitions_lowest, partitions_minus, size_lowest}
 use Rattle.sticky_assignor.specs.Balanced.{AreBelow, IsBalanced}
 use Rattle.sticky_assignor.specs.Filling.{one_of, shares, quotas, keeping, free_of, gaps, filled, filling}
@@ -37,10 +37,10 @@ and_right false true = omega arith
 and_right false false = omega arith
 
 both_left : (s t : PartitionSet) → in_both s t ≤ size s
-both_left s t = rw (size_is s) (how_many-most (partitions s) (λ q. is_in s q && is_in t q) (is_in s) (λ q. and_left (is_in s q) (is_in t q)))
+both_left s t = rw (size_is s) (how_many-most (partitions_of s) (λ q. is_in s q && is_in t q) (is_in s) (λ q. and_left (is_in s q) (is_in t q)))
 
-both_right : (s t : PartitionSet) → partitions s ≡ partitions t → in_both s t ≤ size t
-both_right s t len = rw (size_is t, sym len) (how_many-most (partitions s) (λ q. is_in s q && is_in t q) (is_in t) (λ q. and_right (is_in s q) (is_in t q)))
+both_right : (s t : PartitionSet) → partitions_of s ≡ partitions_of t → in_both s t ≤ size t
+both_right s t len = rw (size_is t, sym len) (how_many-most (partitions_of s) (λ q. is_in s q && is_in t q) (is_in t) (λ q. and_right (is_in s q) (is_in t q)))
 
 kept_reach : (p : ℕ) (owned rows : List PartitionSet) → AreBelow p owned → AreBelow p rows → length rows ≡ length owned → kept owned rows ≤ reach (sizes_of rows) owned
 kept_reach p [] [] oo or len = omega arith
@@ -95,18 +95,18 @@ in_own false y z e h = sym e ∙ h
 both_lowest : (n : ℕ) (s : PartitionSet) → in_both s (lowest n s) ≡ size (lowest n s)
 both_lowest n s =
     rw (size_is (lowest n s), partitions_lowest n s)
-    (how_many-same (partitions s) (λ q. is_in s q && is_in (lowest n s) q) (is_in (lowest n s)) (λ q lt. and_within (is_in s q) (is_in (lowest n s) q) (in_own (is_in s q) (nat_lt (rank s q) n) (is_in (lowest n s) q) (in_lowest n s q))))
+    (how_many-same (partitions_of s) (λ q. is_in s q && is_in (lowest n s) q) (is_in (lowest n s)) (λ q lt. and_within (is_in s q) (is_in (lowest n s) q) (in_own (is_in s q) (nat_lt (rank s q) n) (is_in (lowest n s) q) (in_lowest n s q))))
 
 and_or : (x y z : Bool) → one (x && y) ≤ one (x && (y || z))
 and_or true true z = omega arith
 and_or true false z = omega arith
 and_or false y z = omega arith
 
-both_union : (s t u : PartitionSet) → partitions t ≡ partitions u → in_both s t ≤ in_both s (union t u)
+both_union : (s t u : PartitionSet) → partitions_of t ≡ partitions_of u → in_both s t ≤ in_both s (union t u)
 both_union s t u len =
-    how_many-most (partitions s) (λ q. is_in s q && is_in t q) (λ q. is_in s q && is_in (union t u) q) (λ q. rw (in_union t u q len) (and_or (is_in s q) (is_in t q) (is_in u q)))
+    how_many-most (partitions_of s) (λ q. is_in s q && is_in t q) (λ q. is_in s q && is_in (union t u) q) (λ q. rw (in_union t u q len) (and_or (is_in s q) (is_in t q) (is_in u q)))
 
-reach_filled : (p : ℕ) (free : PartitionSet) (gs qs : List ℕ) (owned : List PartitionSet) → partitions free ≡ p → AreBelow p owned → length gs ≡ length owned → length qs ≡ length owned → reach qs owned ≤ kept owned (filled free gs (keeping qs owned))
+reach_filled : (p : ℕ) (free : PartitionSet) (gs qs : List ℕ) (owned : List PartitionSet) → partitions_of free ≡ p → AreBelow p owned → length gs ≡ length owned → length qs ≡ length owned → reach qs owned ≤ kept owned (filled free gs (keeping qs owned))
 reach_filled p free [] [] [] long over lg lq = omega arith
 reach_filled p free (g ∷ gs) [] [] long over lg lq = absurd (omega arith)
 reach_filled p free gs (q ∷ qs) [] long over lg lq = absurd (omega arith)

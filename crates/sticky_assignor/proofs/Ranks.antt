@@ -3,7 +3,7 @@ use Rattle.std.proofs.Common.{ℕ, zero, suc, ◌≡◌, ◌+◌, ◌-◌, ◌/�
 use Rattle.std.proofs.lemmas.Bool.{lt-ltb}
 use Rattle.std.proofs.lemmas.Bool.Decides.{nat_tests}
 use Rattle.std.specs.Prelude.{nat_lt, nat_le}
-use Rattle.bit_planes.specs.PartitionSet.{PartitionSet, partitions, is_in, one, any_below, rank, size, union, minus, lowest}
+use Rattle.bit_planes.specs.PartitionSet.{PartitionSet, partitions_of, is_in, one, any_below, rank, size, union, minus, lowest}
 use Rattle.bit_planes.proofs.Sets.{same_set, partitions_where, in_where, in_full, in_minus, in_lowest, partitions_lowest, partitions_minus, rank_is, rank_next, rank_lowest, lowest_splits}
 use Rattle.sticky_assignor.specs.Filling.{one_of, shares, quotas, keeping, free_of, gaps, filled, filling}
 use Rattle.sticky_assignor.specs.Target.{is_heavy, heavies, row_at, sum_before, quota_of, kept_row, free_set, gap_of, covers, taken_row, rows_by, target}
@@ -62,7 +62,7 @@ given free [] i = free
 given free (g ∷ gs) zero = lowest g free
 given free (g ∷ gs) (suc i) = given (minus free (lowest g free)) gs i
 
-partitions_given : (free : PartitionSet) (gs : List ℕ) (i : ℕ) → partitions (given free gs i) ≡ partitions free
+partitions_given : (free : PartitionSet) (gs : List ℕ) (i : ℕ) → partitions_of (given free gs i) ≡ partitions_of free
 partitions_given free [] i = refl
 partitions_given free (g ∷ gs) zero = partitions_lowest g free
 partitions_given free (g ∷ gs) (suc i) = partitions_given (minus free (lowest g free)) gs i ∙ partitions_minus free (lowest g free)
@@ -176,7 +176,7 @@ free_same p owned =
     let kept : List PartitionSet = keeping (quotas p owned) owned in
     let lk : length kept ≡ length owned = length_keeping (quotas p owned) owned (length_quotas p owned) in
     let f : ℕ → ℕ → Bool = λ q i. is_in (kept_row p owned i) q in
-    let ps : partitions (free_set p owned) ≡ p = partitions_where p (λ q. not (any_below (length owned) (f q))) in
+    let ps : partitions_of (free_set p owned) ≡ p = partitions_where p (λ q. not (any_below (length owned) (f q))) in
     same_set (free_set p owned) (free_of p kept) (ps ∙ sym (partitions_free p kept)) (λ q lt.
     let any : any_below (length owned) (f q) ≡ any_row kept q = ap (λ n. any_below n (f q)) (sym lk) ∙ any_same kept (f q) q (λ i l. ap (λ s. is_in s q) (kept_at p owned i (omega arith))) in
     in_where p (λ q. not (any_below (length owned) (f q))) q (omega arith) ∙ ap not any ∙ sym (in_free p kept q (omega arith)))

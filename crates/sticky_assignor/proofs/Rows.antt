@@ -1,12 +1,12 @@
 -- Sets and rows of sets, in words that the other proofs share.
 use Rattle.std.proofs.Common.{ℕ, zero, suc, ◌≡◌, ◌+◌, ◌<◌, ◌≤◌, ◌==◌, Bool, true, false, List, [], ◌∷◌, refl, ap, sym, arith}
 use Rattle.std.proofs.lemmas.Bool.Decides.{nat_tests}
-use Rattle.bit_planes.specs.PartitionSet.{PartitionSet, partitions, is_in, one, how_many, size, minus, lowest}
+use Rattle.bit_planes.specs.PartitionSet.{PartitionSet, partitions_of, is_in, one, how_many, size, minus, lowest}
 use Rattle.bit_planes.proofs.Sets.{past, none_of_no_size, lowest_within, partitions_lowest, size_minus}
 use Rattle.sticky_assignor.specs.Balanced.{holders, AreBelow}
 
 -- a number that is not in a set counts as nothing
-pub one_past : (s : PartitionSet) (q : ℕ) → partitions s ≤ q → one (is_in s q) ≡ 0
+pub one_past : (s : PartitionSet) (q : ℕ) → partitions_of s ≤ q → one (is_in s q) ≡ 0
 one_past s q le = ap one (past s q le)
 
 pub one_none : (s : PartitionSet) (q : ℕ) → size s ≡ 0 → one (is_in s q) ≡ 0

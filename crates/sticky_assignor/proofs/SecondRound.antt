@@ -1,6 +1,6 @@
 -- Rows within balanced rows are kept whole by their target.
 use Rattle.std.proofs.Common.{ℕ, zero, suc, ◌≡◌, ◌/◌, ◌<◌, ◌≤◌, Bool, true, false, ◌||◌, List, [], ◌∷◌, length, refl, ap, sym, ◌∙◌, subst, arith}
-use Rattle.bit_planes.specs.PartitionSet.{PartitionSet, partitions, is_in, one, size, minus, lowest}
+use Rattle.bit_planes.specs.PartitionSet.{PartitionSet, partitions_of, is_in, one, size, minus, lowest}
 use Rattle.bit_planes.proofs.Sets.{in_union, partitions_union, partitions_lowest, partitions_minus, size_is}
 use Rattle.sticky_assignor.specs.Balanced.{holders, AreBelow, AreApart, IsBalanced}
 use Rattle.sticky_assignor.specs.Filling.{quotas, keeping, free_of, gaps, filled}
@@ -47,7 +47,7 @@ le_or false true = omega arith
 le_or false false = omega arith
 
 -- what is kept is in what is filled up
-lies_filled : (p : ℕ) (free : PartitionSet) (gs : List ℕ) (ks : List PartitionSet) → length gs ≡ length ks → partitions free ≡ p → AreBelow p ks → Lies ks (filled free gs ks)
+lies_filled : (p : ℕ) (free : PartitionSet) (gs : List ℕ) (ks : List PartitionSet) → length gs ≡ length ks → partitions_of free ≡ p → AreBelow p ks → Lies ks (filled free gs ks)
 lies_filled p free [] [] len long over = tt
 lies_filled p free [] (k ∷ ks) len long over = absurd (omega arith)
 lies_filled p free (g ∷ gs) [] len long over = absurd (omega arith)
@@ -56,8 +56,8 @@ lies_filled p free (g ∷ gs) (k ∷ ks) len long over = (
   lies_filled p (minus free (lowest g free)) gs ks (omega arith) (partitions_minus free (lowest g free) ∙ long) over.1,
 )
 
-size_le : (s t : PartitionSet) → partitions s ≡ partitions t → ((q : ℕ) → one (is_in s q) ≤ one (is_in t q)) → size s ≤ size t
-size_le s t len le = rw (size_is s, size_is t, len) (how_many-most (partitions t) (is_in s) (is_in t) le)
+size_le : (s t : PartitionSet) → partitions_of s ≡ partitions_of t → ((q : ℕ) → one (is_in s q) ≤ one (is_in t q)) → size s ≤ size t
+size_le s t len le = rw (size_is s, size_is t, len) (how_many-most (partitions_of t) (is_in s) (is_in t) le)
 
 fits_lies : (p : ℕ) (rows bs : List PartitionSet) → AreBelow p rows → AreBelow p bs → Lies rows bs → Fits (sizes_of bs) rows
 fits_lies p [] [] over ob lies = tt

@@ -1,6 +1,6 @@
 -- Balanced rows stay.
 use Rattle.std.proofs.Common.{ℕ, ◌≡◌, ◌<◌, Bool, true, false, ◌||◌, List, [], ◌∷◌, length, refl, ap, sym, ◌∙◌, arith}
-use Rattle.bit_planes.specs.PartitionSet.{PartitionSet, partitions, is_in, size, union, minus, lowest}
+use Rattle.bit_planes.specs.PartitionSet.{PartitionSet, partitions_of, is_in, size, union, minus, lowest}
 use Rattle.bit_planes.proofs.Sets.{same_set, in_union, partitions_union, partitions_lowest, partitions_minus, none_of_no_size, size_lowest}
 use Rattle.sticky_assignor.specs.Balanced.{AreBelow, IsBalanced}
 use Rattle.sticky_assignor.specs.Filling.{quotas, free_of, gaps, filled, filling}
@@ -13,11 +13,11 @@ or_false : (x y : Bool) → y ≡ false → (x || y) ≡ x
 or_false true y e = refl
 or_false false y e = e
 
-union_empty : (s t : PartitionSet) → partitions s ≡ partitions t → size t ≡ 0 → union s t ≡ s
+union_empty : (s t : PartitionSet) → partitions_of s ≡ partitions_of t → size t ≡ 0 → union s t ≡ s
 union_empty s t len e =
     same_set (union s t) s (partitions_union s t) (λ q lt. in_union s t q len ∙ or_false (is_in s q) (is_in t q) (none_of_no_size t q e))
 
-filled_nothing : (p : ℕ) (free : PartitionSet) (gs : List ℕ) (ks : List PartitionSet) → partitions free ≡ p → AreBelow p ks → size free ≡ 0 → length gs ≡ length ks → filled free gs ks ≡ ks
+filled_nothing : (p : ℕ) (free : PartitionSet) (gs : List ℕ) (ks : List PartitionSet) → partitions_of free ≡ p → AreBelow p ks → size free ≡ 0 → length gs ≡ length ks → filled free gs ks ≡ ks
 filled_nothing p free [] [] long over e len = refl
 filled_nothing p free [] (k ∷ ks) long over e len = absurd (omega arith)
 filled_nothing p free (g ∷ gs) [] long over e len = absurd (omega arith)

@@ -147,7 +147,7 @@ any_default (x ∷ ms) (suc i) m d lt e = any_default ms i m d (omega arith) e
 -- the rows after a turn
 pub fill_step : (owned rows new : SetRows) (ms qs : List ℕ) (i m n count gap : ℕ) (free own kept given row next : PartitionSet) → IsRising ms → i < length ms → i < length qs → m ≡ get_or ms i m → n ≡ get_or qs i n
     → own ≡ set_of owned m → kept ≡ lowest n own → count ≡ size kept → gap ≡ n - count → given ≡ lowest gap free → row ≡ union kept given → next ≡ minus free given → new ≡ with_row rows m row → members rows ≡ take i ms
-    → (new.below ≡ rows.below) × (members new ≡ take (i + 1) ms) × (new.rows ++ filled_from owned next ms qs (i + 1) ≡ rows.rows ++ filled_from owned free ms qs i)
+    → (new.partitions ≡ rows.partitions) × (members new ≡ take (i + 1) ms) × (new.rows ++ filled_from owned next ms qs (i + 1) ≡ rows.rows ++ filled_from owned free ms qs i)
 fill_step owned rows new ms qs i m n count gap free own kept given row next rising lm lq em en eo ek ec eg egiven er enext enew numbers =
     let k : kept ≡ lowest n (set_of owned m) = ek ∙ ap (lowest n) eo in
     let g : gap ≡ n - size (lowest n (set_of owned m)) = eg ∙ ap (λ x. n - x) (ec ∙ ap size k) in
@@ -164,7 +164,7 @@ fill_step owned rows new ms qs i m n count gap free own kept given row next risi
     let rest : List (ℕ × PartitionSet) = filled_from owned next ms qs (i + 1) in
     let step : (m, row) ∷ rest ≡ filled_from owned free ms qs i =
     ap (λ s. (m, s) ∷ rest) r ∙ ap (λ s. (m, union (lowest n (set_of owned m)) (lowest (n - size (lowest n (set_of owned m))) free)) ∷ filled_from owned s ms qs (i + 1)) (enext ∙ ap (minus free) low) ∙ sym (filled_next owned free ms qs i m n lm lq em en) in (
-      ap (λ x. x.below) enew,
+      ap (λ x. x.partitions) enew,
       ap (map (λ row. row.0)) is ∙ firsts_append rows.rows m row ∙ ap (λ ns. ns ++ m ∷ []) numbers ∙ sym (take_next ms i m lm em),
       ap (λ rs. rs ++ rest) is ∙ append_assoc rows.rows ((m, row) ∷ []) rest ∙ ap (λ rs. rows.rows ++ rs) step,
     )
@@ -174,8 +174,8 @@ append_none [] = refl
 append_none (row ∷ rows) = ap (λ rs. row ∷ rs) (append_none rows)
 
 -- the rows after the last turn
-pub fill_end : (owned rows : SetRows) (ms qs : List ℕ) (i : ℕ) (free all : PartitionSet) → length ms ≤ i → rows.below ≡ owned.below → rows.rows ++ filled_from owned free ms qs i ≡ filled_from owned all ms qs 0
-    → rows ≡ record { below = owned.below; rows = filled_from owned all ms qs 0 }
+pub fill_end : (owned rows : SetRows) (ms qs : List ℕ) (i : ℕ) (free all : PartitionSet) → length ms ≤ i → rows.partitions ≡ owned.partitions → rows.rows ++ filled_from owned free ms qs i ≡ filled_from owned all ms qs 0
+    → rows ≡ record { partitions = owned.partitions; rows = filled_from owned all ms qs 0 }
 fill_end owned rows ms qs i free all le below so_far =
     let is : rows.rows ≡ filled_from owned all ms qs 0 = sym (append_none rows.rows) ∙ ap (λ rs. rows.rows ++ rs) (sym (filled_end owned free ms qs i le)) ∙ so_far in
-    ap (λ n. record { below = n; rows = rows.rows }) below ∙ ap (λ rs. record { below = owned.below; rows = rs }) is
+    ap (λ n. record { partitions = n; rows = rows.rows }) below ∙ ap (λ rs. record { partitions = owned.partitions; rows = rs }) is

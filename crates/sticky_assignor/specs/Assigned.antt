@@ -12,11 +12,11 @@ pair_up (m ∷ ms) (row ∷ rows) = (m, row) ∷ pair_up ms rows
 
 -- the target of these members, by what they own. Rows of other members are disregarded
 unfoldable pub assigned : ℕ → List ℕ → SetRows → SetRows
-assigned p ms owned = record { below = p; rows = pair_up ms (target p (sets_of owned ms)) }
+assigned partitions ms owned = record { partitions = partitions; rows = pair_up ms (target partitions (sets_of owned ms)) }
 
 -- the target of rows: of all their members
 abbrev pub target_rows : SetRows → SetRows
-target_rows r = assigned r.below (members r) r
+target_rows r = assigned r.partitions (members r) r
 
 -- each of these members has a row
 abbrev pub HaveRows : SetRows → List ℕ → Type 0

@@ -1,6 +1,6 @@
 -- Balanced rows. A row is the set of the partitions that one member owns, or is to own.
 use Rattle.std.specs.Prelude.{◌≡◌, ◌+◌, ◌<◌, ◌≤◌, ℕ, zero, suc, List, [], ◌∷◌, length}
-use Rattle.bit_planes.specs.PartitionSet.{PartitionSet, partitions, is_in, one, size}
+use Rattle.bit_planes.specs.PartitionSet.{PartitionSet, partitions_of, is_in, one, size}
 
 -- how many rows have a partition
 abbrev pub holders : List PartitionSet → ℕ → ℕ
@@ -14,8 +14,8 @@ size_at (row ∷ rows) zero = size row
 size_at (row ∷ rows) (suc i) = size_at rows i
 
 -- Balanced as Kafka's StickyAssignor documents it: each partition below p is in exactly one row, and the sizes of two rows differ by at most one
-pub record IsBalanced (p : ℕ) (rows : List PartitionSet) : Type 0 where
-  pub once : (q : ℕ) → q < p → holders rows q ≡ 1
+pub record IsBalanced (partitions : ℕ) (rows : List PartitionSet) : Type 0 where
+  pub once : (q : ℕ) → q < partitions → holders rows q ≡ 1
   pub even : (i j : ℕ) → i < length rows → j < length rows → size_at rows i ≤ size_at rows j + 1
 
 -- no partition is in two rows
@@ -24,5 +24,5 @@ AreApart rows = (q : ℕ) → holders rows q ≤ 1
 
 -- each row is a set of the partitions below p
 abbrev pub AreBelow : ℕ → List PartitionSet → Type 0
-AreBelow p [] = Unit {0}
-AreBelow p (row ∷ rows) = (partitions row ≡ p) × AreBelow p rows
+AreBelow partitions [] = Unit {0}
+AreBelow partitions (row ∷ rows) = (partitions_of row ≡ partitions) × AreBelow partitions rows

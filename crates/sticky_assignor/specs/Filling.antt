@@ -18,9 +18,9 @@ shares share for_heavy for_others (row ∷ rows) =
 
 -- what each member is to own, by number
 abbrev pub quotas : ℕ → List PartitionSet → List ℕ
-quotas p rows =
-    let share = p / length rows in
-    let more = p % length rows in
+quotas partitions rows =
+    let share = partitions / length rows in
+    let more = partitions % length rows in
     let for_heavy = min more (heavies share rows) in
     shares share for_heavy (more - for_heavy) rows
 
@@ -32,8 +32,8 @@ keeping (q ∷ qs) (row ∷ rows) = lowest q row ∷ keeping qs rows
 
 -- the numbers that no row has
 abbrev pub free_of : ℕ → List PartitionSet → PartitionSet
-free_of p [] = full_set p
-free_of p (row ∷ rows) = minus (free_of p rows) row
+free_of partitions [] = full_set partitions
+free_of partitions (row ∷ rows) = minus (free_of partitions rows) row
 
 -- what is left to each quota
 abbrev pub gaps : List ℕ → List PartitionSet → List ℕ
@@ -48,8 +48,8 @@ filled free (g ∷ gs) [] = []
 filled free (g ∷ gs) (k ∷ ks) = union k (lowest g free) ∷ filled (minus free (lowest g free)) gs ks
 
 abbrev pub filled_up : ℕ → List ℕ → List PartitionSet → List PartitionSet
-filled_up p qs kept = filled (free_of p kept) (gaps qs kept) kept
+filled_up partitions qs kept = filled (free_of partitions kept) (gaps qs kept) kept
 
 -- quotas, then what is kept, then the free numbers
 abbrev pub filling : ℕ → List PartitionSet → List PartitionSet
-filling p owned = let qs = quotas p owned in filled_up p qs (keeping qs owned)
+filling partitions owned = let qs = quotas partitions owned in filled_up partitions qs (keeping qs owned)

@@ -1,10 +1,10 @@
 -- How much stays where it is.
 use Rattle.std.specs.Prelude.{ℕ, ◌+◌, ◌&&◌, List, [], ◌∷◌}
-use Rattle.bit_planes.specs.PartitionSet.{PartitionSet, partitions, is_in, how_many}
+use Rattle.bit_planes.specs.PartitionSet.{PartitionSet, partitions_of, is_in, how_many}
 
 -- how many partitions are in both sets
 abbrev pub in_both : PartitionSet → PartitionSet → ℕ
-in_both s t = how_many (partitions s) (λ q. is_in s q && is_in t q)
+in_both s t = how_many (partitions_of s) (λ q. is_in s q && is_in t q)
 
 -- how many partitions stay with their owners, over all members
 abbrev pub kept : List PartitionSet → List PartitionSet → ℕ

@@ -20,32 +20,32 @@ heavies share rows = count_by (is_heavy share) rows
 
 -- how many partitions a member is to own: an even share, and one more for the first of the heavy members and, for what is left of the remainder, for the first of the others
 abbrev pub quota_of : ℕ → List PartitionSet → ℕ → ℕ
-quota_of p owned i =
-    let share = p / length owned in
-    let more = p % length owned in
+quota_of partitions owned i =
+    let share = partitions / length owned in
+    let more = partitions % length owned in
     let for_heavy = min more (heavies share owned) in
     let heavy_before = heavies share (take i owned) in
     share + one (if is_heavy share (row_at owned i) then nat_lt heavy_before for_heavy else nat_lt (i - heavy_before) (more - for_heavy))
 
 -- what a member keeps of what it owns: up to its quota, the lowest numbers first
 abbrev pub kept_row : ℕ → List PartitionSet → ℕ → PartitionSet
-kept_row p owned i = lowest (quota_of p owned i) (row_at owned i)
+kept_row partitions owned i = lowest (quota_of partitions owned i) (row_at owned i)
 
 -- the partitions that nobody keeps
 abbrev pub free_set : ℕ → List PartitionSet → PartitionSet
-free_set p owned = set_where p (λ q. not (any_below (length owned) (λ i. is_in (kept_row p owned i) q)))
+free_set partitions owned = set_where partitions (λ q. not (any_below (length owned) (λ i. is_in (kept_row partitions owned i) q)))
 
 -- what a member lacks of its quota
 abbrev pub gap_of : ℕ → List PartitionSet → ℕ → ℕ
-gap_of p owned i = quota_of p owned i - size (kept_row p owned i)
+gap_of partitions owned i = quota_of partitions owned i - size (kept_row partitions owned i)
 
 -- whether the gap of member i, with the gaps laid end to end, covers r
 abbrev pub covers : ℕ → List PartitionSet → ℕ → ℕ → Bool
-covers p owned i r = nat_le (sum_before i (gap_of p owned)) r && nat_lt r (sum_before (suc i) (gap_of p owned))
+covers partitions owned i r = nat_le (sum_before i (gap_of partitions owned)) r && nat_lt r (sum_before (suc i) (gap_of partitions owned))
 
 -- what a member takes: the free partition of rank r goes to the member whose gap covers r
 abbrev pub taken_row : ℕ → List PartitionSet → ℕ → PartitionSet
-taken_row p owned i = set_where p (λ q. is_in (free_set p owned) q && covers p owned i (rank (free_set p owned) q))
+taken_row partitions owned i = set_where partitions (λ q. is_in (free_set partitions owned) q && covers partitions owned i (rank (free_set partitions owned) q))
 
 -- the rows of n members, each given by its place
 abbrev pub rows_by : ℕ → (ℕ → PartitionSet) → List PartitionSet
@@ -54,4 +54,4 @@ rows_by (suc n) f = f 0 ∷ rows_by n (λ i. f (suc i))
 
 -- each member has what it keeps and what it takes
 unfoldable pub target : ℕ → List PartitionSet → List PartitionSet
-target p owned = rows_by (length owned) (λ i. union (kept_row p owned i) (taken_row p owned i))
+target partitions owned = rows_by (length owned) (λ i. union (kept_row partitions owned i) (taken_row partitions owned i))

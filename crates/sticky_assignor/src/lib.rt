@@ -3,7 +3,7 @@
 #![tactic(auto)]
 
 ghost use Rattle.std.specs.Prelude.{◌≡◌, ◌+◌, ◌-◌, ◌<◌, ◌≤◌, ℕ, List, length, vec_len, IfOk, IsSome};
-ghost use Rattle.bit_planes.specs.PartitionSet.{PartitionSet, partitions};
+ghost use Rattle.bit_planes.specs.PartitionSet.{PartitionSet, partitions_of};
 ghost use Rattle.bit_planes.specs.SetRows.{IsValidRows, IsRising, members as members_of, row_of, set_of, sets_of};
 ghost use Rattle.sticky_assignor.specs.Assigned.{assigned, pair_up, HaveRows};
 ghost use Rattle.sticky_assignor.specs.Balanced.{AreApart, AreBelow, IsBalanced};
@@ -20,17 +20,17 @@ use std::alloc::Global;
 
 /// Each target is balanced.
 pub fn target_is_balanced()
-    ensures { (p : ℕ) (owned : List PartitionSet) → 0 < length owned → AreBelow p owned → AreApart owned → IsBalanced p (target p owned) }
+    ensures { (partitions : ℕ) (owned : List PartitionSet) → 0 < length owned → AreBelow partitions owned → AreApart owned → IsBalanced partitions (target partitions owned) }
 {}
 
 /// No balanced rows leave more partitions with their owners.
 pub fn target_keeps_most()
-    ensures { (p : ℕ) (owned rows : List PartitionSet) → length rows ≡ length owned → AreBelow p owned → AreBelow p rows → IsBalanced p rows → kept owned rows ≤ kept owned (target p owned) }
+    ensures { (partitions : ℕ) (owned rows : List PartitionSet) → length rows ≡ length owned → AreBelow partitions owned → AreBelow partitions rows → IsBalanced partitions rows → kept owned rows ≤ kept owned (target partitions owned) }
 {}
 
 /// Nothing moves where the rows are balanced already.
 pub fn balanced_stays()
-    ensures { (p : ℕ) (rows : List PartitionSet) → AreBelow p rows → IsBalanced p rows → target p rows ≡ rows }
+    ensures { (partitions : ℕ) (rows : List PartitionSet) → AreBelow partitions rows → IsBalanced partitions rows → target partitions rows ≡ rows }
 {}
 
 /// The rows that the members are to own, of the partitions below `p`: balanced, and of all balanced rows those that
@@ -41,22 +41,22 @@ pub fn balanced_stays()
 /// alone. Its cost is linear in members times partitions.
 pub fn assign(
     alloc: Global,
-    p: u32,
+    partitions: u32,
     members: &[u32],
     owned: &PlaneRows,
 ) -> Result<PlaneRows, Memory>
-    requires below { owned.now.below ≡ p }
+    requires below { owned.now.partitions ≡ partitions }
     requires some { 0 < length members.now }
     requires rising { IsRising members.now }
     requires rows { HaveRows owned.now members.now }
     requires apart { AreApart (sets_of owned.now members.now) }
-    ensures target { IfOk result (λ rows. rows ≡ assigned p members.now owned.now) }
+    ensures target { IfOk result (λ rows. rows ≡ assigned partitions members.now owned.now) }
     ensures members { IfOk result (λ rows. members_of rows ≡ members.now) }
-    ensures balanced { IfOk result (λ rows. IsBalanced p (sets_of rows members.now)) }
-    ensures most { IfOk result (λ rows. (others : List PartitionSet) → length others ≡ length members.now → AreBelow p others → IsBalanced p others → kept (sets_of owned.now members.now) others ≤ kept (sets_of owned.now members.now) (sets_of rows members.now)) }
+    ensures balanced { IfOk result (λ rows. IsBalanced partitions (sets_of rows members.now)) }
+    ensures most { IfOk result (λ rows. (others : List PartitionSet) → length others ≡ length members.now → AreBelow partitions others → IsBalanced partitions others → kept (sets_of owned.now members.now) others ≤ kept (sets_of owned.now members.now) (sets_of rows members.now)) }
     ensures valid { IfOk result IsValidRows }
 {
-    prove!(owned.partitions() == p);
+    prove!(owned.partitions() == partitions);
     let quotas = quotas_of(alloc, members, owned)?;
     let free = free_beside(&quotas, members, owned);
     fill(alloc, free, &quotas, members, owned)
@@ -66,11 +66,11 @@ pub fn assign(
 fn quotas_of(alloc: Global, members: &[u32], owned: &PlaneRows) -> Result<Vec<u32>, Memory>
     requires some { 0 < length members.now }
     requires rows { HaveRows owned.now members.now }
-    ensures { IfOk result (λ qs. qs.items ≡ quotas owned.now.below (sets_of owned.now members.now)) }
+    ensures { IfOk result (λ qs. qs.items ≡ quotas owned.now.partitions (sets_of owned.now members.now)) }
 {
-    let p = owned.partitions() as usize;
-    let share = (p / members.len()) as u32;
-    let more = p % members.len();
+    let partitions = owned.partitions() as usize;
+    let share = (partitions / members.len()) as u32;
+    let more = partitions % members.len();
     let heavy = count_heavy(share, members, owned);
     let for_heavy = more.min(heavy);
     shares_of(alloc, share, for_heavy, more - for_heavy, members, owned)
@@ -130,8 +130,8 @@ fn one_of(left: usize) -> u32
 fn free_beside(quotas: &[u32], members: &[u32], owned: &PlaneRows) -> Plane
     requires long { length quotas.now ≡ length members.now }
     requires rows { HaveRows owned.now members.now }
-    ensures free { result ≡ free_of owned.now.below (keeping quotas.now (sets_of owned.now members.now)) }
-    ensures below { partitions result ≡ owned.now.below }
+    ensures free { result ≡ free_of owned.now.partitions (keeping quotas.now (sets_of owned.now members.now)) }
+    ensures below { partitions_of result ≡ owned.now.partitions }
 {
     let mut free = Plane::full(owned.partitions());
     for (member, quota) in members.iter().zip(quotas) {
@@ -148,11 +148,11 @@ fn fill(
     members: &[u32],
     owned: &PlaneRows,
 ) -> Result<PlaneRows, Memory>
-    requires below { partitions all_free ≡ owned.now.below }
+    requires below { partitions_of all_free ≡ owned.now.partitions }
     requires long { length quotas.now ≡ length members.now }
     requires rising { IsRising members.now }
     requires rows { HaveRows owned.now members.now }
-    ensures { IfOk result (λ rows. rows ≡ record { below = owned.now.below; rows = pair_up members.now (filled all_free (gaps quotas.now (keeping quotas.now (sets_of owned.now members.now))) (keeping quotas.now (sets_of owned.now members.now))) }) }
+    ensures { IfOk result (λ rows. rows ≡ record { partitions = owned.now.partitions; rows = pair_up members.now (filled all_free (gaps quotas.now (keeping quotas.now (sets_of owned.now members.now))) (keeping quotas.now (sets_of owned.now members.now))) }) }
 {
     let mut rows = PlaneRows::new(alloc, owned.partitions());
     let mut free = all_free;
@@ -169,7 +169,7 @@ fn fill(
 fn row_of(owned: &PlaneRows, member: u32) -> &Plane
     requires { IsSome (row_of owned.now member) }
     ensures value { result.now ≡ set_of owned.now member }
-    ensures below { partitions result.now ≡ owned.now.below }
+    ensures below { partitions_of result.now ≡ owned.now.partitions }
 {
     owned.get(member).unwrap()
 }

@@ -2,7 +2,7 @@
 //! partitions' owners, 0 where nobody owns a partition.
 
 ghost use Rattle.std.specs.Prelude.{◌≡◌, ◌<◌, ◌≤◌, length, IfOk, IsTrue};
-ghost use Rattle.bit_planes.specs.PartitionSet.{partitions};
+ghost use Rattle.bit_planes.specs.PartitionSet.{partitions_of};
 ghost use Rattle.bit_planes.specs.SetRows.{IsRising, sets_of};
 ghost use Rattle.sticky_assignor.specs.Assigned.{HaveRows};
 ghost use Rattle.sticky_assignor.specs.Balanced.{AreApart};
@@ -14,7 +14,7 @@ use std::test::Fail;
 /// The rows of these members.
 fn rows_by(alloc: Global, members: &[u32], owners: &[u32]) -> Result<PlaneRows, Memory>
     requires { (1 ≤ length owners.now) × (length owners.now ≤ 4096) }
-    ensures { IfOk result (λ rows. rows.below ≡ length owners.now) }
+    ensures { IfOk result (λ rows. rows.partitions ≡ length owners.now) }
 {
     let mut rows = PlaneRows::new(alloc, owners.len() as u32);
     for member in members {
@@ -26,11 +26,11 @@ fn rows_by(alloc: Global, members: &[u32], owners: &[u32]) -> Result<PlaneRows, 
 /// The partitions of one owner.
 fn row_by(member: u32, owners: &[u32]) -> Plane
     requires { (1 ≤ length owners.now) × (length owners.now ≤ 4096) }
-    ensures { partitions result ≡ length owners.now }
+    ensures { partitions_of result ≡ length owners.now }
 {
-    let p = owners.len() as u32;
-    let mut row = Plane::new(p);
-    for q in 0..p {
+    let partitions = owners.len() as u32;
+    let mut row = Plane::new(partitions);
+    for q in 0..partitions {
         if owners[q as usize] == member {
             row.insert(q);
         }
@@ -206,10 +206,10 @@ fn most_kept(n: u32, owners: &[u32]) -> usize
 #[test]
 fn no_balanced_assignment_keeps_more(rt: HostRuntime) -> Result<(), Fail> {
     for n in 1..=3 {
-        for (p, codes) in [(1, 4), (2, 16), (3, 64), (4, 256)] {
+        for (partitions, codes) in [(1, 4), (2, 16), (3, 64), (4, 256)] {
             for code in 0..codes {
                 let owners = owners_of(code);
-                let owners = &owners[..p];
+                let owners = &owners[..partitions];
                 if owners.iter().all(|owner| *owner <= n) {
                     let given = assigned(&rt, rt.alloc(), &[1, 2, 3][..n as usize], owners)?;
                     assert!(rt; is_balanced(n, &given), "{owners:?}");

@@ -51,7 +51,7 @@ impl Change {
 /// Whether after the change somebody is present, and all who are have joined.
 pub fn is_ready_after(slots: &[Slot], change: Change) -> bool
     requires { length slots.now ≤ 512 }
-    ensures { (p : ℕ) (name : List ℕ) → result ≡ is_ready_in (slots_after p name change slots.now) }
+    ensures { (partitions : ℕ) (name : List ℕ) → result ≡ is_ready_in (slots_after partitions name change slots.now) }
 {
     let mut anybody = matches!(change, Change::Joins);
     for (index, slot) in slots.iter().enumerate() {
@@ -68,16 +68,16 @@ pub fn is_ready_after(slots: &[Slot], change: Change) -> bool
 /// What each member that is present after the change is granted then.
 pub fn granted_rows(
     alloc: Global,
-    p: u32,
+    partitions: u32,
     slots: &[Slot],
     change: Change,
 ) -> Result<PlaneRows, Memory>
-    requires bounds { (1 ≤ p) × (p ≤ 4096) }
+    requires bounds { (1 ≤ partitions) × (partitions ≤ 4096) }
     requires few { length slots.now ≤ 512 }
-    requires over { AreSeatsOver p slots.now }
-    ensures { (name : List ℕ) → IfOk result (λ rows. rows ≡ granted_in p (slots_after p name change slots.now)) }
+    requires over { AreSeatsOver partitions slots.now }
+    ensures { (name : List ℕ) → IfOk result (λ rows. rows ≡ granted_in partitions (slots_after partitions name change slots.now)) }
 {
-    let mut rows = PlaneRows::new(alloc, p);
+    let mut rows = PlaneRows::new(alloc, partitions);
     for (index, slot) in slots.iter().enumerate() {
         let member = index as u32 + 1;
         if let Some(granted) = change.granted(member, slot) {
@@ -85,7 +85,7 @@ pub fn granted_rows(
         }
     }
     if let Change::Joins = change {
-        rows.put(slots.len() as u32 + 1, Plane::new(p))?;
+        rows.put(slots.len() as u32 + 1, Plane::new(partitions))?;
     }
     Ok(rows)
 }

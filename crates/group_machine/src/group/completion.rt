@@ -1,7 +1,7 @@
 //! The rows of a completion, and the seats that it leaves.
 
 ghost use Rattle.std.specs.Prelude.{◌≡◌, ◌≤◌, length, false, IfOk};
-ghost use Rattle.bit_planes.specs.PartitionSet.{partitions, union};
+ghost use Rattle.bit_planes.specs.PartitionSet.{partitions_of, union};
 ghost use Rattle.bit_planes.specs.SetRows.{members, set_of};
 ghost use Rattle.coop_rebalance.specs.Rounds.{next_rows};
 ghost use Rattle.group_machine.specs.Slots.{each_changed};
@@ -51,7 +51,7 @@ fn numbers_of(alloc: Global, granted: &PlaneRows) -> Result<Vec<u32>, Memory>
 /// Gives each present member its row, and clears its flags.
 pub fn give(slots: &mut [Slot], next: &PlaneRows)
     requires few { length slots.old ≤ 512 }
-    requires over { AreSeatsOver next.now.below slots.old }
+    requires over { AreSeatsOver next.now.partitions slots.old }
     ensures { slots.new ≡ each_changed (completed_seat next.now) slots.old }
 {
     for index in 0..slots.len() {
@@ -64,7 +64,7 @@ pub fn give(slots: &mut [Slot], next: &PlaneRows)
 /// A member's row, which is empty where it has none.
 fn row_for(next: &PlaneRows, member: u32) -> Plane
     ensures row { result ≡ set_of next.now member }
-    ensures partitions { partitions result ≡ next.now.below }
+    ensures partitions { partitions_of result ≡ next.now.partitions }
 {
     match next.get(member) {
         Some(row) => row.copy(),
@@ -74,7 +74,7 @@ fn row_for(next: &PlaneRows, member: u32) -> Plane
 
 /// A member keeps its row, and is granted it besides what it is granted.
 fn complete_seat(seat: &mut Seat, row: Plane)
-    requires { partitions seat.old.granted ≡ partitions row }
+    requires { partitions_of seat.old.granted ≡ partitions_of row }
     ensures { seat.new ≡ record { joined = false; synced = false; granted = union seat.old.granted row; assigned = row } }
 {
     seat.joined = false;

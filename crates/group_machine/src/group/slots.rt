@@ -83,7 +83,7 @@ pub fn phase_left(slots: &[Slot]) -> Phase
 
 /// Whether nobody has anything to give up.
 pub fn all_agree(slots: &[Slot]) -> bool
-    requires { (p : ℕ) × AreSeatsOver p slots.now }
+    requires { (partitions : ℕ) × AreSeatsOver partitions slots.now }
     ensures { result ≡ list_all (λ s. out_or agrees s.seat) slots.now }
 {
     for slot in slots {

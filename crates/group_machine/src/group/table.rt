@@ -41,16 +41,16 @@ pub struct Table {
 
 impl Table {
     /// A group that nobody has joined.
-    pub fn new(alloc: Global, p: u32) -> Result<Table, Memory>
-        requires { (1 ≤ p) × (p ≤ 4096) }
-        ensures opening { IfOk result (λ t. state_of t ≡ opening p) }
+    pub fn new(alloc: Global, partitions: u32) -> Result<Table, Memory>
+        requires { (1 ≤ partitions) × (partitions ≤ 4096) }
+        ensures opening { IfOk result (λ t. state_of t ≡ opening partitions) }
     {
         Ok(Table {
             generation: 0,
             phase: Phase::Empty,
-            partitions: p,
+            partitions: partitions,
             slots: Vec::new(alloc),
-            last: vec![in alloc; None; p as usize]?,
+            last: vec![in alloc; None; partitions as usize]?,
             moves: Vec::new(alloc),
         })
     }
@@ -240,17 +240,17 @@ impl Table {
 }
 
 /// A member that has joined and is granted nothing yet.
-fn newcomer(p: u32, name: Name) -> Slot
-    requires { (1 ≤ p) × (p ≤ 4096) }
-    ensures { result ≡ newcomer p name }
+fn newcomer(partitions: u32, name: Name) -> Slot
+    requires { (1 ≤ partitions) × (partitions ≤ 4096) }
+    ensures { result ≡ newcomer partitions name }
 {
     Slot {
         name,
         seat: Some(Seat {
             joined: true,
             synced: false,
-            granted: Plane::new(p),
-            assigned: Plane::new(p),
+            granted: Plane::new(partitions),
+            assigned: Plane::new(partitions),
         }),
     }
 }

@@ -14,23 +14,23 @@ free_beside-free-requires-clause-long c = quotas_long _ _ _ _ _ c.in_ok-quotas.e
 pub fill-requires-clause-long : goal.fill-requires-clause-long
 fill-requires-clause-long c = quotas_long _ _ _ _ _ c.in_ok-quotas.ensures c.deref-2.ensures.value
 
-is_target : (c : goal.After-drop-quotas) → IfOk c.fill.result (λ rows. rows ≡ assigned c.args.p c.args.members.now c.args.owned.now)
+is_target : (c : goal.After-drop-quotas) → IfOk c.fill.result (λ rows. rows ≡ assigned c.args.partitions c.args.members.now c.args.owned.now)
 is_target c =
-    IfOk-weaker c.fill.result _ (λ rows. rows ≡ assigned c.args.p c.args.members.now c.args.owned.now) (λ rows e. is_assigned _ _ _ _ _ _ _ _ c.requires.below c.in_ok-quotas.ensures c.deref.ensures.value c.deref-2.ensures.value c.free_beside-free.ensures.free e) c.fill.ensures
+    IfOk-weaker c.fill.result _ (λ rows. rows ≡ assigned c.args.partitions c.args.members.now c.args.owned.now) (λ rows e. is_assigned _ _ _ _ _ _ _ _ c.requires.below c.in_ok-quotas.ensures c.deref.ensures.value c.deref-2.ensures.value c.free_beside-free.ensures.free e) c.fill.ensures
 
 pub returns-clause-target : goal.returns-clause-target
 returns-clause-target c = is_target c
 
 pub returns-clause-members : goal.returns-clause-members
 returns-clause-members c =
-    IfOk-weaker c.fill.result _ (λ rows. members_of rows ≡ c.args.members.now) (λ rows e. ap members_of e ∙ members_assigned c.args.p c.args.members.now c.args.owned.now) (is_target c)
+    IfOk-weaker c.fill.result _ (λ rows. members_of rows ≡ c.args.members.now) (λ rows e. ap members_of e ∙ members_assigned c.args.partitions c.args.members.now c.args.owned.now) (is_target c)
 
 pub returns-clause-balanced : goal.returns-clause-balanced
 returns-clause-balanced c =
-    let P : SetRows → Type 0 = λ rows. IsBalanced c.args.p (sets_of rows c.args.members.now) in
+    let P : SetRows → Type 0 = λ rows. IsBalanced c.args.partitions (sets_of rows c.args.members.now) in
     IfOk-weaker c.fill.result _ P (λ rows e. subst P (sym e) (balanced_assigned _ _ _ c.requires.below c.partitions.ensures.valid c.requires.some c.requires.rising c.requires.apart)) (is_target c)
 
 pub returns-clause-most : goal.returns-clause-most
 returns-clause-most c =
-    let P : SetRows → Type 0 = λ rows. (others : List PartitionSet) → length others ≡ length c.args.members.now → AreBelow c.args.p others → IsBalanced c.args.p others → kept (sets_of c.args.owned.now c.args.members.now) others ≤ kept (sets_of c.args.owned.now c.args.members.now) (sets_of rows c.args.members.now) in
+    let P : SetRows → Type 0 = λ rows. (others : List PartitionSet) → length others ≡ length c.args.members.now → AreBelow c.args.partitions others → IsBalanced c.args.partitions others → kept (sets_of c.args.owned.now c.args.members.now) others ≤ kept (sets_of c.args.owned.now c.args.members.now) (sets_of rows c.args.members.now) in
     IfOk-weaker c.fill.result _ P (λ rows e. subst P (sym e) (most_assigned _ _ _ c.requires.below c.partitions.ensures.valid c.requires.rising)) (is_target c)

@@ -18,7 +18,7 @@ pub put-requires : goal.put-requires
 put-requires c =
     c.minus.ensures.partitions
     ∙ item_over c.args.target.now c.rows-member-items.result.now c.loop-member.member-index c.loop-member-item.result c.rows-member-items.ensures.valid c.rows-member-items.ensures.value c.loop-member-test.true c.loop-member-item.is
-    ∙ sym (ap (λ (r : SetRows). r.below) c.loop-member.invariant.so_far)
+    ∙ sym (ap (λ (r : SetRows). r.partitions) c.loop-member.invariant.so_far)
 
 pub loop-member-preserved : goal.loop-member-preserved
 loop-member-preserved c = record {
@@ -35,6 +35,6 @@ returns c =
       value = value;
       sets = λ m q. ap (λ r. is_in (set_of r m) q) value ∙ set_withheld c.args.target.now c.args.granted.now m q;
       members = ap members value ∙ members_withheld c.args.target.now c.args.granted.now;
-      below = ap (λ (r : SetRows). r.below) c.loop-member.invariant.so_far;
+      below = ap (λ (r : SetRows). r.partitions) c.loop-member.invariant.so_far;
       valid = c.loop-member.invariant.valid;
     }

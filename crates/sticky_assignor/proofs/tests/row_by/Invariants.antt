@@ -1,6 +1,6 @@
 use Rattle.std.proofs.Common.{◌≡◌, length}
-use Rattle.bit_planes.specs.PartitionSet.{partitions}
+use Rattle.bit_planes.specs.PartitionSet.{partitions_of}
 use Rattle.sticky_assignor.proofs.tests.row_by.Given as goal
 
 abbrev pub invariant-loop-q : goal.invariant-loop-q
-invariant-loop-q l = partitions l.row ≡ length l.owners
+invariant-loop-q l = partitions_of l.row ≡ length l.owners

@@ -2,4 +2,4 @@ use Rattle.std.proofs.Common.{◌≡◌, length}
 use Rattle.sticky_assignor.proofs.tests.rows_by.Given as goal
 
 abbrev pub invariant-loop-member : goal.invariant-loop-member
-invariant-loop-member l = l.rows.below ≡ length l.owners
+invariant-loop-member l = l.rows.partitions ≡ length l.owners

@@ -1,5 +1,5 @@
 use Rattle.std.proofs.Common.{length, ap, arith}
-use Rattle.bit_planes.specs.PartitionSet.{partitions}
+use Rattle.bit_planes.specs.PartitionSet.{partitions_of}
 use Rattle.bit_planes.proofs.Listed.{elements-first, length-elements}
 use Rattle.bit_planes.proofs.Sets.{rank_most, size_most}
 use Rattle.bit_planes.proofs.elements.Elements.new.Goals as goal
@@ -10,4 +10,4 @@ returns c =
     let value = elements-first s in
     let below = c.partitions.ensures.value in
     let most = size_most s in
-    record { value = value; few = omega (arith, ap length value, length-elements s, rank_most s (partitions s), c.partitions.ensures.bounds) }
+    record { value = value; few = omega (arith, ap length value, length-elements s, rank_most s (partitions_of s), c.partitions.ensures.bounds) }

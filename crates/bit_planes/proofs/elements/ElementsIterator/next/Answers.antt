@@ -1,5 +1,5 @@
 use Rattle.std.proofs.Common.{rules, suc, ◌<◌, ◌≡◌, ◌∙◌, ℕ, drop, length, ap, sym, refl, arith}
-use Rattle.bit_planes.specs.PartitionSet.{partitions, elements, rank}
+use Rattle.bit_planes.specs.PartitionSet.{partitions_of, elements, rank}
 use Rattle.bit_planes.proofs.Listed.{elements-at, elements-end}
 use Rattle.bit_planes.proofs.Sets.{rank_out, rank_past}
 use Rattle.bit_planes.proofs.elements.ElementsIterator.next.Goals as goal
@@ -28,5 +28,5 @@ returns-clause-steps c =
     let end = c.loop-q.invariant.end in
     let same_end = c.loop-q.invariant.same_end in
     let s = c.loop-q.self-inside.plane.now in
-    let past = rank_past s c.loop-q.q (omega (arith, c.loop-q-test.false)) ∙ sym (rank_past s (partitions s) (omega arith)) in
+    let past = rank_past s c.loop-q.q (omega (arith, c.loop-q-test.false)) ∙ sym (rank_past s (partitions_of s) (omega arith)) in
     (sym c.loop-q.invariant.left ∙ elements-end s _ past, elements-end s _ (ap (rank s) end))

@@ -1,6 +1,6 @@
 use Rattle.std.proofs.Common.{◌∙◌, false, true, refl, arith, ap, replicate}
 use Rattle.std.proofs.lemmas.List.{length-replicate}
-use Rattle.bit_planes.specs.PartitionSet.{partitions, is_in}
+use Rattle.bit_planes.specs.PartitionSet.{partitions_of, is_in}
 use Rattle.bit_planes.proofs.Seen.{marked_none, marked_one, none_at, seen_full}
 use Rattle.bit_planes.proofs.Sets.{in_full_all, partitions_full}
 use Rattle.bit_planes.proofs.plane.Plane.full.Goals as goal
@@ -20,8 +20,8 @@ invariant_of-result c = record {
 
 pub returns : goal.returns
 returns c =
-    let e = seen_full c.args.p c.loop-q.q (replicate 4096 false) c.loop-q.flags c.requires.1 c.loop-q-test.false c.loop-q.invariant in record {
+    let e = seen_full c.args.partitions c.loop-q.q (replicate 4096 false) c.loop-q.flags c.requires.1 c.loop-q-test.false c.loop-q.invariant in record {
       value = e;
-      elements = λ q. ap (λ s. is_in s q) e ∙ in_full_all c.args.p q;
-      partitions = ap partitions e ∙ partitions_full c.args.p;
+      elements = λ q. ap (λ s. is_in s q) e ∙ in_full_all c.args.partitions q;
+      partitions = ap partitions_of e ∙ partitions_full c.args.partitions;
     }

@@ -1,6 +1,6 @@
 use Rattle.std.proofs.Common.{◌≢◌, ◌∙◌, ap, true, false, arith}
 use Rattle.std.proofs.lemmas.List.{get_or-set_other}
-use Rattle.bit_planes.specs.PartitionSet.{partitions, is_in}
+use Rattle.bit_planes.specs.PartitionSet.{partitions_of, is_in}
 use Rattle.bit_planes.proofs.Seen.{below_is, seen_with}
 use Rattle.bit_planes.proofs.Sets.{in_with, partitions_with}
 use Rattle.bit_planes.proofs.plane.Plane.insert.Goals as goal
@@ -26,5 +26,5 @@ returns c =
     record {
       value = e;
       elements = λ n. ap (λ s. is_in s n) e ∙ in_with c.args.self.now c.args.q n c.requires;
-      partitions = ap partitions e ∙ partitions_with c.args.self.now c.args.q;
+      partitions = ap partitions_of e ∙ partitions_with c.args.self.now c.args.q;
     }

@@ -1,5 +1,5 @@
 use Rattle.std.proofs.Common.{◌≡◌, ◌∙◌, ◌<◌, false, get_or, ap, sym, arith}
-use Rattle.bit_planes.specs.PartitionSet.{partitions, is_in, size}
+use Rattle.bit_planes.specs.PartitionSet.{partitions_of, is_in, size}
 use Rattle.bit_planes.proofs.Seen.{below_is, flag_is, trimmed_none, trimmed_in, trimmed_out, seen_lowest}
 use Rattle.bit_planes.proofs.Sets.{in_lowest, partitions_lowest, size_lowest}
 use Rattle.bit_planes.proofs.plane.Plane.lowest.Goals as goal
@@ -25,6 +25,6 @@ returns c =
     record {
       value = e;
       elements = λ q. ap (λ s. is_in s q) e ∙ in_lowest c.args.n c.args.self.now q;
-      partitions = ap partitions e ∙ partitions_lowest c.args.n c.args.self.now;
+      partitions = ap partitions_of e ∙ partitions_lowest c.args.n c.args.self.now;
       size = ap size e ∙ size_lowest c.args.n c.args.self.now;
     }

@@ -1,5 +1,5 @@
 use Rattle.std.proofs.Common.{◌≡◌, ◌∙◌, false, ap, refl, get_or, arith}
-use Rattle.bit_planes.specs.PartitionSet.{partitions, is_in}
+use Rattle.bit_planes.specs.PartitionSet.{partitions_of, is_in}
 use Rattle.bit_planes.proofs.Seen.{below_is, flag_is, marked_one, seen_minus}
 use Rattle.bit_planes.proofs.Sets.{in_minus, partitions_minus}
 use Rattle.bit_planes.proofs.plane.Plane.minus.Goals as goal
@@ -20,5 +20,5 @@ returns c =
     record {
       value = e;
       elements = λ q. ap (λ s. is_in s q) e ∙ in_minus c.args.self.now c.args.other.now q;
-      partitions = ap partitions e ∙ partitions_minus c.args.self.now c.args.other.now;
+      partitions = ap partitions_of e ∙ partitions_minus c.args.self.now c.args.other.now;
     }

@@ -1,5 +1,5 @@
 use Rattle.std.proofs.Common.{◌∙◌, ap}
-use Rattle.bit_planes.specs.PartitionSet.{partitions, is_in}
+use Rattle.bit_planes.specs.PartitionSet.{partitions_of, is_in}
 use Rattle.bit_planes.proofs.Seen.{none_at, seen_empty}
 use Rattle.bit_planes.proofs.Sets.{in_empty, partitions_empty}
 use Rattle.bit_planes.proofs.plane.Plane.new.Goals as goal
@@ -9,8 +9,8 @@ invariant_of-result c = record { some = c.requires.0; few = c.requires.1; clear 
 
 pub returns : goal.returns
 returns c =
-    let e = seen_empty c.args.p c.requires.1 in record {
+    let e = seen_empty c.args.partitions c.requires.1 in record {
       value = e;
-      elements = λ q. ap (λ s. is_in s q) e ∙ in_empty c.args.p q;
-      partitions = ap partitions e ∙ partitions_empty c.args.p;
+      elements = λ q. ap (λ s. is_in s q) e ∙ in_empty c.args.partitions q;
+      partitions = ap partitions_of e ∙ partitions_empty c.args.partitions;
     }

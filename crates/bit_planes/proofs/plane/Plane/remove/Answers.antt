@@ -1,5 +1,5 @@
 use Rattle.std.proofs.Common.{◌∙◌, ap, refl, arith}
-use Rattle.bit_planes.specs.PartitionSet.{partitions, is_in}
+use Rattle.bit_planes.specs.PartitionSet.{partitions_of, is_in}
 use Rattle.bit_planes.proofs.Seen.{below_is, seen_without, without_past}
 use Rattle.bit_planes.proofs.Sets.{in_without, partitions_without}
 use Rattle.bit_planes.proofs.plane.Plane.remove.Goals as goal
@@ -10,7 +10,7 @@ returns-then-q-self c =
     record {
       value = e;
       elements = λ n. ap (λ s. is_in s n) e ∙ in_without c.args.self.now c.args.q n;
-      partitions = ap partitions e ∙ partitions_without c.args.self.now c.args.q;
+      partitions = ap partitions_of e ∙ partitions_without c.args.self.now c.args.q;
     }
 
 pub returns-else-q-self : goal.returns-else-q-self

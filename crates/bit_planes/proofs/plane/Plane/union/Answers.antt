@@ -1,5 +1,5 @@
 use Rattle.std.proofs.Common.{◌≡◌, ◌∙◌, false, ap, refl, get_or, arith}
-use Rattle.bit_planes.specs.PartitionSet.{partitions, is_in}
+use Rattle.bit_planes.specs.PartitionSet.{partitions_of, is_in}
 use Rattle.bit_planes.proofs.Seen.{below_is, flag_is, marked_one, seen_union}
 use Rattle.bit_planes.proofs.Sets.{in_union, partitions_union}
 use Rattle.bit_planes.proofs.plane.Plane.union.Goals as goal
@@ -20,5 +20,5 @@ returns c =
     record {
       value = e;
       elements = λ q. ap (λ s. is_in s q) e ∙ in_union c.args.self.now c.args.other.now q c.requires;
-      partitions = ap partitions e ∙ partitions_union c.args.self.now c.args.other.now;
+      partitions = ap partitions_of e ∙ partitions_union c.args.self.now c.args.other.now;
     }

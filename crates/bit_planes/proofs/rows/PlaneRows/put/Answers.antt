@@ -9,7 +9,7 @@ invariant_of-self c = (puts_there _ c.args.self.now c.args.member c.in-Ok.index 
 pub returns-in-Ok : goal.returns-in-Ok
 returns-in-Ok c =
     let put = puts_there _ c.args.self.now c.args.member c.in-Ok.index c.args.plane c.self.view_is c.self.invariant c.requires c.in-Ok.ensures.found in
-    record { value = put.value; this = put.this; others = put.others; err = tt; below = ap (λ (r : SetRows). r.below) put.value; valid = put.valid }
+    record { value = put.value; this = put.this; others = put.others; err = tt; partitions = ap (λ (r : SetRows). r.partitions) put.value; valid = put.valid }
 
 pub invariant_of-self-in-Err : goal.invariant_of-self-in-Err
 invariant_of-self-in-Err c = (puts_between _ c.args.self.now c.insert.new.self.items c.args.member c.in-Err.index c.args.plane c.self.view_is c.self.invariant c.requires c.in-Err.ensures.absent c.in_ok-insert-in-Err.ensures.items).valid
@@ -17,4 +17,4 @@ invariant_of-self-in-Err c = (puts_between _ c.args.self.now c.insert.new.self.i
 pub returns-in_ok-insert-in-Err : goal.returns-in_ok-insert-in-Err
 returns-in_ok-insert-in-Err c =
     let put = puts_between _ c.args.self.now c.insert.new.self.items c.args.member c.in-Err.index c.args.plane c.self.view_is c.self.invariant c.requires c.in-Err.ensures.absent c.in_ok-insert-in-Err.ensures.items in
-    record { value = put.value; this = put.this; others = put.others; err = tt; below = ap (λ (r : SetRows). r.below) put.value; valid = put.valid }
+    record { value = put.value; this = put.this; others = put.others; err = tt; partitions = ap (λ (r : SetRows). r.partitions) put.value; valid = put.valid }

@@ -1,5 +1,5 @@
 use Rattle.std.proofs.Common.{◌∙◌, ◌||◌, ap, sym}
-use Rattle.bit_planes.specs.PartitionSet.{partitions, is_in}
+use Rattle.bit_planes.specs.PartitionSet.{partitions_of, is_in}
 use Rattle.coop_rebalance.proofs.Granted.{others_beside, others_alone}
 use Rattle.coop_rebalance.proofs.withholding.Grants.of_others.Goals as goal
 
@@ -19,5 +19,5 @@ returns-in-Some c = record {
 pub returns-in-None : goal.returns-in-None
 returns-in-None c = record {
   members = λ q. ap (λ s. is_in s q) c.copy.ensures ∙ others_alone c.args.self.now.some c.args.self.now.several c.args.granted.now c.args.member q c.get.ensures.valid c.requires c.in-None.ensures.value;
-  partitions = ap partitions c.copy.ensures ∙ c.requires.some_below;
+  partitions = ap partitions_of c.copy.ensures ∙ c.requires.some_below;
 }

@@ -1,5 +1,5 @@
 use Rattle.std.proofs.Common.{◌+◌, ◌∙◌, ap, sym, length, take}
-use Rattle.bit_planes.specs.PartitionSet.{partitions}
+use Rattle.bit_planes.specs.PartitionSet.{partitions_of}
 use Rattle.bit_planes.specs.SetRows.{with_row}
 use Rattle.group_machine.specs.Walks.{granted_in}
 use Rattle.group_machine.proofs.ChangeLemmas.{mid, granted_over, rows_more, rows_same, rows_joined, rows_all}
@@ -9,12 +9,12 @@ use Rattle.group_machine.proofs.group.change.granted_rows.Goals.{in-Some+in_ok-p
 pub put-requires : goal.put-requires
 put-requires c =
     let e = c.in-Some.ensures in
-    ap partitions (c.copy.ensures ∙ e.2) ∙ granted_over c.args.p c.args.change c.args.slots.now c.loop-index.index c.index-slots-index.result e.0 c.requires.over c.loop-index-test.true c.index-slots-index.is e.1
-    ∙ sym (ap (λ r. r.below) c.loop-index.invariant)
+    ap partitions_of (c.copy.ensures ∙ e.2) ∙ granted_over c.args.partitions c.args.change c.args.slots.now c.loop-index.index c.index-slots-index.result e.0 c.requires.over c.loop-index-test.true c.index-slots-index.is e.1
+    ∙ sym (ap (λ r. r.partitions) c.loop-index.invariant)
 
 pub loop-index-preserved : goal.loop-index-preserved
 loop-index-preserved c =
-    let p = c.args.p in
+    let p = c.args.partitions in
     let slots = c.args.slots.now in
     let index = c.loop-index.index in
     elim c.match-granted.branch [
@@ -31,7 +31,7 @@ loop-index-preserved c =
 
 pub returns : goal.returns
 returns c name =
-    let p = c.args.p in
+    let p = c.args.partitions in
     let slots = c.args.slots.now in
     let index = c.loop-index.index in
     elim c.match-change.branch [

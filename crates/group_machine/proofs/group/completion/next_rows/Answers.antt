@@ -8,4 +8,4 @@ pub assign-requires-clause-rows : goal.assign-requires-clause-rows
 assign-requires-clause-rows c = subst (HaveRows c.args.granted.now) (sym (c.deref.ensures.value ∙ c.in_ok-members.ensures)) (have_rows c.args.granted.now)
 
 pub withhold-requires : goal.withhold-requires
-withhold-requires c = ap (λ r. r.below) c.in_ok-target.ensures.target ∙ below_assigned c.partitions.result c.deref.result.now c.args.granted.now ∙ c.partitions.ensures.value
+withhold-requires c = ap (λ r. r.partitions) c.in_ok-target.ensures.target ∙ below_assigned c.partitions.result c.deref.result.now c.args.granted.now ∙ c.partitions.ensures.value

@@ -23,7 +23,7 @@ pub takers_of-requires-clause-below : goal.takers_of-requires-clause-below
 takers_of-requires-clause-below c =
     let g : GroupState = after c.args.change [] (state_of c.args.self.now) in
     let is : c.in_ok-granted.granted ≡ granted_rows g = c.in_ok-granted.ensures [] ∙ ap (λ slots. granted_in g.partitions (slots_after g.partitions [] c.args.change slots)) c.deref.ensures.value in
-    rows_below g c.in_ok-next.next (c.requires.sound []) (c.requires.some []) (c.in_ok-next.ensures ∙ ap next_rows is) ∙ sym (ap (λ r. r.below) is)
+    rows_below g c.in_ok-next.next (c.requires.sound []) (c.requires.some []) (c.in_ok-next.ensures ∙ ap next_rows is) ∙ sym (ap (λ r. r.partitions) is)
 
 pub takers_of-requires-clause-apart : goal.takers_of-requires-clause-apart
 takers_of-requires-clause-apart c =
@@ -35,7 +35,7 @@ pub moves_of-requires-clause-long : goal.moves_of-requires-clause-long
 moves_of-requires-clause-long c =
     let g : GroupState = after c.args.change [] (state_of c.args.self.now) in
     let is : c.in_ok-granted.granted ≡ granted_rows g = c.in_ok-granted.ensures [] ∙ ap (λ slots. granted_in g.partitions (slots_after g.partitions [] c.args.change slots)) c.deref.ensures.value in
-    ap length c.deref-2.ensures.value ∙ c.in_ok-takers.ensures.long ∙ ap (λ r. r.below) is ∙ sym c.requires.good.sized.a_holder_each ∙ sym (ap length c.deref-3.ensures.value)
+    ap length c.deref-2.ensures.value ∙ c.in_ok-takers.ensures.long ∙ ap (λ r. r.partitions) is ∙ sym c.requires.good.sized.a_holder_each ∙ sym (ap length c.deref-3.ensures.value)
 
 pub returns : goal.returns
 returns c name =
@@ -43,9 +43,9 @@ returns c name =
     let next : SetRows = c.in_ok-next.next in
     let takers = c.in_ok-takers.takers.items in
     let is : c.in_ok-granted.granted ≡ granted_rows g = c.in_ok-granted.ensures name ∙ ap (λ slots. granted_in g.partitions (slots_after g.partitions name c.args.change slots)) c.deref.ensures.value in
-    let long : length takers ≡ g.partitions = c.in_ok-takers.ensures.long ∙ ap (λ r. r.below) is in
+    let long : length takers ≡ g.partitions = c.in_ok-takers.ensures.long ∙ ap (λ r. r.partitions) is in
     let taken : (q : ℕ) → q < g.partitions → get_or takers q None ≡ taker g next q = λ q lt.
-    c.in_ok-takers.ensures.takers q (omega (arith, lt, ap (λ (r : SetRows). r.below) is)) ∙ ap (λ (r : SetRows). taker_in r.rows next q) is ∙ taker_is g next q in
+    c.in_ok-takers.ensures.takers q (omega (arith, lt, ap (λ (r : SetRows). r.partitions) is)) ∙ ap (λ (r : SetRows). taker_in r.rows next q) is ∙ taker_is g next q in
     record {
       rows = c.in_ok-next.ensures ∙ ap next_rows is;
       long = long;
