@@ -1,5 +1,6 @@
 -- Append-only logs of keyed records, one a partition.
 use Rattle.std.specs.Prelude.{◌≡◌, ℕ, zero, suc, ◌+◌, ◌-◌, ◌^◌, ◌<◌, ◌≤◌, ◌==◌, ◌&&◌, ◌||◌, nat_lt, nat_le, not, Bool, List, [], ◌∷◌, ◌++◌, length, filter, map, if◌then◌else◌, slice_index_or, slice_set, Contains, Result, Ok, Err}
+pub use Rattle.lane_words.specs.Sums.{sum_below}
 pub use Rattle.partitioner.specs.Place.{place_of}
 use Rattle.lane_words.specs.declared.Refusal.{Refusal}
 use Rattle.lane_words.specs.declared.Refusal.TheVariants as r
@@ -79,8 +80,3 @@ pub record IsValidLogs (l : PartitionLogs) : Type 0 where
 pub record AreLogsOf (appended : List Key) (l : PartitionLogs) : Type 0 where
   pub numbers : l.keys ≡ distinct appended
   pub records : (p : ℕ) → p < l.partitions → keys_of_log l p ≡ filter (λ key. place_in l key == p) appended
-
--- the sum of f over the numbers below n
-abbrev pub sum_below : ℕ → (ℕ → ℕ) → ℕ
-sum_below zero f = 0
-sum_below (suc n) f = sum_below n f + f n

@@ -151,6 +151,22 @@ impl Logs {
         self.append_at(place, key)
     }
 
+    /// The same, where the key's place is known.
+    pub fn append_at(&mut self, place: u32, key: &[u8]) -> Result<(u32, u32), Refusal>
+        requires { place ≡ place_in self.old key.now }
+        ensures answer { Answers (append_answer self.old key.now) result }
+        ensures ok { OnOk result (self.new ≡ with_record self.old key.now) }
+        ensures err { OnErr result (self.new ≡ self.old) }
+        ensures valid { OnOk result (IsValidLogs self.new) }
+        ensures history { OnOk result ((appended : List Key) → AreLogsOf appended self.old → AreLogsOf (appended ++ key.now ∷ []) self.new) }
+    {
+        if key.len() > LONGEST_KEY {
+            return Err(Refusal::KeyTooLong);
+        }
+        let offset = append_id(&mut self.keys, &mut self.logs, place as usize, key)?;
+        Ok((place, offset))
+    }
+
     /// The same logs, to which nothing more is appended. It takes no memory.
     pub fn seal(self) -> SealedLogs
         ensures same { result ≡ self }
@@ -171,22 +187,6 @@ impl Logs {
             keys,
             logs,
         })
-    }
-
-    /// The same, where the place is known.
-    fn append_at(&mut self, place: u32, key: &[u8]) -> Result<(u32, u32), Refusal>
-        requires { place ≡ place_in self.old key.now }
-        ensures answer { Answers (append_answer self.old key.now) result }
-        ensures ok { OnOk result (self.new ≡ with_record self.old key.now) }
-        ensures err { OnErr result (self.new ≡ self.old) }
-        ensures valid { OnOk result (IsValidLogs self.new) }
-        ensures history { OnOk result ((appended : List Key) → AreLogsOf appended self.old → AreLogsOf (appended ++ key.now ∷ []) self.new) }
-    {
-        if key.len() > LONGEST_KEY {
-            return Err(Refusal::KeyTooLong);
-        }
-        let offset = append_id(&mut self.keys, &mut self.logs, place as usize, key)?;
-        Ok((place, offset))
     }
 }
 

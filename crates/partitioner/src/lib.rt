@@ -1,12 +1,14 @@
 //! Which partition a record of a key goes to.
 #![tactic(auto)]
 
-ghost use Rattle.std.specs.Prelude.{◌≡◌, ◌≤◌, ◌<◌};
+ghost use Rattle.std.specs.Prelude.{◌≡◌, ◌≤◌, ◌<◌, map, IfOk};
 ghost use Rattle.partitioner.specs.Place.{place_of};
 
-use lane_words::MOST_PARTITIONS;
+use lane_words::{MOST_PARTITIONS, Memory};
 use murmur_lanes::murmur2;
+use std::alloc::Global;
 use std::marker::Model;
+use std::thread::Threads;
 
 /// How many partitions there are, from 1 to 4096.
 #[derive(Clone, Copy, Debug, PartialEq, Eq)]
@@ -52,6 +54,18 @@ impl Partitions {
         ensures within { result < self.now }
     {
         murmur2(key) % (1 << 31) % self.count
+    }
+
+    /// The partition of each of some keys, in their order. Refused for want of memory alone.
+    pub fn place_all<R: Threads + Sync>(
+        &self,
+        _rt: &R,
+        alloc: Global,
+        keys: &[&[u8]],
+    ) -> Result<Vec<u32>, Memory>
+        ensures { IfOk result (λ places. places.items ≡ map (λ key. place_of self.now key.now) keys.now) }
+    {
+        Ok(keys.iter().map(|key| self.place(key)).collect(alloc)?)
     }
 }
 

@@ -1,6 +1,7 @@
 //! Places from outside: a table computed by the rules alone.
 
 use super::*;
+use std::test::Fail;
 
 #[test]
 fn places_of_the_table(rt: HostRuntime) {
@@ -18,4 +19,14 @@ fn places_of_the_table(rt: HostRuntime) {
         assert_eq!(rt; Partitions::new(4).place(key), of_four, "{key:?}");
         assert_eq!(rt; Partitions::new(5).place(key), of_five, "{key:?}");
     }
+}
+
+#[test]
+fn places_all_in_their_order(rt: HostRuntime) -> Result<(), Fail> {
+    let keys: [&[u8]; 10] = [
+        b"21", b"34", b"21", b"34", b"", b"21", b"34", b"21", b"34", b"21",
+    ];
+    let places = Partitions::new(4).place_all(&rt, rt.alloc(), &keys)?;
+    assert_eq!(rt; places.as_slice(), [0, 2, 0, 2, 1, 0, 2, 0, 2, 0].as_slice());
+    Ok(())
 }

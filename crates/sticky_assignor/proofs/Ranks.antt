@@ -6,7 +6,7 @@ use Rattle.std.specs.Prelude.{nat_lt, nat_le}
 use Rattle.bit_planes.specs.PartitionSet.{PartitionSet, partitions_of, is_in, one, any_below, rank, size, union, minus, lowest}
 use Rattle.bit_planes.proofs.Sets.{same_set, partitions_where, in_where, in_full, in_minus, in_lowest, partitions_lowest, partitions_minus, rank_is, rank_next, rank_lowest, lowest_splits}
 use Rattle.sticky_assignor.specs.Filling.{one_of, shares, quotas, keeping, free_of, gaps, filled, filling}
-use Rattle.sticky_assignor.specs.Target.{is_heavy, heavies, row_at, sum_before, quota_of, kept_row, free_set, gap_of, covers, taken_row, rows_by, target}
+use Rattle.sticky_assignor.specs.Target.{is_heavy, heavies, row_at, sum_below, quota_of, kept_row, free_set, gap_of, covers, taken_row, rows_by, target}
 use Rattle.sticky_assignor.proofs.Balance.{total, heavies_cons, length_shares, partitions_free, length_gaps, keeping_fits}
 
 -- ---- quotas by place
@@ -188,7 +188,7 @@ total_next [] (suc i) = refl
 total_next (g ∷ gs) zero = omega arith
 total_next (g ∷ gs) (suc i) = omega (arith, total_next gs i)
 
-gaps_before : (gs : List ℕ) (f : ℕ → ℕ) (i : ℕ) → i ≤ length gs → ((j : ℕ) → j < length gs → get_or gs j 0 ≡ f j) → sum_before i f ≡ total (take i gs)
+gaps_before : (gs : List ℕ) (f : ℕ → ℕ) (i : ℕ) → i ≤ length gs → ((j : ℕ) → j < length gs → get_or gs j 0 ≡ f j) → sum_below i f ≡ total (take i gs)
 gaps_before gs f zero le same = refl
 gaps_before gs f (suc i) le same = let e = same i (omega arith) in omega (arith, gaps_before gs f i (omega arith) same, total_next gs i)
 
@@ -215,7 +215,7 @@ filling_is_target p owned =
     let gap : (j : ℕ) → j < length gs → get_or gs j 0 ≡ gap_of p owned j = λ j l.
     let lj : j < length owned = omega arith in
     gaps_at qs kept j (omega arith) (omega arith) ∙ ap (λ m. m - size (row_at kept j)) (quota_at p owned j lj) ∙ ap (λ s. quota_of p owned j - size s) (sym (kept_at p owned j lj)) in
-    let before : (i : ℕ) → i ≤ length gs → sum_before i (gap_of p owned) ≡ total (take i gs) = λ i le. gaps_before gs (gap_of p owned) i le gap in
+    let before : (i : ℕ) → i ≤ length gs → sum_below i (gap_of p owned) ≡ total (take i gs) = λ i le. gaps_before gs (gap_of p owned) i le gap in
     let taken : (i : ℕ) → i < length owned → taken_row p owned i ≡ given free gs i = λ i l.
     let f : ℕ → Bool = λ q. is_in (free_set p owned) q && covers p owned i (rank (free_set p owned) q) in
     same_set (taken_row p owned i) (given free gs i) (partitions_where p f ∙ sym (partitions_given free gs i ∙ partitions_free p kept)) (λ q few.

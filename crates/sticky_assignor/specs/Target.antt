@@ -1,15 +1,11 @@
 -- The sticky target: the balanced rows that leave the most partitions with their owners. Members go by their places, in rising order of their numbers.
 use Rattle.std.specs.Prelude.{ℕ, zero, suc, ◌+◌, ◌-◌, ◌/◌, ◌%◌, Bool, ◌&&◌, not, count_by, nat_lt, nat_le, List, [], ◌∷◌, length, take, slice_index_or, min, if◌then◌else◌}
+pub use Rattle.lane_words.specs.Sums.{sum_below}
 use Rattle.bit_planes.specs.PartitionSet.{PartitionSet, is_in, set_where, one, any_below, rank, size, empty_set, union, lowest}
 
 -- the row of the member at place i
 abbrev pub row_at : List PartitionSet → ℕ → PartitionSet
 row_at rows i = slice_index_or rows i (empty_set 0)
-
--- the sum of f over the members before i
-abbrev pub sum_before : ℕ → (ℕ → ℕ) → ℕ
-sum_before zero f = 0
-sum_before (suc i) f = sum_before i f + f i
 
 -- a member is heavy where it owns more than an even share
 abbrev pub is_heavy : ℕ → PartitionSet → Bool
@@ -41,7 +37,7 @@ gap_of partitions owned i = quota_of partitions owned i - size (kept_row partiti
 
 -- whether the gap of member i, with the gaps laid end to end, covers r
 abbrev pub covers : ℕ → List PartitionSet → ℕ → ℕ → Bool
-covers partitions owned i r = nat_le (sum_before i (gap_of partitions owned)) r && nat_lt r (sum_before (suc i) (gap_of partitions owned))
+covers partitions owned i r = nat_le (sum_below i (gap_of partitions owned)) r && nat_lt r (sum_below (suc i) (gap_of partitions owned))
 
 -- what a member takes: the free partition of rank r goes to the member whose gap covers r
 abbrev pub taken_row : ℕ → List PartitionSet → ℕ → PartitionSet

@@ -23,7 +23,7 @@ put-requires c =
 pub loop-member-preserved : goal.loop-member-preserved
 loop-member-preserved c = record {
   so_far = withheld_more c.args.target.now c.args.granted.now c.rows-member-items.result.now c.loop-member.member-index c.loop-member-item.result c.of_others-others.result c.loop-member.rows c.put.new.self
-      c.rows-member-items.ensures.valid c.rows-member-items.ensures.value c.loop-member-test.true c.loop-member-item.is c.of_others-others.ensures.members c.loop-member.invariant.so_far
+      c.rows-member-items.ensures.valid c.rows-member-items.ensures.value c.loop-member-test.true c.loop-member-item.is c.of_others-others.ensures.elements c.loop-member.invariant.so_far
       (c.in_ok-put.ensures.value ∙ ap (λ s. with_row c.loop-member.rows c.loop-member-item.result.0 s) c.minus.ensures.value);
   valid = c.put.ensures.valid;
 }

@@ -11,13 +11,13 @@ union-requires c = c.requires.several_below ∙ sym (c.minus.ensures.partitions 
 
 pub returns-in-Some : goal.returns-in-Some
 returns-in-Some c = record {
-  members = λ q. c.union.ensures.members q ∙ ap (λ b. is_in c.args.self.now.several q || b) (c.minus.ensures.members q)
+  elements = λ q. c.union.ensures.elements q ∙ ap (λ b. is_in c.args.self.now.several q || b) (c.minus.ensures.elements q)
       ∙ others_beside c.args.self.now.some c.args.self.now.several c.in-Some.own.now c.args.granted.now c.args.member q c.get.ensures.valid c.requires c.in-Some.ensures.value;
   partitions = c.union.ensures.partitions ∙ c.requires.several_below;
 }
 
 pub returns-in-None : goal.returns-in-None
 returns-in-None c = record {
-  members = λ q. ap (λ s. is_in s q) c.copy.ensures ∙ others_alone c.args.self.now.some c.args.self.now.several c.args.granted.now c.args.member q c.get.ensures.valid c.requires c.in-None.ensures.value;
+  elements = λ q. ap (λ s. is_in s q) c.copy.ensures ∙ others_alone c.args.self.now.some c.args.self.now.several c.args.granted.now c.args.member q c.get.ensures.valid c.requires c.in-None.ensures.value;
   partitions = ap partitions_of c.copy.ensures ∙ c.requires.some_below;
 }

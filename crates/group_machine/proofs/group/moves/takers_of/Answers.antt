@@ -22,7 +22,7 @@ loop-member-preserved c =
           let same = ap (λ v. v.items) w.takers-is ∙ with_items_is c.loop-member.takers w.take_added.new.takers (w.take_added.ensures.long ∙ w.deref_mut.ensures.len) in
           record {
             long = ap length same ∙ w.take_added.ensures.long ∙ ap length w.deref_mut.ensures.value ∙ was.long;
-            so_far = λ q lt. taker_given items at row next q w.in-Some.row.now w.added.result _ _ c.loop-member-test.true c.loop-member-item.is (λ m n e h. c.requires.apart m n q e h) w.in-Some.ensures.value (w.added.ensures.members q) (ap (λ v. slice_index_or v q None) w.deref_mut.ensures.value ∙ was.so_far q lt)
+            so_far = λ q lt. taker_given items at row next q w.in-Some.row.now w.added.result _ _ c.loop-member-test.true c.loop-member-item.is (λ m n e h. c.requires.apart m n q e h) w.in-Some.ensures.value (w.added.ensures.elements q) (ap (λ v. slice_index_or v q None) w.deref_mut.ensures.value ∙ was.so_far q lt)
                 (ap (λ v. slice_index_or v q None) same ∙ w.take_added.ensures.taken q (omega (arith, ap length w.deref_mut.ensures.value, was.long, lt)));
           }
       | in_default w ↦ record {
