@@ -38,7 +38,7 @@ pub next_members : (r : SetRows) → AreOwned r → members (next_rows r) ≡ me
 next_members r owned = (next_lies r owned).same_members
 
 pub next_below : (r : SetRows) → AreOwned r → (next_rows r).partitions ≡ r.partitions
-next_below r owned = (next_lies r owned).partitions
+next_below r owned = (next_lies r owned).below
 
 pub next_kept : (r : SetRows) → AreOwned r → IsValidRows (next_rows r)
 next_kept r owned = (next_lies r owned).valid

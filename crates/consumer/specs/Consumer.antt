@@ -1,0 +1,158 @@
+-- A consumer: what it holds, how far it has read, and what it has not committed yet.
+use Rattle.std.specs.Prelude.{◌≡◌, ℕ, ◌+◌, ◌-◌, ◌≤◌, Bool, true, false, not, nat_le, ◌==◌, min, max, List, Option, Some, None, is_none, is_some, Result, Ok, Err, length, map, replicate, slice_index_or, slice_range, slice_set, if◌then◌else◌}
+use Rattle.std.specs.List.{range_with_len}
+use Rattle.std.specs.Option.{option_map, option_map_or, unwrap_or}
+use Rattle.std.specs.Result.{result_and}
+use Rattle.lane_words.specs.declared.limits.TheConstants.{MOST_PARTITIONS}
+use Rattle.lane_words.specs.declared.Refusal.{Refusal}
+use Rattle.lane_words.specs.declared.Refusal.TheVariants as r
+use Rattle.bit_planes.specs.PartitionSet.{PartitionSet, empty_set, is_in, partitions_of}
+use Rattle.partition_log.specs.Logs.{PartitionLogs, log_at}
+use Rattle.group_machine.specs.Cluster.{CommitTerms, LeaseTerms, start_of}
+use Rattle.consumer.specs.declared.held.Held.{Held}
+
+-- A consumer of this many partitions: its member number where it is in the group; the generation and the partitions of
+-- its last lease; and for each partition, where it holds it, from which offset on it has not committed (the base), and
+-- at which offset it reads on (the position)
+pub record ConsumerState : Type 0 where
+  pub partitions : ℕ
+  pub member : Option ℕ
+  pub generation : ℕ
+  pub assigned : PartitionSet
+  pub held : List (Option Held)
+
+-- out of the group: no member, and nothing held
+abbrev pub out_of_group : ℕ → ConsumerState
+out_of_group partitions = record {
+  partitions = partitions;
+  member = None;
+  generation = 0;
+  assigned = empty_set partitions;
+  held = replicate partitions None;
+}
+
+-- the offsets of a partition that is held
+abbrev pub held_at : ConsumerState → ℕ → Option Held
+held_at c p = slice_index_or c.held p None
+
+abbrev pub is_held : ConsumerState → ℕ → Bool
+is_held c p = is_some (held_at c p)
+
+-- the base of a partition, and 0 of one that is not held
+abbrev pub base_of : ConsumerState → ℕ → ℕ
+base_of c p = option_map_or (λ h. h.base) (held_at c p) 0
+
+-- the position in a partition, and 0 in one that is not held
+abbrev pub position_of : ConsumerState → ℕ → ℕ
+position_of c p = option_map_or (λ h. h.position) (held_at c p) 0
+
+-- what a consumer keeps
+pub record IsValidConsumer (c : ConsumerState) : Type 0 where
+  pub some_partitions : 1 ≤ c.partitions
+  pub few_partitions : c.partitions ≤ MOST_PARTITIONS
+  pub one_each : length c.held ≡ c.partitions
+  pub assigned_below : partitions_of c.assigned ≡ c.partitions
+  pub ordered : (p : ℕ) → base_of c p ≤ position_of c p
+  pub out : c.member ≡ None → c ≡ out_of_group c.partitions
+
+-- ---- joining, and leases
+abbrev pub joined_as : ConsumerState → ℕ → ConsumerState
+joined_as c member = record (out_of_group c.partitions) { member = Some member }
+
+-- a partition that is leased anew is read from the committed offset on; what was held stays as it was
+abbrev pub leased_slot : LeaseTerms → ℕ → Option Held → Option Held
+leased_slot lease p (Some h) = Some h
+leased_slot lease p None =
+    if is_in lease.assigned p
+    then Some (record { base = start_of lease p; position = start_of lease p })
+    else None
+
+-- the consumer with a lease: it gives nothing up yet (KIP-429: what is kept is read on during a rebalance)
+abbrev pub leased : ConsumerState → LeaseTerms → ConsumerState
+leased c lease = record c {
+  generation = lease.generation;
+  assigned = lease.assigned;
+  held = map (λ p. leased_slot lease p (held_at c p)) (range_with_len 0 (length c.held));
+}
+
+-- ---- polling
+-- why nothing can be read or sent of a partition: the consumer is out, or does not hold it
+abbrev pub hold_answer : ConsumerState → ℕ → Result (Unit {0}) Refusal
+hold_answer c p =
+    if is_none c.member then Err r.OutOfGroup
+    else if not (is_held c p) then Err r.NotHeld
+    else Ok tt
+
+-- how many records a poll of at most n reads: what the log has past the position
+abbrev pub polled_count : ConsumerState → PartitionLogs → ℕ → ℕ → ℕ
+polled_count c l p n = min n (length (log_at l p) - position_of c p)
+
+abbrev pub poll_answer : ConsumerState → PartitionLogs → ℕ → ℕ → Result ℕ Refusal
+poll_answer c l p n = result_and (hold_answer c p) (Ok (polled_count c l p n))
+
+-- the consumer with these offsets for a partition
+abbrev pub with_held : ConsumerState → ℕ → Held → ConsumerState
+with_held c p h = record c { held = slice_set c.held p (Some h) }
+
+-- the position is past what was read, and all else is as it was
+abbrev pub polled : ConsumerState → PartitionLogs → ℕ → ℕ → ConsumerState
+polled c l p n =
+    with_held c p (record { base = base_of c p; position = position_of c p + polled_count c l p n })
+
+-- no position is past its log's end
+abbrev pub IsWithinLogs : ConsumerState → PartitionLogs → Type 0
+IsWithinLogs c l = (p : ℕ) → position_of c p ≤ length (log_at l p)
+
+-- ---- sending
+-- whether there is anything to send
+abbrev pub sendable_answer : ConsumerState → ℕ → Result (Unit {0}) Refusal
+sendable_answer c p =
+    result_and (hold_answer c p) (if base_of c p == position_of c p then Err r.EmptyCommit else Ok tt)
+
+-- the key numbers of what is pending: the log's records from the base to the position
+abbrev pub pending : ConsumerState → PartitionLogs → ℕ → List ℕ
+pending c l p = slice_range (log_at l p) (base_of c p) (position_of c p)
+
+-- the commit of all that is pending
+abbrev pub commit_of : ConsumerState → PartitionLogs → ℕ → CommitTerms
+commit_of c l p = record {
+  member = unwrap_or c.member 0;
+  generation = c.generation;
+  partition = p;
+  from = base_of c p;
+  ids = pending c l p;
+}
+
+abbrev pub send_answer : ConsumerState → PartitionLogs → ℕ → Result CommitTerms Refusal
+send_answer c l p = result_and (sendable_answer c p) (Ok (commit_of c l p))
+
+-- ---- answers
+-- the offsets once this one is known to be committed: what is committed is pending no more, and a base that was past it
+-- goes back
+abbrev pub realigned_held : Held → ℕ → Held
+realigned_held h committed = record {
+  base = committed;
+  position = if nat_le h.base committed then max h.position committed else committed;
+}
+
+abbrev pub realigned_slot : ConsumerState → ℕ → ℕ → Option Held → ConsumerState
+realigned_slot c p committed None = c
+realigned_slot c p committed (Some h) = with_held c p (realigned_held h committed)
+
+abbrev pub realigned : ConsumerState → ℕ → ℕ → ConsumerState
+realigned c p committed = realigned_slot c p committed (held_at c p)
+
+-- the consumer after the answer to a commit of a partition: it is out where its member is not known; an offset that is
+-- told, by an acceptance or a mismatch, realigns it; every other answer changes nothing
+abbrev pub answered_by : ConsumerState → ℕ → Result ℕ Refusal → ConsumerState
+answered_by c p (Ok committed) = realigned c p committed
+answered_by c p (Err r.UnknownMember) = out_of_group c.partitions
+answered_by c p (Err (r.OffsetMismatch committed)) = realigned c p committed
+answered_by c p (Err refusal) = c
+
+-- ---- giving up
+-- what is not assigned is dropped, with what is pending of it
+abbrev pub given_up : ConsumerState → ConsumerState
+given_up c = record c {
+  held = map (λ p. if is_in c.assigned p then held_at c p else None) (range_with_len 0 (length c.held));
+}

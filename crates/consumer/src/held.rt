@@ -1,0 +1,65 @@
+//! The partitions that a consumer holds.
+
+ghost use Rattle.std.specs.Prelude.{◌≡◌, ◌≤◌, ℕ, None, length, map, slice_index_or, if◌then◌else◌};
+ghost use Rattle.std.specs.List.{range_with_len};
+ghost use Rattle.bit_planes.specs.PartitionSet.{is_in, partitions_of};
+ghost use Rattle.consumer.specs.Consumer.{leased_slot, realigned_held};
+
+use bit_planes::Plane;
+use group_machine::Lease;
+use lane_words::MOST_PARTITIONS;
+
+/// How far a partition is read.
+#[derive(Clone, Copy, Debug, PartialEq, Eq)]
+pub struct Held {
+    /// The offset up to which all records are known to be committed.
+    pub base: u32,
+    /// The offset of the next record to be read: what is before it and not below the base is pending.
+    pub position: u32,
+}
+
+impl Held {
+    /// The same, once the records below this offset are known to be committed, and no more.
+    pub(crate) fn realigned(self, committed: u32) -> Held
+        ensures { result ≡ realigned_held self committed }
+    {
+        let position = if self.base <= committed {
+            self.position.max(committed)
+        } else {
+            committed
+        };
+        Held {
+            base: committed,
+            position,
+        }
+    }
+}
+
+/// What is leased and not held yet is held from the committed offset on.
+pub fn lease(held: &mut [Option<Held>], lease: &Lease)
+    requires few { length held.old ≤ MOST_PARTITIONS }
+    requires one_each { length held.old ≡ partitions_of lease.now.assigned }
+    ensures { held.new ≡ map (λ p. leased_slot lease.now p (slice_index_or held.old p None)) (range_with_len 0 (length held.old)) }
+{
+    for p in 0..held.len() {
+        if held[p].is_none() && lease.assigned().contains(p as u32) {
+            let start = lease.start(p as u32);
+            held[p] = Some(Held {
+                base: start,
+                position: start,
+            });
+        }
+    }
+}
+
+/// What is not assigned is dropped.
+pub fn give_up(held: &mut [Option<Held>], assigned: &Plane)
+    requires { length held.old ≤ MOST_PARTITIONS }
+    ensures { held.new ≡ map (λ p. if is_in assigned.now p then slice_index_or held.old p None else None) (range_with_len 0 (length held.old)) }
+{
+    for p in 0..held.len() {
+        if !assigned.contains(p as u32) {
+            held[p] = None;
+        }
+    }
+}

@@ -1,0 +1,1 @@
+//! Each call, step by step.
