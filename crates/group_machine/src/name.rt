@@ -43,6 +43,16 @@ impl Name {
         })
     }
 
+    /// An equal name.
+    pub fn copy(&self) -> Name
+        ensures { result ≡ self.now }
+    {
+        Name {
+            bytes: self.bytes,
+            size: self.size,
+        }
+    }
+
     /// The text of the name.
     pub fn text(&self) -> &[u8]
         ensures text { result.now ≡ self.now }

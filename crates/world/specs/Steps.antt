@@ -1,0 +1,205 @@
+-- The events of a world, each said by the steps of the cluster and of a consumer.
+use Rattle.std.specs.Prelude.{◌≡◌, ◌≢◌, ◌⊎◌, ℕ, ◌+◌, Bool, List, [], ◌∷◌, ◌++◌, Option, Some, None, is_none, Result, Ok, Err, length, nat_le, if◌then◌else◌}
+use Rattle.std.specs.Result.{result_and}
+use Rattle.lane_words.specs.declared.Refusal.{Refusal}
+use Rattle.lane_words.specs.declared.Refusal.TheVariants as r
+use Rattle.partition_log.specs.Keys.{Key}
+use Rattle.group_machine.specs.Cluster.{ClusterState, CommitTerms, LeaseTerms, append_answer, appended_to, cluster_commit_answer, cluster_sync_answer, committed_by, with_group}
+use Rattle.group_machine.specs.Steps.{join_answer, joined_by, leave_answer, left_by, rejoin_answer, rejoined_by, synced_by}
+use Rattle.consumer.specs.Consumer.{ConsumerState, answered_by, commit_of, given_up, joined_as, leased, out_of_group, poll_answer, polled, polled_count, sendable_answer}
+use Rattle.world.specs.declared.event.Event.{Event}
+use Rattle.world.specs.declared.event.Event.TheVariants as event
+use Rattle.world.specs.declared.event.Reply.{Reply}
+use Rattle.world.specs.declared.event.Reply.TheVariants as reply
+use Rattle.world.specs.declared.event.TheConstants.{MOST_COMMITS}
+use Rattle.world.specs.World.{WorldState, commit_at, consumer_of, on_consumer, with_cluster}
+
+-- what comes of an event: the reply, and the world after it
+pub record Outcome : Type 0 where
+  pub reply : Reply
+  pub after : WorldState
+
+abbrev pub done : Reply → WorldState → Outcome
+done reply after = record { reply = reply; after = after }
+
+-- refused, with everything as it was
+abbrev pub refused : WorldState → Refusal → Outcome
+refused w why = done (reply.Refused why) w
+
+-- ---- the cluster's own events
+abbrev pub append_outcome : WorldState → Key → Result (ℕ × ℕ) Refusal → Outcome
+append_outcome w key (Ok at) = done (reply.Appended at.0 at.1) (with_cluster w (appended_to w.cluster key))
+append_outcome w key (Err why) = refused w why
+
+abbrev pub append_event : WorldState → Key → Outcome
+append_event w key = append_outcome w key (append_answer w.cluster.logs key)
+
+-- a member that joins gets a consumer, which has joined
+abbrev pub join_outcome : WorldState → List ℕ → Result ℕ Refusal → Outcome
+join_outcome w name (Ok member) = done (reply.Joined member) (record {
+  cluster = with_group w.cluster (joined_by w.cluster.group name);
+  consumers = w.consumers ++ joined_as (out_of_group w.cluster.group.partitions) member ∷ [];
+  mail = w.mail;
+})
+join_outcome w name (Err why) = refused w why
+
+abbrev pub join_event : WorldState → List ℕ → Outcome
+join_event w name = join_outcome w name (join_answer w.cluster.group name)
+
+-- a member that is lost is not told
+abbrev pub lose_outcome : WorldState → ℕ → Result (Unit {0}) Refusal → Outcome
+lose_outcome w m (Ok _) = done reply.Lost (with_cluster w (with_group w.cluster (left_by w.cluster.group m)))
+lose_outcome w m (Err why) = refused w why
+
+abbrev pub lose_event : WorldState → ℕ → Outcome
+lose_event w m = lose_outcome w m (leave_answer w.cluster.group m)
+
+-- ---- events of a member that its consumer asks for
+-- a consumer drops all, and is out
+abbrev pub dropped : ConsumerState → ConsumerState
+dropped c = out_of_group c.partitions
+
+-- refused by the cluster: a consumer that learns that its member is not present is out, and else nothing changes
+abbrev pub refused_by_cluster : WorldState → ℕ → Refusal → Outcome
+refused_by_cluster w m r.UnknownMember = done (reply.Refused r.UnknownMember) (on_consumer w m dropped)
+refused_by_cluster w m why = refused w why
+
+-- the cluster and the consumer of a member after an accepted step of both
+abbrev pub both : WorldState → ℕ → ClusterState → (ConsumerState → ConsumerState) → WorldState
+both w m cluster f = on_consumer (with_cluster w cluster) m f
+
+abbrev pub sync_outcome : WorldState → ℕ → Result LeaseTerms Refusal → Outcome
+sync_outcome w m (Ok lease) = done (reply.Leased lease.generation)
+  (both w m (with_group w.cluster (synced_by w.cluster.group m)) (λ c. leased c lease))
+sync_outcome w m (Err why) = refused_by_cluster w m why
+
+abbrev pub rejoin_outcome : WorldState → ℕ → Result (Unit {0}) Refusal → Outcome
+rejoin_outcome w m (Ok _) = done reply.Rejoined
+  (both w m (with_group w.cluster (rejoined_by w.cluster.group m)) given_up)
+rejoin_outcome w m (Err why) = refused_by_cluster w m why
+
+abbrev pub leave_outcome : WorldState → ℕ → Result (Unit {0}) Refusal → Outcome
+leave_outcome w m (Ok _) = done reply.Left
+  (both w m (with_group w.cluster (left_by w.cluster.group m)) dropped)
+leave_outcome w m (Err why) = refused_by_cluster w m why
+
+-- an event that the consumer of a member asks the cluster for: refused by 1 where there never was such a member, and by
+-- 16 where its consumer is out
+abbrev pub asked : WorldState → Option ConsumerState → (ConsumerState → Outcome) → Outcome
+asked w None f = refused w r.UnknownMember
+asked w (Some c) f = if is_none c.member then refused w r.OutOfGroup else f c
+
+abbrev pub sync_event : WorldState → ℕ → Outcome
+sync_event w m = asked w (consumer_of w m) (λ c. sync_outcome w m (cluster_sync_answer w.cluster m))
+
+abbrev pub rejoin_event : WorldState → ℕ → Outcome
+rejoin_event w m = asked w (consumer_of w m)
+  (λ c. rejoin_outcome w m (rejoin_answer w.cluster.group m c.generation c.assigned))
+
+abbrev pub leave_event : WorldState → ℕ → Outcome
+leave_event w m = asked w (consumer_of w m) (λ c. leave_outcome w m (leave_answer w.cluster.group m))
+
+-- ---- events of a consumer alone
+abbrev pub poll_outcome : WorldState → ℕ → ℕ → ℕ → ConsumerState → Result ℕ Refusal → Outcome
+poll_outcome w m p n c (Ok count) = done (reply.Polled count) (on_consumer w m (λ x. polled x w.cluster.logs p n))
+poll_outcome w m p n c (Err why) = refused w why
+
+abbrev pub poll_known : WorldState → ℕ → ℕ → ℕ → Option ConsumerState → Outcome
+poll_known w m p n None = refused w r.UnknownMember
+poll_known w m p n (Some c) = poll_outcome w m p n c (poll_answer c w.cluster.logs p n)
+
+abbrev pub poll_event : WorldState → ℕ → ℕ → ℕ → Outcome
+poll_event w m p n = poll_known w m p n (consumer_of w m)
+
+-- whether a commit can be sent: the consumer has something to send, and the mail has room for it
+abbrev pub mail_answer : WorldState → ConsumerState → ℕ → Result (Unit {0}) Refusal
+mail_answer w c p =
+    result_and (sendable_answer c p) (if nat_le MOST_COMMITS (length w.mail) then Err r.MailFull else Ok tt)
+
+abbrev pub send_outcome : WorldState → ℕ → ConsumerState → Result (Unit {0}) Refusal → Outcome
+send_outcome w p c (Ok _) = done (reply.Sent (length w.mail + 1))
+  (record w { mail = w.mail ++ commit_of c w.cluster.logs p ∷ [] })
+send_outcome w p c (Err why) = refused w why
+
+abbrev pub send_known : WorldState → ℕ → Option ConsumerState → Outcome
+send_known w p None = refused w r.UnknownMember
+send_known w p (Some c) = send_outcome w p c (mail_answer w c p)
+
+abbrev pub send_event : WorldState → ℕ → ℕ → Outcome
+send_event w m p = send_known w p (consumer_of w m)
+
+-- ---- deliveries
+-- the cluster once it was given a commit
+abbrev pub given : ClusterState → CommitTerms → Result ℕ Refusal → ClusterState
+given s c (Ok _) = committed_by s c
+given s c (Err _) = s
+
+abbrev pub told : Result ℕ Refusal → Reply
+told (Ok offset) = reply.Committed offset
+told (Err why) = reply.Refused why
+
+-- a commit is given to the cluster, and its member's consumer is given the answer
+abbrev pub delivered : WorldState → CommitTerms → Result ℕ Refusal → Outcome
+delivered w c answer = done (told answer)
+  (both w c.member (given w.cluster c answer) (λ x. answered_by x c.partition answer))
+
+-- the same, and the consumer is given no answer
+abbrev pub delivered_unanswered : WorldState → CommitTerms → Result ℕ Refusal → Outcome
+delivered_unanswered w c answer = done reply.Unanswered (with_cluster w (given w.cluster c answer))
+
+abbrev pub delivery : WorldState → (CommitTerms → Result ℕ Refusal → Outcome) → Option CommitTerms → Outcome
+delivery w f None = refused w r.NoSuchCommit
+delivery w f (Some c) = f c (cluster_commit_answer w.cluster c)
+
+abbrev pub deliver_event : WorldState → ℕ → Outcome
+deliver_event w k = delivery w (delivered w) (commit_at w k)
+
+abbrev pub deliver_unanswered_event : WorldState → ℕ → Outcome
+deliver_unanswered_event w k = delivery w (delivered_unanswered w) (commit_at w k)
+
+-- ---- one step
+-- what has to come of an event that takes no memory
+abbrev pub Comes : Outcome → Reply → WorldState → Type 0
+Comes outcome reply w2 = (reply ≡ outcome.reply) × (w2 ≡ outcome.after)
+
+-- the same of one that takes memory, which may be refused: then nothing changes
+abbrev pub MayCome : WorldState → Outcome → Reply → WorldState → Type 0
+MayCome w outcome reply w2 = Comes outcome reply w2 ⊎ Comes (refused w r.Memory) reply w2
+
+-- an event in a world, the reply to it, and the world after it
+abbrev pub Step : WorldState → Event → Reply → WorldState → Type 0
+Step w (event.Append key) reply w2 = MayCome w (append_event w key.now) reply w2
+Step w (event.Join name) reply w2 = MayCome w (join_event w name.now) reply w2
+Step w (event.Sync m) reply w2 = MayCome w (sync_event w m) reply w2
+Step w (event.Rejoin m) reply w2 = MayCome w (rejoin_event w m) reply w2
+Step w (event.Leave m) reply w2 = MayCome w (leave_event w m) reply w2
+Step w (event.Lose m) reply w2 = MayCome w (lose_event w m) reply w2
+Step w (event.Poll m p n) reply w2 = Comes (poll_event w m p n) reply w2
+Step w (event.Send m p) reply w2 = MayCome w (send_event w m p) reply w2
+Step w (event.Deliver k) reply w2 = Comes (deliver_event w k) reply w2
+Step w (event.DeliverUnanswered k) reply w2 = Comes (deliver_unanswered_event w k) reply w2
+
+-- ---- what never comes in a world
+-- a refusal of a rejoin that a consumer which follows its leases never gets
+abbrev pub IsNoRejoinFault : Result (Unit {0}) Refusal → Type 0
+IsNoRejoinFault (Err r.SyncFirst) = ⊥
+IsNoRejoinFault (Err r.ClaimDiffers) = ⊥
+IsNoRejoinFault answer = Unit {0}
+
+-- a refusal of a commit that one which was sent never gets
+abbrev pub IsNoCommitFault : Result ℕ Refusal → Type 0
+IsNoCommitFault (Err r.PastEnd) = ⊥
+IsNoCommitFault (Err r.WrongRecords) = ⊥
+IsNoCommitFault (Err r.EmptyCommit) = ⊥
+IsNoCommitFault answer = Unit {0}
+
+-- The cluster never answers an event by one of these: a rejoin that has to sync first, or whose claim differs; a commit
+-- past the end, with wrong records, or without records
+abbrev pub NeverFaults : WorldState → Event → Type 0
+NeverFaults w (event.Rejoin m) = (c : ConsumerState) → consumer_of w m ≡ Some c
+  → IsNoRejoinFault (rejoin_answer w.cluster.group m c.generation c.assigned)
+NeverFaults w (event.Deliver k) = (c : CommitTerms) → commit_at w k ≡ Some c
+  → IsNoCommitFault (cluster_commit_answer w.cluster c)
+NeverFaults w (event.DeliverUnanswered k) = (c : CommitTerms) → commit_at w k ≡ Some c
+  → IsNoCommitFault (cluster_commit_answer w.cluster c)
+NeverFaults w event = Unit {0}

@@ -1,0 +1,46 @@
+-- What a world keeps: the facts of a good world.
+use Rattle.std.specs.Prelude.{◌≡◌, ℕ, ◌+◌, ◌<◌, ◌≤◌, ◌↔◌, true, List, Option, Some, None, length, slice_get, slice_range}
+use Rattle.bit_planes.specs.PartitionSet.{is_in}
+use Rattle.partition_log.specs.Logs.{PartitionLogs, log_at}
+use Rattle.group_machine.specs.declared.group.Seat.{Seat}
+use Rattle.group_machine.specs.State.{GroupState, member_of}
+use Rattle.group_machine.specs.Cluster.{ClusterState, CommitTerms, IsValidCluster, committed_at}
+use Rattle.consumer.specs.Consumer.{ConsumerState, IsValidConsumer, IsWithinLogs, base_of, is_held}
+use Rattle.world.specs.declared.event.TheConstants.{MOST_COMMITS}
+use Rattle.world.specs.World.{WorldState, consumer_of}
+
+-- The consumer of member number m, present or not: it is out or that member's; what it takes for committed is committed,
+-- and it has read nothing past a log's end
+pub record IsConsumerOf (s : ClusterState) (m : ℕ) (c : ConsumerState) : Type 0 where
+  pub valid : IsValidConsumer c
+  pub partitions : c.partitions ≡ s.group.partitions
+  pub number : (n : ℕ) → c.member ≡ Some n → n ≡ m
+  pub committed : (p : ℕ) → base_of c p ≤ committed_at s.store p
+  pub within : IsWithinLogs c s.logs
+
+-- The consumer of a present member: it is in, and holds only what the member is granted. Its generation is at most the
+-- group's, and is the group's exactly where the member is synced: then its lease is what the member is to keep, all of
+-- which it holds
+pub record IsInStep (g : GroupState) (m : ℕ) (seat : Seat) (c : ConsumerState) : Type 0 where
+  pub member : c.member ≡ Some m
+  pub granted : (p : ℕ) → is_held c p ≡ true → is_in seat.granted p ≡ true
+  pub not_ahead : c.generation ≤ g.generation
+  pub synced : (c.generation ≡ g.generation) ↔ (seat.synced ≡ true)
+  pub assigned : seat.synced ≡ true → c.assigned ≡ seat.assigned
+  pub held : seat.synced ≡ true → (p : ℕ) → is_in seat.assigned p ≡ true → is_held c p ≡ true
+
+-- A commit in the mail: it has records, and they are its log's from its offset on
+pub record IsSent (l : PartitionLogs) (c : CommitTerms) : Type 0 where
+  pub some : 0 < length c.ids
+  pub within : c.from + length c.ids ≤ length (log_at l c.partition)
+  pub same : slice_range (log_at l c.partition) c.from (c.from + length c.ids) ≡ c.ids
+
+-- what a world keeps
+pub record IsValidWorld (w : WorldState) : Type 0 where
+  pub cluster : IsValidCluster w.cluster
+  pub a_consumer_each : length w.consumers ≡ length w.cluster.group.slots
+  pub consumers : (m : ℕ) (c : ConsumerState) → consumer_of w m ≡ Some c → IsConsumerOf w.cluster m c
+  pub present : (m : ℕ) (seat : Seat) (c : ConsumerState) → member_of w.cluster.group m ≡ Some seat
+    → consumer_of w m ≡ Some c → IsInStep w.cluster.group m seat c
+  pub mail : (i : ℕ) (c : CommitTerms) → slice_get w.mail i ≡ Some c → IsSent w.cluster.logs c
+  pub few_commits : length w.mail ≤ MOST_COMMITS

@@ -1,0 +1,241 @@
+//! What a world is made of, and its events.
+
+ghost use Rattle.std.specs.Prelude.{◌≡◌, ◌<◌, ℕ, suc, length, IfOk, IfErr};
+ghost use Rattle.world.specs.World.{WorldState};
+ghost use Rattle.world.specs.Steps.{Comes, MayCome, Step, append_event, deliver_event, deliver_unanswered_event, join_event, leave_event, lose_event, poll_event, refused_by_cluster, rejoin_event, send_event, sync_event};
+ghost use Rattle.world.specs.Valid.{IsValidWorld};
+ghost use Rattle.world.specs.Private.Lookups.{IsAsking, IsIndexOf, IsNotAsking};
+ghost use Rattle.world.specs.Private.View.{world_view};
+
+use crate::event::{Event, MOST_COMMITS, Reply};
+use consumer::Consumer;
+use group_machine::{Cluster, Commit, Name};
+use lane_words::Refusal;
+use std::alloc::Global;
+
+/// The parts of a world.
+#[derive(Drop)]
+pub struct Parts {
+    pub cluster: Cluster,
+    /// By member number: that of member m stands at index m - 1.
+    pub consumers: Vec<Consumer>,
+    /// By number: commit k stands at index k - 1.
+    pub mail: Vec<Commit>,
+}
+
+impl Parts {
+    /// One event.
+    pub fn step(&mut self, alloc: Global, event: Event) -> Reply
+        requires { IsValidWorld (world_view self.old) }
+        ensures { Step (world_view self.old) event.entry result (world_view self.new) }
+    {
+        match event {
+            Event::Append(key) => self.append(key),
+            Event::Join(name) => self.join(alloc, name),
+            Event::Sync(member) => self.sync(member),
+            Event::Rejoin(member) => self.rejoin(member),
+            Event::Leave(member) => self.leave(member),
+            Event::Lose(member) => self.lose(member),
+            Event::Poll {
+                member,
+                partition,
+                records,
+            } => self.poll(member, partition, records),
+            Event::Send { member, partition } => self.send(member, partition),
+            Event::Deliver(number) => self.deliver(number),
+            Event::DeliverUnanswered(number) => self.deliver_unanswered(number),
+        }
+    }
+
+    fn append(&mut self, key: &[u8]) -> Reply
+        ensures { MayCome (world_view self.old) (append_event (world_view self.old) key.now) result (world_view self.new) }
+    {
+        match self.cluster.append(key) {
+            Ok((partition, offset)) => return Reply::Appended(partition, offset),
+            Err(why) => return Reply::Refused(why),
+        }
+    }
+
+    // All that grows grows before the cluster is asked.
+    fn join(&mut self, alloc: Global, name: &Name) -> Reply
+        ensures { MayCome (world_view self.old) (join_event (world_view self.old) name.now) result (world_view self.new) }
+    {
+        if self.consumers.reserve(1).is_err() {
+            return Reply::Refused(Refusal::Memory);
+        }
+        let Ok(mut consumer) = Consumer::new(alloc, self.cluster.partitions()) else {
+            return Reply::Refused(Refusal::Memory);
+        };
+        match self.cluster.join(name.copy()) {
+            Ok(member) => {
+                consumer.joined(member);
+                self.consumers.push_reserved(consumer);
+                return Reply::Joined(member);
+            }
+            Err(why) => return Reply::Refused(why),
+        }
+    }
+
+    fn sync(&mut self, member: u32) -> Reply
+        requires { IsValidWorld (world_view self.old) }
+        ensures { MayCome (world_view self.old) (sync_event (world_view self.old) member) result (world_view self.new) }
+    {
+        let index = match self.asking(member) {
+            Ok(index) => index,
+            Err(why) => return Reply::Refused(why),
+        };
+        match self.cluster.sync(member) {
+            Ok(lease) => {
+                self.consumers[index].take_lease(&lease);
+                return Reply::Leased(lease.generation());
+            }
+            Err(why) => return self.refuse(index, why),
+        }
+    }
+
+    fn rejoin(&mut self, member: u32) -> Reply
+        ensures { MayCome (world_view self.old) (rejoin_event (world_view self.old) member) result (world_view self.new) }
+    {
+        let index = match self.asking(member) {
+            Ok(index) => index,
+            Err(why) => return Reply::Refused(why),
+        };
+        let consumer = &mut self.consumers[index];
+        match self
+            .cluster
+            .rejoin(member, consumer.generation(), &consumer.claim())
+        {
+            Ok(()) => {
+                consumer.give_up();
+                return Reply::Rejoined;
+            }
+            Err(why) => return self.refuse(index, why),
+        }
+    }
+
+    fn leave(&mut self, member: u32) -> Reply
+        ensures { MayCome (world_view self.old) (leave_event (world_view self.old) member) result (world_view self.new) }
+    {
+        let index = match self.asking(member) {
+            Ok(index) => index,
+            Err(why) => return Reply::Refused(why),
+        };
+        match self.cluster.leave(member) {
+            Ok(()) => {
+                self.consumers[index].drop_all();
+                return Reply::Left;
+            }
+            Err(why) => return self.refuse(index, why),
+        }
+    }
+
+    fn lose(&mut self, member: u32) -> Reply
+        ensures { MayCome (world_view self.old) (lose_event (world_view self.old) member) result (world_view self.new) }
+    {
+        match self.cluster.lose(member) {
+            Ok(()) => return Reply::Lost,
+            Err(why) => return Reply::Refused(why),
+        }
+    }
+
+    fn poll(&mut self, member: u32, partition: u32, records: u32) -> Reply
+        requires { IsValidWorld (world_view self.old) }
+        ensures { Comes (poll_event (world_view self.old) member partition records) result (world_view self.new) }
+    {
+        let Some(index) = index_of(member, self.consumers.len()) else {
+            return Reply::Refused(Refusal::UnknownMember);
+        };
+        match self.consumers[index].poll(self.cluster.logs(), partition, records) {
+            Ok(count) => return Reply::Polled(count),
+            Err(why) => return Reply::Refused(why),
+        }
+    }
+
+    fn send(&mut self, member: u32, partition: u32) -> Reply
+        requires { IsValidWorld (world_view self.old) }
+        ensures { MayCome (world_view self.old) (send_event (world_view self.old) member partition) result (world_view self.new) }
+    {
+        let Some(index) = index_of(member, self.consumers.len()) else {
+            return Reply::Refused(Refusal::UnknownMember);
+        };
+        let consumer = &self.consumers[index];
+        if let Err(why) = consumer.sendable(partition) {
+            return Reply::Refused(why);
+        }
+        if self.mail.len() >= MOST_COMMITS {
+            return Reply::Refused(Refusal::MailFull);
+        }
+        if self.mail.reserve(1).is_err() {
+            return Reply::Refused(Refusal::Memory);
+        }
+        match consumer.send(self.cluster.logs(), partition) {
+            Ok(commit) => {
+                self.mail.push_reserved(commit);
+                return Reply::Sent(self.mail.len() as u32);
+            }
+            Err(why) => return Reply::Refused(why),
+        }
+    }
+
+    fn deliver(&mut self, number: u32) -> Reply
+        ensures { Comes (deliver_event (world_view self.old) number) result (world_view self.new) }
+    {
+        let Some(index) = index_of(number, self.mail.len()) else {
+            return Reply::Refused(Refusal::NoSuchCommit);
+        };
+        let commit = &self.mail[index];
+        let answer = self.cluster.commit(commit);
+        if let Some(index) = index_of(commit.member(), self.consumers.len()) {
+            self.consumers[index].answered(commit.partition(), answer);
+        }
+        match answer {
+            Ok(offset) => return Reply::Committed(offset),
+            Err(why) => return Reply::Refused(why),
+        }
+    }
+
+    fn deliver_unanswered(&mut self, number: u32) -> Reply
+        ensures { Comes (deliver_unanswered_event (world_view self.old) number) result (world_view self.new) }
+    {
+        let Some(index) = index_of(number, self.mail.len()) else {
+            return Reply::Refused(Refusal::NoSuchCommit);
+        };
+        let _ = self.cluster.commit(&self.mail[index]);
+        Reply::Unanswered
+    }
+
+    /// The index of the consumer of a member that may ask the cluster for something: there is one, and it is in.
+    fn asking(&self, member: u32) -> Result<usize, Refusal>
+        ensures asking { IfOk result (IsAsking (world_view self.now) member) }
+        ensures refused { IfErr result (IsNotAsking (world_view self.now) member) }
+    {
+        let Some(index) = index_of(member, self.consumers.len()) else {
+            return Err(Refusal::UnknownMember);
+        };
+        if self.consumers[index].member().is_none() {
+            return Err(Refusal::OutOfGroup);
+        }
+        Ok(index)
+    }
+
+    /// Refuses what a consumer asked for, as the cluster did. One whose member is not known is out.
+    fn refuse(&mut self, index: usize, why: Refusal) -> Reply
+        requires { index < length (world_view self.old).consumers }
+        ensures { Comes (refused_by_cluster (world_view self.old) (suc index) why) result (world_view self.new) }
+    {
+        if why == Refusal::UnknownMember {
+            self.consumers[index].drop_all();
+        }
+        Reply::Refused(why)
+    }
+}
+
+/// The index of item number `number` of so many, counted from 1.
+fn index_of(number: u32, count: usize) -> Option<usize>
+    ensures { IsIndexOf number count result }
+{
+    if number == 0 || number as usize > count {
+        return None;
+    }
+    Some(number as usize - 1)
+}
