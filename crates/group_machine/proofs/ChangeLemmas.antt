@@ -12,8 +12,8 @@ use Rattle.group_machine.specs.declared.group.change.Change.{Change}
 use Rattle.group_machine.specs.declared.group.change.Change.TheVariants.{Joins, Rejoins, Leaves}
 use Rattle.group_machine.specs.Slots.{on_seat, only_of, reseated_from, present}
 use Rattle.group_machine.specs.Steps.{newcomer, rejoined_seat}
-use Rattle.group_machine.specs.Walks.{AreSeatsOver, IsSeatOver, granted_in, out_or}
-use Rattle.group_machine.specs.Changes.{seat_after, slots_after, is_ready_in}
+use Rattle.group_machine.specs.Private.Walks.{AreSeatsOver, IsSeatOver, granted_in, out_or}
+use Rattle.group_machine.specs.Private.Changes.{seat_after, slots_after, is_ready_in}
 use Rattle.group_machine.proofs.SlotsLemmas.{slot_with, same_id, reseated_not, seat_of_index}
 use Rattle.group_machine.proofs.PresentLemmas.{length_reseated}
 use Rattle.group_machine.proofs.WalkLemmas.{slot_at, changed_there, granted_more, granted_same}

@@ -1,5 +1,5 @@
 -- A completion leaves a good group.
-use Rattle.std.proofs.Common.{ℕ, ◌≡◌, ◌<◌, Bool, true, false, ◌&&◌, ◌||◌, ◌⊎◌, inl, inr, List, Option, Some, None, map, refl, ap, sym, ◌∙◌, subst, arith, is_some, cond}
+use Rattle.std.proofs.Common.{ℕ, ◌≡◌, Bool, true, false, ◌&&◌, ◌||◌, ◌⊎◌, inl, inr, List, Option, Some, None, map, refl, ap, sym, ◌∙◌, subst, arith, is_some, cond}
 use Rattle.std.proofs.lemmas.Bool.{false≢true}
 use Rattle.std.proofs.lemmas.List.FromFn.{length-map-range_with_len}
 use Rattle.std.specs.Option.{option_or}
@@ -15,40 +15,31 @@ use Rattle.group_machine.specs.State.{GroupState, member_of, members, is_anybody
 use Rattle.group_machine.specs.Moves.{taker}
 use Rattle.group_machine.specs.Completion.{all_joined, is_ready, completed_seat, complete, completed}
 use Rattle.group_machine.specs.Rounds.{is_stable, agrees, all_agree}
-use Rattle.group_machine.specs.Good.{IsSized, IsApart, IsHeldByLast, IsFit, AllFit, IsValidGroup}
+use Rattle.group_machine.specs.Good.{IsFit, IsValidGroup}
 use Rattle.group_machine.proofs.SlotsLemmas.{seat_each}
 use Rattle.group_machine.proofs.PresentLemmas.{Listed, listed_present, numbers_each, length_reseated, any_each, all_says, some_not}
 use Rattle.group_machine.proofs.Rows.{map_same, member_listed, set_over}
-use Rattle.group_machine.specs.Walks.{AreOwned}
+use Rattle.group_machine.specs.Private.Changes.{IsChanged}
+use Rattle.group_machine.specs.Private.Walks.{AreOwned}
 use Rattle.group_machine.proofs.Below.{target_kept, target_below, target_balanced, next_members, next_kept, next_below, next_in_target, next_not_other, next_apart, next_is_target}
 use Rattle.group_machine.proofs.GroupLemmas.{members_granted, set_granted, granted_owned, granted_over}
 use Rattle.group_machine.proofs.TakerLemmas.{held_after}
 
--- what holds before a completion
-pub record IsNext (g : GroupState) : Type 0 where
-  pub sized : IsSized g
-  pub apart : IsApart g
-  pub fit : AllFit g
-  pub held : IsHeldByLast g
-  pub some : is_anybody g ≡ true → g.phase ≡ Preparing
-  pub gone : is_anybody g ≡ false → g.phase ≡ Empty
-  pub counted : is_anybody g ≡ true → all_joined g ≡ false → 0 < g.generation
-
-unstable : (g : GroupState) → IsNext g → is_stable g.phase ≡ false
+unstable : (g : GroupState) → IsChanged g → is_stable g.phase ≡ false
 unstable g n = go (is_anybody g) refl
   where
     go : (b : Bool) → is_anybody g ≡ b → is_stable g.phase ≡ false
     go true e = ap is_stable (n.some e)
     go false e = ap is_stable (n.gone e)
 
-any_if_preparing : (g : GroupState) → IsNext g → g.phase ≡ Preparing → is_anybody g ≡ true
+any_if_preparing : (g : GroupState) → IsChanged g → g.phase ≡ Preparing → is_anybody g ≡ true
 any_if_preparing g n e = go (is_anybody g) refl
   where
     go : (b : Bool) → is_anybody g ≡ b → is_anybody g ≡ true
     go true h = h
     go false h = let x : g.phase ≡ Empty = n.gone h in cc
 
-none_if_empty : (g : GroupState) → IsNext g → g.phase ≡ Empty → is_anybody g ≡ false
+none_if_empty : (g : GroupState) → IsChanged g → g.phase ≡ Empty → is_anybody g ≡ false
 none_if_empty g n e = go (is_anybody g) refl
   where
     go : (b : Bool) → is_anybody g ≡ b → is_anybody g ≡ false
@@ -59,7 +50,7 @@ not_all : (a b : Bool) → (a && b) ≡ false → a ≡ true → b ≡ false
 not_all true b e h = e
 not_all false b e h = absurd (false≢true h)
 
-next_good : (g : GroupState) → IsNext g → is_ready g ≡ false → IsValidGroup g
+pub next_good : (g : GroupState) → IsChanged g → is_ready g ≡ false → IsValidGroup g
 next_good g n e = record {
   sized = n.sized;
   apart = n.apart;
@@ -131,7 +122,7 @@ not_joined : (next : SetRows) (m : ℕ) (o : Option Seat) → seat_joined (on_se
 not_joined next m None = refl
 not_joined next m (Some x) = refl
 
-pub complete_good : (g : GroupState) → IsNext g → is_ready g ≡ true → IsValidGroup (complete g)
+pub complete_good : (g : GroupState) → IsChanged g → is_ready g ≡ true → IsValidGroup (complete g)
 complete_good g n e =
     let any : is_anybody g ≡ true = (both_true (is_anybody g) (all_joined g) e).0 in
     let p : ℕ = g.partitions in
@@ -198,7 +189,7 @@ complete_good g n e =
     }
 
 -- a completion, where there is one, leaves a good group
-pub completed_good : (g : GroupState) → IsNext g → IsValidGroup (completed g)
+pub completed_good : (g : GroupState) → IsChanged g → IsValidGroup (completed g)
 completed_good g n = go (is_ready g) refl
   where
     go : (b : Bool) → is_ready g ≡ b → IsValidGroup (cond b (complete g) g)

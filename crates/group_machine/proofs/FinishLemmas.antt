@@ -27,7 +27,7 @@ use Rattle.group_machine.specs.Good.{IsSized, IsApart, AllFit, IsValidGroup}
 use Rattle.group_machine.proofs.SlotsLemmas.{seat_each, each_two, each_same, one_is_each, at_only}
 use Rattle.group_machine.proofs.PresentLemmas.{length_reseated, present_each, numbers_each, any_each, any_of, all_of, all_says}
 use Rattle.group_machine.proofs.Rows.{set_over}
-use Rattle.group_machine.specs.Walks.{AreOwned}
+use Rattle.group_machine.specs.Private.Walks.{AreOwned}
 use Rattle.group_machine.proofs.Below.{next_kept, next_below, next_members, second_all, second_within, target_kept, target_below}
 use Rattle.group_machine.proofs.GroupLemmas.{assigned_owned, members_assigned}
 use Rattle.group_machine.proofs.CompletionLemmas.{seat_behind}

@@ -4,7 +4,6 @@ pub mod ClusterLemmas
 pub mod CompletionLemmas
 pub mod FinishLemmas
 pub mod GroupLemmas
-pub mod KeptLemmas
 pub mod MovesLemmas
 pub mod PresentLemmas
 pub mod Rows

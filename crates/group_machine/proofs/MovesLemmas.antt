@@ -10,7 +10,7 @@ use Rattle.group_machine.specs.declared.group.Slot.{Slot}
 use Rattle.group_machine.specs.declared.group.Seat.{Seat}
 use Rattle.group_machine.specs.declared.group.Move.{Move}
 use Rattle.group_machine.specs.Slots.{and_member, present_from, present}
-use Rattle.group_machine.specs.Walks.{taker_in}
+use Rattle.group_machine.specs.Private.Walks.{taker_in}
 use Rattle.coop_rebalance.proofs.Items.{items_more}
 
 -- ---- one number more

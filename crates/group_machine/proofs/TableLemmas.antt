@@ -3,6 +3,7 @@ use Rattle.std.proofs.Common.{ℕ, zero, suc, ◌≡◌, ◌+◌, ◌<◌, ◌�
 use Rattle.std.proofs.lemmas.Bool.Decides.{nat_tests}
 use Rattle.std.specs.List.{list_all, range_with_len, cons_option}
 use Rattle.std.specs.Option.{option_map, option_or}
+use Rattle.lane_words.specs.declared.limits.TheConstants.{LAST_GENERATION, MOST_MEMBERS}
 use Rattle.lane_words.specs.Answers.{Answers}
 use Rattle.lane_words.specs.declared.Refusal.{Refusal}
 use Rattle.lane_words.specs.declared.Refusal.TheVariants as r
@@ -18,15 +19,14 @@ use Rattle.group_machine.specs.declared.group.Phase.TheVariants.{Stable}
 use Rattle.group_machine.specs.Slots.{seat_in, and_member, present_from, present, each_changed}
 use Rattle.group_machine.specs.State.{GroupState, member_of, is_present, is_anybody, seat_granted, granted_of, granted_rows, owner_of, last_holder}
 use Rattle.group_machine.specs.Moves.{takes, taker, move_by, moves_to, last_after}
-use Rattle.group_machine.specs.Completion.{completed_seat, completed_with, complete, is_ready, last_generation}
-use Rattle.group_machine.specs.Steps.{most_members, unless_over, unless_refused, is_name_used, joining, join_answer, rejoin_refusal, rejoining, rejoin_answer, leaving, leave_answer}
-use Rattle.group_machine.specs.Good.{IsSound, AllFit}
-use Rattle.group_machine.specs.declared.group.completion.Prepared.{Prepared}
-use Rattle.group_machine.specs.Changes.{IsPlanned, IsRefused}
-use Rattle.group_machine.specs.Walks.{AreOwned, AreSeatsOver, out_or, taker_in, move_of, moves_by, last_by}
+use Rattle.group_machine.specs.Completion.{completed_seat, completed_with, complete, is_ready}
+use Rattle.group_machine.specs.Steps.{unless_over, unless_refused, is_name_used, joining, join_answer, rejoin_refusal, rejoining, rejoin_answer, leaving, leave_answer}
+use Rattle.group_machine.specs.Good.{AllFit}
+use Rattle.group_machine.specs.declared.group.completion.Completion.{Completion}
+use Rattle.group_machine.specs.Private.Changes.{IsChanged, IsPlanned, IsRefused}
+use Rattle.group_machine.specs.Private.Walks.{AreOwned, AreSeatsOver, out_or, taker_in, move_of, moves_by, last_by}
 use Rattle.group_machine.proofs.GroupLemmas.{granted_owned}
 use Rattle.group_machine.proofs.Below.{next_below, next_apart}
-use Rattle.group_machine.proofs.CompletionLemmas.{IsNext}
 
 -- ---- tests
 pub not_same : (s t : PartitionSet) (a b : ℕ) → a ≡ partitions_of s → b ≡ partitions_of t → (a ≡ b → ⊥) → nat_eq a b ≡ is_same s t
@@ -55,14 +55,14 @@ all_present test slots = all_from test 1 slots
 pub seats_over : (g : GroupState) → AllFit g → AreSeatsOver g.partitions g.slots
 seats_over g fit m x is = record { granted = (fit m x is).granted_below; assigned = (fit m x is).assigned_below }
 
-pub owned_rows : (g : GroupState) → IsSound g → is_anybody g ≡ true → AreOwned (granted_rows g)
-owned_rows g sound any = granted_owned g sound.sized sound.fit sound.apart any
+pub owned_rows : (g : GroupState) → IsChanged g → is_anybody g ≡ true → AreOwned (granted_rows g)
+owned_rows g changed any = granted_owned g changed.sized changed.fit changed.apart any
 
-pub rows_below : (g : GroupState) (next : SetRows) → IsSound g → is_anybody g ≡ true → next ≡ next_rows (granted_rows g) → next.partitions ≡ g.partitions
-rows_below g next sound any is = ap (λ n. n.partitions) is ∙ next_below (granted_rows g) (owned_rows g sound any)
+pub rows_below : (g : GroupState) (next : SetRows) → IsChanged g → is_anybody g ≡ true → next ≡ next_rows (granted_rows g) → next.partitions ≡ g.partitions
+rows_below g next changed any is = ap (λ n. n.partitions) is ∙ next_below (granted_rows g) (owned_rows g changed any)
 
-pub rows_apart : (g : GroupState) (next : SetRows) → IsSound g → is_anybody g ≡ true → next ≡ next_rows (granted_rows g) → (m n q : ℕ) → is_in (set_of next m) q ≡ true → is_in (set_of next n) q ≡ true → m ≡ n
-rows_apart g next sound any is m n q e h = next_apart (granted_rows g) (owned_rows g sound any) m n q (ap (λ k. is_in (set_of k m) q) (sym is) ∙ e) (ap (λ k. is_in (set_of k n) q) (sym is) ∙ h)
+pub rows_apart : (g : GroupState) (next : SetRows) → IsChanged g → is_anybody g ≡ true → next ≡ next_rows (granted_rows g) → (m n q : ℕ) → is_in (set_of next m) q ≡ true → is_in (set_of next n) q ≡ true → m ≡ n
+rows_apart g next changed any is m n q e h = next_apart (granted_rows g) (owned_rows g changed any) m n q (ap (λ k. is_in (set_of k m) q) (sym is) ∙ e) (ap (λ k. is_in (set_of k n) q) (sym is) ∙ h)
 
 find_and : (p : (ℕ × Seat) → Bool) (t : ℕ → Bool) (m : ℕ) (o : Option Seat) (xs : List (ℕ × Seat)) → ((x : Seat) → o ≡ Some x → p (m, x) ≡ t m) → option_map (λ r. r.0) (find p xs) ≡ find t (map (λ r. r.0) xs) → option_map (λ r. r.0) (find p (and_member m o xs)) ≡ find t (map (λ r. r.0) (and_member m o xs))
 find_and p t m None xs here rest = rest
@@ -144,23 +144,20 @@ pub refused_answer : {A : Type 0} (g : GroupState) (x : A) (why : Refusal) → I
 refused_answer g x why (inl h) = inl (rw (h.0, h.1) refl)
 refused_answer g x why (inr h) = inr (ap (λ w. Err w) h)
 
-pub planned_answer : {A : Type 0} (g : GroupState) (x : A) (planned : Option Prepared) → IsPlanned g planned → Ok x ≡ unless_over g x
+pub planned_answer : {A : Type 0} (g : GroupState) (x : A) (planned : Option Completion) → IsPlanned g planned → Ok x ≡ unless_over g x
 planned_answer g x None e = rw e refl
-planned_answer g x (Some a) e = go (g.generation == last_generation) refl
+planned_answer g x (Some a) e = go (g.generation == LAST_GENERATION) refl
   where
-    go : (b : Bool) → (g.generation == last_generation) ≡ b → Ok x ≡ cond (is_ready g && b) (Err r.GenerationsOver) (Ok x)
+    go : (b : Bool) → (g.generation == LAST_GENERATION) ≡ b → Ok x ≡ cond (is_ready g && b) (Err r.GenerationsOver) (Ok x)
     go true is = absurd (less (g.generation) e.1 is)
       where
-        less : (n : ℕ) → n < last_generation → (n == last_generation) ≡ true → ⊥
+        less : (n : ℕ) → n < LAST_GENERATION → (n == LAST_GENERATION) ≡ true → ⊥
         less n lt is = grind (arith, nat_tests)
     go false is = go2 (is_ready g)
       where
         go2 : (c : Bool) → Ok x ≡ cond (c && false) (Err r.GenerationsOver) (Ok x)
         go2 true = refl
         go2 false = refl
-
-pub next_sound : (g : GroupState) → IsNext g → IsSound g
-next_sound g n = record { sized = n.sized; apart = n.apart; fit = n.fit }
 
 -- ---- joining
 pub used_answer : (g : GroupState) (name : List ℕ) → is_name_used g name ≡ true → Err r.NameUsed ≡ join_answer g name
@@ -172,11 +169,11 @@ le_is a b le = grind (arith, nat_tests)
 gt_is : (a b : ℕ) → b < a → nat_le a b ≡ false
 gt_is a b lt = grind (arith, nat_tests)
 
-pub many_answer : (g : GroupState) (name : List ℕ) → is_name_used g name ≡ false → most_members ≤ length g.slots → Err r.TooManyMembers ≡ join_answer g name
-many_answer g name e le = rw (e, le_is most_members (length g.slots) le) refl
+pub many_answer : (g : GroupState) (name : List ℕ) → is_name_used g name ≡ false → MOST_MEMBERS ≤ length g.slots → Err r.TooManyMembers ≡ join_answer g name
+many_answer g name e le = rw (e, le_is MOST_MEMBERS (length g.slots) le) refl
 
-pub join_go : (g : GroupState) (name : List ℕ) → is_name_used g name ≡ false → length g.slots < most_members → join_answer g name ≡ unless_over (joining g name) (length g.slots + 1)
-join_go g name e lt = rw (e, gt_is most_members (length g.slots) lt) refl
+pub join_go : (g : GroupState) (name : List ℕ) → is_name_used g name ≡ false → length g.slots < MOST_MEMBERS → join_answer g name ≡ unless_over (joining g name) (length g.slots + 1)
+join_go g name e lt = rw (e, gt_is MOST_MEMBERS (length g.slots) lt) refl
 
 -- ---- a group with other slots and another phase
 abbrev pub with_phase : GroupState → Phase → List Slot → GroupState

@@ -1,6 +1,7 @@
 -- Completion: the next generation.
-use Rattle.std.specs.Prelude.{ℕ, ◌+◌, Bool, false, ◌&&◌, ◌++◌, ◌==◌, ◌-◌, ◌^◌, if◌then◌else◌}
+use Rattle.std.specs.Prelude.{ℕ, ◌+◌, Bool, false, ◌&&◌, ◌++◌, ◌==◌, if◌then◌else◌}
 use Rattle.std.specs.List.{list_all}
+use Rattle.lane_words.specs.declared.limits.TheConstants.{LAST_GENERATION}
 use Rattle.bit_planes.specs.PartitionSet.{union}
 use Rattle.bit_planes.specs.SetRows.{SetRows, set_of}
 use Rattle.coop_rebalance.specs.Rounds.{next_rows}
@@ -43,13 +44,9 @@ completed_with g next = record {
 abbrev pub complete : GroupState → GroupState
 complete g = completed_with g (next_rows (granted_rows g))
 
--- the last generation
-abbrev pub last_generation : ℕ
-last_generation = 2 ^ 32 - 1
-
 -- a completion would pass the last generation
 abbrev pub is_over : GroupState → Bool
-is_over g = is_ready g && (g.generation == last_generation)
+is_over g = is_ready g && (g.generation == LAST_GENERATION)
 
 abbrev pub completed : GroupState → GroupState
 completed g = if is_ready g then complete g else g

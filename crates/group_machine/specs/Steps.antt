@@ -2,6 +2,7 @@
 use Rattle.std.specs.Prelude.{ℕ, ◌+◌, Bool, true, false, not, ◌&&◌, ◌==◌, List, [], ◌∷◌, ◌++◌, Option, Some, None, Result, Ok, Err, length, nat_le, is_some, if◌then◌else◌}
 use Rattle.std.specs.List.{list_any}
 use Rattle.std.specs.Str.{bytes_eq}
+use Rattle.lane_words.specs.declared.limits.TheConstants.{MOST_MEMBERS}
 use Rattle.lane_words.specs.declared.Refusal.{Refusal}
 use Rattle.lane_words.specs.declared.Refusal.TheVariants as r
 use Rattle.bit_planes.specs.PartitionSet.{PartitionSet, empty_set, is_same}
@@ -12,10 +13,6 @@ use Rattle.group_machine.specs.Slots.{one_changed, without_seat}
 use Rattle.group_machine.specs.State.{GroupState, member_of, is_present}
 use Rattle.group_machine.specs.Completion.{is_over, completed}
 use Rattle.group_machine.specs.Rounds.{is_stable, agrees}
-
--- the most members of a group over its time
-abbrev pub most_members : ℕ
-most_members = 512
 
 -- the answer of a step, unless its completion would pass the last generation
 abbrev pub unless_over : {A : Type 0} → GroupState → A → Result A Refusal
@@ -37,7 +34,7 @@ joining g name = record g { slots = g.slots ++ newcomer g.partitions name ∷ []
 abbrev pub join_answer : GroupState → List ℕ → Result ℕ Refusal
 join_answer g name =
     if is_name_used g name then Err r.NameUsed
-    else if nat_le most_members (length g.slots) then Err r.TooManyMembers
+    else if nat_le MOST_MEMBERS (length g.slots) then Err r.TooManyMembers
     else unless_over (joining g name) (length g.slots + 1)
 
 abbrev pub joined_by : GroupState → List ℕ → GroupState

@@ -6,7 +6,7 @@ ghost use Rattle.std.specs.Option.{option_map};
 ghost use Rattle.bit_planes.specs.PartitionSet.{is_in};
 ghost use Rattle.group_machine.specs.Slots.{present};
 ghost use Rattle.group_machine.specs.State.{name_at};
-ghost use Rattle.group_machine.specs.Walks.{members_in};
+ghost use Rattle.group_machine.specs.Private.Walks.{members_in};
 
 use super::Slot;
 use crate::Name;
@@ -25,7 +25,7 @@ impl<'a> Model for Members<'a> {
 
     ghost Value = { List ℕ };
 
-    ghost use Rattle.group_machine.specs.MembersLeft.{members_left, IsValidMembers};
+    ghost use Rattle.group_machine.specs.Private.MembersLeft.{members_left, IsValidMembers};
 
     ghost view = { members_left };
 

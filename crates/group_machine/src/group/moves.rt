@@ -4,7 +4,7 @@ ghost use Rattle.std.specs.Prelude.{◌≡◌, ◌^◌, ◌+◌, ◌++◌, ◌<�
 ghost use Rattle.std.specs.Vec.{vec_len, vec_capacity};
 ghost use Rattle.bit_planes.specs.PartitionSet.{partitions_of, is_in};
 ghost use Rattle.bit_planes.specs.SetRows.{set_of};
-ghost use Rattle.group_machine.specs.Walks.{taker_in, moves_by, last_by};
+ghost use Rattle.group_machine.specs.Private.Walks.{taker_in, moves_by, last_by};
 
 use super::Move;
 use bit_planes::{Plane, PlaneRows};

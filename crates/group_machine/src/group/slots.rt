@@ -6,7 +6,7 @@ ghost use Rattle.std.specs.Str.{bytes_eq};
 ghost use Rattle.group_machine.specs.Slots.{seat_of, one_changed, without_seat};
 ghost use Rattle.group_machine.specs.Steps.{rejoined_seat, synced_seat};
 ghost use Rattle.group_machine.specs.Rounds.{agrees};
-ghost use Rattle.group_machine.specs.Walks.{AreSeatsOver, out_or};
+ghost use Rattle.group_machine.specs.Private.Walks.{AreSeatsOver, out_or};
 ghost use Rattle.group_machine.specs.declared.group.Phase.TheVariants as phase;
 
 use super::{Phase, Seat, Slot};

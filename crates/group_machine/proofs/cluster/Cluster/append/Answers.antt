@@ -1,7 +1,7 @@
 use Rattle.std.proofs.Common.{◌≡◌, ◌≤◌, length, ap, arith, rules, sym, subst}
 use Rattle.partition_log.specs.Keys.{with_key}
 use Rattle.group_machine.specs.Cluster.{IsValidLogs, IsValidCluster, appended_to, without_room}
-use Rattle.group_machine.specs.ClusterView.{cluster_view}
+use Rattle.group_machine.specs.Private.ClusterView.{cluster_view}
 use Rattle.group_machine.proofs.ClusterLemmas.{append-kept, known-appended}
 use Rattle.group_machine.proofs.cluster.Cluster.append.Goals as goal
 

@@ -1,6 +1,6 @@
 use Rattle.std.proofs.Common.{◌≡◌, ◌||◌, drop}
 use Rattle.group_machine.specs.Slots.{reseated_from}
-use Rattle.group_machine.specs.Changes.{seat_after}
+use Rattle.group_machine.specs.Private.Changes.{seat_after}
 use Rattle.group_machine.proofs.ChangeLemmas.{starts, any_seat, all_joined_in}
 use Rattle.group_machine.proofs.group.change.is_ready_after.Given as goal
 

@@ -1,5 +1,5 @@
 use Rattle.std.proofs.Common.{◌∙◌, ap, None, slice_index_or}
-use Rattle.group_machine.specs.Walks.{move_of}
+use Rattle.group_machine.specs.Private.Walks.{move_of}
 use Rattle.group_machine.proofs.MovesLemmas.{moves_more, moves_same}
 use Rattle.group_machine.proofs.group.moves.moves_of.Goals as goal
 use Rattle.group_machine.proofs.group.moves.moves_of.Goals.{in-Some+in_ok-push, in_default}

@@ -1,6 +1,6 @@
 use Rattle.std.proofs.Common.{◌≡◌, None, filter_map, slice_index_or}
 use Rattle.std.specs.List.{range_with_len}
-use Rattle.group_machine.specs.Walks.{move_of}
+use Rattle.group_machine.specs.Private.Walks.{move_of}
 use Rattle.group_machine.proofs.group.moves.moves_of.Given as goal
 
 abbrev pub invariant-loop-partition : goal.invariant-loop-partition

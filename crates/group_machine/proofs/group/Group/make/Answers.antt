@@ -7,28 +7,28 @@ use Rattle.group_machine.specs.declared.group.Slot.{Slot}
 use Rattle.group_machine.specs.Slots.{on_seat, each_changed}
 use Rattle.group_machine.specs.State.{GroupState}
 use Rattle.group_machine.specs.Completion.{completed_seat}
-use Rattle.group_machine.specs.Walks.{AreSeatsOver, last_by}
-use Rattle.group_machine.specs.GroupView.{state_of}
+use Rattle.group_machine.specs.Private.Walks.{AreSeatsOver, last_by}
+use Rattle.group_machine.specs.Private.GroupView.{group_view}
 use Rattle.group_machine.proofs.PresentLemmas.{length_reseated}
 use Rattle.group_machine.proofs.TableLemmas.{seats_over, rows_below, last_is, complete_is}
-use Rattle.group_machine.proofs.group.table.Table.apply.Goals as goal
+use Rattle.group_machine.proofs.group.Group.make.Goals as goal
 
 pub give-requires-clause-over : goal.give-requires-clause-over
 give-requires-clause-over c =
-    let g : GroupState = state_of c.args.self.now in
-    let below = rows_below g c.args.prepared.now.next c.requires.sound c.requires.some c.requires.prepared.rows in
-    subst (λ (p : ℕ). AreSeatsOver p c.deref_mut-2.result.now) (sym below) (subst (λ (slots : List Slot). AreSeatsOver g.partitions slots) (sym c.deref_mut-2.ensures.value) (seats_over g c.requires.sound.fit))
+    let g : GroupState = group_view c.args.self.now in
+    let below = rows_below g c.args.completion.now.next c.requires.changed c.requires.some c.requires.completion.rows in
+    subst (λ (p : ℕ). AreSeatsOver p c.deref_mut-2.result.now) (sym below) (subst (λ (slots : List Slot). AreSeatsOver g.partitions slots) (sym c.deref_mut-2.ensures.value) (seats_over g c.requires.changed.fit))
 
 pub returns : goal.returns
 returns c =
-    let g : GroupState = state_of c.args.self.now in
-    let next : SetRows = c.args.prepared.now.next in
-    let takers = c.args.prepared.now.takers.items in
-    let prepared = c.requires.prepared in
+    let g : GroupState = group_view c.args.self.now in
+    let next : SetRows = c.args.completion.now.next in
+    let takers = c.args.completion.now.takers.items in
+    let planned = c.requires.completion in
     let same_long = ap length c.give.ensures ∙ length_reseated (λ m. on_seat (completed_seat next m)) c.deref_mut-2.result.now ∙ c.deref_mut-2.ensures.len in
     let slots = with_items_is c.args.self.now.slots c.give.new.slots same_long ∙ c.give.ensures ∙ ap (each_changed (completed_seat next)) c.deref_mut-2.ensures.value in
     let few = ap length c.hold.ensures ∙ length-map-range_with_len (λ q. option_or (get_or c.deref-2.result.now q None) (get_or c.deref_mut.result.now q None)) 0 (length c.deref_mut.result.now) ∙ c.deref_mut.ensures.len in
     let last = with_items_is c.args.self.now.last c.hold.new.last few ∙ c.hold.ensures ∙ ap (λ ts. last_by ts c.deref_mut.result.now) c.deref-2.ensures.value ∙ ap (last_by takers) c.deref_mut.ensures.value
-    ∙ last_is g next takers c.requires.sound.sized.a_holder_each prepared.taken in
-    let moves = c.append.ensures ∙ ap (λ ms. g.moves ++ ms) (c.deref.ensures.value ∙ prepared.moved) in
-    complete_is g next _ _ _ prepared.rows slots last moves
+    ∙ last_is g next takers c.requires.changed.sized.a_holder_each planned.taken in
+    let moves = c.append.ensures ∙ ap (λ ms. g.moves ++ ms) (c.deref.ensures.value ∙ planned.moved) in
+    complete_is g next _ _ _ planned.rows slots last moves

@@ -4,42 +4,42 @@ use Rattle.coop_rebalance.specs.Rounds.{next_rows}
 use Rattle.group_machine.specs.declared.group.Slot.{Slot}
 use Rattle.group_machine.specs.State.{GroupState, granted_rows}
 use Rattle.group_machine.specs.Moves.{taker}
-use Rattle.group_machine.specs.Walks.{AreSeatsOver, AreOwned, granted_in, taker_in, moves_by}
-use Rattle.group_machine.specs.Changes.{slots_after, after}
-use Rattle.group_machine.specs.GroupView.{state_of}
+use Rattle.group_machine.specs.Private.Walks.{AreSeatsOver, AreOwned, granted_in, taker_in, moves_by}
+use Rattle.group_machine.specs.Private.Changes.{slots_after, after}
+use Rattle.group_machine.specs.Private.GroupView.{group_view}
 use Rattle.group_machine.proofs.TableLemmas.{seats_over, owned_rows, rows_below, rows_apart, taker_is, moves_are}
-use Rattle.group_machine.proofs.group.table.Table.plan.Goals as goal
+use Rattle.group_machine.proofs.group.Group.completion_after.Goals as goal
 
 pub granted_rows-requires-clause-over : goal.granted_rows-requires-clause-over
-granted_rows-requires-clause-over c = subst (λ (slots : List Slot). AreSeatsOver c.args.self.now.partitions slots) (sym c.deref.ensures.value) (seats_over (state_of c.args.self.now) c.requires.good.fit)
+granted_rows-requires-clause-over c = subst (λ (slots : List Slot). AreSeatsOver c.args.self.now.partitions slots) (sym c.deref.ensures.value) (seats_over (group_view c.args.self.now) c.requires.valid.fit)
 
 pub next_rows-requires : goal.next_rows-requires
 next_rows-requires c =
-    let g : GroupState = after c.args.change [] (state_of c.args.self.now) in
+    let g : GroupState = after c.args.change [] (group_view c.args.self.now) in
     let is : c.in_ok-granted.granted ≡ granted_rows g = c.in_ok-granted.ensures [] ∙ ap (λ slots. granted_in g.partitions (slots_after g.partitions [] c.args.change slots)) c.deref.ensures.value in
-    subst AreOwned (sym is) (owned_rows g (c.requires.sound []) (c.requires.some []))
+    subst AreOwned (sym is) (owned_rows g (c.requires.changed []) (c.requires.some []))
 
 pub takers_of-requires-clause-below : goal.takers_of-requires-clause-below
 takers_of-requires-clause-below c =
-    let g : GroupState = after c.args.change [] (state_of c.args.self.now) in
+    let g : GroupState = after c.args.change [] (group_view c.args.self.now) in
     let is : c.in_ok-granted.granted ≡ granted_rows g = c.in_ok-granted.ensures [] ∙ ap (λ slots. granted_in g.partitions (slots_after g.partitions [] c.args.change slots)) c.deref.ensures.value in
-    rows_below g c.in_ok-next.next (c.requires.sound []) (c.requires.some []) (c.in_ok-next.ensures ∙ ap next_rows is) ∙ sym (ap (λ r. r.partitions) is)
+    rows_below g c.in_ok-next.next (c.requires.changed []) (c.requires.some []) (c.in_ok-next.ensures ∙ ap next_rows is) ∙ sym (ap (λ r. r.partitions) is)
 
 pub takers_of-requires-clause-apart : goal.takers_of-requires-clause-apart
 takers_of-requires-clause-apart c =
-    let g : GroupState = after c.args.change [] (state_of c.args.self.now) in
+    let g : GroupState = after c.args.change [] (group_view c.args.self.now) in
     let is : c.in_ok-granted.granted ≡ granted_rows g = c.in_ok-granted.ensures [] ∙ ap (λ slots. granted_in g.partitions (slots_after g.partitions [] c.args.change slots)) c.deref.ensures.value in
-    rows_apart g c.in_ok-next.next (c.requires.sound []) (c.requires.some []) (c.in_ok-next.ensures ∙ ap next_rows is)
+    rows_apart g c.in_ok-next.next (c.requires.changed []) (c.requires.some []) (c.in_ok-next.ensures ∙ ap next_rows is)
 
 pub moves_of-requires-clause-long : goal.moves_of-requires-clause-long
 moves_of-requires-clause-long c =
-    let g : GroupState = after c.args.change [] (state_of c.args.self.now) in
+    let g : GroupState = after c.args.change [] (group_view c.args.self.now) in
     let is : c.in_ok-granted.granted ≡ granted_rows g = c.in_ok-granted.ensures [] ∙ ap (λ slots. granted_in g.partitions (slots_after g.partitions [] c.args.change slots)) c.deref.ensures.value in
-    ap length c.deref-2.ensures.value ∙ c.in_ok-takers.ensures.long ∙ ap (λ r. r.partitions) is ∙ sym c.requires.good.sized.a_holder_each ∙ sym (ap length c.deref-3.ensures.value)
+    ap length c.deref-2.ensures.value ∙ c.in_ok-takers.ensures.long ∙ ap (λ r. r.partitions) is ∙ sym c.requires.valid.sized.a_holder_each ∙ sym (ap length c.deref-3.ensures.value)
 
 pub returns : goal.returns
 returns c name =
-    let g : GroupState = after c.args.change name (state_of c.args.self.now) in
+    let g : GroupState = after c.args.change name (group_view c.args.self.now) in
     let next : SetRows = c.in_ok-next.next in
     let takers = c.in_ok-takers.takers.items in
     let is : c.in_ok-granted.granted ≡ granted_rows g = c.in_ok-granted.ensures name ∙ ap (λ slots. granted_in g.partitions (slots_after g.partitions name c.args.change slots)) c.deref.ensures.value in

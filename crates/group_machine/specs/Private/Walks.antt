@@ -1,4 +1,4 @@
--- What walks over slots come to. Only contracts of private functions cite it.
+-- What walks over slots come to.
 use Rattle.std.specs.Prelude.{◌≡◌, ℕ, ◌<◌, Bool, true, ◌&&◌, not, List, Option, Some, None, find, filter_map, map, slice_index_or, length}
 use Rattle.std.specs.List.{range_with_len}
 use Rattle.std.specs.Option.{option_map, option_or}

@@ -1,23 +1,23 @@
--- What a step is to change, and what its completion needs. Only contracts of private functions cite it.
+-- What a step is to change, and what its completion needs.
 use Rattle.std.specs.Prelude.{◌≡◌, ℕ, ◌<◌, Bool, true, false, ◌&&◌, List, [], ◌∷◌, ◌++◌, ◌⊎◌, Option, Some, None, is_some, length, slice_index_or, if◌then◌else◌}
 use Rattle.std.specs.List.{list_any, list_all}
+use Rattle.lane_words.specs.declared.limits.TheConstants.{LAST_GENERATION}
 use Rattle.lane_words.specs.declared.Refusal.{Refusal}
 use Rattle.lane_words.specs.declared.Refusal.TheVariants as r
-use Rattle.bit_planes.specs.SetRows.{SetRows}
 use Rattle.coop_rebalance.specs.Rounds.{next_rows}
 use Rattle.group_machine.specs.declared.group.Slot.{Slot}
 use Rattle.group_machine.specs.declared.group.Seat.{Seat}
-use Rattle.group_machine.specs.declared.group.Move.{Move}
 use Rattle.group_machine.specs.declared.group.Phase.{Phase}
 use Rattle.group_machine.specs.declared.group.Phase.TheVariants.{Empty, Preparing}
 use Rattle.group_machine.specs.declared.group.change.Change.{Change}
 use Rattle.group_machine.specs.declared.group.change.Change.TheVariants.{Joins, Rejoins, Leaves}
-use Rattle.group_machine.specs.declared.group.completion.Prepared.{Prepared}
+use Rattle.group_machine.specs.declared.group.completion.Completion.{Completion}
 use Rattle.group_machine.specs.Slots.{only_of, on_seat, one_changed, without_seat, present}
-use Rattle.group_machine.specs.State.{GroupState, granted_rows}
+use Rattle.group_machine.specs.State.{GroupState, is_anybody, granted_rows}
 use Rattle.group_machine.specs.Moves.{taker, moves_to}
-use Rattle.group_machine.specs.Completion.{is_ready, is_over, last_generation}
+use Rattle.group_machine.specs.Completion.{all_joined, is_ready, is_over}
 use Rattle.group_machine.specs.Steps.{newcomer, rejoined_seat}
+use Rattle.group_machine.specs.Good.{IsSized, IsApart, AllFit, IsHeldByLast}
 
 -- the seat after a change of the member m that had this one
 abbrev pub seat_after : Change → ℕ → Option Seat → Option Seat
@@ -47,18 +47,28 @@ after change name g = record g {
 abbrev pub is_ready_in : List Slot → Bool
 is_ready_in slots = list_any (λ s. is_some s.seat) slots && list_all (λ m. m.1.joined) (present slots)
 
--- what a completion of a group is made of
-pub record IsPrepared (g : GroupState) (next : SetRows) (takers : List (Option ℕ)) (moves : List Move) : Type 0 where
-  pub rows : next ≡ next_rows (granted_rows g)
-  pub long : length takers ≡ g.partitions
-  pub taken : (q : ℕ) → q < g.partitions → slice_index_or takers q None ≡ taker g next q
-  pub moved : moves ≡ moves_to g next
+-- what holds of a group after a change, before its completion
+pub record IsChanged (g : GroupState) : Type 0 where
+  pub sized : IsSized g
+  pub apart : IsApart g
+  pub fit : AllFit g
+  pub held : IsHeldByLast g
+  pub some : is_anybody g ≡ true → g.phase ≡ Preparing
+  pub gone : is_anybody g ≡ false → g.phase ≡ Empty
+  pub counted : is_anybody g ≡ true → all_joined g ≡ false → 0 < g.generation
 
--- a completion is prepared where one comes
-abbrev pub IsPlanned : GroupState → Option Prepared → Type 0
+-- the completion of a group
+pub record IsCompletion (g : GroupState) (a : Completion) : Type 0 where
+  pub rows : a.next ≡ next_rows (granted_rows g)
+  pub long : length a.takers.items ≡ g.partitions
+  pub taken : (q : ℕ) → q < g.partitions → slice_index_or a.takers.items q None ≡ taker g a.next q
+  pub moved : a.moves.items ≡ moves_to g a.next
+
+-- a completion is planned where one comes
+abbrev pub IsPlanned : GroupState → Option Completion → Type 0
 IsPlanned g None = is_ready g ≡ false
-IsPlanned g (Some a) = (is_ready g ≡ true) × (g.generation < last_generation) × IsPrepared g a.next a.takers.items a.moves.items
+IsPlanned g (Some a) = (is_ready g ≡ true) × (g.generation < LAST_GENERATION) × IsCompletion g a
 
--- why none is prepared: it would pass the last generation, or memory was refused
+-- why none is planned: it would pass the last generation, or memory was refused
 abbrev pub IsRefused : GroupState → Refusal → Type 0
 IsRefused g why = ((is_over g ≡ true) × (why ≡ r.GenerationsOver)) ⊎ (why ≡ r.Memory)
