@@ -5,6 +5,7 @@ pub mod CompletionLemmas
 pub mod FinishLemmas
 pub mod GroupLemmas
 pub mod MovesLemmas
+pub mod OtherLemmas
 pub mod PresentLemmas
 pub mod Rows
 pub mod SlotsLemmas

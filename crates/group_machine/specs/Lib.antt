@@ -3,6 +3,7 @@ pub mod Completion
 pub mod Good
 pub mod Moves
 pub mod Name
+pub mod Others
 pub mod Private
 pub mod Rounds
 pub mod Slots
