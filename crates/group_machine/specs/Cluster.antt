@@ -87,6 +87,10 @@ with_counter_for l key store = if is_known l.keys key then store else (record st
 abbrev pub appended_to : ClusterState → Key → ClusterState
 appended_to s key = record s { logs = with_record s.logs key; store = with_counter_for s.logs key s.store }
 
+-- logs of a list of keys are afterwards those of the list with this key at its end
+abbrev pub GrowsBy : Key → PartitionLogs → PartitionLogs → Type 0
+GrowsBy key old new = (appended : List Key) → AreLogsOf appended old → AreLogsOf (appended ++ key ∷ []) new
+
 -- ---- sync
 -- what a member is leased: what it is to keep, and the committed offsets
 abbrev pub lease_of : ClusterState → ℕ → LeaseTerms

@@ -2,10 +2,11 @@
 
 ghost use Rattle.std.specs.Prelude.{◌≡◌, ◌+◌, ◌≤◌, ℕ, [], Ok, Some, None, MatchOption, IfOk, IfSome, OnOk, OnErr, is_some, length};
 ghost use Rattle.lane_words.specs.Answers.{Answers};
+ghost use Rattle.partition_log.specs.Logs.{place_in};
 ghost use Rattle.group_machine.specs.State.{GroupState, assigned_of, granted_of, is_joined, is_present, is_synced, member_of, members, name_of, opening, owner_of};
 ghost use Rattle.group_machine.specs.Steps.{join_answer, joined_by, leave_answer, left_by, rejoin_answer, rejoined_by, synced_by};
 ghost use Rattle.group_machine.specs.Rounds.{is_settled};
-ghost use Rattle.group_machine.specs.Cluster.{AreLogsOf, ClusterState, IsDue, IsValidCluster, append_answer, appended_to, cluster_commit_answer, cluster_sync_answer, committed_at, committed_by, fence, with_group, without_room};
+ghost use Rattle.group_machine.specs.Cluster.{AreLogsOf, ClusterState, GrowsBy, IsDue, IsValidCluster, append_answer, appended_to, cluster_commit_answer, cluster_sync_answer, committed_at, committed_by, fence, with_group, without_room};
 
 use crate::commit::{Commit, Lease};
 use crate::group::{Group, Members, Move, Phase, Seat, members, slots};
@@ -147,17 +148,33 @@ impl Cluster {
         )
     }
 
-    /// Appends a record of this key to the log of its place, and answers the partition and the record's offset. A new key
-    /// gets a counter at 0.
+    /// Appends a record of this key to the log of its place, and answers the partition and the
+    /// record's offset. A new key gets a counter at 0.
     ///
-    /// Refused, with everything as it was, as `Logs::append` is: `KeyTooLong`, `LogFull`, and for want of memory.
+    /// Refused, with everything as it was, as `Logs::append` is: `KeyTooLong`, `LogFull`, and for want
+    /// of memory.
     pub fn append(&mut self, key: &[u8]) -> Result<(u32, u32), Refusal>
         ensures answer { Answers (append_answer self.old.logs key.now) result }
         ensures ok { OnOk result (self.new ≡ appended_to self.old key.now) }
         ensures err { OnErr result (self.new ≡ self.old) }
+        ensures valid { OnOk result (IsValidCluster self.new) }
+        ensures history { OnOk result (GrowsBy key.now self.old.logs self.new.logs) }
+    {
+        let place = self.logs.place_of(key);
+        self.append_at(place, key)
+    }
+
+    /// The same, where the key's place is known.
+    pub fn append_at(&mut self, place: u32, key: &[u8]) -> Result<(u32, u32), Refusal>
+        requires { place ≡ place_in self.old.logs key.now }
+        ensures answer { Answers (append_answer self.old.logs key.now) result }
+        ensures ok { OnOk result (self.new ≡ appended_to self.old key.now) }
+        ensures err { OnErr result (self.new ≡ self.old) }
+        ensures valid { OnOk result (IsValidCluster self.new) }
+        ensures history { OnOk result (GrowsBy key.now self.old.logs self.new.logs) }
     {
         self.store.reserve_key()?;
-        let at = self.logs.append(key)?;
+        let at = self.logs.append_at(place, key)?;
         if self.store.keys() < self.logs.keys() as usize {
             self.store.add_key();
         }
