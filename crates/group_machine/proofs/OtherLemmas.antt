@@ -1,6 +1,7 @@
 -- What a step leaves of the members that it is not about.
 use Rattle.std.proofs.Common.{ℕ, zero, suc, ◌≡◌, ◌+◌, ◌<◌, ◌≤◌, Bool, true, false, ◌⊎◌, inl, inr, List, [], ◌∷◌, ◌++◌, Option, Some, None, Result, Ok, Err, is_some, length, slice_get, nat_le, cond, refl, ap, sym, ◌∙◌, arith}
 use Rattle.std.proofs.lemmas.Bool.Decides.{nat_tests}
+use Rattle.std.specs.Option.{option_map}
 use Rattle.lane_words.specs.declared.Refusal.{Refusal}
 use Rattle.lane_words.specs.declared.Refusal.TheVariants as r
 use Rattle.lane_words.specs.declared.limits.TheConstants.{MOST_MEMBERS}
@@ -10,7 +11,7 @@ use Rattle.bit_planes.proofs.Sets.{in_union, both_true}
 use Rattle.coop_rebalance.specs.Rounds.{next_rows}
 use Rattle.group_machine.specs.declared.group.Slot.{Slot}
 use Rattle.group_machine.specs.declared.group.Seat.{Seat}
-use Rattle.group_machine.specs.Slots.{seat_in, seat_of, on_seat}
+use Rattle.group_machine.specs.Slots.{seat_in, seat_of}
 use Rattle.group_machine.specs.State.{GroupState, member_of, is_present, is_anybody, seat_joined, seat_synced, seat_granted, seat_assigned, granted_rows}
 use Rattle.group_machine.specs.Completion.{all_joined, is_ready, completed_seat, complete, completed}
 use Rattle.group_machine.specs.Steps.{is_name_used, newcomer, joining, join_answer, joined_by, rejoined_seat, rejoining, rejoined_by, rejoin_answer, synced_seat, synced_by, leaving, leave_answer, left_by}
@@ -26,15 +27,15 @@ use Rattle.group_machine.proofs.StepLemmas.{joining_changed, rejoining_changed, 
 use Rattle.group_machine.proofs.FinishLemmas.{accepted}
 
 -- ---- a completion
-some_on : (f : Seat → Seat) (o : Option Seat) → is_some (on_seat f o) ≡ is_some o
+some_on : (f : Seat → Seat) (o : Option Seat) → is_some (option_map f o) ≡ is_some o
 some_on f None = refl
 some_on f (Some x) = refl
 
-no_flags : (next : SetRows) (n : ℕ) (o : Option Seat) → (seat_joined (on_seat (completed_seat next n) o) ≡ false) × (seat_synced (on_seat (completed_seat next n) o) ≡ false)
+no_flags : (next : SetRows) (n : ℕ) (o : Option Seat) → (seat_joined (option_map (completed_seat next n) o) ≡ false) × (seat_synced (option_map (completed_seat next n) o) ≡ false)
 no_flags next n None = (refl, refl)
 no_flags next n (Some x) = (refl, refl)
 
-more_granted : (p : ℕ) (next : SetRows) (n q : ℕ) (o : Option Seat) → ((x : Seat) → o ≡ Some x → IsFit p x) → partitions_of (set_of next n) ≡ p → is_in (seat_granted p o) q ≡ true → is_in (seat_granted p (on_seat (completed_seat next n) o)) q ≡ true
+more_granted : (p : ℕ) (next : SetRows) (n q : ℕ) (o : Option Seat) → ((x : Seat) → o ≡ Some x → IsFit p x) → partitions_of (set_of next n) ≡ p → is_in (seat_granted p o) q ≡ true → is_in (seat_granted p (option_map (completed_seat next n) o)) q ≡ true
 more_granted p next n q None fit over e = e
 more_granted p next n q (Some x) fit over e = in_union x.granted (set_of next n) q ((fit x refl).granted_below ∙ sym over) ∙ rw e refl
 
@@ -44,7 +45,7 @@ completion_leaves g c ready n =
     let next : SetRows = next_rows (granted_rows g) in
     let owned : AreOwned (granted_rows g) = granted_owned g c.sized c.fit c.apart any in
     let over : partitions_of (set_of next n) ≡ g.partitions = set_over next n (next_kept (granted_rows g) owned) ∙ next_below (granted_rows g) owned in
-    let at : member_of (complete g) n ≡ on_seat (completed_seat next n) (member_of g n) = seat_each (completed_seat next) g.slots n in
+    let at : member_of (complete g) n ≡ option_map (completed_seat next n) (member_of g n) = seat_each (completed_seat next) g.slots n in
     let flags = no_flags next n (member_of g n) in
     record {
       present = ap is_some at ∙ some_on (completed_seat next n) (member_of g n);
@@ -155,18 +156,18 @@ join_brings g name n valid ok =
     }
 
 -- ---- rejoining
-rejoining_at : (g : GroupState) (member n : ℕ) → member_of (rejoining g member) n ≡ on_seat (at_only member rejoined_seat n) (member_of g n)
+rejoining_at : (g : GroupState) (member n : ℕ) → member_of (rejoining g member) n ≡ option_map (at_only member rejoined_seat n) (member_of g n)
 rejoining_at g member n = ap (λ slots. seat_of slots n) (one_is_each rejoined_seat g.slots member) ∙ seat_each (at_only member rejoined_seat) g.slots n
 
-on_nothing : (o : Option Seat) → on_seat (λ x. x) o ≡ o
+on_nothing : (o : Option Seat) → option_map (λ x. x) o ≡ o
 on_nothing None = refl
 on_nothing (Some x) = refl
 
 rejoining_others : (g : GroupState) (member n : ℕ) → (n ≡ member → ⊥) → member_of (rejoining g member) n ≡ member_of g n
-rejoining_others g member n ne = rejoining_at g member n ∙ ap (λ (b : Bool). on_seat (λ x. cond b (rejoined_seat x) x) (member_of g n)) (other_id n member ne) ∙ on_nothing (member_of g n)
+rejoining_others g member n ne = rejoining_at g member n ∙ ap (λ (b : Bool). option_map (λ x. cond b (rejoined_seat x) x) (member_of g n)) (other_id n member ne) ∙ on_nothing (member_of g n)
 
-rejoining_here : (g : GroupState) (member : ℕ) → member_of (rejoining g member) member ≡ on_seat rejoined_seat (member_of g member)
-rejoining_here g member = rejoining_at g member member ∙ ap (λ (b : Bool). on_seat (λ x. cond b (rejoined_seat x) x) (member_of g member)) (same_id member)
+rejoining_here : (g : GroupState) (member : ℕ) → member_of (rejoining g member) member ≡ option_map rejoined_seat (member_of g member)
+rejoining_here g member = rejoining_at g member member ∙ ap (λ (b : Bool). option_map (λ x. cond b (rejoined_seat x) x) (member_of g member)) (same_id member)
 
 pub rejoin_leaves : (g : GroupState) (member generation : ℕ) (claim : PartitionSet) → IsValidGroup g → rejoin_answer g member generation claim ≡ Ok tt → LeavesOthers g (rejoined_by g member) member
 rejoin_leaves g member generation claim valid ok =
@@ -186,7 +187,7 @@ rejoined_either g new member x was is (inr b) = inr (record { generation = b.gen
 pub rejoin_keeps : (g : GroupState) (member generation : ℕ) (claim : PartitionSet) → IsValidGroup g → rejoin_answer g member generation claim ≡ Ok tt → LeavesRejoined g (rejoined_by g member) member
 rejoin_keeps g member generation claim valid ok =
     let a = accepted g member generation claim ok in
-    let here : member_of (rejoining g member) member ≡ Some (rejoined_seat a.0) = rejoining_here g member ∙ ap (on_seat rejoined_seat) a.1 in
+    let here : member_of (rejoining g member) member ≡ Some (rejoined_seat a.0) = rejoining_here g member ∙ ap (option_map rejoined_seat) a.1 in
     let l = completed_leaves (rejoining g member) (rejoining_changed g member valid (ap is_some a.1)) member in
     record {
       present = l.present ∙ ap is_some here;
@@ -211,11 +212,11 @@ leave_takes_out g member valid ok =
     ∙ ap is_some (seat_without g.slots member member) ∙ rw (same_id member) refl
 
 -- ---- syncing
-synced_at : (g : GroupState) (member n : ℕ) → member_of (synced_by g member) n ≡ on_seat (at_only member synced_seat n) (member_of g n)
+synced_at : (g : GroupState) (member n : ℕ) → member_of (synced_by g member) n ≡ option_map (at_only member synced_seat n) (member_of g n)
 synced_at g member n = ap (λ slots. seat_of slots n) (one_is_each synced_seat g.slots member) ∙ seat_each (at_only member synced_seat) g.slots n
 
 synced_others : (g : GroupState) (member n : ℕ) → (n ≡ member → ⊥) → member_of (synced_by g member) n ≡ member_of g n
-synced_others g member n ne = synced_at g member n ∙ ap (λ (b : Bool). on_seat (λ x. cond b (synced_seat x) x) (member_of g n)) (other_id n member ne) ∙ on_nothing (member_of g n)
+synced_others g member n ne = synced_at g member n ∙ ap (λ (b : Bool). option_map (λ x. cond b (synced_seat x) x) (member_of g n)) (other_id n member ne) ∙ on_nothing (member_of g n)
 
 pub sync_leaves : (g : GroupState) (member : ℕ) → LeavesOthers g (synced_by g member) member
 sync_leaves g member = record {
@@ -224,13 +225,13 @@ sync_leaves g member = record {
   others = λ n ne. leaves_before g (synced_by g member) (synced_by g member) n refl refl (synced_others g member n ne) (as_before (synced_by g member) n);
 }
 
-synced_now : (o : Option Seat) → seat_synced (on_seat synced_seat o) ≡ is_some o
+synced_now : (o : Option Seat) → seat_synced (option_map synced_seat o) ≡ is_some o
 synced_now None = refl
 synced_now (Some x) = refl
 
 pub sync_marks : (g : GroupState) (member : ℕ) → LeavesSynced g (synced_by g member) member
 sync_marks g member =
-    let here : member_of (synced_by g member) member ≡ on_seat synced_seat (member_of g member) = synced_at g member member ∙ ap (λ (b : Bool). on_seat (λ x. cond b (synced_seat x) x) (member_of g member)) (same_id member) in
+    let here : member_of (synced_by g member) member ≡ option_map synced_seat (member_of g member) = synced_at g member member ∙ ap (λ (b : Bool). option_map (λ x. cond b (synced_seat x) x) (member_of g member)) (same_id member) in
     record {
       present = synced_same is_some (λ x. refl) g member member;
       generation = refl;

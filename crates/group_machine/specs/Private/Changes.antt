@@ -1,6 +1,6 @@
 -- What a step is to change, and what its completion needs.
-use Rattle.std.specs.Prelude.{◌≡◌, ℕ, ◌<◌, Bool, true, false, ◌&&◌, List, [], ◌∷◌, ◌++◌, ◌⊎◌, Option, Some, None, is_some, length, slice_index_or, if◌then◌else◌}
-use Rattle.std.specs.List.{list_any, list_all}
+use Rattle.std.specs.Prelude.{◌≡◌, ℕ, ◌<◌, true, false, List, [], ◌∷◌, ◌++◌, ◌⊎◌, Option, Some, None}
+use Rattle.std.specs.Option.{option_map}
 use Rattle.lane_words.specs.declared.limits.TheConstants.{LAST_GENERATION}
 use Rattle.lane_words.specs.declared.Refusal.{Refusal}
 use Rattle.lane_words.specs.declared.Refusal.TheVariants as r
@@ -12,17 +12,17 @@ use Rattle.group_machine.specs.declared.group.Phase.TheVariants.{Empty, Preparin
 use Rattle.group_machine.specs.declared.group.change.Change.{Change}
 use Rattle.group_machine.specs.declared.group.change.Change.TheVariants.{Joins, Rejoins, Leaves}
 use Rattle.group_machine.specs.declared.group.completion.Completion.{Completion}
-use Rattle.group_machine.specs.Slots.{only_of, on_seat, one_changed, without_seat, present}
+use Rattle.group_machine.specs.Slots.{only_of, one_changed, without_seat}
 use Rattle.group_machine.specs.State.{GroupState, is_anybody, granted_rows}
-use Rattle.group_machine.specs.Moves.{taker, moves_to}
+use Rattle.group_machine.specs.Moves.{takers, moves_to}
 use Rattle.group_machine.specs.Completion.{all_joined, is_ready, is_over}
-use Rattle.group_machine.specs.Steps.{newcomer, rejoined_seat}
+use Rattle.group_machine.specs.Steps.{newcomer, rejoined_seat, phase_left}
 use Rattle.group_machine.specs.Good.{IsSized, IsApart, AllFit, IsHeldByLast}
 
 -- the seat after a change of the member m that had this one
 abbrev pub seat_after : Change → ℕ → Option Seat → Option Seat
 seat_after Joins m seat = seat
-seat_after (Rejoins member) m seat = only_of member (on_seat rejoined_seat) m seat
+seat_after (Rejoins member) m seat = only_of member (option_map rejoined_seat) m seat
 seat_after (Leaves member) m seat = only_of member (λ before. None) m seat
 
 -- the slots after a change, where one that is new has this name
@@ -34,7 +34,7 @@ slots_after partitions name (Leaves member) slots = without_seat slots member
 abbrev pub phase_after : Change → List Slot → Phase
 phase_after Joins slots = Preparing
 phase_after (Rejoins member) slots = Preparing
-phase_after (Leaves member) slots = if list_any (λ s. is_some s.seat) slots then Preparing else Empty
+phase_after (Leaves member) slots = phase_left slots
 
 -- the group after a change, before a completion: joining, rejoining or leaving
 abbrev pub after : Change → List ℕ → GroupState → GroupState
@@ -42,10 +42,6 @@ after change name g = record g {
   slots = slots_after g.partitions name change g.slots;
   phase = phase_after change (slots_after g.partitions name change g.slots);
 }
-
--- somebody is present, and all who are have joined
-abbrev pub is_ready_in : List Slot → Bool
-is_ready_in slots = list_any (λ s. is_some s.seat) slots && list_all (λ m. m.1.joined) (present slots)
 
 -- what holds of a group after a change, before its completion
 pub record IsChanged (g : GroupState) : Type 0 where
@@ -60,15 +56,16 @@ pub record IsChanged (g : GroupState) : Type 0 where
 -- the completion of a group
 pub record IsCompletion (g : GroupState) (a : Completion) : Type 0 where
   pub rows : a.next ≡ next_rows (granted_rows g)
-  pub long : length a.takers.items ≡ g.partitions
-  pub taken : (q : ℕ) → q < g.partitions → slice_index_or a.takers.items q None ≡ taker g a.next q
+  pub taken : a.takers.items ≡ takers g a.next
   pub moved : a.moves.items ≡ moves_to g a.next
 
 -- a completion is planned where one comes
 abbrev pub IsPlanned : GroupState → Option Completion → Type 0
 IsPlanned g None = is_ready g ≡ false
-IsPlanned g (Some a) = (is_ready g ≡ true) × (g.generation < LAST_GENERATION) × IsCompletion g a
+IsPlanned g (Some a) =
+    (is_ready g ≡ true) × (g.generation < LAST_GENERATION) × IsCompletion g a
 
 -- why none is planned: it would pass the last generation, or memory was refused
 abbrev pub IsRefused : GroupState → Refusal → Type 0
-IsRefused g why = ((is_over g ≡ true) × (why ≡ r.GenerationsOver)) ⊎ (why ≡ r.Memory)
+IsRefused g why =
+    ((is_over g ≡ true) × (why ≡ r.GenerationsOver)) ⊎ (why ≡ r.Memory)

@@ -5,6 +5,7 @@ use Rattle.lane_words.specs.Answers.{Answers}
 use Rattle.lane_words.specs.declared.Refusal.{Refusal}
 use Rattle.group_machine.specs.Slots.{seat_of, without_seat, only_of}
 use Rattle.group_machine.specs.State.{GroupState, is_present}
+use Rattle.group_machine.specs.Completion.{completed}
 use Rattle.group_machine.specs.Steps.{leaving, left, leave_answer}
 use Rattle.group_machine.specs.Private.Changes.{IsChanged, IsPlanned}
 use Rattle.group_machine.specs.Private.GroupView.{group_view}
@@ -53,3 +54,13 @@ returns-clause-answer c =
     let g : GroupState = group_view c.args.self.now in
     let here : is_present g c.args.member ≡ true = ap (λ slots. is_some (seat_of slots c.args.member)) (sym c.deref.ensures.value) ∙ sym c.is_present.ensures ∙ c.if-not-is_present.false in
     inl (planned_answer (leaving g c.args.member) tt c.in_ok-planned.planned (c.in_ok-planned.ensures.ok []) ∙ sym (leave_go g c.args.member here))
+
+pub returns-clause-ok : goal.returns-clause-ok
+returns-clause-ok c =
+    let g : GroupState = group_view c.args.self.now in
+    let same : group_view c.plan_completion.new.self ≡ g = c.plan_completion.ensures.same in
+    let items = with_items_is c.plan_completion.new.self.slots c.remove.new.slots (ap length c.remove.ensures ∙ length_reseated (only_of c.args.member (λ before. None)) c.deref_mut.result.now ∙ c.deref_mut.ensures.len) in
+    let slots = items ∙ c.remove.ensures ∙ ap (λ s. without_seat s c.args.member) (c.deref_mut.ensures.value ∙ ap (λ a. a.slots) same) in
+    let phase = c.phase_left-self.ensures ∙ ap (λ s. (left g s).phase) (c.deref-2.ensures.value ∙ slots) in
+    let during = ap (λ a. with_phase a c.phase_left-self.result (with_items c.plan_completion.new.self.slots c.remove.new.slots).items) same ∙ ap (with_phase g c.phase_left-self.result) slots ∙ ap (λ p. with_phase g p (without_seat g.slots c.args.member)) phase in
+    c.complete.ensures.completed ∙ ap completed during

@@ -1,6 +1,7 @@
 use Rattle.std.proofs.Common.{rules, ◌∙◌, ◌<◌, ap, sym}
 use Rattle.lane_words.specs.declared.limits.TheConstants.{LAST_GENERATION}
-use Rattle.group_machine.specs.Private.Changes.{slots_after, is_ready_in}
+use Rattle.group_machine.specs.Slots.{is_ready_in}
+use Rattle.group_machine.specs.Private.Changes.{slots_after}
 use Rattle.group_machine.proofs.group.Group.plan_completion.Goals as goal
 
 pub returns-clause-ok : goal.returns-clause-ok

@@ -1,6 +1,5 @@
 use Rattle.std.proofs.Common.{◌≡◌, take}
-use Rattle.group_machine.specs.Slots.{reseated_from}
-use Rattle.group_machine.specs.Private.Walks.{granted_in}
+use Rattle.group_machine.specs.Slots.{reseated_from, granted_in}
 use Rattle.group_machine.specs.Private.Changes.{seat_after}
 use Rattle.group_machine.proofs.group.change.granted_rows.Given as goal
 
