@@ -10,7 +10,7 @@ use Rattle.sticky_assignor.proofs.AssignedLaws.{members_assigned, assigned_kept,
 use Rattle.coop_rebalance.specs.Rounds.{target_rows, next_rows, LieInBalanced, Settles}
 use Rattle.coop_rebalance.specs.Withheld.{granted_to_other, withheld_row, withheld}
 use Rattle.coop_rebalance.proofs.Rounds.{next_within, settles}
-use Rattle.group_machine.specs.Walks.{AreOwned}
+use Rattle.group_machine.specs.Private.Walks.{AreOwned}
 use Rattle.group_machine.proofs.SlotsLemmas.{number_is, same_id, other_id}
 use Rattle.group_machine.proofs.PresentLemmas.{Listed, RisesFrom, rises}
 use Rattle.group_machine.proofs.Rows.{apart_says, balanced_apart, member_listed, set_over, sets_below}

@@ -2,18 +2,18 @@
 use Rattle.std.proofs.Common.{ℕ, zero, suc, ◌≡◌, ◌+◌, ◌<◌, ◌≤◌, ◌==◌, Bool, true, false, ◌&&◌, ◌||◌, List, [], ◌∷◌, ◌++◌, Option, Some, None, is_some, length, get_or, slice_get, cond, take, drop, refl, ap, sym, ◌∙◌, arith}
 use Rattle.std.proofs.lemmas.List.Folds.{list_all-append, list_any-append}
 use Rattle.std.proofs.Math.Seq.{drop-cons}
-use Rattle.std.specs.List.{list_any, list_all}
-use Rattle.std.specs.Option.{option_map}
+use Rattle.std.specs.List.{list_all}
+use Rattle.std.specs.Option.{option_map, option_map_or}
 use Rattle.bit_planes.specs.PartitionSet.{partitions_of, empty_set}
 use Rattle.bit_planes.specs.SetRows.{with_row}
 use Rattle.group_machine.specs.declared.group.Slot.{Slot}
 use Rattle.group_machine.specs.declared.group.Seat.{Seat}
 use Rattle.group_machine.specs.declared.group.change.Change.{Change}
 use Rattle.group_machine.specs.declared.group.change.Change.TheVariants.{Joins, Rejoins, Leaves}
-use Rattle.group_machine.specs.Slots.{on_seat, only_of, reseated_from, present}
+use Rattle.group_machine.specs.Slots.{only_of, reseated_from, present, granted_in, is_ready_in, is_anybody_in}
 use Rattle.group_machine.specs.Steps.{newcomer, rejoined_seat}
-use Rattle.group_machine.specs.Walks.{AreSeatsOver, IsSeatOver, granted_in, out_or}
-use Rattle.group_machine.specs.Changes.{seat_after, slots_after, is_ready_in}
+use Rattle.group_machine.specs.Private.Walks.{AreSeatsOver, IsSeatOver}
+use Rattle.group_machine.specs.Private.Changes.{seat_after, slots_after}
 use Rattle.group_machine.proofs.SlotsLemmas.{slot_with, same_id, reseated_not, seat_of_index}
 use Rattle.group_machine.proofs.PresentLemmas.{length_reseated}
 use Rattle.group_machine.proofs.WalkLemmas.{slot_at, changed_there, granted_more, granted_same}
@@ -25,11 +25,8 @@ starts Joins = true
 starts (Rejoins member) = false
 starts (Leaves member) = false
 
-abbrev pub any_seat : List Slot → Bool
-any_seat slots = list_any (λ s. is_some s.seat) slots
-
-abbrev pub all_joined_in : List Slot → Bool
-all_joined_in slots = list_all (λ s. out_or (λ x. x.joined) s.seat) slots
+abbrev pub each_joined : List Slot → Bool
+each_joined slots = list_all (λ s. option_map_or (λ x. x.joined) s.seat true) slots
 
 abbrev pub mid : Change → List Slot → List Slot
 mid change slots = reseated_from 1 (seat_after change) slots
@@ -66,7 +63,7 @@ or_true : (a b : Bool) → (a || (true || b)) ≡ true
 or_true true b = refl
 or_true false b = refl
 
-some_seat : (o : Option Seat) (j : Bool) → option_map (λ x. x.joined) o ≡ Some j → (is_some o ≡ true) × (out_or (λ x. x.joined) o ≡ j)
+some_seat : (o : Option Seat) (j : Bool) → option_map (λ x. x.joined) o ≡ Some j → (is_some o ≡ true) × (option_map_or (λ x. x.joined) o true ≡ j)
 some_seat None j e = cc
 some_seat (Some x) j e = (refl, cc)
 
@@ -76,29 +73,29 @@ no_seat (Some x) e = cc
 
 -- one place more: of one that has joined, of one that is not present, and of one that has not joined
 pub any_more : (change : Change) (slots : List Slot) (i : ℕ) (s : Slot) (before : Bool) → i < length slots → s ≡ get_or slots i s → option_map (λ x. x.joined) (seat_after change (i + 1) s.seat) ≡ Some true
-    → (before || any_seat (drop i (mid change slots))) ≡ (true || any_seat (drop (i + 1) (mid change slots)))
+    → (before || is_anybody_in (drop i (mid change slots))) ≡ (true || is_anybody_in (drop (i + 1) (mid change slots)))
 any_more change slots i s before lt e is =
-    ap (λ r. before || any_seat r) (mid_drop change slots i s lt e)
-    ∙ ap (λ b. before || (b || any_seat (drop (i + 1) (mid change slots)))) ((some_seat (seat_after change (i + 1) s.seat) true is).0)
-    ∙ or_true before (any_seat (drop (i + 1) (mid change slots)))
+    ap (λ r. before || is_anybody_in r) (mid_drop change slots i s lt e)
+    ∙ ap (λ b. before || (b || is_anybody_in (drop (i + 1) (mid change slots)))) ((some_seat (seat_after change (i + 1) s.seat) true is).0)
+    ∙ or_true before (is_anybody_in (drop (i + 1) (mid change slots)))
 
 pub all_more : (change : Change) (slots : List Slot) (i : ℕ) (s : Slot) (j : Bool) → i < length slots → s ≡ get_or slots i s → option_map (λ x. x.joined) (seat_after change (i + 1) s.seat) ≡ Some j
-    → all_joined_in (drop i (mid change slots)) ≡ (j && all_joined_in (drop (i + 1) (mid change slots)))
+    → each_joined (drop i (mid change slots)) ≡ (j && each_joined (drop (i + 1) (mid change slots)))
 all_more change slots i s j lt e is =
-    ap all_joined_in (mid_drop change slots i s lt e)
-    ∙ ap (λ b. b && all_joined_in (drop (i + 1) (mid change slots))) ((some_seat (seat_after change (i + 1) s.seat) j is).1)
+    ap each_joined (mid_drop change slots i s lt e)
+    ∙ ap (λ b. b && each_joined (drop (i + 1) (mid change slots))) ((some_seat (seat_after change (i + 1) s.seat) j is).1)
 
 pub any_same : (change : Change) (slots : List Slot) (i : ℕ) (s : Slot) → i < length slots → s ≡ get_or slots i s → option_map (λ x. x.joined) (seat_after change (i + 1) s.seat) ≡ None
-    → any_seat (drop i (mid change slots)) ≡ any_seat (drop (i + 1) (mid change slots))
+    → is_anybody_in (drop i (mid change slots)) ≡ is_anybody_in (drop (i + 1) (mid change slots))
 any_same change slots i s lt e none =
-    ap any_seat (mid_drop change slots i s lt e)
-    ∙ ap (λ o. is_some o || any_seat (drop (i + 1) (mid change slots))) (no_seat (seat_after change (i + 1) s.seat) none)
+    ap is_anybody_in (mid_drop change slots i s lt e)
+    ∙ ap (λ o. is_some o || is_anybody_in (drop (i + 1) (mid change slots))) (no_seat (seat_after change (i + 1) s.seat) none)
 
 pub all_same : (change : Change) (slots : List Slot) (i : ℕ) (s : Slot) → i < length slots → s ≡ get_or slots i s → option_map (λ x. x.joined) (seat_after change (i + 1) s.seat) ≡ None
-    → all_joined_in (drop i (mid change slots)) ≡ all_joined_in (drop (i + 1) (mid change slots))
+    → each_joined (drop i (mid change slots)) ≡ each_joined (drop (i + 1) (mid change slots))
 all_same change slots i s lt e none =
-    ap all_joined_in (mid_drop change slots i s lt e)
-    ∙ ap (λ o. out_or (λ x. x.joined) o && all_joined_in (drop (i + 1) (mid change slots))) (no_seat (seat_after change (i + 1) s.seat) none)
+    ap each_joined (mid_drop change slots i s lt e)
+    ∙ ap (λ o. option_map_or (λ x. x.joined) o true && each_joined (drop (i + 1) (mid change slots))) (no_seat (seat_after change (i + 1) s.seat) none)
 
 and_true : (b : Bool) → (b && true) ≡ b
 and_true true = refl
@@ -117,26 +114,26 @@ or_none true = refl
 or_none false = refl
 
 -- the slots after a change are as ready as those that were there before, and the newcomer besides
-pub ready_is : (p : ℕ) (name : List ℕ) (change : Change) (slots : List Slot) → ((starts change || any_seat (mid change slots)) && all_joined_in (mid change slots)) ≡ is_ready_in (slots_after p name change slots)
+pub ready_is : (p : ℕ) (name : List ℕ) (change : Change) (slots : List Slot) → ((starts change || is_anybody_in (mid change slots)) && each_joined (mid change slots)) ≡ is_ready_in (slots_after p name change slots)
 ready_is p name Joins slots =
     let after : List Slot = slots ++ newcomer p name ∷ [] in
-    let any : any_seat after ≡ true = list_any-append (λ s. is_some s.seat) slots (newcomer p name ∷ []) ∙ or_last (any_seat slots) in
-    let all : all_joined_in after ≡ all_joined_in slots = list_all-append (λ s. out_or (λ x. x.joined) s.seat) slots (newcomer p name ∷ []) ∙ and_true (all_joined_in slots) in
-    ap all_joined_in (reseated_not 1 slots) ∙ sym all ∙ all_present (λ x. x.joined) after ∙ ap (λ b. b && list_all (λ m. m.1.joined) (present after)) (sym any)
-ready_is p name (Rejoins member) slots = ap (λ b. any_seat (mid (Rejoins member) slots) && b) (all_present (λ x. x.joined) (mid (Rejoins member) slots))
-ready_is p name (Leaves member) slots = ap (λ b. any_seat (mid (Leaves member) slots) && b) (all_present (λ x. x.joined) (mid (Leaves member) slots))
+    let any : is_anybody_in after ≡ true = list_any-append (λ s. is_some s.seat) slots (newcomer p name ∷ []) ∙ or_last (is_anybody_in slots) in
+    let all : each_joined after ≡ each_joined slots = list_all-append (λ s. option_map_or (λ x. x.joined) s.seat true) slots (newcomer p name ∷ []) ∙ and_true (each_joined slots) in
+    ap each_joined (reseated_not 1 slots) ∙ sym all ∙ all_present (λ x. x.joined) after ∙ ap (λ b. b && list_all (λ m. m.1.joined) (present after)) (sym any)
+ready_is p name (Rejoins member) slots = ap (λ b. is_anybody_in (mid (Rejoins member) slots) && b) (all_present (λ x. x.joined) (mid (Rejoins member) slots))
+ready_is p name (Leaves member) slots = ap (λ b. is_anybody_in (mid (Leaves member) slots) && b) (all_present (λ x. x.joined) (mid (Leaves member) slots))
 
 pub ready_end : (p : ℕ) (name : List ℕ) (change : Change) (slots : List Slot) (i : ℕ) (anybody : Bool) → length slots ≤ i
-    → (starts change || any_seat (mid change slots)) ≡ (anybody || any_seat (drop i (mid change slots))) → all_joined_in (mid change slots) ≡ all_joined_in (drop i (mid change slots))
+    → (starts change || is_anybody_in (mid change slots)) ≡ (anybody || is_anybody_in (drop i (mid change slots))) → each_joined (mid change slots) ≡ each_joined (drop i (mid change slots))
     → anybody ≡ is_ready_in (slots_after p name change slots)
 ready_end p name change slots i anybody le some all =
     let none : drop i (mid change slots) ≡ [] = drop_past (mid change slots) i (omega (arith, length_reseated (seat_after change) slots)) in
-    let any : (starts change || any_seat (mid change slots)) ≡ anybody = some ∙ ap (λ r. anybody || any_seat r) none ∙ or_none anybody in
-    let each : all_joined_in (mid change slots) ≡ true = all ∙ ap all_joined_in none in
-    sym (ap (λ b. b && all_joined_in (mid change slots)) any ∙ ap (λ b. anybody && b) each ∙ and_true anybody) ∙ ready_is p name change slots
+    let any : (starts change || is_anybody_in (mid change slots)) ≡ anybody = some ∙ ap (λ r. anybody || is_anybody_in r) none ∙ or_none anybody in
+    let each : each_joined (mid change slots) ≡ true = all ∙ ap each_joined none in
+    sym (ap (λ b. b && each_joined (mid change slots)) any ∙ ap (λ b. anybody && b) each ∙ and_true anybody) ∙ ready_is p name change slots
 
-pub ready_not : (p : ℕ) (name : List ℕ) (change : Change) (slots : List Slot) → all_joined_in (mid change slots) ≡ false → false ≡ is_ready_in (slots_after p name change slots)
-ready_not p name change slots all = sym (ap (λ b. (starts change || any_seat (mid change slots)) && b) all ∙ and_false (starts change || any_seat (mid change slots))) ∙ ready_is p name change slots
+pub ready_not : (p : ℕ) (name : List ℕ) (change : Change) (slots : List Slot) → each_joined (mid change slots) ≡ false → false ≡ is_ready_in (slots_after p name change slots)
+ready_not p name change slots all = sym (ap (λ b. (starts change || is_anybody_in (mid change slots)) && b) all ∙ and_false (starts change || is_anybody_in (mid change slots))) ∙ ready_is p name change slots
 
 -- ---- what members are granted after a change
 only_over : (p member m : ℕ) (f : Option Seat → Option Seat) (o : Option Seat) → ((y : Seat) → o ≡ Some y → IsSeatOver p y) → ((y : Seat) → f o ≡ Some y → IsSeatOver p y) → (x : Seat) → only_of member f m o ≡ Some x → IsSeatOver p x
@@ -146,7 +143,7 @@ only_over p member m f o over changed x is = go (m == member) is
     go true h = changed x h
     go false h = over x h
 
-rejoined_over : (p : ℕ) (o : Option Seat) → ((y : Seat) → o ≡ Some y → IsSeatOver p y) → (x : Seat) → on_seat rejoined_seat o ≡ Some x → IsSeatOver p x
+rejoined_over : (p : ℕ) (o : Option Seat) → ((y : Seat) → o ≡ Some y → IsSeatOver p y) → (x : Seat) → option_map rejoined_seat o ≡ Some x → IsSeatOver p x
 rejoined_over p None over x is = cc
 rejoined_over p (Some y) over x is =
     let same : rejoined_seat y ≡ x = cc in
@@ -155,7 +152,7 @@ rejoined_over p (Some y) over x is =
 
 seat_over : (p : ℕ) (change : Change) (m : ℕ) (o : Option Seat) → ((y : Seat) → o ≡ Some y → IsSeatOver p y) → (x : Seat) → seat_after change m o ≡ Some x → IsSeatOver p x
 seat_over p Joins m o over x is = over x is
-seat_over p (Rejoins member) m o over x is = only_over p member m (on_seat rejoined_seat) o over (rejoined_over p o over) x is
+seat_over p (Rejoins member) m o over x is = only_over p member m (option_map rejoined_seat) o over (rejoined_over p o over) x is
 seat_over p (Leaves member) m o over x is = only_over p member m (λ before. None) o over (λ y h. cc) x is
 
 pub granted_over : (p : ℕ) (change : Change) (slots : List Slot) (i : ℕ) (s : Slot) (x : Seat) → AreSeatsOver p slots → i < length slots → s ≡ get_or slots i s → seat_after change (i + 1) s.seat ≡ Some x → partitions_of x.granted ≡ p
@@ -212,5 +209,5 @@ rows_all p name (Leaves member) slots i not le = ap (granted_in p) (mid_all (Lea
 -- the seat of the one that rejoins
 pub rejoined_here : (change : Change) (changed member : ℕ) (o : Option Seat) (x : Seat) → change ≡ Rejoins changed → changed ≡ member → o ≡ Some x → seat_after change member o ≡ Some (rejoined_seat x)
 rejoined_here change changed member o x is same at =
-    ap (λ ch. seat_after ch member o) is ∙ ap (λ n. only_of n (on_seat rejoined_seat) member o) same ∙ ap (only_of member (on_seat rejoined_seat) member) at
+    ap (λ ch. seat_after ch member o) is ∙ ap (λ n. only_of n (option_map rejoined_seat) member o) same ∙ ap (only_of member (option_map rejoined_seat) member) at
     ∙ ap (λ b. cond b (Some (rejoined_seat x)) (Some x)) (same_id member)

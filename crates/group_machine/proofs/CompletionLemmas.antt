@@ -1,8 +1,8 @@
 -- A completion leaves a good group.
-use Rattle.std.proofs.Common.{ℕ, ◌≡◌, ◌<◌, Bool, true, false, ◌&&◌, ◌||◌, ◌⊎◌, inl, inr, List, Option, Some, None, map, refl, ap, sym, ◌∙◌, subst, arith, is_some, cond}
+use Rattle.std.proofs.Common.{slice_index_or, length, ℕ, ◌≡◌, Bool, true, false, ◌&&◌, ◌||◌, ◌⊎◌, inl, inr, List, Option, Some, None, map, refl, ap, sym, ◌∙◌, subst, arith, is_some, cond}
 use Rattle.std.proofs.lemmas.Bool.{false≢true}
 use Rattle.std.proofs.lemmas.List.FromFn.{length-map-range_with_len}
-use Rattle.std.specs.Option.{option_or}
+use Rattle.std.specs.Option.{option_or, option_map}
 use Rattle.bit_planes.specs.PartitionSet.{PartitionSet, partitions_of, is_in, is_within, union, empty_set}
 use Rattle.bit_planes.specs.SetRows.{SetRows, set_of, IsValidRows}
 use Rattle.bit_planes.proofs.Sets.{in_below, in_union, in_empty, partitions_union, within_of, same_says, both_true}
@@ -10,45 +10,35 @@ use Rattle.sticky_assignor.specs.Balanced.{IsBalanced}
 use Rattle.coop_rebalance.specs.Rounds.{target_rows, next_rows}
 use Rattle.group_machine.specs.declared.group.Seat.{Seat}
 use Rattle.group_machine.specs.declared.group.Phase.TheVariants.{Empty, Preparing}
-use Rattle.group_machine.specs.Slots.{on_seat}
 use Rattle.group_machine.specs.State.{GroupState, member_of, members, is_anybody, seat_joined, seat_granted, seat_assigned, granted_of, granted_rows, last_holder}
-use Rattle.group_machine.specs.Moves.{taker}
+use Rattle.group_machine.specs.Moves.{takers}
 use Rattle.group_machine.specs.Completion.{all_joined, is_ready, completed_seat, complete, completed}
 use Rattle.group_machine.specs.Rounds.{is_stable, agrees, all_agree}
-use Rattle.group_machine.specs.Good.{IsSized, IsApart, IsHeldByLast, IsFit, AllFit, IsValidGroup}
+use Rattle.group_machine.specs.Good.{IsFit, IsValidGroup}
 use Rattle.group_machine.proofs.SlotsLemmas.{seat_each}
 use Rattle.group_machine.proofs.PresentLemmas.{Listed, listed_present, numbers_each, length_reseated, any_each, all_says, some_not}
 use Rattle.group_machine.proofs.Rows.{map_same, member_listed, set_over}
-use Rattle.group_machine.specs.Walks.{AreOwned}
+use Rattle.group_machine.specs.Private.Changes.{IsChanged}
+use Rattle.group_machine.specs.Private.Walks.{AreOwned}
 use Rattle.group_machine.proofs.Below.{target_kept, target_below, target_balanced, next_members, next_kept, next_below, next_in_target, next_not_other, next_apart, next_is_target}
 use Rattle.group_machine.proofs.GroupLemmas.{members_granted, set_granted, granted_owned, granted_over}
 use Rattle.group_machine.proofs.TakerLemmas.{held_after}
 
--- what holds before a completion
-pub record IsNext (g : GroupState) : Type 0 where
-  pub sized : IsSized g
-  pub apart : IsApart g
-  pub fit : AllFit g
-  pub held : IsHeldByLast g
-  pub some : is_anybody g ≡ true → g.phase ≡ Preparing
-  pub gone : is_anybody g ≡ false → g.phase ≡ Empty
-  pub counted : is_anybody g ≡ true → all_joined g ≡ false → 0 < g.generation
-
-unstable : (g : GroupState) → IsNext g → is_stable g.phase ≡ false
+unstable : (g : GroupState) → IsChanged g → is_stable g.phase ≡ false
 unstable g n = go (is_anybody g) refl
   where
     go : (b : Bool) → is_anybody g ≡ b → is_stable g.phase ≡ false
     go true e = ap is_stable (n.some e)
     go false e = ap is_stable (n.gone e)
 
-any_if_preparing : (g : GroupState) → IsNext g → g.phase ≡ Preparing → is_anybody g ≡ true
+any_if_preparing : (g : GroupState) → IsChanged g → g.phase ≡ Preparing → is_anybody g ≡ true
 any_if_preparing g n e = go (is_anybody g) refl
   where
     go : (b : Bool) → is_anybody g ≡ b → is_anybody g ≡ true
     go true h = h
     go false h = let x : g.phase ≡ Empty = n.gone h in cc
 
-none_if_empty : (g : GroupState) → IsNext g → g.phase ≡ Empty → is_anybody g ≡ false
+none_if_empty : (g : GroupState) → IsChanged g → g.phase ≡ Empty → is_anybody g ≡ false
 none_if_empty g n e = go (is_anybody g) refl
   where
     go : (b : Bool) → is_anybody g ≡ b → is_anybody g ≡ false
@@ -59,7 +49,7 @@ not_all : (a b : Bool) → (a && b) ≡ false → a ≡ true → b ≡ false
 not_all true b e h = e
 not_all false b e h = absurd (false≢true h)
 
-next_good : (g : GroupState) → IsNext g → is_ready g ≡ false → IsValidGroup g
+pub next_good : (g : GroupState) → IsChanged g → is_ready g ≡ false → IsValidGroup g
 next_good g n e = record {
   sized = n.sized;
   apart = n.apart;
@@ -89,7 +79,7 @@ or_right true b e = refl
 or_right false b e = e
 
 -- what a member is granted after a completion it was granted before, or it is given it
-completed_in : (p : ℕ) (next : SetRows) (m q : ℕ) (o : Option Seat) → ((x : Seat) → o ≡ Some x → IsFit p x) → partitions_of (set_of next m) ≡ p → is_in (seat_granted p (on_seat (completed_seat next m) o)) q ≡ true → (is_in (seat_granted p o) q ≡ true) ⊎ (is_in (set_of next m) q ≡ true)
+completed_in : (p : ℕ) (next : SetRows) (m q : ℕ) (o : Option Seat) → ((x : Seat) → o ≡ Some x → IsFit p x) → partitions_of (set_of next m) ≡ p → is_in (seat_granted p (option_map (completed_seat next m) o)) q ≡ true → (is_in (seat_granted p o) q ≡ true) ⊎ (is_in (set_of next m) q ≡ true)
 completed_in p next m q None fit over e = inl e
 completed_in p next m q (Some x) fit over e = or_cases (is_in x.granted q) (is_in (set_of next m) q) (sym (in_union x.granted (set_of next m) q ((fit x refl).granted_below ∙ sym over)) ∙ e)
 
@@ -102,11 +92,11 @@ fit_completed p next m x fit over = record {
 }
 
 -- the one seat behind a changed one
-pub seat_behind : (f : Seat → Seat) (o : Option Seat) (y : Seat) → on_seat f o ≡ Some y → (x : Seat) × (o ≡ Some x) × (y ≡ f x)
+pub seat_behind : (f : Seat → Seat) (o : Option Seat) (y : Seat) → option_map f o ≡ Some y → (x : Seat) × (o ≡ Some x) × (y ≡ f x)
 seat_behind f None y e = cc
 seat_behind f (Some x) y e = (x, refl, let same : f x ≡ y = cc in sym same)
 
-seat_agrees : (p : ℕ) (next : SetRows) (m : ℕ) (o : Option Seat) → ((x : Seat) → o ≡ Some x → IsFit p x) → partitions_of (set_of next m) ≡ p → ((y : Seat) → on_seat (completed_seat next m) o ≡ Some y → agrees y ≡ true) → (q : ℕ) → is_in (seat_granted p o) q ≡ true → o ≡ None ⊎ (is_in (set_of next m) q ≡ true)
+seat_agrees : (p : ℕ) (next : SetRows) (m : ℕ) (o : Option Seat) → ((x : Seat) → o ≡ Some x → IsFit p x) → partitions_of (set_of next m) ≡ p → ((y : Seat) → option_map (completed_seat next m) o ≡ Some y → agrees y ≡ true) → (q : ℕ) → is_in (seat_granted p o) q ≡ true → o ≡ None ⊎ (is_in (set_of next m) q ≡ true)
 seat_agrees p next m None fit over agree q e = inl refl
 seat_agrees p next m (Some x) fit over agree q e =
     let same : union x.granted (set_of next m) ≡ set_of next m = same_says (union x.granted (set_of next m)) (set_of next m) (agree (completed_seat next m x) refl) in
@@ -115,11 +105,11 @@ seat_agrees p next m (Some x) fit over agree q e =
 none_granted : (p : ℕ) (o : Option Seat) (q : ℕ) → o ≡ None → is_in (seat_granted p o) q ≡ true → ⊥
 none_granted p o q none e = false≢true (sym (in_empty p q) ∙ ap (λ s. is_in s q) (sym (ap (seat_granted p) none)) ∙ e)
 
-granted_settled : (p : ℕ) (next : SetRows) (m : ℕ) (o : Option Seat) (x : Seat) → o ≡ Some x → ((y : Seat) → on_seat (completed_seat next m) o ≡ Some y → agrees y ≡ true) → seat_granted p (on_seat (completed_seat next m) o) ≡ set_of next m
+granted_settled : (p : ℕ) (next : SetRows) (m : ℕ) (o : Option Seat) (x : Seat) → o ≡ Some x → ((y : Seat) → option_map (completed_seat next m) o ≡ Some y → agrees y ≡ true) → seat_granted p (option_map (completed_seat next m) o) ≡ set_of next m
 granted_settled p next m None x is agree = cc
 granted_settled p next m (Some y) x is agree = same_says (union y.granted (set_of next m)) (set_of next m) (agree (completed_seat next m y) refl)
 
-assigned_within : (p : ℕ) (next : SetRows) (row : PartitionSet) (m : ℕ) (o : Option Seat) → ((q : ℕ) → is_in (set_of next m) q ≡ true → is_in row q ≡ true) → is_within (seat_assigned p (on_seat (completed_seat next m) o)) row ≡ true
+assigned_within : (p : ℕ) (next : SetRows) (row : PartitionSet) (m : ℕ) (o : Option Seat) → ((q : ℕ) → is_in (set_of next m) q ≡ true → is_in row q ≡ true) → is_within (seat_assigned p (option_map (completed_seat next m) o)) row ≡ true
 assigned_within p next row m None lies = within_of (empty_set p) row (λ q e. absurd (false≢true (sym (in_empty p q) ∙ e)))
 assigned_within p next row m (Some x) lies = within_of (set_of next m) row lies
 
@@ -127,11 +117,11 @@ pub some_of : (o : Option Seat) → is_some o ≡ true → (x : Seat) × (o ≡ 
 some_of None e = absurd (false≢true e)
 some_of (Some x) e = (x, refl)
 
-not_joined : (next : SetRows) (m : ℕ) (o : Option Seat) → seat_joined (on_seat (completed_seat next m) o) ≡ false
+not_joined : (next : SetRows) (m : ℕ) (o : Option Seat) → seat_joined (option_map (completed_seat next m) o) ≡ false
 not_joined next m None = refl
 not_joined next m (Some x) = refl
 
-pub complete_good : (g : GroupState) → IsNext g → is_ready g ≡ true → IsValidGroup (complete g)
+pub complete_good : (g : GroupState) → IsChanged g → is_ready g ≡ true → IsValidGroup (complete g)
 complete_good g n e =
     let any : is_anybody g ≡ true = (both_true (is_anybody g) (all_joined g) e).0 in
     let p : ℕ = g.partitions in
@@ -140,7 +130,7 @@ complete_good g n e =
     let owned : AreOwned r = granted_owned g n.sized n.fit n.apart any in
     let valid : IsValidRows next = next_kept r owned in
     let over : (m : ℕ) → partitions_of (set_of next m) ≡ p = λ m. set_over next m valid ∙ next_below r owned in
-    let at : (m : ℕ) → member_of (complete g) m ≡ on_seat (completed_seat next m) (member_of g m) = λ m. seat_each (completed_seat next) g.slots m in
+    let at : (m : ℕ) → member_of (complete g) m ≡ option_map (completed_seat next m) (member_of g m) = λ m. seat_each (completed_seat next) g.slots m in
     let same : members (complete g) ≡ members g = numbers_each (completed_seat next) g.slots in
     let own : (m q : ℕ) → is_in (granted_of g m) q ≡ true → is_in (set_of r m) q ≡ true = λ m q h. ap (λ s. is_in s q) (set_granted g m) ∙ h in
     let after : (m q : ℕ) → is_in (granted_of (complete g) m) q ≡ true → (is_in (granted_of g m) q ≡ true) ⊎ (is_in (set_of next m) q ≡ true) =
@@ -150,8 +140,8 @@ complete_good g n e =
       sized = record {
         some_partitions = n.sized.some_partitions;
         few_partitions = n.sized.few_partitions;
-        few_members = omega (arith, length_reseated (λ m. on_seat (completed_seat next m)) g.slots, n.sized.few_members);
-        a_holder_each = length-map-range_with_len (λ q. option_or (taker g next q) (last_holder g q)) 0 p;
+        few_members = omega (arith, length_reseated (λ m. option_map (completed_seat next m)) g.slots, n.sized.few_members);
+        a_holder_each = length-map-range_with_len (λ q. option_or (slice_index_or (takers g next) q None) (last_holder g q)) 0 (length g.last) ∙ n.sized.a_holder_each;
       };
       apart = λ a b q x y. elim (after a q x) [
         | inl gx ↦ elim (after b q y) [
@@ -166,12 +156,12 @@ complete_good g n e =
       fit = λ m y is.
           let b = seat_behind (completed_seat next m) (member_of g m) y (sym (at m) ∙ is) in
           subst (IsFit p) (sym b.2) (fit_completed p next m b.0 (n.fit m b.0 b.1) (over m));
-      held = λ m q h. held_after g next (next_apart r owned) (λ k j w. subst (Listed k) (next_members r owned ∙ members_granted g) (member_listed next k j w)) (λ a b j w y. next_not_other r a b j w (own b j y)) m q (elim (after m q h) [
+      held = λ m q h. held_after g next (next_apart r owned) (λ k j w. subst (Listed k) (next_members r owned ∙ members_granted g) (member_listed next k j w)) (λ a b j w y. next_not_other r a b j w (own b j y)) n.sized.a_holder_each m q (elim (after m q h) [
         | inl gx ↦ omega (arith, in_below (granted_of g m) q gx, granted_over g n.fit m)
         | inr wx ↦ omega (arith, in_below (set_of next m) q wx, over m)
       ]) (n.held m q) (after m q h);
       balanced = λ s.
-          let agree : (m : ℕ) (y : Seat) → on_seat (completed_seat next m) (member_of g m) ≡ Some y → agrees y ≡ true = λ m y is. all_says agrees (complete g).slots m y s (at m ∙ is) in
+          let agree : (m : ℕ) (y : Seat) → option_map (completed_seat next m) (member_of g m) ≡ Some y → agrees y ≡ true = λ m y is. all_says agrees (complete g).slots m y s (at m ∙ is) in
           let stays : (m q : ℕ) → is_in (set_of r m) q ≡ true → is_in (set_of next m) q ≡ true = λ m q h.
           let k : is_in (granted_of g m) q ≡ true = ap (λ t. is_in t q) (sym (set_granted g m)) ∙ h in
           elim (seat_agrees p next m (member_of g m) (λ x is. n.fit m x is) (over m) (agree m) q k) [
@@ -198,7 +188,7 @@ complete_good g n e =
     }
 
 -- a completion, where there is one, leaves a good group
-pub completed_good : (g : GroupState) → IsNext g → IsValidGroup (completed g)
+pub completed_good : (g : GroupState) → IsChanged g → IsValidGroup (completed g)
 completed_good g n = go (is_ready g) refl
   where
     go : (b : Bool) → is_ready g ≡ b → IsValidGroup (cond b (complete g) g)

@@ -1,9 +1,7 @@
 -- Where a rebalance ends.
-use Rattle.std.proofs.Common.{ℕ, ◌≡◌, ◌+◌, ◌==◌, Bool, true, false, ◌&&◌, ◌||◌, not, List, [], ◌∷◌, ◌++◌, Option, Some, None, Result, Ok, map, refl, ap, sym, ◌∙◌, arith, cond, find, filter_map}
-use Rattle.std.specs.Prelude.{slice_index_or}
+use Rattle.std.proofs.Common.{ℕ, ◌≡◌, ◌+◌, ◌==◌, Bool, true, false, ◌&&◌, ◌||◌, not, List, [], ◌∷◌, ◌++◌, Option, Some, None, Result, Ok, Err, map, refl, ap, sym, ◌∙◌, arith, cond}
 use Rattle.std.proofs.lemmas.Bool.{false≢true}
-use Rattle.std.specs.List.{range_with_len}
-use Rattle.std.specs.Option.{option_or}
+use Rattle.std.specs.Option.{option_map, option_map_or}
 use Rattle.lane_words.specs.declared.Refusal.{Refusal}
 use Rattle.lane_words.specs.declared.Refusal.TheVariants as r
 use Rattle.bit_planes.specs.PartitionSet.{PartitionSet, partitions_of, is_in, is_within, is_same, union}
@@ -17,17 +15,17 @@ use Rattle.group_machine.specs.declared.group.Slot.{Slot}
 use Rattle.group_machine.specs.declared.group.Seat.{Seat}
 use Rattle.group_machine.specs.declared.group.Move.{Move}
 use Rattle.group_machine.specs.declared.group.Phase.TheVariants.{Stable}
-use Rattle.group_machine.specs.Slots.{only_of, seat_of, on_seat, each_changed, one_changed, present}
-use Rattle.group_machine.specs.State.{GroupState, member_of, members, is_anybody, seat_granted, granted_of, granted_rows, assigned_rows}
-use Rattle.group_machine.specs.Moves.{move_by, moves_to, last_after}
+use Rattle.group_machine.specs.Slots.{only_of, seat_of, each_changed, one_changed, present}
+use Rattle.group_machine.specs.State.{GroupState, member_of, members, is_anybody, granted_rows, assigned_rows}
+use Rattle.group_machine.specs.Moves.{takers_in, moves_by, last_by, moves_to, last_after}
 use Rattle.group_machine.specs.Completion.{all_joined, is_ready, completed_seat, completed_with, complete, completed}
 use Rattle.group_machine.specs.Rounds.{is_stable, agrees, all_agree, is_settled, bare_seat, bare, yielded_seat, yielded, round, finish}
-use Rattle.group_machine.specs.Steps.{unless_over, rejoined_seat, rejoining, rejoined_by, rejoin_refusal, unless_refused, rejoin_answer, synced_seat, synced_by}
+use Rattle.group_machine.specs.Steps.{unless_over, rejoined_seat, rejoining, rejoined_by, rejoin_refusal, rejoin_answer, synced_seat, synced_by}
 use Rattle.group_machine.specs.Good.{IsSized, IsApart, AllFit, IsValidGroup}
 use Rattle.group_machine.proofs.SlotsLemmas.{seat_each, each_two, each_same, one_is_each, at_only}
 use Rattle.group_machine.proofs.PresentLemmas.{length_reseated, present_each, numbers_each, any_each, any_of, all_of, all_says}
 use Rattle.group_machine.proofs.Rows.{set_over}
-use Rattle.group_machine.specs.Walks.{AreOwned}
+use Rattle.group_machine.specs.Private.Walks.{AreOwned}
 use Rattle.group_machine.proofs.Below.{next_kept, next_below, next_members, second_all, second_within, target_kept, target_below}
 use Rattle.group_machine.proofs.GroupLemmas.{assigned_owned, members_assigned}
 use Rattle.group_machine.proofs.CompletionLemmas.{seat_behind}
@@ -122,23 +120,6 @@ yields_nothing g fit joined = each_same (λ m. yielded_seat) (λ m. bare_seat) g
     let same : x.assigned ≡ x.granted = (fit m x is).equal (all_says (λ y. y.joined) g.slots m x joined is) in
     ap (λ (s : PartitionSet). seat_with s x.assigned) same)
 
--- moves and last holders, by what members are granted
-abbrev last_by : (ℕ → PartitionSet) → List ℕ → ℕ → List (Option ℕ) → SetRows → List (Option ℕ)
-last_by granted ms p last next = map (λ q. option_or (find (λ m. is_in (set_of next m) q && not (is_in (granted m) q)) ms) (slice_index_or last q None)) (range_with_len 0 p)
-
-abbrev moves_by : (ℕ → PartitionSet) → List ℕ → GroupState → SetRows → List Move
-moves_by granted ms g next = filter_map (λ q. move_by g q (find (λ m. is_in (set_of next m) q && not (is_in (granted m) q)) ms)) (range_with_len 0 g.partitions)
-
-by_look_up : (f h : ℕ → PartitionSet) → ((m : ℕ) → f m ≡ h m) → f ≡ h
-by_look_up f h same = λ i m. same m i
-
-bare_granted : (g : GroupState) (m : ℕ) → granted_of (bare g) m ≡ granted_of g m
-bare_granted g m = ap (seat_granted g.partitions) (seat_each (λ n. bare_seat) g.slots m) ∙ go (member_of g m)
-  where
-    go : (o : Option Seat) → seat_granted g.partitions (on_seat bare_seat o) ≡ seat_granted g.partitions o
-    go None = refl
-    go (Some x) = refl
-
 complete_parts : ℕ → ℕ → List Slot → List (Option ℕ) → List Move → GroupState
 complete_parts generation p slots last moves = record { generation = generation; phase = Stable; partitions = p; slots = slots; last = last; moves = moves }
 
@@ -146,11 +127,9 @@ complete_bare : (g : GroupState) → complete (bare g) ≡ complete g
 unfolding complete_parts
 complete_bare g =
     let next : SetRows = next_rows (granted_rows g) in
-    let granted : granted_of (bare g) ≡ granted_of g = by_look_up (granted_of (bare g)) (granted_of g) (bare_granted g) in
-    let ms : members (bare g) ≡ members g = numbers_each (λ m. bare_seat) g.slots in
     let slots : each_changed (completed_seat next) (bare g).slots ≡ each_changed (completed_seat next) g.slots = each_two (completed_seat next) (λ m. bare_seat) g.slots in
-    let last : last_after (bare g) next ≡ last_after g next = ap (λ f. last_by f (members (bare g)) g.partitions g.last next) granted ∙ ap (λ ns. last_by (granted_of g) ns g.partitions g.last next) ms in
-    let moves : moves_to (bare g) next ≡ moves_to g next = ap (λ f. moves_by f (members (bare g)) g next) granted ∙ ap (λ ns. moves_by (granted_of g) ns g next) ms in
+    let last : last_after (bare g) next ≡ last_after g next = ap (λ r. last_by (takers_in r next) g.last) (granted_bare g) in
+    let moves : moves_to (bare g) next ≡ moves_to g next = ap (λ r. moves_by (g.generation + 1) (takers_in r next) g.last) (granted_bare g) in
     ap (λ n. completed_with (bare g) (next_rows n)) (granted_bare g)
     ∙ ap (λ s. complete_parts (g.generation + 1) g.partitions s (last_after (bare g) next) (g.moves ++ moves_to (bare g) next)) slots
     ∙ ap (λ l. complete_parts (g.generation + 1) g.partitions (each_changed (completed_seat next) g.slots) l (g.moves ++ moves_to (bare g) next)) last
@@ -214,7 +193,7 @@ accepted_seat : (g : GroupState) (generation : ℕ) (claim : PartitionSet) (o : 
 accepted_seat g generation claim None e = cc
 accepted_seat g generation claim (Some x) e = (x, refl, refused_first (not (generation == g.generation)) x.joined (not x.synced) (is_stable g.phase && agrees x) (not (is_same claim x.assigned)) e)
 
-accepted_none : (o : Option Refusal) (answer : Result (Unit {0}) Refusal) → unless_refused o answer ≡ Ok tt → o ≡ None
+accepted_none : (o : Option Refusal) (answer : Result (Unit {0}) Refusal) → option_map_or Err o answer ≡ Ok tt → o ≡ None
 accepted_none None answer e = refl
 accepted_none (Some why) answer e = cc
 
@@ -243,7 +222,7 @@ pub rejoining_sized : (g : GroupState) (member : ℕ) → IsSized g → IsSized 
 rejoining_sized g member sized = record {
   some_partitions = sized.some_partitions;
   few_partitions = sized.few_partitions;
-  few_members = omega (arith, length_reseated (only_of member (on_seat rejoined_seat)) g.slots, sized.few_members);
+  few_members = omega (arith, length_reseated (only_of member (option_map rejoined_seat)) g.slots, sized.few_members);
   a_holder_each = sized.a_holder_each;
 }
 

@@ -13,7 +13,7 @@ use Rattle.group_machine.specs.State.{GroupState, member_of, members, is_anybody
 use Rattle.group_machine.specs.Good.{IsSized, IsFit, AllFit, IsApart}
 use Rattle.group_machine.proofs.PresentLemmas.{RisesFrom, rising, present_rises, find_present, any_count}
 use Rattle.group_machine.proofs.Rows.{apart_of}
-use Rattle.group_machine.specs.Walks.{AreOwned}
+use Rattle.group_machine.specs.Private.Walks.{AreOwned}
 
 -- ---- rows of the present members
 numbers_of : (h : Seat → PartitionSet) (xs : List (ℕ × Seat)) → map {A = ℕ × PartitionSet} (λ row. row.0) (map (λ r. (r.0, h r.1)) xs) ≡ map (λ r. r.0) xs

@@ -4,8 +4,8 @@ pub mod ClusterLemmas
 pub mod CompletionLemmas
 pub mod FinishLemmas
 pub mod GroupLemmas
-pub mod KeptLemmas
 pub mod MovesLemmas
+pub mod OtherLemmas
 pub mod PresentLemmas
 pub mod Rows
 pub mod SlotsLemmas

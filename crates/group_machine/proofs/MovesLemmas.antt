@@ -6,11 +6,11 @@ use Rattle.std.specs.Option.{option_map, option_or}
 use Rattle.bit_planes.specs.PartitionSet.{PartitionSet, is_in}
 use Rattle.bit_planes.specs.SetRows.{SetRows, set_of, row_of, set_or_empty}
 use Rattle.bit_planes.proofs.Sets.{both_true, in_empty}
+use Rattle.group_machine.specs.Moves.{taker_in}
 use Rattle.group_machine.specs.declared.group.Slot.{Slot}
 use Rattle.group_machine.specs.declared.group.Seat.{Seat}
 use Rattle.group_machine.specs.declared.group.Move.{Move}
 use Rattle.group_machine.specs.Slots.{and_member, present_from, present}
-use Rattle.group_machine.specs.Walks.{taker_in}
 use Rattle.coop_rebalance.proofs.Items.{items_more}
 
 -- ---- one number more

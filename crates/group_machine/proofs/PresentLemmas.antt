@@ -7,7 +7,7 @@ use Rattle.bit_planes.specs.PartitionSet.{PartitionSet}
 use Rattle.bit_planes.specs.SetRows.{find_row, IsRising}
 use Rattle.group_machine.specs.declared.group.Slot.{Slot}
 use Rattle.group_machine.specs.declared.group.Seat.{Seat}
-use Rattle.group_machine.specs.Slots.{seat_in, seat_of, and_member, present_from, present, reseated_from, on_seat, each_changed}
+use Rattle.group_machine.specs.Slots.{seat_in, seat_of, and_member, present_from, present, reseated_from, each_changed}
 use Rattle.group_machine.proofs.SlotsLemmas.{other_id, same_id}
 
 -- ---- numbers that rise from one on
@@ -47,13 +47,13 @@ present_rises m [] = tt
 present_rises m (s ∷ slots) = numbers_and m s.seat (present_from (suc m) slots) (present_rises (suc m) slots)
 
 -- ---- a change of each member's seat
-and_changed : (m : ℕ) (f : ℕ → Seat → Seat) (o : Option Seat) (rows : List (ℕ × Seat)) → and_member m (on_seat (f m) o) (map (λ r. (r.0, f r.0 r.1)) rows) ≡ map (λ r. (r.0, f r.0 r.1)) (and_member m o rows)
+and_changed : (m : ℕ) (f : ℕ → Seat → Seat) (o : Option Seat) (rows : List (ℕ × Seat)) → and_member m (option_map (f m) o) (map (λ r. (r.0, f r.0 r.1)) rows) ≡ map (λ r. (r.0, f r.0 r.1)) (and_member m o rows)
 and_changed m f None rows = refl
 and_changed m f (Some x) rows = refl
 
-present_changed : (m : ℕ) (f : ℕ → Seat → Seat) (slots : List Slot) → present_from m (reseated_from m (λ n. on_seat (f n)) slots) ≡ map (λ r. (r.0, f r.0 r.1)) (present_from m slots)
+present_changed : (m : ℕ) (f : ℕ → Seat → Seat) (slots : List Slot) → present_from m (reseated_from m (λ n. option_map (f n)) slots) ≡ map (λ r. (r.0, f r.0 r.1)) (present_from m slots)
 present_changed m f [] = refl
-present_changed m f (s ∷ slots) = ap (λ rows. and_member m (on_seat (f m) s.seat) rows) (present_changed (suc m) f slots) ∙ and_changed m f s.seat (present_from (suc m) slots)
+present_changed m f (s ∷ slots) = ap (λ rows. and_member m (option_map (f m) s.seat) rows) (present_changed (suc m) f slots) ∙ and_changed m f s.seat (present_from (suc m) slots)
 
 pub present_each : (f : ℕ → Seat → Seat) (slots : List Slot) → present (each_changed f slots) ≡ map (λ r. (r.0, f r.0 r.1)) (present slots)
 present_each f slots = present_changed 1 f slots
@@ -166,11 +166,11 @@ pub any_count : (slots : List Slot) → list_any (λ s. is_some s.seat) slots �
 any_count slots e = any_count_from 1 slots e
 
 -- nobody more and nobody less after a change of each
-some_on : (f : Seat → Seat) (o : Option Seat) → is_some (on_seat f o) ≡ is_some o
+some_on : (f : Seat → Seat) (o : Option Seat) → is_some (option_map f o) ≡ is_some o
 some_on f None = refl
 some_on f (Some x) = refl
 
-any_changed : (m : ℕ) (f : ℕ → Seat → Seat) (slots : List Slot) → list_any (λ s. is_some s.seat) (reseated_from m (λ n. on_seat (f n)) slots) ≡ list_any (λ s. is_some s.seat) slots
+any_changed : (m : ℕ) (f : ℕ → Seat → Seat) (slots : List Slot) → list_any (λ s. is_some s.seat) (reseated_from m (λ n. option_map (f n)) slots) ≡ list_any (λ s. is_some s.seat) slots
 any_changed m f [] = refl
 any_changed m f (s ∷ slots) = rw (some_on (f m) s.seat, any_changed (suc m) f slots) refl
 

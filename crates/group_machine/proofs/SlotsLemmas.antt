@@ -3,9 +3,10 @@ use Rattle.std.proofs.Common.{ℕ, zero, suc, ◌≡◌, ◌+◌, ◌-◌, ◌<�
 use Rattle.std.proofs.lemmas.Bool.{false≢true}
 use Rattle.std.proofs.lemmas.Bool.Decides.{nat_tests}
 use Rattle.std.proofs.Math.ListN.{set}
+use Rattle.std.specs.Option.{option_map}
 use Rattle.group_machine.specs.declared.group.Slot.{Slot}
 use Rattle.group_machine.specs.declared.group.Seat.{Seat}
-use Rattle.group_machine.specs.Slots.{seat_in, seat_of, reseated_from, on_seat, only_of, each_changed, one_changed, without_seat}
+use Rattle.group_machine.specs.Slots.{seat_in, seat_of, reseated_from, only_of, each_changed, one_changed, without_seat}
 
 abbrev pub slot_with : List ℕ → Option Seat → Slot
 slot_with name o = record { name = name; seat = o }
@@ -29,8 +30,8 @@ pub seat_of_reseated : (f : ℕ → Option Seat → Option Seat) → ((n : ℕ) 
 seat_of_reseated f none slots zero = sym (none 0)
 seat_of_reseated f none slots (suc k) = let e : 1 + k ≡ suc k = omega arith in reseated_at 1 f none slots k ∙ ap (λ n. f n (seat_in (slice_get slots k))) e
 
-pub seat_each : (f : ℕ → Seat → Seat) (slots : List Slot) (member : ℕ) → seat_of (each_changed f slots) member ≡ on_seat (f member) (seat_of slots member)
-seat_each f slots member = seat_of_reseated (λ m. on_seat (f m)) (λ n. refl) slots member
+pub seat_each : (f : ℕ → Seat → Seat) (slots : List Slot) (member : ℕ) → seat_of (each_changed f slots) member ≡ option_map (f member) (seat_of slots member)
+seat_each f slots member = seat_of_reseated (λ m. option_map (f m)) (λ n. refl) slots member
 
 only_none : (b : Bool) (f : Option Seat → Option Seat) → f None ≡ None → cond b (f None) None ≡ None
 only_none true f e = e
@@ -59,34 +60,34 @@ reseated_not m [] = refl
 reseated_not m (s ∷ slots) = ap (λ r. s ∷ r) (reseated_not (suc m) slots)
 
 -- changes that agree at each present member are one
-on_seat_same : (f g : Seat → Seat) (o : Option Seat) → ((x : Seat) → o ≡ Some x → f x ≡ g x) → on_seat f o ≡ on_seat g o
+on_seat_same : (f g : Seat → Seat) (o : Option Seat) → ((x : Seat) → o ≡ Some x → f x ≡ g x) → option_map f o ≡ option_map g o
 on_seat_same f g None same = refl
 on_seat_same f g (Some x) same = ap (λ y. Some y) (same x refl)
 
 pub each_same : (f g : ℕ → Seat → Seat) (slots : List Slot) → ((m : ℕ) (x : Seat) → seat_of slots m ≡ Some x → f m x ≡ g m x) → each_changed f slots ≡ each_changed g slots
-each_same f g slots same = reseated_same 1 (λ m. on_seat (f m)) (λ m. on_seat (g m)) slots (λ k lt.
+each_same f g slots same = reseated_same 1 (λ m. option_map (f m)) (λ m. option_map (g m)) slots (λ k lt.
     let e : 1 + k ≡ suc k = omega arith in
-    ap (λ n. on_seat (f n) (seat_in (slice_get slots k))) e ∙ on_seat_same (f (suc k)) (g (suc k)) (seat_in (slice_get slots k)) (λ x is. same (suc k) x is) ∙ ap (λ n. on_seat (g n) (seat_in (slice_get slots k))) (sym e))
+    ap (λ n. option_map (f n) (seat_in (slice_get slots k))) e ∙ on_seat_same (f (suc k)) (g (suc k)) (seat_in (slice_get slots k)) (λ x is. same (suc k) x is) ∙ ap (λ n. option_map (g n) (seat_in (slice_get slots k))) (sym e))
 
-on_seat_two : (f g : Seat → Seat) (o : Option Seat) → on_seat f (on_seat g o) ≡ on_seat (λ x. f (g x)) o
+on_seat_two : (f g : Seat → Seat) (o : Option Seat) → option_map f (option_map g o) ≡ option_map (λ x. f (g x)) o
 on_seat_two f g None = refl
 on_seat_two f g (Some x) = refl
 
 pub each_two : (f g : ℕ → Seat → Seat) (slots : List Slot) → each_changed f (each_changed g slots) ≡ each_changed (λ m x. f m (g m x)) slots
-each_two f g slots = reseated_two 1 (λ m. on_seat (f m)) (λ m. on_seat (g m)) slots ∙ reseated_same 1 (λ m o. on_seat (f m) (on_seat (g m) o)) (λ m. on_seat (λ x. f m (g m x))) slots (λ k lt. on_seat_two (f (1 + k)) (g (1 + k)) (seat_in (slice_get slots k)))
+each_two f g slots = reseated_two 1 (λ m. option_map (f m)) (λ m. option_map (g m)) slots ∙ reseated_same 1 (λ m o. option_map (f m) (option_map (g m) o)) (λ m. option_map (λ x. f m (g m x))) slots (λ k lt. on_seat_two (f (1 + k)) (g (1 + k)) (seat_in (slice_get slots k)))
 
 -- a change of one member is a change of each that touches only it
 abbrev pub at_only : ℕ → (Seat → Seat) → ℕ → Seat → Seat
 at_only member f m x = cond (m == member) (f x) x
 
-only_is : (b : Bool) (f : Seat → Seat) (o : Option Seat) → cond b (on_seat f o) o ≡ on_seat (λ x. cond b (f x) x) o
+only_is : (b : Bool) (f : Seat → Seat) (o : Option Seat) → cond b (option_map f o) o ≡ option_map (λ x. cond b (f x) x) o
 only_is true f None = refl
 only_is false f None = refl
 only_is true f (Some x) = refl
 only_is false f (Some x) = refl
 
 pub one_is_each : (f : Seat → Seat) (slots : List Slot) (member : ℕ) → one_changed f slots member ≡ each_changed (at_only member f) slots
-one_is_each f slots member = reseated_same 1 (only_of member (on_seat f)) (λ m. on_seat (at_only member f m)) slots (λ k lt. only_is ((1 + k) == member) f (seat_in (slice_get slots k)))
+one_is_each f slots member = reseated_same 1 (only_of member (option_map f)) (λ m. option_map (at_only member f m)) slots (λ k lt. only_is ((1 + k) == member) f (seat_in (slice_get slots k)))
 
 -- ---- a write to one slot
 set_at : (m : ℕ) (slots : List Slot) (k : ℕ) (s : Slot) (f : Option Seat → Option Seat) → k < length slots → s ≡ get_or slots k s → set slots k (slot_with s.name (f s.seat)) ≡ reseated_from m (only_of (m + k) f) slots

@@ -2,21 +2,24 @@
 use Rattle.std.proofs.Common.{ℕ, zero, suc, ◌≡◌, ◌<◌, ◌≤◌, ◌==◌, Bool, true, false, ◌&&◌, ◌||◌, ◌⊎◌, inl, inr, List, [], ◌∷◌, ◌++◌, Option, Some, None, length, map, slice_get, refl, ap, sym, ◌∙◌, subst, arith, is_some, cond, replicate, length-append}
 use Rattle.std.proofs.lemmas.Bool.{false≢true}
 use Rattle.std.specs.List.{list_any, list_all}
+use Rattle.std.specs.Option.{option_map}
+use Rattle.lane_words.specs.declared.limits.TheConstants.{MOST_MEMBERS}
 use Rattle.bit_planes.specs.PartitionSet.{is_in, is_within, empty_set}
 use Rattle.bit_planes.proofs.Sets.{in_empty, partitions_empty, within_of, within_says}
 use Rattle.sticky_assignor.specs.Balanced.{IsBalanced}
 use Rattle.group_machine.specs.declared.group.Slot.{Slot}
 use Rattle.group_machine.specs.declared.group.Seat.{Seat}
-use Rattle.group_machine.specs.Slots.{seat_in, seat_of, on_seat, each_changed, only_of, present}
+use Rattle.group_machine.specs.Slots.{seat_in, seat_of, each_changed, only_of, present}
 use Rattle.group_machine.specs.State.{GroupState, opening, member_of, members, is_present, is_anybody, is_joined, seat_joined, seat_granted, seat_assigned, granted_of, assigned_of}
 use Rattle.group_machine.specs.Completion.{all_joined}
 use Rattle.group_machine.specs.Rounds.{is_stable, agrees, is_settled}
-use Rattle.group_machine.specs.Steps.{most_members, newcomer, joining, joined_by, rejoined_seat, rejoining, rejoined_by, synced_seat, synced_by, leaving, left_by}
+use Rattle.group_machine.specs.Steps.{new_seat, newcomer, joining, joined_by, rejoined_seat, rejoining, rejoined_by, synced_seat, synced_by, leaving, left_by}
 use Rattle.group_machine.specs.Good.{IsApart, IsFit, AllFit, IsValidGroup}
+use Rattle.group_machine.specs.Private.Changes.{IsChanged}
 use Rattle.group_machine.proofs.SlotsLemmas.{seat_each, seat_without, one_is_each, at_only}
 use Rattle.group_machine.proofs.PresentLemmas.{numbers_each, length_reseated, any_each, any_of, all_of, present_each}
 use Rattle.group_machine.proofs.Rows.{map_same}
-use Rattle.group_machine.proofs.CompletionLemmas.{IsNext, completed_good, seat_behind, some_of}
+use Rattle.group_machine.proofs.CompletionLemmas.{completed_good, seat_behind, some_of}
 
 -- ---- seats that are changed one by one
 abbrev pub with_slots : GroupState → List Slot → GroupState
@@ -27,7 +30,7 @@ fit_each g f keeps fit m y is =
     let b = seat_behind (f m) (member_of g m) y (sym (seat_each f g.slots m) ∙ is) in
     subst (IsFit g.partitions) (sym b.2) (keeps m b.0 (fit m b.0 b.1))
 
-less_seat : (p : ℕ) (f : Seat → Seat) (o : Option Seat) (q : ℕ) → ((x : Seat) → o ≡ Some x → is_in (f x).granted q ≡ true → is_in x.granted q ≡ true) → is_in (seat_granted p (on_seat f o)) q ≡ true → is_in (seat_granted p o) q ≡ true
+less_seat : (p : ℕ) (f : Seat → Seat) (o : Option Seat) (q : ℕ) → ((x : Seat) → o ≡ Some x → is_in (f x).granted q ≡ true → is_in x.granted q ≡ true) → is_in (seat_granted p (option_map f o)) q ≡ true → is_in (seat_granted p o) q ≡ true
 less_seat p f None q less e = e
 less_seat p f (Some x) q less e = less x refl e
 
@@ -81,11 +84,7 @@ joined_granted : (g : GroupState) (name : List ℕ) (m q : ℕ) → is_in (grant
 joined_granted g name zero q e = e
 joined_granted g name (suc k) q e = granted_more g.partitions name g.slots k q e
 
-new_seat : ℕ → Seat
-new_seat p = record { joined = true; synced = false; granted = empty_set p; assigned = empty_set p }
-
 new_fit : (p : ℕ) → IsFit p (new_seat p)
-unfolding new_seat
 new_fit p = record { granted_below = partitions_empty p; assigned_below = partitions_empty p; within = within_of (empty_set p) (empty_set p) (λ q e. e); equal = λ e. refl }
 
 any_more : (slots : List Slot) (s : Slot) → is_some s.seat ≡ true → list_any (λ t. is_some t.seat) (slots ++ s ∷ []) ≡ true
@@ -98,16 +97,14 @@ any_more (t ∷ slots) s e = rw (any_more slots s e) (or_true (is_some t.seat))
 
 -- the newcomer alone has joined
 alone_joined : (g : GroupState) (name : List ℕ) → is_anybody g ≡ false → all_joined (joining g name) ≡ true
-unfolding new_seat
 alone_joined g name none = all_of (λ x. x.joined) (joining g name).slots (λ m x is. go m x (member_more g.slots (newcomer g.partitions name) m x is))
   where
     go : (m : ℕ) (x : Seat) → (seat_of g.slots m ≡ Some x) ⊎ (Some (new_seat g.partitions) ≡ Some x) → x.joined ≡ true
     go m x (inl is) = absurd (false≢true (sym none ∙ any_of g.slots m x is))
     go m x (inr is) = let same : new_seat g.partitions ≡ x = cc in ap (λ y. y.joined) (sym same)
 
-pub joining_next : (g : GroupState) (name : List ℕ) → IsValidGroup g → length g.slots < most_members → IsNext (joining g name)
-unfolding new_seat
-joining_next g name good room =
+pub joining_changed : (g : GroupState) (name : List ℕ) → IsValidGroup g → length g.slots < MOST_MEMBERS → IsChanged (joining g name)
+joining_changed g name good room =
     let any : is_anybody (joining g name) ≡ true = any_more g.slots (newcomer g.partitions name) refl in
     record {
       sized = record {
@@ -132,8 +129,8 @@ joining_next g name good room =
     counts true e h = good.counted e
     counts false e h = absurd (false≢true (sym h ∙ alone_joined g name e))
 
-pub join_good : (g : GroupState) (name : List ℕ) → IsValidGroup g → length g.slots < most_members → IsValidGroup (joined_by g name)
-join_good g name good room = completed_good (joining g name) (joining_next g name good room)
+pub join_good : (g : GroupState) (name : List ℕ) → IsValidGroup g → length g.slots < MOST_MEMBERS → IsValidGroup (joined_by g name)
+join_good g name good room = completed_good (joining g name) (joining_changed g name good room)
 
 -- ---- rejoining
 pub any_of_present : (g : GroupState) (member : ℕ) → is_present g member ≡ true → is_anybody g ≡ true
@@ -158,14 +155,14 @@ rejoining_granted g member fit m q e =
 pub any_rejoining : (g : GroupState) (member : ℕ) → is_anybody (rejoining g member) ≡ is_anybody g
 any_rejoining g member = ap (λ slots. list_any (λ s. is_some s.seat) slots) (one_is_each rejoined_seat g.slots member) ∙ any_each (at_only member rejoined_seat) g.slots
 
-pub rejoining_next : (g : GroupState) (member : ℕ) → IsValidGroup g → is_present g member ≡ true → IsNext (rejoining g member)
-rejoining_next g member good here =
+pub rejoining_changed : (g : GroupState) (member : ℕ) → IsValidGroup g → is_present g member ≡ true → IsChanged (rejoining g member)
+rejoining_changed g member good here =
     let any : is_anybody g ≡ true = any_of_present g member here in
     record {
       sized = record {
         some_partitions = good.sized.some_partitions;
         few_partitions = good.sized.few_partitions;
-        few_members = omega (arith, length_reseated (only_of member (on_seat rejoined_seat)) g.slots, good.sized.few_members);
+        few_members = omega (arith, length_reseated (only_of member (option_map rejoined_seat)) g.slots, good.sized.few_members);
         a_holder_each = good.sized.a_holder_each;
       };
       apart = rejoining_apart g member good.fit good.apart;
@@ -177,7 +174,7 @@ rejoining_next g member good here =
     }
 
 pub rejoin_good : (g : GroupState) (member : ℕ) → IsValidGroup g → is_present g member ≡ true → IsValidGroup (rejoined_by g member)
-rejoin_good g member good here = completed_good (rejoining g member) (rejoining_next g member good here)
+rejoin_good g member good here = completed_good (rejoining g member) (rejoining_changed g member good here)
 
 -- ---- leaving
 left_seat : (b : Bool) (o : Option Seat) (x : Seat) → cond b None o ≡ Some x → o ≡ Some x
@@ -188,8 +185,8 @@ left_granted : (p : ℕ) (b : Bool) (o : Option Seat) (q : ℕ) → is_in (seat_
 left_granted p true o q e = absurd (false≢true (sym (in_empty p q) ∙ e))
 left_granted p false o q e = e
 
-pub leaving_next : (g : GroupState) (member : ℕ) → IsValidGroup g → is_present g member ≡ true → IsNext (leaving g member)
-leaving_next g member good here =
+pub leaving_changed : (g : GroupState) (member : ℕ) → IsValidGroup g → is_present g member ≡ true → IsChanged (leaving g member)
+leaving_changed g member good here =
     let any : is_anybody g ≡ true = any_of_present g member here in
     let less : (m q : ℕ) → is_in (granted_of (leaving g member) m) q ≡ true → is_in (granted_of g m) q ≡ true =
     λ m q e. left_granted g.partitions (m == member) (member_of g m) q (ap (λ o. is_in (seat_granted g.partitions o) q) (sym (seat_without g.slots member m)) ∙ e) in
@@ -209,7 +206,7 @@ leaving_next g member good here =
     }
 
 pub leave_good : (g : GroupState) (member : ℕ) → IsValidGroup g → is_present g member ≡ true → IsValidGroup (left_by g member)
-leave_good g member good here = completed_good (leaving g member) (leaving_next g member good here)
+leave_good g member good here = completed_good (leaving g member) (leaving_changed g member good here)
 
 -- ---- syncing
 all_map : (p : Seat → Bool) (f : ℕ → Seat → Seat) → ((m : ℕ) (x : Seat) → p (f m x) ≡ p x) → (xs : List (ℕ × Seat)) → list_all {X = ℕ × Seat} (λ r. p r.1) (map (λ r. (r.0, f r.0 r.1)) xs) ≡ list_all (λ r. p r.1) xs
@@ -219,7 +216,7 @@ all_map p f same (x ∷ xs) = rw (same x.0 x.1, all_map p f same xs) refl
 pub all_each : (p : Seat → Bool) (f : ℕ → Seat → Seat) → ((m : ℕ) (x : Seat) → p (f m x) ≡ p x) → (slots : List Slot) → list_all {X = ℕ × Seat} (λ r. p r.1) (present (each_changed f slots)) ≡ list_all (λ r. p r.1) (present slots)
 all_each p f same slots = ap (λ xs. list_all {X = ℕ × Seat} (λ r. p r.1) xs) (present_each f slots) ∙ all_map p f same (present slots)
 
-seat_same : {X : Type 0} (h : Option Seat → X) (f : Seat → Seat) → ((x : Seat) → h (Some (f x)) ≡ h (Some x)) → (o : Option Seat) → h (on_seat f o) ≡ h o
+seat_same : {X : Type 0} (h : Option Seat → X) (f : Seat → Seat) → ((x : Seat) → h (Some (f x)) ≡ h (Some x)) → (o : Option Seat) → h (option_map f o) ≡ h o
 seat_same h f same None = refl
 seat_same h f same (Some x) = same x
 
@@ -255,7 +252,7 @@ sync_good g member good =
       sized = record {
         some_partitions = good.sized.some_partitions;
         few_partitions = good.sized.few_partitions;
-        few_members = omega (arith, length_reseated (only_of member (on_seat synced_seat)) g.slots, good.sized.few_members);
+        few_members = omega (arith, length_reseated (only_of member (option_map synced_seat)) g.slots, good.sized.few_members);
         a_holder_each = good.sized.a_holder_each;
       };
       apart = λ m n q e h. good.apart m n q (ap (λ s. is_in s q) (sym (granted m)) ∙ e) (ap (λ s. is_in s q) (sym (granted n)) ∙ h);

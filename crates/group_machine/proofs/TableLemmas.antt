@@ -1,8 +1,9 @@
 -- What the calls of a table come to, in words of the group.
-use Rattle.std.proofs.Common.{ℕ, zero, suc, ◌≡◌, ◌+◌, ◌<◌, ◌≤◌, ◌==◌, Bool, true, false, ◌&&◌, not, inl, inr, List, [], ◌∷◌, ◌++◌, Option, Some, None, Ok, Err, length, map, get_or, slice_get, cond, find, filter_map, nat_eq, nat_le, is_some, refl, ap, sym, ◌∙◌, arith}
+use Rattle.std.proofs.Common.{ℕ, suc, ◌≡◌, ◌+◌, ◌<◌, ◌≤◌, ◌==◌, Bool, true, false, ◌&&◌, inl, inr, List, [], ◌∷◌, ◌++◌, Option, Some, None, Ok, Err, length, cond, nat_eq, nat_le, is_some, refl, ap, sym, ◌∙◌, arith}
 use Rattle.std.proofs.lemmas.Bool.Decides.{nat_tests}
-use Rattle.std.specs.List.{list_all, range_with_len, cons_option}
-use Rattle.std.specs.Option.{option_map, option_or}
+use Rattle.std.specs.List.{list_all}
+use Rattle.std.specs.Option.{option_map_or}
+use Rattle.lane_words.specs.declared.limits.TheConstants.{LAST_GENERATION, MOST_MEMBERS}
 use Rattle.lane_words.specs.Answers.{Answers}
 use Rattle.lane_words.specs.declared.Refusal.{Refusal}
 use Rattle.lane_words.specs.declared.Refusal.TheVariants as r
@@ -15,18 +16,17 @@ use Rattle.group_machine.specs.declared.group.Seat.{Seat}
 use Rattle.group_machine.specs.declared.group.Move.{Move}
 use Rattle.group_machine.specs.declared.group.Phase.{Phase}
 use Rattle.group_machine.specs.declared.group.Phase.TheVariants.{Stable}
-use Rattle.group_machine.specs.Slots.{seat_in, and_member, present_from, present, each_changed}
-use Rattle.group_machine.specs.State.{GroupState, member_of, is_present, is_anybody, seat_granted, granted_of, granted_rows, owner_of, last_holder}
-use Rattle.group_machine.specs.Moves.{takes, taker, move_by, moves_to, last_after}
-use Rattle.group_machine.specs.Completion.{completed_seat, completed_with, complete, is_ready, last_generation}
-use Rattle.group_machine.specs.Steps.{most_members, unless_over, unless_refused, is_name_used, joining, join_answer, rejoin_refusal, rejoining, rejoin_answer, leaving, leave_answer}
-use Rattle.group_machine.specs.Good.{IsSound, AllFit}
-use Rattle.group_machine.specs.declared.group.completion.Prepared.{Prepared}
-use Rattle.group_machine.specs.Changes.{IsPlanned, IsRefused}
-use Rattle.group_machine.specs.Walks.{AreOwned, AreSeatsOver, out_or, taker_in, move_of, moves_by, last_by}
+use Rattle.group_machine.specs.Slots.{and_member, present_from, present, each_changed}
+use Rattle.group_machine.specs.State.{GroupState, member_of, is_present, is_anybody, granted_rows}
+use Rattle.group_machine.specs.Moves.{moves_to, last_after}
+use Rattle.group_machine.specs.Completion.{completed_seat, completed_with, complete, is_ready}
+use Rattle.group_machine.specs.Steps.{unless_over, is_name_used, joining, join_answer, rejoin_refusal, rejoining, rejoin_answer, leaving, leave_answer}
+use Rattle.group_machine.specs.Good.{AllFit}
+use Rattle.group_machine.specs.declared.group.completion.Completion.{Completion}
+use Rattle.group_machine.specs.Private.Changes.{IsChanged, IsPlanned, IsRefused}
+use Rattle.group_machine.specs.Private.Walks.{AreOwned, AreSeatsOver}
 use Rattle.group_machine.proofs.GroupLemmas.{granted_owned}
 use Rattle.group_machine.proofs.Below.{next_below, next_apart}
-use Rattle.group_machine.proofs.CompletionLemmas.{IsNext}
 
 -- ---- tests
 pub not_same : (s t : PartitionSet) (a b : ℕ) → a ≡ partitions_of s → b ≡ partitions_of t → (a ≡ b → ⊥) → nat_eq a b ≡ is_same s t
@@ -40,94 +40,31 @@ not_same s t a b pa pb ne = other (nat_eq a b) refl ∙ sym (go (is_same s t) re
     go false e = e
     go true e = absurd (ne (pa ∙ ap partitions_of (same_says s t e) ∙ sym pb))
 
-all_and : (test : Seat → Bool) (m : ℕ) (o : Option Seat) (xs : List (ℕ × Seat)) → list_all {X = ℕ × Seat} (λ r. test r.1) (and_member m o xs) ≡ (out_or test o && list_all (λ r. test r.1) xs)
+all_and : (test : Seat → Bool) (m : ℕ) (o : Option Seat) (xs : List (ℕ × Seat)) → list_all {X = ℕ × Seat} (λ r. test r.1) (and_member m o xs) ≡ (option_map_or test o true && list_all (λ r. test r.1) xs)
 all_and test m None xs = refl
 all_and test m (Some x) xs = refl
 
-all_from : (test : Seat → Bool) (m : ℕ) (slots : List Slot) → list_all (λ s. out_or test s.seat) slots ≡ list_all {X = ℕ × Seat} (λ r. test r.1) (present_from m slots)
+all_from : (test : Seat → Bool) (m : ℕ) (slots : List Slot) → list_all (λ s. option_map_or test s.seat true) slots ≡ list_all {X = ℕ × Seat} (λ r. test r.1) (present_from m slots)
 all_from test m [] = refl
-all_from test m (s ∷ slots) = ap (λ b. out_or test s.seat && b) (all_from test (suc m) slots) ∙ sym (all_and test m s.seat (present_from (suc m) slots))
+all_from test m (s ∷ slots) = ap (λ b. option_map_or test s.seat true && b) (all_from test (suc m) slots) ∙ sym (all_and test m s.seat (present_from (suc m) slots))
 
-pub all_present : (test : Seat → Bool) (slots : List Slot) → list_all (λ s. out_or test s.seat) slots ≡ list_all {X = ℕ × Seat} (λ r. test r.1) (present slots)
+pub all_present : (test : Seat → Bool) (slots : List Slot) → list_all (λ s. option_map_or test s.seat true) slots ≡ list_all {X = ℕ × Seat} (λ r. test r.1) (present slots)
 all_present test slots = all_from test 1 slots
 
 -- ---- a completion
 pub seats_over : (g : GroupState) → AllFit g → AreSeatsOver g.partitions g.slots
 seats_over g fit m x is = record { granted = (fit m x is).granted_below; assigned = (fit m x is).assigned_below }
 
-pub owned_rows : (g : GroupState) → IsSound g → is_anybody g ≡ true → AreOwned (granted_rows g)
-owned_rows g sound any = granted_owned g sound.sized sound.fit sound.apart any
+pub owned_rows : (g : GroupState) → IsChanged g → is_anybody g ≡ true → AreOwned (granted_rows g)
+owned_rows g changed any = granted_owned g changed.sized changed.fit changed.apart any
 
-pub rows_below : (g : GroupState) (next : SetRows) → IsSound g → is_anybody g ≡ true → next ≡ next_rows (granted_rows g) → next.partitions ≡ g.partitions
-rows_below g next sound any is = ap (λ n. n.partitions) is ∙ next_below (granted_rows g) (owned_rows g sound any)
+pub rows_below : (g : GroupState) (next : SetRows) → IsChanged g → is_anybody g ≡ true → next ≡ next_rows (granted_rows g) → next.partitions ≡ g.partitions
+rows_below g next changed any is = ap (λ n. n.partitions) is ∙ next_below (granted_rows g) (owned_rows g changed any)
 
-pub rows_apart : (g : GroupState) (next : SetRows) → IsSound g → is_anybody g ≡ true → next ≡ next_rows (granted_rows g) → (m n q : ℕ) → is_in (set_of next m) q ≡ true → is_in (set_of next n) q ≡ true → m ≡ n
-rows_apart g next sound any is m n q e h = next_apart (granted_rows g) (owned_rows g sound any) m n q (ap (λ k. is_in (set_of k m) q) (sym is) ∙ e) (ap (λ k. is_in (set_of k n) q) (sym is) ∙ h)
+pub rows_apart : (g : GroupState) (next : SetRows) → IsChanged g → is_anybody g ≡ true → next ≡ next_rows (granted_rows g) → (m n q : ℕ) → is_in (set_of next m) q ≡ true → is_in (set_of next n) q ≡ true → m ≡ n
+rows_apart g next changed any is m n q e h = next_apart (granted_rows g) (owned_rows g changed any) m n q (ap (λ k. is_in (set_of k m) q) (sym is) ∙ e) (ap (λ k. is_in (set_of k n) q) (sym is) ∙ h)
 
-find_and : (p : (ℕ × Seat) → Bool) (t : ℕ → Bool) (m : ℕ) (o : Option Seat) (xs : List (ℕ × Seat)) → ((x : Seat) → o ≡ Some x → p (m, x) ≡ t m) → option_map (λ r. r.0) (find p xs) ≡ find t (map (λ r. r.0) xs) → option_map (λ r. r.0) (find p (and_member m o xs)) ≡ find t (map (λ r. r.0) (and_member m o xs))
-find_and p t m None xs here rest = rest
-find_and p t m (Some x) xs here rest = rw (here x refl) (go (t m))
-  where
-    go : (b : Bool) → option_map (λ (r : ℕ × Seat). r.0) (cond b (Some (m, x)) (find p xs)) ≡ cond b (Some m) (find t (map (λ r. r.0) xs))
-    go true = refl
-    go false = rest
-
-find_from : (p : (ℕ × Seat) → Bool) (t : ℕ → Bool) (m : ℕ) (slots : List Slot) → ((k : ℕ) (x : Seat) → seat_in (slice_get slots k) ≡ Some x → p (m + k, x) ≡ t (m + k)) → option_map (λ r. r.0) (find p (present_from m slots)) ≡ find t (map (λ r. r.0) (present_from m slots))
-find_from p t m [] same = refl
-find_from p t m (s ∷ slots) same =
-    let z : m + 0 ≡ m = omega arith in
-    find_and p t m s.seat (present_from (suc m) slots) (λ x is. ap (λ n. p (n, x)) (sym z) ∙ same 0 x is ∙ ap t z) (find_from p t (suc m) slots (λ k x is.
-    let e : suc m + k ≡ m + suc k = omega arith in
-    ap (λ n. p (n, x)) e ∙ same (suc k) x is ∙ ap t (sym e)))
-
-taker_rows : (next : SetRows) (q : ℕ) (xs : List (ℕ × Seat)) → taker_in (map (λ m. (m.0, m.1.granted)) xs) next q ≡ option_map (λ m. m.0) (find (λ (m : ℕ × Seat). is_in (set_of next m.0) q && not (is_in m.1.granted q)) xs)
-taker_rows next q [] = refl
-taker_rows next q (x ∷ xs) = go (is_in (set_of next x.0) q && not (is_in x.1.granted q)) (taker_rows next q xs)
-  where
-    go : (b : Bool) → taker_in (map (λ m. (m.0, m.1.granted)) xs) next q ≡ option_map (λ m. m.0) (find (λ (m : ℕ × Seat). is_in (set_of next m.0) q && not (is_in m.1.granted q)) xs)
-        → option_map (λ (row : ℕ × PartitionSet). row.0) (cond b (Some (x.0, x.1.granted)) (find (λ row. is_in (set_of next row.0) q && not (is_in row.1 q)) (map (λ m. (m.0, m.1.granted)) xs)))
-        ≡ option_map (λ (m : ℕ × Seat). m.0) (cond b (Some x) (find (λ m. is_in (set_of next m.0) q && not (is_in m.1.granted q)) xs))
-    go true later = refl
-    go false later = later
-
--- who takes a partition, by the rows of what is granted
-pub taker_is : (g : GroupState) (next : SetRows) (q : ℕ) → taker_in (granted_rows g).rows next q ≡ taker g next q
-taker_is g next q = taker_rows next q (present g.slots) ∙ find_from (λ m. is_in (set_of next m.0) q && not (is_in m.1.granted q)) (takes g next q) 1 g.slots (λ k x is.
-    let e : 1 + k ≡ suc k = omega arith in
-    let own : granted_of g (1 + k) ≡ x.granted = ap (granted_of g) e ∙ ap (seat_granted g.partitions) is in
-    ap (λ s. is_in (set_of next (1 + k)) q && not (is_in s q)) (sym own))
-
-pub owner_is : (g : GroupState) (q : ℕ) → option_map (λ r. r.0) (find (λ (m : ℕ × Seat). is_in m.1.granted q) (present g.slots)) ≡ owner_of g q
-owner_is g q = find_from (λ m. is_in m.1.granted q) (λ m. is_in (granted_of g m) q) 1 g.slots (λ k x is.
-    let e : 1 + k ≡ suc k = omega arith in
-    let own : granted_of g (1 + k) ≡ x.granted = ap (granted_of g) e ∙ ap (seat_granted g.partitions) is in
-    ap (λ s. is_in s q) (sym own))
-
--- ---- moves and last holders
-mapped_same : {A : Type 0} (a n : ℕ) (f h : ℕ → A) → ((q : ℕ) → q < a + n → f q ≡ h q) → map f (range_with_len a n) ≡ map h (range_with_len a n)
-mapped_same a zero f h same = refl
-mapped_same a (suc n) f h same = ap (λ x. x ∷ map f (range_with_len (a + 1) n)) (same a (omega arith)) ∙ ap (λ xs. h a ∷ xs) (mapped_same (a + 1) n f h (λ q lt. same q (omega arith)))
-
-filtered_same : (a n : ℕ) (f h : ℕ → Option Move) → ((q : ℕ) → q < a + n → f q ≡ h q) → filter_map f (range_with_len a n) ≡ filter_map h (range_with_len a n)
-filtered_same a zero f h same = refl
-filtered_same a (suc n) f h same = ap (λ o. cons_option o (filter_map f (range_with_len (a + 1) n))) (same a (omega arith)) ∙ ap (λ xs. cons_option (h a) xs) (filtered_same (a + 1) n f h (λ q lt. same q (omega arith)))
-
-move_is : (g : GroupState) (q : ℕ) (o : Option ℕ) → move_of (g.generation + 1) q (last_holder g q) o ≡ move_by g q o
-move_is g q None = refl
-move_is g q (Some m) = refl
-
-pub moves_are : (g : GroupState) (next : SetRows) (takers : List (Option ℕ)) → length takers ≡ g.partitions → ((q : ℕ) → q < g.partitions → get_or takers q None ≡ taker g next q) → moves_by (g.generation + 1) takers g.last ≡ moves_to g next
-moves_are g next takers long are =
-    ap (λ n. filter_map (λ q. move_of (g.generation + 1) q (last_holder g q) (get_or takers q None)) (range_with_len 0 n)) long
-    ∙ filtered_same 0 g.partitions (λ q. move_of (g.generation + 1) q (last_holder g q) (get_or takers q None)) (λ q. move_by g q (taker g next q)) (λ q lt.
-    ap (move_of (g.generation + 1) q (last_holder g q)) (are q (omega arith)) ∙ move_is g q (taker g next q))
-
-pub last_is : (g : GroupState) (next : SetRows) (takers : List (Option ℕ)) → length g.last ≡ g.partitions → ((q : ℕ) → q < g.partitions → get_or takers q None ≡ taker g next q) → last_by takers g.last ≡ last_after g next
-last_is g next takers long are =
-    ap (λ n. map (λ q. option_or (get_or takers q None) (last_holder g q)) (range_with_len 0 n)) long
-    ∙ mapped_same 0 g.partitions (λ q. option_or (get_or takers q None) (last_holder g q)) (λ q. option_or (taker g next q) (last_holder g q)) (λ q lt.
-    ap (λ o. option_or o (last_holder g q)) (are q (omega arith)))
-
+-- ---- the next group
 abbrev parts : ℕ → ℕ → List Slot → List (Option ℕ) → List Move → GroupState
 parts generation p slots last moves = record { generation = generation; phase = Stable; partitions = p; slots = slots; last = last; moves = moves }
 
@@ -144,23 +81,20 @@ pub refused_answer : {A : Type 0} (g : GroupState) (x : A) (why : Refusal) → I
 refused_answer g x why (inl h) = inl (rw (h.0, h.1) refl)
 refused_answer g x why (inr h) = inr (ap (λ w. Err w) h)
 
-pub planned_answer : {A : Type 0} (g : GroupState) (x : A) (planned : Option Prepared) → IsPlanned g planned → Ok x ≡ unless_over g x
+pub planned_answer : {A : Type 0} (g : GroupState) (x : A) (planned : Option Completion) → IsPlanned g planned → Ok x ≡ unless_over g x
 planned_answer g x None e = rw e refl
-planned_answer g x (Some a) e = go (g.generation == last_generation) refl
+planned_answer g x (Some a) e = go (g.generation == LAST_GENERATION) refl
   where
-    go : (b : Bool) → (g.generation == last_generation) ≡ b → Ok x ≡ cond (is_ready g && b) (Err r.GenerationsOver) (Ok x)
+    go : (b : Bool) → (g.generation == LAST_GENERATION) ≡ b → Ok x ≡ cond (is_ready g && b) (Err r.GenerationsOver) (Ok x)
     go true is = absurd (less (g.generation) e.1 is)
       where
-        less : (n : ℕ) → n < last_generation → (n == last_generation) ≡ true → ⊥
+        less : (n : ℕ) → n < LAST_GENERATION → (n == LAST_GENERATION) ≡ true → ⊥
         less n lt is = grind (arith, nat_tests)
     go false is = go2 (is_ready g)
       where
         go2 : (c : Bool) → Ok x ≡ cond (c && false) (Err r.GenerationsOver) (Ok x)
         go2 true = refl
         go2 false = refl
-
-pub next_sound : (g : GroupState) → IsNext g → IsSound g
-next_sound g n = record { sized = n.sized; apart = n.apart; fit = n.fit }
 
 -- ---- joining
 pub used_answer : (g : GroupState) (name : List ℕ) → is_name_used g name ≡ true → Err r.NameUsed ≡ join_answer g name
@@ -172,11 +106,11 @@ le_is a b le = grind (arith, nat_tests)
 gt_is : (a b : ℕ) → b < a → nat_le a b ≡ false
 gt_is a b lt = grind (arith, nat_tests)
 
-pub many_answer : (g : GroupState) (name : List ℕ) → is_name_used g name ≡ false → most_members ≤ length g.slots → Err r.TooManyMembers ≡ join_answer g name
-many_answer g name e le = rw (e, le_is most_members (length g.slots) le) refl
+pub many_answer : (g : GroupState) (name : List ℕ) → is_name_used g name ≡ false → MOST_MEMBERS ≤ length g.slots → Err r.TooManyMembers ≡ join_answer g name
+many_answer g name e le = rw (e, le_is MOST_MEMBERS (length g.slots) le) refl
 
-pub join_go : (g : GroupState) (name : List ℕ) → is_name_used g name ≡ false → length g.slots < most_members → join_answer g name ≡ unless_over (joining g name) (length g.slots + 1)
-join_go g name e lt = rw (e, gt_is most_members (length g.slots) lt) refl
+pub join_go : (g : GroupState) (name : List ℕ) → is_name_used g name ≡ false → length g.slots < MOST_MEMBERS → join_answer g name ≡ unless_over (joining g name) (length g.slots + 1)
+join_go g name e lt = rw (e, gt_is MOST_MEMBERS (length g.slots) lt) refl
 
 -- ---- a group with other slots and another phase
 abbrev pub with_phase : GroupState → Phase → List Slot → GroupState
@@ -184,7 +118,7 @@ with_phase g phase slots = record g { slots = slots; phase = phase }
 
 -- ---- rejoining and leaving
 pub rejoin_go : (g : GroupState) (member generation : ℕ) (claim : PartitionSet) → rejoin_refusal g generation claim (member_of g member) ≡ None → rejoin_answer g member generation claim ≡ unless_over (rejoining g member) tt
-rejoin_go g member generation claim e = ap (λ o. unless_refused o (unless_over (rejoining g member) tt)) e
+rejoin_go g member generation claim e = ap (λ o. option_map_or Err o (unless_over (rejoining g member) tt)) e
 
 pub leave_go : (g : GroupState) (member : ℕ) → is_present g member ≡ true → leave_answer g member ≡ unless_over (leaving g member) tt
 leave_go g member e = rw e refl

@@ -10,8 +10,7 @@ use Rattle.sticky_assignor.specs.Assigned.{HaveRows}
 use Rattle.bit_planes.proofs.RowLaws.{put_last}
 use Rattle.group_machine.specs.declared.group.Slot.{Slot}
 use Rattle.group_machine.specs.declared.group.Seat.{Seat}
-use Rattle.group_machine.specs.Slots.{seat_in, seat_of, and_member, present_from, present, reseated_from}
-use Rattle.group_machine.specs.Walks.{granted_in}
+use Rattle.group_machine.specs.Slots.{seat_in, seat_of, and_member, present_from, present, reseated_from, granted_in}
 use Rattle.group_machine.proofs.SlotsLemmas.{slot_with, same_id, other_default}
 use Rattle.group_machine.proofs.MovesLemmas.{present_take}
 

@@ -1,5 +1,6 @@
 -- A cluster: a group of members, the logs they read, and the store of what they committed.
 use Rattle.std.specs.Prelude.{◌≡◌, ℕ, true, not, ◌==◌, List, [], ◌∷◌, ◌++◌, Result, Ok, Err, length, slice_index_or, if◌then◌else◌}
+use Rattle.std.specs.Result.{result_and}
 use Rattle.lane_words.specs.declared.Refusal.{Refusal}
 use Rattle.lane_words.specs.declared.Refusal.TheVariants as r
 use Rattle.bit_planes.specs.PartitionSet.{PartitionSet, is_in}
@@ -39,7 +40,7 @@ pub record ClusterState : Type 0 where
 abbrev pub without_room : Commits → Commits
 without_room s = record s { room = 0 }
 
--- What a cluster keeps: its group is good, its store is exact over its logs, all three have the same partitions, and each
+-- What a cluster keeps: its group is valid, its store is exact over its logs, all three have the same partitions, and each
 -- key has a counter
 pub record IsValidCluster (s : ClusterState) : Type 0 where
   pub good : IsValidGroup s.group
@@ -60,12 +61,9 @@ fence g c =
     else if not (is_in (granted_of g c.member) c.partition) then Err r.NotOwner
     else Ok tt
 
-abbrev pub and_then : {A : Type 0} → Result (Unit {0}) Refusal → Result A Refusal → Result A Refusal
-and_then (Ok _) answer = answer
-and_then (Err why) answer = Err why
-
 abbrev pub cluster_commit_answer : ClusterState → CommitTerms → Result ℕ Refusal
-cluster_commit_answer s c = and_then (fence s.group c) (commit_answer s.store s.logs c.partition c.from c.ids)
+cluster_commit_answer s c =
+    result_and (fence s.group c) (commit_answer s.store s.logs c.partition c.from c.ids)
 
 -- a commit is due: its member is present, of this generation, is granted the partition, and the store takes it
 pub record IsDue (s : ClusterState) (c : CommitTerms) : Type 0 where
@@ -81,19 +79,33 @@ committed_by s c = record s { store = with_commit s.store c.partition c.ids }
 -- ---- append
 -- a key that is new has a counter at 0
 abbrev pub with_counter_for : PartitionLogs → Key → Commits → Commits
-with_counter_for l key store = if is_known l.keys key then store else (record store { counts = store.counts ++ 0 ∷ [] })
+with_counter_for l key store =
+    if is_known l.keys key then store else (record store { counts = store.counts ++ 0 ∷ [] })
 
 -- one record more at the end of the log of its place, a counter at 0 for a new key, and all else as it was
 abbrev pub appended_to : ClusterState → Key → ClusterState
-appended_to s key = record s { logs = with_record s.logs key; store = with_counter_for s.logs key s.store }
+appended_to s key = record s {
+  logs = with_record s.logs key;
+  store = with_counter_for s.logs key s.store;
+}
+
+-- logs of a list of keys are afterwards those of the list with this key at its end
+abbrev pub GrowsBy : Key → PartitionLogs → PartitionLogs → Type 0
+GrowsBy key old new =
+    (appended : List Key) → AreLogsOf appended old → AreLogsOf (appended ++ key ∷ []) new
 
 -- ---- sync
 -- what a member is leased: what it is to keep, and the committed offsets
 abbrev pub lease_of : ClusterState → ℕ → LeaseTerms
-lease_of s member = record { member = member; generation = s.group.generation; assigned = assigned_of s.group member; starts = s.store.offsets }
+lease_of s member = record {
+  member = member;
+  generation = s.group.generation;
+  assigned = assigned_of s.group member;
+  starts = s.store.offsets;
+}
 
 abbrev pub cluster_sync_answer : ClusterState → ℕ → Result LeaseTerms Refusal
-cluster_sync_answer s member = and_then (sync_answer s.group member) (Ok (lease_of s member))
+cluster_sync_answer s member = result_and (sync_answer s.group member) (Ok (lease_of s member))
 
 -- a step of the group alone
 abbrev pub with_group : ClusterState → GroupState → ClusterState

@@ -1,21 +1,21 @@
 -- Completion: the next generation.
-use Rattle.std.specs.Prelude.{ℕ, ◌+◌, Bool, false, ◌&&◌, ◌++◌, ◌==◌, ◌-◌, ◌^◌, if◌then◌else◌}
-use Rattle.std.specs.List.{list_all}
+use Rattle.std.specs.Prelude.{ℕ, ◌+◌, Bool, false, ◌&&◌, ◌++◌, ◌==◌, if◌then◌else◌}
+use Rattle.lane_words.specs.declared.limits.TheConstants.{LAST_GENERATION}
 use Rattle.bit_planes.specs.PartitionSet.{union}
 use Rattle.bit_planes.specs.SetRows.{SetRows, set_of}
 use Rattle.coop_rebalance.specs.Rounds.{next_rows}
 use Rattle.group_machine.specs.declared.group.Seat.{Seat}
 use Rattle.group_machine.specs.declared.group.Phase.TheVariants.{Stable}
-use Rattle.group_machine.specs.Slots.{present, each_changed}
-use Rattle.group_machine.specs.State.{GroupState, is_anybody, granted_rows}
+use Rattle.group_machine.specs.Slots.{all_joined_in, is_ready_in, each_changed}
+use Rattle.group_machine.specs.State.{GroupState, granted_rows}
 use Rattle.group_machine.specs.Moves.{moves_to, last_after}
 
 abbrev pub all_joined : GroupState → Bool
-all_joined g = list_all (λ m. m.1.joined) (present g.slots)
+all_joined g = all_joined_in g.slots
 
 -- a completion comes where somebody is present and all who are have joined
 abbrev pub is_ready : GroupState → Bool
-is_ready g = is_anybody g && all_joined g
+is_ready g = is_ready_in g.slots
 
 -- a member keeps its row of the next assignment. What it is granted it may go on reading until it gives it up, and what
 -- it is to keep it is granted at once (KIP-429: kept partitions are read during a rebalance, a partition that moves is
@@ -43,13 +43,9 @@ completed_with g next = record {
 abbrev pub complete : GroupState → GroupState
 complete g = completed_with g (next_rows (granted_rows g))
 
--- the last generation
-abbrev pub last_generation : ℕ
-last_generation = 2 ^ 32 - 1
-
 -- a completion would pass the last generation
 abbrev pub is_over : GroupState → Bool
-is_over g = is_ready g && (g.generation == last_generation)
+is_over g = is_ready g && (g.generation == LAST_GENERATION)
 
 abbrev pub completed : GroupState → GroupState
 completed g = if is_ready g then complete g else g

@@ -1,18 +1,18 @@
 -- What a group keeps.
 use Rattle.std.specs.Prelude.{ℕ, ◌≡◌, ◌<◌, ◌≤◌, ◌↔◌, true, false, map, length, Some}
+use Rattle.lane_words.specs.declared.limits.TheConstants.{MOST_MEMBERS, MOST_PARTITIONS}
 use Rattle.bit_planes.specs.PartitionSet.{PartitionSet, partitions_of, is_in, is_within}
 use Rattle.sticky_assignor.specs.Balanced.{IsBalanced}
 use Rattle.group_machine.specs.declared.group.Seat.{Seat}
 use Rattle.group_machine.specs.declared.group.Phase.TheVariants.{Empty, Preparing, Stable}
 use Rattle.group_machine.specs.State.{GroupState, member_of, members, is_present, is_joined, granted_of, assigned_of, is_anybody, last_holder}
 use Rattle.group_machine.specs.Rounds.{is_settled}
-use Rattle.group_machine.specs.Steps.{most_members}
 
 -- 1 to 4096 partitions, up to 512 members over all, and a last holder or none for each partition
 pub record IsSized (g : GroupState) : Type 0 where
   pub some_partitions : 1 ≤ g.partitions
-  pub few_partitions : g.partitions ≤ 4096
-  pub few_members : length g.slots ≤ most_members
+  pub few_partitions : g.partitions ≤ MOST_PARTITIONS
+  pub few_members : length g.slots ≤ MOST_MEMBERS
   pub a_holder_each : length g.last ≡ g.partitions
 
 -- no partition is granted to two present members

@@ -1,14 +1,11 @@
-pub mod Changes
 pub mod Cluster
 pub mod Completion
 pub mod Good
-pub mod MembersLeft
 pub mod Moves
 pub mod Name
+pub mod Others
+pub mod Private
 pub mod Rounds
-pub mod GroupView
-pub mod ClusterView
 pub mod Slots
 pub mod State
 pub mod Steps
-pub mod Walks

@@ -1,28 +1,58 @@
 -- Moves: which partitions come to a member at a completion.
-use Rattle.std.specs.Prelude.{ℕ, ◌+◌, Bool, ◌&&◌, not, List, Option, Some, None, find, map, filter_map}
+use Rattle.std.specs.Prelude.{ℕ, ◌+◌, Bool, ◌&&◌, not, List, Option, None, find, map, filter_map, length, slice_index_or}
 use Rattle.std.specs.List.{range_with_len}
-use Rattle.std.specs.Option.{option_or}
-use Rattle.bit_planes.specs.PartitionSet.{is_in}
+use Rattle.std.specs.Option.{option_map, option_or}
+use Rattle.bit_planes.specs.PartitionSet.{PartitionSet, is_in}
 use Rattle.bit_planes.specs.SetRows.{SetRows, set_of}
 use Rattle.group_machine.specs.declared.group.Move.{Move}
-use Rattle.group_machine.specs.State.{GroupState, members, granted_of, last_holder}
+use Rattle.group_machine.specs.State.{GroupState, granted_of, granted_rows}
 
 -- a member takes a partition of its next row that it was not granted just before
 abbrev pub takes : GroupState → SetRows → ℕ → ℕ → Bool
 takes g next q member = is_in (set_of next member) q && not (is_in (granted_of g member) q)
 
+-- the member that takes a partition, if one does: it is in its next row, and not in the row granted
+abbrev pub taker_in : List (ℕ × PartitionSet) → SetRows → ℕ → Option ℕ
+taker_in granted next q =
+    option_map (λ row. row.0) (find (λ row. is_in (set_of next row.0) q && not (is_in row.1 q)) granted)
+
+-- who takes each partition
+abbrev pub takers_in : SetRows → SetRows → List (Option ℕ)
+takers_in granted next = map (taker_in granted.rows next) (range_with_len 0 granted.partitions)
+
 -- the present member that takes a partition, if one does
 abbrev pub taker : GroupState → SetRows → ℕ → Option ℕ
-taker g next q = find (takes g next q) (members g)
+taker g next q = taker_in (granted_rows g).rows next q
 
-abbrev pub move_by : GroupState → ℕ → Option ℕ → Option Move
-move_by g q None = None
-move_by g q (Some member) = Some (record { generation = g.generation + 1; partition = q; last = last_holder g q; holder = member })
+abbrev pub takers : GroupState → SetRows → List (Option ℕ)
+takers g next = takers_in (granted_rows g) next
 
--- one move for each partition that is taken, in rising order of partitions
-abbrev pub moves_to : GroupState → SetRows → List Move
-moves_to g next = filter_map (λ q. move_by g q (taker g next q)) (range_with_len 0 g.partitions)
+-- the move of a partition that was last granted to one member, and now to a holder
+abbrev pub move_of : ℕ → ℕ → Option ℕ → ℕ → Move
+move_of generation q last holder = record {
+  generation = generation;
+  partition = q;
+  last = last;
+  holder = holder;
+}
+
+-- one move for each partition that is taken, in rising order, by who takes it and who had it last
+abbrev pub moves_by : ℕ → List (Option ℕ) → List (Option ℕ) → List Move
+moves_by generation takers last =
+    filter_map
+    (λ q. option_map (move_of generation q (slice_index_or last q None)) (slice_index_or takers q None))
+    (range_with_len 0 (length takers))
 
 -- for each partition the member that takes it, or else the one that was last granted it before
+abbrev pub last_by : List (Option ℕ) → List (Option ℕ) → List (Option ℕ)
+last_by takers last =
+    map (λ q. option_or (slice_index_or takers q None) (slice_index_or last q None))
+    (range_with_len 0 (length last))
+
+-- the moves of a completion that gives these rows
+abbrev pub moves_to : GroupState → SetRows → List Move
+moves_to g next = moves_by (g.generation + 1) (takers g next) g.last
+
+-- the last holders after it
 abbrev pub last_after : GroupState → SetRows → List (Option ℕ)
-last_after g next = map (λ q. option_or (taker g next q) (last_holder g q)) (range_with_len 0 g.partitions)
+last_after g next = last_by (takers g next) g.last

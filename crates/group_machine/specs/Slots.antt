@@ -1,11 +1,14 @@
 -- Members by their numbers. Slot k is of member number k + 1: it has its name and, while the member is present, its seat.
-use Rattle.std.specs.Prelude.{ℕ, zero, suc, List, [], ◌∷◌, Option, Some, None, ◌==◌, slice_get, if◌then◌else◌}
+use Rattle.std.specs.Prelude.{ℕ, zero, suc, Bool, ◌&&◌, List, [], ◌∷◌, Option, Some, None, ◌==◌, is_some, map, find, slice_get, if◌then◌else◌}
+use Rattle.std.specs.List.{list_any, list_all}
+use Rattle.std.specs.Option.{option_map, option_and_then}
+use Rattle.bit_planes.specs.PartitionSet.{is_in}
+use Rattle.bit_planes.specs.SetRows.{SetRows}
 use Rattle.group_machine.specs.declared.group.Slot.{Slot}
 use Rattle.group_machine.specs.declared.group.Seat.{Seat}
 
 abbrev pub seat_in : Option Slot → Option Seat
-seat_in None = None
-seat_in (Some s) = s.seat
+seat_in slot = option_and_then (λ s. s.seat) slot
 
 -- the seat of a member, while it is present
 abbrev pub seat_of : List Slot → ℕ → Option Seat
@@ -25,25 +28,48 @@ present_from m (s ∷ slots) = and_member m s.seat (present_from (suc m) slots)
 abbrev pub present : List Slot → List (ℕ × Seat)
 present slots = present_from 1 slots
 
+-- the numbers of the present members, in rising order
+abbrev pub members_in : List Slot → List ℕ
+members_in slots = map (λ m. m.0) (present slots)
+
+-- what each present member is granted
+abbrev pub granted_in : ℕ → List Slot → SetRows
+granted_in partitions slots = record {
+  partitions = partitions;
+  rows = map (λ m. (m.0, m.1.granted)) (present slots);
+}
+
+-- the present member that is granted a partition
+abbrev pub owner_in : List Slot → ℕ → Option ℕ
+owner_in slots q = option_map (λ m. m.0) (find (λ m. is_in m.1.granted q) (present slots))
+
+-- somebody is present
+abbrev pub is_anybody_in : List Slot → Bool
+is_anybody_in slots = list_any (λ s. is_some s.seat) slots
+
+abbrev pub all_joined_in : List Slot → Bool
+all_joined_in slots = list_all (λ m. m.1.joined) (present slots)
+
+-- somebody is present, and all who are have joined
+abbrev pub is_ready_in : List Slot → Bool
+is_ready_in slots = is_anybody_in slots && all_joined_in slots
+
 -- the slots from number m on, each with the seat that f gives for its number and its seat
 abbrev pub reseated_from : ℕ → (ℕ → Option Seat → Option Seat) → List Slot → List Slot
 reseated_from m f [] = []
-reseated_from m f (s ∷ slots) = record { name = s.name; seat = f m s.seat } ∷ reseated_from (suc m) f slots
-
-abbrev pub on_seat : (Seat → Seat) → Option Seat → Option Seat
-on_seat f None = None
-on_seat f (Some seat) = Some (f seat)
+reseated_from m f (s ∷ slots) =
+    record { name = s.name; seat = f m s.seat } ∷ reseated_from (suc m) f slots
 
 abbrev pub only_of : ℕ → (Option Seat → Option Seat) → ℕ → Option Seat → Option Seat
 only_of member f m seat = if m == member then f seat else seat
 
 -- the slots with the seat of each present member changed
 abbrev pub each_changed : (ℕ → Seat → Seat) → List Slot → List Slot
-each_changed f slots = reseated_from 1 (λ m. on_seat (f m)) slots
+each_changed f slots = reseated_from 1 (λ m. option_map (f m)) slots
 
 -- the slots with the seat of one member changed, where it is present
 abbrev pub one_changed : (Seat → Seat) → List Slot → ℕ → List Slot
-one_changed f slots member = reseated_from 1 (only_of member (on_seat f)) slots
+one_changed f slots member = reseated_from 1 (only_of member (option_map f)) slots
 
 -- the slots with this seat, or none, for one member
 abbrev pub with_seat : List Slot → ℕ → Option Seat → List Slot

@@ -1,14 +1,14 @@
 -- What contracts see of a group.
-use Rattle.std.specs.Prelude.{ℕ, zero, suc, Bool, false, List, [], Option, Some, None, is_some, map, find, replicate, slice_index_or, slice_get}
-use Rattle.std.specs.List.{list_any}
-use Rattle.bit_planes.specs.PartitionSet.{PartitionSet, empty_set, is_in}
+use Rattle.std.specs.Prelude.{ℕ, zero, suc, Bool, false, List, [], Option, None, is_some, map, replicate, slice_index_or, slice_get}
+use Rattle.std.specs.Option.{option_map, option_map_or}
+use Rattle.bit_planes.specs.PartitionSet.{PartitionSet, empty_set}
 use Rattle.bit_planes.specs.SetRows.{SetRows}
 use Rattle.group_machine.specs.declared.group.Slot.{Slot}
 use Rattle.group_machine.specs.declared.group.Seat.{Seat}
 use Rattle.group_machine.specs.declared.group.Move.{Move}
 use Rattle.group_machine.specs.declared.group.Phase.{Phase}
 use Rattle.group_machine.specs.declared.group.Phase.TheVariants.{Empty}
-use Rattle.group_machine.specs.Slots.{seat_of, present}
+use Rattle.group_machine.specs.Slots.{seat_of, present, members_in, granted_in, owner_in, is_anybody_in}
 
 -- A group: its generation, its phase, how many partitions there are, the members by their numbers, for each partition
 -- the member that was last granted it, and the moves so far
@@ -22,7 +22,14 @@ pub record GroupState : Type 0 where
 
 -- nobody has joined
 abbrev pub opening : ℕ → GroupState
-opening partitions = record { generation = 0; phase = Empty; partitions = partitions; slots = []; last = replicate partitions None; moves = [] }
+opening partitions = record {
+  generation = 0;
+  phase = Empty;
+  partitions = partitions;
+  slots = [];
+  last = replicate partitions None;
+  moves = [];
+}
 
 -- the one look-up: a member's seat, nothing where it is not present
 abbrev pub member_of : GroupState → ℕ → Option Seat
@@ -33,18 +40,16 @@ is_present g member = is_some (member_of g member)
 
 -- the numbers of the present members, in rising order
 abbrev pub members : GroupState → List ℕ
-members g = map (λ m. m.0) (present g.slots)
+members g = members_in g.slots
 
 abbrev pub is_anybody : GroupState → Bool
-is_anybody g = list_any (λ s. is_some s.seat) g.slots
+is_anybody g = is_anybody_in g.slots
 
 abbrev pub seat_joined : Option Seat → Bool
-seat_joined None = false
-seat_joined (Some seat) = seat.joined
+seat_joined seat = option_map_or (λ s. s.joined) seat false
 
 abbrev pub seat_synced : Option Seat → Bool
-seat_synced None = false
-seat_synced (Some seat) = seat.synced
+seat_synced seat = option_map_or (λ s. s.synced) seat false
 
 -- the flags of a member; those of one that is not present are false
 abbrev pub is_joined : GroupState → ℕ → Bool
@@ -54,12 +59,10 @@ abbrev pub is_synced : GroupState → ℕ → Bool
 is_synced g member = seat_synced (member_of g member)
 
 abbrev pub seat_granted : ℕ → Option Seat → PartitionSet
-seat_granted partitions None = empty_set partitions
-seat_granted partitions (Some seat) = seat.granted
+seat_granted partitions seat = option_map_or (λ s. s.granted) seat (empty_set partitions)
 
 abbrev pub seat_assigned : ℕ → Option Seat → PartitionSet
-seat_assigned partitions None = empty_set partitions
-seat_assigned partitions (Some seat) = seat.assigned
+seat_assigned partitions seat = option_map_or (λ s. s.assigned) seat (empty_set partitions)
 
 -- what a member may read and commit; nothing where it is not present
 abbrev pub granted_of : GroupState → ℕ → PartitionSet
@@ -71,27 +74,26 @@ assigned_of g member = seat_assigned g.partitions (member_of g member)
 
 -- what each present member is granted
 abbrev pub granted_rows : GroupState → SetRows
-granted_rows g = record { partitions = g.partitions; rows = map (λ m. (m.0, m.1.granted)) (present g.slots) }
+granted_rows g = granted_in g.partitions g.slots
 
 -- what each present member is to keep
 abbrev pub assigned_rows : GroupState → SetRows
-assigned_rows g = record { partitions = g.partitions; rows = map (λ m. (m.0, m.1.assigned)) (present g.slots) }
+assigned_rows g = record {
+  partitions = g.partitions;
+  rows = map (λ m. (m.0, m.1.assigned)) (present g.slots);
+}
 
 -- the present member that is granted a partition
 abbrev pub owner_of : GroupState → ℕ → Option ℕ
-owner_of g q = find (λ m. is_in (granted_of g m) q) (members g)
+owner_of g q = owner_in g.slots q
 
 -- the member that was last granted a partition, present or not
 abbrev pub last_holder : GroupState → ℕ → Option ℕ
 last_holder g q = slice_index_or g.last q None
 
-abbrev pub name_in : Option Slot → Option (List ℕ)
-name_in None = None
-name_in (Some s) = Some s.name
-
 abbrev pub name_at : List Slot → ℕ → Option (List ℕ)
 name_at slots zero = None
-name_at slots (suc k) = name_in (slice_get slots k)
+name_at slots (suc k) = option_map (λ s. s.name) (slice_get slots k)
 
 -- the name of a member that was given a number, present or not
 abbrev pub name_of : GroupState → ℕ → Option (List ℕ)

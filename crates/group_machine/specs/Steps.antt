@@ -1,21 +1,21 @@
--- The steps of a group. Each answers what its table of refusals says, in the table's order, and a refused one changes nothing.
-use Rattle.std.specs.Prelude.{ℕ, ◌+◌, Bool, true, false, not, ◌&&◌, ◌==◌, List, [], ◌∷◌, ◌++◌, Option, Some, None, Result, Ok, Err, length, nat_le, is_some, if◌then◌else◌}
+-- The steps of a group. Each answers what its table of refusals says, in the table's order, and a
+-- refused one changes nothing.
+use Rattle.std.specs.Prelude.{ℕ, ◌+◌, Bool, true, false, not, ◌&&◌, ◌==◌, List, [], ◌∷◌, ◌++◌, Option, Some, None, Result, Ok, Err, length, nat_le, if◌then◌else◌}
 use Rattle.std.specs.List.{list_any}
+use Rattle.std.specs.Option.{option_map_or}
 use Rattle.std.specs.Str.{bytes_eq}
+use Rattle.lane_words.specs.declared.limits.TheConstants.{MOST_MEMBERS}
 use Rattle.lane_words.specs.declared.Refusal.{Refusal}
 use Rattle.lane_words.specs.declared.Refusal.TheVariants as r
 use Rattle.bit_planes.specs.PartitionSet.{PartitionSet, empty_set, is_same}
 use Rattle.group_machine.specs.declared.group.Seat.{Seat}
 use Rattle.group_machine.specs.declared.group.Slot.{Slot}
+use Rattle.group_machine.specs.declared.group.Phase.{Phase}
 use Rattle.group_machine.specs.declared.group.Phase.TheVariants.{Empty, Preparing}
-use Rattle.group_machine.specs.Slots.{one_changed, without_seat}
+use Rattle.group_machine.specs.Slots.{is_anybody_in, one_changed, without_seat}
 use Rattle.group_machine.specs.State.{GroupState, member_of, is_present}
 use Rattle.group_machine.specs.Completion.{is_over, completed}
 use Rattle.group_machine.specs.Rounds.{is_stable, agrees}
-
--- the most members of a group over its time
-abbrev pub most_members : ℕ
-most_members = 512
 
 -- the answer of a step, unless its completion would pass the last generation
 abbrev pub unless_over : {A : Type 0} → GroupState → A → Result A Refusal
@@ -26,18 +26,29 @@ abbrev pub is_name_used : GroupState → List ℕ → Bool
 is_name_used g name = list_any (λ s. bytes_eq s.name name) g.slots
 
 -- a member that joins is granted nothing yet
+abbrev pub new_seat : ℕ → Seat
+new_seat partitions = record {
+  joined = true;
+  synced = false;
+  granted = empty_set partitions;
+  assigned = empty_set partitions;
+}
+
 abbrev pub newcomer : ℕ → List ℕ → Slot
-newcomer partitions name = record { name = name; seat = Some (record { joined = true; synced = false; granted = empty_set partitions; assigned = empty_set partitions }) }
+newcomer partitions name = record { name = name; seat = Some (new_seat partitions) }
 
 -- the group with one member more, before a completion
 abbrev pub joining : GroupState → List ℕ → GroupState
-joining g name = record g { slots = g.slots ++ newcomer g.partitions name ∷ []; phase = Preparing }
+joining g name = record g {
+  slots = g.slots ++ newcomer g.partitions name ∷ [];
+  phase = Preparing;
+}
 
 -- the member's number, which is the next one
 abbrev pub join_answer : GroupState → List ℕ → Result ℕ Refusal
 join_answer g name =
     if is_name_used g name then Err r.NameUsed
-    else if nat_le most_members (length g.slots) then Err r.TooManyMembers
+    else if nat_le MOST_MEMBERS (length g.slots) then Err r.TooManyMembers
     else unless_over (joining g name) (length g.slots + 1)
 
 abbrev pub joined_by : GroupState → List ℕ → GroupState
@@ -46,11 +57,19 @@ joined_by g name = completed (joining g name)
 -- ---- rejoin
 -- what it was not to keep it gives up
 abbrev pub rejoined_seat : Seat → Seat
-rejoined_seat seat = record { joined = true; synced = seat.synced; granted = seat.assigned; assigned = seat.assigned }
+rejoined_seat seat = record {
+  joined = true;
+  synced = seat.synced;
+  granted = seat.assigned;
+  assigned = seat.assigned;
+}
 
 -- the group with this member joined again, before a completion
 abbrev pub rejoining : GroupState → ℕ → GroupState
-rejoining g member = record g { slots = one_changed rejoined_seat g.slots member; phase = Preparing }
+rejoining g member = record g {
+  slots = one_changed rejoined_seat g.slots member;
+  phase = Preparing;
+}
 
 -- why a rejoin is refused, but for the last generation
 abbrev pub rejoin_refusal : GroupState → ℕ → PartitionSet → Option Seat → Option Refusal
@@ -63,19 +82,22 @@ rejoin_refusal g generation claim (Some seat) =
     else if not (is_same claim seat.assigned) then Some r.ClaimDiffers
     else None
 
-abbrev pub unless_refused : {A : Type 0} → Option Refusal → Result A Refusal → Result A Refusal
-unless_refused None answer = answer
-unless_refused (Some why) answer = Err why
-
 abbrev pub rejoin_answer : GroupState → ℕ → ℕ → PartitionSet → Result (Unit {0}) Refusal
-rejoin_answer g member generation claim = unless_refused (rejoin_refusal g generation claim (member_of g member)) (unless_over (rejoining g member) tt)
+rejoin_answer g member generation claim =
+    option_map_or Err (rejoin_refusal g generation claim (member_of g member))
+    (unless_over (rejoining g member) tt)
 
 abbrev pub rejoined_by : GroupState → ℕ → GroupState
 rejoined_by g member = completed (rejoining g member)
 
 -- ---- sync
 abbrev pub synced_seat : Seat → Seat
-synced_seat seat = record { joined = seat.joined; synced = true; granted = seat.granted; assigned = seat.assigned }
+synced_seat seat = record {
+  joined = seat.joined;
+  synced = true;
+  granted = seat.granted;
+  assigned = seat.assigned;
+}
 
 abbrev pub sync_seat_answer : Option Seat → Result (Unit {0}) Refusal
 sync_seat_answer None = Err r.UnknownMember
@@ -88,15 +110,19 @@ abbrev pub synced_by : GroupState → ℕ → GroupState
 synced_by g member = record g { slots = one_changed synced_seat g.slots member }
 
 -- ---- leave and lose, which are one
+abbrev pub phase_left : List Slot → Phase
+phase_left slots = if is_anybody_in slots then Preparing else Empty
+
 -- what is left of a group, before a completion
 abbrev pub left : GroupState → List Slot → GroupState
-left g slots = record g { slots = slots; phase = if list_any (λ s. is_some s.seat) slots then Preparing else Empty }
+left g slots = record g { slots = slots; phase = phase_left slots }
 
 abbrev pub leaving : GroupState → ℕ → GroupState
 leaving g member = left g (without_seat g.slots member)
 
 abbrev pub leave_answer : GroupState → ℕ → Result (Unit {0}) Refusal
-leave_answer g member = if is_present g member then unless_over (leaving g member) tt else Err r.UnknownMember
+leave_answer g member =
+    if is_present g member then unless_over (leaving g member) tt else Err r.UnknownMember
 
 abbrev pub left_by : GroupState → ℕ → GroupState
 left_by g member = completed (leaving g member)

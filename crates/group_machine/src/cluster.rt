@@ -2,17 +2,18 @@
 
 ghost use Rattle.std.specs.Prelude.{◌≡◌, ◌+◌, ◌≤◌, ℕ, [], Ok, Some, None, MatchOption, IfOk, IfSome, OnOk, OnErr, is_some, length};
 ghost use Rattle.lane_words.specs.Answers.{Answers};
-ghost use Rattle.group_machine.specs.State.{GroupState, assigned_of, granted_of, is_joined, is_present, is_synced, members, name_of, opening, owner_of};
+ghost use Rattle.partition_log.specs.Logs.{place_in};
+ghost use Rattle.group_machine.specs.State.{GroupState, assigned_of, granted_of, is_joined, is_present, is_synced, member_of, members, name_of, opening, owner_of};
 ghost use Rattle.group_machine.specs.Steps.{join_answer, joined_by, leave_answer, left_by, rejoin_answer, rejoined_by, synced_by};
 ghost use Rattle.group_machine.specs.Rounds.{is_settled};
-ghost use Rattle.group_machine.specs.Cluster.{AreLogsOf, ClusterState, IsDue, IsValidCluster, append_answer, appended_to, cluster_commit_answer, cluster_sync_answer, committed_at, committed_by, fence, with_group, without_room};
+ghost use Rattle.group_machine.specs.Cluster.{AreLogsOf, ClusterState, GrowsBy, IsDue, IsValidCluster, append_answer, appended_to, cluster_commit_answer, cluster_sync_answer, committed_at, committed_by, fence, with_group, without_room};
 
 use crate::commit::{Commit, Lease};
-use crate::group::{Group, Members, Move, Phase};
+use crate::group::{Group, Members, Move, Phase, Seat, members, slots};
 use crate::name::Name;
 use bit_planes::Plane;
 use commit_store::Store;
-use lane_words::{Memory, Refusal};
+use lane_words::{MOST_PARTITIONS, Memory, Refusal};
 use partition_log::{LogRead, Logs};
 use std::alloc::Global;
 use std::marker::Model;
@@ -33,7 +34,7 @@ pub struct Cluster {
 
 impl Model for Cluster {
     ghost use Rattle.group_machine.specs.Cluster.{ClusterState};
-    ghost use Rattle.group_machine.specs.ClusterView.{IsValidClusterInside, cluster_view};
+    ghost use Rattle.group_machine.specs.Private.ClusterView.{IsValidClusterInside, cluster_view};
 
     ghost Value = { ClusterState };
 
@@ -46,7 +47,7 @@ impl Cluster {
     /// A cluster of 1 to 4096 partitions, with nobody present and nothing appended. Refused for want of memory, or where
     /// the random source fails, from which the hasher of the keys is drawn.
     pub fn new(rt: &impl RandomSource, alloc: Global, partitions: u32) -> Result<Cluster, Memory>
-        requires { (1 ≤ partitions) × (partitions ≤ 4096) }
+        requires { (1 ≤ partitions) × (partitions ≤ MOST_PARTITIONS) }
         ensures group { IfOk result (λ cluster. cluster.group ≡ opening partitions) }
         ensures logs { IfOk result (λ cluster. AreLogsOf [] cluster.logs) }
         ensures counters { IfOk result (λ cluster. cluster.store.counts ≡ []) }
@@ -147,17 +148,33 @@ impl Cluster {
         )
     }
 
-    /// Appends a record of this key to the log of its place, and answers the partition and the record's offset. A new key
-    /// gets a counter at 0.
+    /// Appends a record of this key to the log of its place, and answers the partition and the
+    /// record's offset. A new key gets a counter at 0.
     ///
-    /// Refused, with everything as it was, as `Logs::append` is: `KeyTooLong`, `LogFull`, and for want of memory.
+    /// Refused, with everything as it was, as `Logs::append` is: `KeyTooLong`, `LogFull`, and for want
+    /// of memory.
     pub fn append(&mut self, key: &[u8]) -> Result<(u32, u32), Refusal>
         ensures answer { Answers (append_answer self.old.logs key.now) result }
         ensures ok { OnOk result (self.new ≡ appended_to self.old key.now) }
         ensures err { OnErr result (self.new ≡ self.old) }
+        ensures valid { OnOk result (IsValidCluster self.new) }
+        ensures history { OnOk result (GrowsBy key.now self.old.logs self.new.logs) }
+    {
+        let place = self.logs.place_of(key);
+        self.append_at(place, key)
+    }
+
+    /// The same, where the key's place is known.
+    pub fn append_at(&mut self, place: u32, key: &[u8]) -> Result<(u32, u32), Refusal>
+        requires { place ≡ place_in self.old.logs key.now }
+        ensures answer { Answers (append_answer self.old.logs key.now) result }
+        ensures ok { OnOk result (self.new ≡ appended_to self.old key.now) }
+        ensures err { OnErr result (self.new ≡ self.old) }
+        ensures valid { OnOk result (IsValidCluster self.new) }
+        ensures history { OnOk result (GrowsBy key.now self.old.logs self.new.logs) }
     {
         self.store.reserve_key()?;
-        let at = self.logs.append(key)?;
+        let at = self.logs.append_at(place, key)?;
         if self.store.keys() < self.logs.keys() as usize {
             self.store.add_key();
         }
@@ -168,14 +185,14 @@ impl Cluster {
     pub fn generation(&self) -> u32
         ensures { result ≡ self.now.group.generation }
     {
-        self.group.generation()
+        self.group.generation
     }
 
     /// Whether the group is empty, prepares a generation or is stable.
     pub fn phase(&self) -> Phase
         ensures { result ≡ self.now.group.phase }
     {
-        self.group.phase()
+        self.group.phase
     }
 
     /// How many partitions there are.
@@ -190,21 +207,21 @@ impl Cluster {
     pub fn is_present(&self, member: u32) -> bool
         ensures { result ≡ is_present self.now.group member }
     {
-        self.group.seat(member).is_some()
+        self.seat(member).is_some()
     }
 
     /// Whether a member has joined the rebalance that is to come; false where it is not present.
     pub fn is_joined(&self, member: u32) -> bool
         ensures { result ≡ is_joined self.now.group member }
     {
-        self.group.seat(member).is_some_and(|seat| seat.joined)
+        self.seat(member).is_some_and(|seat| seat.joined)
     }
 
     /// Whether a member has synced since the last completion; false where it is not present.
     pub fn is_synced(&self, member: u32) -> bool
         ensures { result ≡ is_synced self.now.group member }
     {
-        self.group.seat(member).is_some_and(|seat| seat.synced)
+        self.seat(member).is_some_and(|seat| seat.synced)
     }
 
     /// What a member may read and commit; nothing where it is not present.
@@ -212,7 +229,7 @@ impl Cluster {
         ensures present { is_some result ≡ is_present self.now.group member }
         ensures granted { IfSome result (λ plane. plane.now ≡ granted_of self.now.group member) }
     {
-        let seat = self.group.seat(member)?;
+        let seat = self.seat(member)?;
         Some(&seat.granted)
     }
 
@@ -221,7 +238,7 @@ impl Cluster {
         ensures present { is_some result ≡ is_present self.now.group member }
         ensures assigned { IfSome result (λ plane. plane.now ≡ assigned_of self.now.group member) }
     {
-        let seat = self.group.seat(member)?;
+        let seat = self.seat(member)?;
         Some(&seat.assigned)
     }
 
@@ -229,28 +246,28 @@ impl Cluster {
     pub fn owner(&self, partition: u32) -> Option<u32>
         ensures { result ≡ owner_of self.now.group partition }
     {
-        self.group.owner(partition)
+        members::owner_of(&self.group.slots, partition)
     }
 
     /// The name of each member that was given a number, present or not.
     pub fn name(&self, member: u32) -> Option<&Name>
         ensures { MatchOption result (name_of self.now.group member ≡ None) (λ name. name_of self.now.group member ≡ Some name.now) }
     {
-        self.group.name(member)
+        members::name_of(&self.group.slots, member)
     }
 
     /// The numbers of the present members, in rising order.
     pub fn members(&self) -> Members<'_>
         ensures { result ≡ members self.now.group }
     {
-        self.group.members()
+        Members::new(&self.group.slots)
     }
 
     /// The moves so far, in order.
     pub fn moves(&self) -> &[Move]
         ensures { result.now ≡ self.now.group.moves }
     {
-        self.group.moves()
+        &self.group.moves
     }
 
     /// Whether the group is stable, and nobody has anything to give up.
@@ -276,6 +293,13 @@ impl Cluster {
         &self.store
     }
 
+    /// What a member has, while it is present.
+    fn seat(&self, member: u32) -> Option<&Seat>
+        ensures { MatchOption result (member_of self.now.group member ≡ None) (λ seat. member_of self.now.group member ≡ Some seat.now) }
+    {
+        slots::seat_of(&self.group.slots, member)
+    }
+
     /// What a member is leased, or why it is not.
     fn lease(&self, member: u32) -> Result<Lease, Refusal>
         ensures { Answers (cluster_sync_answer self.now member) result }
@@ -284,7 +308,7 @@ impl Cluster {
         let starts = Vec::from_slice(self.alloc, self.store.offsets())?;
         Ok(Lease {
             member,
-            generation: self.group.generation(),
+            generation: self.group.generation,
             assigned,
             starts,
         })
@@ -294,10 +318,10 @@ impl Cluster {
     fn may_commit(&self, commit: &Commit) -> Result<(), Refusal>
         ensures { result ≡ fence self.now.group commit.now }
     {
-        let Some(seat) = self.group.seat(commit.member()) else {
+        let Some(seat) = self.seat(commit.member()) else {
             return Err(Refusal::UnknownMember);
         };
-        if commit.generation() != self.group.generation() {
+        if commit.generation() != self.group.generation {
             return Err(Refusal::StaleGeneration);
         }
         if !seat.granted.contains(commit.partition()) {

@@ -1,26 +1,31 @@
-//! The group of members.
+//! The group of members, and its steps.
 
-ghost use Rattle.std.specs.Prelude.{◌≡◌, ◌≤◌, Ok, Err, Some, None, is_some, true, IfOk, IfErr, IfSome, OnOk, OnErr, MatchOption};
+ghost use Rattle.std.specs.Prelude.{◌≡◌, ◌+◌, ◌<◌, ◌≤◌, ℕ, List, true, length, IfOk, IfErr, OnOk, OnErr, Ok, Err, Some, None};
+ghost use Rattle.std.specs.Vec.{vec_len, vec_capacity};
 ghost use Rattle.lane_words.specs.Answers.{Answers};
-ghost use Rattle.group_machine.specs.State.{assigned_of, is_present, member_of, members, name_of, opening, owner_of};
-ghost use Rattle.group_machine.specs.Rounds.{is_settled};
-ghost use Rattle.group_machine.specs.Steps.{join_answer, joined_by, rejoin_answer, rejoined_by, sync_answer, synced_by, leave_answer, left_by};
+ghost use Rattle.bit_planes.specs.PartitionSet.{is_same};
+ghost use Rattle.group_machine.specs.State.{assigned_of, opening, is_present, member_of, is_anybody};
+ghost use Rattle.group_machine.specs.Completion.{complete, completed};
+ghost use Rattle.group_machine.specs.Rounds.{is_settled, is_stable};
+ghost use Rattle.group_machine.specs.Steps.{newcomer, join_answer, joined_by, rejoin_refusal, rejoin_answer, rejoined_by, sync_answer, synced_by, leave_answer, left_by};
 ghost use Rattle.group_machine.specs.Good.{IsValidGroup};
+ghost use Rattle.group_machine.specs.Private.Changes.{after, IsChanged, IsCompletion, IsPlanned, IsRefused};
+ghost use Rattle.group_machine.specs.Private.GroupView.{group_view};
+ghost use Rattle.group_machine.specs.declared.group.completion.Completion.{Completion};
 
 mod change;
 mod completion;
-mod members;
+pub mod members;
 mod moves;
-mod slots;
-mod table;
+pub mod slots;
 
 use crate::Name;
 use bit_planes::Plane;
-use lane_words::{Memory, Refusal};
+use change::Change;
+use completion::Completion;
+use lane_words::{LAST_GENERATION, MOST_MEMBERS, MOST_PARTITIONS, Memory, Refusal};
 pub use members::Members;
 use std::alloc::Global;
-use std::marker::Model;
-use table::Table;
 
 /// Whether a group is empty, prepares a generation or is stable.
 #[derive(Clone, Copy, Debug, PartialEq, Eq)]
@@ -62,158 +67,278 @@ pub struct Seat {
 /// A member number that was given: its name, and its seat while it is present.
 #[derive(Drop)]
 pub struct Slot {
+    /// Its name, which nobody else ever has.
     pub name: Name,
+    /// What it has, while it is present.
     pub seat: Option<Seat>,
 }
 
 /// The group of members: who is present, what each may read, and what each is to keep.
 ///
-/// Its steps are those of Kafka's cooperative rebalancing (KIP-429): a member that joins is given nothing that another
-/// still holds, and a partition moves once its holder has rejoined without it.
+/// Its steps are those of Kafka's cooperative rebalancing (KIP-429): a member that joins is given
+/// nothing that another still holds, and a partition moves once its holder has rejoined without it.
+/// What a valid group is the steps ask for and leave; the cluster, which has the one group, keeps it.
 #[derive(Drop)]
-pub(crate) struct Group {
-    table: Table,
-}
-
-impl Model for Group {
-    ghost use Rattle.group_machine.specs.State.{GroupState};
-    ghost use Rattle.group_machine.specs.GroupView.{group_view, IsValidGroupInside};
-
-    ghost Value = { GroupState };
-
-    ghost view = { group_view };
-
-    ghost invariant = { IsValidGroupInside };
+pub struct Group {
+    /// The generation: 0 until the first completion.
+    pub generation: u32,
+    /// Whether it is empty, prepares a generation or is stable.
+    pub phase: Phase,
+    /// How many partitions there are.
+    pub partitions: u32,
+    /// The members by their numbers: slot k is of member k + 1.
+    pub slots: Vec<Slot>,
+    /// The member that was last granted each partition.
+    pub last: Vec<Option<u32>>,
+    /// The moves so far, in order.
+    pub moves: Vec<Move>,
 }
 
 impl Group {
-    /// A group of `p` partitions, 1 to 4096, that nobody has joined. Refused for want of memory alone.
-    pub(crate) fn new(alloc: Global, partitions: u32) -> Result<Group, Memory>
-        requires { (1 ≤ partitions) × (partitions ≤ 4096) }
-        ensures { IfOk result (λ g. g ≡ opening partitions) }
+    /// A group that nobody has joined. Refused for want of memory alone.
+    pub fn new(alloc: Global, partitions: u32) -> Result<Group, Memory>
+        requires { (1 ≤ partitions) × (partitions ≤ MOST_PARTITIONS) }
+        ensures opening { IfOk result (λ g. group_view g ≡ opening partitions) }
     {
         Ok(Group {
-            table: Table::new(alloc, partitions)?,
+            generation: 0,
+            phase: Phase::Empty,
+            partitions: partitions,
+            slots: Vec::new(alloc),
+            last: vec![in alloc; None; partitions as usize]?,
+            moves: Vec::new(alloc),
         })
     }
 
-    /// A member joins under a name that was never used, and is answered its number: 1 for the first, then one more for
-    /// each. Where it is alone, or all others have joined, the next generation is completed.
-    ///
-    /// Refused, with everything as it was: a name that was used (`NameUsed`); where the group has had its 512 members
-    /// (`TooManyMembers`); a completion past generation 4,294,967,295 (`GenerationsOver`); want of memory.
-    pub(crate) fn join(&mut self, alloc: Global, name: Name) -> Result<u32, Refusal>
-        ensures answer { Answers (join_answer self.old name) result }
-        ensures ok { OnOk result (self.new ≡ joined_by self.old name) }
-        ensures err { OnErr result (self.new ≡ self.old) }
+    /// A member joins under a name that was never used, and is answered its number: 1 for the first,
+    /// then one more for each.
+    pub fn join(&mut self, alloc: Global, name: Name) -> Result<u32, Refusal>
+        requires { IsValidGroup (group_view self.old) }
+        ensures answer { Answers (join_answer (group_view self.old) name) result }
+        ensures ok { OnOk result (group_view self.new ≡ joined_by (group_view self.old) name) }
+        ensures err { OnErr result (group_view self.new ≡ group_view self.old) }
+        ensures valid { IsValidGroup (group_view self.new) }
     {
-        self.table.join(alloc, name)
+        if slots::is_used(&self.slots, &name) {
+            return Err(Refusal::NameUsed);
+        }
+        if self.slots.len() >= MOST_MEMBERS {
+            return Err(Refusal::TooManyMembers);
+        }
+        let number = self.slots.len() as u32 + 1;
+        let planned = self.plan_completion(alloc, Change::Joins)?;
+        self.slots.reserve(1)?;
+        self.slots.push_reserved(newcomer(self.partitions, name));
+        self.phase = Phase::Preparing;
+        self.complete(planned);
+        Ok(number)
     }
 
-    /// A member gives up what it is not to keep, with a claim of what it keeps. Where all who are present have joined,
-    /// the next generation is completed.
-    ///
-    /// Refused, with everything as it was, by the first of these that holds: the member is not present
-    /// (`UnknownMember`); the generation is not the present one (`StaleGeneration`); it has joined (`AlreadyJoined`);
-    /// it has not synced (`SyncFirst`); the group is stable and it has nothing to give up (`NothingToGive`); the claim
-    /// is not what it is assigned, as each claim of another P (`ClaimDiffers`); a completion past the last generation
-    /// (`GenerationsOver`); want of memory.
-    pub(crate) fn rejoin(
+    /// A member gives up what it is not to keep, with a claim of what it keeps, and joins.
+    pub fn rejoin(
         &mut self,
         alloc: Global,
         member: u32,
         generation: u32,
         claim: &Plane,
     ) -> Result<(), Refusal>
-        ensures answer { Answers (rejoin_answer self.old member generation claim.now) result }
-        ensures ok { OnOk result (self.new ≡ rejoined_by self.old member) }
-        ensures err { OnErr result (self.new ≡ self.old) }
+        requires { IsValidGroup (group_view self.old) }
+        ensures answer { Answers (rejoin_answer (group_view self.old) member generation claim.now) result }
+        ensures ok { OnOk result (group_view self.new ≡ rejoined_by (group_view self.old) member) }
+        ensures err { OnErr result (group_view self.new ≡ group_view self.old) }
+        ensures valid { IsValidGroup (group_view self.new) }
     {
-        self.table.rejoin(alloc, member, generation, claim)
+        if let Some(why) = self.why_no_rejoin(member, generation, claim) {
+            return Err(why);
+        }
+        let planned = self.plan_completion(alloc, Change::Rejoins(member))?;
+        slots::rejoin(&mut self.slots, member);
+        self.phase = Phase::Preparing;
+        self.complete(planned);
+        Ok(())
     }
 
-    /// What a member is to keep, where it may sync. Refused: a member that is not present (`UnknownMember`), and one that
-    /// has joined (`RebalanceInProgress`).
-    pub(crate) fn leasable(&self, member: u32) -> Result<&Plane, Refusal>
-        ensures may { IfOk result (λ assigned. (sync_answer self.now member ≡ Ok tt) × (assigned.now ≡ assigned_of self.now member) × (is_present self.now member ≡ true)) }
-        ensures refused { IfErr result (λ why. sync_answer self.now member ≡ Err why) }
+    /// What a member is to keep, where it may sync.
+    pub fn leasable(&self, member: u32) -> Result<&Plane, Refusal>
+        ensures may { IfOk result (λ assigned. (sync_answer (group_view self.now) member ≡ Ok tt) × (assigned.now ≡ assigned_of (group_view self.now) member) × (is_present (group_view self.now) member ≡ true)) }
+        ensures refused { IfErr result (λ why. sync_answer (group_view self.now) member ≡ Err why) }
     {
-        self.table.leasable(member)
+        let Some(seat) = slots::seat_of(&self.slots, member) else {
+            return Err(Refusal::UnknownMember);
+        };
+        if seat.joined {
+            return Err(Refusal::RebalanceInProgress);
+        }
+        Ok(&seat.assigned)
     }
 
     /// A present member has learnt what it is to keep.
-    pub(crate) fn mark_synced(&mut self, member: u32)
-        requires { is_present self.old member ≡ true }
-        ensures { self.new ≡ synced_by self.old member }
+    pub fn mark_synced(&mut self, member: u32)
+        requires here { is_present (group_view self.old) member ≡ true }
+        requires valid { IsValidGroup (group_view self.old) }
+        ensures synced { group_view self.new ≡ synced_by (group_view self.old) member }
+        ensures valid { IsValidGroup (group_view self.new) }
     {
-        self.table.mark_synced(member);
+        slots::mark_synced(&mut self.slots, member);
     }
 
-    /// A member leaves, or is lost, which is the same: it is taken out with its sets. Where all who are left have
-    /// joined, the next generation is completed.
-    ///
-    /// Refused, with everything as it was: a member that is not present (`UnknownMember`); a completion past the last
-    /// generation (`GenerationsOver`); want of memory.
-    pub(crate) fn leave(&mut self, alloc: Global, member: u32) -> Result<(), Refusal>
-        ensures answer { Answers (leave_answer self.old member) result }
-        ensures ok { OnOk result (self.new ≡ left_by self.old member) }
-        ensures err { OnErr result (self.new ≡ self.old) }
+    /// A member leaves, or is lost, which is the same: it is taken out with its sets.
+    pub fn leave(&mut self, alloc: Global, member: u32) -> Result<(), Refusal>
+        requires { IsValidGroup (group_view self.old) }
+        ensures answer { Answers (leave_answer (group_view self.old) member) result }
+        ensures ok { OnOk result (group_view self.new ≡ left_by (group_view self.old) member) }
+        ensures err { OnErr result (group_view self.new ≡ group_view self.old) }
+        ensures valid { IsValidGroup (group_view self.new) }
     {
-        self.table.leave(alloc, member)
-    }
-
-    /// The generation: 0 until the first completion.
-    pub(crate) fn generation(&self) -> u32
-        ensures { result ≡ self.now.generation }
-    {
-        self.table.generation
-    }
-
-    pub(crate) fn phase(&self) -> Phase
-        ensures { result ≡ self.now.phase }
-    {
-        self.table.phase
-    }
-
-    /// What a member has, while it is present.
-    pub(crate) fn seat(&self, member: u32) -> Option<&Seat>
-        ensures { MatchOption result (member_of self.now member ≡ None) (λ seat. member_of self.now member ≡ Some seat.now) }
-    {
-        slots::seat_of(&self.table.slots, member)
-    }
-
-    /// The present member that is granted a partition.
-    pub(crate) fn owner(&self, partition: u32) -> Option<u32>
-        ensures { result ≡ owner_of self.now partition }
-    {
-        members::owner_of(&self.table.slots, partition)
-    }
-
-    /// The name of each member that was given a number, present or not.
-    pub(crate) fn name(&self, member: u32) -> Option<&Name>
-        ensures { MatchOption result (name_of self.now member ≡ None) (λ name. name_of self.now member ≡ Some name.now) }
-    {
-        members::name_of(&self.table.slots, member)
-    }
-
-    /// The numbers of the present members, in rising order.
-    pub(crate) fn members(&self) -> Members<'_>
-        ensures { result ≡ members self.now }
-    {
-        Members::new(&self.table.slots)
-    }
-
-    /// The moves so far, in order.
-    pub(crate) fn moves(&self) -> &[Move]
-        ensures { result.now ≡ self.now.moves }
-    {
-        &self.table.moves
+        if !slots::is_present(&self.slots, member) {
+            return Err(Refusal::UnknownMember);
+        }
+        let planned = self.plan_completion(alloc, Change::Leaves(member))?;
+        slots::remove(&mut self.slots, member);
+        self.phase = slots::phase_left(&self.slots);
+        self.complete(planned);
+        Ok(())
     }
 
     /// Whether the group is stable, and nobody has anything to give up.
-    pub(crate) fn is_settled(&self) -> bool
-        ensures { result ≡ is_settled self.now }
+    pub fn is_settled(&self) -> bool
+        requires { IsValidGroup (group_view self.now) }
+        ensures { result ≡ is_settled (group_view self.now) }
     {
-        self.table.is_settled()
+        is_stable(self.phase) && slots::all_agree(&self.slots)
     }
+
+    /// Why a rejoin is refused, but for the last generation.
+    fn why_no_rejoin(&self, member: u32, generation: u32, claim: &Plane) -> Option<Refusal>
+        requires { IsValidGroup (group_view self.now) }
+        ensures { result ≡ rejoin_refusal (group_view self.now) generation claim.now (member_of (group_view self.now) member) }
+    {
+        let Some(seat) = slots::seat_of(&self.slots, member) else {
+            return Some(Refusal::UnknownMember);
+        };
+        if generation != self.generation {
+            return Some(Refusal::StaleGeneration);
+        }
+        if seat.joined {
+            return Some(Refusal::AlreadyJoined);
+        }
+        if !seat.synced {
+            return Some(Refusal::SyncFirst);
+        }
+        if is_stable(self.phase) && seat.granted.same(&seat.assigned) {
+            return Some(Refusal::NothingToGive);
+        }
+        if !is_equal(claim, &seat.assigned) {
+            return Some(Refusal::ClaimDiffers);
+        }
+        None
+    }
+
+    /// Plans the completion that comes after a change, if one does: it takes all memory that this
+    /// needs, with room for the moves, and changes nothing. Refused, in this order: a completion past
+    /// the last generation (`GenerationsOver`); want of memory.
+    fn plan_completion(
+        &mut self,
+        alloc: Global,
+        change: Change,
+    ) -> Result<Option<Completion>, Refusal>
+        requires valid { IsValidGroup (group_view self.old) }
+        requires changed { (name : List ℕ) → IsChanged (after change name (group_view self.old)) }
+        ensures ok { (name : List ℕ) → IfOk result (IsPlanned (after change name (group_view self.old))) }
+        ensures room { IfOk result (λ planned. (a : Completion) → planned ≡ Some a → vec_len self.new.moves + length a.moves.items ≤ vec_capacity self.new.moves) }
+        ensures err { (name : List ℕ) → IfErr result (IsRefused (after change name (group_view self.old))) }
+        ensures same { group_view self.new ≡ group_view self.old }
+        ensures valid { IsValidGroup (group_view self.new) }
+    {
+        if !change::is_ready_after(&self.slots, change) {
+            return Ok(None);
+        }
+        if self.generation == LAST_GENERATION {
+            return Err(Refusal::GenerationsOver);
+        }
+        let completion = self.completion_after(alloc, change)?;
+        self.moves.reserve(completion.moves.len())?;
+        Ok(Some(completion))
+    }
+
+    /// The completion after a change.
+    fn completion_after(&self, alloc: Global, change: Change) -> Result<Completion, Memory>
+        requires valid { IsValidGroup (group_view self.now) }
+        requires changed { (name : List ℕ) → IsChanged (after change name (group_view self.now)) }
+        requires some { (name : List ℕ) → is_anybody (after change name (group_view self.now)) ≡ true }
+        requires more { self.now.generation < LAST_GENERATION }
+        ensures { (name : List ℕ) → IfOk result (IsCompletion (after change name (group_view self.now))) }
+    {
+        let granted = change::granted_rows(alloc, self.partitions, &self.slots, change)?;
+        let next = completion::next_rows(alloc, &granted)?;
+        let takers = moves::takers_of(alloc, &granted, &next)?;
+        let moves = moves::moves_of(alloc, self.generation + 1, &takers, &self.last)?;
+        Ok(Completion {
+            next,
+            takers,
+            moves,
+        })
+    }
+
+    /// The next generation, where a completion was planned for this state. It takes no memory.
+    fn complete(&mut self, planned: Option<Completion>)
+        requires changed { IsChanged (group_view self.old) }
+        requires planned { IsPlanned (group_view self.old) planned }
+        requires room { (a : Completion) → planned ≡ Some a → vec_len self.old.moves + length a.moves.items ≤ vec_capacity self.old.moves }
+        ensures completed { group_view self.new ≡ completed (group_view self.old) }
+        ensures valid { IsValidGroup (group_view self.new) }
+    {
+        if let Some(completion) = planned {
+            self.make(&completion);
+        }
+    }
+
+    /// The next generation, by the completion that was planned for this state. It takes no memory.
+    fn make(&mut self, completion: &Completion)
+        requires changed { IsChanged (group_view self.old) }
+        requires more { self.old.generation < LAST_GENERATION }
+        requires completion { IsCompletion (group_view self.old) completion.now }
+        requires room { vec_len self.old.moves + length completion.now.moves.items ≤ vec_capacity self.old.moves }
+        requires some { is_anybody (group_view self.old) ≡ true }
+        ensures { group_view self.new ≡ complete (group_view self.old) }
+    {
+        moves::append(&mut self.moves, &completion.moves);
+        moves::hold(&mut self.last, &completion.takers);
+        completion::give(&mut self.slots, &completion.next);
+        self.generation += 1;
+        self.phase = Phase::Stable;
+    }
+}
+
+/// A member that has joined and is granted nothing yet.
+fn newcomer(partitions: u32, name: Name) -> Slot
+    requires { (1 ≤ partitions) × (partitions ≤ MOST_PARTITIONS) }
+    ensures { result ≡ newcomer partitions name }
+{
+    Slot {
+        name,
+        seat: Some(Seat {
+            joined: true,
+            synced: false,
+            granted: Plane::new(partitions),
+            assigned: Plane::new(partitions),
+        }),
+    }
+}
+
+/// Whether a generation stands.
+fn is_stable(phase: Phase) -> bool
+    ensures { result ≡ is_stable phase }
+{
+    match phase {
+        Phase::Empty | Phase::Preparing => false,
+        Phase::Stable => true,
+    }
+}
+
+/// Whether two sets are the same, at whatever P.
+fn is_equal(claim: &Plane, assigned: &Plane) -> bool
+    ensures { result ≡ is_same claim.now assigned.now }
+{
+    claim.partitions() == assigned.partitions() && claim.same(assigned)
 }

@@ -1,13 +1,14 @@
 //! Laws of the group, for the layers above.
 
-ghost use Rattle.std.specs.Prelude.{◌≡◌, ℕ, true, Ok, Some};
+ghost use Rattle.std.specs.Prelude.{◌≡◌, ℕ, List, true, false, Ok, Some};
 ghost use Rattle.bit_planes.specs.PartitionSet.{PartitionSet};
 ghost use Rattle.coop_rebalance.specs.Rounds.{next_rows};
-ghost use Rattle.group_machine.specs.State.{GroupState, is_anybody, granted_rows};
+ghost use Rattle.group_machine.specs.State.{GroupState, is_anybody, is_present, granted_rows};
 ghost use Rattle.group_machine.specs.Moves.{takes, taker};
 ghost use Rattle.group_machine.specs.Rounds.{is_settled, round, finish};
-ghost use Rattle.group_machine.specs.Steps.{rejoin_answer, rejoined_by, synced_by};
+ghost use Rattle.group_machine.specs.Steps.{join_answer, joined_by, leave_answer, left_by, rejoin_answer, rejoined_by, synced_by};
 ghost use Rattle.group_machine.specs.Good.{IsSound, IsValidGroup};
+ghost use Rattle.group_machine.specs.Others.{IsNewcomer, LeavesOthers, LeavesRejoined, LeavesSynced};
 
 /// After two rounds a group with a member is settled, where no partition is granted to two members and each member's
 /// sets are fit.
@@ -29,4 +30,44 @@ pub fn rejoin_keeps_the_end()
 /// before, is the one that the moves name.
 pub fn one_member_takes_a_partition()
     ensures { (g : GroupState) → IsSound g → is_anybody g ≡ true → (q member : ℕ) → takes g (next_rows (granted_rows g)) q member ≡ true → taker g (next_rows (granted_rows g)) q ≡ Some member }
+{}
+
+/// A join leaves the members that were there.
+pub fn join_leaves_others()
+    ensures { (g : GroupState) (name : List ℕ) (number : ℕ) → IsValidGroup g → join_answer g name ≡ Ok number → LeavesOthers g (joined_by g name) number }
+{}
+
+/// The member that joined is new, and has not synced.
+pub fn join_brings_a_newcomer()
+    ensures { (g : GroupState) (name : List ℕ) (number : ℕ) → IsValidGroup g → join_answer g name ≡ Ok number → IsNewcomer g (joined_by g name) number }
+{}
+
+/// An accepted rejoin leaves the other members.
+pub fn rejoin_leaves_others()
+    ensures { (g : GroupState) (member generation : ℕ) (claim : PartitionSet) → IsValidGroup g → rejoin_answer g member generation claim ≡ Ok tt → LeavesOthers g (rejoined_by g member) member }
+{}
+
+/// A member that rejoins is granted what it was to keep.
+pub fn rejoin_leaves_what_is_kept()
+    ensures { (g : GroupState) (member generation : ℕ) (claim : PartitionSet) → IsValidGroup g → rejoin_answer g member generation claim ≡ Ok tt → LeavesRejoined g (rejoined_by g member) member }
+{}
+
+/// A member that leaves leaves the other members.
+pub fn leave_leaves_others()
+    ensures { (g : GroupState) (member : ℕ) → IsValidGroup g → leave_answer g member ≡ Ok tt → LeavesOthers g (left_by g member) member }
+{}
+
+/// A member that left is not present.
+pub fn leave_takes_its_member_out()
+    ensures { (g : GroupState) (member : ℕ) → IsValidGroup g → leave_answer g member ≡ Ok tt → is_present (left_by g member) member ≡ false }
+{}
+
+/// A sync leaves the other members.
+pub fn sync_leaves_others()
+    ensures { (g : GroupState) (member : ℕ) → LeavesOthers g (synced_by g member) member }
+{}
+
+/// A member that syncs, while it is present, has synced then, and all else of it is as it was.
+pub fn sync_marks_its_member()
+    ensures { (g : GroupState) (member : ℕ) → LeavesSynced g (synced_by g member) member }
 {}

@@ -3,8 +3,9 @@
 ghost use Rattle.std.specs.Prelude.{◌≡◌, ◌≤◌, ℕ, List, None, Some, MatchOption, IfOk, length};
 ghost use Rattle.std.specs.Option.{option_map};
 ghost use Rattle.group_machine.specs.declared.group.Seat.{Seat};
-ghost use Rattle.group_machine.specs.Walks.{AreSeatsOver, granted_in};
-ghost use Rattle.group_machine.specs.Changes.{seat_after, slots_after, is_ready_in};
+ghost use Rattle.group_machine.specs.Slots.{granted_in, is_ready_in};
+ghost use Rattle.group_machine.specs.Private.Walks.{AreSeatsOver};
+ghost use Rattle.group_machine.specs.Private.Changes.{seat_after, slots_after};
 
 use super::Slot;
 use bit_planes::{Plane, PlaneRows};

@@ -6,7 +6,7 @@ ghost use Rattle.bit_planes.specs.SetRows.{members, set_of};
 ghost use Rattle.coop_rebalance.specs.Rounds.{next_rows};
 ghost use Rattle.group_machine.specs.Slots.{each_changed};
 ghost use Rattle.group_machine.specs.Completion.{completed_seat};
-ghost use Rattle.group_machine.specs.Walks.{AreSeatsOver, AreOwned};
+ghost use Rattle.group_machine.specs.Private.Walks.{AreSeatsOver, AreOwned};
 
 use super::{Move, Seat, Slot};
 use bit_planes::{Plane, PlaneRows};
@@ -15,9 +15,9 @@ use lane_words::Memory;
 use std::alloc::Global;
 use sticky_assignor::assign;
 
-/// All that a completion needs, grown before anything changes.
+/// A completion that is planned: all that it needs is here before anything changes.
 #[derive(Drop)]
-pub struct Prepared {
+pub struct Completion {
     /// What each member is to keep.
     pub next: PlaneRows,
     /// Who takes each partition.

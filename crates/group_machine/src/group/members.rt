@@ -1,12 +1,9 @@
 //! Readers over slots.
 
-ghost use Rattle.std.specs.Prelude.{◌≡◌, ◌≤◌, length, find, Some, None, MatchOption};
+ghost use Rattle.std.specs.Prelude.{◌≡◌, ◌≤◌, length, Some, None, MatchOption};
 ghost use Rattle.std.specs.Iterator.{YieldsFirst, item_count};
-ghost use Rattle.std.specs.Option.{option_map};
-ghost use Rattle.bit_planes.specs.PartitionSet.{is_in};
-ghost use Rattle.group_machine.specs.Slots.{present};
+ghost use Rattle.group_machine.specs.Slots.{members_in, owner_in};
 ghost use Rattle.group_machine.specs.State.{name_at};
-ghost use Rattle.group_machine.specs.Walks.{members_in};
 
 use super::Slot;
 use crate::Name;
@@ -25,7 +22,7 @@ impl<'a> Model for Members<'a> {
 
     ghost Value = { List ℕ };
 
-    ghost use Rattle.group_machine.specs.MembersLeft.{members_left, IsValidMembers};
+    ghost use Rattle.group_machine.specs.Private.MembersLeft.{members_left, IsValidMembers};
 
     ghost view = { members_left };
 
@@ -65,7 +62,7 @@ impl<'a> Iterator for Members<'a> {
 /// The present member that is granted a partition.
 pub fn owner_of(slots: &[Slot], q: u32) -> Option<u32>
     requires { length slots.now ≤ 512 }
-    ensures { result ≡ option_map (λ m. m.0) (find (λ m. is_in m.1.granted q) (present slots.now)) }
+    ensures { result ≡ owner_in slots.now q }
 {
     for (index, slot) in slots.iter().enumerate() {
         if let Some(seat) = &slot.seat {

@@ -4,7 +4,7 @@ ghost use Rattle.std.specs.Prelude.{◌≡◌, ◌^◌, ◌+◌, ◌++◌, ◌<�
 ghost use Rattle.std.specs.Vec.{vec_len, vec_capacity};
 ghost use Rattle.bit_planes.specs.PartitionSet.{partitions_of, is_in};
 ghost use Rattle.bit_planes.specs.SetRows.{set_of};
-ghost use Rattle.group_machine.specs.Walks.{taker_in, moves_by, last_by};
+ghost use Rattle.group_machine.specs.Moves.{takers_in, moves_by, last_by};
 
 use super::Move;
 use bit_planes::{Plane, PlaneRows};
@@ -21,8 +21,7 @@ pub fn takers_of(
 ) -> Result<Vec<Option<u32>>, Memory>
     requires below { next.now.partitions ≡ granted.now.partitions }
     requires apart { (m n q : ℕ) → is_in (set_of next.now m) q ≡ true → is_in (set_of next.now n) q ≡ true → m ≡ n }
-    ensures takers { IfOk result (λ takers. (q : ℕ) → q < granted.now.partitions → slice_index_or takers.items q None ≡ taker_in granted.now.rows next.now q) }
-    ensures long { IfOk result (λ takers. length takers.items ≡ granted.now.partitions) }
+    ensures { IfOk result (λ takers. takers.items ≡ takers_in granted.now next.now) }
 {
     let mut takers: Vec<Option<u32>> = vec![in alloc; None; granted.partitions() as usize]?;
     for (member, plane) in granted.rows() {

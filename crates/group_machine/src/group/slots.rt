@@ -2,12 +2,12 @@
 
 ghost use Rattle.std.specs.Prelude.{◌≡◌, Some, None, MatchOption, true, is_some, if◌then◌else◌, ℕ};
 ghost use Rattle.std.specs.List.{list_any, list_all};
+ghost use Rattle.std.specs.Option.{option_map_or};
 ghost use Rattle.std.specs.Str.{bytes_eq};
-ghost use Rattle.group_machine.specs.Slots.{seat_of, one_changed, without_seat};
-ghost use Rattle.group_machine.specs.Steps.{rejoined_seat, synced_seat};
+ghost use Rattle.group_machine.specs.Slots.{is_anybody_in, seat_of, one_changed, without_seat};
+ghost use Rattle.group_machine.specs.Steps.{phase_left, rejoined_seat, synced_seat};
 ghost use Rattle.group_machine.specs.Rounds.{agrees};
-ghost use Rattle.group_machine.specs.Walks.{AreSeatsOver, out_or};
-ghost use Rattle.group_machine.specs.declared.group.Phase.TheVariants as phase;
+ghost use Rattle.group_machine.specs.Private.Walks.{AreSeatsOver};
 
 use super::{Phase, Seat, Slot};
 use crate::Name;
@@ -65,14 +65,14 @@ pub fn mark_synced(slots: &mut [Slot], member: u32)
 
 /// Whether somebody is present.
 pub fn is_anybody(slots: &[Slot]) -> bool
-    ensures { result ≡ list_any (λ s. is_some s.seat) slots.now }
+    ensures { result ≡ is_anybody_in slots.now }
 {
     slots.iter().any(|slot| slot.seat.is_some())
 }
 
 /// The phase of a group that a member has left.
 pub fn phase_left(slots: &[Slot]) -> Phase
-    ensures { result ≡ (if list_any (λ s. is_some s.seat) slots.now then phase.Preparing else phase.Empty) }
+    ensures { result ≡ phase_left slots.now }
 {
     if is_anybody(slots) {
         Phase::Preparing
@@ -84,7 +84,7 @@ pub fn phase_left(slots: &[Slot]) -> Phase
 /// Whether nobody has anything to give up.
 pub fn all_agree(slots: &[Slot]) -> bool
     requires { (partitions : ℕ) × AreSeatsOver partitions slots.now }
-    ensures { result ≡ list_all (λ s. out_or agrees s.seat) slots.now }
+    ensures { result ≡ list_all (λ s. option_map_or agrees s.seat true) slots.now }
 {
     for slot in slots {
         if let Some(seat) = &slot.seat {

@@ -1,6 +1,7 @@
 use Rattle.std.proofs.Common.{◌≡◌, Ok, rules}
 use Rattle.group_machine.specs.Cluster.{fence}
-use Rattle.group_machine.specs.ClusterView.{cluster_view}
+use Rattle.group_machine.specs.Private.ClusterView.{cluster_view}
+use Rattle.group_machine.specs.Private.GroupView.{group_view}
 use Rattle.group_machine.proofs.ClusterLemmas.{partition-below, commit-kept}
 use Rattle.group_machine.proofs.cluster.Cluster.commit.Goals as goal
 
@@ -13,4 +14,4 @@ commit-requires-clause-partition c =
 pub invariant_of-self : goal.invariant_of-self
 invariant_of-self c =
     let step = c.commit.ensures in
-    commit-kept c.self.inside.group c.self.inside.logs c.self.inside.store c.commit.new.self c.partition.result c.partial.result.now c.commit.result c.self.invariant step.ok step.err step.exact
+    commit-kept (group_view c.self.inside.group) c.self.inside.logs c.self.inside.store c.commit.new.self c.partition.result c.partial.result.now c.commit.result c.self.invariant step.ok step.err step.exact

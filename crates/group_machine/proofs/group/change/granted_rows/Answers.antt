@@ -1,7 +1,7 @@
 use Rattle.std.proofs.Common.{◌+◌, ◌∙◌, ap, sym, length, take}
 use Rattle.bit_planes.specs.PartitionSet.{partitions_of}
 use Rattle.bit_planes.specs.SetRows.{with_row}
-use Rattle.group_machine.specs.Walks.{granted_in}
+use Rattle.group_machine.specs.Slots.{granted_in}
 use Rattle.group_machine.proofs.ChangeLemmas.{mid, granted_over, rows_more, rows_same, rows_joined, rows_all}
 use Rattle.group_machine.proofs.group.change.granted_rows.Goals as goal
 use Rattle.group_machine.proofs.group.change.granted_rows.Goals.{in-Some+in_ok-put, in_default, in-Joins+in_ok-put-2, in_default-change}

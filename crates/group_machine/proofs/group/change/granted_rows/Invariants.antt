@@ -1,7 +1,6 @@
 use Rattle.std.proofs.Common.{◌≡◌, take}
-use Rattle.group_machine.specs.Slots.{reseated_from}
-use Rattle.group_machine.specs.Walks.{granted_in}
-use Rattle.group_machine.specs.Changes.{seat_after}
+use Rattle.group_machine.specs.Slots.{reseated_from, granted_in}
+use Rattle.group_machine.specs.Private.Changes.{seat_after}
 use Rattle.group_machine.proofs.group.change.granted_rows.Given as goal
 
 abbrev pub invariant-loop-index : goal.invariant-loop-index

@@ -1,5 +1,6 @@
 use Rattle.std.proofs.Common.{◌∙◌, ◌+◌, ◌||◌, Some, ap, sym, drop}
-use Rattle.group_machine.proofs.ChangeLemmas.{mid, any_seat, any_more, all_more, any_same, all_same, ready_end, ready_not}
+use Rattle.group_machine.specs.Slots.{is_anybody_in}
+use Rattle.group_machine.proofs.ChangeLemmas.{mid, any_more, all_more, any_same, all_same, ready_end, ready_not}
 use Rattle.group_machine.proofs.group.change.is_ready_after.Goals as goal
 use Rattle.group_machine.proofs.group.change.is_ready_after.Goals.{in-Some+else-not-joined, in_default-joined}
 
@@ -18,13 +19,13 @@ loop-index-preserved c =
       | in-Some+else-not-joined w ↦
           let is = sym c.joined.ensures ∙ w.in-Some.is ∙ ap (λ b. Some b) w.if-not-joined.false in
           record {
-            some = was.some ∙ any_more change slots at c.index-slots-index.result c.loop-index.anybody c.loop-index-test.true c.index-slots-index.is is ∙ ap (λ b. b || any_seat (drop (at + 1) (mid change slots))) (sym w.anybody-is);
+            some = was.some ∙ any_more change slots at c.index-slots-index.result c.loop-index.anybody c.loop-index-test.true c.index-slots-index.is is ∙ ap (λ b. b || is_anybody_in (drop (at + 1) (mid change slots))) (sym w.anybody-is);
             all = was.all ∙ all_more change slots at c.index-slots-index.result _ c.loop-index-test.true c.index-slots-index.is is;
           }
       | in_default-joined w ↦
           let none = sym c.joined.ensures ∙ w.in_default-joined.is in
           record {
-            some = was.some ∙ ap (λ b. c.loop-index.anybody || b) (any_same change slots at c.index-slots-index.result c.loop-index-test.true c.index-slots-index.is none) ∙ ap (λ b. b || any_seat (drop (at + 1) (mid change slots))) (sym w.anybody-is);
+            some = was.some ∙ ap (λ b. c.loop-index.anybody || b) (any_same change slots at c.index-slots-index.result c.loop-index-test.true c.index-slots-index.is none) ∙ ap (λ b. b || is_anybody_in (drop (at + 1) (mid change slots))) (sym w.anybody-is);
             all = was.all ∙ all_same change slots at c.index-slots-index.result c.loop-index-test.true c.index-slots-index.is none;
           }
     ]

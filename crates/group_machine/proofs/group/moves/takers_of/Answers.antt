@@ -1,6 +1,8 @@
 use Rattle.std.proofs.Common.{◌∙◌, ap, sym, None, slice_index_or, length, arith}
-use Rattle.std.proofs.lemmas.List.{with_items_is}
+use Rattle.std.proofs.lemmas.List.{take_all, with_items_is}
+use Rattle.std.proofs.lemmas.List.FromFn.{fill_by_all}
 use Rattle.coop_rebalance.proofs.Items.{item_over}
+use Rattle.group_machine.specs.Moves.{taker_in}
 use Rattle.group_machine.proofs.MovesLemmas.{taker_given, taker_rowless}
 use Rattle.group_machine.proofs.group.moves.takers_of.Goals as goal
 use Rattle.group_machine.proofs.group.moves.takers_of.Goals.{in-Some, in_default}
@@ -30,3 +32,11 @@ loop-member-preserved c =
         so_far = λ q lt. ap (λ v. slice_index_or v.items q None) w.takers-is ∙ taker_rowless items at row next q _ c.loop-member-test.true c.loop-member-item.is (λ m n e h. c.requires.apart m n q e h) w.in_default.ensures.value (was.so_far q lt);
       }
     ]
+
+pub returns : goal.returns
+returns c =
+    let granted = c.args.granted.now in
+    let items = c.rows-member-items.result.now in
+    let was = c.loop-member.invariant in
+    fill_by_all (taker_in granted.rows c.args.next.now) c.loop-member.takers.items granted.partitions None was.long (λ q lt.
+    was.so_far q lt ∙ ap (λ rows. taker_in rows c.args.next.now q) (take_all c.loop-member.member-index items (omega (arith, c.loop-member-test.false)) ∙ c.rows-member-items.ensures.value))

@@ -1,5 +1,5 @@
 use Rattle.std.proofs.Common.{◌≡◌, ◌<◌, ℕ, None, length, slice_index_or, take}
-use Rattle.group_machine.specs.Walks.{taker_in}
+use Rattle.group_machine.specs.Moves.{taker_in}
 use Rattle.group_machine.proofs.group.moves.takers_of.Given as goal
 
 abbrev pub invariant-loop-member : goal.invariant-loop-member

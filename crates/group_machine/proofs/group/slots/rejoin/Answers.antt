@@ -1,6 +1,6 @@
 use Rattle.std.proofs.Common.{◌∙◌, ◌-◌, Some, true, ap, sym, get_or}
 use Rattle.std.proofs.Math.ListN.{set}
-use Rattle.group_machine.specs.Slots.{on_seat}
+use Rattle.std.specs.Option.{option_map}
 use Rattle.group_machine.specs.Steps.{rejoined_seat}
 use Rattle.group_machine.proofs.SlotsLemmas.{slot_with, seat_put, number_given, present_at}
 use Rattle.group_machine.proofs.group.slots.rejoin.Goals as goal
@@ -9,8 +9,8 @@ pub returns-in-Some : goal.returns-in-Some
 returns-in-Some c =
     let given = number_given c.args.slots.now c.args.member c.requires in
     ap (λ s. set c.args.slots.now (c.args.member - 1) (slot_with (get_or c.args.slots.now (c.args.member - 1) c.index-slots-member.result).name (Some (record { joined = true; synced = c.in-Some.seat.synced; granted = s; assigned = c.in-Some.seat.assigned })))) c.copy-seat.ensures
-    ∙ ap (λ o. set c.args.slots.now (c.args.member - 1) (slot_with (get_or c.args.slots.now (c.args.member - 1) c.index-slots-member.result).name (on_seat rejoined_seat o))) (sym c.in-Some.is)
-    ∙ seat_put c.args.slots.now c.args.member c.index-slots-member.result (on_seat rejoined_seat) given.0 given.1
+    ∙ ap (λ o. set c.args.slots.now (c.args.member - 1) (slot_with (get_or c.args.slots.now (c.args.member - 1) c.index-slots-member.result).name (option_map rejoined_seat o))) (sym c.in-Some.is)
+    ∙ seat_put c.args.slots.now c.args.member c.index-slots-member.result (option_map rejoined_seat) given.0 given.1
 
 pub returns-in_default : goal.returns-in_default
 returns-in_default c = let x = present_at c.args.slots.now c.args.member c.index-slots-member.result c.requires in absurd (c.in_default.not-Some x.0 x.1)

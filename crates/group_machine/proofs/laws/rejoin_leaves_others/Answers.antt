@@ -1,0 +1,5 @@
+use Rattle.group_machine.proofs.OtherLemmas.{rejoin_leaves}
+use Rattle.group_machine.proofs.laws.rejoin_leaves_others.Goals as goal
+
+pub returns : goal.returns
+returns c = rejoin_leaves

@@ -1,0 +1,5 @@
+use Rattle.group_machine.proofs.OtherLemmas.{rejoin_keeps}
+use Rattle.group_machine.proofs.laws.rejoin_leaves_what_is_kept.Goals as goal
+
+pub returns : goal.returns
+returns c = rejoin_keeps

@@ -1,0 +1,59 @@
+-- What a step leaves of the members that it is not about.
+use Rattle.std.specs.Prelude.{◌≡◌, ℕ, ◌+◌, ◌≤◌, ◌⊎◌, true, false}
+use Rattle.bit_planes.specs.PartitionSet.{is_in}
+use Rattle.group_machine.specs.State.{GroupState, is_present, is_joined, is_synced, granted_of, assigned_of}
+
+-- a member is as it was, in the generation as it was
+pub record IsAsBefore (old new : GroupState) (n : ℕ) : Type 0 where
+  pub generation : new.generation ≡ old.generation
+  pub joined : is_joined new n ≡ is_joined old n
+  pub synced : is_synced new n ≡ is_synced old n
+  pub granted : granted_of new n ≡ granted_of old n
+  pub assigned : assigned_of new n ≡ assigned_of old n
+
+-- the next generation was completed, in which a member has neither joined nor synced yet
+pub record IsInNextGeneration (old new : GroupState) (n : ℕ) : Type 0 where
+  pub generation : new.generation ≡ old.generation + 1
+  pub joined : is_joined new n ≡ false
+  pub synced : is_synced new n ≡ false
+
+-- a member is present as it was, is granted all that it was granted, and is as it was or in the next generation
+pub record LeavesMember (old new : GroupState) (n : ℕ) : Type 0 where
+  pub present : is_present new n ≡ is_present old n
+  pub granted : (q : ℕ) → is_in (granted_of old n) q ≡ true → is_in (granted_of new n) q ≡ true
+  pub either : IsAsBefore old new n ⊎ IsInNextGeneration old new n
+
+-- a step that is about one member leaves each other, and the generation never falls
+pub record LeavesOthers (old new : GroupState) (about : ℕ) : Type 0 where
+  pub partitions : new.partitions ≡ old.partitions
+  pub rises : old.generation ≤ new.generation
+  pub others : (n : ℕ) → (n ≡ about → ⊥) → LeavesMember old new n
+
+-- a member that joined: it was not there, it is present now, and it has not synced
+pub record IsNewcomer (old new : GroupState) (n : ℕ) : Type 0 where
+  pub new_number : is_present old n ≡ false
+  pub present : is_present new n ≡ true
+  pub unsynced : is_synced new n ≡ false
+
+-- a member has joined again, in the generation as it was: it is granted what it was to keep, and no more
+pub record HasRejoined (old new : GroupState) (n : ℕ) : Type 0 where
+  pub generation : new.generation ≡ old.generation
+  pub joined : is_joined new n ≡ true
+  pub synced : is_synced new n ≡ is_synced old n
+  pub granted : granted_of new n ≡ assigned_of old n
+  pub assigned : assigned_of new n ≡ assigned_of old n
+
+-- a member that rejoined is granted what it was to keep, and has joined or is in the next generation
+pub record LeavesRejoined (old new : GroupState) (n : ℕ) : Type 0 where
+  pub present : is_present new n ≡ true
+  pub granted : (q : ℕ) → is_in (assigned_of old n) q ≡ true → is_in (granted_of new n) q ≡ true
+  pub either : HasRejoined old new n ⊎ IsInNextGeneration old new n
+
+-- a member that synced: it has synced now, and all else of it is as it was
+pub record LeavesSynced (old new : GroupState) (n : ℕ) : Type 0 where
+  pub present : is_present new n ≡ is_present old n
+  pub generation : new.generation ≡ old.generation
+  pub joined : is_joined new n ≡ is_joined old n
+  pub synced : is_synced new n ≡ is_present old n
+  pub granted : granted_of new n ≡ granted_of old n
+  pub assigned : assigned_of new n ≡ assigned_of old n

@@ -1,0 +1,5 @@
+pub mod Changes
+pub mod ClusterView
+pub mod GroupView
+pub mod MembersLeft
+pub mod Walks
