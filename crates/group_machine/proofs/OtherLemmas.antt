@@ -135,7 +135,7 @@ joined_number false slots n full e = go (nat_le MOST_MEMBERS slots) refl e
         last false k = cc
 
 -- an accepted join is of the next number, and there is room for it
-accepted_join : (g : GroupState) (name : List ℕ) (n : ℕ) → join_answer g name ≡ Ok n → (length g.slots < MOST_MEMBERS) × (n ≡ length g.slots + 1)
+pub accepted_join : (g : GroupState) (name : List ℕ) (n : ℕ) → join_answer g name ≡ Ok n → (length g.slots < MOST_MEMBERS) × (n ≡ length g.slots + 1)
 accepted_join g name n ok = joined_number (is_name_used g name) (length g.slots) n _ ok
 
 pub join_leaves : (g : GroupState) (name : List ℕ) (n : ℕ) → IsValidGroup g → join_answer g name ≡ Ok n → LeavesOthers g (joined_by g name) n
@@ -196,7 +196,7 @@ rejoin_keeps g member generation claim valid ok =
     }
 
 -- ---- leaving
-accepted_leave : (here over : Bool) → ◌≡◌ {A = Result (Unit {0}) Refusal} (cond here (cond over (Err r.GenerationsOver) (Ok tt)) (Err r.UnknownMember)) (Ok tt) → here ≡ true
+pub accepted_leave : (here over : Bool) → ◌≡◌ {A = Result (Unit {0}) Refusal} (cond here (cond over (Err r.GenerationsOver) (Ok tt)) (Err r.UnknownMember)) (Ok tt) → here ≡ true
 accepted_leave true over e = refl
 accepted_leave false over e = cc
 

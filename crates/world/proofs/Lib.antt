@@ -1,1 +1,10 @@
+pub mod Clusters
+pub mod Events
+pub mod Fine
+pub mod Groups
+pub mod Lists
+pub mod Lookups
 pub mod Outcomes
+pub mod Refusals
+pub mod Slots
+pub mod Stays

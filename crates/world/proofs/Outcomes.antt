@@ -1,20 +1,21 @@
 -- What comes of events, where the consumer of the member is known.
 use Rattle.std.proofs.Common.{◌≡◌, ◌⊎◌, ◌∙◌, ◌+◌, ◌<◌, ◌≤◌, ℕ, zero, suc, Bool, true, false, List, [], ◌∷◌, ◌++◌, Option, Some, None, Result, Ok, Err, length, slice_index_or, get_or, refl, sym, ap, subst, inl, inr, arith}
 use Rattle.std.specs.Prelude.{is_none, slice_get, slice_set, if◌then◌else◌, nat_le}
+use Rattle.std.specs.Result.{result_and}
 use Rattle.std.proofs.lemmas.Bool.Decides.{nat_tests}
 use Rattle.std.proofs.lemmas.List.{set-get_or}
 use Rattle.std.proofs.lemmas.Option.{slice_get-get_or}
 use Rattle.lane_words.specs.Answers.{Answers}
 use Rattle.lane_words.specs.declared.Refusal.{Refusal}
 use Rattle.lane_words.specs.declared.Refusal.TheVariants as r
-use Rattle.consumer.specs.Consumer.{ConsumerState, commit_of, leased, poll_answer, polled, send_answer, sendable_answer}
-use Rattle.group_machine.specs.Cluster.{ClusterState, CommitTerms, LeaseTerms, and_then, cluster_sync_answer, lease_of, with_group}
-use Rattle.group_machine.specs.Steps.{rejoin_answer, sync_answer, synced_by}
+use Rattle.consumer.specs.Consumer.{ConsumerState, commit_of, joined_as, leased, out_of_group, poll_answer, polled, send_answer, sendable_answer}
+use Rattle.group_machine.specs.Cluster.{ClusterState, CommitTerms, LeaseTerms, cluster_sync_answer, lease_of, with_group}
+use Rattle.group_machine.specs.Steps.{join_answer, joined_by, rejoin_answer, sync_answer, synced_by}
 use Rattle.world.specs.declared.event.TheConstants.{MOST_COMMITS}
 use Rattle.world.specs.declared.event.Reply.{Reply}
 use Rattle.world.specs.declared.event.Reply.TheVariants as reply
 use Rattle.world.specs.World.{WorldState, changed, consumer_of, on_consumer, with_cluster}
-use Rattle.world.specs.Steps.{Comes, MayCome, Outcome, asked, both, poll_event, poll_known, poll_outcome, refused, refused_by_cluster, rejoin_event, rejoin_outcome, send_event, send_known, send_outcome, sync_event, sync_outcome}
+use Rattle.world.specs.Steps.{Comes, MayCome, Outcome, asked, both, join_event, join_outcome, poll_event, poll_known, poll_outcome, refused, refused_by_cluster, rejoin_event, rejoin_outcome, send_event, send_known, send_outcome, sync_event, sync_outcome}
 use Rattle.world.specs.Private.Lookups.{IsAsking}
 
 -- the world with this consumer at an index
@@ -118,7 +119,7 @@ pub leased_to : (s : ClusterState) (m : ℕ) (lease : LeaseTerms) → Answers (c
 leased_to s m lease (inr wrong) = absurd (cc wrong)
 leased_to s m lease (inl same) = go (sync_answer s.group m) same
   where
-    go : (answer : Result (Unit {0}) Refusal) → Ok lease ≡ and_then answer (Ok (lease_of s m)) → lease ≡ lease_of s m
+    go : (answer : Result (Unit {0}) Refusal) → Ok lease ≡ result_and answer (Ok (lease_of s m)) → lease ≡ lease_of s m
     go (Ok u) e = cc
     go (Err why) e = absurd (cc e)
 
@@ -126,3 +127,16 @@ leased_to s m lease (inl same) = go (sync_answer s.group m) same
 pub is_in_as : (member : Option ℕ) (m : ℕ) → is_none member ≡ false → ((n : ℕ) → member ≡ Some n → n ≡ m) → member ≡ Some m
 is_in_as None m some number = absurd (cc some)
 is_in_as (Some n) m some number = ap (λ k. Some k) (number n refl)
+
+-- ---- joins
+pub join_ok : (w : WorldState) (name : List ℕ) (member : ℕ) (c new : ConsumerState) (s : ClusterState) (consumers : List ConsumerState) → Answers (join_answer w.cluster.group name) (Ok member)
+    → s ≡ with_group w.cluster (joined_by w.cluster.group name) → c ≡ out_of_group w.cluster.group.partitions → new ≡ joined_as c member → consumers ≡ w.consumers ++ new ∷ []
+    → MayCome w (join_event w name) (reply.Joined member) (record { cluster = s; consumers = consumers; mail = w.mail })
+join_ok w name member c new s consumers (inr wrong) stepped out is grown = absurd (cc wrong)
+join_ok w name member c new s consumers (inl answer) stepped out is grown =
+    let event : join_event w name ≡ join_outcome w name (Ok member) = ap (join_outcome w name) (sym answer) in
+    let made : new ≡ joined_as (out_of_group w.cluster.group.partitions) member = is ∙ ap (λ (x : ConsumerState). joined_as x member) out in
+    let after : ◌≡◌ {A = WorldState} (record { cluster = s; consumers = consumers; mail = w.mail }) (join_outcome w name (Ok member)).after =
+        ap (λ (t : ClusterState). record w { cluster = t; consumers = consumers }) stepped
+        ∙ ap (λ (cs : List ConsumerState). record w { cluster = with_group w.cluster (joined_by w.cluster.group name); consumers = cs }) (grown ∙ ap (λ x. w.consumers ++ x ∷ []) made) in
+    inl (ap (λ (o : Outcome). o.reply) (sym event), after ∙ ap (λ (o : Outcome). o.after) (sym event))

@@ -2,8 +2,7 @@
 use Rattle.std.specs.Prelude.{◌≡◌, ℕ, ◌+◌, ◌<◌, ◌≤◌, ◌↔◌, true, List, Option, Some, None, length, slice_get, slice_range}
 use Rattle.bit_planes.specs.PartitionSet.{is_in}
 use Rattle.partition_log.specs.Logs.{PartitionLogs, log_at}
-use Rattle.group_machine.specs.declared.group.Seat.{Seat}
-use Rattle.group_machine.specs.State.{GroupState, member_of}
+use Rattle.group_machine.specs.State.{GroupState, assigned_of, granted_of, is_present, is_synced}
 use Rattle.group_machine.specs.Cluster.{ClusterState, CommitTerms, IsValidCluster, committed_at}
 use Rattle.consumer.specs.Consumer.{ConsumerState, IsValidConsumer, IsWithinLogs, base_of, is_held}
 use Rattle.world.specs.declared.event.TheConstants.{MOST_COMMITS}
@@ -21,13 +20,13 @@ pub record IsConsumerOf (s : ClusterState) (m : ℕ) (c : ConsumerState) : Type 
 -- The consumer of a present member: it is in, and holds only what the member is granted. Its generation is at most the
 -- group's, and is the group's exactly where the member is synced: then its lease is what the member is to keep, all of
 -- which it holds
-pub record IsInStep (g : GroupState) (m : ℕ) (seat : Seat) (c : ConsumerState) : Type 0 where
+pub record IsInStep (g : GroupState) (m : ℕ) (c : ConsumerState) : Type 0 where
   pub member : c.member ≡ Some m
-  pub granted : (p : ℕ) → is_held c p ≡ true → is_in seat.granted p ≡ true
+  pub granted : (p : ℕ) → is_held c p ≡ true → is_in (granted_of g m) p ≡ true
   pub not_ahead : c.generation ≤ g.generation
-  pub synced : (c.generation ≡ g.generation) ↔ (seat.synced ≡ true)
-  pub assigned : seat.synced ≡ true → c.assigned ≡ seat.assigned
-  pub held : seat.synced ≡ true → (p : ℕ) → is_in seat.assigned p ≡ true → is_held c p ≡ true
+  pub synced : (c.generation ≡ g.generation) ↔ (is_synced g m ≡ true)
+  pub assigned : is_synced g m ≡ true → c.assigned ≡ assigned_of g m
+  pub held : is_synced g m ≡ true → (p : ℕ) → is_in (assigned_of g m) p ≡ true → is_held c p ≡ true
 
 -- A commit in the mail: it has records, and they are its log's from its offset on
 pub record IsSent (l : PartitionLogs) (c : CommitTerms) : Type 0 where
@@ -40,7 +39,7 @@ pub record IsValidWorld (w : WorldState) : Type 0 where
   pub cluster : IsValidCluster w.cluster
   pub a_consumer_each : length w.consumers ≡ length w.cluster.group.slots
   pub consumers : (m : ℕ) (c : ConsumerState) → consumer_of w m ≡ Some c → IsConsumerOf w.cluster m c
-  pub present : (m : ℕ) (seat : Seat) (c : ConsumerState) → member_of w.cluster.group m ≡ Some seat
-    → consumer_of w m ≡ Some c → IsInStep w.cluster.group m seat c
+  pub present : (m : ℕ) (c : ConsumerState) → is_present w.cluster.group m ≡ true
+    → consumer_of w m ≡ Some c → IsInStep w.cluster.group m c
   pub mail : (i : ℕ) (c : CommitTerms) → slice_get w.mail i ≡ Some c → IsSent w.cluster.logs c
   pub few_commits : length w.mail ≤ MOST_COMMITS

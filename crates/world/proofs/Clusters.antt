@@ -1,0 +1,160 @@
+-- Clusters stay valid, and what a step of the cluster leaves for consumers and mail.
+use Rattle.std.proofs.Common.{◌≡◌, ◌⊎◌, ◌∙◌, ◌+◌, ◌-◌, ◌<◌, ◌≤◌, ◌≢◌, ℕ, Bool, true, false, List, [], ◌∷◌, ◌++◌, Option, Some, None, Result, Ok, Err, length, take, drop, slice_index_or, refl, sym, ap, subst, inl, inr, arith, length-append, length-drop}
+use Rattle.std.specs.Prelude.{nat_lt, nat_le, not, ◌==◌, is_some, slice_range, slice_set, if◌then◌else◌}
+use Rattle.std.specs.Result.{result_and}
+use Rattle.std.proofs.Math.ListN.{length-set}
+use Rattle.std.proofs.lemmas.Bool.{cases_lt}
+use Rattle.std.proofs.lemmas.Bool.Decides.{nat_tests}
+use Rattle.std.proofs.lemmas.List.{append-nil, get_or-set_other, get_or-set_same, take-append-le, drop-append-le}
+use Rattle.lane_words.specs.declared.limits.TheConstants.{MOST_MEMBERS}
+use Rattle.lane_words.specs.declared.Refusal.{Refusal}
+use Rattle.lane_words.specs.declared.Refusal.TheVariants as r
+use Rattle.bit_planes.specs.PartitionSet.{PartitionSet, is_in}
+use Rattle.keyed_table.proofs.Raised.{length-raised}
+use Rattle.partitioner.proofs.Places.{place_of-below}
+use Rattle.partition_log.specs.Keys.{Key, id_of, is_known}
+use Rattle.partition_log.specs.Logs.{PartitionLogs, is_full_for, log_at, longest_key, place_in}
+use Rattle.partition_log.proofs.Valid.{is_place, log-other, log-same, valid}
+use Rattle.commit_store.specs.Commits.{Commits, Fits, commit_answer, committed_at, raised}
+use Rattle.commit_store.proofs.Answered.{accepted}
+use Rattle.commit_store.proofs.Exact.{commit-exact}
+use Rattle.group_machine.specs.State.{GroupState, is_present}
+use Rattle.group_machine.specs.Steps.{join_answer, joined_by, leave_answer, left_by, rejoin_answer, rejoined_by, synced_by}
+use Rattle.group_machine.specs.Others.{LeavesMember, LeavesOthers}
+use Rattle.group_machine.specs.Cluster.{ClusterState, CommitTerms, IsValidCluster, IsValidLogs, append_answer, appended_to, cluster_commit_answer, committed_by, fence, with_group, with_record}
+use Rattle.group_machine.proofs.ClusterLemmas.{append-kept, partition-below, regrouped}
+use Rattle.group_machine.proofs.FinishLemmas as finish
+use Rattle.group_machine.proofs.OtherLemmas.{accepted_join, accepted_leave, join_leaves, leave_leaves, rejoin_leaves}
+use Rattle.group_machine.proofs.StepLemmas.{join_good, leave_good, rejoin_good, sync_good}
+
+-- ---- steps of the group
+pub joined_valid : (s : ClusterState) (name : List ℕ) (n : ℕ) → IsValidCluster s → join_answer s.group name ≡ Ok n → IsValidCluster (with_group s (joined_by s.group name))
+joined_valid s name n v ok =
+    regrouped s (joined_by s.group name) v (join_good s.group name v.good (accepted_join s.group name n ok).0) (join_leaves s.group name n v.good ok).partitions
+
+pub rejoined_valid : (s : ClusterState) (m generation : ℕ) (claim : PartitionSet) → IsValidCluster s → rejoin_answer s.group m generation claim ≡ Ok tt → IsValidCluster (with_group s (rejoined_by s.group m))
+rejoined_valid s m generation claim v ok =
+    regrouped s (rejoined_by s.group m) v (rejoin_good s.group m v.good (ap is_some (finish.accepted s.group m generation claim ok).1)) (rejoin_leaves s.group m generation claim v.good ok).partitions
+
+pub left_valid : (s : ClusterState) (m : ℕ) → IsValidCluster s → leave_answer s.group m ≡ Ok tt → IsValidCluster (with_group s (left_by s.group m))
+left_valid s m v ok =
+    regrouped s (left_by s.group m) v (leave_good s.group m v.good (accepted_leave (is_present s.group m) _ ok)) (leave_leaves s.group m v.good ok).partitions
+
+pub synced_valid : (s : ClusterState) (m : ℕ) → IsValidCluster s → IsValidCluster (with_group s (synced_by s.group m))
+synced_valid s m v = regrouped s (synced_by s.group m) v (sync_good s.group m v.good) refl
+
+-- ---- appends
+-- an append that is accepted is of a key that is not too long, and finds room
+accepted_append : (long full : Bool) (a b : ℕ × ℕ) → ◌≡◌ {A = Result (ℕ × ℕ) Refusal} (if long then Err r.KeyTooLong else if full then Err r.LogFull else Ok a) (Ok b) → (long ≡ false) × (full ≡ false)
+accepted_append true full a b e = absurd (cc e)
+accepted_append false true a b e = absurd (cc e)
+accepted_append false false a b e = (refl, refl)
+
+not_longer : (most n : ℕ) → nat_lt most n ≡ false → n ≤ most
+not_longer most n e = grind (arith, nat_tests)
+
+pub appended_valid : (s : ClusterState) (key : Key) (at : ℕ × ℕ) → IsValidCluster s → append_answer s.logs key ≡ Ok at → IsValidCluster (appended_to s key)
+appended_valid s key at v ok =
+    let passed = accepted_append (nat_lt longest_key (length key)) (is_full_for s.logs key) (place_in s.logs key, length (log_at s.logs (place_in s.logs key))) at ok in
+    append-kept s key v (valid s.logs key v.logs (place_of-below s.logs.partitions key v.logs.some_partitions) (not_longer longest_key (length key) passed.0) passed.1)
+
+-- ---- commits
+passed_fence : (a : Result (Unit {0}) Refusal) (b : Result ℕ Refusal) (end : ℕ) → result_and a b ≡ Ok end → (a ≡ Ok tt) × (b ≡ Ok end)
+passed_fence (Ok u) b end e = (refl, e)
+passed_fence (Err why) b end e = absurd (cc e)
+
+pub record IsAccepted (s : ClusterState) (c : CommitTerms) (end : ℕ) : Type 0 where
+  pub fits : Fits s.store s.logs c.partition c.from c.ids
+  pub end_is : end ≡ c.from + length c.ids
+  pub below : c.partition < length s.store.offsets
+  pub valid : IsValidCluster (committed_by s c)
+
+pub committed_valid : (s : ClusterState) (c : CommitTerms) (end : ℕ) → IsValidCluster s → cluster_commit_answer s c ≡ Ok end → IsAccepted s c end
+unfolding raised
+committed_valid s c end v ok =
+    let passed = passed_fence (fence s.group c) (commit_answer s.store s.logs c.partition c.from c.ids) end ok in
+    let below = partition-below s c v passed.0 in
+    let taken = accepted s.store s.logs c.partition c.from end c.ids (sym passed.1) in
+    record {
+      fits = taken.0;
+      end_is = taken.1;
+      below = below.0;
+      valid = record {
+        good = v.good;
+        logs = v.logs;
+        exact = commit-exact s.store s.logs c.partition c.from c.ids v.logs below.1 below.0 (omega (arith, v.a_counter_each)) taken.0 v.exact;
+        logs_partitions = v.logs_partitions;
+        store_partitions = length-set s.store.offsets c.partition _ ∙ v.store_partitions;
+        a_counter_each = length-raised 0 s.store.counts c.ids ∙ v.a_counter_each;
+      };
+    }
+
+-- ---- what a step of the cluster leaves
+pub record Leaves (s new : ClusterState) (about : ℕ) : Type 0 where
+  pub valid : IsValidCluster new
+  pub others : LeavesOthers s.group new.group about
+  pub committed : (p : ℕ) → committed_at s.store p ≤ committed_at new.store p
+  pub logs : (p : ℕ) → (more : List ℕ) × (log_at new.logs p ≡ log_at s.logs p ++ more)
+
+same_member : (g : GroupState) (n : ℕ) → LeavesMember g g n
+same_member g n = record {
+  present = refl;
+  granted = λ q h. h;
+  either = inl (record { generation = refl; joined = refl; synced = refl; granted = refl; assigned = refl });
+}
+
+pub same_group : (g : GroupState) (about : ℕ) → LeavesOthers g g about
+same_group g about = record { partitions = refl; rises = omega arith; others = λ n ne. same_member g n }
+
+same_log : (xs : List ℕ) → (more : List ℕ) × (xs ≡ xs ++ more)
+same_log xs = ([], sym (append-nil xs))
+
+pub leaves_by_group : (s : ClusterState) (g : GroupState) (about : ℕ) → IsValidCluster (with_group s g) → LeavesOthers s.group g about → Leaves s (with_group s g) about
+leaves_by_group s g about valid others = record {
+  valid = valid;
+  others = others;
+  committed = λ p. omega arith;
+  logs = λ p. same_log (log_at s.logs p);
+}
+
+pub nothing_leaves : (s : ClusterState) (about : ℕ) → IsValidCluster s → Leaves s s about
+nothing_leaves s about valid = record {
+  valid = valid;
+  others = same_group s.group about;
+  committed = λ p. omega arith;
+  logs = λ p. same_log (log_at s.logs p);
+}
+
+offset_rises : (xs : List ℕ) (i n j : ℕ) → i < length xs → slice_index_or xs j 0 ≤ slice_index_or (slice_set xs i (slice_index_or xs i 0 + n)) j 0
+offset_rises xs i n j lt =
+    elim (is_place j i) [
+      inl same ↦ rw same (omega (arith, get_or-set_same xs i (slice_index_or xs i 0 + n) 0 lt))
+    | inr other ↦ omega (arith, get_or-set_other xs i j (slice_index_or xs i 0 + n) 0 other)
+    ]
+
+pub commit_leaves : (s : ClusterState) (c : CommitTerms) (end about : ℕ) → IsAccepted s c end → Leaves s (committed_by s c) about
+commit_leaves s c end about a = record {
+  valid = a.valid;
+  others = same_group s.group about;
+  committed = λ p. offset_rises s.store.offsets c.partition (length c.ids) p a.below;
+  logs = λ p. same_log (log_at s.logs p);
+}
+
+log_grows : (l : PartitionLogs) (key : Key) (p : ℕ) → IsValidLogs l → (more : List ℕ) × (log_at (with_record l key) p ≡ log_at l p ++ more)
+log_grows l key p v =
+    elim (is_place p (place_in l key)) [
+      inl same ↦ (id_of l.keys key ∷ [], rw same (log-same l key (omega (arith, place_of-below l.partitions key v.some_partitions, v.a_log_each))))
+    | inr other ↦ ([], log-other l key p other ∙ sym (append-nil (log_at l p)))
+    ]
+
+offsets_same : (b : Bool) (store : Commits) → (if b then store else (record store { counts = store.counts ++ 0 ∷ [] })).offsets ≡ store.offsets
+offsets_same true store = refl
+offsets_same false store = refl
+
+pub append_leaves : (s : ClusterState) (key : Key) (at : ℕ × ℕ) (about : ℕ) → IsValidCluster s → append_answer s.logs key ≡ Ok at → Leaves s (appended_to s key) about
+append_leaves s key at about v ok = record {
+  valid = appended_valid s key at v ok;
+  others = same_group s.group about;
+  committed = λ p. omega (arith, ap (λ (os : List ℕ). slice_index_or os p 0) (offsets_same (is_known s.logs.keys key) s.store));
+  logs = λ p. log_grows s.logs key p v.logs;
+}
