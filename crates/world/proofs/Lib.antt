@@ -6,5 +6,6 @@ pub mod Lists
 pub mod Lookups
 pub mod Outcomes
 pub mod Refusals
+pub mod Runs
 pub mod Slots
 pub mod Stays

@@ -96,7 +96,7 @@ on_mail w m f None = refl
 on_mail w zero f (Some c) = refl
 on_mail w (suc i) f (Some c) = refl
 
-on_cluster : (w : WorldState) (m : ℕ) (f : ConsumerState → ConsumerState) (o : Option ConsumerState) → (changed w m f o).cluster ≡ w.cluster
+pub on_cluster : (w : WorldState) (m : ℕ) (f : ConsumerState → ConsumerState) (o : Option ConsumerState) → (changed w m f o).cluster ≡ w.cluster
 on_cluster w m f None = refl
 on_cluster w zero f (Some c) = refl
 on_cluster w (suc i) f (Some c) = refl

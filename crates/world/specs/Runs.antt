@@ -1,9 +1,26 @@
 -- Events, one after another.
-use Rattle.std.specs.Prelude.{◌≡◌, ℕ, List, [], ◌∷◌}
+use Rattle.std.specs.Prelude.{◌≡◌, ◌⊎◌, ◌<◌, ◌≤◌, ℕ, List, [], ◌∷◌, ◌++◌, Result, Ok, Err, length, map, take, drop}
+use Rattle.std.specs.Borrow.{Bor}
+use Rattle.lane_words.specs.declared.Refusal.{Refusal}
+use Rattle.lane_words.specs.declared.Refusal.TheVariants as r
+use Rattle.partition_log.specs.Keys.{Key}
+use Rattle.group_machine.specs.Cluster.{AreLogsOf}
+use Rattle.group_machine.specs.State.{opening}
 use Rattle.world.specs.declared.event.Event.{Event}
+use Rattle.world.specs.declared.event.Event.TheVariants as event
 use Rattle.world.specs.declared.event.Reply.{Reply}
+use Rattle.world.specs.declared.event.Reply.TheVariants as reply
 use Rattle.world.specs.Steps.{Step}
+use Rattle.world.specs.Valid.{IsValidWorld}
 use Rattle.world.specs.World.{WorldState}
+
+-- a world of this many partitions in which nothing has happened
+pub record IsOpening (partitions : ℕ) (w : WorldState) : Type 0 where
+  pub group : w.cluster.group ≡ opening partitions
+  pub logs : AreLogsOf [] w.cluster.logs
+  pub counts : w.cluster.store.counts ≡ []
+  pub consumers : w.consumers ≡ []
+  pub mail : w.mail ≡ []
 
 -- a schedule, the replies to its events, and the world after it
 abbrev pub Run : WorldState → List Event → List Reply → WorldState → Type 0
@@ -12,3 +29,53 @@ Run w [] (reply ∷ replies) w2 = ⊥
 Run w (event ∷ events) [] w2 = ⊥
 Run w (event ∷ events) (reply ∷ replies) w2 =
     (mid : WorldState) × Step w event reply mid × Run mid events replies w2
+
+-- ---- what was appended
+abbrev pub key_if_appended : Key → Reply → List Key
+key_if_appended key (reply.Appended p offset) = key ∷ []
+key_if_appended key reply = []
+
+-- the key that an event appended, if its reply says so
+abbrev pub appended_by : Event → Reply → List Key
+appended_by (event.Append key) reply = key_if_appended key.now reply
+appended_by event reply = []
+
+-- the keys that a schedule appended, by its replies
+abbrev pub appended_in : List Event → List Reply → List Key
+appended_in [] replies = []
+appended_in (event ∷ events) [] = []
+appended_in (event ∷ events) (reply ∷ replies) = appended_by event reply ++ appended_in events replies
+
+-- logs of a list of keys are afterwards those of the list with these at its end
+abbrev pub AppendsKeys : List Key → WorldState → WorldState → Type 0
+AppendsKeys keys w w2 = (appended : List Key) → AreLogsOf appended w.cluster.logs
+  → AreLogsOf (appended ++ keys) w2.cluster.logs
+
+-- ---- loading
+-- the events that append these keys, in order
+abbrev pub appends_of : List (Bor Key) → List Event
+appends_of keys = map (λ key. event.Append key) keys
+
+abbrev pub AreAppended : List Reply → Type 0
+AreAppended [] = Unit {0}
+AreAppended (reply.Appended p offset ∷ replies) = AreAppended replies
+AreAppended (reply ∷ replies) = ⊥
+
+-- all of these keys were appended, one after the other
+abbrev pub Appends : WorldState → List (Bor Key) → WorldState → Type 0
+Appends w keys w2 = (replies : List Reply) × Run w (appends_of keys) replies w2 × AreAppended replies
+
+-- the append of the first of these keys is refused
+abbrev pub IsRefusedNext : WorldState → List Event → Refusal → Type 0
+IsRefusedNext w [] why = ⊥
+IsRefusedNext w (event ∷ events) why = Step w event (reply.Refused why) w
+
+-- Why a load stopped after n keys: the append of the next one was refused, or at the beginning memory for the places was
+abbrev pub StopsLoad : WorldState → List (Bor Key) → ℕ → Refusal → Type 0
+StopsLoad w rest n why = IsRefusedNext w (appends_of rest) why ⊎ ((n ≡ 0) × (why ≡ r.Memory))
+
+-- a load of keys: all are appended; or those before the first that is refused, and it is told how many these are
+abbrev pub Loads : WorldState → List (Bor Key) → Result (Unit {0}) (ℕ × Refusal) → WorldState → Type 0
+Loads w keys (Ok _) w2 = Appends w keys w2
+Loads w keys (Err stop) w2 =
+    (stop.0 ≤ length keys) × Appends w (take stop.0 keys) w2 × StopsLoad w2 (drop stop.0 keys) stop.0 stop.1

@@ -2,7 +2,10 @@
 #![tactic(auto)]
 
 mod event;
+mod laws;
 mod parts;
-
+mod world;
 
 pub use event::{Event, MOST_COMMITS, Reply};
+pub use laws::all_committed_is_the_plain_count;
+pub use world::World;

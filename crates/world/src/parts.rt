@@ -1,8 +1,9 @@
 //! What a world is made of, and its events.
 
-ghost use Rattle.std.specs.Prelude.{◌≡◌, ◌<◌, ℕ, suc, length, IfOk, IfErr};
+ghost use Rattle.std.specs.Prelude.{◌≡◌, ◌<◌, ℕ, suc, length, map, IfOk, IfErr, OnOk};
 ghost use Rattle.world.specs.World.{WorldState};
 ghost use Rattle.world.specs.Steps.{Comes, MayCome, Step, append_event, deliver_event, deliver_unanswered_event, join_event, leave_event, lose_event, poll_event, refused_by_cluster, rejoin_event, send_event, sync_event};
+ghost use Rattle.world.specs.Runs.{AppendsKeys, Loads};
 ghost use Rattle.world.specs.Valid.{IsValidWorld};
 ghost use Rattle.world.specs.Private.Lookups.{IsAsking, IsIndexOf, IsNotAsking};
 ghost use Rattle.world.specs.Private.View.{world_view};
@@ -11,7 +12,9 @@ use crate::event::{Event, MOST_COMMITS, Reply};
 use consumer::Consumer;
 use group_machine::{Cluster, Commit, Name};
 use lane_words::Refusal;
+use partitioner::Partitions;
 use std::alloc::Global;
+use std::thread::Threads;
 
 /// The parts of a world.
 #[derive(Drop)]
@@ -45,6 +48,30 @@ impl Parts {
             Event::Deliver(number) => self.deliver(number),
             Event::DeliverUnanswered(number) => self.deliver_unanswered(number),
         }
+    }
+
+    /// Appends records of these keys in order, until one is refused.
+    pub fn load<R: Threads + Sync>(
+        &mut self,
+        rt: &R,
+        alloc: Global,
+        keys: &[&[u8]],
+    ) -> Result<(), (u64, Refusal)>
+        requires { IsValidWorld (world_view self.old) }
+        ensures loads { Loads (world_view self.old) keys.now result (world_view self.new) }
+        ensures history { OnOk result (AppendsKeys (map (λ key. key.now) keys.now) (world_view self.old) (world_view self.new)) }
+        ensures valid { IsValidWorld (world_view self.new) }
+    {
+        let partitions = Partitions::new(self.cluster.partitions());
+        let Ok(places) = partitions.place_all(rt, alloc, keys) else {
+            return Err((0, Refusal::Memory));
+        };
+        for i in 0..keys.len() {
+            if let Err(why) = self.cluster.append_at(places[i], keys[i]) {
+                return Err((i as u64, why));
+            }
+        }
+        Ok(())
     }
 
     fn append(&mut self, key: &[u8]) -> Reply
@@ -231,7 +258,7 @@ impl Parts {
 }
 
 /// The index of item number `number` of so many, counted from 1.
-fn index_of(number: u32, count: usize) -> Option<usize>
+pub fn index_of(number: u32, count: usize) -> Option<usize>
     ensures { IsIndexOf number count result }
 {
     if number == 0 || number as usize > count {

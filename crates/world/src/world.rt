@@ -1,0 +1,136 @@
+//! A world: whatever is scheduled in it, what it keeps holds.
+
+ghost use Rattle.std.specs.Prelude.{◌≡◌, ◌≤◌, ℕ, None, Some, IfOk, MatchOption, OnErr, OnOk, map};
+ghost use Rattle.group_machine.specs.Cluster.{committed_at};
+ghost use Rattle.world.specs.World.{consumer_of};
+ghost use Rattle.world.specs.Steps.{NeverFaults, Step};
+ghost use Rattle.world.specs.Runs.{AppendsKeys, IsOpening, Loads, Run, appended_by, appended_in};
+ghost use Rattle.world.specs.Valid.{IsValidWorld};
+
+use crate::event::{Event, Reply};
+use crate::parts::{Parts, index_of};
+use consumer::Consumer;
+use group_machine::{Cluster, Commit};
+use lane_words::{MOST_PARTITIONS, Memory, Refusal};
+use std::alloc::Global;
+use std::marker::Model;
+use std::random::RandomSource;
+use std::thread::Threads;
+
+/// A cluster, a consumer for each member that ever joined, and the commits that were sent.
+///
+/// Any list of events may come: appends, joins, rejoins, syncs, leaves and losses of members, polls, and commits that
+/// are sent, delivered late, again and again, or unanswered. After each of them no partition is granted to two present
+/// members, a settled assignment is balanced, and every key's count is that of the records below the committed offsets,
+/// each taken once.
+#[derive(Drop)]
+pub struct World {
+    alloc: Global,
+    parts: Parts,
+}
+
+impl Model for World {
+    ghost use Rattle.world.specs.World.{WorldState};
+    ghost use Rattle.world.specs.Valid.{IsValidWorld};
+    ghost use Rattle.world.specs.Private.View.{world_view};
+
+    ghost Value = { WorldState };
+
+    ghost view = { λ a. world_view a.parts };
+
+    ghost invariant = { λ a. IsValidWorld (world_view a.parts) };
+}
+
+impl World {
+    /// A world of 1 to 4096 partitions in which nothing has happened. Refused for want of memory, or where the random
+    /// source fails, from which the hasher of the keys is drawn.
+    pub fn new(rt: &impl RandomSource, alloc: Global, partitions: u32) -> Result<World, Memory>
+        requires { (1 ≤ partitions) × (partitions ≤ MOST_PARTITIONS) }
+        ensures opening { IfOk result (IsOpening partitions) }
+        ensures offsets { IfOk result (λ w. (p : ℕ) → committed_at w.cluster.store p ≡ 0) }
+        ensures valid { IfOk result IsValidWorld }
+    {
+        let cluster = Cluster::new(rt, alloc, partitions)?;
+        Ok(World {
+            alloc,
+            parts: Parts {
+                cluster,
+                consumers: Vec::new(alloc),
+                mail: Vec::new(alloc),
+            },
+        })
+    }
+
+    /// One event, and the reply to it.
+    ///
+    /// A refused event changes nothing, but that a consumer which learns that its member is not present drops all, and
+    /// that one which learns the committed offset is realigned. An event that takes memory may be refused for want of
+    /// it, with everything as it was.
+    pub fn step(&mut self, event: Event<'_>) -> Reply
+        ensures step { Step self.old event.entry result self.new }
+        ensures never_faults { NeverFaults self.old event.entry }
+        ensures history { AppendsKeys (appended_by event.entry result) self.old self.new }
+        ensures valid { IsValidWorld self.new }
+    {
+        self.parts.step(self.alloc, event)
+    }
+
+    /// Events in order, and the replies to them. Refused for want of memory for the replies alone, with everything as
+    /// it was; an event that is refused has its reply, and the run goes on.
+    pub fn run(&mut self, events: &[Event<'_>]) -> Result<Vec<Reply>, Memory>
+        ensures run { IfOk result (λ replies. Run self.old events.now replies.items self.new) }
+        ensures history { IfOk result (λ replies. AppendsKeys (appended_in events.now replies.items) self.old self.new) }
+        ensures valid { IsValidWorld self.new }
+        ensures err { OnErr result (self.new ≡ self.old) }
+    {
+        let mut replies = Vec::with_capacity(self.alloc, events.len())?;
+        for event in events {
+            replies.push_reserved(self.step(*event));
+        }
+        Ok(replies)
+    }
+
+    /// Appends records of these keys in order, as their events would.
+    ///
+    /// Where one is refused it stops, and answers how many stand before it, with the refusal: those stand. Where the
+    /// memory for the places of the keys is refused, that number is 0.
+    pub fn load<R: Threads + Sync>(
+        &mut self,
+        rt: &R,
+        keys: &[&[u8]],
+    ) -> Result<(), (u64, Refusal)>
+        ensures loads { Loads self.old keys.now result self.new }
+        ensures history { OnOk result (AppendsKeys (map (λ key. key.now) keys.now) self.old self.new) }
+        ensures valid { IsValidWorld self.new }
+    {
+        self.parts.load(rt, self.alloc, keys)
+    }
+
+    /// The cluster.
+    pub fn cluster(&self) -> &Cluster
+        ensures cluster { result.now ≡ self.now.cluster }
+        ensures valid { IsValidWorld self.now }
+    {
+        &self.parts.cluster
+    }
+
+    /// The consumer of a member that ever joined, present or not.
+    pub fn consumer(&self, member: u32) -> Option<&Consumer>
+        ensures value { MatchOption result (consumer_of self.now member ≡ None) (λ consumer. consumer_of self.now member ≡ Some consumer.now) }
+        ensures valid { IsValidWorld self.now }
+    {
+        let index = index_of(member, self.parts.consumers.len())?;
+        Some(&self.parts.consumers[index])
+    }
+
+    /// The commits that were sent, in order.
+    pub fn mail(&self) -> &[Commit]
+        ensures mail { result.now ≡ self.now.mail }
+        ensures valid { IsValidWorld self.now }
+    {
+        &self.parts.mail
+    }
+}
+
+#[cfg(test)]
+mod tests;

@@ -1,0 +1,1 @@
+//! Worked rows, and a long random schedule.
