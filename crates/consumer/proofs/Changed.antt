@@ -28,17 +28,17 @@ pub record KeepsHold (c new : ConsumerState) : Type 0 where
 below_if_held : (c : ConsumerState) (p : ℕ) (h : Held) → held_at c p ≡ Some h → p < length c.held
 below_if_held c p h e =
     elim (cases_lt p (length c.held)) [
-      inl lt ↦ lt
-    | inr le ↦ absurd (let none = get_or_past c.held p None le in cc)
+      | inl lt ↦ lt
+      | inr le ↦ absurd (let none = get_or_past c.held p None le in cc)
     ]
 
 is_same_or_not : (p q : ℕ) → (q ≡ p) ⊎ (q ≡ p → ⊥)
 is_same_or_not p q =
     elim (cases_lt p q) [
-      inl lt ↦ inr (λ e. omega arith)
-    | inr le ↦ elim (cases_lt q p) [
-        inl lt ↦ inr (λ e. omega arith)
-      | inr ge ↦ inl (omega arith)
+      | inl lt ↦ inr (λ e. omega arith)
+      | inr le ↦ elim (cases_lt q p) [
+        | inl lt ↦ inr (λ e. omega arith)
+        | inr ge ↦ inl (omega arith)
       ]
     ]
 
@@ -46,8 +46,8 @@ pub slot_with : (c : ConsumerState) (p : ℕ) (old h : Held) → held_at c p ≡
     → ((q ≡ p) × (held_at (with_held c p h) q ≡ Some h)) ⊎ (held_at (with_held c p h) q ≡ held_at c q)
 slot_with c p old h held q =
     elim (is_same_or_not p q) [
-      inl same ↦ inl (same, rw same (get_or-set_same c.held p (Some h) None (below_if_held c p old held)))
-    | inr other ↦ inr (get_or-set_other c.held p q (Some h) None other)
+      | inl same ↦ inl (same, rw same (get_or-set_same c.held p (Some h) None (below_if_held c p old held)))
+      | inr other ↦ inr (get_or-set_other c.held p q (Some h) None other)
     ]
 
 pub with_keeps : (c : ConsumerState) (p : ℕ) (old h : Held) → held_at c p ≡ Some old → KeepsHold c (with_held c p h)
@@ -57,38 +57,38 @@ with_keeps c p old h held = record {
   generation = refl;
   assigned = refl;
   held = λ q. elim (slot_with c p old h held q) [
-      inl at ↦ ap is_some at.1 ∙ ap is_some (sym held) ∙ ap (is_held c) (sym at.0)
+    | inl at ↦ ap is_some at.1 ∙ ap is_some (sym held) ∙ ap (is_held c) (sym at.0)
     | inr same ↦ ap is_some same
-    ];
+  ];
 }
 
 -- a bound on bases, and one on positions
 pub with_base : (c : ConsumerState) (p : ℕ) (old h : Held) → held_at c p ≡ Some old → (b : ℕ → ℕ) → h.base ≤ b p → ((q : ℕ) → base_of c q ≤ b q) → (q : ℕ) → base_of (with_held c p h) q ≤ b q
 with_base c p old h held b this others q =
     elim (slot_with c p old h held q) [
-      inl at ↦ rw at.1 (rw at.0 this)
-    | inr same ↦ rw same (others q)
+      | inl at ↦ rw at.1 (rw at.0 this)
+      | inr same ↦ rw same (others q)
     ]
 
 pub with_position : (c : ConsumerState) (p : ℕ) (old h : Held) → held_at c p ≡ Some old → (b : ℕ → ℕ) → h.position ≤ b p → ((q : ℕ) → position_of c q ≤ b q) → (q : ℕ) → position_of (with_held c p h) q ≤ b q
 with_position c p old h held b this others q =
     elim (slot_with c p old h held q) [
-      inl at ↦ rw at.1 (rw at.0 this)
-    | inr same ↦ rw same (others q)
+      | inl at ↦ rw at.1 (rw at.0 this)
+      | inr same ↦ rw same (others q)
     ]
 
 with_ordered : (c : ConsumerState) (p : ℕ) (old h : Held) → held_at c p ≡ Some old → h.base ≤ h.position → ((q : ℕ) → base_of c q ≤ position_of c q) → (q : ℕ) → base_of (with_held c p h) q ≤ position_of (with_held c p h) q
 with_ordered c p old h held this others q =
     elim (slot_with c p old h held q) [
-      inl at ↦ rw at.1 this
-    | inr same ↦ rw same (others q)
+      | inl at ↦ rw at.1 this
+      | inr same ↦ rw same (others q)
     ]
 
 none_held : (n p : ℕ) → held_at (out_of_group n) p ≡ None
 none_held n p =
     elim (cases_lt p n) [
-      inl lt ↦ get_or-replicate n p None None lt
-    | inr le ↦ get_or_past (replicate n (let none : Option Held = None in none)) p None (omega (arith, length-replicate n (let none : Option Held = None in none)))
+      | inl lt ↦ get_or-replicate n p None None lt
+      | inr le ↦ get_or_past (replicate n (let none : Option Held = None in none)) p None (omega (arith, length-replicate n (let none : Option Held = None in none)))
     ]
 
 -- whoever holds something is in

@@ -32,8 +32,8 @@ slot_past f n p le = get_or_past (slots_by f n) p None (omega (arith, length-map
 ordered_by : (f : ℕ → Option Held) (n : ℕ) → ((p : ℕ) → p < n → slot_base (f p) ≤ slot_position (f p)) → (p : ℕ) → slot_base (slice_index_or (slots_by f n) p None) ≤ slot_position (slice_index_or (slots_by f n) p None)
 ordered_by f n each p =
     elim (cases_lt p n) [
-      inl lt ↦ rw (slot_by f n p lt) (each p lt)
-    | inr le ↦ rw (slot_past f n p le) (omega arith)
+      | inl lt ↦ rw (slot_by f n p lt) (each p lt)
+      | inr le ↦ rw (slot_past f n p le) (omega arith)
     ]
 
 lease_ordered : (lease : LeaseTerms) (p : ℕ) (o : Option Held) → slot_base o ≤ slot_position o → slot_base (leased_slot lease p o) ≤ slot_position (leased_slot lease p o)
@@ -71,7 +71,7 @@ given_up_out n =
     let long : length slots ≡ n = length-replicate n None in
     let f : ℕ → Option Held = λ p. if is_in (empty_set n) p then slice_index_or slots p None else None in
     ap (λ held. record (out_of_group n) { held = held })
-      (ap (λ k. map f (range_with_len 0 k)) long ∙ sym (fill_by_all f slots n None long (λ k lt. none_in n k lt ∙ none_if (is_in (empty_set n) k) (slice_index_or slots k None) (none_in n k lt))))
+    (ap (λ k. map f (range_with_len 0 k)) long ∙ sym (fill_by_all f slots n None long (λ k lt. none_in n k lt ∙ none_if (is_in (empty_set n) k) (slice_index_or slots k None) (none_in n k lt))))
 
 pub given_up_valid : (c : ConsumerState) → IsValidConsumer c → IsValidConsumer (given_up c)
 given_up_valid c valid = record {

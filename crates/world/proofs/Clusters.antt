@@ -128,8 +128,8 @@ nothing_leaves s about valid = record {
 offset_rises : (xs : List ℕ) (i n j : ℕ) → i < length xs → slice_index_or xs j 0 ≤ slice_index_or (slice_set xs i (slice_index_or xs i 0 + n)) j 0
 offset_rises xs i n j lt =
     elim (is_place j i) [
-      inl same ↦ rw same (omega (arith, get_or-set_same xs i (slice_index_or xs i 0 + n) 0 lt))
-    | inr other ↦ omega (arith, get_or-set_other xs i j (slice_index_or xs i 0 + n) 0 other)
+      | inl same ↦ rw same (omega (arith, get_or-set_same xs i (slice_index_or xs i 0 + n) 0 lt))
+      | inr other ↦ omega (arith, get_or-set_other xs i j (slice_index_or xs i 0 + n) 0 other)
     ]
 
 pub commit_leaves : (s : ClusterState) (c : CommitTerms) (end about : ℕ) → IsAccepted s c end → Leaves s (committed_by s c) about
@@ -143,8 +143,8 @@ commit_leaves s c end about a = record {
 log_grows : (l : PartitionLogs) (key : Key) (p : ℕ) → IsValidLogs l → (more : List ℕ) × (log_at (with_record l key) p ≡ log_at l p ++ more)
 log_grows l key p v =
     elim (is_place p (place_in l key)) [
-      inl same ↦ (id_of l.keys key ∷ [], rw same (log-same l key (omega (arith, place_of-below l.partitions key v.some_partitions, v.a_log_each))))
-    | inr other ↦ ([], log-other l key p other ∙ sym (append-nil (log_at l p)))
+      | inl same ↦ (id_of l.keys key ∷ [], rw same (log-same l key (omega (arith, place_of-below l.partitions key v.some_partitions, v.a_log_each))))
+      | inr other ↦ ([], log-other l key p other ∙ sym (append-nil (log_at l p)))
     ]
 
 offsets_same : (b : Bool) (store : Commits) → (if b then store else (record store { counts = store.counts ++ 0 ∷ [] })).offsets ≡ store.offsets

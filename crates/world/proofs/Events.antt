@@ -6,6 +6,7 @@ use Rattle.std.proofs.lemmas.Bool.{cases_lt}
 use Rattle.std.proofs.lemmas.Bool.Decides.{eqb_tells, nat_tests}
 use Rattle.std.proofs.lemmas.List.{get_or-set_same, length-take-le}
 use Rattle.std.proofs.lemmas.Option.{slice_get_within}
+use Rattle.lane_words.specs.Answers.{Answers}
 use Rattle.lane_words.specs.declared.Refusal.{Refusal}
 use Rattle.lane_words.specs.declared.Refusal.TheVariants as r
 use Rattle.partition_log.specs.Keys.{Key}
@@ -39,8 +40,8 @@ use Rattle.world.proofs.Stays.{IsFine, IsFrom, both_stay, consumer_stays, out_fi
 is_it : (m n : ℕ) → (n ≡ m) ⊎ (n ≡ m → ⊥)
 is_it m n =
     elim (eqb_tells n m) [
-      inl t ↦ inl t.1
-    | inr f ↦ inr (λ e. f.1 e)
+      | inl t ↦ inl t.1
+      | inr f ↦ inr (λ e. f.1 e)
     ]
 
 -- a step of the cluster that no consumer is told of
@@ -48,9 +49,9 @@ alone_stays : (w : WorldState) (new : ClusterState) (m : ℕ) → IsValidWorld w
     → ((c : ConsumerState) → consumer_of w m ≡ Some c → IsFine new m c) → IsValidWorld (with_cluster w new)
 alone_stays w new m v leaves slots fine =
     stays w (with_cluster w new) m v leaves refl (v.a_consumer_each ∙ sym slots) (λ n c e. elim (is_it m n) [
-        inl same ↦ inl (same, fine c (ap (consumer_of w) (sym same) ∙ same_lookup n c e))
+      | inl same ↦ inl (same, fine c (ap (consumer_of w) (sym same) ∙ same_lookup n c e))
       | inr other ↦ inr (other, same_lookup n c e)
-      ])
+    ])
   where
     same_lookup : (k : ℕ) (c : ConsumerState) → consumer_of (with_cluster w new) k ≡ Some c → consumer_of w k ≡ Some c
     same_lookup zero c e = e
@@ -88,11 +89,11 @@ joined_world w name m v is =
     let number : m ≡ length w.consumers + 1 = omega (arith, (accepted_join g name m is).1, v.a_consumer_each) in
     let newcomer : ConsumerState = joined_as (out_of_group g.partitions) m in
     stays w (join_outcome w name (Ok m)).after m v (leaves_by_group w.cluster (joined_by g name) m valid left) refl
-      (length-append w.consumers (newcomer ∷ []) ∙ ap (λ n. n + 1) v.a_consumer_each ∙ sym (joined_slots g name))
-      (λ n c e. elim (consumer_more w n newcomer c (lookup n c e)) [
-          inl at ↦ inl (at.0 ∙ sym number, subst (IsFine new m) (sym at.1) fine)
-        | inr old ↦ inr ((λ same. omega (arith, same, number, number_within w n c old)), old)
-        ])
+    (length-append w.consumers (newcomer ∷ []) ∙ ap (λ n. n + 1) v.a_consumer_each ∙ sym (joined_slots g name))
+    (λ n c e. elim (consumer_more w n newcomer c (lookup n c e)) [
+      | inl at ↦ inl (at.0 ∙ sym number, subst (IsFine new m) (sym at.1) fine)
+      | inr old ↦ inr ((λ same. omega (arith, same, number, number_within w n c old)), old)
+    ])
   where
     lookup : (n : ℕ) (c : ConsumerState) → consumer_of (join_outcome w name (Ok m)).after n ≡ Some c
         → consumer_of (record w { consumers = w.consumers ++ joined_as (out_of_group w.cluster.group.partitions) m ∷ [] }) n ≡ Some c
@@ -134,6 +135,7 @@ asked_stays w m f v each = go (consumer_of w m) refl
     out_or_in : (c : ConsumerState) (b : Bool) → IsValidWorld (f c).after → IsValidWorld (let o : Outcome = if b then record { reply = reply.Refused r.OutOfGroup; after = w } else f c in o).after
     out_or_in c true h = v
     out_or_in c false h = h
+
     go : (o : Option ConsumerState) → consumer_of w m ≡ o → IsValidWorld (asked w o f).after
     go None is = v
     go (Some c) is = out_or_in c (is_none c.member) (each c is)
@@ -147,9 +149,9 @@ sync_stays w m v = asked_stays w m (λ c. sync_outcome w m (cluster_sync_answer 
         let here = sync_present w.cluster m lease is in
         let mine : lease ≡ lease_of w.cluster m = leased_to w.cluster m lease (inl (sym is)) in
         both_stay w (with_group w.cluster (synced_by g m)) m (λ c. leased c lease) v
-          (leaves_by_group w.cluster (synced_by g m) m (synced_valid w.cluster m v.cluster) (sync_leaves g m)) (synced_slots g m)
-          (λ c e. subst (λ l. IsFine (with_group w.cluster (synced_by g m)) m (leased c l)) (sym mine)
-            (sync_fine w.cluster m c v.cluster (v.consumers m c e) (v.present m c here e) here))
+        (leaves_by_group w.cluster (synced_by g m) m (synced_valid w.cluster m v.cluster) (sync_leaves g m)) (synced_slots g m)
+        (λ c e. subst (λ l. IsFine (with_group w.cluster (synced_by g m)) m (leased c l)) (sym mine)
+        (sync_fine w.cluster m c v.cluster (v.consumers m c e) (v.present m c here e) here))
     go (Err why) is = refused_stays w m why v (λ e. sync_unknown w.cluster m (is ∙ ap (λ x. Err x) e))
 
 rejoin_stays : (w : WorldState) (m : ℕ) → IsValidWorld w → IsValidWorld (rejoin_event w m).after
@@ -160,9 +162,9 @@ rejoin_stays w m v = asked_stays w m (λ c. rejoin_outcome w m (rejoin_answer w.
         let g = w.cluster.group in
         let here = (rejoin_accepted g m c.generation c.assigned is).present in
         both_stay w (with_group w.cluster (rejoined_by g m)) m given_up v
-          (leaves_by_group w.cluster (rejoined_by g m) m (rejoined_valid w.cluster m c.generation c.assigned v.cluster is) (rejoin_leaves g m c.generation c.assigned v.cluster.good is)) (rejoined_slots g m)
-          (λ x e. subst (λ y. IsFine (with_group w.cluster (rejoined_by g m)) m (given_up y)) (same_consumer w m c x known e)
-            (rejoin_fine w.cluster m c v.cluster (v.consumers m c known) (v.present m c here known) is))
+        (leaves_by_group w.cluster (rejoined_by g m) m (rejoined_valid w.cluster m c.generation c.assigned v.cluster is) (rejoin_leaves g m c.generation c.assigned v.cluster.good is)) (rejoined_slots g m)
+        (λ x e. subst (λ y. IsFine (with_group w.cluster (rejoined_by g m)) m (given_up y)) (same_consumer w m c x known e)
+        (rejoin_fine w.cluster m c v.cluster (v.consumers m c known) (v.present m c here known) is))
     go c known (Err why) is = refused_stays w m why v (λ e. rejoin_unknown w.cluster.group m c.generation c.assigned (is ∙ ap (λ x. Err x) e))
 
 leave_stays : (w : WorldState) (m : ℕ) → IsValidWorld w → IsValidWorld (leave_event w m).after
@@ -174,7 +176,7 @@ leave_stays w m v = asked_stays w m (λ c. leave_outcome w m (leave_answer w.clu
         let new : ClusterState = with_group w.cluster (left_by g m) in
         let leaves = leaves_by_group w.cluster (left_by g m) m (left_valid w.cluster m v.cluster is) (leave_leaves g m v.cluster.good is) in
         both_stay w new m dropped v leaves (left_slots g m)
-          (λ c e. out_fine new m c (consumer_stays w.cluster new m m c leaves (v.consumers m c e)) (leave_takes_out g m v.cluster.good is))
+        (λ c e. out_fine new m c (consumer_stays w.cluster new m m c leaves (v.consumers m c e)) (leave_takes_out g m v.cluster.good is))
     go (Err why) is = refused_stays w m why v (λ e. leave_unknown w.cluster.group m (is ∙ ap (λ x. Err x) e))
 
 -- ---- polls
@@ -198,8 +200,9 @@ poll_stays w m p n v = go (consumer_of w m) refl
     polls : (c : ConsumerState) → consumer_of w m ≡ Some c → (a : Result ℕ Refusal) → poll_answer c w.cluster.logs p n ≡ a → IsValidWorld (poll_outcome w m p n c a).after
     polls c known (Ok count) is =
         both_stay w w.cluster m (λ x. polled x w.cluster.logs p n) v (nothing_leaves w.cluster m v.cluster) refl
-          (λ x e. subst (λ y. IsFine w.cluster m (polled y w.cluster.logs p n)) (same_consumer w m c x known e) (poll_fine w.cluster m p n count c (fine_before w m c v known) is))
+        (λ x e. subst (λ y. IsFine w.cluster m (polled y w.cluster.logs p n)) (same_consumer w m c x known e) (poll_fine w.cluster m p n count c (fine_before w m c v known) is))
     polls c known (Err why) is = v
+
     go : (o : Option ConsumerState) → consumer_of w m ≡ o → IsValidWorld (poll_known w m p n o).after
     go None is = v
     go (Some c) is = polls c is (poll_answer c w.cluster.logs p n) refl
@@ -236,8 +239,8 @@ commit_is_sent l c p ordered within some =
     less : (a b : ℕ) → a ≤ b → (a ≡ b → ⊥) → a < b
     less a b le ne =
         elim (cases_lt a b) [
-          inl lt ↦ lt
-        | inr ge ↦ absurd (ne (omega arith))
+          | inl lt ↦ lt
+          | inr ge ↦ absurd (ne (omega arith))
         ]
 
 mail_room : (most n : ℕ) → nat_le most n ≡ false → n < most
@@ -258,9 +261,9 @@ send_stays w m p v = go (consumer_of w m) refl
           consumers = λ n x e. v.consumers n x (lookup c n x e);
           present = λ n x here e. v.present n x here (lookup c n x e);
           mail = λ i x e. elim (get_push w.mail (commit_of c w.cluster.logs p) x i e) [
-              inl at ↦ subst (IsSent w.cluster.logs) (sym at.1) sent
+            | inl at ↦ subst (IsSent w.cluster.logs) (sym at.1) sent
             | inr old ↦ v.mail i x old
-            ];
+          ];
           few_commits = omega (arith, length-append w.mail (commit_of c w.cluster.logs p ∷ []), mail_room MOST_COMMITS (length w.mail) passed.1);
         }
       where
@@ -268,6 +271,7 @@ send_stays w m p v = go (consumer_of w m) refl
         lookup c zero x e = e
         lookup c (suc i) x e = e
     sends c known (Err why) is = v
+
     go : (o : Option ConsumerState) → consumer_of w m ≡ o → IsValidWorld (send_known w p o).after
     go None is = v
     go (Some c) is = sends c is (mail_answer w c p) refl
@@ -291,11 +295,11 @@ realign_fine s m p k c was base position =
 refused_delivery : (w : WorldState) (c : CommitTerms) (why : Refusal) → IsValidWorld w → cluster_commit_answer w.cluster c ≡ Err why → IsValidWorld (delivered w c (Err why)).after
 refused_delivery w c r.UnknownMember v is =
     both_stay w w.cluster c.member (λ x. answered_by x c.partition (Err r.UnknownMember)) v (nothing_leaves w.cluster c.member v.cluster) refl
-      (λ x e. out_fine w.cluster c.member x (v.consumers c.member x e) (commit_unknown w.cluster c is))
+    (λ x e. out_fine w.cluster c.member x (v.consumers c.member x e) (commit_unknown w.cluster c is))
 refused_delivery w c (r.OffsetMismatch k) v is =
     let told = commit_mismatch w.cluster c k is in
     both_stay w w.cluster c.member (λ x. answered_by x c.partition (Err (r.OffsetMismatch k))) v (nothing_leaves w.cluster c.member v.cluster) refl
-      (λ x e. realign_fine w.cluster c.member c.partition k x (fine_before w c.member x v e) (omega (arith, told)) (omega (arith, told, v.cluster.exact.within c.partition)))
+    (λ x e. realign_fine w.cluster c.member c.partition k x (fine_before w c.member x v e) (omega (arith, told)) (omega (arith, told, v.cluster.exact.within c.partition)))
 refused_delivery w c why v is =
     both_stay w w.cluster c.member (λ x. x) v (nothing_leaves w.cluster c.member v.cluster) refl (λ x e. fine_before w c.member x v e)
 
@@ -306,9 +310,9 @@ delivered_stays w c (Ok end) v is =
     let leaves = commit_leaves w.cluster c end c.member taken in
     let there : committed_at new.store c.partition ≡ committed_at w.cluster.store c.partition + length c.ids = get_or-set_same w.cluster.store.offsets c.partition (committed_at w.cluster.store c.partition + length c.ids) 0 taken.below in
     both_stay w new c.member (λ x. answered_by x c.partition (Ok end)) v leaves refl
-      (λ x e. realign_fine new c.member c.partition end x
-        (record { known = consumer_stays w.cluster new c.member c.member x leaves (v.consumers c.member x e); step = λ here. v.present c.member x here e })
-        (omega (arith, taken.end_is, taken.fits.next, there)) (omega (arith, taken.end_is, taken.fits.within)))
+    (λ x e. realign_fine new c.member c.partition end x
+    (record { known = consumer_stays w.cluster new c.member c.member x leaves (v.consumers c.member x e); step = λ here. v.present c.member x here e })
+    (omega (arith, taken.end_is, taken.fits.next, there)) (omega (arith, taken.end_is, taken.fits.within)))
 delivered_stays w c (Err why) v is = refused_delivery w c why v is
 
 unanswered_stays : (w : WorldState) (c : CommitTerms) (a : Result ℕ Refusal) → IsValidWorld w → cluster_commit_answer w.cluster c ≡ a → IsValidWorld (delivered_unanswered w c a).after
@@ -360,3 +364,9 @@ never_faults w (event.Poll m p n) v = tt
 never_faults w (event.Send m p) v = tt
 never_faults w (event.Deliver k) v = λ c known. commit_never_faults w.cluster c (commit_sent w k c v known)
 never_faults w (event.DeliverUnanswered k) v = λ c known. commit_never_faults w.cluster c (commit_sent w k c v known)
+
+-- an append that is accepted, by its answer
+pub appended_world : (w : WorldState) (key : Key) (at : ℕ × ℕ) (s : ClusterState) → IsValidWorld w → Answers (append_answer w.cluster.logs key) (Ok at) → s ≡ appended_to w.cluster key → IsValidWorld (with_cluster w s)
+appended_world w key at s v (inr wrong) is = absurd (cc wrong)
+appended_world w key at s v (inl answer) is =
+    subst (λ x. IsValidWorld (with_cluster w x)) (sym is) (alone_stays w (appended_to w.cluster key) 0 v (append_leaves w.cluster key at 0 v.cluster (sym answer)) refl (λ c e. absurd (cc e)))

@@ -30,8 +30,8 @@ IsLeasedSlot c lease p = (held_at (leased c lease) p ≡ leased_slot lease p (he
 leased_at : (c : ConsumerState) (lease : LeaseTerms) (p : ℕ) → IsLeasedSlot c lease p
 leased_at c lease p =
     elim (cases_lt p (length c.held)) [
-      inl lt ↦ inl (slot_by (λ q. leased_slot lease q (held_at c q)) (length c.held) p lt)
-    | inr le ↦ inr (slot_past (λ q. leased_slot lease q (held_at c q)) (length c.held) p le)
+      | inl lt ↦ inl (slot_by (λ q. leased_slot lease q (held_at c q)) (length c.held) p lt)
+      | inr le ↦ inr (slot_past (λ q. leased_slot lease q (held_at c q)) (length c.held) p le)
     ]
 
 leased_base : (lease : LeaseTerms) (p most : ℕ) (o : Option Held) → slot_base o ≤ most → start_of lease p ≤ most → slot_base (leased_slot lease p o) ≤ most
@@ -76,23 +76,23 @@ sync_fine s m c v was step here =
         partitions = was.partitions;
         number = was.number;
         committed = λ p. elim (leased_at c lease p) [
-            inl at ↦ rw at (leased_base lease p (committed_at s.store p) (held_at c p) (was.committed p) (omega arith))
+          | inl at ↦ rw at (leased_base lease p (committed_at s.store p) (held_at c p) (was.committed p) (omega arith))
           | inr none ↦ rw none (omega arith)
-          ];
+        ];
         within = λ p. elim (leased_at c lease p) [
-            inl at ↦ rw at (leased_position lease p (length (log_at s.logs p)) (held_at c p) (was.within p) (v.exact.within p))
+          | inl at ↦ rw at (leased_position lease p (length (log_at s.logs p)) (held_at c p) (was.within p) (v.exact.within p))
           | inr none ↦ rw none (omega arith)
-          ];
+        ];
       };
       step = λ present. record {
         member = step.member;
         granted = λ p h. elim (leased_at c lease p) [
-            inl at ↦ elim (leased_from lease p (held_at c p) (sym (ap is_some at) ∙ h)) [
-                inl held ↦ ap (λ x. is_in x p) marks.granted ∙ step.granted p held
-              | inr new ↦ ap (λ x. is_in x p) marks.granted ∙ assigned_in_granted g v.good.fit m p new
-              ]
+          | inl at ↦ elim (leased_from lease p (held_at c p) (sym (ap is_some at) ∙ h)) [
+            | inl held ↦ ap (λ x. is_in x p) marks.granted ∙ step.granted p held
+            | inr new ↦ ap (λ x. is_in x p) marks.granted ∙ assigned_in_granted g v.good.fit m p new
+          ]
           | inr none ↦ absurd (let wrong = sym (ap is_some none) ∙ h in cc)
-          ];
+        ];
         not_ahead = omega (arith, marks.generation);
         synced = (λ e. marks.synced ∙ here, λ e. sym marks.generation);
         assigned = λ e. sym marks.assigned;
@@ -109,8 +109,8 @@ kept_slot c p = if is_in c.assigned p then held_at c p else None
 kept_at : (c : ConsumerState) (p : ℕ) → (held_at (given_up c) p ≡ kept_slot c p) ⊎ (held_at (given_up c) p ≡ None)
 kept_at c p =
     elim (cases_lt p (length c.held)) [
-      inl lt ↦ inl (slot_by (kept_slot c) (length c.held) p lt)
-    | inr le ↦ inr (slot_past (kept_slot c) (length c.held) p le)
+      | inl lt ↦ inl (slot_by (kept_slot c) (length c.held) p lt)
+      | inr le ↦ inr (slot_past (kept_slot c) (length c.held) p le)
     ]
 
 kept_base : (b : Bool) (o : Option Held) (most : ℕ) → slot_base o ≤ most → slot_base (if b then o else None) ≤ most
@@ -129,8 +129,8 @@ kept_if false o e = absurd (cc e)
 held_assigned : (c : ConsumerState) (p : ℕ) → is_held (given_up c) p ≡ true → is_in c.assigned p ≡ true
 held_assigned c p h =
     elim (kept_at c p) [
-      inl at ↦ kept_if (is_in c.assigned p) (held_at c p) (sym (ap is_some at) ∙ h)
-    | inr none ↦ absurd (let wrong = sym (ap is_some none) ∙ h in cc)
+      | inl at ↦ kept_if (is_in c.assigned p) (held_at c p) (sym (ap is_some at) ∙ h)
+      | inr none ↦ absurd (let wrong = sym (ap is_some none) ∙ h in cc)
     ]
 
 -- what was held and is assigned is held on
@@ -142,7 +142,7 @@ rejoined_step g new m c was r inside left =
     let mine : c.assigned ≡ assigned_of g m = was.assigned r.synced in
     let granted : (p : ℕ) → is_held (given_up c) p ≡ true → is_in (granted_of new m) p ≡ true = λ p h. left.granted p (ap (λ x. is_in x p) (sym mine) ∙ held_assigned c p h) in
     elim left.either [
-      inl b ↦ record {
+      | inl b ↦ record {
         member = was.member;
         granted = granted;
         not_ahead = omega (arith, was.not_ahead, b.generation);
@@ -153,7 +153,7 @@ rejoined_step g new m c was r inside left =
             let assigned : is_in c.assigned p ≡ true = ap (λ x. is_in x p) mine ∙ own in
             held_on c p (inside p assigned) assigned (was.held r.synced p own);
       }
-    | inr b ↦ behind g new m (given_up c) was.member granted was.not_ahead b.generation b.synced
+      | inr b ↦ behind g new m (given_up c) was.member granted was.not_ahead b.generation b.synced
     ]
 
 pub rejoin_fine : (s : ClusterState) (m : ℕ) (c : ConsumerState) → IsValidCluster s → IsConsumerOf s m c → IsInStep s.group m c → rejoin_answer s.group m c.generation c.assigned ≡ Ok tt → IsFine (with_group s (rejoined_by s.group m)) m (given_up c)
@@ -166,13 +166,13 @@ rejoin_fine s m c v was step ok =
         partitions = was.partitions ∙ sym (same_partitions s m c v ok);
         number = was.number;
         committed = λ p. elim (kept_at c p) [
-            inl at ↦ rw at (kept_base (is_in c.assigned p) (held_at c p) (committed_at s.store p) (was.committed p))
+          | inl at ↦ rw at (kept_base (is_in c.assigned p) (held_at c p) (committed_at s.store p) (was.committed p))
           | inr none ↦ rw none (omega arith)
-          ];
+        ];
         within = λ p. elim (kept_at c p) [
-            inl at ↦ rw at (kept_position (is_in c.assigned p) (held_at c p) (length (log_at s.logs p)) (was.within p))
+          | inl at ↦ rw at (kept_position (is_in c.assigned p) (held_at c p) (length (log_at s.logs p)) (was.within p))
           | inr none ↦ rw none (omega arith)
-          ];
+        ];
       };
       step = λ here. rejoined_step s.group (rejoined_by s.group m) m c step (rejoin_accepted s.group m c.generation c.assigned ok) inside left;
     }

@@ -44,6 +44,6 @@ behind old new n c member granted not_ahead next unsynced = record {
 pub in_step_left : (old new : GroupState) (n : ℕ) (c : ConsumerState) → LeavesMember old new n → IsInStep old n c → IsInStep new n c
 in_step_left old new n c left was =
     elim left.either [
-      inl b ↦ as_before old new n c left.granted was b
-    | inr b ↦ behind old new n c was.member (λ q h. left.granted q (was.granted q h)) was.not_ahead b.generation b.synced
+      | inl b ↦ as_before old new n c left.granted was b
+      | inr b ↦ behind old new n c was.member (λ q h. left.granted q (was.granted q h)) was.not_ahead b.generation b.synced
     ]

@@ -9,8 +9,8 @@ get_set (y ∷ xs) zero (suc j) c x e = inr ((λ s. omega arith), e)
 get_set (y ∷ xs) (suc i) zero c x e = inr ((λ s. omega arith), e)
 get_set (y ∷ xs) (suc i) (suc j) c x e =
     elim (get_set xs i j c x e) [
-      inl at ↦ inl (ap suc at.0, at.1)
-    | inr other ↦ inr ((λ s. other.0 (omega arith)), other.1)
+      | inl at ↦ inl (ap suc at.0, at.1)
+      | inr other ↦ inr ((λ s. other.0 (omega arith)), other.1)
     ]
 
 pub get_push : {A : Type 0} (xs : List A) (c x : A) (j : ℕ) → slice_get (xs ++ c ∷ []) j ≡ Some x → ((j ≡ length xs) × (x ≡ c)) ⊎ (slice_get xs j ≡ Some x)
@@ -19,8 +19,8 @@ get_push [] c x (suc j) e = absurd (cc e)
 get_push (y ∷ xs) c x zero e = inr e
 get_push (y ∷ xs) c x (suc j) e =
     elim (get_push xs c x j e) [
-      inl at ↦ inl (ap suc at.0, at.1)
-    | inr old ↦ inr old
+      | inl at ↦ inl (ap suc at.0, at.1)
+      | inr old ↦ inr old
     ]
 
 pub get_last : {A : Type 0} (xs : List A) (c : A) → slice_get (xs ++ c ∷ []) (length xs) ≡ Some c

@@ -9,14 +9,14 @@ pub consumer_put : (w : WorldState) (i n : ℕ) (new c : ConsumerState) → cons
 consumer_put w i zero new c e = absurd (cc e)
 consumer_put w i (suc j) new c e =
     elim (get_set w.consumers i j new c e) [
-      inl at ↦ inl (ap suc at.0, at.1)
-    | inr other ↦ inr ((λ s. other.0 (omega arith)), other.1)
+      | inl at ↦ inl (ap suc at.0, at.1)
+      | inr other ↦ inr ((λ s. other.0 (omega arith)), other.1)
     ]
 
 pub consumer_more : (w : WorldState) (n : ℕ) (new c : ConsumerState) → consumer_of (record w { consumers = w.consumers ++ new ∷ [] }) n ≡ Some c → ((n ≡ length w.consumers + 1) × (c ≡ new)) ⊎ (consumer_of w n ≡ Some c)
 consumer_more w zero new c e = absurd (cc e)
 consumer_more w (suc j) new c e =
     elim (get_push w.consumers new c j e) [
-      inl at ↦ inl (omega (arith, at.0), at.1)
-    | inr old ↦ inr old
+      | inl at ↦ inl (omega (arith, at.0), at.1)
+      | inr old ↦ inr old
     ]

@@ -74,8 +74,8 @@ sync_ok w m i c new s lease generation asking there (inl answer) stepped is same
     let known : consumer_of w m ≡ Some c = rw asking.number there in
     let event : sync_event w m ≡ sync_outcome w m (Ok lease) = asks w m i c (λ x. sync_outcome w m (cluster_sync_answer w.cluster m)) asking there ∙ ap (sync_outcome w m) (sym answer) in
     let after : put (with_cluster w s) i new ≡ both w m (with_group w.cluster (synced_by w.cluster.group m)) (λ x. leased x lease) =
-        ap (put (with_cluster w s) i) is ∙ ap (λ t. put (with_cluster w t) i (leased c lease)) stepped
-        ∙ sym (changed_at (with_cluster w (with_group w.cluster (synced_by w.cluster.group m))) m i (λ x. leased x lease) c asking.number known) in
+    ap (put (with_cluster w s) i) is ∙ ap (λ t. put (with_cluster w t) i (leased c lease)) stepped
+    ∙ sym (changed_at (with_cluster w (with_group w.cluster (synced_by w.cluster.group m))) m i (λ x. leased x lease) c asking.number known) in
     inl (ap (λ n. reply.Leased n) same ∙ ap (λ (o : Outcome). o.reply) (sym event), after ∙ ap (λ (o : Outcome). o.after) (sym event))
 
 -- what the cluster refused, or memory
@@ -87,13 +87,13 @@ pub sync_refused : (w : WorldState) (m i : ℕ) (c : ConsumerState) (why : Refus
     → Answers (cluster_sync_answer w.cluster m) (Err why) → (sync_event w m ≡ refused_by_cluster w m why) ⊎ (why ≡ r.Memory)
 sync_refused w m i c why asking there answer =
     refused_is (cluster_sync_answer w.cluster m) why (sync_outcome w m) (sync_event w m) (refused_by_cluster w m why) answer
-      (asks w m i c (λ x. sync_outcome w m (cluster_sync_answer w.cluster m)) asking there) refl
+    (asks w m i c (λ x. sync_outcome w m (cluster_sync_answer w.cluster m)) asking there) refl
 
 pub rejoin_refused : (w : WorldState) (m i : ℕ) (c : ConsumerState) (why : Refusal) → IsAsking w m i → slice_get w.consumers i ≡ Some c
     → Answers (rejoin_answer w.cluster.group m c.generation c.assigned) (Err why) → (rejoin_event w m ≡ refused_by_cluster w m why) ⊎ (why ≡ r.Memory)
 rejoin_refused w m i c why asking there answer =
     refused_is (rejoin_answer w.cluster.group m c.generation c.assigned) why (rejoin_outcome w m) (rejoin_event w m) (refused_by_cluster w m why) answer
-      (asks w m i c (λ x. rejoin_outcome w m (rejoin_answer w.cluster.group m x.generation x.assigned)) asking there) refl
+    (asks w m i c (λ x. rejoin_outcome w m (rejoin_answer w.cluster.group m x.generation x.assigned)) asking there) refl
 
 -- ---- sends
 pub no_more : (most n : ℕ) → n < most → nat_le most n ≡ false
@@ -110,7 +110,7 @@ send_ok w m p sent c commit mail known some room (inl answer) count grown =
     let event : send_event w m p ≡ send_outcome w p c (Ok tt) = ap (send_known w p) known ∙ send_is w p c some room in
     let is : commit ≡ commit_of c w.cluster.logs p = let e = rw some at answer in cc in
     let after : record w { mail = mail } ≡ record w { mail = w.mail ++ commit_of c w.cluster.logs p ∷ [] } =
-        ap (λ (x : List CommitTerms). record w { mail = x }) grown ∙ ap (λ x. record w { mail = w.mail ++ x ∷ [] }) is in
+    ap (λ (x : List CommitTerms). record w { mail = x }) grown ∙ ap (λ x. record w { mail = w.mail ++ x ∷ [] }) is in
     inl (ap (λ n. reply.Sent n) count ∙ ap (λ (o : Outcome). o.reply) (sym event), after ∙ ap (λ (o : Outcome). o.after) (sym event))
 
 -- ---- leases
@@ -137,6 +137,6 @@ join_ok w name member c new s consumers (inl answer) stepped out is grown =
     let event : join_event w name ≡ join_outcome w name (Ok member) = ap (join_outcome w name) (sym answer) in
     let made : new ≡ joined_as (out_of_group w.cluster.group.partitions) member = is ∙ ap (λ (x : ConsumerState). joined_as x member) out in
     let after : ◌≡◌ {A = WorldState} (record { cluster = s; consumers = consumers; mail = w.mail }) (join_outcome w name (Ok member)).after =
-        ap (λ (t : ClusterState). record w { cluster = t; consumers = consumers }) stepped
-        ∙ ap (λ (cs : List ConsumerState). record w { cluster = with_group w.cluster (joined_by w.cluster.group name); consumers = cs }) (grown ∙ ap (λ x. w.consumers ++ x ∷ []) made) in
+    ap (λ (t : ClusterState). record w { cluster = t; consumers = consumers }) stepped
+    ∙ ap (λ (cs : List ConsumerState). record w { cluster = with_group w.cluster (joined_by w.cluster.group name); consumers = cs }) (grown ∙ ap (λ x. w.consumers ++ x ∷ []) made) in
     inl (ap (λ (o : Outcome). o.reply) (sym event), after ∙ ap (λ (o : Outcome). o.after) (sym event))

@@ -89,8 +89,8 @@ current_and_synced false false false false false over e = (refl, refl)
 equal_if : (m n : ℕ) → not (m == n) ≡ false → m ≡ n
 equal_if m n e =
     elim (eqb_tells m n) [
-      inl t ↦ t.1
-    | inr f ↦ absurd (let wrong = rw f.0 at e in cc)
+      | inl t ↦ t.1
+      | inr f ↦ absurd (let wrong = rw f.0 at e in cc)
     ]
 
 not_back : (b : Bool) → not b ≡ false → b ≡ true
@@ -135,8 +135,8 @@ rejoin_never_faults g m generation claim synced same = go (member_of g m) refl
     go None is = tt
     go (Some x) is =
         no_fault_by (not (generation == g.generation)) x.joined (not x.synced) (is_stable g.phase && agrees x) (not (is_same claim x.assigned)) (is_over (rejoining g m))
-          (λ e. ap not (sym (ap seat_synced is) ∙ synced (ap is_some is) (equal_if generation g.generation e)))
-          (λ e. ap not (ap (λ s. is_same s x.assigned) (same (ap is_some is) (equal_if generation g.generation e) ∙ ap (seat_assigned g.partitions) is) ∙ same_self x.assigned))
+        (λ e. ap not (sym (ap seat_synced is) ∙ synced (ap is_some is) (equal_if generation g.generation e)))
+        (λ e. ap not (ap (λ s. is_same s x.assigned) (same (ap is_some is) (equal_if generation g.generation e) ∙ ap (seat_assigned g.partitions) is) ∙ same_self x.assigned))
 
 -- ---- commits
 abbrev fence_by : Bool → Bool → Bool → Result (Unit {0}) Refusal
@@ -170,8 +170,8 @@ not_there false e = refl
 pub commit_unknown : (s : ClusterState) (c : CommitTerms) → cluster_commit_answer s c ≡ Err r.UnknownMember → is_present s.group c.member ≡ false
 commit_unknown s c e =
     not_there (is_present s.group c.member) (unknown_by (not (is_present s.group c.member)) _ _ (commit_answer s.store s.logs c.partition c.from c.ids)
-      (never_unknown_offset (committed_at s.store c.partition) (c.from + length c.ids) (length c.ids == 0) (not (c.from == committed_at s.store c.partition))
-        (nat_lt (length (log_at s.logs c.partition)) (c.from + length c.ids)) (not (bytes_eq (records_between s.logs c.partition c.from (c.from + length c.ids)) c.ids))) e)
+    (never_unknown_offset (committed_at s.store c.partition) (c.from + length c.ids) (length c.ids == 0) (not (c.from == committed_at s.store c.partition))
+    (nat_lt (length (log_at s.logs c.partition)) (c.from + length c.ids)) (not (bytes_eq (records_between s.logs c.partition c.from (c.from + length c.ids)) c.ids))) e)
 
 mismatch_offset : (committed end k : ℕ) (none elsewhere past wrong : Bool) → offset_by committed end none elsewhere past wrong ≡ Err (r.OffsetMismatch k) → k ≡ committed
 mismatch_offset committed end k true elsewhere past wrong e = absurd (cc e)
@@ -190,8 +190,8 @@ mismatch_by false false false b k e = e
 pub commit_mismatch : (s : ClusterState) (c : CommitTerms) (k : ℕ) → cluster_commit_answer s c ≡ Err (r.OffsetMismatch k) → k ≡ committed_at s.store c.partition
 commit_mismatch s c k e =
     mismatch_offset (committed_at s.store c.partition) (c.from + length c.ids) k (length c.ids == 0) (not (c.from == committed_at s.store c.partition))
-      (nat_lt (length (log_at s.logs c.partition)) (c.from + length c.ids)) (not (bytes_eq (records_between s.logs c.partition c.from (c.from + length c.ids)) c.ids))
-      (mismatch_by (not (is_present s.group c.member)) _ _ (commit_answer s.store s.logs c.partition c.from c.ids) k e)
+    (nat_lt (length (log_at s.logs c.partition)) (c.from + length c.ids)) (not (bytes_eq (records_between s.logs c.partition c.from (c.from + length c.ids)) c.ids))
+    (mismatch_by (not (is_present s.group c.member)) _ _ (commit_answer s.store s.logs c.partition c.from c.ids) k e)
 
 fine_offset : (committed end : ℕ) (none elsewhere past wrong : Bool) → none ≡ false → past ≡ false → wrong ≡ false → IsNoCommitFault (offset_by committed end none elsewhere past wrong)
 fine_offset committed end true elsewhere past wrong a b c = absurd (cc a)
@@ -219,7 +219,7 @@ same_records xs ys e = (bytes_eq-Decides xs ys).1 e
 pub commit_never_faults : (s : ClusterState) (c : CommitTerms) → IsSent s.logs c → IsNoCommitFault (cluster_commit_answer s c)
 commit_never_faults s c sent =
     fine_by (not (is_present s.group c.member)) _ _ (commit_answer s.store s.logs c.partition c.from c.ids)
-      (fine_offset (committed_at s.store c.partition) (c.from + length c.ids) (length c.ids == 0) (not (c.from == committed_at s.store c.partition))
-        (nat_lt (length (log_at s.logs c.partition)) (c.from + length c.ids)) (not (bytes_eq (records_between s.logs c.partition c.from (c.from + length c.ids)) c.ids))
-        (some_records (length c.ids) sent.some) (not_past (length (log_at s.logs c.partition)) (c.from + length c.ids) sent.within)
-        (ap not (same_records (records_between s.logs c.partition c.from (c.from + length c.ids)) c.ids sent.same)))
+    (fine_offset (committed_at s.store c.partition) (c.from + length c.ids) (length c.ids == 0) (not (c.from == committed_at s.store c.partition))
+    (nat_lt (length (log_at s.logs c.partition)) (c.from + length c.ids)) (not (bytes_eq (records_between s.logs c.partition c.from (c.from + length c.ids)) c.ids))
+    (some_records (length c.ids) sent.some) (not_past (length (log_at s.logs c.partition)) (c.from + length c.ids) sent.within)
+    (ap not (same_records (records_between s.logs c.partition c.from (c.from + length c.ids)) c.ids sent.same)))

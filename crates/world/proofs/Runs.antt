@@ -1,13 +1,17 @@
 -- Runs of events: one step more, and what they append.
 use Rattle.std.proofs.Common.{◌≡◌, ◌⊎◌, ◌∙◌, ◌+◌, ◌<◌, ◌≤◌, ℕ, zero, suc, List, [], ◌∷◌, ◌++◌, Option, Some, None, Result, Ok, Err, length, take, drop, map, get_or, append_assoc, refl, sym, ap, subst, inl, inr, arith}
 use Rattle.std.specs.Borrow.{Bor}
-use Rattle.std.proofs.lemmas.List.{append-nil, map-append, take_more}
+use Rattle.std.proofs.lemmas.List.{append-nil, get_or_default, length-map, map-append, take_more}
+use Rattle.std.proofs.Math.ListN.{get_or-map as map_at}
+use Rattle.std.proofs.Math.Seq.{drop-cons}
+use Rattle.lane_words.specs.Answers.{Answers}
 use Rattle.lane_words.specs.declared.Refusal.{Refusal}
 use Rattle.lane_words.specs.declared.Refusal.TheVariants as r
 use Rattle.partitioner.proofs.Places.{place_of-below}
 use Rattle.partition_log.specs.Keys.{Key}
+use Rattle.partition_log.specs.Logs.{PartitionLogs, place_in, place_of}
 use Rattle.partition_log.proofs.History.{history}
-use Rattle.group_machine.specs.Cluster.{AreLogsOf, ClusterState, CommitTerms, LeaseTerms, append_answer, appended_to, cluster_commit_answer, cluster_sync_answer}
+use Rattle.group_machine.specs.Cluster.{AreLogsOf, ClusterState, GrowsBy, CommitTerms, LeaseTerms, append_answer, appended_to, cluster_commit_answer, cluster_sync_answer}
 use Rattle.group_machine.specs.Steps.{join_answer, leave_answer, rejoin_answer}
 use Rattle.consumer.specs.Consumer.{ConsumerState, answered_by, poll_answer}
 use Rattle.world.specs.declared.event.Event.{Event}
@@ -16,7 +20,7 @@ use Rattle.world.specs.declared.event.Reply.{Reply}
 use Rattle.world.specs.declared.event.Reply.TheVariants as reply
 use Rattle.world.specs.World.{WorldState, commit_at, consumer_of, on_consumer, with_cluster}
 use Rattle.world.specs.Steps.{Comes, MayCome, Outcome, Step, append_event, append_outcome, asked, both, deliver_event, deliver_unanswered_event, delivered, delivered_unanswered, delivery, dropped, given, join_event, join_outcome, leave_event, leave_outcome, lose_event, lose_outcome, mail_answer, poll_event, poll_known, poll_outcome, refused_by_cluster, rejoin_event, rejoin_outcome, send_event, send_known, send_outcome, sync_event, sync_outcome}
-use Rattle.world.specs.Runs.{AppendsKeys, AreAppended, Appends, Run, appended_by, appended_in, appends_of, key_if_appended}
+use Rattle.world.specs.Runs.{AppendsKeys, AreAppended, Appends, IsRefusedNext, Run, StopsLoad, appended_by, appended_in, appends_of, key_if_appended}
 use Rattle.world.specs.Valid.{IsValidWorld}
 use Rattle.world.proofs.Stays.{on_cluster}
 
@@ -112,8 +116,8 @@ append_history w key told w2 v (inl comes) = go (append_answer w.cluster.logs ke
     go (Err why) c = refused_key w key told why w2 c.0 c.1
     go (Ok at) c =
         subst (λ t. AppendsKeys (key_if_appended key t) w w2) (sym c.0)
-          (subst (λ x. AppendsKeys (key ∷ []) w x) (sym c.1)
-            (λ appended h. history w.cluster.logs key appended v.cluster.logs h (place_of-below w.cluster.logs.partitions key v.cluster.logs.some_partitions)))
+        (subst (λ x. AppendsKeys (key ∷ []) w x) (sym c.1)
+        (λ appended h. history w.cluster.logs key appended v.cluster.logs h (place_of-below w.cluster.logs.partitions key v.cluster.logs.some_partitions)))
 
 pub history_after : (w : WorldState) (e : Event) (told : Reply) (w2 : WorldState) → IsValidWorld w → Step w e told w2 → AppendsKeys (appended_by e told) w w2
 history_after w (event.Append key) told w2 v step = append_history w key.now told w2 v step
@@ -155,6 +159,59 @@ pub history_more : (events : List Event) (replies all : List Reply) (w w2 w3 : W
     → AppendsKeys (appended_by e told) w2 w3 → e ≡ get_or events i d → i < length events → all ≡ replies ++ told ∷ [] → AppendsKeys (appended_in (take (i + 1) events) all) w w3
 history_more events replies all w w2 w3 i d e told run before now at lt is =
     let grown : appended_in (take (i + 1) events) all ≡ appended_in (take i events) replies ++ appended_by e told =
-        ap (appended_in (take (i + 1) events)) is ∙ ap (λ es. appended_in es (replies ++ told ∷ [])) (take_more events i d lt ∙ ap (λ x. take i events ++ x ∷ []) (sym at))
-        ∙ appended_push (take i events) replies w w2 e told run in
+    ap (appended_in (take (i + 1) events)) is ∙ ap (λ es. appended_in es (replies ++ told ∷ [])) (take_more events i d lt ∙ ap (λ x. take i events ++ x ∷ []) (sym at))
+    ∙ appended_push (take i events) replies w w2 e told run in
     subst (λ ks. AppendsKeys ks w w3) (sym grown) (appends_both (appended_in (take i events) replies) (appended_by e told) w w2 w3 before now)
+
+-- ---- loads
+pub no_appends : (w : WorldState) → Appends w [] w
+no_appends w = ([], refl, tt)
+
+appended_last : (replies : List Reply) (p offset : ℕ) → AreAppended replies → AreAppended (replies ++ reply.Appended p offset ∷ [])
+appended_last [] p offset h = tt
+appended_last (reply.Appended q o ∷ replies) p offset h = appended_last replies p offset h
+appended_last (told ∷ replies) p offset h = absurd h
+
+-- one key more is appended
+pub append_more : (w w2 : WorldState) (keys : List (Bor Key)) (i : ℕ) (d : Bor Key) (s : ClusterState) (at : ℕ × ℕ) → Appends w (take i keys) w2 → i < length keys
+    → Answers (append_answer w2.cluster.logs (get_or keys i d).now) (Ok at) → s ≡ appended_to w2.cluster (get_or keys i d).now → Appends w (take (i + 1) keys) (with_cluster w2 s)
+append_more w w2 keys i d s at before lt (inr wrong) is = absurd (cc wrong)
+append_more w w2 keys i d s at before lt (inl answer) is =
+    let key = get_or keys i d in
+    let events : appends_of (take (i + 1) keys) ≡ appends_of (take i keys) ++ event.Append key ∷ [] =
+    ap appends_of (take_more keys i d lt) ∙ map-append (λ k. event.Append k) (take i keys) (key ∷ []) in
+    let comes : append_event w2 key.now ≡ append_outcome w2 key.now (Ok at) = ap (append_outcome w2 key.now) (sym answer) in
+    let step : Step w2 (event.Append key) (reply.Appended at.0 at.1) (with_cluster w2 s) =
+    inl (ap (λ (o : Outcome). o.reply) (sym comes), ap (with_cluster w2) is ∙ ap (λ (o : Outcome). o.after) (sym comes)) in (
+      before.0 ++ reply.Appended at.0 at.1 ∷ [],
+      subst (λ es. Run w es (before.0 ++ reply.Appended at.0 at.1 ∷ []) (with_cluster w2 s)) (sym events) (run_push (appends_of (take i keys)) before.0 w w2 (with_cluster w2 s) (event.Append key) (reply.Appended at.0 at.1) before.1 step),
+      appended_last before.0 at.0 at.1 before.2,
+    )
+
+-- the append of the next key is refused
+pub append_stops : (w : WorldState) (keys : List (Bor Key)) (i : ℕ) (d : Bor Key) (why : Refusal) → i < length keys → Answers (append_answer w.cluster.logs (get_or keys i d).now) (Err why) → StopsLoad w (drop i keys) i why
+append_stops w keys i d why lt answer =
+    let key = get_or keys i d in
+    let rest : drop i keys ≡ key ∷ drop (suc i) keys = drop-cons keys i d lt in
+    inl (subst (λ ks. IsRefusedNext w (appends_of ks) why) (sym rest) (go answer))
+  where
+    go : Answers (append_answer w.cluster.logs (get_or keys i d).now) (Err why) → Step w (event.Append (get_or keys i d)) (reply.Refused why) w
+    go (inl same) =
+        let comes : append_event w (get_or keys i d).now ≡ append_outcome w (get_or keys i d).now (Err why) = ap (append_outcome w (get_or keys i d).now) (sym same) in
+        inl (ap (λ (o : Outcome). o.reply) (sym comes), ap (λ (o : Outcome). o.after) (sym comes))
+    go (inr same) = inr (let e : why ≡ r.Memory = cc in ap (λ x. reply.Refused x) e, refl)
+
+-- what the keys so far and the next one append
+pub keys_more : (w w2 w3 : WorldState) (keys : List (Bor Key)) (i : ℕ) (d : Bor Key) → i < length keys → AppendsKeys (map (λ key. key.now) (take i keys)) w w2 → GrowsBy (get_or keys i d).now w2.cluster.logs w3.cluster.logs
+    → AppendsKeys (map (λ key. key.now) (take (i + 1) keys)) w w3
+keys_more w w2 w3 keys i d lt before now =
+    let grown : map (λ (key : Bor Key). key.now) (take (i + 1) keys) ≡ map (λ (key : Bor Key). key.now) (take i keys) ++ (get_or keys i d).now ∷ [] =
+    ap (map (λ (key : Bor Key). key.now)) (take_more keys i d lt) ∙ map-append (λ (key : Bor Key). key.now) (take i keys) (get_or keys i d ∷ []) in
+    subst (λ ks. AppendsKeys ks w w3) (sym grown) (appends_both (map (λ (key : Bor Key). key.now) (take i keys)) ((get_or keys i d).now ∷ []) w w2 w3 before now)
+
+-- the place of a key among those of all keys
+pub place_among : (n : ℕ) (l : PartitionLogs) (places : List ℕ) (keys : List (Bor Key)) (i e : ℕ) (d : Bor Key) → places ≡ map (λ key. place_of n key.now) keys → i < length keys → n ≡ l.partitions → get_or places i e ≡ place_in l (get_or keys i d).now
+place_among n l places keys i e d is lt same =
+    ap (λ (ps : List ℕ). get_or ps i e) is
+    ∙ get_or_default (map (λ (key : Bor Key). place_of n key.now) keys) i e (place_of n d.now) (omega (arith, lt, length-map keys (λ (key : Bor Key). place_of n key.now)))
+    ∙ map_at (λ (key : Bor Key). place_of n key.now) keys i d ∙ ap (λ m. place_of m (get_or keys i d).now) same

@@ -62,15 +62,15 @@ stays w w2 m v leaves mail each from = record {
   cluster = leaves.valid;
   a_consumer_each = each;
   consumers = λ n c e. elim (from n c e) [
-      inl about ↦ subst (λ k. IsConsumerOf w2.cluster k c) (sym about.0) about.1.known
+    | inl about ↦ subst (λ k. IsConsumerOf w2.cluster k c) (sym about.0) about.1.known
     | inr other ↦ consumer_stays w.cluster w2.cluster m n c leaves (v.consumers n c other.1)
-    ];
+  ];
   present = λ n c here e. elim (from n c e) [
-      inl about ↦ subst (λ k. IsInStep w2.cluster.group k c) (sym about.0) (about.1.step (ap (is_present w2.cluster.group) (sym about.0) ∙ here))
+    | inl about ↦ subst (λ k. IsInStep w2.cluster.group k c) (sym about.0) (about.1.step (ap (is_present w2.cluster.group) (sym about.0) ∙ here))
     | inr other ↦
         let left = leaves.others.others n other.0 in
         in_step_left w.cluster.group w2.cluster.group n c left (v.present n c (sym left.present ∙ here) other.1)
-    ];
+  ];
   mail = λ i c e. sent_stays w.cluster w2.cluster m c leaves (v.mail i c (ap (λ (xs : List CommitTerms). slice_get xs i) (sym mail) ∙ e));
   few_commits = omega (arith, v.few_commits, ap length mail);
 }
@@ -82,8 +82,8 @@ on_lookup w m n f None known c e = inr ((λ same. let none = ap (consumer_of w) 
 on_lookup w zero n f (Some old) known c e = absurd (cc known)
 on_lookup w (suc i) n f (Some old) known c e =
     elim (consumer_put w i n (f old) c e) [
-      inl at ↦ inl (at.0, old, known, at.1)
-    | inr other ↦ inr other
+      | inl at ↦ inl (at.0, old, known, at.1)
+      | inr other ↦ inr other
     ]
 
 on_long : (w : WorldState) (m : ℕ) (f : ConsumerState → ConsumerState) (o : Option ConsumerState) → length (changed w m f o).consumers ≡ length w.consumers
@@ -109,11 +109,11 @@ both_stay w new m f v leaves slots fine =
     let o = consumer_of w1 m in
     let cluster : (changed w1 m f o).cluster ≡ new = on_cluster w1 m f o in
     stays w (changed w1 m f o) m v (subst (λ s. Leaves w.cluster s m) (sym cluster) leaves) (on_mail w1 m f o)
-      (on_long w1 m f o ∙ v.a_consumer_each ∙ sym (ap (λ (s : ClusterState). length s.group.slots) cluster ∙ slots))
-      (λ n c e. elim (on_lookup w1 m n f o refl c e) [
-          inl at ↦ inl (at.0, subst (λ s. IsFine s m c) (sym cluster) (subst (IsFine new m) (sym at.3) (fine at.1 (same_lookup m at.1 at.2))))
-        | inr other ↦ inr (other.0, same_lookup n c other.1)
-        ])
+    (on_long w1 m f o ∙ v.a_consumer_each ∙ sym (ap (λ (s : ClusterState). length s.group.slots) cluster ∙ slots))
+    (λ n c e. elim (on_lookup w1 m n f o refl c e) [
+      | inl at ↦ inl (at.0, subst (λ s. IsFine s m c) (sym cluster) (subst (IsFine new m) (sym at.3) (fine at.1 (same_lookup m at.1 at.2))))
+      | inr other ↦ inr (other.0, same_lookup n c other.1)
+    ])
   where
     same_lookup : (k : ℕ) (c : ConsumerState) → consumer_of (with_cluster w new) k ≡ Some c → consumer_of w k ≡ Some c
     same_lookup zero c e = e

@@ -49,7 +49,7 @@ appended_in (event ∷ events) (reply ∷ replies) = appended_by event reply ++ 
 -- logs of a list of keys are afterwards those of the list with these at its end
 abbrev pub AppendsKeys : List Key → WorldState → WorldState → Type 0
 AppendsKeys keys w w2 = (appended : List Key) → AreLogsOf appended w.cluster.logs
-  → AreLogsOf (appended ++ keys) w2.cluster.logs
+    → AreLogsOf (appended ++ keys) w2.cluster.logs
 
 -- ---- loading
 -- the events that append these keys, in order

@@ -70,17 +70,17 @@ both w m cluster f = on_consumer (with_cluster w cluster) m f
 
 abbrev pub sync_outcome : WorldState → ℕ → Result LeaseTerms Refusal → Outcome
 sync_outcome w m (Ok lease) = done (reply.Leased lease.generation)
-  (both w m (with_group w.cluster (synced_by w.cluster.group m)) (λ c. leased c lease))
+    (both w m (with_group w.cluster (synced_by w.cluster.group m)) (λ c. leased c lease))
 sync_outcome w m (Err why) = refused_by_cluster w m why
 
 abbrev pub rejoin_outcome : WorldState → ℕ → Result (Unit {0}) Refusal → Outcome
 rejoin_outcome w m (Ok _) = done reply.Rejoined
-  (both w m (with_group w.cluster (rejoined_by w.cluster.group m)) given_up)
+    (both w m (with_group w.cluster (rejoined_by w.cluster.group m)) given_up)
 rejoin_outcome w m (Err why) = refused_by_cluster w m why
 
 abbrev pub leave_outcome : WorldState → ℕ → Result (Unit {0}) Refusal → Outcome
 leave_outcome w m (Ok _) = done reply.Left
-  (both w m (with_group w.cluster (left_by w.cluster.group m)) dropped)
+    (both w m (with_group w.cluster (left_by w.cluster.group m)) dropped)
 leave_outcome w m (Err why) = refused_by_cluster w m why
 
 -- an event that the consumer of a member asks the cluster for: refused by 1 where there never was such a member, and by
@@ -94,7 +94,7 @@ sync_event w m = asked w (consumer_of w m) (λ c. sync_outcome w m (cluster_sync
 
 abbrev pub rejoin_event : WorldState → ℕ → Outcome
 rejoin_event w m = asked w (consumer_of w m)
-  (λ c. rejoin_outcome w m (rejoin_answer w.cluster.group m c.generation c.assigned))
+    (λ c. rejoin_outcome w m (rejoin_answer w.cluster.group m c.generation c.assigned))
 
 abbrev pub leave_event : WorldState → ℕ → Outcome
 leave_event w m = asked w (consumer_of w m) (λ c. leave_outcome w m (leave_answer w.cluster.group m))
@@ -118,7 +118,7 @@ mail_answer w c p =
 
 abbrev pub send_outcome : WorldState → ℕ → ConsumerState → Result (Unit {0}) Refusal → Outcome
 send_outcome w p c (Ok _) = done (reply.Sent (length w.mail + 1))
-  (record w { mail = w.mail ++ commit_of c w.cluster.logs p ∷ [] })
+    (record w { mail = w.mail ++ commit_of c w.cluster.logs p ∷ [] })
 send_outcome w p c (Err why) = refused w why
 
 abbrev pub send_known : WorldState → ℕ → Option ConsumerState → Outcome
@@ -141,7 +141,7 @@ told (Err why) = reply.Refused why
 -- a commit is given to the cluster, and its member's consumer is given the answer
 abbrev pub delivered : WorldState → CommitTerms → Result ℕ Refusal → Outcome
 delivered w c answer = done (told answer)
-  (both w c.member (given w.cluster c answer) (λ x. answered_by x c.partition answer))
+    (both w c.member (given w.cluster c answer) (λ x. answered_by x c.partition answer))
 
 -- the same, and the consumer is given no answer
 abbrev pub delivered_unanswered : WorldState → CommitTerms → Result ℕ Refusal → Outcome
@@ -197,9 +197,9 @@ IsNoCommitFault answer = Unit {0}
 -- past the end, with wrong records, or without records
 abbrev pub NeverFaults : WorldState → Event → Type 0
 NeverFaults w (event.Rejoin m) = (c : ConsumerState) → consumer_of w m ≡ Some c
-  → IsNoRejoinFault (rejoin_answer w.cluster.group m c.generation c.assigned)
+    → IsNoRejoinFault (rejoin_answer w.cluster.group m c.generation c.assigned)
 NeverFaults w (event.Deliver k) = (c : CommitTerms) → commit_at w k ≡ Some c
-  → IsNoCommitFault (cluster_commit_answer w.cluster c)
+    → IsNoCommitFault (cluster_commit_answer w.cluster c)
 NeverFaults w (event.DeliverUnanswered k) = (c : CommitTerms) → commit_at w k ≡ Some c
-  → IsNoCommitFault (cluster_commit_answer w.cluster c)
+    → IsNoCommitFault (cluster_commit_answer w.cluster c)
 NeverFaults w event = Unit {0}

@@ -40,6 +40,6 @@ pub record IsValidWorld (w : WorldState) : Type 0 where
   pub a_consumer_each : length w.consumers ≡ length w.cluster.group.slots
   pub consumers : (m : ℕ) (c : ConsumerState) → consumer_of w m ≡ Some c → IsConsumerOf w.cluster m c
   pub present : (m : ℕ) (c : ConsumerState) → is_present w.cluster.group m ≡ true
-    → consumer_of w m ≡ Some c → IsInStep w.cluster.group m c
+      → consumer_of w m ≡ Some c → IsInStep w.cluster.group m c
   pub mail : (i : ℕ) (c : CommitTerms) → slice_get w.mail i ≡ Some c → IsSent w.cluster.logs c
   pub few_commits : length w.mail ≤ MOST_COMMITS

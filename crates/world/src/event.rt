@@ -28,7 +28,10 @@ pub enum Event<'a> {
         records: u32,
     },
     /// A member's consumer sends a commit of what is pending of a partition: it goes last into the mail.
-    Send { member: u32, partition: u32 },
+    Send {
+        member: u32,
+        partition: u32,
+    },
     /// A commit of the mail is given to the cluster, and its member's consumer is given the answer.
     Deliver(u32),
     /// A commit of the mail is given to the cluster, and the answer is lost.

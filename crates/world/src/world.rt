@@ -94,11 +94,7 @@ impl World {
     ///
     /// Where one is refused it stops, and answers how many stand before it, with the refusal: those stand. Where the
     /// memory for the places of the keys is refused, that number is 0.
-    pub fn load<R: Threads + Sync>(
-        &mut self,
-        rt: &R,
-        keys: &[&[u8]],
-    ) -> Result<(), (u64, Refusal)>
+    pub fn load<R: Threads + Sync>(&mut self, rt: &R, keys: &[&[u8]]) -> Result<(), (u64, Refusal)>
         ensures loads { Loads self.old keys.now result self.new }
         ensures history { OnOk result (AppendsKeys (map (λ key. key.now) keys.now) self.old self.new) }
         ensures valid { IsValidWorld self.new }

@@ -28,8 +28,8 @@ returns-in-Ok c =
     let known = consumer_at w c.args.member c.in-Some.index c.index_mut.result.now c.in-Some.ensures.0 below c.index_mut.ensures.value in
     let logs = c.logs.ensures.logs in
     poll_ok w c.args.member c.in-Some.index c.args.partition c.args.records c.in-Ok.count c.index_mut.result.now c.poll.new.self c.in-Some.ensures.0 known
-      (c.in-Ok.ensures.answer ∙ ap (λ l. poll_answer c.index_mut.result.now l c.args.partition c.args.records) logs)
-      (c.in-Ok.ensures.ok ∙ ap (λ l. polled c.index_mut.result.now l c.args.partition c.args.records) logs)
+    (c.in-Ok.ensures.answer ∙ ap (λ l. poll_answer c.index_mut.result.now l c.args.partition c.args.records) logs)
+    (c.in-Ok.ensures.ok ∙ ap (λ l. polled c.index_mut.result.now l c.args.partition c.args.records) logs)
 
 pub returns-in-Err : goal.returns-in-Err
 returns-in-Err c =
@@ -38,5 +38,5 @@ returns-in-Err c =
     let known = consumer_at w c.args.member c.in-Some.index c.index_mut.result.now c.in-Some.ensures.0 below c.index_mut.ensures.value in
     let logs = c.logs.ensures.logs in
     poll_err w c.args.member c.in-Some.index c.args.partition c.args.records c.in-Err.why c.index_mut.result.now c.poll.new.self known c.index_mut.ensures.value
-      (c.in-Err.ensures.answer ∙ ap (λ l. poll_answer c.index_mut.result.now l c.args.partition c.args.records) logs)
-      c.in-Err.ensures.err
+    (c.in-Err.ensures.answer ∙ ap (λ l. poll_answer c.index_mut.result.now l c.args.partition c.args.records) logs)
+    c.in-Err.ensures.err

@@ -19,7 +19,7 @@ returns-in-Err-rejoin c =
     let claimed = subst (λ claim. Answers (rejoin_answer group c.args.member c.generation.result claim) (Err why)) c.claim.ensures.value asked in
     let answer = subst (λ n. Answers (rejoin_answer group c.args.member n consumer.assigned) (Err why)) c.generation.ensures claimed in
     let same : put (with_cluster w c.rejoin.new.self) c.in-Ok.index consumer ≡ w =
-        ap (λ s. put (with_cluster w s) c.in-Ok.index consumer) c.in-Err-rejoin.ensures.err ∙ put_same w c.in-Ok.index consumer c.index_mut-consumer.ensures.value in
+    ap (λ s. put (with_cluster w s) c.in-Ok.index consumer) c.in-Err-rejoin.ensures.err ∙ put_same w c.in-Ok.index consumer c.index_mut-consumer.ensures.value in
     refused_ok w (world_view c.refuse.new.self) c.args.member c.in-Ok.index (rejoin_event w c.args.member) why c.refuse.result asking.number
-      (rejoin_refused w c.args.member c.in-Ok.index consumer why asking there answer)
-      (subst (λ x. Comes (refused_by_cluster x (suc c.in-Ok.index) why) c.refuse.result (world_view c.refuse.new.self)) same c.refuse.ensures)
+    (rejoin_refused w c.args.member c.in-Ok.index consumer why asking there answer)
+    (subst (λ x. Comes (refused_by_cluster x (suc c.in-Ok.index) why) c.refuse.result (world_view c.refuse.new.self)) same c.refuse.ensures)

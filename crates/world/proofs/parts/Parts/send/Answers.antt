@@ -34,5 +34,5 @@ returns-in-Ok c =
     let mail = c.push_reserved.ensures.items ∙ ap (λ xs. xs ++ c.in-Ok.commit ∷ []) c.reserve.ensures.items in
     let sent : c.len-in-Ok.result ≡ length w.mail + 1 = omega (arith, c.len-in-Ok.ensures, c.push_reserved.new.self.ok.0, ap length mail, length-append w.mail (c.in-Ok.commit ∷ [])) in
     send_ok w c.args.member c.args.partition c.len-in-Ok.result c.index-consumer.result.now c.in-Ok.commit c.push_reserved.new.self.items known
-      (sym c.sendable.ensures ∙ c.in_default-sendable.is) room
-      (subst (λ l. Answers (send_answer c.index-consumer.result.now l c.args.partition) (Ok c.in-Ok.commit)) c.logs.ensures.logs c.in-Ok.ensures) sent mail
+    (sym c.sendable.ensures ∙ c.in_default-sendable.is) room
+    (subst (λ l. Answers (send_answer c.index-consumer.result.now l c.args.partition) (Ok c.in-Ok.commit)) c.logs.ensures.logs c.in-Ok.ensures) sent mail

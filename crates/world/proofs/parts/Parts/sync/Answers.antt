@@ -35,7 +35,7 @@ returns-in-Ok-sync c =
     let asking = c.in-Ok.ensures.asking in
     let there = consumer_there w c.in-Ok.index c.index_mut.result.now asking.below c.index_mut.ensures.value in
     sync_ok w c.args.member c.in-Ok.index c.index_mut.result.now c.take_lease.new.self c.sync.new.self c.in-Ok-sync.lease c.generation.result asking there
-      c.in-Ok-sync.ensures.answer c.in-Ok-sync.ensures.ok c.take_lease.ensures c.generation.ensures
+    c.in-Ok-sync.ensures.answer c.in-Ok-sync.ensures.ok c.take_lease.ensures c.generation.ensures
 
 pub returns-in-Err-sync : goal.returns-in-Err-sync
 returns-in-Err-sync c =
@@ -45,5 +45,5 @@ returns-in-Err-sync c =
     let why = c.in-Err-sync.why in
     let same : with_cluster w c.sync.new.self ≡ w = ap (with_cluster w) c.in-Err-sync.ensures.err in
     refused_ok w (world_view c.refuse.new.self) c.args.member c.in-Ok.index (sync_event w c.args.member) why c.refuse.result asking.number
-      (sync_refused w c.args.member c.in-Ok.index some why asking (slice_get-get_or w.consumers c.in-Ok.index (out_of_group 0) asking.below) c.in-Err-sync.ensures.answer)
-      (subst (λ x. Comes (refused_by_cluster x (suc c.in-Ok.index) why) c.refuse.result (world_view c.refuse.new.self)) same c.refuse.ensures)
+    (sync_refused w c.args.member c.in-Ok.index some why asking (slice_get-get_or w.consumers c.in-Ok.index (out_of_group 0) asking.below) c.in-Err-sync.ensures.answer)
+    (subst (λ x. Comes (refused_by_cluster x (suc c.in-Ok.index) why) c.refuse.result (world_view c.refuse.new.self)) same c.refuse.ensures)

@@ -16,7 +16,7 @@ returns-clause-never_faults c = subst (λ w. NeverFaults w c.args.event) c.self.
 pub returns-clause-history : goal.returns-clause-history
 returns-clause-history c =
     subst (λ w. AppendsKeys (appended_by c.args.event c.step.result) w (world_view c.step.new.self)) c.self.view_is
-      (history_after (world_view c.self.inside.parts) c.args.event c.step.result (world_view c.step.new.self) c.self.invariant c.step.ensures)
+    (history_after (world_view c.self.inside.parts) c.args.event c.step.result (world_view c.step.new.self) c.self.invariant c.step.ensures)
 
 pub returns-clause-valid : goal.returns-clause-valid
 returns-clause-valid c = invariant_of-self c
