@@ -1,5 +1,5 @@
 -- How often key numbers are in a list, and counters by key number.
-use Rattle.std.specs.Prelude.{◌≡◌, ℕ, zero, suc, ◌+◌, ◌<◌, ◌^◌, ◌==◌, List, [], ◌∷◌, length, count_by, slice_index_or}
+use Rattle.std.specs.Prelude.{ℕ, ◌+◌, ◌<◌, ◌^◌, ◌==◌, List, [], ◌∷◌, length, count_by, slice_index_or}
 
 -- the plain count: at how many positions of the list x stands
 abbrev pub plain : List ℕ → ℕ → ℕ

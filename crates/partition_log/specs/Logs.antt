@@ -1,5 +1,5 @@
 -- Append-only logs of keyed records, one a partition.
-use Rattle.std.specs.Prelude.{◌≡◌, ℕ, zero, suc, ◌+◌, ◌<◌, ◌≤◌, ◌==◌, ◌&&◌, ◌||◌, nat_lt, nat_le, not, Bool, List, [], ◌∷◌, ◌++◌, length, filter, map, if◌then◌else◌, slice_index_or, slice_set, Contains, Result, Ok, Err}
+use Rattle.std.specs.Prelude.{◌≡◌, ℕ, ◌<◌, ◌≤◌, ◌==◌, ◌&&◌, ◌||◌, nat_lt, nat_le, not, Bool, List, [], ◌∷◌, ◌++◌, length, filter, map, if◌then◌else◌, slice_index_or, slice_set, Contains, Result, Ok, Err}
 pub use Rattle.lane_words.specs.Sums.{sum_below}
 pub use Rattle.partitioner.specs.Place.{place_of}
 use Rattle.lane_words.specs.declared.limits.TheConstants.{LONGEST_KEY, MOST_PARTITIONS, MOST_RECORDS}
