@@ -7,7 +7,7 @@ use Rattle.std.proofs.lemmas.Bool.Decides.{eqb_tells}
 use Rattle.std.proofs.lemmas.List.{get_or_past, length-append, length-map, map-append, take-append-le, take-map, take_all}
 use Rattle.std.proofs.lemmas.List.Sums.{sum_by-cons}
 use Rattle.keyed_table.specs.Counts as counts
-use Rattle.keyed_table.proofs.Members.{none-past, stands-somewhere}
+use Rattle.keyed_table.proofs.Elements.{none-past, stands-somewhere}
 use Rattle.keyed_table.proofs.Raised.{counter-raised, length-raised}
 use Rattle.partition_log.proofs.Stored.{place_in-below}
 use Rattle.partition_log.specs.Keys.{IsWithoutRepeats, is_known, key_at, with_key}

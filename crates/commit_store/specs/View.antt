@@ -1,9 +1,7 @@
 -- How a store is seen.
-use Rattle.commit_store.specs.Commits.{IsValidStore, Commits}
+use Rattle.commit_store.specs.Commits.{Commits}
 use Rattle.commit_store.specs.declared.store.Store.TheInside.{Inside}
 
 abbrev pub store_view : Inside → Commits
-store_view a = record { offsets = a.committed.items; counts = a.counts.counts; room = a.counts.room }
-
-abbrev pub IsValidStoreInside : Inside → Type 0
-IsValidStoreInside a = IsValidStore (store_view a)
+store_view a =
+    record { offsets = a.committed.items; counts = a.counts.counts; room = a.counts.room }

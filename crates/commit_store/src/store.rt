@@ -4,36 +4,40 @@ ghost use Rattle.std.specs.Prelude.{◌≡◌, ℕ, ◌≤◌, ◌<◌, ◌+◌,
 ghost use Rattle.commit_store.specs.Commits.{IsValidLogs, Commits, Fits, IsExact, PartitionLogs, commit_answer, committed_at, count_at, log_at, offset_answer, with_commit};
 
 use keyed_table::{Partial, Table};
-use lane_words::{Memory, Refusal};
+use lane_words::{MOST_PARTITIONS, Memory, Refusal};
 use partition_log::LogRead;
 use std::alloc::Global;
 use std::marker::Model;
 
-/// For each of 1 to 4096 partitions the committed offset, which is that of the next record to be read, and for each key
-/// number how often the key is in the committed records.
+/// For each of 1 to 4096 partitions the committed offset, which is that of the next record to be
+/// read, and for each key number how often the key is in the committed records.
 ///
-/// An offset and its counts are taken together: after each call the counters add up to the committed offsets.
+/// An offset and its counts are taken together: after each call the counters add up to the
+/// committed offsets.
 #[derive(Drop)]
 pub struct Store {
+    /// The committed offsets, in the order of the partitions.
     committed: Vec<u32>,
+    /// The counters, by key number.
     counts: Table,
 }
 
 impl Model for Store {
-    ghost use Rattle.commit_store.specs.Commits.{Commits};
-    ghost use Rattle.commit_store.specs.View.{IsValidStoreInside, store_view};
+    ghost use Rattle.commit_store.specs.Commits.{Commits, IsValidStore};
+    ghost use Rattle.commit_store.specs.View.{store_view};
 
     ghost Value = { Commits };
 
     ghost view = { store_view };
 
-    ghost invariant = { IsValidStoreInside };
+    ghost invariant = { λ s. IsValidStore (store_view s) };
 }
 
 impl Store {
-    /// A store of this many partitions, with nothing committed and no counters. Refused for want of memory.
+    /// A store of this many partitions, with nothing committed and no counters. Refused for want of
+    /// memory.
     pub fn new(alloc: Global, partitions: u32) -> Result<Store, Memory>
-        requires { (1 ≤ partitions) × (partitions ≤ 4096) }
+        requires { (1 ≤ partitions) × (partitions ≤ MOST_PARTITIONS) }
         ensures partitions { IfOk result (λ store. length store.offsets ≡ partitions) }
         ensures offsets { IfOk result (λ store. (p : ℕ) → committed_at store p ≡ 0) }
         ensures counts { IfOk result (λ store. store.counts ≡ []) }
@@ -46,30 +50,34 @@ impl Store {
         })
     }
 
-    /// Makes room for at least one counter more. Refused, with all else as it was, for want of memory.
+    /// Makes room for at least one counter more. Refused, with all else as it was, for want of
+    /// memory.
     pub fn reserve_key(&mut self) -> Result<(), Memory>
         ensures same { self.new ≡ record self.old { room = self.new.room } }
         ensures room { OnOk result (1 ≤ self.new.room) }
+        ensures room_stays { self.old.room ≤ self.new.room }
     {
         self.counts.reserve()
     }
 
-    /// A counter at 0 for the next key number, in the room that was made for it. It takes no memory.
+    /// A counter at 0 for the next key number, in the room that was made for it. It takes no
+    /// memory.
     pub fn add_key(&mut self)
         requires { 1 ≤ self.old.room }
-        ensures added { self.new ≡ record self.old { counts = self.old.counts ++ 0 ∷ []; room = self.old.room - 1 } }
+        ensures added { self.new ≡ record self.old
+            { counts = self.old.counts ++ 0 ∷ []; room = self.old.room - 1 } }
         ensures exact { (l : PartitionLogs) → IsExact self.old l → IsExact self.new l }
     {
         self.counts.add_key();
     }
 
-    /// Commits the records of log `p` from the offset `from` on whose key numbers are the list of the partial count, and
-    /// answers the new committed offset: it goes past them, and each counter rises by how often its key is among them.
-    /// It takes no memory.
+    /// Commits the records of log `p` from the offset `from` on whose key numbers are the list of
+    /// the partial count, and answers the new committed offset: it goes past them, and each counter
+    /// rises by how often its key is among them. It takes no memory.
     ///
-    /// Refused, with everything as it was, by the first that holds: an empty list (`EmptyCommit`); an offset other than
-    /// the committed one, which is told (`OffsetMismatch`); records past the log's end (`PastEnd`); numbers other than
-    /// the log's there (`WrongRecords`).
+    /// Refused, with everything as it was, by the first that holds: an empty list (`EmptyCommit`);
+    /// an offset other than the committed one, which is told (`OffsetMismatch`); records past the
+    /// log's end (`PastEnd`); numbers other than the log's there (`WrongRecords`).
     pub fn commit<L: LogRead>(
         &mut self,
         logs: &L,
@@ -77,14 +85,17 @@ impl Store {
         from: u32,
         partial: &Partial,
     ) -> Result<u32, Refusal>
-        requires partition { (p < length self.old.offsets) × (p < (L.contents logs.now).partitions) }
+        requires partition { (p < length self.old.offsets)
+            × (p < (L.contents logs.now).partitions) }
         requires counters { length (L.contents logs.now).keys ≤ length self.old.counts }
         ensures answer { result ≡ commit_answer self.old (L.contents logs.now) p from partial.now }
-        ensures accepts { Fits self.old (L.contents logs.now) p from partial.now → result ≡ Ok (from + length partial.now) }
+        ensures accepts { Fits self.old (L.contents logs.now) p from partial.now
+            → result ≡ Ok (from + length partial.now) }
         ensures accepted { OnOk result (Fits self.old (L.contents logs.now) p from partial.now) }
         ensures ok { OnOk result (self.new ≡ with_commit self.old p partial.now) }
         ensures err { OnErr result (self.new ≡ self.old) }
-        ensures exact { IsExact self.old (L.contents logs.now) → IsExact self.new (L.contents logs.now) }
+        ensures exact { IsExact self.old (L.contents logs.now)
+            → IsExact self.new (L.contents logs.now) }
     {
         let end = next_offset(logs, p, self.committed(p), from, partial.ids())?;
         self.counts.merge(partial);
@@ -113,6 +124,13 @@ impl Store {
         ensures { result ≡ count_at self.now id }
     {
         self.counts.get(id)
+    }
+
+    /// The counters, in the order of their key numbers.
+    pub fn counts(&self) -> &[u64]
+        ensures { result.now ≡ self.now.counts }
+    {
+        self.counts.counts()
     }
 
     /// How many partitions there are.

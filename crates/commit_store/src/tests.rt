@@ -2,7 +2,7 @@
 
 use super::*;
 use keyed_table::Partial;
-use lane_words::Refusal;
+use lane_words::{MOST_PARTITIONS, Refusal};
 use partition_log::{LogRead, Logs};
 use std::test::Fail;
 
@@ -38,5 +38,20 @@ fn a_commit_is_taken_exactly_where_it_fits(rt: HostRuntime) -> Result<(), Fail> 
     assert_eq!(rt; store.committed(0), 2);
     assert_eq!(rt; store.committed(3), 0);
     assert_eq!(rt; store.count(0), 2);
+    Ok(())
+}
+
+#[test]
+fn makes_an_offset_for_each_of_as_many_partitions_as_there_may_be(
+    rt: HostRuntime,
+) -> Result<(), Fail> {
+    let mut store = Store::new(rt.alloc(), MOST_PARTITIONS)?;
+    assert_eq!(rt; store.partitions(), MOST_PARTITIONS);
+    for _ in 0..70_000_u32 {
+        store.reserve_key()?;
+        store.add_key();
+    }
+    assert_eq!(rt; store.offsets().len(), 4096);
+    assert_eq!(rt; store.counts().len(), 70_000);
     Ok(())
 }

@@ -1,7 +1,7 @@
 //! `keycount`: counts the keys of a file of comma-separated records.
 #![tactic(auto)]
 
-ghost use Rattle.report_cli.specs.Report.{AreInRange};
+ghost use Rattle.report_cli.specs.Reports.{AreInRange};
 
 use lane_words::Refusal;
 use report_cli::{

@@ -14,7 +14,8 @@ use Rattle.std.specs.Map.{keys_of, lookup}
 use Rattle.std.specs.Option.{unwrap_or}
 use Rattle.std.specs.Ordering.{is_eq, nat_cmp}
 use Rattle.std.proofs.lemmas.Map.Keys.{sorted_head, sorted_tail}
-use Rattle.keyed_table.specs.Counts.{HasCountsOf, HaveCounters, SumsFit, counted, plain, raised, raised_from}
+use Rattle.keyed_table.specs.Private.Partial.{HasCountsOf, counted}
+use Rattle.keyed_table.specs.Counts.{HaveCounters, SumsFit, plain, raised, raised_from}
 use Rattle.keyed_table.proofs.Runs.{count-of-counted, of-counted}
 
 -- what entries say of a number, all together

@@ -11,8 +11,9 @@ use Rattle.std.proofs.lemmas.Grind.{common_steps}
 use Rattle.std.proofs.lemmas.List.{length-take, take_all, take_more}
 use Rattle.std.proofs.lemmas.List.Sorted.{sum_by-IsPermutation}
 use Rattle.std.proofs.lemmas.List.Sums.{fold-append}
-use Rattle.keyed_table.specs.Counts.{counted, plain, value_in}
-use Rattle.keyed_table.proofs.Members.{none-past}
+use Rattle.keyed_table.specs.Private.Partial.{counted, value_in}
+use Rattle.keyed_table.specs.Counts.{plain}
+use Rattle.keyed_table.proofs.Elements.{none-past}
 
 pub plain-push : (ids : List ℕ) (y x : ℕ) → plain (ids ++ y ∷ []) x ≡ plain ids x + cond (x == y) 1 0
 plain-push [] y x = grind (arith, common_steps)

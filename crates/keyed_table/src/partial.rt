@@ -4,7 +4,8 @@ ghost use Rattle.std.specs.Prelude.{◌≡◌, ◌≢◌, ◌+◌, ◌<◌, ◌^
 ghost use Rattle.std.specs.BTreeMap.{IsFromIterResult};
 ghost use Rattle.std.specs.List.Sorted.{IsNonDecreasing};
 ghost use Rattle.std.specs.Ordering.{nat_cmp};
-ghost use Rattle.keyed_table.specs.Counts.{IsValidPartial, counted, plain, value_in};
+ghost use Rattle.keyed_table.specs.Private.Partial.{IsValidPartial, counted, value_in};
+ghost use Rattle.keyed_table.specs.Counts.{plain};
 
 use lane_words::Memory;
 use std::alloc::{AllocError, Global};
@@ -16,13 +17,15 @@ use std::marker::Model;
 /// The counts are always those of the list, whatever the list.
 #[derive(Drop)]
 pub struct Partial {
+    /// The list, in its own order.
     ids: Vec<u32>,
+    /// How often each number is in it; a number that is not in it has no entry.
     counts: BTreeMap<u32, u64>,
 }
 
 impl Model for Partial {
     ghost use Rattle.std.specs.Prelude.{List, ℕ};
-    ghost use Rattle.keyed_table.specs.Counts.{IsValidPartial};
+    ghost use Rattle.keyed_table.specs.Private.Partial.{IsValidPartial};
 
     ghost Value = { List ℕ };
 
@@ -76,7 +79,8 @@ fn counts_of(alloc: Global, ids: &[u32]) -> Result<BTreeMap<u32, u64>, Memory>
     Ok(map_of(alloc, runs)?)
 }
 
-/// Each number of a list whose numbers rise, with how often it is there: equal numbers stand side by side.
+/// Each number of a list whose numbers rise, with how often it is there: equal numbers stand side
+/// by side.
 fn runs_of(alloc: Global, ids: &[u32]) -> Result<Vec<(u32, u64)>, Memory>
     requires { IsNonDecreasing ids.now }
     ensures { IfOk result (λ runs. (x : ℕ) → value_in runs.items x ≡ counted (plain ids.now x)) }
@@ -102,8 +106,10 @@ fn map_of(alloc: Global, pairs: Vec<(u32, u64)>) -> Result<BTreeMap<u32, u64>, A
 /// Whether the number after this one is another, or there is none.
 fn ends_run(ids: &[u32], at: usize) -> bool
     requires { at < length ids.now }
-    ensures goes_on { result ≡ false → (at + 1 < length ids.now) × (slice_index ids.now (at + 1) ≡ slice_index ids.now at) }
-    ensures ends { result ≡ true → at + 1 < length ids.now → slice_index ids.now (at + 1) ≢ slice_index ids.now at }
+    ensures goes_on { result ≡ false → (at + 1 < length ids.now)
+        × (slice_index ids.now (at + 1) ≡ slice_index ids.now at) }
+    ensures ends { result ≡ true → at + 1 < length ids.now
+        → slice_index ids.now (at + 1) ≢ slice_index ids.now at }
 {
     at + 1 == ids.len() || ids[at + 1] != ids[at]
 }

@@ -11,6 +11,7 @@ use std::marker::Model;
 /// A counter for each key number, from 0 on.
 #[derive(Drop)]
 pub struct Table {
+    /// The counters, each at the index of its key number.
     counts: Vec<u64>,
 }
 
@@ -20,7 +21,8 @@ impl Model for Table {
 
     ghost Value = { Counters };
 
-    ghost view = { λ t. record { counts = t.counts.items; room = vec_capacity t.counts - vec_len t.counts } };
+    ghost view = { λ t. record
+        { counts = t.counts.items; room = vec_capacity t.counts - vec_len t.counts } };
 }
 
 impl Table {
@@ -33,7 +35,8 @@ impl Table {
         }
     }
 
-    /// Makes room for at least one counter more. Refused, with the counters as they were, for want of memory.
+    /// Makes room for at least one counter more. Refused, with the counters as they were, for want
+    /// of memory.
     pub fn reserve(&mut self) -> Result<(), Memory>
         ensures counts { self.new.counts ≡ self.old.counts }
         ensures room { OnOk result (1 ≤ self.new.room) }
@@ -43,7 +46,8 @@ impl Table {
         Ok(())
     }
 
-    /// A counter at 0 for the next key number, in the room that was made for it. It takes no memory.
+    /// A counter at 0 for the next key number, in the room that was made for it. It takes no
+    /// memory.
     pub fn add_key(&mut self)
         requires { 1 ≤ self.old.room }
         ensures { self.new ≡ record { counts = self.old.counts ++ 0 ∷ []; room = self.old.room - 1 } }
@@ -51,11 +55,13 @@ impl Table {
         self.counts.push_reserved(0);
     }
 
-    /// Adds how often each number is in the list of a partial count to its counter. It takes no memory.
+    /// Adds how often each number is in the list of a partial count to its counter. It takes no
+    /// memory.
     pub fn merge(&mut self, partial: &Partial)
         requires numbers { HaveCounters self.old.counts partial.now }
         requires fit { SumsFit self.old.counts partial.now }
-        ensures { self.new ≡ record { counts = raised self.old.counts partial.now; room = self.old.room } }
+        ensures { self.new ≡ record
+            { counts = raised self.old.counts partial.now; room = self.old.room } }
     {
         raise(&mut self.counts, partial);
     }

@@ -55,3 +55,30 @@ fn a_table_has_a_counter_for_each_key(rt: HostRuntime) -> Result<(), Fail> {
     assert_eq!(rt; table.get(1), 0);
     Ok(())
 }
+
+#[test]
+fn counts_a_list_of_many_numbers(rt: HostRuntime) -> Result<(), Fail> {
+    let mut ids = Vec::new(rt.alloc());
+    for i in 0..200_000_u32 {
+        // Each number below 70,000 two or three times.
+        ids.push(i % 70_000)?;
+    }
+    let counted = Partial::of(rt.alloc(), ids)?;
+    assert_eq!(rt; counted.ids().len(), 200_000);
+    let expected = [(0, 3), (59_999, 3), (60_000, 2), (69_999, 2), (70_000, 0)];
+    for (id, n) in expected {
+        assert_eq!(rt; counted.get(id), n, "{id}");
+    }
+    Ok(())
+}
+
+#[test]
+fn a_table_grows_to_many_counters(rt: HostRuntime) -> Result<(), Fail> {
+    let mut table = Table::new(rt.alloc());
+    for _ in 0..200_000_u32 {
+        table.reserve()?;
+        table.add_key();
+    }
+    assert_eq!(rt; table.len(), 200_000);
+    Ok(())
+}

@@ -9,7 +9,7 @@ pub const MOST_MEMBERS: usize = 512;
 /// The longest key, in bytes.
 pub const LONGEST_KEY: usize = 65_535;
 
-/// The most records of one log, and the most keys: a record's offset and a key's number fit 32 bits.
+/// The most records of one log, and the most keys: offsets and key numbers fit 32 bits.
 pub const MOST_RECORDS: u32 = u32::MAX;
 
 /// The last generation.

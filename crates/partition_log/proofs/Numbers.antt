@@ -1,4 +1,4 @@
--- Keys that are kept as vectors, seen as lists.
+-- Keys that are stored as vectors, seen as lists.
 use Rattle.std.proofs.Common.{◌≡◌, ◌+◌, ℕ, Bool, true, false, List, [], ◌∷◌, ◌++◌, Some, None, length, map, ap, refl, cond}
 use Rattle.std.specs.Prelude.{if◌then◌else◌, ◌||◌, not, nat_lt, position}
 use Rattle.std.specs.List.{list_any, position_or_len, prefix_len}
@@ -19,7 +19,7 @@ picked : (b : Bool) (n i : ℕ) → Some i ≡ cond b (Some n) None → i ≡ n
 picked true n i e = cc e
 picked false n i e = cc e
 
--- the first place that passes
+-- the first index that passes
 pub position-is : {X : Type 0} (p : X → Bool) (xs : List X) (i : ℕ) → Some i ≡ position p xs → i ≡ position_or_len p xs
 position-is p xs i e = picked (nat_lt (position_or_len p xs) (length xs)) (position_or_len p xs) i e
 

@@ -3,11 +3,12 @@ use Rattle.std.proofs.Common.{◌≡◌, ◌∙◌, ◌+◌, ◌<◌, ℕ, Bool,
 use Rattle.std.specs.Prelude.{if◌then◌else◌, nat_lt, Result, Ok, Err}
 use Rattle.std.proofs.Math.Seq.{get_or-append_seam}
 use Rattle.lane_words.specs.Answers.{Answers}
+use Rattle.lane_words.specs.declared.limits.TheConstants.{LONGEST_KEY}
 use Rattle.lane_words.specs.declared.Refusal.{Refusal}
 use Rattle.lane_words.specs.declared.Refusal.TheVariants as r
 use Rattle.partitioner.proofs.Places.{place_of-below}
 use Rattle.partition_log.specs.Keys.{Key, id_of}
-use Rattle.partition_log.specs.Logs.{IsValidLogs, PartitionLogs, append_answer, is_full_for, log_at, longest_key, place_in, with_record}
+use Rattle.partition_log.specs.Logs.{IsValidLogs, PartitionLogs, append_answer, is_full_for, log_at, place_in, with_record}
 use Rattle.partition_log.proofs.Valid.{log-same}
 
 -- the record of a key that was appended to logs stands at this place and offset, as the number of the key
@@ -30,7 +31,7 @@ pub stored : (l new : PartitionLogs) (key : Key) (place offset : ℕ) → IsVali
     → IsStored l key new place offset
 stored l new key place offset a e h =
     let pair : (let v : ℕ × ℕ = (place_in l key, length (log_at l (place_in l key))) in v) ≡ (place, offset) =
-    answered (nat_lt longest_key (length key)) (is_full_for l key) _ _ (accepted _ _ h) in
+    answered (nat_lt LONGEST_KEY (length key)) (is_full_for l key) _ _ (accepted _ _ h) in
     let at : place_in l key ≡ place = ap (λ (v : ℕ × ℕ). v.0) pair in
     let end : length (log_at l (place_in l key)) ≡ offset = ap (λ (v : ℕ × ℕ). v.1) pair in
     let below : place_in l key < l.partitions = place_of-below l.partitions key a.some_partitions in

@@ -8,10 +8,11 @@ use Rattle.std.proofs.lemmas.List.{get_or_append_left}
 use Rattle.std.proofs.lemmas.List.Elements.{Contains-append_left}
 use Rattle.std.proofs.Math.Seq.{get_or-append_seam}
 use Rattle.lane_words.specs.Answers.{Answers}
+use Rattle.lane_words.specs.declared.limits.TheConstants.{LONGEST_KEY, MOST_RECORDS}
 use Rattle.lane_words.specs.declared.Refusal.TheVariants as r
 use Rattle.partitioner.proofs.Places.{place_of-below}
 use Rattle.partition_log.specs.Keys.{Key, is_known, key_at, id_of, with_key}
-use Rattle.partition_log.specs.Logs.{IsValidLogs, IsEntryOf, PartitionLogs, finds_no_room, is_full_for, log_at, longest_key, most_keys, most_records, place_in, with_record}
+use Rattle.partition_log.specs.Logs.{IsValidLogs, IsEntryOf, PartitionLogs, finds_no_room, is_full_for, log_at, place_in, with_record}
 use Rattle.partition_log.proofs.Growth.{grows, stays_apart}
 
 -- the log of the key's place has one entry more
@@ -44,20 +45,20 @@ below most n e =
     ]
 
 -- the log that gets a record was not at its limit
-pub has_room : (keys : List Key) (records : ℕ) (key : Key) → finds_no_room keys records key ≡ false → records < most_records
-has_room keys records key h = below most_records records (room-records _ _ h)
+pub has_room : (keys : List Key) (records : ℕ) (key : Key) → finds_no_room keys records key ≡ false → records < MOST_RECORDS
+has_room keys records key h = below MOST_RECORDS records (room-records _ _ h)
 
 known_or_new : (b : Bool) → (b ≡ true) ⊎ (b ≡ false)
 known_or_new true = inl refl
 known_or_new false = inr refl
 
 -- the keys stay within their limit
-keys_fit : (keys : List Key) (records : ℕ) (key : Key) → finds_no_room keys records key ≡ false → length keys ≤ most_keys → length (with_key keys key) ≤ most_keys
+keys_fit : (keys : List Key) (records : ℕ) (key : Key) → finds_no_room keys records key ≡ false → length keys ≤ MOST_RECORDS → length (with_key keys key) ≤ MOST_RECORDS
 keys_fit keys records key h few =
     let g = grows keys key in
     elim (known_or_new (is_known keys key)) [
       | inl known ↦ let same = g.same_count known in rw same few
-      | inr new ↦ let room : length keys < most_keys = below most_keys (length keys) (room-keys (nat_le most_records records) (is_known keys key) (nat_le most_keys (length keys)) h new) in omega (arith, g.by_one, room)
+      | inr new ↦ let room : length keys < MOST_RECORDS = below MOST_RECORDS (length keys) (room-keys (nat_le MOST_RECORDS records) (is_known keys key) (nat_le MOST_RECORDS (length keys)) h new) in omega (arith, g.by_one, room)
     ]
 
 entry-more : (l : PartitionLogs) (key : Key) (p n : ℕ) → IsEntryOf l p n → IsEntryOf (with_record l key) p n
@@ -117,7 +118,7 @@ used-more l key a lt n n_in =
           subst (λ (k : Key). Contains (log_at (with_record l key) (place_in l k)) n) (sym stands) (subst (λ (log : List ℕ). Contains log n) (sym (log-same l key lt)) last)
     ]
 
-records-more : (l : PartitionLogs) (key : Key) → IsValidLogs l → place_in l key < length l.logs → is_full_for l key ≡ false → (p : ℕ) → length (log_at (with_record l key) p) ≤ most_records
+records-more : (l : PartitionLogs) (key : Key) → IsValidLogs l → place_in l key < length l.logs → is_full_for l key ≡ false → (p : ℕ) → length (log_at (with_record l key) p) ≤ MOST_RECORDS
 records-more l key a lt room p =
     elim (is_place p (place_in l key)) [
       | inr ne ↦ rw (log-other l key p ne) (a.few_records p)
@@ -128,7 +129,7 @@ records-more l key a lt room p =
           omega (arith, long, has_room l.keys (length old) key room)
     ]
 
-short-more : (l : PartitionLogs) (key : Key) → IsValidLogs l → length key ≤ longest_key → (n : ℕ) → n < length (with_key l.keys key) → length (key_at (with_key l.keys key) n) ≤ longest_key
+short-more : (l : PartitionLogs) (key : Key) → IsValidLogs l → length key ≤ LONGEST_KEY → (n : ℕ) → n < length (with_key l.keys key) → length (key_at (with_key l.keys key) n) ≤ LONGEST_KEY
 short-more l key a short n n_in =
     let g = grows l.keys key in
     elim (cases_lt n (length l.keys)) [
@@ -139,7 +140,7 @@ short-more l key a short n n_in =
     ]
 
 -- logs with one more record are logs
-pub valid : (l : PartitionLogs) (key : Key) → IsValidLogs l → place_in l key < l.partitions → length key ≤ longest_key → is_full_for l key ≡ false → IsValidLogs (with_record l key)
+pub valid : (l : PartitionLogs) (key : Key) → IsValidLogs l → place_in l key < l.partitions → length key ≤ LONGEST_KEY → is_full_for l key ≡ false → IsValidLogs (with_record l key)
 valid l key a placed short room =
     let lt : place_in l key < length l.logs = rw a.a_log_each placed in record {
       some_partitions = a.some_partitions;
@@ -159,7 +160,7 @@ room-of true n offset (inr e) = absurd (cc e)
 room-of false n offset answer = refl
 
 -- logs of which the parts are those with one more record
-pub grown : (l : PartitionLogs) (key : Key) (place offset : ℕ) (keys : List Key) (logs : List (List ℕ)) → IsValidLogs l → place ≡ place_in l key → length key ≤ longest_key
+pub grown : (l : PartitionLogs) (key : Key) (place offset : ℕ) (keys : List Key) (logs : List (List ℕ)) → IsValidLogs l → place ≡ place_in l key → length key ≤ LONGEST_KEY
     → keys ≡ with_key l.keys key → logs ≡ slice_set l.logs place (get_or l.logs place [] ++ id_of l.keys key ∷ [])
     → Answers {T = ℕ} (if finds_no_room l.keys (length (get_or l.logs place [])) key then Err r.LogFull else Ok (length (get_or l.logs place []))) (Ok offset)
     → (let new : PartitionLogs = record { partitions = l.partitions; keys = keys; logs = logs } in (new ≡ with_record l key) × IsValidLogs new)

@@ -1,3 +1,4 @@
 pub mod Keys
 pub mod Logs
-pub mod StoredKey
+pub mod Private
+pub mod View

@@ -1,11 +1,12 @@
 //! The keys of all logs, numbered in the order of their first appearance.
 
-ghost use Rattle.std.specs.Prelude.{◌≡◌, ◌<◌, ◌≤◌, ◌-◌, ◌^◌, [], IfOk, IfSome, IfNone, IsOk, OnErr, length, true, false};
+ghost use Rattle.std.specs.Prelude.{◌≡◌, ◌<◌, ◌≤◌, [], IfOk, IfSome, IfNone, IsOk, OnErr, length, true, false};
+ghost use Rattle.partition_log.specs.Private.Appends.{IsIdOf};
 ghost use Rattle.partition_log.specs.Keys.{IsWithoutRepeats, is_known, key_at, id_of, with_key};
 
-use crate::stored_key::{SHORT, StoredKey};
+use crate::stored_key::{LONGEST_INLINE, StoredKey};
 use indexmap::IndexSet;
-use lane_words::Memory;
+use lane_words::{MOST_RECORDS, Memory};
 use std::alloc::Global;
 use std::hash::RandomState;
 use std::marker::Model;
@@ -14,26 +15,29 @@ use std::random::RandomSource;
 
 /// Keys by their numbers. The hasher is drawn anew for each, since strangers choose the keys.
 #[derive(Drop)]
-pub(crate) struct KeyIds {
+pub struct KeyIds {
+    /// Where the keys are stored.
     alloc: Global,
+    /// The keys, each at the index of its number.
     set: IndexSet<StoredKey, RandomState>,
-    // What a long key is looked up by: it keeps its memory from one look-up to the next.
+    /// What a long key is looked up by: it keeps its memory from one look-up to the next.
     query: Vec<u8>,
 }
 
 impl Model for KeyIds {
-    ghost use Rattle.std.specs.Prelude.{List, ℕ, length, ◌≤◌, ◌-◌, ◌^◌};
+    ghost use Rattle.std.specs.Prelude.{List, ℕ, length, ◌≤◌};
+    ghost use Rattle.lane_words.specs.declared.limits.TheConstants.{MOST_RECORDS};
 
     ghost Value = { List (List ℕ) };
 
     ghost view = { λ k. k.set.keys };
 
-    ghost invariant = { λ k. length k.set.keys ≤ 2 ^ 32 - 1 };
+    ghost invariant = { λ k. length k.set.keys ≤ MOST_RECORDS };
 }
 
 impl KeyIds {
     /// No keys. It is refused where the random source fails.
-    pub(crate) fn new(rt: &impl RandomSource, alloc: Global) -> Result<KeyIds, Memory>
+    pub fn new(rt: &impl RandomSource, alloc: Global) -> Result<KeyIds, Memory>
         ensures { IfOk result (λ keys. keys ≡ []) }
     {
         let Ok(hasher) = RandomState::new(rt) else {
@@ -46,9 +50,9 @@ impl KeyIds {
         })
     }
 
-    /// The same keys by the same numbers, with a hasher of their own. It is refused for want of memory, or where the
-    /// random source fails.
-    pub(crate) fn copy(&self, rt: &impl RandomSource) -> Result<KeyIds, Memory>
+    /// The same keys by the same numbers, with a hasher of their own. It is refused for want of
+    /// memory, or where the random source fails.
+    pub fn copy(&self, rt: &impl RandomSource) -> Result<KeyIds, Memory>
         requires { IsWithoutRepeats self.now }
         ensures { IfOk result (λ copy. copy ≡ self.now) }
     {
@@ -61,28 +65,29 @@ impl KeyIds {
     }
 
     /// How many keys there are.
-    pub(crate) fn count(&self) -> u32
+    pub fn count(&self) -> u32
         ensures { result ≡ length self.now }
     {
         self.set.len() as u32
     }
 
     /// The key of a number.
-    pub(crate) fn key(&self, number: u32) -> &[u8]
+    pub fn key(&self, number: u32) -> &[u8]
         requires { number < length self.now }
         ensures { result.now ≡ key_at self.now number }
     {
         self.set.as_slice()[number as usize].as_slice()
     }
 
-    /// The number of a key, where it is known. It takes memory only for a long key, where none as long was sought before.
-    pub(crate) fn find(&mut self, key: &[u8]) -> Result<Option<u32>, Memory>
-        ensures known { IfOk result (λ found. IfSome found (λ n. (n ≡ id_of self.old key.now) × (n < length self.old) × (is_known self.old key.now ≡ true))) }
+    /// The number of a key, where it is known. It takes memory only for a long key, where none as
+    /// long was sought before.
+    pub fn find(&mut self, key: &[u8]) -> Result<Option<u32>, Memory>
+        ensures known { IfOk result (λ found. IfSome found (IsIdOf self.old key.now)) }
         ensures fresh { IfOk result (λ found. IfNone found (is_known self.old key.now ≡ false)) }
-        ensures short { length key.now ≤ 22 → IsOk result }
+        ensures short { length key.now ≤ LONGEST_INLINE → IsOk result }
         ensures same { self.new ≡ self.old }
     {
-        if key.len() <= SHORT {
+        if key.len() <= LONGEST_INLINE {
             return Ok(find_in(&self.set, &StoredKey::short(key)));
         }
         let query = long_query(self.alloc, &mut self.query, key)?;
@@ -94,10 +99,11 @@ impl KeyIds {
     }
 
     /// Numbers a new key, whose bytes are stored once.
-    pub(crate) fn add(&mut self, key: &[u8]) -> Result<u32, Memory>
-        requires room { length self.old < 2 ^ 32 - 1 }
+    pub fn add(&mut self, key: &[u8]) -> Result<u32, Memory>
+        requires room { length self.old < MOST_RECORDS }
         requires fresh { is_known self.old key.now ≡ false }
-        ensures ok { IfOk result (λ n. (n ≡ id_of self.old key.now) × (self.new ≡ with_key self.old key.now)) }
+        ensures ok { IfOk result (λ n. (n ≡ id_of self.old key.now)
+            × (self.new ≡ with_key self.old key.now)) }
         ensures err { OnErr result (self.new ≡ self.old) }
     {
         let stored = stored_key(self.alloc, key)?;
@@ -108,8 +114,8 @@ impl KeyIds {
 
 /// The number of a key of a set, where it is there.
 fn find_in(set: &IndexSet<StoredKey, RandomState>, key: &StoredKey) -> Option<u32>
-    requires { length set.now.keys ≤ 2 ^ 32 - 1 }
-    ensures known { IfSome result (λ n. (n ≡ id_of set.now.keys key.now) × (n < length set.now.keys) × (is_known set.now.keys key.now ≡ true)) }
+    requires { length set.now.keys ≤ MOST_RECORDS }
+    ensures known { IfSome result (IsIdOf set.now.keys key.now) }
     ensures fresh { IfNone result (is_known set.now.keys key.now ≡ false) }
 {
     let Some(number) = set.get_index_of(key) else {
@@ -135,7 +141,7 @@ fn long_query(alloc: Global, last: &mut Vec<u8>, key: &[u8]) -> Result<StoredKey
 fn stored_key(alloc: Global, key: &[u8]) -> Result<StoredKey, Memory>
     ensures { IfOk result (λ stored. stored ≡ key.now) }
 {
-    if key.len() <= SHORT {
+    if key.len() <= LONGEST_INLINE {
         return Ok(StoredKey::short(key));
     }
     let text = Vec::from_slice(alloc, key)?;

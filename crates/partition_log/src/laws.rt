@@ -2,9 +2,11 @@
 
 ghost use Rattle.std.specs.Prelude.{◌≡◌, List};
 ghost use Rattle.partition_log.specs.Keys.{Key, plain};
-ghost use Rattle.partition_log.specs.Logs.{IsValidLogs, AreLogsOf, PartitionLogs, keys_of_log, sum_below};
+ghost use Rattle.partition_log.specs.Logs.{IsValidLogs, AreLogsOf, PartitionLogs, count_in_logs};
 
-/// Each record is in one log: over all logs together a key is as often as in the list of the appended keys.
+/// Each record is in one log: over all logs together a key is as often as in the list of the
+/// appended keys.
 pub fn each_record_is_in_one_log()
-    ensures { (appended : List Key) (l : PartitionLogs) (x : Key) → IsValidLogs l → AreLogsOf appended l → sum_below l.partitions (λ p. plain (keys_of_log l p) x) ≡ plain appended x }
+    ensures { (appended : List Key) (l : PartitionLogs) (x : Key) → IsValidLogs l
+        → AreLogsOf appended l → count_in_logs l x ≡ plain appended x }
 {}

@@ -5,51 +5,50 @@ ghost use Rattle.std.specs.Prelude.{◌≡◌, ◌<◌, ◌≤◌, ◌++◌, ◌
 ghost use Rattle.lane_words.specs.Answers.{Answers};
 ghost use Rattle.lane_words.specs.declared.Refusal.TheVariants as refusal;
 ghost use Rattle.partitioner.specs.Place.{place_of};
-ghost use Rattle.partition_log.specs.Keys.{Key, key_at, id_of, with_key};
-ghost use Rattle.partition_log.specs.Logs.{append_answer, with_record, log_at, place_in, finds_no_room, longest_key, most_records, IsValidLogs, AreLogsOf, PartitionLogs};
+ghost use Rattle.partition_log.specs.Keys.{Key, key_at, with_key};
+ghost use Rattle.partition_log.specs.Private.Appends.{log_answer, with_id, with_id_at};
+ghost use Rattle.partition_log.specs.Logs.{append_answer, with_record, log_at, place_in, IsValidLogs, AreLogsOf, PartitionLogs};
 
 mod keys;
-pub mod laws;
+mod laws;
 #[cfg(test)]
 mod plain_keys;
 mod sealed;
 mod stored_key;
 
 use keys::KeyIds;
-use lane_words::{Memory, Refusal};
+use lane_words::{LONGEST_KEY, MOST_PARTITIONS, MOST_RECORDS, Memory, Refusal};
+pub use laws::each_record_is_in_one_log;
 use partitioner::Partitions;
 pub use sealed::SealedLogs;
 use std::alloc::Global;
 use std::marker::Model;
 use std::random::RandomSource;
 
-/// The longest key, in bytes.
-const LONGEST_KEY: usize = 65535;
-
-/// The most records of one log, and the most keys.
-const LIMIT: u32 = u32::MAX;
-
 /// Append-only logs of keyed records, one for each of 1 to 4096 partitions.
 ///
-/// A record is its key alone. A key has 0 to 65,535 bytes of any value and is numbered from 0 in the order of
-/// first appearance; a log holds up to 4,294,967,295 records, each as the number of its key, and there are up
-/// to 4,294,967,295 keys.
+/// A record is its key alone. A key has 0 to 65,535 bytes of any value and is numbered from 0 in
+/// the order of first appearance; a log holds up to 4,294,967,295 records, each as the number of
+/// its key, and there are up to 4,294,967,295 keys.
 #[derive(Drop)]
 pub struct Logs {
+    /// How many logs there are.
     partitions: Partitions,
+    /// The keys of all logs.
     keys: KeyIds,
+    /// Of each log the key numbers of its records.
     logs: Vec<Vec<u32>>,
 }
 
 impl Model for Logs {
-    ghost use Rattle.std.specs.Prelude.{map, vec_items};
     ghost use Rattle.partition_log.specs.Logs.{IsValidLogs, PartitionLogs};
+    ghost use Rattle.partition_log.specs.View.{logs_view};
 
     ghost Value = { PartitionLogs };
 
-    ghost view = { λ l. record { partitions = l.partitions; keys = l.keys; logs = map vec_items l.logs.items } };
+    ghost view = { logs_view };
 
-    ghost invariant = { λ l. IsValidLogs (record { partitions = l.partitions; keys = l.keys; logs = map vec_items l.logs.items }) };
+    ghost invariant = { λ l. IsValidLogs (logs_view l) };
 }
 
 /// Logs that can be read.
@@ -67,8 +66,8 @@ pub trait LogRead {
         requires { p < (contents self.now).partitions }
         ensures { result ≡ length (log_at (contents self.now) p) };
 
-    /// The numbers of the keys of the records at the offsets `from`, `from + 1` and so on below `to`, in the log of
-    /// partition `p`.
+    /// The numbers of the keys of the records at the offsets `from`, `from + 1` and so on below
+    /// `to`, in the log of partition `p`.
     fn ids(&self, p: u32, from: u32, to: u32) -> &[u32]
         requires partition { p < (contents self.now).partitions }
         requires range { (from ≤ to) × (to ≤ length (log_at (contents self.now) p)) }
@@ -110,10 +109,10 @@ impl LogRead for Logs {
 }
 
 impl Logs {
-    /// Empty logs of this many partitions. They are refused for want of memory, or where the random source
-    /// fails, from which the hasher of the keys is drawn.
+    /// Empty logs of this many partitions. They are refused for want of memory, or where the random
+    /// source fails, from which the hasher of the keys is drawn.
     pub fn new(rt: &impl RandomSource, alloc: Global, partitions: u32) -> Result<Logs, Memory>
-        requires { (1 ≤ partitions) × (partitions ≤ 4096) }
+        requires { (1 ≤ partitions) × (partitions ≤ MOST_PARTITIONS) }
         ensures partitions { IfOk result (λ logs. logs.partitions ≡ partitions) }
         ensures empty { IfOk result (AreLogsOf []) }
         ensures valid { IfOk result IsValidLogs }
@@ -135,17 +134,19 @@ impl Logs {
         self.partitions.place(key)
     }
 
-    /// Appends a record of this key to the log of its place, and answers the partition and the record's offset.
+    /// Appends a record of this key to the log of its place, and answers the partition and the
+    /// record's offset.
     ///
-    /// Refused, with everything as it was: a key of more than 65,535 bytes (`KeyTooLong`); a log that holds its
-    /// limit, or a new key where the keys are at theirs (`LogFull`); want of memory. A known key takes four bytes
-    /// of its log, and is accepted where the keys are at their limit.
+    /// Refused, with everything as it was: a key of more than 65,535 bytes (`KeyTooLong`); a log
+    /// that holds its limit, or a new key where the keys are at theirs (`LogFull`); want of memory.
+    /// A known key takes four bytes of its log, and is accepted where the keys are at their limit.
     pub fn append(&mut self, key: &[u8]) -> Result<(u32, u32), Refusal>
         ensures answer { Answers (append_answer self.old key.now) result }
         ensures ok { OnOk result (self.new ≡ with_record self.old key.now) }
         ensures err { OnErr result (self.new ≡ self.old) }
         ensures valid { OnOk result (IsValidLogs self.new) }
-        ensures history { OnOk result ((appended : List Key) → AreLogsOf appended self.old → AreLogsOf (appended ++ key.now ∷ []) self.new) }
+        ensures history { OnOk result ((appended : List Key) → AreLogsOf appended self.old
+            → AreLogsOf (appended ++ key.now ∷ []) self.new) }
     {
         let place = self.partitions.place(key);
         self.append_at(place, key)
@@ -158,7 +159,8 @@ impl Logs {
         ensures ok { OnOk result (self.new ≡ with_record self.old key.now) }
         ensures err { OnErr result (self.new ≡ self.old) }
         ensures valid { OnOk result (IsValidLogs self.new) }
-        ensures history { OnOk result ((appended : List Key) → AreLogsOf appended self.old → AreLogsOf (appended ++ key.now ∷ []) self.new) }
+        ensures history { OnOk result ((appended : List Key) → AreLogsOf appended self.old
+            → AreLogsOf (appended ++ key.now ∷ []) self.new) }
     {
         if key.len() > LONGEST_KEY {
             return Err(Refusal::KeyTooLong);
@@ -212,7 +214,8 @@ fn copy_logs(alloc: Global, logs: &Vec<Vec<u32>>) -> Result<Vec<Vec<u32>>, Memor
     Ok(copy)
 }
 
-/// Appends the number of a key to its log, and answers the number's offset there. A new key is numbered first.
+/// Appends the number of a key to its log, and answers the number's offset there. A new key is
+/// numbered first.
 fn append_id(
     keys: &mut KeyIds,
     logs: &mut Vec<Vec<u32>>,
@@ -220,11 +223,12 @@ fn append_id(
     key: &[u8],
 ) -> Result<u32, Refusal>
     requires { place < vec_len logs.old }
-    ensures answer { let log = slice_index_or (map vec_items logs.old.items) place [] in
-        Answers (if finds_no_room keys.old (length log) key.now then Err refusal.LogFull else Ok (length log)) result }
+    ensures answer { Answers
+        (log_answer keys.old (slice_index_or (map vec_items logs.old.items) place []) key.now)
+        result }
     ensures keys { OnOk result (keys.new ≡ with_key keys.old key.now) }
-    ensures logs { let log = slice_index_or (map vec_items logs.old.items) place [] in
-        OnOk result (map vec_items logs.new.items ≡ slice_set (map vec_items logs.old.items) place (log ++ id_of keys.old key.now ∷ [])) }
+    ensures logs { OnOk result (map vec_items logs.new.items
+        ≡ with_id_at keys.old (map vec_items logs.old.items) place key.now) }
     ensures same_keys { OnErr result (keys.new ≡ keys.old) }
     ensures same_logs { OnErr result (map vec_items logs.new.items ≡ map vec_items logs.old.items) }
 {
@@ -234,21 +238,21 @@ fn append_id(
 
 /// Appends the number of a key to this log, and answers the number's offset.
 fn push_id(keys: &mut KeyIds, log: &mut Vec<u32>, key: &[u8]) -> Result<u32, Refusal>
-    ensures answer { Answers (if finds_no_room keys.old (length log.old.items) key.now then Err refusal.LogFull else Ok (length log.old.items)) result }
+    ensures answer { Answers (log_answer keys.old log.old.items key.now) result }
     ensures keys { OnOk result (keys.new ≡ with_key keys.old key.now) }
-    ensures log { OnOk result (log.new.items ≡ log.old.items ++ id_of keys.old key.now ∷ []) }
+    ensures log { OnOk result (log.new.items ≡ with_id keys.old log.old.items key.now) }
     ensures same_keys { OnErr result (keys.new ≡ keys.old) }
     ensures same_log { OnErr result (log.new.items ≡ log.old.items) }
 {
     let offset = log.len();
-    if offset >= LIMIT as usize {
+    if offset >= MOST_RECORDS as usize {
         return Err(Refusal::LogFull);
     }
     if let Some(number) = keys.find(key)? {
         log.push(number)?;
         return Ok(offset as u32);
     }
-    if keys.count() >= LIMIT {
+    if keys.count() >= MOST_RECORDS {
         return Err(Refusal::LogFull);
     }
     log.reserve(1)?;

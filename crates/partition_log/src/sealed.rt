@@ -12,6 +12,7 @@ use std::random::RandomSource;
 /// Logs that only can be read: nothing more is appended to them, so many may read them at once.
 #[derive(Drop)]
 pub struct SealedLogs {
+    /// The logs, which are only read.
     pub(crate) logs: Logs,
 }
 
@@ -48,8 +49,9 @@ impl LogRead for SealedLogs {
 }
 
 impl SealedLogs {
-    /// Equal logs of their own, with the same key numbers, to which records can be appended. Refused, as `Logs::new`
-    /// is, for want of memory, or where the random source fails, from which the hasher of the new keys is drawn.
+    /// Equal logs of their own, with the same key numbers, to which records can be appended.
+    /// Refused, as `Logs::new` is, for want of memory, or where the random source fails, from which
+    /// the hasher of the new keys is drawn.
     pub fn copy(&self, rt: &impl RandomSource, alloc: Global) -> Result<Logs, Memory>
         ensures equal { IfOk result (λ logs. logs ≡ self.now) }
         ensures valid { IfOk result IsValidLogs }

@@ -10,20 +10,25 @@ ghost use Rattle.std.specs.Str.{bytes_eq};
 use std::hash::{Hash, Hasher};
 use std::marker::Model;
 
-/// The most bytes of a key that is kept in place: with its size and the variant it fills three words.
-pub(crate) const SHORT: usize = 22;
+/// The longest key that is stored inline: with its size and the variant it fills three words.
+pub const LONGEST_INLINE: usize = 22;
 
 /// Where a key's bytes lie.
 #[derive(Drop)]
 enum Storage {
-    InPlace { bytes: [u8; 22], size: u8 },
-    OnHeap(Vec<u8>),
+    /// As many of these bytes as its size.
+    Inline {
+        bytes: [u8; LONGEST_INLINE],
+        size: u8,
+    },
+    /// All bytes of a text.
+    Heap(Vec<u8>),
 }
 
-/// A key. A short one lies in place, so that a look-up follows no pointer to it.
+/// A key. A short one is stored inline, so that a look-up follows no pointer to it.
 #[derive(Drop)]
-pub(crate) struct StoredKey {
-    place: Storage,
+pub struct StoredKey {
+    storage: Storage,
 }
 
 impl Model for StoredKey {
@@ -31,23 +36,23 @@ impl Model for StoredKey {
 
     ghost Value = { List ℕ };
 
-    ghost use Rattle.partition_log.specs.StoredKey.{bytes_in, IsValidStoredKey};
+    ghost use Rattle.partition_log.specs.Private.StoredKey.{bytes_in, IsValidStoredKey};
 
-    ghost view = { λ k. bytes_in k.place };
+    ghost view = { λ k. bytes_in k.storage };
 
-    ghost invariant = { λ k. IsValidStoredKey k.place };
+    ghost invariant = { λ k. IsValidStoredKey k.storage };
 }
 
 impl StoredKey {
     /// A short key, which takes no memory.
-    pub(crate) fn short(key: &[u8]) -> StoredKey
-        requires { length key.now ≤ 22 }
+    pub fn short(key: &[u8]) -> StoredKey
+        requires { length key.now ≤ LONGEST_INLINE }
         ensures { result ≡ key.now }
     {
-        let mut bytes = [0u8; 22];
+        let mut bytes = [0u8; LONGEST_INLINE];
         bytes[..key.len()].copy_from_slice(key);
         StoredKey {
-            place: Storage::InPlace {
+            storage: Storage::Inline {
                 bytes,
                 size: key.len() as u8,
             },
@@ -55,34 +60,34 @@ impl StoredKey {
     }
 
     /// A key in memory of its own.
-    pub(crate) fn long(text: Vec<u8>) -> StoredKey
+    pub fn long(text: Vec<u8>) -> StoredKey
         ensures { result ≡ text.items }
     {
         StoredKey {
-            place: Storage::OnHeap(text),
+            storage: Storage::Heap(text),
         }
     }
 
     /// The bytes of the key.
-    pub(crate) fn as_slice(&self) -> &[u8]
+    pub fn as_slice(&self) -> &[u8]
         ensures { result.now ≡ self.now }
     {
-        match &self.place {
-            Storage::InPlace { bytes, size } => &bytes[..*size as usize],
-            Storage::OnHeap(text) => text.as_slice(),
+        match &self.storage {
+            Storage::Inline { bytes, size } => &bytes[..*size as usize],
+            Storage::Heap(text) => text.as_slice(),
         }
     }
 }
 
 impl StoredKey {
     /// The memory of a long key, to be used again.
-    pub(crate) fn into_text(self) -> Option<Vec<u8>>
+    pub fn into_text(self) -> Option<Vec<u8>>
         ensures { IfSome result (λ text. text.items ≡ self) }
     {
-        let StoredKey { place } = self;
-        match place {
-            Storage::InPlace { .. } => None,
-            Storage::OnHeap(text) => Some(text),
+        let StoredKey { storage } = self;
+        match storage {
+            Storage::Inline { .. } => None,
+            Storage::Heap(text) => Some(text),
         }
     }
 }

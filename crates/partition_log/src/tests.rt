@@ -1,4 +1,5 @@
-//! Each call once with ample memory, over keys whose places for four partitions are known from outside.
+//! Each call once with ample memory, over keys whose places for four partitions are known from
+//! outside.
 
 use super::*;
 use std::test::Fail;
@@ -54,12 +55,12 @@ fn a_copy_of_sealed_logs_numbers_keys_as_they_do(rt: HostRuntime) -> Result<(), 
 #[test]
 fn takes_keys_up_to_the_longest(rt: HostRuntime) -> Result<(), Fail> {
     let mut logs = Logs::new(&rt, rt.alloc(), 1)?;
-    let bytes = vec![in rt.alloc(); 0xff_u8; 65536]?;
-    assert_eq!(rt; logs.append(&bytes[..65535]), Ok((0, 0)));
+    let bytes = vec![in rt.alloc(); 0xff_u8; LONGEST_KEY + 1]?;
+    assert_eq!(rt; logs.append(&bytes[..LONGEST_KEY]), Ok((0, 0)));
     assert_eq!(rt; logs.append(&bytes), Err(Refusal::KeyTooLong));
     assert_eq!(rt; logs.append(b""), Ok((0, 1)));
     assert_eq!(rt; logs.keys(), 2);
-    assert_eq!(rt; logs.key(0).len(), 65535);
+    assert_eq!(rt; logs.key(0).len(), LONGEST_KEY);
     Ok(())
 }
 
@@ -68,7 +69,8 @@ fn keys_are_numbered_as_by_the_plain_form(rt: HostRuntime) -> Result<(), Fail> {
     let mut keys = KeyIds::new(&rt, rt.alloc())?;
     let mut plain = plain_keys::PlainKeys::new(&rt, rt.alloc())?;
     let bytes = vec![in rt.alloc(); 0x80_u8; 64]?;
-    // Each length twice, round the longest that is kept in place, and then once more with another last byte.
+    // Each length twice, round the longest that is stored inline, and then once more with another
+    // last byte.
     for round in 0..3_u8 {
         for size in 0..=40_usize {
             let mut key = Vec::from_slice(rt.alloc(), &bytes[..size])?;
@@ -87,5 +89,38 @@ fn keys_are_numbered_as_by_the_plain_form(rt: HostRuntime) -> Result<(), Fail> {
     for number in 0..keys.count().min(plain.count()) {
         assert_eq!(rt; keys.key(number), plain.key(number));
     }
+    Ok(())
+}
+
+#[test]
+fn makes_as_many_logs_as_there_may_be(rt: HostRuntime) -> Result<(), Fail> {
+    let logs = Logs::new(&rt, rt.alloc(), MOST_PARTITIONS)?;
+    assert!(rt; logs.partitions() == MOST_PARTITIONS);
+    for p in 0..logs.partitions() {
+        assert_eq!(rt; logs.len(p), 0);
+    }
+    Ok(())
+}
+
+#[test]
+fn takes_and_copies_more_records_and_keys_than_16_bits_number(rt: HostRuntime) -> Result<(), Fail> {
+    let mut logs = Logs::new(&rt, rt.alloc(), 2)?;
+    for i in 0..70_000_u32 {
+        // A short key each, and then a long one of the same number.
+        let mut long = [0_u8; 30];
+        long[..4].copy_from_slice(&i.to_le_bytes());
+        let place = logs.place_of(&long);
+        assert_eq!(rt; logs.append(&i.to_le_bytes()).is_ok(), true);
+        assert_eq!(rt; logs.append(&long).map(|at| at.0), Ok(place));
+    }
+    assert_eq!(rt; logs.append(&[0; 4]).is_ok(), true);
+    assert_eq!(rt; logs.keys(), 140_000);
+    let sealed = logs.seal();
+    let copy = sealed.copy(&rt, rt.alloc())?;
+    assert_eq!(rt; copy.keys(), 140_000);
+    assert!(rt; copy.partitions() == 2);
+    assert_eq!(rt; u64::from(copy.len(0)) + u64::from(copy.len(1)), 140_001);
+    assert!(rt; copy.len(0) > 65_536 && copy.len(1) > 65_536);
+    assert_eq!(rt; copy.key(139_998), 69_999_u32.to_le_bytes().as_slice());
     Ok(())
 }

@@ -13,6 +13,7 @@ use std::thread::Threads;
 /// How many partitions there are, from 1 to 4096.
 #[derive(Clone, Copy, Debug, PartialEq, Eq)]
 pub struct Partitions {
+    /// From 1 to `MOST_PARTITIONS`.
     count: u32,
 }
 

@@ -27,6 +27,9 @@ fn places_all_in_their_order(rt: HostRuntime) -> Result<(), Fail> {
         b"21", b"34", b"21", b"34", b"", b"21", b"34", b"21", b"34", b"21",
     ];
     let places = Partitions::new(4).place_all(&rt, rt.alloc(), &keys)?;
-    assert_eq!(rt; places.as_slice(), [0, 2, 0, 2, 1, 0, 2, 0, 2, 0].as_slice());
+    assert_eq!(rt;
+        places.as_slice(),
+        [0, 2, 0, 2, 1, 0, 2, 0, 2, 0].as_slice()
+    );
     Ok(())
 }

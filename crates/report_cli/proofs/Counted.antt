@@ -6,13 +6,14 @@ use Rattle.std.proofs.lemmas.List.{get_or-map, get_or_default, get_or_past, leng
 use Rattle.std.proofs.lemmas.List.Sums.{count_by-le-length}
 use Rattle.std.proofs.lemmas.Nat.{mul-le}
 use Rattle.keyed_table.specs.Counts as table
-use Rattle.keyed_table.proofs.Members.{stands-somewhere}
+use Rattle.keyed_table.proofs.Elements.{stands-somewhere}
 use Rattle.keyed_table.proofs.Raised.{counter-raised, length-raised}
 use Rattle.partition_log.specs.Keys.{Key, distinct, key_at, plain}
 use Rattle.partition_log.specs.Logs.{IsValidLogs, AreLogsOf, PartitionLogs, keys_of_log, log_at, sum_below}
 use Rattle.partition_log.proofs.Numbered.{by_number, number-back}
 use Rattle.partition_log.proofs.Parted.{in_one_log, sum-same}
-use Rattle.report_cli.specs.Report.{AreCountsByNumber, counts_of}
+use Rattle.report_cli.specs.CountReport.{counts_of}
+use Rattle.report_cli.specs.Private.Tally.{AreCountsByNumber}
 
 -- how often a key number is in the logs below p
 abbrev pub so_far : PartitionLogs → ℕ → ℕ → ℕ

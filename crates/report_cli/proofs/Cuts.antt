@@ -3,7 +3,7 @@ use Rattle.std.proofs.Common.{◌≡◌, ◌∙◌, ◌+◌, ◌-◌, ◌<◌, �
 use Rattle.std.specs.Prelude.{slice_get, suc, zero}
 use Rattle.std.proofs.Math.Seq.{drop-append_seam}
 use Rattle.std.proofs.lemmas.List.{take_all, take-append-le, drop-append-le}
-use Rattle.report_cli.specs.KeyList.{IsValidKeyList, keys_between}
+use Rattle.report_cli.specs.Private.KeyList.{IsValidKeyList, keys_between}
 
 -- as many keys as ends
 pub length-keys_between : (s : ℕ) (es b : List ℕ) → length (keys_between s es b) ≡ length es

@@ -32,7 +32,8 @@ use Rattle.clap.specs.declared.error.kind.ErrorKind.TheVariants as kind
 use Rattle.clap.specs.declared.parser.matches.SubCommand.{SubCommand}
 use Rattle.clap.specs.declared.parser.matches.ArgMatches.TheViews.{out-SubCommand}
 use Rattle.clap.specs.declared.parser.matches.ValueSource.TheVariants.{CommandLine, DefaultValue}
-use Rattle.report_cli.specs.CommandLine.{HasCount, IsFlag, IsNumber, IsRefusal, ReadsNumber, TakesCount, Tells, keycount_app, keycount_top, name_of, path}
+use Rattle.report_cli.specs.CommandLine.{HasCount, IsFlag, IsNumber, IsRefusal, keycount_app, keycount_top, name_of, path}
+use Rattle.report_cli.specs.Private.CommandLine.{ReadsNumber, TakesCount, Tells}
 use Rattle.report_cli.specs.declared.command_line.Job.{Job}
 use Rattle.report_cli.specs.declared.command_line.Job.TheVariants.{Count}
 use Rattle.report_cli.specs.declared.command_line.Usage.{Usage}

@@ -3,13 +3,15 @@ use Rattle.std.proofs.Common.{◌≡◌, ◌∙◌, ◌+◌, ◌<◌, ℕ, Bool,
 use Rattle.std.specs.Prelude.{if◌then◌else◌, ◌⊎◌, nat_lt, slice_get, Option, Some, None, Result, Ok, Err, IsOk}
 use Rattle.std.proofs.lemmas.List.{length-map, take_more}
 use Rattle.lane_words.specs.Answers.{Answers}
+use Rattle.lane_words.specs.declared.limits.TheConstants.{LONGEST_KEY}
 use Rattle.lane_words.specs.declared.Refusal.{Refusal}
 use Rattle.lane_words.specs.declared.Refusal.TheVariants as r
 use Rattle.partition_log.specs.Keys.{Key, key_at}
-use Rattle.partition_log.specs.Logs.{IsValidLogs, AreLogsOf, PartitionLogs, append_answer, finds_no_room, is_full_for, log_at, longest_key, place_in}
+use Rattle.partition_log.specs.Logs.{IsValidLogs, AreLogsOf, PartitionLogs, append_answer, finds_no_room, is_full_for, log_at, place_in}
 use Rattle.partition_log.proofs.Stored.{place_in-below}
 use Rattle.report_cli.proofs.Steps.{row_key}
-use Rattle.report_cli.specs.Report.{IsKeyFault, first_fault, key_fault, records_beside}
+use Rattle.report_cli.specs.CountReport.{first_fault, key_fault, records_beside}
+use Rattle.report_cli.specs.Private.Tally.{IsKeyFault}
 
 -- the fault that an answer tells
 abbrev pub fault_in : {T : Type 0} → Result T Refusal → Option Refusal
@@ -27,9 +29,9 @@ pub key_fault-is : (l : PartitionLogs) (before : List Key) (key : Key) → AreLo
 key_fault-is l before key h placed =
     let records : length (log_at l (place_in l key)) ≡ records_beside l.partitions before key =
     sym (length-map (log_at l (place_in l key)) (key_at l.keys)) ∙ ap length (h.records (place_in l key) placed) in
-    told (nat_lt longest_key (length key)) (finds_no_room l.keys (length (log_at l (place_in l key))) key) _
-    ∙ ap (λ n. if nat_lt longest_key (length key) then Some r.KeyTooLong else if finds_no_room l.keys n key then Some r.LogFull else None) records
-    ∙ ap (λ keys. if nat_lt longest_key (length key) then Some r.KeyTooLong else if finds_no_room keys (records_beside l.partitions before key) key then Some r.LogFull else None) h.numbers
+    told (nat_lt LONGEST_KEY (length key)) (finds_no_room l.keys (length (log_at l (place_in l key))) key) _
+    ∙ ap (λ n. if nat_lt LONGEST_KEY (length key) then Some r.KeyTooLong else if finds_no_room l.keys n key then Some r.LogFull else None) records
+    ∙ ap (λ keys. if nat_lt LONGEST_KEY (length key) then Some r.KeyTooLong else if finds_no_room keys (records_beside l.partitions before key) key then Some r.LogFull else None) h.numbers
 
 -- no key is left
 pub first_fault-nil : (partitions : ℕ) (before : List Key) → first_fault partitions before [] ≡ None
@@ -77,7 +79,7 @@ kind-at false false v fault e = absurd (cc e)
 -- what an append is refused for
 pub key_fault-kind : (l : PartitionLogs) (key : Key) (fault : Refusal) → (fault ≡ r.Memory) ⊎ (append_answer l key ≡ Err fault) → IsKeyFault fault
 key_fault-kind l key fault (inl e) = subst IsKeyFault (sym e) tt
-key_fault-kind l key fault (inr e) = kind-at (nat_lt longest_key (length key)) (is_full_for l key) _ fault e
+key_fault-kind l key fault (inr e) = kind-at (nat_lt LONGEST_KEY (length key)) (is_full_for l key) _ fault e
 
 -- the fault of the next key is that of all keys
 pub first_fault-is : (partitions : ℕ) (l : PartitionLogs) (keys : List Key) (i : ℕ) (key : Key) (fault : Refusal) → i < length keys → slice_get keys i ≡ Some key

@@ -6,7 +6,8 @@ use Rattle.std.specs.Prelude.{◌⊎◌}
 use Rattle.csv.specs.Records.{field_at}
 use Rattle.lane_words.specs.declared.Refusal.{Refusal}
 use Rattle.lane_words.specs.declared.Refusal.TheVariants as r
-use Rattle.report_cli.specs.KeyFile.{Record, after_keys, keys_from, key_before}
+use Rattle.report_cli.specs.KeyFile.{Record, keys_from, key_before}
+use Rattle.report_cli.specs.Private.KeyFile.{after_keys}
 
 pub after_keys-ok : (ks : List (List ℕ)) → after_keys ks (Ok []) ≡ Ok ks
 after_keys-ok [] = refl

@@ -10,7 +10,7 @@ use Rattle.csv.specs.declared.parser.State.{State}
 use Rattle.csv.specs.declared.parser.State.TheVariants as st
 use Rattle.report_cli.specs.KeyFile.{Record}
 use Rattle.csv.specs.declared.reader.Reader.{Reader}
-use Rattle.report_cli.specs.Records.{IsBetween, ReadsRecords, records_at, records_left}
+use Rattle.report_cli.specs.Private.Records.{IsBetween, ReadsRecords, records_at, records_left}
 
 -- a step that ends a record stands between two
 abbrev pub EndsBetween : State × Action → Type 0

@@ -1,20 +1,21 @@
 -- The command line of keycount, as clap describes one.
-use Rattle.std.specs.Prelude.{◌≡◌, ◌≢◌, ◌≤◌, ⊤, ℕ, Bool, true, false, List, [], Option, Some, None, IsSome, Ok, codes, pos}
+use Rattle.std.specs.Prelude.{◌≡◌, ◌≤◌, ℕ, List, [], Option, Some, None, Ok, true, false, codes, Bool, ⊤, ◌≢◌, pos}
 use Rattle.std.specs.Str.Parse.{ParsesUnsigned}
-use Rattle.clap.specs.Values.{IsSignedIn}
 use Rattle.clap.specs.Simple.{App, new_app, new_rule, with_rule, with_subcommand, subcommand_of}
 use Rattle.clap.specs.Walk.{Row, Rule, Text, first_of, one_of}
 use Rattle.clap.specs.Kinds.{IsAmong, Kinds}
 use Rattle.clap.specs.Faults.{fault_of}
+use Rattle.clap.specs.declared.error.kind.ErrorKind.{ErrorKind}
+use Rattle.lane_words.specs.declared.limits.TheConstants.{MOST_PARTITIONS}
 use Rattle.clap.specs.declared.builder.action.ArgAction.TheVariants as action
 use Rattle.clap.specs.declared.builder.value_parser.ValueParser.TheVariants as parser
-use Rattle.clap.specs.declared.error.kind.ErrorKind.{ErrorKind}
 use Rattle.clap.specs.declared.error.kind.ErrorKind.TheVariants as kind
+use Rattle.report_cli.specs.declared.command_line.Options.{Options}
 use Rattle.report_cli.specs.declared.command_line.Job.{Job}
 use Rattle.report_cli.specs.declared.command_line.Job.TheVariants.{Count}
-use Rattle.report_cli.specs.declared.command_line.Options.{Options}
 use Rattle.report_cli.specs.declared.command_line.Usage.{Usage}
 use Rattle.report_cli.specs.declared.command_line.Usage.TheVariants.{Help, Bad, Memory}
+use Rattle.report_cli.specs.declared.command_line.TheConstants.{LAST_COLUMN, DEFAULT_BATCH}
 
 -- an option that takes a number from 1 to this
 abbrev pub number_option : Text → ℕ → Rule
@@ -37,8 +38,8 @@ path name = record (new_rule name) { value_names = 1; required = true; action = 
 abbrev pub count_app : App
 count_app =
     let file = with_rule (new_app (codes "count")) (path (codes "file")) in
-    let partitions = with_rule file (number_option (codes "partitions") 4096) in
-    let column = with_rule partitions (number_option (codes "column") 65535) in
+    let partitions = with_rule file (number_option (codes "partitions") MOST_PARTITIONS) in
+    let column = with_rule partitions (number_option (codes "column") LAST_COLUMN) in
     with_rule column (flag (codes "header"))
 
 -- the program without its subcommands, of which it wants one
@@ -56,31 +57,20 @@ abbrev pub IsNumber : Option Text → ℕ → ℕ → Type 0
 IsNumber None default n = n ≡ default
 IsNumber (Some text) default n = ParsesUnsigned {E = ℕ} 32 10 text (Ok n)
 
--- a text, if there is one, is a number from 1 to this
-abbrev pub ReadsNumber : Option Text → ℕ → Type 0
-ReadsNumber None most = ⊤
-ReadsNumber (Some text) most = IsSignedIn (pos 1) (pos most) text
-
 -- a flag is as clap finds it
 abbrev pub IsFlag : Option Text → Bool → Type 0
 IsFlag None given = given ≡ false
 IsFlag (Some text) given =
     (text ≡ codes "true" → given ≡ true) × (text ≡ codes "false" → given ≡ false)
 
--- what clap has tested of the words after `count`
-pub record TakesCount (rows : List Row) : Type 0 where
-  pub file : IsSome (first_of (codes "file") rows)
-  pub partitions : ReadsNumber (first_of (codes "partitions") rows) 4096
-  pub column : ReadsNumber (first_of (codes "column") rows) 65535
-
 -- the options are those that clap found, each number is in its range, and the batch is the default
 pub record HasOptions (rows : List Row) (options : Options) : Type 0 where
   pub partitions : IsNumber (first_of (codes "partitions") rows) 4 options.partitions
-  pub partitions_range : (1 ≤ options.partitions) × (options.partitions ≤ 4096)
+  pub partitions_range : (1 ≤ options.partitions) × (options.partitions ≤ MOST_PARTITIONS)
   pub column : IsNumber (first_of (codes "column") rows) 1 options.column
-  pub column_range : (1 ≤ options.column) × (options.column ≤ 65535)
+  pub column_range : (1 ≤ options.column) × (options.column ≤ LAST_COLUMN)
   pub header : IsFlag (one_of (codes "header") rows) options.header
-  pub batch : options.batch ≡ 500
+  pub batch : options.batch ≡ DEFAULT_BATCH
 
 -- the job is to count, with the file and the options that clap found
 abbrev pub HasCount : List Row → Job → Type 0
@@ -91,20 +81,16 @@ HasCount rows (Count file options) =
 abbrev pub name_of : Job → Text
 name_of (Count file options) = codes "count"
 
--- the job is what the words say: clap takes them, and finds the subcommand with its file and options
+-- the job is what the words say: clap takes them, and finds the subcommand with its file and
+-- options
 pub record IsJobOf (words : List Text) (job : Job) : Type 0 where
   pub rows : List Row
   pub taken : fault_of keycount_app words ≡ []
   pub subcommand : subcommand_of keycount_app words ≡ Some (name_of job, rows)
   pub found : HasCount rows job
 
--- the answer to an error of clap's: help is told as help, and another fault as bad words
-abbrev pub Tells : Usage → ErrorKind → Type 0
-Tells (Help text) k = k ≡ kind.DisplayHelp
-Tells (Bad text) k = (k ≢ kind.DisplayHelp) × (k ≢ kind.OutOfMemory)
-Tells Memory k = ⊤
-
--- clap refuses the words by one of these kinds, and help is told as help, another fault as bad words
+-- clap refuses the words by one of these kinds, and help is told as help, another fault as bad
+-- words
 abbrev pub IsRefusal : Kinds → Usage → Type 0
 IsRefusal kinds (Help text) = IsAmong kind.DisplayHelp kinds
 IsRefusal kinds (Bad text) = (k : ErrorKind) × IsAmong k kinds × (k ≢ kind.DisplayHelp)

@@ -5,7 +5,8 @@ use Rattle.lane_words.specs.Refusal.{code_of}
 use Rattle.lane_words.specs.declared.Refusal.{Refusal}
 use Rattle.lane_words.specs.declared.Refusal.TheVariants as r
 
--- the place of a fault in the file, where it has one: the number of a record or of a line, from 1 on
+-- the location of a fault in the file, where it has one: the number of a record or of a line, from 1
+-- on
 abbrev pub location_text : Refusal → List ℕ
 location_text (r.NoSuchColumn nth) = codes " at record " ++ decimal nth
 location_text (r.BadCsv nth) = codes " at record " ++ decimal nth
@@ -13,7 +14,7 @@ location_text (r.BadLine line) = codes " at line " ++ decimal line
 location_text (r.NobodyLeft line) = codes " at line " ++ decimal line
 location_text _ = []
 
--- the line of a fault: its number, its place, and a line feed
+-- the line of a fault: its number, its location, and a line feed
 unfoldable pub fault_text : Refusal → List ℕ
 fault_text fault = codes "fault " ++ decimal (code_of fault) ++ location_text fault ++ codes "\n"
 
@@ -21,6 +22,7 @@ fault_text fault = codes "fault " ++ decimal (code_of fault) ++ location_text fa
 abbrev pub input_codes : List ℕ
 input_codes = 20 ∷ 21 ∷ 22 ∷ 23 ∷ 24 ∷ 27 ∷ []
 
--- the status of a program that ends with a fault: 1 where it lies in the input, and 3 for every other
+-- the status of a program that ends with a fault: 1 where it lies in the input, and 3 for every
+-- other
 abbrev pub status_of : Refusal → ℕ
 status_of fault = if list_any (λ code. code_of fault == code) input_codes then 1 else 3

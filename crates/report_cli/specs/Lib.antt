@@ -1,8 +1,9 @@
 pub mod CommandLine
+pub mod CountReport
 pub mod CountRows
 pub mod Devices
 pub mod Faults
 pub mod KeyFile
-pub mod KeyList
-pub mod Records
-pub mod Report
+pub mod Private
+pub mod Reports
+pub mod Rows

@@ -1,14 +1,15 @@
 //! The command line of keycount: a subcommand, its options and its file.
 
-ghost use Rattle.std.specs.Prelude.{◌≡◌, false, IfOk, IfErr, map, codes};
+ghost use Rattle.std.specs.Prelude.{◌≡◌, ◌-◌, ◌^◌, false, IfOk, IfErr, map, codes};
 ghost use Rattle.clap.specs.Words.{app_of, fault_of, first_of, found_of, kind_of, rows_of, rule_of};
 ghost use Rattle.clap.specs.declared.builder.command.Command.TheViews.{out-Command};
 ghost use Rattle.report_cli.specs.CommandLine.{HasCount, IsJobOf, IsNumber, IsRefusal};
-ghost use Rattle.report_cli.specs.CommandLine.{ReadsNumber, TakesCount, Tells};
+ghost use Rattle.report_cli.specs.Private.CommandLine.{ReadsNumber, TakesCount, Tells};
 ghost use Rattle.report_cli.specs.CommandLine.{count_app, flag, keycount_app, number_option, path};
 
 use clap::error::ErrorKind;
 use clap::{Arg, ArgAction, ArgMatches, Command, Error, value_parser};
+use lane_words::MOST_PARTITIONS;
 use std::alloc::{AllocError, Global};
 
 /// How the records of a file are counted.
@@ -45,6 +46,20 @@ pub enum Usage {
 /// The records of one poll where the words do not say, as many as Kafka's consumers take.
 const DEFAULT_BATCH: u32 = 500;
 
+/// The most records of one poll.
+const MOST_BATCH: u32 = 1_000_000;
+
+/// The last column that can be named.
+const LAST_COLUMN: u32 = 65_535;
+
+/// What the help says of the option for partitions.
+const PARTITIONS_HELP: &str =
+    "How many partitions the keys are spread over, 1 to 4096 [default: 4]";
+
+/// What the help says of the option for the column.
+const COLUMN_HELP: &str = "Which column has the key, 1 to 65535 [default: 1]";
+
+/// The file that is read.
 fn file_path<'a>(alloc: Global) -> Arg<'a>
     ensures rule { rule_of result ≡ path (codes "file") }
     ensures local { result.global ≡ false }
@@ -56,30 +71,20 @@ fn file_path<'a>(alloc: Global) -> Arg<'a>
         .action(ArgAction::Set)
 }
 
-fn partitions_option<'a>(alloc: Global) -> Arg<'a>
-    ensures rule { rule_of result ≡ number_option (codes "partitions") 4096 }
+/// An option that takes a number from 1 to this.
+fn number_option<'a>(alloc: Global, name: &'a str, help: &'a str, most: u32) -> Arg<'a>
+    ensures rule { rule_of result ≡ number_option name.now most }
     ensures local { result.global ≡ false }
 {
-    Arg::new(alloc, "partitions")
-        .long("partitions")
+    Arg::new(alloc, name)
+        .long(name)
         .value_name("N")
-        .help("How many partitions the keys are spread over, 1 to 4096 [default: 4]")
-        .value_parser(value_parser!(u32).range(1..=4096))
+        .help(help)
+        .value_parser(value_parser!(u32).range(1..=i64::from(most)))
         .action(ArgAction::Set)
 }
 
-fn column_option<'a>(alloc: Global) -> Arg<'a>
-    ensures rule { rule_of result ≡ number_option (codes "column") 65535 }
-    ensures local { result.global ≡ false }
-{
-    Arg::new(alloc, "column")
-        .long("column")
-        .value_name("N")
-        .help("Which column has the key, 1 to 65535 [default: 1]")
-        .value_parser(value_parser!(u32).range(1..=65535))
-        .action(ArgAction::Set)
-}
-
+/// The flag that the file has a header.
 fn header_flag<'a>(alloc: Global) -> Arg<'a>
     ensures rule { rule_of result ≡ flag (codes "header") }
     ensures local { result.global ≡ false }
@@ -90,6 +95,7 @@ fn header_flag<'a>(alloc: Global) -> Arg<'a>
         .action(ArgAction::SetTrue)
 }
 
+/// The subcommand `count`.
 fn count_command<'a>(alloc: Global) -> Result<Command<'a>, AllocError>
     ensures app { IfOk result (λ c. app_of c ≡ count_app) }
     ensures local { IfOk result (λ c. (out-Command c).has_globals ≡ false) }
@@ -98,11 +104,12 @@ fn count_command<'a>(alloc: Global) -> Result<Command<'a>, AllocError>
         .about("Counts how often each key occurs in a CSV file")
         .after_help("Example: keycount count --header --column 3 oui.csv")
         .arg(file_path(alloc))?
-        .arg(partitions_option(alloc))?
-        .arg(column_option(alloc))?
+        .arg(number_option(alloc, "partitions", PARTITIONS_HELP, MOST_PARTITIONS))?
+        .arg(number_option(alloc, "column", COLUMN_HELP, LAST_COLUMN))?
         .arg(header_flag(alloc))
 }
 
+/// The program and its subcommands.
 fn keycount_command<'a>(alloc: Global) -> Result<Command<'a>, AllocError>
     ensures { IfOk result (λ c. app_of c ≡ keycount_app) }
 {
@@ -116,9 +123,9 @@ fn keycount_command<'a>(alloc: Global) -> Result<Command<'a>, AllocError>
         .subcommand(count)
 }
 
-// The number that an option gives, which clap has tested.
+/// The number that an option gives, which clap has tested.
 fn number_of(given: &ArgMatches, id: &str, default: u32) -> u32
-    requires { ReadsNumber (first_of id.now (rows_of (found_of given.now))) 4294967295 }
+    requires { ReadsNumber (first_of id.now (rows_of (found_of given.now))) (2 ^ 32 - 1) }
     ensures { IsNumber (first_of id.now (rows_of (found_of given.now))) default result }
 {
     let Some(text) = given.get_str(id) else {
@@ -130,7 +137,7 @@ fn number_of(given: &ArgMatches, id: &str, default: u32) -> u32
     number
 }
 
-// The job of `count`, from what clap found after it.
+/// The job of `count`, from what clap found after it.
 fn count_job<'a>(given: &ArgMatches<'a>) -> Job<'a>
     requires { TakesCount (rows_of (found_of given.now)) }
     ensures { HasCount (rows_of (found_of given.now)) result }
@@ -147,7 +154,7 @@ fn count_job<'a>(given: &ArgMatches<'a>) -> Job<'a>
     Job::Count { file, options }
 }
 
-// What is answered to an error of clap's.
+/// What is answered to an error of clap's.
 fn usage_of(alloc: Global, error: Error) -> Usage
     ensures { Tells result (kind_of error) }
 {

@@ -2,15 +2,18 @@
 
 ghost use Rattle.std.specs.Prelude.{◌≡◌, ◌≤◌, ◌<◌, ◌+◌, ◌-◌, ◌^◌, ◌⊎◌, Err, Ok, IfOk, IfErr, IfSome};
 ghost use Rattle.lane_words.specs.declared.Refusal.TheVariants as refusal;
-ghost use Rattle.report_cli.specs.Report.{AreInRange, IsKeyFault, IsNoWrite, IsToldFirst, WritesAtEndAlone, WritesReport, failed_reads, failed_writes, report_of_count, report_of_keys};
+ghost use Rattle.report_cli.specs.CountReport.{report_of_count, report_of_keys};
+ghost use Rattle.report_cli.specs.Private.Reports.{IsNoWrite, IsToldFirst};
+ghost use Rattle.report_cli.specs.Private.Tally.{IsKeyFault};
+ghost use Rattle.report_cli.specs.Reports.{AreInRange, WritesAtEndAlone, WritesReport, failed_reads, failed_writes};
 
 use crate::command_line::Options;
+use crate::count_rows::count_rows_text;
 use crate::devices::{Sink, Source, read_all, write_all};
 use crate::key_file::read_keys;
 use crate::key_list::KeyList;
-use crate::rows::count_rows_text;
 use crate::tally::{counts_in, logs_of};
-use lane_words::Refusal;
+use lane_words::{MOST_PARTITIONS, Refusal};
 use std::alloc::Global;
 use std::random::RandomSource;
 
@@ -21,10 +24,11 @@ fn plain_report(
     keys: KeyList,
     partitions: u32,
 ) -> Result<Vec<u8>, Refusal>
-    requires { (1 ≤ partitions) × (partitions ≤ 4096) }
+    requires { (1 ≤ partitions) × (partitions ≤ MOST_PARTITIONS) }
     ensures text { IfOk result (λ text. report_of_keys partitions keys ≡ Ok text.items) }
     ensures kind { IfErr result IsKeyFault }
-    ensures refused { IfErr result (λ e. (e ≡ refusal.Memory) ⊎ (report_of_keys partitions keys ≡ Err e)) }
+    ensures refused { IfErr result
+        (λ e. (e ≡ refusal.Memory) ⊎ (report_of_keys partitions keys ≡ Err e)) }
 {
     let logs = logs_of(rt, alloc, &keys, partitions)?;
     let total = keys.len() as u64;
@@ -44,8 +48,10 @@ fn file_report<S: Source>(
 ) -> Result<Vec<u8>, Refusal>
     requires source { S.failures file.old < 2 ^ 64 - 1 }
     requires options { AreInRange options }
-    ensures text { IfOk result (λ text. IfSome (S.left file.old) (λ bytes. report_of_count options bytes ≡ Ok text.items)) }
-    ensures refused { IfErr result (λ e. IfSome (S.left file.old) (λ bytes. IsToldFirst (report_of_count options bytes) e)) }
+    ensures text { IfOk result (λ text. IfSome (S.left file.old)
+        (λ bytes. report_of_count options bytes ≡ Ok text.items)) }
+    ensures refused { IfErr result (λ e. IfSome (S.left file.old)
+        (λ bytes. IsToldFirst (report_of_count options bytes) e)) }
     ensures kind { IfErr result IsNoWrite }
     ensures reads { S.failures file.new ≡ S.failures file.old + failed_reads result }
 {
@@ -55,15 +61,17 @@ fn file_report<S: Source>(
     plain_report(rt, alloc, keys, options.partitions)
 }
 
-/// Counts how often each key occurs in a file of comma-separated records, and writes a row for each key, in the
-/// order of first appearance, and a row of the totals.
+/// Counts how often each key occurs in a file of comma-separated records, and writes a row for each
+/// key, in the order of first appearance, and a row of the totals.
 ///
-/// The file is read whole, its records are checked, and the text is made whole before the first write. So after any
-/// answer but `Ok` and `WriteFailed` nothing was written, and after `WriteFailed` a beginning of the text.
+/// The file is read whole, its records are checked, and the text is made whole before the first
+/// write. So after any answer but `Ok` and `WriteFailed` nothing was written, and after
+/// `WriteFailed` a beginning of the text.
 ///
-/// Refused: a read that failed (`ReadFailed`); the first record of another length than the first one (`BadCsv`) or
-/// without the column (`NoSuchColumn`); only where there is none, the first key that can't be appended (`KeyTooLong`,
-/// `LogFull`); a write that failed; want of memory, or of the random bytes for a hasher (`Memory`).
+/// Refused: a read that failed (`ReadFailed`); the first record of another length than the first
+/// one (`BadCsv`) or without the column (`NoSuchColumn`); only where there is none, the first key
+/// that can't be appended (`KeyTooLong`, `LogFull`); a write that failed; want of memory, or of the
+/// random bytes for a hasher (`Memory`).
 pub fn count_text<S: Source, K: Sink>(
     rt: &impl RandomSource,
     alloc: Global,
@@ -74,7 +82,8 @@ pub fn count_text<S: Source, K: Sink>(
     requires source { S.failures file.old < 2 ^ 64 - 1 }
     requires sink { K.failures out.old < 2 ^ 64 - 1 }
     requires options { AreInRange options }
-    ensures report { IfSome (S.left file.old) (λ bytes. WritesReport (report_of_count options bytes) (K.written out.old) (K.written out.new) result) }
+    ensures report { IfSome (S.left file.old) (λ bytes. WritesReport (report_of_count options bytes)
+        (K.written out.old) (K.written out.new) result) }
     ensures nothing_before { WritesAtEndAlone (K.written out.old) (K.written out.new) result }
     ensures reads { S.failures file.new ≡ S.failures file.old + failed_reads result }
     ensures writes { K.failures out.new ≡ K.failures out.old + failed_writes result }

@@ -3,7 +3,8 @@
 ghost use Rattle.std.specs.Prelude.{◌≡◌, ◌≤◌, ◌<◌, ◌+◌, ◌-◌, ◌^◌, ℕ, List, Option, Err, Ok, IfOk, IfErr, OnOk, OnErr, IfSome, MatchResult, length, is_ok, if◌then◌else◌};
 ghost use Rattle.std.specs.Io.{ReadsAtMost, WritesAtMost};
 ghost use Rattle.std.specs.Io.KnownBytes.{ReadConsumes, WriteAppends, IsAtEnd, Appends};
-ghost use Rattle.report_cli.specs.Devices.{TellsRead, AppendsBeginning};
+ghost use Rattle.report_cli.specs.Devices.{AppendsBeginning};
+ghost use Rattle.report_cli.specs.Private.Devices.{TellsRead};
 ghost use Rattle.lane_words.specs.declared.Refusal.TheVariants as refusal;
 
 use lane_words::Refusal;
@@ -22,8 +23,8 @@ pub trait Source {
     // How many reads have failed.
     ghost failures: { Self → ℕ };
 
-    /// Reads bytes into the front of `buf`, and tells how many: none only at the end, or where `buf` has no room. A read
-    /// that failed has taken nothing.
+    /// Reads bytes into the front of `buf`, and tells how many: none only at the end, or where
+    /// `buf` has no room. A read that failed has taken nothing.
     fn read(&mut self, buf: &mut [u8]) -> Result<usize, DeviceFailed>
         requires { failures self.old < 2 ^ 64 - 1 }
         ensures bound { ReadsAtMost result buf.new }
@@ -39,8 +40,8 @@ pub trait Sink {
     // How many writes have failed.
     ghost failures: { Self → ℕ };
 
-    /// Writes a beginning of `bytes`, and tells how many bytes it took: at least one, where there is one. A write that
-    /// failed has written nothing.
+    /// Writes a beginning of `bytes`, and tells how many bytes it took: at least one, where there
+    /// is one. A write that failed has written nothing.
     fn write(&mut self, bytes: &[u8]) -> Result<usize, DeviceFailed>
         requires { failures self.old < 2 ^ 64 - 1 }
         ensures bound { WritesAtMost result bytes.now }
@@ -52,7 +53,9 @@ pub trait Sink {
 /// A source over any reader of std. Whatever the error of a read, the read has failed.
 #[derive(Drop)]
 pub struct FromRead<R> {
+    /// What is read from.
     reader: R,
+    /// How many reads have failed.
     failures: u64,
 }
 
@@ -88,7 +91,9 @@ impl<R: Read> Source for FromRead<R> {
 /// A sink over any writer of std. A write that takes none of some bytes has failed.
 #[derive(Drop)]
 pub struct FromWrite<W> {
+    /// What is written to.
     writer: W,
+    /// How many writes have failed.
     failures: u64,
 }
 
@@ -175,9 +180,10 @@ pub fn write_all<K: Sink>(sink: &mut K, bytes: &[u8]) -> Result<(), Refusal>
     requires { K.failures sink.old < 2 ^ 64 - 1 }
     ensures all { OnOk result (Appends (K.written sink.old) (K.written sink.new) bytes.now) }
     ensures quiet { OnOk result (K.failures sink.new ≡ K.failures sink.old) }
-    ensures told { IfErr result (λ e. (e ≡ refusal.WriteFailed)
-        × (K.failures sink.new ≡ K.failures sink.old + 1)
-        × AppendsBeginning (K.written sink.old) (K.written sink.new) bytes.now) }
+    ensures kind { IfErr result (λ e. e ≡ refusal.WriteFailed) }
+    ensures counted { OnErr result (K.failures sink.new ≡ K.failures sink.old + 1) }
+    ensures beginning { OnErr result
+        (AppendsBeginning (K.written sink.old) (K.written sink.new) bytes.now) }
 {
     let mut taken = 0;
     while taken < bytes.len() {
@@ -190,4 +196,4 @@ pub fn write_all<K: Sink>(sink: &mut K, bytes: &[u8]) -> Result<(), Refusal>
 }
 
 #[cfg(test)]
-pub(crate) mod tests;
+pub mod tests;

@@ -1,6 +1,6 @@
 //! How a fault is told: by a line, and by the program's exit status.
 
-ghost use Rattle.std.specs.Prelude.{◌≡◌, ◌≤◌, ◌<◌, ◌+◌, ◌-◌, ◌^◌, ◌++◌, OnOk, IfErr, codes, decimal, drop, length};
+ghost use Rattle.std.specs.Prelude.{◌≡◌, ◌≤◌, ◌<◌, ◌+◌, ◌-◌, ◌^◌, ◌++◌, OnOk, OnErr, IfErr, codes, decimal, drop, length};
 ghost use Rattle.std.specs.Io.KnownBytes.{Appends};
 ghost use Rattle.lane_words.specs.declared.Refusal.TheVariants as refusal;
 ghost use Rattle.report_cli.specs.Devices.{AppendsBeginning};
@@ -10,7 +10,8 @@ use crate::devices::{Sink, write_all};
 use itoa::write_digits;
 use lane_words::Refusal;
 
-/// The room for a line, which takes at most 41 bytes: it has a number of three digits and one of twenty.
+/// The room for a line, which takes at most 41 bytes: it has a number of three digits and one of
+/// twenty.
 const ROOM: usize = 48;
 
 /// Puts bytes before `end`, and tells where they start. A line is put together from its end.
@@ -24,7 +25,7 @@ fn put_before(line: &mut [u8], end: usize, bytes: &[u8]) -> usize
     start
 }
 
-/// Puts a place before `end`: what is counted there, and its number.
+/// Puts a location before `end`: what is counted there, and its number.
 fn put_location(line: &mut [u8], end: usize, counted: &[u8], number: u64) -> usize
     requires { (length counted.now + 20 ≤ end) × (end ≤ length line.old) }
     ensures start { result + length counted.now + length (decimal number) ≡ end }
@@ -35,7 +36,7 @@ fn put_location(line: &mut [u8], end: usize, counted: &[u8], number: u64) -> usi
     put_before(line, start, counted)
 }
 
-/// Puts the place of a fault before `end`, if it has one.
+/// Puts the location of a fault before `end`, if it has one.
 fn put_location_of(line: &mut [u8], end: usize, fault: &Refusal) -> usize
     requires { (31 ≤ end) × (end ≤ length line.old) }
     ensures start { result + length (location_text fault.now) ≡ end }
@@ -62,25 +63,27 @@ fn put_fault(line: &mut [u8; ROOM], fault: &Refusal) -> usize
     put_before(line, code, b"fault ")
 }
 
-/// Writes the line of a fault: `fault` and its number, then ` at record` or ` at line` and a number where the fault
-/// has a place in a file, and a line feed. It takes no memory.
+/// Writes the line of a fault: `fault` and its number, then ` at record` or ` at line` and a number
+/// where the fault has a location in a file, and a line feed. It takes no memory.
 ///
 /// Refused with `WriteFailed` alone, where a write failed: then a beginning of the line is written.
 pub fn fault_line<K: Sink>(fault: &Refusal, out: &mut K) -> Result<(), Refusal>
     requires { K.failures out.old < 2 ^ 64 - 1 }
-    ensures all { OnOk result (Appends (K.written out.old) (K.written out.new) (fault_text fault.now)) }
+    ensures all { OnOk result
+        (Appends (K.written out.old) (K.written out.new) (fault_text fault.now)) }
     ensures quiet { OnOk result (K.failures out.new ≡ K.failures out.old) }
-    ensures told { IfErr result (λ e. (e ≡ refusal.WriteFailed)
-        × (K.failures out.new ≡ K.failures out.old + 1)
-        × AppendsBeginning (K.written out.old) (K.written out.new) (fault_text fault.now)) }
+    ensures kind { IfErr result (λ e. e ≡ refusal.WriteFailed) }
+    ensures counted { OnErr result (K.failures out.new ≡ K.failures out.old + 1) }
+    ensures beginning { OnErr result
+        (AppendsBeginning (K.written out.old) (K.written out.new) (fault_text fault.now)) }
 {
     let mut line = [0u8; ROOM];
     let start = put_fault(&mut line, fault);
     write_all(out, &line[start..])
 }
 
-/// The exit status of a program that ends with a fault: 1 where the fault lies in what it was given to read, and 3 for
-/// every other. (0 is the status of a program that ends with none.)
+/// The exit status of a program that ends with a fault: 1 where the fault lies in what it was given
+/// to read, and 3 for every other. (0 is the status of a program that ends with none.)
 pub fn status(fault: &Refusal) -> u8
     ensures { result ≡ status_of fault.now }
 {

@@ -1,11 +1,11 @@
 //! The keys of a file of comma-separated records.
 
 ghost use Rattle.std.specs.Prelude.{◌≡◌, ◌≤◌, ◌+◌, ◌<◌, ◌^◌, ◌⊎◌, ◌∷◌, ◌-◌, Some, None, [], ℕ, List, Ok, Err, IfOk, IfErr, OnOk, length, Bool};
-ghost use Rattle.std.specs.Bool.{MatchBool};
 ghost use Rattle.csv.specs.Reading.{default_config, records, strip_bom};
 ghost use Rattle.csv.specs.Records.{field_at, fields_of};
-ghost use Rattle.report_cli.specs.KeyFile.{IsFileFault, Record, after_keys, keys_from, keys_of};
-ghost use Rattle.report_cli.specs.Records.{ReadsRecords, records_left};
+ghost use Rattle.report_cli.specs.KeyFile.{keys_of};
+ghost use Rattle.report_cli.specs.Private.KeyFile.{IsFaultAt, IsFileFault, TakesKey};
+ghost use Rattle.report_cli.specs.Private.Records.{ReadsRecords, TakesNext, records_left};
 ghost use Rattle.lane_words.specs.declared.Refusal.TheVariants as refusal;
 
 use crate::key_list::KeyList;
@@ -16,13 +16,11 @@ use std::io::Read;
 
 /// Reads the next record, and tells whether there was one.
 ///
-/// A read of bytes that are in memory fails for want of memory alone: the reader takes records of any length, and does
-/// not ask whether fields are text.
+/// A read of bytes that are in memory fails for want of memory alone: the reader takes records of
+/// any length, and does not ask whether fields are text.
 fn next_record<R: Read>(reader: &mut Reader<R>, row: &mut ByteRecord) -> Result<bool, Memory>
     requires { ReadsRecords R.remaining reader.old }
-    ensures reads { IfOk result (λ found. MatchBool found
-        (ReadsRecords R.remaining reader.new × (records_left R.remaining reader.old ≡ fields_of row.new ∷ records_left R.remaining reader.new))
-        (records_left R.remaining reader.old ≡ [])) }
+    ensures reads { IfOk result (TakesNext R.remaining reader.old reader.new (fields_of row.new)) }
 {
     let Ok(found) = reader.read_byte_record(row) else {
         return Err(Memory);
@@ -33,7 +31,8 @@ fn next_record<R: Read>(reader: &mut Reader<R>, row: &mut ByteRecord) -> Result<
 /// A reader of the records of a file.
 fn records_of(alloc: Global, file: &[u8]) -> Reader<&[u8]>
     ensures reads { ReadsRecords ⟦<&'static [u8] as Read>⟧.remaining result }
-    ensures left { records_left ⟦<&'static [u8] as Read>⟧.remaining result ≡ records default_config (strip_bom file.now) }
+    ensures left { records_left ⟦<&'static [u8] as Read>⟧.remaining result
+        ≡ records default_config (strip_bom file.now) }
 {
     ReaderBuilder::new()
         .has_headers(false)
@@ -52,10 +51,10 @@ fn add_key(
     requires { 1 ≤ column }
     ensures few { OnOk result (length keys.new < 2 ^ 63) }
     ensures added { OnOk result (length keys.new ≡ length keys.old + 1) }
-    ensures key { OnOk result ((rest : List Record) → after_keys keys.old (keys_from column width nth (fields_of row.now ∷ rest))
-        ≡ after_keys keys.new (keys_from column width (nth + 1) rest)) }
+    ensures key { OnOk result (TakesKey column width nth keys.old keys.new (fields_of row.now)) }
     ensures kind { IfErr result IsFileFault }
-    ensures fault { IfErr result (λ e. (e ≡ refusal.Memory) ⊎ ((rest : List Record) → keys_from column width nth (fields_of row.now ∷ rest) ≡ Err e)) }
+    ensures fault { IfErr result
+        (λ e. (e ≡ refusal.Memory) ⊎ IsFaultAt column width nth (fields_of row.now) e) }
 {
     if row.len() != width {
         return Err(Refusal::BadCsv { nth });
@@ -69,16 +68,19 @@ fn add_key(
     Ok(())
 }
 
-/// The keys of a file of comma-separated records: of each record the field in this column, in the order of the records.
+/// The keys of a file of comma-separated records: of each record the field in this column, in the
+/// order of the records.
 ///
-/// Columns are counted from 1, and so are records, a header among them. The header is the first record, and is dropped
-/// before its column is looked at. A record of another length than the first is refused with `BadCsv`, whatever its
-/// columns, one that lacks the column with `NoSuchColumn`, and only a refused growth with `Memory`.
+/// Columns are counted from 1, and so are records, a header among them. The header is the first
+/// record, and is dropped before its column is looked at. A record of another length than the first
+/// is refused with `BadCsv`, whatever its columns, one that lacks the column with `NoSuchColumn`,
+/// and only a refused growth with `Memory`.
 pub fn read_keys(alloc: Global, file: &[u8], column: u32, header: bool) -> Result<KeyList, Refusal>
     requires { 1 ≤ column }
     ensures keys { IfOk result (λ keys. keys_of column header file.now ≡ Ok keys) }
     ensures kind { IfErr result IsFileFault }
-    ensures fault { IfErr result (λ e. (e ≡ refusal.Memory) ⊎ (keys_of column header file.now ≡ Err e)) }
+    ensures fault { IfErr result
+        (λ e. (e ≡ refusal.Memory) ⊎ (keys_of column header file.now ≡ Err e)) }
 {
     let mut keys = KeyList::new(alloc);
     let mut reader = records_of(alloc, file);

@@ -1,24 +1,27 @@
 //! A list of keys in one buffer.
 
 ghost use Rattle.std.specs.Prelude.{◌≡◌, ◌<◌, ◌^◌, ◌∷◌, ◌++◌, [], ℕ, List, Some, OnOk, OnErr, length, slice_get, slice_index, slice_range, ◌≤◌};
-ghost use Rattle.report_cli.specs.KeyList.{IsValidKeyList, keys_between};
+ghost use Rattle.report_cli.specs.Private.KeyList.{IsValidKeyList, keys_between};
 
 use lane_words::Memory;
 use std::alloc::Global;
 use std::marker::Model;
 
-/// A list of keys, which are any bytes: the bytes of all keys in one buffer, and where each key ends.
+/// A list of keys, which are any bytes: the bytes of all keys in one buffer, and where each key
+/// ends.
 ///
 /// So a key takes its bytes and one word, and no allocation of its own.
 #[derive(Drop)]
 pub struct KeyList {
+    /// The bytes of all keys, one after another.
     text: Vec<u8>,
+    /// Where each key ends in the text.
     ends: Vec<usize>,
 }
 
 impl Model for KeyList {
     ghost use Rattle.std.specs.Prelude.{ℕ, List, length};
-    ghost use Rattle.report_cli.specs.KeyList.{IsValidKeyList, keys_between};
+    ghost use Rattle.report_cli.specs.Private.KeyList.{IsValidKeyList, keys_between};
 
     ghost Value = { List (List ℕ) };
 
@@ -70,8 +73,8 @@ impl KeyList {
         self.ends.len()
     }
 
-    /// Adds a key at the end. Where memory is refused, the list stays as it was. There are always fewer than 2^63 keys,
-    /// since each has its end in memory.
+    /// Adds a key at the end. Where memory is refused, the list stays as it was. There are always
+    /// fewer than 2^63 keys, since each has its end in memory.
     pub fn push(&mut self, key: &[u8]) -> Result<(), Memory>
         ensures ok { OnOk result (self.new ≡ self.old ++ key.now ∷ []) }
         ensures err { OnErr result (self.new ≡ self.old) }

@@ -3,6 +3,7 @@
 
 mod command_line;
 mod count;
+mod count_rows;
 mod devices;
 mod faults;
 mod key_file;

@@ -3,28 +3,30 @@
 ghost use Rattle.std.specs.Prelude.{◌≡◌, ◌≤◌, ◌<◌, ◌⊎◌, [], ℕ, None, Some, IfOk, IfErr, OnOk, length, replicate};
 ghost use Rattle.lane_words.specs.declared.Refusal.TheVariants as refusal;
 ghost use Rattle.partition_log.specs.Logs.{IsValidLogs, AreLogsOf, log_at};
-ghost use Rattle.report_cli.specs.Report.{AreCountsByNumber, IsKeyFault, first_fault};
+ghost use Rattle.report_cli.specs.CountReport.{first_fault};
+ghost use Rattle.report_cli.specs.Private.Tally.{AreCountsByNumber, IsKeyFault};
 
 use crate::key_list::KeyList;
 use keyed_table::{Partial, Table};
-use lane_words::{Memory, Refusal};
+use lane_words::{MOST_PARTITIONS, Memory, Refusal};
 use partition_log::{LogRead, Logs};
 use std::alloc::Global;
 use std::random::RandomSource;
 
 /// The logs of some keys, appended one after the other.
-pub(crate) fn logs_of(
+pub fn logs_of(
     rt: &impl RandomSource,
     alloc: Global,
     keys: &KeyList,
     partitions: u32,
 ) -> Result<Logs, Refusal>
-    requires { (1 ≤ partitions) × (partitions ≤ 4096) }
+    requires { (1 ≤ partitions) × (partitions ≤ MOST_PARTITIONS) }
     ensures logs { IfOk result (AreLogsOf keys.now) }
     ensures valid { IfOk result IsValidLogs }
     ensures accepted { OnOk result (first_fault partitions [] keys.now ≡ None) }
     ensures kind { IfErr result IsKeyFault }
-    ensures refused { IfErr result (λ e. (e ≡ refusal.Memory) ⊎ (first_fault partitions [] keys.now ≡ Some e)) }
+    ensures refused { IfErr result
+        (λ e. (e ≡ refusal.Memory) ⊎ (first_fault partitions [] keys.now ≡ Some e)) }
 {
     let mut logs = Logs::new(rt, alloc, partitions)?;
     for i in 0..keys.len() {
@@ -34,9 +36,9 @@ pub(crate) fn logs_of(
 }
 
 /// How often each key is in all logs together, by its number.
-pub(crate) fn counts_in(alloc: Global, logs: &Logs) -> Result<Table, Memory>
-    requires { IsValidLogs logs.now }
-    ensures { IfOk result (λ table. AreCountsByNumber logs.now table.counts) }
+pub fn counts_in<L: LogRead>(alloc: Global, logs: &L) -> Result<Table, Memory>
+    requires { IsValidLogs (L.contents logs.now) }
+    ensures { IfOk result (λ table. AreCountsByNumber (L.contents logs.now) table.counts) }
 {
     let mut table = zeros(alloc, logs.keys())?;
     for p in 0..logs.partitions() {
@@ -46,9 +48,9 @@ pub(crate) fn counts_in(alloc: Global, logs: &Logs) -> Result<Table, Memory>
 }
 
 /// How often each key is in one log.
-fn log_counts(alloc: Global, logs: &Logs, p: u32) -> Result<Partial, Memory>
-    requires { p < logs.now.partitions }
-    ensures { IfOk result (λ partial. partial ≡ log_at logs.now p) }
+fn log_counts<L: LogRead>(alloc: Global, logs: &L, p: u32) -> Result<Partial, Memory>
+    requires { p < (L.contents logs.now).partitions }
+    ensures { IfOk result (λ partial. partial ≡ log_at (L.contents logs.now) p) }
 {
     let ids = Vec::from_slice(alloc, logs.ids(p, 0, logs.len(p)))?;
     Partial::of(alloc, ids)

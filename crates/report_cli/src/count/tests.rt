@@ -1,11 +1,12 @@
 //! The worked rows of a count, over devices that give and take little, and that fail.
 
 ghost use Rattle.std.specs.Prelude.{◌≡◌, ◌≤◌, IfOk};
-ghost use Rattle.report_cli.specs.Report.{AreInRange};
+ghost use Rattle.report_cli.specs.Reports.{AreInRange};
 
 use super::*;
 use crate::devices::tests::{Drip, Page};
 use crate::{FromRead, FromWrite};
+use itoa::Buffer;
 use lane_words::Memory;
 use std::test::Fail;
 
@@ -14,7 +15,7 @@ const FILE: &[u8] = b"21\n4\nfoobar\nabc\n21\n";
 const TEXT: &[u8] = b"count,21,2\ncount,4,1\ncount,foobar,1\ncount,abc,1\ntotal,5,5\n";
 
 fn options(partitions: u32) -> Options
-    requires { (1 ≤ partitions) × (partitions ≤ 4096) }
+    requires { (1 ≤ partitions) × (partitions ≤ MOST_PARTITIONS) }
     ensures { AreInRange result }
 {
     Options {
@@ -83,5 +84,39 @@ fn a_write_that_fails_leaves_a_beginning(rt: HostRuntime) -> Result<(), Fail> {
         assert!(rt; answer.is_ok() || answer == Err(Refusal::WriteFailed));
         assert_eq!(rt; sink.text.as_slice(), &TEXT[..taken]);
     }
+    Ok(())
+}
+
+/// Adds a number in decimal, between these.
+fn add(text: &mut Vec<u8>, before: &[u8], number: u32, after: &[u8]) -> Result<(), Memory> {
+    let mut digits = Buffer::new();
+    text.extend_from_slice(before)?;
+    text.extend_from_slice(digits.format(number).as_bytes())?;
+    text.extend_from_slice(after)?;
+    Ok(())
+}
+
+#[test]
+fn a_file_of_a_few_megabytes_is_counted(rt: HostRuntime) -> Result<(), Fail> {
+    let (mut file, mut expected) = (Vec::new(rt.alloc()), Vec::new(rt.alloc()));
+    for i in 0..300_000_u32 {
+        add(&mut file, b"", i % 200_000, b",some more text\n")?;
+    }
+    for i in 0..200_000_u32 {
+        add(
+            &mut expected,
+            b"count,",
+            i,
+            if i < 100_000 { b",2\n" } else { b",1\n" },
+        )?;
+    }
+    expected.extend_from_slice(b"total,300000,300000\n")?;
+    let mut source = FromRead::new(file.as_slice());
+    let mut text = vec![in rt.alloc(); 0_u8; 8 << 20]?;
+    let mut sink = FromWrite::new(text.as_mut_slice());
+    count_text(&rt, rt.alloc(), &mut source, options(4096), &mut sink)?;
+    drop(sink);
+    assert!(rt; text.as_slice().starts_with(expected.as_slice()));
+    assert_eq!(rt; text.as_slice().get(expected.len()), Some(&0));
     Ok(())
 }

@@ -1,7 +1,7 @@
 use Rattle.std.proofs.Common.{◌≡◌, ◌∙◌, None, Some, sym, refl, rules, subst, arith, Option, List, ℕ}
 use Rattle.clap.specs.Words.{found_of, rows_of, first_of, first_value}
 use Rattle.clap.proofs.WalkLemmas.{first_value-rows}
-use Rattle.report_cli.specs.CommandLine.{ReadsNumber}
+use Rattle.report_cli.specs.Private.CommandLine.{ReadsNumber}
 use Rattle.report_cli.proofs.Entered.{unsigned_of}
 use Rattle.report_cli.proofs.command_line.number_of.Goals as goal
 

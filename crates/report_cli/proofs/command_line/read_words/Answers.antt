@@ -4,7 +4,8 @@ use Rattle.clap.specs.Simple.{app_of}
 use Rattle.clap.specs.Faults.{fault_of, is_simple_and_free}
 use Rattle.clap.specs.Words.{found_of, rows_of}
 use Rattle.clap.specs.Walk.{Row, Text}
-use Rattle.report_cli.specs.CommandLine.{TakesCount, keycount_app}
+use Rattle.report_cli.specs.CommandLine.{keycount_app}
+use Rattle.report_cli.specs.Private.CommandLine.{TakesCount}
 use Rattle.report_cli.proofs.Entered.{job_name, keycount_free, matches_are, none_told, told, told_rows}
 use Rattle.report_cli.proofs.command_line.read_words.Goals as goal
 

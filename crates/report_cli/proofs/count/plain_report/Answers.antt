@@ -1,7 +1,8 @@
 use Rattle.std.proofs.Common.{◌∙◌, ◌++◌, Ok, List, length, sym, ap}
 use Rattle.partition_log.specs.Keys.{Key, distinct}
-use Rattle.report_cli.specs.CountRows.{count_rows, total_row}
-use Rattle.report_cli.specs.Report.{counts_of, fault_or, plain_text}
+use Rattle.report_cli.specs.CountRows.{count_rows}
+use Rattle.report_cli.specs.Rows.{total_row}
+use Rattle.report_cli.specs.CountReport.{counts_of, fault_or, plain_text}
 use Rattle.report_cli.proofs.Counted.{counts-are}
 use Rattle.report_cli.proofs.count.plain_report.Goals as goal
 

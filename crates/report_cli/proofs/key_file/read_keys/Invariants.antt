@@ -1,6 +1,7 @@
 use Rattle.std.proofs.Common.{◌≡◌, ◌≤◌, ◌<◌, ◌^◌, ◌+◌, Bor, List, ℕ, Some, length}
-use Rattle.report_cli.specs.KeyFile.{after_keys, keys_from, keys_of}
-use Rattle.report_cli.specs.Records.{ReadsRecords, records_left}
+use Rattle.report_cli.specs.KeyFile.{keys_from, keys_of}
+use Rattle.report_cli.specs.Private.KeyFile.{after_keys}
+use Rattle.report_cli.specs.Private.Records.{ReadsRecords, records_left}
 use Rattle.report_cli.proofs.key_file.read_keys.Given as goal
 
 abbrev pub invariant-loop-nth : goal.invariant-loop-nth

@@ -1,4 +1,4 @@
-use Rattle.report_cli.specs.CountRows.{total_row}
+use Rattle.report_cli.specs.Rows.{total_row}
 use Rattle.report_cli.proofs.rows.write_total.Goals as goal
 
 pub returns : goal.returns

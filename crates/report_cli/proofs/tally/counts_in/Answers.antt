@@ -4,19 +4,19 @@ use Rattle.report_cli.proofs.Counted.{AreCountsBelow, all-logs, in-counters, in-
 use Rattle.report_cli.proofs.tally.counts_in.Goals as goal
 
 pub merge-requires-clause-numbers : goal.merge-requires-clause-numbers
-merge-requires-clause-numbers c =
+merge-requires-clause-numbers g c =
     subst (λ (ids : List ℕ). HaveCounters c.loop-p.table.counts ids) (sym c.in_ok-log_counts.ensures)
-    (in-counters c.args.logs.now c.loop-p.p c.loop-p.table.counts c.requires c.loop-p.invariant)
+    (in-counters (g.L.LogRead.contents c.args.logs.now) c.loop-p.p c.loop-p.table.counts c.requires c.loop-p.invariant)
 
 pub merge-requires-clause-fit : goal.merge-requires-clause-fit
-merge-requires-clause-fit c =
+merge-requires-clause-fit g c =
     subst (λ (ids : List ℕ). SumsFit c.loop-p.table.counts ids) (sym c.in_ok-log_counts.ensures)
-    (in-range c.args.logs.now c.loop-p.p c.loop-p.table.counts c.requires c.loop-p.invariant (omega arith))
+    (in-range (g.L.LogRead.contents c.args.logs.now) c.loop-p.p c.loop-p.table.counts c.requires c.loop-p.invariant (omega arith))
 
 pub loop-p-preserved : goal.loop-p-preserved
-loop-p-preserved c =
+loop-p-preserved g c =
     let merged = ap (λ t. t.counts) c.merge.ensures ∙ ap (raised c.loop-p.table.counts) c.in_ok-log_counts.ensures in
-    subst (λ (counts : List ℕ). AreCountsBelow c.args.logs.now (c.loop-p.p + 1) counts) (sym merged) (next-log c.args.logs.now c.loop-p.p c.loop-p.table.counts c.loop-p.invariant)
+    subst (λ (counts : List ℕ). AreCountsBelow (g.L.LogRead.contents c.args.logs.now) (c.loop-p.p + 1) counts) (sym merged) (next-log (g.L.LogRead.contents c.args.logs.now) c.loop-p.p c.loop-p.table.counts c.loop-p.invariant)
 
 pub returns : goal.returns
-returns c = all-logs c.args.logs.now c.loop-p.p c.loop-p.table.counts c.requires (omega arith) c.loop-p.invariant
+returns g c = all-logs (g.L.LogRead.contents c.args.logs.now) c.loop-p.p c.loop-p.table.counts c.requires (omega arith) c.loop-p.invariant

@@ -2,7 +2,7 @@ use Rattle.std.proofs.Common.{◌≡◌, ◌∙◌, ◌+◌, None, List, drop, t
 use Rattle.std.proofs.lemmas.List.{drop_all}
 use Rattle.partition_log.specs.Keys.{Key}
 use Rattle.partition_log.specs.Logs.{append_answer}
-use Rattle.report_cli.specs.Report.{first_fault, key_fault}
+use Rattle.report_cli.specs.CountReport.{first_fault, key_fault}
 use Rattle.report_cli.proofs.Faulted.{accepted, first_fault-is, first_fault-later, first_fault-nil, key_fault-kind, next_key, refused_as_told, taken}
 use Rattle.report_cli.proofs.tally.logs_of.Goals as goal
 

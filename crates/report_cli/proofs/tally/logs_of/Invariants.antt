@@ -1,6 +1,6 @@
 use Rattle.std.proofs.Common.{◌≡◌, [], drop, take}
 use Rattle.partition_log.specs.Logs.{IsValidLogs, AreLogsOf}
-use Rattle.report_cli.specs.Report.{first_fault}
+use Rattle.report_cli.specs.CountReport.{first_fault}
 use Rattle.report_cli.proofs.tally.logs_of.Given as goal
 
 abbrev pub invariant-loop-i : goal.invariant-loop-i

@@ -1,7 +1,8 @@
 use Rattle.std.proofs.Common.{◌≡◌, ◌∙◌, rules, Some, None}
 use Rattle.std.specs.BTreeMap.{get}
 use Rattle.std.specs.Ordering.{nat_cmp}
-use Rattle.keyed_table.specs.Counts.{counted, plain}
+use Rattle.keyed_table.specs.Private.Partial.{counted}
+use Rattle.keyed_table.specs.Counts.{plain}
 use Rattle.keyed_table.proofs.Runs.{none-counted, of-counted}
 use Rattle.keyed_table.proofs.partial.Partial.get.Goals as goal
 

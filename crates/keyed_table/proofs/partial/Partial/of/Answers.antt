@@ -2,7 +2,7 @@ use Rattle.std.proofs.Common.{◌∙◌, ℕ, ap, rules}
 use Rattle.std.specs.Ordering.{nat_cmp}
 use Rattle.std.specs.List.Sorted.{IsPermutation, IsSortedByKey}
 use Rattle.std.proofs.lemmas.List.Sorted.{IsNonDecreasingBy-from_sort}
-use Rattle.keyed_table.specs.Counts.{counted}
+use Rattle.keyed_table.specs.Private.Partial.{counted}
 use Rattle.keyed_table.proofs.Runs.{plain-order}
 use Rattle.keyed_table.proofs.partial.Partial.of.Goals as goal
 

@@ -1,5 +1,5 @@
 use Rattle.std.proofs.Common.{rules, arith, ◌≡◌, ◌∙◌, ◌+◌, [], ◌∷◌, ◌++◌, length, ap, ap₂, length-append}
-use Rattle.report_cli.specs.KeyList.{keys_between}
+use Rattle.report_cli.specs.Private.KeyList.{keys_between}
 use Rattle.report_cli.proofs.Cuts.{ends_push, keys_between-push, length-keys_between}
 use Rattle.report_cli.proofs.key_list.KeyList.push.Goals as goal
 

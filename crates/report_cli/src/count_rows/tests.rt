@@ -1,6 +1,7 @@
 //! Rows as RFC 4180 has them.
 
 use super::*;
+use partition_log::Logs;
 use std::test::Fail;
 
 #[test]

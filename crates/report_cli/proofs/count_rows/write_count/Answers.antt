@@ -1,5 +1,5 @@
 use Rattle.report_cli.specs.CountRows.{count_row}
-use Rattle.report_cli.proofs.rows.write_count.Goals as goal
+use Rattle.report_cli.proofs.count_rows.write_count.Goals as goal
 
 pub returns : goal.returns
 unfolding count_row

@@ -1,0 +1,24 @@
+-- A key that is looked up, and one that is appended to a log.
+use Rattle.std.specs.Prelude.{◌≡◌, ◌<◌, ℕ, true, List, [], ◌∷◌, ◌++◌, length, if◌then◌else◌, slice_index_or, slice_set, Result, Ok, Err}
+use Rattle.lane_words.specs.declared.Refusal.{Refusal}
+use Rattle.lane_words.specs.declared.Refusal.TheVariants as r
+use Rattle.partition_log.specs.Keys.{Key, id_of, is_known}
+use Rattle.partition_log.specs.Logs.{finds_no_room}
+
+-- the number of a key that is among these
+abbrev pub IsIdOf : List Key → Key → ℕ → Type 0
+IsIdOf keys key id = (id ≡ id_of keys key) × (id < length keys) × (is_known keys key ≡ true)
+
+-- what an append of a key to this log answers: its offset, or that there is no room
+abbrev pub log_answer : List Key → List ℕ → Key → Result ℕ Refusal
+log_answer keys log key =
+    if finds_no_room keys (length log) key then Err r.LogFull else Ok (length log)
+
+-- a log with the number of one more key
+abbrev pub with_id : List Key → List ℕ → Key → List ℕ
+with_id keys log key = log ++ id_of keys key ∷ []
+
+-- the logs, of which one has the number of one more key
+abbrev pub with_id_at : List Key → List (List ℕ) → ℕ → Key → List (List ℕ)
+with_id_at keys logs place key =
+    slice_set logs place (with_id keys (slice_index_or logs place []) key)

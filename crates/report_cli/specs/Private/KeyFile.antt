@@ -1,0 +1,30 @@
+-- The keys of a file, record by record.
+use Rattle.std.specs.Prelude.{◌≡◌, ◌+◌, ℕ, List, [], ◌∷◌, Result, Err, ⊤}
+use Rattle.lane_words.specs.declared.Refusal.{Refusal}
+use Rattle.lane_words.specs.declared.Refusal.TheVariants as r
+use Rattle.report_cli.specs.KeyFile.{Record, key_before, keys_from}
+
+-- these keys, and then those of the rest
+abbrev pub after_keys : List (List ℕ) → Result (List (List ℕ)) Refusal
+    → Result (List (List ℕ)) Refusal
+after_keys [] rest = rest
+after_keys (key ∷ keys) rest = key_before key (after_keys keys rest)
+
+-- record number nth, of these fields, took the first keys to these: whatever the rest, the keys of
+-- the file are as before
+abbrev pub TakesKey : ℕ → ℕ → ℕ → List (List ℕ) → List (List ℕ) → Record → Type 0
+TakesKey column width nth old new fields =
+    (rest : List Record) → after_keys old (keys_from column width nth (fields ∷ rest))
+    ≡ after_keys new (keys_from column width (nth + 1) rest)
+
+-- record number nth, of these fields, is at this fault, whatever the rest
+abbrev pub IsFaultAt : ℕ → ℕ → ℕ → Record → Refusal → Type 0
+IsFaultAt column width nth fields fault =
+    (rest : List Record) → keys_from column width nth (fields ∷ rest) ≡ Err fault
+
+-- what a read of keys may be refused for
+abbrev pub IsFileFault : Refusal → Type 0
+IsFileFault (r.NoSuchColumn nth) = ⊤
+IsFileFault (r.BadCsv nth) = ⊤
+IsFileFault r.Memory = ⊤
+IsFileFault _ = ⊥
