@@ -8,7 +8,8 @@ use Rattle.std.proofs.lemmas.List.Sorted.{searched}
 use Rattle.std.proofs.lemmas.Bool.{cases_lt, lt-ltb, le-ltb}
 use Rattle.std.proofs.lemmas.Bool.Decides.{nat_tests}
 use Rattle.bit_planes.specs.PartitionSet.{PartitionSet, partitions_of, empty_set}
-use Rattle.bit_planes.specs.SetRows.{SetRows, IsValidRows, row_of, with_row, IsRising, IsIndexOf, IsGapFor, member_at, find_row, put_row}
+use Rattle.bit_planes.specs.SetRows.{SetRows, IsValidRows, row_of, with_row, IsRising, find_row, put_row}
+use Rattle.bit_planes.specs.Private.Indices.{IsIndexOf, IsGapFor, member_at}
 use Rattle.bit_planes.proofs.RowLaws.{rising_rest, row_of-this, row_of-other, are_rows-with}
 
 abbrev Rows : Type 0
