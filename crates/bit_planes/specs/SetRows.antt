@@ -47,6 +47,10 @@ set_of r m = set_or_empty r.partitions (row_of r m)
 abbrev pub sets_of : SetRows → List ℕ → List PartitionSet
 sets_of r ms = map (set_of r) ms
 
+-- each member has the same row in both, or in neither
+abbrev pub HaveSameRows : SetRows → SetRows → Type 0
+HaveSameRows r s = (m : ℕ) → row_of r m ≡ row_of s m
+
 -- numbers that rise
 abbrev pub IsRising : List ℕ → Type 0
 IsRising ms = (i j : ℕ) → i < j → j < length ms → slice_index_or ms i 0 < slice_index_or ms j 0

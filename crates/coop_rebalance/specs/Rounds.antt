@@ -15,7 +15,7 @@ pub record Settles (rows : SetRows) : Type 0 where
   pub all : next_rows rows ≡ target_rows rows
 
 -- the next rows are rows of the same members and P, are disjoint, and lie within the target's, which are balanced
-pub record LieInBalanced (granted rows : SetRows) : Type 0 where
+pub record LiesInTarget (granted rows : SetRows) : Type 0 where
   pub below : rows.partitions ≡ granted.partitions
   pub same_members : members rows ≡ members granted
   pub valid : IsValidRows rows

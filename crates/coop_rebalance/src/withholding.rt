@@ -2,8 +2,9 @@
 
 ghost use Rattle.std.specs.Prelude.{◌≡◌, ◌&&◌, ◌↔◌, ℕ, not, IfOk, IsTrue};
 ghost use Rattle.bit_planes.specs.PartitionSet.{partitions_of, is_in, minus};
-ghost use Rattle.bit_planes.specs.SetRows.{IsValidRows, members, set_of};
-ghost use Rattle.coop_rebalance.specs.Grants.{AreGrants, HaveSameRows};
+ghost use Rattle.bit_planes.specs.SetRows.{HaveSameRows, IsValidRows, members, set_of};
+ghost use Rattle.coop_rebalance.specs.Private.Grants.{AreGrants};
+ghost use Rattle.coop_rebalance.specs.Private.Final.{HasRowsOf};
 ghost use Rattle.coop_rebalance.specs.Withheld.{granted_to_other, withheld};
 
 use bit_planes::{Plane, PlaneRows};
@@ -24,9 +25,9 @@ pub fn withhold(alloc: Global, target: &PlaneRows, granted: &PlaneRows) -> Resul
 {
     let grants = Grants::of(granted);
     let mut rows = PlaneRows::new(alloc, target.partitions());
-    for (member, row) in target.rows() {
-        let others = grants.of_others(granted, *member);
-        rows.put(*member, row.minus(&others))?;
+    for (member, row) in target.iter() {
+        let others = grants.of_others(granted, member);
+        rows.put(member, row.minus(&others))?;
     }
     Ok(rows)
 }
@@ -58,42 +59,43 @@ pub fn is_final(granted: &PlaneRows, assigned: &PlaneRows) -> bool
     ensures rows { IsTrue result ↔ HaveSameRows granted.now assigned.now }
     ensures equal { IsTrue result ↔ (granted.now ≡ assigned.now) }
 {
-    let granted = granted.rows();
-    let assigned = assigned.rows();
-    if granted.len() != assigned.len() {
-        return false;
-    }
-    for i in 0..granted.len() {
-        if !is_same_row(&granted[i], &assigned[i]) {
+    has_rows_of(granted, assigned) && has_rows_of(assigned, granted)
+}
+
+/// Whether each row of the others is in these rows too.
+fn has_rows_of(rows: &PlaneRows, others: &PlaneRows) -> bool
+    requires { rows.now.partitions ≡ others.now.partitions }
+    ensures rows { IsTrue result ↔ HasRowsOf rows.now others.now }
+    ensures valid { IsValidRows others.now }
+{
+    for (member, row) in others.iter() {
+        let Some(own) = rows.get(member) else {
+            return false;
+        };
+        if !own.same(row) {
             return false;
         }
     }
     true
 }
 
-// Whether two rows have the same member and the same set.
-fn is_same_row(row: &(u32, Plane), other: &(u32, Plane)) -> bool
-    requires { partitions_of row.now.1 ≡ partitions_of other.now.1 }
-    ensures { IsTrue result ↔ (row.now ≡ other.now) }
-{
-    row.0 == other.0 && row.1.same(&other.1)
-}
-
-// What is granted to some member, and what to two or more.
+/// What is granted to some member, and what to two or more.
 #[derive(Drop)]
 struct Grants {
+    /// What one or more members are granted.
     some: Plane,
+    /// What two or more members are granted.
     several: Plane,
 }
 
 impl Grants {
-    // Collects what members are granted.
+    /// Collects what members are granted.
     fn of(granted: &PlaneRows) -> Grants
         ensures { AreGrants result.some result.several granted.now }
     {
         let mut some = Plane::new(granted.partitions());
         let mut several = Plane::new(granted.partitions());
-        for (_, row) in granted.rows() {
+        for (_, row) in granted.iter() {
             let fresh = row.minus(&some);
             several = several.union(&row.minus(&fresh));
             some = some.union(&fresh);
@@ -101,7 +103,7 @@ impl Grants {
         Grants { some, several }
     }
 
-    // What members other than this one are granted.
+    /// What members other than this one are granted.
     fn of_others(&self, granted: &PlaneRows, member: u32) -> Plane
         requires { AreGrants self.now.some self.now.several granted.now }
         ensures elements { (q : ℕ) → is_in result q ≡ granted_to_other granted.now.rows member q }
