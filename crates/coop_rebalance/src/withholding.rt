@@ -2,25 +2,26 @@
 
 ghost use Rattle.std.specs.Prelude.{◌≡◌, ◌&&◌, ◌↔◌, ℕ, not, IfOk, IsTrue};
 ghost use Rattle.bit_planes.specs.PartitionSet.{partitions_of, is_in, minus};
-ghost use Rattle.bit_planes.specs.SetRows.{HaveSameRows, IsValidRows, members, set_of};
+ghost use Rattle.bit_planes.specs.SetRows.{HaveSameRows, IsValidRows, members};
 ghost use Rattle.coop_rebalance.specs.Private.Grants.{AreGrants};
 ghost use Rattle.coop_rebalance.specs.Private.Final.{HasRowsOf};
-ghost use Rattle.coop_rebalance.specs.Withheld.{granted_to_other, withheld};
+ghost use Rattle.coop_rebalance.specs.Withheld.{AreWithoutOthers, granted_to_other, withheld};
 
 use bit_planes::{Plane, PlaneRows};
 use lane_words::Memory;
 use std::alloc::Global;
 
-/// Each member's row of the target without what any other member is granted, at one P. So a partition that is to
-/// change its owner is given to nobody until the present one has given it up, which is KIP-429's rule.
+/// Each member's row of the target without what any other member is granted, of as many partitions.
+/// So a partition that is to change its owner is given to nobody until the present one has given it
+/// up, which is KIP-429's rule.
 ///
-/// Its cost is linear in members times P. It is refused for want of memory alone.
+/// Its cost is linear in members times partitions. It is refused for want of memory alone.
 pub fn withhold(alloc: Global, target: &PlaneRows, granted: &PlaneRows) -> Result<PlaneRows, Memory>
     requires { target.now.partitions ≡ granted.now.partitions }
     ensures value { IfOk result (λ rows. rows ≡ withheld target.now granted.now) }
-    ensures sets { IfOk result (λ rows. (m q : ℕ) → is_in (set_of rows m) q ≡ (is_in (set_of target.now m) q && not (granted_to_other granted.now.rows m q))) }
+    ensures elements { IfOk result (λ rows. AreWithoutOthers rows target.now granted.now) }
     ensures members { IfOk result (λ rows. members rows ≡ members target.now) }
-    ensures below { IfOk result (λ rows. rows.partitions ≡ target.now.partitions) }
+    ensures partitions { IfOk result (λ rows. rows.partitions ≡ target.now.partitions) }
     ensures valid { IfOk result IsValidRows }
 {
     let grants = Grants::of(granted);
@@ -32,7 +33,8 @@ pub fn withhold(alloc: Global, target: &PlaneRows, granted: &PlaneRows) -> Resul
     Ok(rows)
 }
 
-/// What a member has to give up: what it is granted and not assigned, at one P. It takes no memory.
+/// What a member has to give up: what it is granted and not assigned, of as many partitions. It takes
+/// no memory.
 pub fn to_give(granted: &Plane, assigned: &Plane) -> Plane
     requires { partitions_of granted.now ≡ partitions_of assigned.now }
     ensures value { result ≡ minus granted.now assigned.now }
@@ -42,7 +44,8 @@ pub fn to_give(granted: &Plane, assigned: &Plane) -> Plane
     granted.minus(assigned)
 }
 
-/// What a member gets anew: what it is assigned and not granted, at one P. It takes no memory.
+/// What a member gets anew: what it is assigned and not granted, of as many partitions. It takes no
+/// memory.
 pub fn added(assigned: &Plane, granted: &Plane) -> Plane
     requires { partitions_of assigned.now ≡ partitions_of granted.now }
     ensures value { result ≡ minus assigned.now granted.now }
@@ -52,8 +55,8 @@ pub fn added(assigned: &Plane, granted: &Plane) -> Plane
     assigned.minus(granted)
 }
 
-/// Whether each member is granted what it is assigned, at one P. Where a member has a row on one side only, also an
-/// empty one, it is not. It takes no memory.
+/// Whether each member is granted what it is assigned, of as many partitions. Where a member has a row
+/// on one side only, also an empty one, it is not. It takes no memory.
 pub fn is_final(granted: &PlaneRows, assigned: &PlaneRows) -> bool
     requires { granted.now.partitions ≡ assigned.now.partitions }
     ensures rows { IsTrue result ↔ HaveSameRows granted.now assigned.now }

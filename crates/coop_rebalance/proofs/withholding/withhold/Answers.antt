@@ -40,8 +40,8 @@ returns c =
     let value : c.loop-member.rows ≡ withheld c.args.target.now c.args.granted.now = c.loop-member.invariant.so_far ∙ withheld_all c.args.target.now c.args.granted.now c.args.target.now.rows (length c.loop-member.yielded) refl (omega (arith, all)) in
     record {
       value = value;
-      sets = λ m q. ap (λ r. is_in (set_of r m) q) value ∙ set_withheld c.args.target.now c.args.granted.now m q;
+      elements = λ m q. ap (λ r. is_in (set_of r m) q) value ∙ set_withheld c.args.target.now c.args.granted.now m q;
       members = ap members value ∙ members_withheld c.args.target.now c.args.granted.now;
-      below = ap (λ (r : SetRows). r.partitions) c.loop-member.invariant.so_far;
+      partitions = ap (λ (r : SetRows). r.partitions) c.loop-member.invariant.so_far;
       valid = c.loop-member.invariant.valid;
     }
