@@ -10,7 +10,7 @@ use Rattle.sticky_assignor.specs.Balanced.{holders, IsBalanced, AreApart, AreBel
 use Rattle.sticky_assignor.specs.Target.{row_at, target}
 use Rattle.sticky_assignor.specs.Assigned.{pair_up, target_rows}
 use Rattle.sticky_assignor.proofs.Rows.{eq_self, not_eq, not_eq_back}
-use Rattle.sticky_assignor.proofs.Laws.{is_balanced}
+use Rattle.sticky_assignor.proofs.TargetLaws.{is_balanced}
 use Rattle.sticky_assignor.proofs.Even.{balanced_apart}
 use Rattle.sticky_assignor.proofs.SecondRound.{Lies, lies_apart, kept_whole, target_over, length_target}
 use Rattle.sticky_assignor.proofs.AssignedLaws.{members_paired, sets_paired, over_paired, sets_over, length_sets, paired, target_paired}
