@@ -3,7 +3,8 @@ use Rattle.std.proofs.Common.{ℕ, zero, suc, ◌≡◌, ◌+◌, ◌<◌, Bool,
 use Rattle.std.specs.Prelude.{if◌then◌else◌}
 use Rattle.std.proofs.lemmas.Bool.{cases_lt}
 use Rattle.std.proofs.lemmas.List.{drop-append-le, drop_all}
-use Rattle.bit_planes.specs.PartitionSet.{PartitionSet, partitions_of, is_in, one, how_many, list_where, rank, elements}
+use Rattle.bit_planes.specs.Private.Lists.{list_where}
+use Rattle.bit_planes.specs.PartitionSet.{PartitionSet, partitions_of, is_in, one, how_many, rank, elements}
 use Rattle.bit_planes.proofs.Sets.{in_below, rank_is, rank_in, how_many-rises}
 
 one_listed : (x : Bool) (n : ℕ) → length (if x then n ∷ [] else []) ≡ one x

@@ -3,7 +3,8 @@ use Rattle.std.proofs.Common.{ℕ, zero, suc, ◌≡◌, ◌+◌, ◌<◌, ◌�
 use Rattle.std.specs.Prelude.{nat_lt, slice_index_or, IsTrue, ◌↔◌}
 use Rattle.std.proofs.lemmas.Bool.{cases_lt, lt-ltb, le-ltb}
 use Rattle.std.proofs.lemmas.Bool.Decides.{nat_tests}
-use Rattle.bit_planes.specs.PartitionSet.{PartitionSet, partitions_of, is_in, flags_where, set_where, one, how_many, any_below, rank, size, empty_set, full_set, with_one, without_one, union, minus, lowest, meets, is_within, is_same}
+use Rattle.bit_planes.specs.Private.Lists.{flags_where}
+use Rattle.bit_planes.specs.PartitionSet.{PartitionSet, partitions_of, is_in, set_where, one, how_many, any_below, rank, size, empty_set, full_set, with_one, without_one, union, minus, lowest, meets, is_within, is_same}
 
 -- ---- what stands behind a set
 length-flags_where : (p : ℕ) (f : ℕ → Bool) → length (flags_where p f) ≡ p

@@ -5,7 +5,7 @@ use Rattle.std.proofs.lemmas.Bool.Decides.{nat_tests}
 use Rattle.std.specs.Prelude.{nat_lt, nat_le}
 use Rattle.bit_planes.specs.PartitionSet.{PartitionSet, partitions_of, is_in, one, any_below, rank, size, union, minus, lowest}
 use Rattle.bit_planes.proofs.Sets.{same_set, partitions_where, in_where, in_full, in_minus, in_lowest, partitions_lowest, partitions_minus, rank_is, rank_next, rank_lowest, lowest_splits}
-use Rattle.sticky_assignor.specs.Filling.{one_of, shares, quotas, keeping, free_of, gaps, filled, filling}
+use Rattle.sticky_assignor.specs.Private.Filling.{one_of, shares, quotas, keeping, free_of, gaps, filled, filling}
 use Rattle.sticky_assignor.specs.Target.{is_heavy, heavies, row_at, sum_below, quota_of, kept_row, free_set, gap_of, covers, taken_row, rows_by, target}
 use Rattle.sticky_assignor.proofs.Balance.{total, heavies_cons, length_shares, partitions_free, length_gaps, keeping_fits}
 

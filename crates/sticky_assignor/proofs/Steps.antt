@@ -6,7 +6,7 @@ use Rattle.bit_planes.specs.SetRows.{SetRows, members, put_row, with_row, set_of
 use Rattle.bit_planes.proofs.Sets.{same_set, in_minus, partitions_minus}
 use Rattle.bit_planes.proofs.RowLaws.{put_last}
 use Rattle.sticky_assignor.specs.Assigned.{pair_up}
-use Rattle.sticky_assignor.specs.Filling.{one_of, shares, keeping, free_of, gaps, filled}
+use Rattle.sticky_assignor.specs.Private.Filling.{one_of, shares, keeping, free_of, gaps, filled}
 use Rattle.sticky_assignor.specs.Target.{is_heavy, heavies}
 use Rattle.sticky_assignor.proofs.Balance.{heavies_cons}
 

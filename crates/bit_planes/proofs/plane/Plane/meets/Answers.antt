@@ -21,7 +21,7 @@ returns-then-other-q c =
     let mine : is_in c.args.self.now q ≡ true = sym (flag_is _ _ _ q c.loop-q-test.true c.self.view_is) ∙ c.if-self-q.true in
     let theirs : is_in c.args.other.now q ≡ true = sym (flag_is _ _ _ q (omega (arith, p, p2, c.requires, c.loop-q-test.true)) c.other.view_is) ∙ c.if-other-q.true in
     let e : true ≡ meets c.args.self.now c.args.other.now = sym (meets_at _ _ q mine theirs) in
-    record { value = e; apart = tells_apart _ _ true e }
+    record { value = e; elements = tells_apart _ _ true e }
 
 pub loop-q-preserved : goal.loop-q-preserved
 loop-q-preserved c =
@@ -37,4 +37,4 @@ pub returns : goal.returns
 returns c =
     let p = below_is _ _ _ c.self.invariant.few c.self.told c.self.view_is in
     let e = meets_none c.args.self.now c.args.other.now c.loop-q.q (omega (arith, p, c.loop-q-test.false)) c.loop-q.invariant in
-    record { value = e; apart = tells_apart _ _ false e }
+    record { value = e; elements = tells_apart _ _ false e }

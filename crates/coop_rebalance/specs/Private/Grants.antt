@@ -1,7 +1,7 @@
 -- How often partitions are granted.
 use Rattle.std.specs.Prelude.{ℕ, ◌+◌, ◌≡◌, nat_lt, List, [], ◌∷◌}
 use Rattle.bit_planes.specs.PartitionSet.{PartitionSet, partitions_of, is_in, one}
-use Rattle.bit_planes.specs.SetRows.{SetRows, row_of}
+use Rattle.bit_planes.specs.SetRows.{SetRows}
 
 -- how many members are granted a partition
 abbrev pub times_granted : List (ℕ × PartitionSet) → ℕ → ℕ
@@ -14,7 +14,3 @@ pub record AreGrants (some several : PartitionSet) (granted : SetRows) : Type 0 
   pub several_below : partitions_of several ≡ granted.partitions
   pub to_some : (q : ℕ) → is_in some q ≡ nat_lt 0 (times_granted granted.rows q)
   pub to_several : (q : ℕ) → is_in several q ≡ nat_lt 1 (times_granted granted.rows q)
-
--- each member has the same row in both, or in neither
-abbrev pub HaveSameRows : SetRows → SetRows → Type 0
-HaveSameRows r s = (m : ℕ) → row_of r m ≡ row_of s m

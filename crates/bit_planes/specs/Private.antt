@@ -1,0 +1,4 @@
+pub mod ElementsLeft
+pub mod Indices
+pub mod Lists
+pub mod View
