@@ -24,9 +24,9 @@ pub fn takers_of(
     ensures { IfOk result (λ takers. takers.items ≡ takers_in granted.now next.now) }
 {
     let mut takers: Vec<Option<u32>> = vec![in alloc; None; granted.partitions() as usize]?;
-    for (member, plane) in granted.rows() {
-        if let Some(row) = next.get(*member) {
-            take_added(&mut takers, *member, &added(row, plane));
+    for (member, plane) in granted.iter() {
+        if let Some(row) = next.get(member) {
+            take_added(&mut takers, member, &added(row, plane));
         }
     }
     Ok(takers)
