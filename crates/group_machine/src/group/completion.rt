@@ -26,7 +26,8 @@ pub struct Completion {
     pub moves: Vec<Move>,
 }
 
-/// What each member is to keep, by what each is granted: its sticky target, without what any other member is granted.
+/// What each member is to keep, by what each is granted: its sticky target, without what any other
+/// member is granted.
 pub fn next_rows(alloc: Global, granted: &PlaneRows) -> Result<PlaneRows, Memory>
     requires { AreGranted granted.now }
     ensures { IfOk result (λ rows. rows ≡ next_rows granted.now) }
@@ -63,7 +64,8 @@ fn row_for(next: &PlaneRows, member: u32) -> Plane
 /// A member keeps its row, and is granted it besides what it is granted.
 fn complete_seat(seat: &mut Seat, row: Plane)
     requires { partitions_of seat.old.granted ≡ partitions_of row }
-    ensures { seat.new ≡ record { joined = false; synced = false; granted = union seat.old.granted row; assigned = row } }
+    ensures { seat.new
+        ≡ record { joined = false; synced = false; granted = union seat.old.granted row; assigned = row } }
 {
     seat.joined = false;
     seat.synced = false;

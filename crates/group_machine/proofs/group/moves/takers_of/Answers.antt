@@ -46,4 +46,4 @@ returns c =
     let was = c.loop-member.invariant in
     let all = row_end granted _ _ _ c.loop-member.yielded _ (cc) c.loop-member.yielded_by c.in-None.is c.next.ensures.steps in
     fill_by_all (taker_in granted.rows c.args.next.now) c.loop-member.takers.items granted.partitions None was.long (λ q lt.
-        was.so_far q lt ∙ ap (λ rows. taker_in rows c.args.next.now q) (take_all (length c.loop-member.yielded) granted.rows (omega (arith, all))))
+    was.so_far q lt ∙ ap (λ rows. taker_in rows c.args.next.now q) (take_all (length c.loop-member.yielded) granted.rows (omega (arith, all))))
