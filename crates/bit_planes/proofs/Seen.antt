@@ -19,7 +19,7 @@ pub seen_flag : (p : ℕ) (flags : List Bool) (q : ℕ) → q < p → is_in (see
 unfolding is_in
 seen_flag p flags q lt = get_or-take p flags q false lt
 
--- P and the flags of what is seen
+-- how many partitions there are, and the flags of what is seen
 pub below_is : (p : ℕ) (flags : List Bool) (s : PartitionSet) → p ≤ 4096 → length flags ≡ 4096 → seen p flags ≡ s → partitions_of s ≡ p
 below_is p flags s few len e = sym (ap partitions_of e) ∙ seen_below p flags (omega arith)
 
@@ -142,7 +142,7 @@ seen_without p flags s n few len e lt =
 pub without_past : (s : PartitionSet) (n : ℕ) → partitions_of s ≤ n → s ≡ without_one s n
 without_past s n le = same_set s (without_one s n) (sym (partitions_without s n)) (λ q lt. let other : q ≢ n = omega arith in and_other (is_in s q) (q == n) (elsewhere q n other) ∙ sym (in_without s n q))
 
--- ---- the lowest members, kept as far as n with so many left
+-- ---- the lowest elements, kept as far as n with so many left
 pub record AreTrimmed (old : List Bool) (s : PartitionSet) (k n : ℕ) (flags : List Bool) (left : ℕ) : Type 0 where
   pub marked : AreMarked old (λ q. is_in s q && nat_lt (rank s q) k) n flags
   pub counted : left ≡ k - rank s n

@@ -183,7 +183,7 @@ rank_most s q = elim (cases_lt q (partitions_of s)) [
   | inr le ↦ omega (arith, rank_is s q, size_is s, how_many-stops (partitions_of s) q (is_in s) (past s) le)
 ]
 
--- from P on every member is below
+-- from `partitions_of` on every element is below
 pub rank_past : (s : PartitionSet) (q : ℕ) → partitions_of s ≤ q → rank s q ≡ size s
 rank_past s q le = omega (arith, rank_is s q, size_is s, how_many-stops (partitions_of s) q (is_in s) (past s) le)
 

@@ -65,7 +65,8 @@ impl Plane {
     pub fn of(partitions: u32, elements: &[u32]) -> Plane
         requires some { (1 ≤ partitions) × (partitions ≤ MOST_PARTITIONS) }
         requires below { All (λ q. q < partitions) elements.now }
-        ensures elements { (q : ℕ) → is_in result q ≡ list_any (λ element. q == element) elements.now }
+        ensures elements { (q : ℕ)
+            → is_in result q ≡ list_any (λ element. q == element) elements.now }
         ensures partitions { partitions_of result ≡ partitions }
     {
         let mut set = Plane::new(partitions);
@@ -103,8 +104,8 @@ impl Plane {
         self.flags[q as usize] = true;
     }
 
-    /// Takes a number out of the set. One that is not in it, as each that is no partition, leaves it
-    /// as it was.
+    /// Takes a number out of the set. One that is not in it, as each that is no partition, leaves
+    /// it as it was.
     pub fn remove(&mut self, q: u32)
         ensures value { self.new ≡ without_one self.old q }
         ensures elements { (n : ℕ) → is_in self.new n ≡ (is_in self.old n && not (n == q)) }
@@ -137,7 +138,8 @@ impl Plane {
     pub fn minus(&self, other: &Plane) -> Plane
         requires { partitions_of self.now ≡ partitions_of other.now }
         ensures value { result ≡ minus self.now other.now }
-        ensures elements { (q : ℕ) → is_in result q ≡ (is_in self.now q && not (is_in other.now q)) }
+        ensures elements { (q : ℕ)
+            → is_in result q ≡ (is_in self.now q && not (is_in other.now q)) }
         ensures partitions { partitions_of result ≡ partitions_of self.now }
     {
         self.combined(other, |mine, theirs| mine && !theirs)
@@ -146,7 +148,8 @@ impl Plane {
     /// The `n` lowest elements, or all where there are no more.
     pub fn lowest(&self, n: u32) -> Plane
         ensures value { result ≡ lowest n self.now }
-        ensures elements { (q : ℕ) → is_in result q ≡ (is_in self.now q && nat_lt (rank self.now q) n) }
+        ensures elements { (q : ℕ)
+            → is_in result q ≡ (is_in self.now q && nat_lt (rank self.now q) n) }
         ensures partitions { partitions_of result ≡ partitions_of self.now }
         ensures size { size result ≡ min n (size self.now) }
     {
@@ -168,7 +171,8 @@ impl Plane {
     pub fn meets(&self, other: &Plane) -> bool
         requires { partitions_of self.now ≡ partitions_of other.now }
         ensures value { result ≡ meets self.now other.now }
-        ensures elements { (result ≡ false) ↔ ((q : ℕ) → (is_in self.now q && is_in other.now q) ≡ false) }
+        ensures elements { (result ≡ false)
+            ↔ ((q : ℕ) → (is_in self.now q && is_in other.now q) ≡ false) }
     {
         self.some_pass(other, |mine, theirs| mine && theirs)
     }
@@ -177,7 +181,8 @@ impl Plane {
     pub fn within(&self, other: &Plane) -> bool
         requires { partitions_of self.now ≡ partitions_of other.now }
         ensures value { result ≡ is_within self.now other.now }
-        ensures elements { IsTrue result ↔ ((q : ℕ) → is_in self.now q ≡ true → is_in other.now q ≡ true) }
+        ensures elements { IsTrue result
+            ↔ ((q : ℕ) → is_in self.now q ≡ true → is_in other.now q ≡ true) }
     {
         !self.some_pass(other, |mine, theirs| mine && !theirs)
     }
