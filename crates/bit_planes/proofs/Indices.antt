@@ -24,7 +24,7 @@ later m n lt = grind (arith, nat_tests)
 earlier : (m n : ℕ) → n < m → (m == n) ≡ false
 earlier m n lt = grind (arith, nat_tests)
 
--- ---- look-up and put at a place
+-- ---- look-up and put at an index
 pub found_at : (rows : Rows) (m i : ℕ) (d : ℕ × PartitionSet) → IsRising (map (λ row. row.0) rows) → i < length rows → member_at rows i ≡ m → find_row rows m ≡ Some (get_or rows i d).1
 found_at [] m i d rising lt e = absurd (omega arith)
 found_at (row ∷ rows) m zero d rising lt e = rw e (rw (here m) refl)

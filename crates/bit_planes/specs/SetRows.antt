@@ -3,7 +3,7 @@ use Rattle.std.specs.Prelude.{◌≡◌, ℕ, ◌<◌, ◌≤◌, ◌==◌, nat_
 use Rattle.lane_words.specs.declared.limits.TheConstants.{MOST_PARTITIONS}
 use Rattle.bit_planes.specs.PartitionSet.{PartitionSet, partitions_of, empty_set}
 
--- sets of partitions below one P, by the numbers of their members, which rise
+-- sets of as many partitions, by the numbers of their members, which rise
 pub record SetRows : Type 0 where
   pub partitions : ℕ
   pub rows : List (ℕ × PartitionSet)
@@ -55,7 +55,7 @@ HaveSameRows r s = (m : ℕ) → row_of r m ≡ row_of s m
 abbrev pub IsRising : List ℕ → Type 0
 IsRising ms = (i j : ℕ) → i < j → j < length ms → slice_index_or ms i 0 < slice_index_or ms j 0
 
--- each set is over the same P
+-- each set is of this many partitions
 abbrev pub AreOver : ℕ → List (ℕ × PartitionSet) → Type 0
 AreOver partitions [] = Unit {0}
 AreOver partitions (row ∷ rows) = (partitions_of row.1 ≡ partitions) × AreOver partitions rows

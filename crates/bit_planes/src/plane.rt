@@ -2,6 +2,7 @@
 
 ghost use Rattle.std.specs.Prelude.{◌≡◌, ◌<◌, ◌≤◌, ◌==◌, ◌&&◌, ◌||◌, ◌↔◌, ℕ, false, true, not, nat_lt, min, length, IsTrue, All};
 ghost use Rattle.std.specs.List.{list_any};
+ghost use Rattle.bit_planes.specs.Private.Tests.{IsCombined, TellsSomePass};
 ghost use Rattle.bit_planes.specs.PartitionSet.{partitions_of, is_in, rank, size, elements, empty_set, full_set, with_one, without_one, union, minus, lowest, meets, is_within, is_same};
 
 use crate::elements::Elements;
@@ -64,7 +65,8 @@ impl Plane {
     pub fn of(partitions: u32, elements: &[u32]) -> Plane
         requires some { (1 ≤ partitions) × (partitions ≤ MOST_PARTITIONS) }
         requires below { All (λ q. q < partitions) elements.now }
-        ensures elements { (q : ℕ) → is_in result q ≡ list_any (λ element. q == element) elements.now }
+        ensures elements { (q : ℕ)
+            → is_in result q ≡ list_any (λ element. q == element) elements.now }
         ensures partitions { partitions_of result ≡ partitions }
     {
         let mut set = Plane::new(partitions);
@@ -102,8 +104,8 @@ impl Plane {
         self.flags[q as usize] = true;
     }
 
-    /// Takes a number out of the set. One that is not in it, as each that is no partition, leaves it
-    /// as it was.
+    /// Takes a number out of the set. One that is not in it, as each that is no partition, leaves
+    /// it as it was.
     pub fn remove(&mut self, q: u32)
         ensures value { self.new ≡ without_one self.old q }
         ensures elements { (n : ℕ) → is_in self.new n ≡ (is_in self.old n && not (n == q)) }
@@ -129,37 +131,25 @@ impl Plane {
         ensures elements { (q : ℕ) → is_in result q ≡ (is_in self.now q || is_in other.now q) }
         ensures partitions { partitions_of result ≡ partitions_of self.now }
     {
-        let mut flags = self.flags;
-        for q in 0..self.partitions as usize {
-            flags[q] |= other.flags[q];
-        }
-        Plane {
-            partitions: self.partitions,
-            flags,
-        }
+        self.combined(other, |mine, theirs| mine || theirs)
     }
 
     /// What is in this set and not in the other, which is of as many partitions.
     pub fn minus(&self, other: &Plane) -> Plane
         requires { partitions_of self.now ≡ partitions_of other.now }
         ensures value { result ≡ minus self.now other.now }
-        ensures elements { (q : ℕ) → is_in result q ≡ (is_in self.now q && not (is_in other.now q)) }
+        ensures elements { (q : ℕ)
+            → is_in result q ≡ (is_in self.now q && not (is_in other.now q)) }
         ensures partitions { partitions_of result ≡ partitions_of self.now }
     {
-        let mut flags = self.flags;
-        for q in 0..self.partitions as usize {
-            flags[q] &= !other.flags[q];
-        }
-        Plane {
-            partitions: self.partitions,
-            flags,
-        }
+        self.combined(other, |mine, theirs| mine && !theirs)
     }
 
     /// The `n` lowest elements, or all where there are no more.
     pub fn lowest(&self, n: u32) -> Plane
         ensures value { result ≡ lowest n self.now }
-        ensures elements { (q : ℕ) → is_in result q ≡ (is_in self.now q && nat_lt (rank self.now q) n) }
+        ensures elements { (q : ℕ)
+            → is_in result q ≡ (is_in self.now q && nat_lt (rank self.now q) n) }
         ensures partitions { partitions_of result ≡ partitions_of self.now }
         ensures size { size result ≡ min n (size self.now) }
     {
@@ -181,29 +171,20 @@ impl Plane {
     pub fn meets(&self, other: &Plane) -> bool
         requires { partitions_of self.now ≡ partitions_of other.now }
         ensures value { result ≡ meets self.now other.now }
-        ensures elements { (result ≡ false) ↔ ((q : ℕ) → (is_in self.now q && is_in other.now q) ≡ false) }
+        ensures elements { (result ≡ false)
+            ↔ ((q : ℕ) → (is_in self.now q && is_in other.now q) ≡ false) }
     {
-        for q in 0..self.partitions as usize {
-            if self.flags[q] && other.flags[q] {
-                return true;
-            }
-        }
-        false
+        self.some_pass(other, |mine, theirs| mine && theirs)
     }
 
     /// Whether each element is in the other set, which is of as many partitions.
     pub fn within(&self, other: &Plane) -> bool
         requires { partitions_of self.now ≡ partitions_of other.now }
         ensures value { result ≡ is_within self.now other.now }
-        ensures elements { IsTrue result ↔ ((q : ℕ) → is_in self.now q ≡ true → is_in other.now q ≡ true) }
+        ensures elements { IsTrue result
+            ↔ ((q : ℕ) → is_in self.now q ≡ true → is_in other.now q ≡ true) }
     {
-        let end = self.partitions as usize;
-        for q in 0..end {
-            if self.flags[q] && !other.flags[q] {
-                return false;
-            }
-        }
-        true
+        !self.some_pass(other, |mine, theirs| mine && !theirs)
     }
 
     /// Whether the other, which is of as many partitions, is the same set.
@@ -212,12 +193,7 @@ impl Plane {
         ensures value { result ≡ is_same self.now other.now }
         ensures equal { IsTrue result ↔ (self.now ≡ other.now) }
     {
-        for q in 0..self.partitions as usize {
-            if self.flags[q] != other.flags[q] {
-                return false;
-            }
-        }
-        true
+        !self.some_pass(other, |mine, theirs| mine != theirs)
     }
 
     /// How many elements there are.
@@ -240,5 +216,36 @@ impl Plane {
         ensures few { length result ≤ MOST_PARTITIONS }
     {
         Elements::new(self)
+    }
+
+    /// The partitions of which a test holds: whether one is in this set, and whether in the other.
+    fn combined<F: Fn(bool, bool) -> bool>(&self, other: &Plane, test: F) -> Plane
+        requires callable { F.IsAlwaysCallable test }
+        requires partitions { partitions_of self.now ≡ partitions_of other.now }
+        ensures elements { IsCombined (F.post test) self.now other.now result }
+        ensures partitions { partitions_of result ≡ partitions_of self.now }
+    {
+        let mut flags = self.flags;
+        for q in 0..self.partitions as usize {
+            flags[q] = test(flags[q], other.flags[q]);
+        }
+        Plane {
+            partitions: self.partitions,
+            flags,
+        }
+    }
+
+    /// Whether a test holds of some partition: whether it is in this set, and whether in the other.
+    fn some_pass<F: Fn(bool, bool) -> bool>(&self, other: &Plane, test: F) -> bool
+        requires callable { F.IsAlwaysCallable test }
+        requires partitions { partitions_of self.now ≡ partitions_of other.now }
+        ensures { TellsSomePass (F.post test) self.now other.now result }
+    {
+        for q in 0..self.partitions as usize {
+            if test(self.flags[q], other.flags[q]) {
+                return true;
+            }
+        }
+        false
     }
 }

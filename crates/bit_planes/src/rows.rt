@@ -58,7 +58,8 @@ impl PlaneRows {
         requires { partitions_of plane ≡ self.old.partitions }
         ensures value { OnOk result (self.new ≡ with_row self.old member plane) }
         ensures this { OnOk result (row_of self.new member ≡ Some plane) }
-        ensures others { OnOk result ((m : ℕ) → m ≢ member → row_of self.new m ≡ row_of self.old m) }
+        ensures others { OnOk result ((m : ℕ)
+            → m ≢ member → row_of self.new m ≡ row_of self.old m) }
         ensures err { OnErr result (self.new ≡ self.old) }
         ensures partitions { self.new.partitions ≡ self.old.partitions }
         ensures valid { IsValidRows self.new }
@@ -74,8 +75,11 @@ impl PlaneRows {
 
     /// The set of a member, or nothing where it has no row. It takes no memory.
     pub fn get(&self, member: u32) -> Option<&Plane>
-        ensures value { MatchOption result (row_of self.now member ≡ None) (λ plane. row_of self.now member ≡ Some plane.now) }
-        ensures partitions { IfSome result (λ plane. partitions_of plane.now ≡ self.now.partitions) }
+        ensures value { MatchOption result
+            (row_of self.now member ≡ None)
+            (λ plane. row_of self.now member ≡ Some plane.now) }
+        ensures partitions { IfSome result (λ plane.
+            partitions_of plane.now ≡ self.now.partitions) }
         ensures valid { IsValidRows self.now }
     {
         match self.search(member) {

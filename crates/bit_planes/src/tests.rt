@@ -1,4 +1,5 @@
-//! Each call once on its happy path, at one partition, few, a number past a multiple of 64, and the most.
+//! Each call once on its happy path, at one partition, few, a number past a multiple of 64, and the
+//! most.
 
 use super::*;
 use lane_words::{MOST_MEMBERS, MOST_PARTITIONS};

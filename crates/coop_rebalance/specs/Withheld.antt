@@ -1,5 +1,5 @@
--- What a member is not to be given yet: KIP-429 has a partition that changes its owner revoked by the
--- old one before it is assigned to the new.
+-- What a member is not to be given yet: KIP-429 has a partition that changes its owner revoked by
+-- the old one before it is assigned to the new.
 use Rattle.std.specs.Prelude.{◌≡◌, ℕ, ◌==◌, Bool, false, ◌&&◌, ◌||◌, not, List, [], ◌∷◌, map}
 use Rattle.bit_planes.specs.PartitionSet.{PartitionSet, partitions_of, is_in, set_where}
 use Rattle.bit_planes.specs.SetRows.{SetRows, set_of}
@@ -24,9 +24,10 @@ withheld target granted = record target { rows = map (withheld_row granted.rows)
 -- each member has what the target gives it and no other is granted
 abbrev pub AreWithoutOthers : SetRows → SetRows → SetRows → Type 0
 AreWithoutOthers rows target granted = (m q : ℕ)
-    → is_in (set_of rows m) q ≡ (is_in (set_of target m) q && not (granted_to_other granted.rows m q))
+    → is_in (set_of rows m) q
+    ≡ (is_in (set_of target m) q && not (granted_to_other granted.rows m q))
 
--- what a round of a rebalance assigns: the sticky target of what is granted, without what others are
--- granted
+-- what a round of a rebalance assigns: the sticky target of what is granted, without what others
+-- are granted
 abbrev pub next_rows : SetRows → SetRows
 next_rows granted = withheld (target_rows granted) granted

@@ -3,8 +3,8 @@
 ghost use Rattle.bit_planes.specs.SetRows.{SetRows};
 ghost use Rattle.coop_rebalance.specs.Rounds.{AreApart, AreGranted, next_rows, together, LiesInTarget, Settles};
 
-/// Two rounds settle: once each member is granted what a first round assigned to it, the target of a second keeps
-/// all of that, and nothing of it is withheld.
+/// Two rounds settle: once each member is granted what a first round assigned to it, the target of
+/// a second keeps all of that, and nothing of it is withheld.
 pub fn second_round_settles()
     ensures { (granted : SetRows) → AreGranted granted → Settles (next_rows granted) }
 {}
@@ -16,5 +16,6 @@ pub fn next_lies_in_balanced()
 
 /// What the members are granted, each with what a round assigns to it, stays disjoint.
 pub fn given_stays_apart()
-    ensures { (granted : SetRows) → AreGranted granted → AreApart (together granted (next_rows granted)) }
+    ensures { (granted : SetRows)
+        → AreGranted granted → AreApart (together granted (next_rows granted)) }
 {}

@@ -33,12 +33,13 @@ pub fn withhold(alloc: Global, target: &PlaneRows, granted: &PlaneRows) -> Resul
     Ok(rows)
 }
 
-/// What a member has to give up: what it is granted and not assigned, of as many partitions. It takes
-/// no memory.
+/// What a member has to give up: what it is granted and not assigned, of as many partitions. It
+/// takes no memory.
 pub fn to_give(granted: &Plane, assigned: &Plane) -> Plane
     requires { partitions_of granted.now ≡ partitions_of assigned.now }
     ensures value { result ≡ minus granted.now assigned.now }
-    ensures elements { (q : ℕ) → is_in result q ≡ (is_in granted.now q && not (is_in assigned.now q)) }
+    ensures elements { (q : ℕ)
+        → is_in result q ≡ (is_in granted.now q && not (is_in assigned.now q)) }
     ensures partitions { partitions_of result ≡ partitions_of granted.now }
 {
     granted.minus(assigned)
@@ -49,14 +50,15 @@ pub fn to_give(granted: &Plane, assigned: &Plane) -> Plane
 pub fn added(assigned: &Plane, granted: &Plane) -> Plane
     requires { partitions_of assigned.now ≡ partitions_of granted.now }
     ensures value { result ≡ minus assigned.now granted.now }
-    ensures elements { (q : ℕ) → is_in result q ≡ (is_in assigned.now q && not (is_in granted.now q)) }
+    ensures elements { (q : ℕ)
+        → is_in result q ≡ (is_in assigned.now q && not (is_in granted.now q)) }
     ensures partitions { partitions_of result ≡ partitions_of assigned.now }
 {
     assigned.minus(granted)
 }
 
-/// Whether each member is granted what it is assigned, of as many partitions. Where a member has a row
-/// on one side only, also an empty one, it is not. It takes no memory.
+/// Whether each member is granted what it is assigned, of as many partitions. Where a member has a
+/// row on one side only, also an empty one, it is not. It takes no memory.
 pub fn is_final(granted: &PlaneRows, assigned: &PlaneRows) -> bool
     requires { granted.now.partitions ≡ assigned.now.partitions }
     ensures rows { IsTrue result ↔ HaveSameRows granted.now assigned.now }

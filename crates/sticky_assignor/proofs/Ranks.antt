@@ -9,7 +9,7 @@ use Rattle.sticky_assignor.specs.Private.Filling.{one_of, shares, quotas, keepin
 use Rattle.sticky_assignor.specs.Target.{is_heavy, heavies, row_at, sum_below, quota_of, kept_row, free_set, gap_of, covers, taken_row, rows_by, target}
 use Rattle.sticky_assignor.proofs.Balance.{total, heavies_cons, length_shares, partitions_free, length_gaps, keeping_fits}
 
--- ---- quotas by place
+-- ---- quotas by index
 one_of_lt : (n : ℕ) → one_of n ≡ one (nat_lt 0 n)
 one_of_lt zero = refl
 one_of_lt (suc n) = rw (lt-ltb 0 (suc n) (omega arith)) refl
@@ -56,7 +56,7 @@ rank_parts n s (suc q) =
 rank_beyond : (n : ℕ) (s : PartitionSet) (q : ℕ) → rank (minus s (lowest n s)) q ≡ rank s q - n
 rank_beyond n s q = omega (arith, rank_parts n s q, rank_lowest n s q)
 
--- ---- what the member at place i is given
+-- ---- what the member at index i is given
 abbrev given : PartitionSet → List ℕ → ℕ → PartitionSet
 given free [] i = free
 given free (g ∷ gs) zero = lowest g free

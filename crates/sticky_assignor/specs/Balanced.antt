@@ -15,8 +15,8 @@ row_at rows i = slice_index_or rows i (empty_set 0)
 abbrev pub size_at : List PartitionSet → ℕ → ℕ
 size_at rows i = size (row_at rows i)
 
--- Balanced as Kafka's StickyAssignor documents it: each partition is in exactly one row, and the sizes
--- of two rows differ by at most one
+-- Balanced as Kafka's StickyAssignor documents it: each partition is in exactly one row, and the
+-- sizes of two rows differ by at most one
 pub record IsBalanced (partitions : ℕ) (rows : List PartitionSet) : Type 0 where
   pub once : (q : ℕ) → q < partitions → holders rows q ≡ 1
   pub even : (i j : ℕ) → i < length rows → j < length rows → size_at rows i ≤ size_at rows j + 1

@@ -16,4 +16,5 @@ kept (own ∷ owned) (row ∷ rows) = in_both own row + kept owned rows
 -- of what was owned, no balanced rows keep more
 abbrev pub KeepsMost : ℕ → List PartitionSet → List PartitionSet → Type 0
 KeepsMost partitions owned rows = (others : List PartitionSet) → length others ≡ length owned
-    → AreBelow partitions others → IsBalanced partitions others → kept owned others ≤ kept owned rows
+    → AreBelow partitions others → IsBalanced partitions others
+    → kept owned others ≤ kept owned rows

@@ -1,5 +1,5 @@
--- The sticky target: the balanced rows that leave the most partitions with their owners. Members go by
--- their indices, in rising order of their numbers.
+-- The sticky target: the balanced rows that leave the most partitions with their owners. Members go
+-- by their indices, in rising order of their numbers.
 use Rattle.std.specs.Prelude.{ℕ, zero, suc, ◌+◌, ◌-◌, ◌/◌, ◌%◌, Bool, ◌&&◌, not, count_by, nat_lt, nat_le, List, [], ◌∷◌, length, take, min, if◌then◌else◌}
 pub use Rattle.lane_words.specs.Sums.{sum_below}
 use Rattle.bit_planes.specs.PartitionSet.{PartitionSet, is_in, set_where, one, any_below, rank, size, union, lowest}
@@ -32,8 +32,8 @@ kept_row partitions owned i = lowest (quota_of partitions owned i) (row_at owned
 -- the partitions that nobody keeps
 abbrev pub free_set : ℕ → List PartitionSet → PartitionSet
 free_set partitions owned =
-    let is_kept : ℕ → Bool = λ q. any_below (length owned) (λ i. is_in (kept_row partitions owned i) q) in
-    set_where partitions (λ q. not (is_kept q))
+    set_where partitions (λ q.
+    not (any_below (length owned) (λ i. is_in (kept_row partitions owned i) q)))
 
 -- what a member lacks of its quota
 abbrev pub gap_of : ℕ → List PartitionSet → ℕ → ℕ

@@ -8,8 +8,9 @@ ghost use Rattle.sticky_assignor.specs.Target.{target};
 
 /// Each target is balanced.
 pub fn target_is_balanced()
-    ensures { (partitions : ℕ) (owned : List PartitionSet) → 0 < length owned
-        → AreBelow partitions owned → AreApart owned → IsBalanced partitions (target partitions owned) }
+    ensures { (partitions : ℕ) (owned : List PartitionSet)
+        → 0 < length owned → AreBelow partitions owned → AreApart owned
+        → IsBalanced partitions (target partitions owned) }
 {}
 
 /// No balanced rows leave more partitions with their owners.

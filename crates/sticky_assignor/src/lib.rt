@@ -1,5 +1,5 @@
-//! The sticky assignment: who is to own which partition, so that the sizes are even and as much as can
-//! stays with its owner, as Kafka's StickyAssignor documents it.
+//! The sticky assignment: who is to own which partition, so that the sizes are even and as much as
+//! can stays with its owner, as Kafka's StickyAssignor documents it.
 #![tactic(auto)]
 
 ghost use Rattle.std.specs.Prelude.{◌≡◌, ◌<◌, ◌≤◌, length, IfOk, IsSome};
@@ -22,12 +22,13 @@ use bit_planes::{Plane, PlaneRows};
 use lane_words::{MOST_PARTITIONS, Memory};
 use std::alloc::Global;
 
-/// The rows that the members are to own, of this many partitions: balanced, and of all balanced rows
-/// those that leave the most partitions with their owners.
+/// The rows that the members are to own, of this many partitions: balanced, and of all balanced
+/// rows those that leave the most partitions with their owners.
 ///
-/// There is at least one member, the numbers of the members rise, and `owned`, of as many partitions,
-/// has a row for each of them; these rows are disjoint. What `owned` has of other members is
-/// disregarded. Refused for want of memory alone. Its cost is linear in members times partitions.
+/// There is at least one member, the numbers of the members rise, and `owned`, of as many
+/// partitions, has a row for each of them; these rows are disjoint. What `owned` has of other
+/// members is disregarded. Refused for want of memory alone. Its cost is linear in members times
+/// partitions.
 pub fn assign(
     alloc: Global,
     partitions: u32,
@@ -42,7 +43,8 @@ pub fn assign(
     ensures target { IfOk result (λ rows. rows ≡ assigned partitions members.now owned.now) }
     ensures members { IfOk result (λ rows. members_of rows ≡ members.now) }
     ensures balanced { IfOk result (λ rows. IsBalanced partitions (sets_of rows members.now)) }
-    ensures most { IfOk result (λ rows. KeepsMost partitions (sets_of owned.now members.now) (sets_of rows members.now)) }
+    ensures most { IfOk result (λ rows.
+        KeepsMost partitions (sets_of owned.now members.now) (sets_of rows members.now)) }
     ensures valid { IfOk result IsValidRows }
 {
     prove!(owned.partitions() == partitions);
@@ -55,7 +57,8 @@ pub fn assign(
 fn quotas_of(alloc: Global, members: &[u32], owned: &PlaneRows) -> Result<Vec<u32>, Memory>
     requires some { 0 < length members.now }
     requires rows { HaveRows owned.now members.now }
-    ensures { IfOk result (λ qs. qs.items ≡ quotas owned.now.partitions (sets_of owned.now members.now)) }
+    ensures { IfOk result (λ qs.
+        qs.items ≡ quotas owned.now.partitions (sets_of owned.now members.now)) }
 {
     let partitions = owned.partitions() as usize;
     let share = (partitions / members.len()) as u32;
@@ -90,7 +93,8 @@ fn shares_of(
 ) -> Result<Vec<u32>, Memory>
     requires few { share ≤ MOST_PARTITIONS }
     requires rows { HaveRows owned.now members.now }
-    ensures { IfOk result (λ qs. qs.items ≡ shares share for_heavy for_others (sets_of owned.now members.now)) }
+    ensures { IfOk result (λ qs.
+        qs.items ≡ shares share for_heavy for_others (sets_of owned.now members.now)) }
 {
     let mut quotas = Vec::with_capacity(alloc, members.len())?;
     let mut heavy_left = for_heavy;
@@ -119,7 +123,8 @@ fn one_of(left: usize) -> u32
 fn free_beside(quotas: &[u32], members: &[u32], owned: &PlaneRows) -> Plane
     requires long { length quotas.now ≡ length members.now }
     requires rows { HaveRows owned.now members.now }
-    ensures free { result ≡ free_of owned.now.partitions (keeping quotas.now (sets_of owned.now members.now)) }
+    ensures free { result
+        ≡ free_of owned.now.partitions (keeping quotas.now (sets_of owned.now members.now)) }
     ensures below { partitions_of result ≡ owned.now.partitions }
 {
     let mut free = Plane::full(owned.partitions());
@@ -129,7 +134,8 @@ fn free_beside(quotas: &[u32], members: &[u32], owned: &PlaneRows) -> Plane
     free
 }
 
-/// The rows: what each member keeps, and of the free partitions, in rising order, what its quota lacks.
+/// The rows: what each member keeps, and of the free partitions, in rising order, what its quota
+/// lacks.
 fn fill(
     alloc: Global,
     all_free: Plane,

@@ -1,5 +1,6 @@
-//! The worked rows, and the assignment beside a search over all assignments. Here an assignment is the list of its
-//! partitions' owners, 0 where nobody owns a partition.
+//! The worked rows, the assignment beside a search over all assignments, and as many members and
+//! partitions as there can be. Here an assignment is the list of its partitions' owners, 0 where
+//! nobody owns a partition.
 
 ghost use Rattle.std.specs.Prelude.{◌≡◌, ◌<◌, ◌≤◌, length, IfOk, IsTrue};
 ghost use Rattle.bit_planes.specs.PartitionSet.{partitions_of};
@@ -178,7 +179,8 @@ fn owners_of(code: u32) -> [u32; 4] {
     owners
 }
 
-/// Whether each partition is owned, by one of the members 1 to n, of whom none has two more than another.
+/// Whether each partition is owned, by one of the members 1 to n, of whom none has two more than
+/// another.
 fn is_balanced(n: u32, owners: &[u32]) -> bool {
     let (mut least, mut most) = (usize::MAX, 0);
     for member in 1..=n {

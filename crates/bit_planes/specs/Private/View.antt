@@ -12,4 +12,5 @@ plane_view a = record { flags = take a.partitions a.flags }
 pub record IsValidPlane (a : Inside) : Type 0 where
   pub some : 1 ≤ a.partitions
   pub few : a.partitions ≤ MOST_PARTITIONS
-  pub clear : (q : ℕ) → a.partitions ≤ q → q < MOST_PARTITIONS → slice_index_or a.flags q false ≡ false
+  pub clear : (q : ℕ) → a.partitions ≤ q → q < MOST_PARTITIONS
+      → slice_index_or a.flags q false ≡ false

@@ -1,9 +1,8 @@
-use Rattle.std.proofs.Common.{◌≡◌, ◌≤◌, List, length, IfOk, ap, sym, ◌∙◌, subst}
+use Rattle.std.proofs.Common.{◌≡◌, IfOk, ap, sym, ◌∙◌, subst}
 use Rattle.std.proofs.lemmas.Result.{IfOk-weaker}
-use Rattle.bit_planes.specs.PartitionSet.{PartitionSet}
 use Rattle.bit_planes.specs.SetRows.{SetRows, members as members_of, sets_of}
 use Rattle.sticky_assignor.specs.Assigned.{assigned}
-use Rattle.sticky_assignor.specs.Balanced.{AreBelow, IsBalanced}
+use Rattle.sticky_assignor.specs.Balanced.{IsBalanced}
 use Rattle.sticky_assignor.specs.Kept.{KeepsMost}
 use Rattle.sticky_assignor.proofs.AssignedLaws.{quotas_long, is_assigned, members_assigned, balanced_assigned, most_assigned}
 use Rattle.sticky_assignor.proofs.assign.Goals as goal

@@ -1,5 +1,5 @@
-use Rattle.std.proofs.Common.{◌∙◌, length, sym, ap}
-use Rattle.std.proofs.lemmas.List.{length_push, take_all}
+use Rattle.std.proofs.Common.{◌∙◌, length, sym}
+use Rattle.std.proofs.lemmas.List.{length_push}
 use Rattle.bit_planes.proofs.Walks.{row_turn, row_end}
 use Rattle.coop_rebalance.proofs.Granted.{grants_more, grants_all}
 use Rattle.coop_rebalance.proofs.withholding.Grants.of.Goals as goal
