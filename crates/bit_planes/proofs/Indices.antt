@@ -8,7 +8,8 @@ use Rattle.std.proofs.lemmas.List.Sorted.{searched}
 use Rattle.std.proofs.lemmas.Bool.{cases_lt, lt-ltb, le-ltb}
 use Rattle.std.proofs.lemmas.Bool.Decides.{nat_tests}
 use Rattle.bit_planes.specs.PartitionSet.{PartitionSet, partitions_of, empty_set}
-use Rattle.bit_planes.specs.SetRows.{SetRows, IsValidRows, row_of, with_row, IsRising, IsIndexOf, IsGapFor, member_at, find_row, put_row}
+use Rattle.bit_planes.specs.SetRows.{SetRows, IsValidRows, row_of, with_row, IsRising, find_row, put_row}
+use Rattle.bit_planes.specs.Private.Indices.{IsIndexOf, IsGapFor, member_at}
 use Rattle.bit_planes.proofs.RowLaws.{rising_rest, row_of-this, row_of-other, are_rows-with}
 
 abbrev Rows : Type 0
@@ -23,8 +24,8 @@ later m n lt = grind (arith, nat_tests)
 earlier : (m n : ℕ) → n < m → (m == n) ≡ false
 earlier m n lt = grind (arith, nat_tests)
 
--- ---- look-up and put at a place
-found_at : (rows : Rows) (m i : ℕ) (d : ℕ × PartitionSet) → IsRising (map (λ row. row.0) rows) → i < length rows → member_at rows i ≡ m → find_row rows m ≡ Some (get_or rows i d).1
+-- ---- look-up and put at an index
+pub found_at : (rows : Rows) (m i : ℕ) (d : ℕ × PartitionSet) → IsRising (map (λ row. row.0) rows) → i < length rows → member_at rows i ≡ m → find_row rows m ≡ Some (get_or rows i d).1
 found_at [] m i d rising lt e = absurd (omega arith)
 found_at (row ∷ rows) m zero d rising lt e = rw e (rw (here m) refl)
 found_at (row ∷ rows) m (suc i) d rising lt e =

@@ -1,9 +1,10 @@
--- The members of a set, listed in rising order.
+-- The elements of a set, listed in rising order.
 use Rattle.std.proofs.Common.{ℕ, zero, suc, ◌≡◌, ◌+◌, ◌<◌, Bool, true, false, List, [], ◌∷◌, ◌++◌, length, drop, refl, ap, sym, ◌∙◌, arith, inl, inr, length-append}
 use Rattle.std.specs.Prelude.{if◌then◌else◌}
 use Rattle.std.proofs.lemmas.Bool.{cases_lt}
 use Rattle.std.proofs.lemmas.List.{drop-append-le, drop_all}
-use Rattle.bit_planes.specs.PartitionSet.{PartitionSet, partitions_of, is_in, one, how_many, list_where, rank, elements}
+use Rattle.bit_planes.specs.Private.Lists.{list_where}
+use Rattle.bit_planes.specs.PartitionSet.{PartitionSet, partitions_of, is_in, one, how_many, rank, elements}
 use Rattle.bit_planes.proofs.Sets.{in_below, rank_is, rank_in, how_many-rises}
 
 one_listed : (x : Bool) (n : ℕ) → length (if x then n ∷ [] else []) ≡ one x
@@ -41,18 +42,18 @@ list_where-at (suc n) f q lt h = elim (cases_lt q n) [
       rw e (last_listed (how_many n f) (list_where n f) n (f n) (sym len) (ap f (sym e) ∙ h))
 ]
 
--- a member, and the members above it
+-- an element, and the elements above it
 pub elements-at : (s : PartitionSet) (q : ℕ) → is_in s q ≡ true → drop (rank s q) (elements s) ≡ q ∷ drop (rank s (q + 1)) (elements s)
 unfolding elements
 elements-at s q h =
     let next : rank s (q + 1) ≡ suc (how_many q (is_in s)) = omega (arith, rank_in s q h, rank_is s q) in
     rw (next, rank_is s q) (list_where-at (partitions_of s) (is_in s) q (in_below s q h) h)
 
--- all members
+-- all elements
 pub elements-first : (s : PartitionSet) → drop (rank s 0) (elements s) ≡ elements s
 elements-first s = rw (rank_is s 0) refl
 
--- no member
+-- no element
 pub elements-end : (s : PartitionSet) (r : ℕ) → r ≡ rank s (partitions_of s) → drop r (elements s) ≡ []
 unfolding elements
 elements-end s r e =

@@ -1,5 +1,5 @@
 -- A plane's flags, seen as a set.
-use Rattle.std.proofs.Common.{ℕ, ◌≡◌, ◌≢◌, ◌+◌, ◌-◌, ◌<◌, ◌≤◌, ◌==◌, Bool, true, false, ◌||◌, ◌&&◌, not, List, length, take, get_or, replicate, refl, ap, sym, ◌∙◌, arith, inl, inr}
+use Rattle.std.proofs.Common.{ℕ, ◌≡◌, ◌≢◌, ◌+◌, ◌-◌, ◌<◌, ◌≤◌, ◌==◌, Bool, true, false, ◌||◌, ◌&&◌, not, List, length, take, get_or, replicate, refl, ap, sym, subst, ◌∙◌, arith, inl, inr}
 use Rattle.std.specs.Prelude.{slice_set, nat_lt}
 use Rattle.std.proofs.lemmas.Bool.{cases_lt, cases_eq}
 use Rattle.std.proofs.lemmas.Bool.Decides.{nat_tests}
@@ -11,15 +11,15 @@ use Rattle.bit_planes.proofs.Sets.{partitions_where, in_where, rank_is, rank_in,
 abbrev pub seen : ℕ → List Bool → PartitionSet
 seen p flags = record { flags = take p flags }
 
-seen_below : (p : ℕ) (flags : List Bool) → p ≤ length flags → partitions_of (seen p flags) ≡ p
+pub seen_below : (p : ℕ) (flags : List Bool) → p ≤ length flags → partitions_of (seen p flags) ≡ p
 unfolding partitions_of
 seen_below p flags le = length-take-le p flags le
 
-seen_flag : (p : ℕ) (flags : List Bool) (q : ℕ) → q < p → is_in (seen p flags) q ≡ get_or flags q false
+pub seen_flag : (p : ℕ) (flags : List Bool) (q : ℕ) → q < p → is_in (seen p flags) q ≡ get_or flags q false
 unfolding is_in
 seen_flag p flags q lt = get_or-take p flags q false lt
 
--- P and the flags of what is seen
+-- how many partitions there are, and the flags of what is seen
 pub below_is : (p : ℕ) (flags : List Bool) (s : PartitionSet) → p ≤ 4096 → length flags ≡ 4096 → seen p flags ≡ s → partitions_of s ≡ p
 below_is p flags s few len e = sym (ap partitions_of e) ∙ seen_below p flags (omega arith)
 
@@ -142,7 +142,7 @@ seen_without p flags s n few len e lt =
 pub without_past : (s : PartitionSet) (n : ℕ) → partitions_of s ≤ n → s ≡ without_one s n
 without_past s n le = same_set s (without_one s n) (sym (partitions_without s n)) (λ q lt. let other : q ≢ n = omega arith in and_other (is_in s q) (q == n) (elsewhere q n other) ∙ sym (in_without s n q))
 
--- ---- the lowest members, kept as far as n with so many left
+-- ---- the lowest elements, kept as far as n with so many left
 pub record AreTrimmed (old : List Bool) (s : PartitionSet) (k n : ℕ) (flags : List Bool) (left : ℕ) : Type 0 where
   pub marked : AreMarked old (λ q. is_in s q && nat_lt (rank s q) k) n flags
   pub counted : left ≡ k - rank s n
@@ -169,3 +169,30 @@ trimmed_out old s k n flags left at e t = record {
   marked = marked_kept old _ n flags (at ∙ leaves_out (is_in s n) (nat_lt (rank s n) k) e) t.marked;
   counted = omega (arith, t.counted, rank_out s n e);
 }
+
+-- ---- a test of two memberships, as R tells it: a flag at each number, and an answer for all
+pub tested_at : (R : Bool → Bool → Bool → Type 0) (a b x a' b' x' : Bool) → a ≡ a' → b ≡ b' → x ≡ x' → R a b x → R a' b' x'
+tested_at R a b x a' b' x' e f g h = subst (λ v. R v b' x') e (subst (λ v. R a v x') f (subst (R a b) g h))
+
+pub tested_more : (R : Bool → Bool → Bool → Type 0) (s t : PartitionSet) (n : ℕ) (flags : List Bool) (a b x : Bool) → n < length flags → a ≡ is_in s n → b ≡ is_in t n → R a b x
+    → ((q : ℕ) → q < n → R (is_in s q) (is_in t q) (get_or flags q false)) → (q : ℕ) → q < n + 1 → R (is_in s q) (is_in t q) (get_or (slice_set flags n x) q false)
+tested_more R s t n flags a b x lt mine theirs told before q below = elim (cases_lt q n) [
+  | inl earlier ↦ let other : q ≢ n = omega arith in subst (R (is_in s q) (is_in t q)) (sym (get_or-set_other flags n q x false other)) (before q earlier)
+  | inr late ↦
+      let same : q ≡ n = omega arith in
+      rw same (tested_at R a b x (is_in s n) (is_in t n) (get_or (slice_set flags n x) n false) mine theirs (sym (get_or-set_same flags n x false lt)) told)
+]
+
+pub failed_more : (R : Bool → Bool → Bool → Type 0) (s t : PartitionSet) (n : ℕ) (a b x : Bool) → a ≡ is_in s n → b ≡ is_in t n → x ≡ false → R a b x
+    → ((q : ℕ) → q < n → R (is_in s q) (is_in t q) false) → (q : ℕ) → q < n + 1 → R (is_in s q) (is_in t q) false
+failed_more R s t n a b x mine theirs fails told before q below = elim (cases_lt q n) [
+  | inl earlier ↦ before q earlier
+  | inr late ↦ let same : q ≡ n = omega arith in rw same (tested_at R a b x (is_in s n) (is_in t n) false mine theirs fails told)
+]
+
+pub tested_seen : (R : Bool → Bool → Bool → Type 0) (a b : Bool) (p : ℕ) (flags : List Bool) (q : ℕ) → q < p → R a b (get_or flags q false) → R a b (is_in (seen p flags) q)
+tested_seen R a b p flags q lt h = subst (R a b) (sym (seen_flag p flags q lt)) h
+
+pub more_left : (old flags : List Bool) (n : ℕ) (x : Bool) → ((q : ℕ) → n ≤ q → get_or flags q false ≡ get_or old q false)
+    → (q : ℕ) → n + 1 ≤ q → get_or (slice_set flags n x) q false ≡ get_or old q false
+more_left old flags n x left q le = let other : q ≢ n = omega arith in get_or-set_other flags n q x false other ∙ left q (omega arith)

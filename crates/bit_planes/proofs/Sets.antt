@@ -1,9 +1,10 @@
 -- The laws of sets of partitions, by membership.
 use Rattle.std.proofs.Common.{ℕ, zero, suc, ◌≡◌, ◌+◌, ◌<◌, ◌≤◌, ◌==◌, Bool, true, false, ◌||◌, ◌&&◌, not, List, [], ◌∷◌, length, min, refl, ap, sym, ◌∙◌, arith, inl, inr}
-use Rattle.std.specs.Prelude.{nat_lt, slice_index_or, IsTrue, ◌↔◌}
+use Rattle.std.specs.Prelude.{nat_lt, slice_index_or, IsTrue, ◌↔◌, MatchBool}
 use Rattle.std.proofs.lemmas.Bool.{cases_lt, lt-ltb, le-ltb}
 use Rattle.std.proofs.lemmas.Bool.Decides.{nat_tests}
-use Rattle.bit_planes.specs.PartitionSet.{PartitionSet, partitions_of, is_in, flags_where, set_where, one, how_many, any_below, rank, size, empty_set, full_set, with_one, without_one, union, minus, lowest, meets, is_within, is_same}
+use Rattle.bit_planes.specs.Private.Lists.{flags_where}
+use Rattle.bit_planes.specs.PartitionSet.{PartitionSet, partitions_of, is_in, set_where, one, how_many, any_below, rank, size, empty_set, full_set, with_one, without_one, union, minus, lowest, meets, is_within, is_same}
 
 -- ---- what stands behind a set
 length-flags_where : (p : ℕ) (f : ℕ → Bool) → length (flags_where p f) ≡ p
@@ -182,7 +183,7 @@ rank_most s q = elim (cases_lt q (partitions_of s)) [
   | inr le ↦ omega (arith, rank_is s q, size_is s, how_many-stops (partitions_of s) q (is_in s) (past s) le)
 ]
 
--- from P on every member is below
+-- from `partitions_of` on every element is below
 pub rank_past : (s : PartitionSet) (q : ℕ) → partitions_of s ≤ q → rank s q ≡ size s
 rank_past s q le = omega (arith, rank_is s q, size_is s, how_many-stops (partitions_of s) q (is_in s) (past s) le)
 
@@ -407,3 +408,50 @@ rank_in s q h = omega (arith, rank_more s q, one_of (is_in s q) h)
 
 pub rank_out : (s : PartitionSet) (q : ℕ) → is_in s q ≡ false → rank s (q + 1) ≡ rank s q
 rank_out s q h = omega (arith, rank_more s q, ap one h)
+
+-- ---- what a test of two memberships tells
+pub union_told : (s t u : PartitionSet) → partitions_of s ≡ partitions_of t → partitions_of u ≡ partitions_of s → ((q : ℕ) → q < partitions_of s → is_in u q ≡ (is_in s q || is_in t q)) → u ≡ union s t
+union_told s t u len same told = same_set u (union s t) (same ∙ sym (partitions_union s t)) (λ q lt. told q (omega (arith, lt, same)) ∙ sym (in_union s t q len))
+
+pub minus_told : (s t u : PartitionSet) → partitions_of u ≡ partitions_of s → ((q : ℕ) → q < partitions_of s → is_in u q ≡ (is_in s q && not (is_in t q))) → u ≡ minus s t
+minus_told s t u same told = same_set u (minus s t) (same ∙ sym (partitions_minus s t)) (λ q lt. told q (omega (arith, lt, same)) ∙ sym (in_minus s t q))
+
+any_below-at : (n : ℕ) (f : ℕ → Bool) (q : ℕ) → q < n → f q ≡ true → any_below n f ≡ true
+any_below-at n f q lt h = true_is (any_below n f) true (λ no e. let none = any_below-none n f no q lt in cc (none, h)) refl
+
+pub any_told : (f : Bool → Bool → Bool) (s t : PartitionSet) (b : Bool) (T F : Type 0) → MatchBool b T F
+    → (T → (q : ℕ) × (q < partitions_of s) × (true ≡ f (is_in s q) (is_in t q)))
+    → (F → (q : ℕ) → q < partitions_of s → false ≡ f (is_in s q) (is_in t q))
+    → b ≡ any_below (partitions_of s) (λ q. f (is_in s q) (is_in t q))
+any_told f s t true T F told at_one at_none = let at = at_one told in sym (any_below-at (partitions_of s) (λ q. f (is_in s q) (is_in t q)) at.0 at.1 (sym at.2))
+any_told f s t false T F told at_one at_none = sym (any_below-of_none (partitions_of s) (λ q. f (is_in s q) (is_in t q)) (λ q lt. sym (at_none told q lt)))
+
+pub meets_told : (s t : PartitionSet) (b : Bool) → b ≡ any_below (partitions_of s) (λ q. is_in s q && is_in t q) → b ≡ meets s t
+unfolding meets
+meets_told s t b e = e
+
+pub within_told : (s t : PartitionSet) (b : Bool) → b ≡ any_below (partitions_of s) (λ q. is_in s q && not (is_in t q)) → not b ≡ is_within s t
+unfolding is_within
+within_told s t b e = ap not e
+
+-- whether two memberships differ
+abbrev pub differ : Bool → Bool → Bool
+differ true y = not y
+differ false y = y
+
+differ_not : (x y : Bool) → differ x y ≡ false → x ≡ y
+differ_not true true e = refl
+differ_not true false e = e
+differ_not false y e = sym e
+
+differ_self : (x : Bool) → differ x x ≡ false
+differ_self true = refl
+differ_self false = refl
+
+pub same_told : (s t : PartitionSet) (b : Bool) → partitions_of s ≡ partitions_of t → b ≡ any_below (partitions_of s) (λ q. differ (is_in s q) (is_in t q)) → not b ≡ is_same s t
+same_told s t true len e = false_is (is_same s t) (λ h. let f : ℕ → Bool = λ q. differ (is_in s q) (is_in t q) in let none : any_below (partitions_of s) f ≡ false = any_below-of_none (partitions_of s) f (λ q lt. ap (λ u. differ (is_in s q) (is_in u q)) (sym (same_says s t h)) ∙ differ_self (is_in s q)) in cc (e, none))
+  where
+    false_is : (x : Bool) → (x ≡ true → ⊥) → false ≡ x
+    false_is true h = absurd (h refl)
+    false_is false h = refl
+same_told s t false len e = same_all s t (partitions_of s) len (omega arith) (λ q lt. differ_not (is_in s q) (is_in t q) (any_below-none (partitions_of s) (λ k. differ (is_in s k) (is_in t k)) (sym e) q lt))

@@ -1,4 +1,3 @@
-pub mod ElementsLeft
 pub mod PartitionSet
+pub mod Private
 pub mod SetRows
-pub mod View

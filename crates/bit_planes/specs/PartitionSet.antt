@@ -1,11 +1,14 @@
--- Sets of partitions, which are numbers below a number P of partitions.
-use Rattle.std.specs.Prelude.{ℕ, zero, suc, ◌+◌, Bool, true, false, ◌&&◌, ◌||◌, not, ◌==◌, nat_lt, List, [], ◌∷◌, ◌++◌, length, if◌then◌else◌, slice_index_or}
+-- Sets of partitions, which are numbers below how many partitions there are.
+use Rattle.std.specs.Prelude.{ℕ, zero, suc, ◌+◌, Bool, true, false, ◌&&◌, ◌||◌, not, ◌==◌, nat_lt, List, length, slice_index_or}
+use Rattle.bit_planes.specs.Private.Lists.{flags_where, list_where}
 
--- What stands behind a set: for each number below its P whether it is in the set. Of these words only `partitions`, `is_in` and `set_where` look behind it: all others, and all contracts, go by them
+-- What stands behind a set: for each number below its `partitions_of` whether it is in the set. Of
+-- these words only `partitions_of`, `is_in` and `set_where` look behind it: all others, and all
+-- contracts, go by them
 pub record PartitionSet : Type 0 where
   pub flags : List Bool
 
--- the P of a set: its members are below it
+-- how many partitions there are: the elements are below it
 unfoldable pub partitions_of : PartitionSet → ℕ
 partitions_of s = length s.flags
 
@@ -13,11 +16,7 @@ partitions_of s = length s.flags
 unfoldable pub is_in : PartitionSet → ℕ → Bool
 is_in s q = slice_index_or s.flags q false
 
-abbrev pub flags_where : ℕ → (ℕ → Bool) → List Bool
-flags_where zero f = []
-flags_where (suc partitions) f = f 0 ∷ flags_where partitions (λ q. f (suc q))
-
--- the numbers below p of which f holds
+-- the numbers below `partitions` of which f holds
 unfoldable pub set_where : ℕ → (ℕ → Bool) → PartitionSet
 set_where partitions f = record { flags = flags_where partitions f }
 
@@ -36,20 +35,15 @@ abbrev pub any_below : ℕ → (ℕ → Bool) → Bool
 any_below zero f = false
 any_below (suc n) f = any_below n f || f n
 
--- the numbers below n of which f holds, in rising order
-abbrev pub list_where : ℕ → (ℕ → Bool) → List ℕ
-list_where zero f = []
-list_where (suc n) f = list_where n f ++ (if f n then n ∷ [] else [])
-
--- how many members are below q
+-- how many elements are below q
 unfoldable pub rank : PartitionSet → ℕ → ℕ
 rank s q = how_many q (is_in s)
 
--- how many members there are
+-- how many elements there are
 unfoldable pub size : PartitionSet → ℕ
 size s = rank s (partitions_of s)
 
--- the members, in rising order
+-- the elements, in rising order
 unfoldable pub elements : PartitionSet → List ℕ
 elements s = list_where (partitions_of s) (is_in s)
 
@@ -57,7 +51,7 @@ elements s = list_where (partitions_of s) (is_in s)
 unfoldable pub empty_set : ℕ → PartitionSet
 empty_set partitions = set_where partitions (λ q. false)
 
--- every number below p
+-- every number below `partitions`
 unfoldable pub full_set : ℕ → PartitionSet
 full_set partitions = set_where partitions (λ q. true)
 
@@ -77,7 +71,7 @@ union s t = set_where (partitions_of s) (λ q. is_in s q || is_in t q)
 unfoldable pub minus : PartitionSet → PartitionSet → PartitionSet
 minus s t = set_where (partitions_of s) (λ q. is_in s q && not (is_in t q))
 
--- the n lowest members, or all
+-- the n lowest elements, or all
 unfoldable pub lowest : ℕ → PartitionSet → PartitionSet
 lowest n s = set_where (partitions_of s) (λ q. is_in s q && nat_lt (rank s q) n)
 
@@ -85,10 +79,10 @@ lowest n s = set_where (partitions_of s) (λ q. is_in s q && nat_lt (rank s q) n
 unfoldable pub meets : PartitionSet → PartitionSet → Bool
 meets s t = any_below (partitions_of s) (λ q. is_in s q && is_in t q)
 
--- whether each member of the one is in the other
+-- whether each element of the one is in the other
 unfoldable pub is_within : PartitionSet → PartitionSet → Bool
 is_within s t = not (any_below (partitions_of s) (λ q. is_in s q && not (is_in t q)))
 
--- whether they have the same P and the same members
+-- whether they have as many partitions and the same elements
 unfoldable pub is_same : PartitionSet → PartitionSet → Bool
 is_same s t = (partitions_of s == partitions_of t) && (is_within s t && is_within t s)

@@ -1,8 +1,9 @@
 -- A set of partitions for each of some members.
 use Rattle.std.specs.Prelude.{◌≡◌, ℕ, ◌<◌, ◌≤◌, ◌==◌, nat_lt, List, [], ◌∷◌, Option, Some, None, length, map, if◌then◌else◌, slice_index_or}
+use Rattle.lane_words.specs.declared.limits.TheConstants.{MOST_PARTITIONS}
 use Rattle.bit_planes.specs.PartitionSet.{PartitionSet, partitions_of, empty_set}
 
--- sets of partitions below one P, by the numbers of their members, which rise
+-- sets of as many partitions, by the numbers of their members, which rise
 pub record SetRows : Type 0 where
   pub partitions : ℕ
   pub rows : List (ℕ × PartitionSet)
@@ -46,11 +47,15 @@ set_of r m = set_or_empty r.partitions (row_of r m)
 abbrev pub sets_of : SetRows → List ℕ → List PartitionSet
 sets_of r ms = map (set_of r) ms
 
+-- each member has the same row in both, or in neither
+abbrev pub HaveSameRows : SetRows → SetRows → Type 0
+HaveSameRows r s = (m : ℕ) → row_of r m ≡ row_of s m
+
 -- numbers that rise
 abbrev pub IsRising : List ℕ → Type 0
 IsRising ms = (i j : ℕ) → i < j → j < length ms → slice_index_or ms i 0 < slice_index_or ms j 0
 
--- each set is over the same P
+-- each set is of this many partitions
 abbrev pub AreOver : ℕ → List (ℕ × PartitionSet) → Type 0
 AreOver partitions [] = Unit {0}
 AreOver partitions (row ∷ rows) = (partitions_of row.1 ≡ partitions) × AreOver partitions rows
@@ -58,21 +63,6 @@ AreOver partitions (row ∷ rows) = (partitions_of row.1 ≡ partitions) × AreO
 -- what rows keep
 pub record IsValidRows (r : SetRows) : Type 0 where
   pub some : 1 ≤ r.partitions
-  pub few : r.partitions ≤ 4096
+  pub few : r.partitions ≤ MOST_PARTITIONS
   pub rising : IsRising (members r)
   pub over : AreOver r.partitions r.rows
-
--- the number of the member at a place
-abbrev pub member_at : List (ℕ × PartitionSet) → ℕ → ℕ
-member_at rows i = slice_index_or (map (λ row. row.0) rows) i 0
-
--- a member's row stands at this place
-pub record IsIndexOf (rows : List (ℕ × PartitionSet)) (m i : ℕ) : Type 0 where
-  pub within : i < length rows
-  pub there : member_at rows i ≡ m
-
--- a member has no row, and this is where one would go
-pub record IsGapFor (rows : List (ℕ × PartitionSet)) (m i : ℕ) : Type 0 where
-  pub within : i ≤ length rows
-  pub before : (j : ℕ) → j < i → member_at rows j < m
-  pub after : (j : ℕ) → i ≤ j → j < length rows → m < member_at rows j

@@ -1,19 +1,21 @@
-//! The members of a set in rising order.
+//! The elements of a set in rising order.
 
 ghost use Rattle.std.specs.Prelude.{◌≡◌, ◌≤◌, length};
 ghost use Rattle.std.specs.Iterator.{YieldsFirst, item_count};
 ghost use Rattle.bit_planes.specs.PartitionSet.{elements};
 
 use crate::plane::Plane;
+use lane_words::MOST_PARTITIONS;
 use std::marker::Model;
 
-/// The members of a set that are left, in rising order.
+/// The elements of a set that are left, in rising order.
 #[derive(Drop)]
 pub struct Elements<'a> {
+    /// The set.
     plane: &'a Plane,
-    // The members below this have been given.
+    /// The elements below this have been given.
     from: u32,
-    // P.
+    /// How many partitions there are.
     end: u32,
 }
 
@@ -22,7 +24,7 @@ impl<'a> Model for Elements<'a> {
 
     ghost Value = { List ℕ };
 
-    ghost use Rattle.bit_planes.specs.ElementsLeft.{elements_left, IsValidElements};
+    ghost use Rattle.bit_planes.specs.Private.ElementsLeft.{elements_left, IsValidElements};
 
     ghost view = { elements_left };
 
@@ -30,10 +32,10 @@ impl<'a> Model for Elements<'a> {
 }
 
 impl<'a> Elements<'a> {
-    /// All members of a set.
+    /// All elements of a set.
     pub(crate) fn new(plane: &'a Plane) -> Elements<'a>
         ensures value { result ≡ elements plane.now }
-        ensures few { length result ≤ 4096 }
+        ensures few { length result ≤ MOST_PARTITIONS }
     {
         Elements {
             plane,

@@ -1,26 +1,30 @@
 //! A set of partitions.
 
-ghost use Rattle.std.specs.Prelude.{◌≡◌, ◌<◌, ◌≤◌, ◌==◌, ◌&&◌, ◌||◌, ◌↔◌, ℕ, false, true, not, nat_lt, min, length, IsTrue};
+ghost use Rattle.std.specs.Prelude.{◌≡◌, ◌<◌, ◌≤◌, ◌==◌, ◌&&◌, ◌||◌, ◌↔◌, ℕ, false, true, not, nat_lt, min, length, IsTrue, All};
+ghost use Rattle.std.specs.List.{list_any};
+ghost use Rattle.bit_planes.specs.Private.Tests.{IsCombined, TellsSomePass};
 ghost use Rattle.bit_planes.specs.PartitionSet.{partitions_of, is_in, rank, size, elements, empty_set, full_set, with_one, without_one, union, minus, lowest, meets, is_within, is_same};
 
 use crate::elements::Elements;
+use lane_words::MOST_PARTITIONS;
 use std::marker::Model;
 
-/// The most partitions.
-const MOST: usize = 4096;
+/// The most partitions, as a length.
+const MOST: usize = MOST_PARTITIONS as usize;
 
-/// A set of partitions, which are the numbers below its P, a number from 1 to 4096. It stands in place: no call on it
-/// takes memory.
+/// A set of partitions, of which there are 1 to 4096. It stands in place: no call on it takes
+/// memory.
 #[derive(Drop)]
 pub struct Plane {
+    /// How many partitions there are.
     partitions: u32,
-    // Whether each number is in the set: false from P on.
+    /// Whether each number is in the set: false from `partitions` on.
     flags: [bool; MOST],
 }
 
 impl Model for Plane {
     ghost use Rattle.bit_planes.specs.PartitionSet.{PartitionSet};
-    ghost use Rattle.bit_planes.specs.View.{plane_view, IsValidPlane};
+    ghost use Rattle.bit_planes.specs.Private.View.{plane_view, IsValidPlane};
 
     ghost Value = { PartitionSet };
 
@@ -30,9 +34,9 @@ impl Model for Plane {
 }
 
 impl Plane {
-    /// The empty set of partitions below `p`, 1 to 4096.
+    /// The empty set of this many partitions, 1 to 4096.
     pub fn new(partitions: u32) -> Plane
-        requires { (1 ≤ partitions) × (partitions ≤ 4096) }
+        requires { (1 ≤ partitions) × (partitions ≤ MOST_PARTITIONS) }
         ensures value { result ≡ empty_set partitions }
         ensures elements { (q : ℕ) → is_in result q ≡ false }
         ensures partitions { partitions_of result ≡ partitions }
@@ -43,9 +47,9 @@ impl Plane {
         }
     }
 
-    /// The set of all partitions below `p`, 1 to 4096.
+    /// The set of all of this many partitions, 1 to 4096.
     pub fn full(partitions: u32) -> Plane
-        requires { (1 ≤ partitions) × (partitions ≤ 4096) }
+        requires { (1 ≤ partitions) × (partitions ≤ MOST_PARTITIONS) }
         ensures value { result ≡ full_set partitions }
         ensures elements { (q : ℕ) → is_in result q ≡ nat_lt q partitions }
         ensures partitions { partitions_of result ≡ partitions }
@@ -54,10 +58,22 @@ impl Plane {
         for q in 0..partitions as usize {
             flags[q] = true;
         }
-        Plane {
-            partitions,
-            flags,
+        Plane { partitions, flags }
+    }
+
+    /// The set of these of this many partitions, 1 to 4096.
+    pub fn of(partitions: u32, elements: &[u32]) -> Plane
+        requires some { (1 ≤ partitions) × (partitions ≤ MOST_PARTITIONS) }
+        requires below { All (λ q. q < partitions) elements.now }
+        ensures elements { (q : ℕ)
+            → is_in result q ≡ list_any (λ element. q == element) elements.now }
+        ensures partitions { partitions_of result ≡ partitions }
+    {
+        let mut set = Plane::new(partitions);
+        for element in elements {
+            set.insert(*element);
         }
+        set
     }
 
     /// An equal set.
@@ -70,15 +86,15 @@ impl Plane {
         }
     }
 
-    /// P: the members are below it.
+    /// How many partitions there are: the elements are below it.
     pub fn partitions(&self) -> u32
         ensures value { result ≡ partitions_of self.now }
-        ensures bounds { (1 ≤ result) × (result ≤ 4096) }
+        ensures bounds { (1 ≤ result) × (result ≤ MOST_PARTITIONS) }
     {
         self.partitions
     }
 
-    /// Puts a number below P into the set.
+    /// Puts a partition into the set.
     pub fn insert(&mut self, q: u32)
         requires { q < partitions_of self.old }
         ensures value { self.new ≡ with_one self.old q }
@@ -88,7 +104,8 @@ impl Plane {
         self.flags[q as usize] = true;
     }
 
-    /// Takes a number out of the set. One that is not in it, as each at P or above, leaves it as it was.
+    /// Takes a number out of the set. One that is not in it, as each that is no partition, leaves
+    /// it as it was.
     pub fn remove(&mut self, q: u32)
         ensures value { self.new ≡ without_one self.old q }
         ensures elements { (n : ℕ) → is_in self.new n ≡ (is_in self.old n && not (n == q)) }
@@ -99,7 +116,7 @@ impl Plane {
         }
     }
 
-    /// Whether a number is in the set, which none at P or above is.
+    /// Whether a number is in the set, which none is that is no partition.
     pub fn contains(&self, q: u32) -> bool
         ensures value { result ≡ is_in self.now q }
         ensures below { IsTrue result → q < partitions_of self.now }
@@ -107,44 +124,32 @@ impl Plane {
         q < self.partitions && self.flags[q as usize]
     }
 
-    /// What is in this set or in the other, which has the same P.
+    /// What is in this set or in the other, which is of as many partitions.
     pub fn union(&self, other: &Plane) -> Plane
         requires { partitions_of self.now ≡ partitions_of other.now }
         ensures value { result ≡ union self.now other.now }
         ensures elements { (q : ℕ) → is_in result q ≡ (is_in self.now q || is_in other.now q) }
         ensures partitions { partitions_of result ≡ partitions_of self.now }
     {
-        let mut flags = self.flags;
-        for q in 0..self.partitions as usize {
-            flags[q] |= other.flags[q];
-        }
-        Plane {
-            partitions: self.partitions,
-            flags,
-        }
+        self.combined(other, |mine, theirs| mine || theirs)
     }
 
-    /// What is in this set and not in the other, which has the same P.
+    /// What is in this set and not in the other, which is of as many partitions.
     pub fn minus(&self, other: &Plane) -> Plane
         requires { partitions_of self.now ≡ partitions_of other.now }
         ensures value { result ≡ minus self.now other.now }
-        ensures elements { (q : ℕ) → is_in result q ≡ (is_in self.now q && not (is_in other.now q)) }
+        ensures elements { (q : ℕ)
+            → is_in result q ≡ (is_in self.now q && not (is_in other.now q)) }
         ensures partitions { partitions_of result ≡ partitions_of self.now }
     {
-        let mut flags = self.flags;
-        for q in 0..self.partitions as usize {
-            flags[q] &= !other.flags[q];
-        }
-        Plane {
-            partitions: self.partitions,
-            flags,
-        }
+        self.combined(other, |mine, theirs| mine && !theirs)
     }
 
-    /// The `n` lowest members, or all where there are no more.
+    /// The `n` lowest elements, or all where there are no more.
     pub fn lowest(&self, n: u32) -> Plane
         ensures value { result ≡ lowest n self.now }
-        ensures elements { (q : ℕ) → is_in result q ≡ (is_in self.now q && nat_lt (rank self.now q) n) }
+        ensures elements { (q : ℕ)
+            → is_in result q ≡ (is_in self.now q && nat_lt (rank self.now q) n) }
         ensures partitions { partitions_of result ≡ partitions_of self.now }
         ensures size { size result ≡ min n (size self.now) }
     {
@@ -162,50 +167,36 @@ impl Plane {
         }
     }
 
-    /// Whether some number is in both this set and the other, which has the same P.
+    /// Whether some number is in both this set and the other, which is of as many partitions.
     pub fn meets(&self, other: &Plane) -> bool
         requires { partitions_of self.now ≡ partitions_of other.now }
         ensures value { result ≡ meets self.now other.now }
-        ensures apart { (result ≡ false) ↔ ((q : ℕ) → (is_in self.now q && is_in other.now q) ≡ false) }
+        ensures elements { (result ≡ false)
+            ↔ ((q : ℕ) → (is_in self.now q && is_in other.now q) ≡ false) }
     {
-        for q in 0..self.partitions as usize {
-            if self.flags[q] && other.flags[q] {
-                return true;
-            }
-        }
-        false
+        self.some_pass(other, |mine, theirs| mine && theirs)
     }
 
-    /// Whether each member is in the other set, which has the same P.
+    /// Whether each element is in the other set, which is of as many partitions.
     pub fn within(&self, other: &Plane) -> bool
         requires { partitions_of self.now ≡ partitions_of other.now }
         ensures value { result ≡ is_within self.now other.now }
-        ensures elements { IsTrue result ↔ ((q : ℕ) → is_in self.now q ≡ true → is_in other.now q ≡ true) }
+        ensures elements { IsTrue result
+            ↔ ((q : ℕ) → is_in self.now q ≡ true → is_in other.now q ≡ true) }
     {
-        let end = self.partitions as usize;
-        for q in 0..end {
-            if self.flags[q] && !other.flags[q] {
-                return false;
-            }
-        }
-        true
+        !self.some_pass(other, |mine, theirs| mine && !theirs)
     }
 
-    /// Whether the other, which has the same P, is the same set.
+    /// Whether the other, which is of as many partitions, is the same set.
     pub fn same(&self, other: &Plane) -> bool
         requires { partitions_of self.now ≡ partitions_of other.now }
         ensures value { result ≡ is_same self.now other.now }
         ensures equal { IsTrue result ↔ (self.now ≡ other.now) }
     {
-        for q in 0..self.partitions as usize {
-            if self.flags[q] != other.flags[q] {
-                return false;
-            }
-        }
-        true
+        !self.some_pass(other, |mine, theirs| mine != theirs)
     }
 
-    /// How many members there are.
+    /// How many elements there are.
     pub fn count(&self) -> u32
         ensures value { result ≡ size self.now }
         ensures most { result ≤ partitions_of self.now }
@@ -219,11 +210,42 @@ impl Plane {
         count
     }
 
-    /// The members, in rising order.
+    /// The elements, in rising order.
     pub fn iter(&self) -> Elements<'_>
         ensures value { result ≡ elements self.now }
-        ensures few { length result ≤ 4096 }
+        ensures few { length result ≤ MOST_PARTITIONS }
     {
         Elements::new(self)
+    }
+
+    /// The partitions of which a test holds: whether one is in this set, and whether in the other.
+    fn combined<F: Fn(bool, bool) -> bool>(&self, other: &Plane, test: F) -> Plane
+        requires callable { F.IsAlwaysCallable test }
+        requires partitions { partitions_of self.now ≡ partitions_of other.now }
+        ensures elements { IsCombined (F.post test) self.now other.now result }
+        ensures partitions { partitions_of result ≡ partitions_of self.now }
+    {
+        let mut flags = self.flags;
+        for q in 0..self.partitions as usize {
+            flags[q] = test(flags[q], other.flags[q]);
+        }
+        Plane {
+            partitions: self.partitions,
+            flags,
+        }
+    }
+
+    /// Whether a test holds of some partition: whether it is in this set, and whether in the other.
+    fn some_pass<F: Fn(bool, bool) -> bool>(&self, other: &Plane, test: F) -> bool
+        requires callable { F.IsAlwaysCallable test }
+        requires partitions { partitions_of self.now ≡ partitions_of other.now }
+        ensures { TellsSomePass (F.post test) self.now other.now result }
+    {
+        for q in 0..self.partitions as usize {
+            if test(self.flags[q], other.flags[q]) {
+                return true;
+            }
+        }
+        false
     }
 }

@@ -1,21 +1,23 @@
 //! A set for each of some members.
 
-ghost use Rattle.std.specs.Prelude.{◌≡◌, ◌≢◌, ◌<◌, ◌≤◌, ℕ, [], None, Some, MatchOption, IfSome, IfOk, IfErr, OnOk, OnErr};
-ghost use Rattle.std.specs.Iterator.{YieldsFirst, item_count};
+ghost use Rattle.std.specs.Prelude.{◌≡◌, ◌≢◌, ◌<◌, ◌≤◌, ℕ, [], length, None, Some, MatchOption, IfSome, IfOk, IfErr, OnOk, OnErr};
+ghost use Rattle.std.specs.Iterator.{YieldsFirst, YieldsFirstBy, item_count};
 ghost use Rattle.bit_planes.specs.PartitionSet.{partitions_of};
-ghost use Rattle.bit_planes.specs.SetRows.{SetRows, IsValidRows, IsIndexOf, IsGapFor, no_rows, members, row_of, with_row};
+ghost use Rattle.bit_planes.specs.Private.Indices.{IsGapFor, IsIndexOf};
+ghost use Rattle.bit_planes.specs.SetRows.{SetRows, IsValidRows, no_rows, members, row_of, with_row};
 
 use crate::plane::Plane;
-use lane_words::Memory;
+use lane_words::{MOST_PARTITIONS, Memory};
 use std::alloc::Global;
 use std::marker::Model;
 
-/// A set of partitions below one P, 1 to 4096, for each of some members: a map from member numbers. It has its P also
-/// where it has no row.
+/// A set of partitions for each of some members: a map from member numbers. All sets are of as many
+/// partitions, 1 to 4096, which it tells also where it has no row.
 #[derive(Drop)]
 pub struct PlaneRows {
+    /// How many partitions there are.
     partitions: u32,
-    // By member number, rising.
+    /// The sets by member, rising.
     rows: Vec<(u32, Plane)>,
 }
 
@@ -30,9 +32,9 @@ impl Model for PlaneRows {
 }
 
 impl PlaneRows {
-    /// No rows yet, of sets below `p`, 1 to 4096. It takes no memory.
+    /// No rows yet, of sets of this many partitions, 1 to 4096. It takes no memory.
     pub fn new(alloc: Global, partitions: u32) -> PlaneRows
-        requires { (1 ≤ partitions) × (partitions ≤ 4096) }
+        requires { (1 ≤ partitions) × (partitions ≤ MOST_PARTITIONS) }
         ensures value { result ≡ no_rows partitions }
         ensures valid { IsValidRows result }
     {
@@ -42,7 +44,7 @@ impl PlaneRows {
         }
     }
 
-    /// P: the members of each set are below it.
+    /// How many partitions there are: the elements of each set are below it.
     pub fn partitions(&self) -> u32
         ensures value { result ≡ self.now.partitions }
         ensures valid { IsValidRows self.now }
@@ -50,13 +52,14 @@ impl PlaneRows {
         self.partitions
     }
 
-    /// Gives a member this set, below the same P, in place of the one that it may have, and leaves every other row.
-    /// Refused for want of memory alone, with everything as it was.
+    /// Gives a member this set, of as many partitions, in place of the one that it may have, and
+    /// leaves every other row. Refused for want of memory alone, with everything as it was.
     pub fn put(&mut self, member: u32, plane: Plane) -> Result<(), Memory>
         requires { partitions_of plane ≡ self.old.partitions }
         ensures value { OnOk result (self.new ≡ with_row self.old member plane) }
         ensures this { OnOk result (row_of self.new member ≡ Some plane) }
-        ensures others { OnOk result ((m : ℕ) → m ≢ member → row_of self.new m ≡ row_of self.old m) }
+        ensures others { OnOk result ((m : ℕ)
+            → m ≢ member → row_of self.new m ≡ row_of self.old m) }
         ensures err { OnErr result (self.new ≡ self.old) }
         ensures partitions { self.new.partitions ≡ self.old.partitions }
         ensures valid { IsValidRows self.new }
@@ -72,8 +75,11 @@ impl PlaneRows {
 
     /// The set of a member, or nothing where it has no row. It takes no memory.
     pub fn get(&self, member: u32) -> Option<&Plane>
-        ensures value { MatchOption result (row_of self.now member ≡ None) (λ plane. row_of self.now member ≡ Some plane.now) }
-        ensures partitions { IfSome result (λ plane. partitions_of plane.now ≡ self.now.partitions) }
+        ensures value { MatchOption result
+            (row_of self.now member ≡ None)
+            (λ plane. row_of self.now member ≡ Some plane.now) }
+        ensures partitions { IfSome result (λ plane.
+            partitions_of plane.now ≡ self.now.partitions) }
         ensures valid { IsValidRows self.now }
     {
         match self.search(member) {
@@ -89,15 +95,22 @@ impl PlaneRows {
         Members { rows: &self.rows }
     }
 
-    /// The rows, in rising order of their members. It takes no memory.
-    pub fn rows(&self) -> &[(u32, Plane)]
-        ensures value { result.now ≡ self.now.rows }
+    /// The members with their sets, in rising order of the members. It takes no memory.
+    pub fn iter(&self) -> Rows<'_>
+        ensures value { result ≡ self.now.rows }
         ensures valid { IsValidRows self.now }
     {
-        &self.rows
+        Rows { rows: &self.rows }
     }
 
-    // The place of a member's row, or the place where it would go.
+    /// How many members have a row.
+    pub fn len(&self) -> usize
+        ensures { result ≡ length self.now.rows }
+    {
+        self.rows.len()
+    }
+
+    /// The index of a member's row, or the index where it would go.
     fn search(&self, member: u32) -> Result<usize, usize>
         ensures found { IfOk result (IsIndexOf self.now.rows member) }
         ensures absent { IfErr result (IsGapFor self.now.rows member) }
@@ -109,6 +122,7 @@ impl PlaneRows {
 /// The numbers of the members that are left, in rising order.
 #[derive(Drop)]
 pub struct Members<'a> {
+    /// The rows whose members have not been given.
     rows: &'a [(u32, Plane)],
 }
 
@@ -118,6 +132,36 @@ impl<'a> Model for Members<'a> {
     ghost Value = { List ℕ };
 
     ghost view = { λ a. map (λ row. row.0) a.rows.now };
+}
+
+/// The rows that are left, in rising order of their members.
+#[derive(Drop)]
+pub struct Rows<'a> {
+    /// The rows that have not been given.
+    rows: &'a [(u32, Plane)],
+}
+
+impl<'a> Model for Rows<'a> {
+    ghost use Rattle.std.specs.Prelude.{List, ℕ};
+    ghost use Rattle.bit_planes.specs.PartitionSet.{PartitionSet};
+
+    ghost Value = { List (ℕ × PartitionSet) };
+
+    ghost view = { λ a. a.rows.now };
+}
+
+impl<'a> Iterator for Rows<'a> {
+    type Item = (u32, &'a Plane);
+
+    ghost next_gives = { YieldsFirstBy (λ row. (row.0, row.1.now)) (λ s. s) };
+
+    ghost remaining = { item_count (λ s. s) };
+
+    fn next(&mut self) -> Option<(u32, &'a Plane)> {
+        let (first, others) = self.rows.split_first()?;
+        self.rows = others;
+        Some((first.0, &first.1))
+    }
 }
 
 impl<'a> Iterator for Members<'a> {

@@ -1,24 +1,9 @@
-//! Each call once on its happy path, at one partition, few, a number past a multiple of 64, and the most.
-
-ghost use Rattle.std.specs.Prelude.{◌≡◌, ◌≤◌};
-ghost use Rattle.bit_planes.specs.PartitionSet.{partitions_of};
+//! Each call once on its happy path, at one partition, few, a number past a multiple of 64, and the
+//! most.
 
 use super::*;
+use lane_words::{MOST_MEMBERS, MOST_PARTITIONS};
 use std::test::Fail;
-
-// The set of those of the numbers that are below P.
-fn set_of(partitions: u32, elements: &[u32]) -> Plane
-    requires { (1 ≤ partitions) × (partitions ≤ 4096) }
-    ensures { partitions_of result ≡ partitions }
-{
-    let mut set = Plane::new(partitions);
-    for q in elements {
-        if *q < partitions {
-            set.insert(*q);
-        }
-    }
-    set
-}
 
 #[test]
 fn holds_its_edges(rt: HostRuntime) -> Result<(), Fail> {
@@ -27,8 +12,14 @@ fn holds_its_edges(rt: HostRuntime) -> Result<(), Fail> {
         assert_eq!(rt; set.count(), 0);
         set.insert(0);
         set.insert(partitions - 1);
-        assert!(rt; set.contains(0) && set.contains(partitions - 1), "{partitions}");
-        assert!(rt; !set.contains(partitions) && !set.contains(u32::MAX), "{partitions}");
+        assert!(rt;
+            set.contains(0) && set.contains(partitions - 1),
+            "{partitions}"
+        );
+        assert!(rt;
+            !set.contains(partitions) && !set.contains(u32::MAX),
+            "{partitions}"
+        );
         assert_eq!(rt; set.count(), if partitions == 1 { 1 } else { 2 });
         set.remove(partitions);
         set.remove(partitions - 1);
@@ -42,9 +33,9 @@ fn holds_its_edges(rt: HostRuntime) -> Result<(), Fail> {
 
 #[test]
 fn tells_sets_past_a_word(rt: HostRuntime) -> Result<(), Fail> {
-    let last = set_of(513, &[512]);
-    let first = set_of(513, &[0]);
-    let both = set_of(513, &[512, 0]);
+    let last = Plane::of(513, &[512]);
+    let first = Plane::of(513, &[0]);
+    let both = Plane::of(513, &[512, 0]);
     assert!(rt; last.meets(&both));
     assert!(rt; !first.meets(&last));
     assert!(rt; first.within(&both) && !both.within(&first));
@@ -66,11 +57,12 @@ fn tells_sets_past_a_word(rt: HostRuntime) -> Result<(), Fail> {
 fn keeps_a_row_for_each_member(rt: HostRuntime) -> Result<(), Fail> {
     let mut rows = PlaneRows::new(rt.alloc(), 4);
     assert!(rt; rows.get(7).is_none());
-    for (member, number) in [(7, 0), (2, 1), (4_000_000_000, 2), (7, 3)] {
-        rows.put(member, set_of(4, &[number]))?;
-    }
+    rows.put(7, Plane::of(4, &[0]))?;
+    rows.put(2, Plane::of(4, &[1]))?;
+    rows.put(4_000_000_000, Plane::of(4, &[2]))?;
+    rows.put(7, Plane::of(4, &[3]))?;
     assert_eq!(rt; rows.partitions(), 4);
-    assert_eq!(rt; rows.rows().len(), 3);
+    assert_eq!(rt; rows.len(), 3);
     let mut members = rows.members();
     assert_eq!(rt; (members.next(), members.next()), (Some(2), Some(7)));
     assert_eq!(rt;
@@ -83,5 +75,33 @@ fn keeps_a_row_for_each_member(rt: HostRuntime) -> Result<(), Fail> {
     );
     assert!(rt; rows.get(2).is_some_and(|set| set.contains(1)));
     assert!(rt; rows.get(3).is_none());
+    let mut walk = rows.iter();
+    assert!(rt;
+        walk.next()
+            .is_some_and(|(member, set)| member == 2 && set.contains(1))
+    );
+    assert!(rt;
+        walk.next()
+            .is_some_and(|(member, set)| member == 7 && set.contains(3))
+    );
+    assert_eq!(rt; walk.count(), 1);
+    Ok(())
+}
+
+#[test]
+fn keeps_the_most_rows(rt: HostRuntime) -> Result<(), Fail> {
+    let mut rows = PlaneRows::new(rt.alloc(), MOST_PARTITIONS);
+    for i in 0..MOST_MEMBERS as u32 {
+        // Neither in rising order nor in falling order.
+        let member = i * 5 % MOST_MEMBERS as u32;
+        let mut set = Plane::new(MOST_PARTITIONS);
+        set.insert(member);
+        rows.put(member, set)?;
+    }
+    assert_eq!(rt; rows.len(), MOST_MEMBERS);
+    assert!(rt; rows.members().eq(0..MOST_MEMBERS as u32));
+    for (member, set) in rows.iter() {
+        assert!(rt; set.iter().eq([member]), "{member}");
+    }
     Ok(())
 }

@@ -1,39 +1,56 @@
 -- Rows that agree, and rows that do not.
-use Rattle.std.proofs.Common.{ℕ, suc, ◌≡◌, ◌<◌, ◌∙◌, Bool, true, false, List, [], ◌∷◌, length, get_or, refl, ap, sym, arith}
+use Rattle.std.proofs.Common.{ℕ, ◌≡◌, ◌<◌, ◌∙◌, Bool, true, false, ◌+◌, length, get_or, Option, Some, None, refl, ap, sym, arith, inl, inr}
+use Rattle.std.proofs.lemmas.Bool.{cases_lt}
 use Rattle.std.proofs.lemmas.List.{get_or_default}
 use Rattle.std.specs.Prelude.{IsTrue, ◌↔◌}
 use Rattle.bit_planes.specs.PartitionSet.{PartitionSet}
-use Rattle.bit_planes.specs.SetRows.{SetRows, IsValidRows, row_of}
+use Rattle.bit_planes.specs.SetRows.{SetRows, HaveSameRows, IsValidRows, row_of}
 use Rattle.bit_planes.proofs.RowLaws.{same_rows}
-use Rattle.coop_rebalance.specs.Grants.{HaveSameRows}
+use Rattle.bit_planes.proofs.Walks.{stands_at}
+use Rattle.coop_rebalance.specs.Private.Final.{HasRowsOf}
 
-abbrev Rows : Type 0
-Rows = List (ℕ × PartitionSet)
+-- a row of the others is not here
+pub tells_lack : (r s : SetRows) (m : ℕ) (row : PartitionSet) → row_of s m ≡ Some row → (row_of r m ≡ Some row → ⊥)
+    → IsTrue false ↔ HasRowsOf r s
+tells_lack r s m row there lacks = (λ no. absurd (cc no), λ has. absurd (lacks (has m row there)))
 
--- what an answer tells of rows
-pub record TellsSame (r s : SetRows) (b : Bool) : Type 0 where
-  pub rows : IsTrue b ↔ HaveSameRows r s
-  pub equal : IsTrue b ↔ (r ≡ s)
+-- each row of the others was found here
+pub tells_all : (r s : SetRows)
+    → ((i : ℕ) (d : ℕ × PartitionSet) → i < length s.rows → row_of r (get_or s.rows i d).0 ≡ Some (get_or s.rows i d).1)
+    → IsTrue true ↔ HasRowsOf r s
+tells_all r s all = (
+  λ yes m row there.
+      let at = stands_at s.rows m row there in
+      let here : ℕ × PartitionSet = get_or s.rows at.0 (m, row) in
+      ap (λ (x : ℕ × PartitionSet). row_of r x.0) (sym at.2) ∙ all at.0 (m, row) at.1 ∙ ap (λ (x : ℕ × PartitionSet). Some x.1) at.2,
+  λ has. refl,
+)
 
-tells : (r s : SetRows) (b : Bool) → IsValidRows r → IsValidRows s → r.partitions ≡ s.partitions → IsTrue b ↔ (r ≡ s) → TellsSame r s b
-tells r s b valid valid' below equal = record {
-  rows = (λ yes m. ap (λ x. row_of x m) (equal.0 yes), λ same. equal.1 (same_rows r s valid valid' below same));
-  equal = equal;
-}
+-- one row more was found
+pub one_more : (r s : SetRows) (k : ℕ) (item : ℕ × PartitionSet) → k < length s.rows → item ≡ get_or s.rows k item → row_of r item.0 ≡ Some item.1
+    → ((i : ℕ) (d : ℕ × PartitionSet) → i < k → row_of r (get_or s.rows i d).0 ≡ Some (get_or s.rows i d).1)
+    → (i : ℕ) (d : ℕ × PartitionSet) → i < k + 1 → row_of r (get_or s.rows i d).0 ≡ Some (get_or s.rows i d).1
+one_more r s k item lt at here before i d less = elim (cases_lt i k) [
+  | inl below ↦ before i d below
+  | inr ge ↦
+      let e : i ≡ k = omega arith in
+      let there : item ≡ get_or s.rows i d = at ∙ get_or_default s.rows k item d lt ∙ ap (λ n. get_or s.rows n d) (sym e) in
+      ap (λ (x : ℕ × PartitionSet). row_of r x.0) (sym there) ∙ here ∙ ap (λ (x : ℕ × PartitionSet). Some x.1) there
+]
 
-pub tells_not : (r s : SetRows) → IsValidRows r → IsValidRows s → r.partitions ≡ s.partitions → (r.rows ≡ s.rows → ⊥) → TellsSame r s false
-tells_not r s valid valid' below differ = tells r s false valid valid' below (λ no. absurd (cc no), λ same. absurd (differ (ap (λ (x : SetRows). x.rows) same)))
+-- where each has the rows of the other, a look-up gives the same in both
+same_found : (a b : Option PartitionSet) → ((s : PartitionSet) → a ≡ Some s → b ≡ Some s) → ((s : PartitionSet) → b ≡ Some s → a ≡ Some s) → a ≡ b
+same_found None None there back = refl
+same_found None (Some s) there back = back s refl
+same_found (Some s) b there back = sym (there s refl)
 
-pub same_items : (xs ys : Rows) → length xs ≡ length ys → ((j : ℕ) (d : ℕ × PartitionSet) → j < length xs → get_or xs j d ≡ get_or ys j d) → xs ≡ ys
-same_items [] [] len same = refl
-same_items [] (y ∷ ys) len same = absurd (omega arith)
-same_items (x ∷ xs) [] len same = absurd (omega arith)
-same_items (x ∷ xs) (y ∷ ys) len same = rw (same 0 x (omega arith)) (ap (λ zs. y ∷ zs) (same_items xs ys (omega arith) (λ j d lt. same (suc j) d (omega arith))))
+same_of : (r s : SetRows) → HasRowsOf r s → HasRowsOf s r → HaveSameRows r s
+same_of r s here there m = same_found (row_of r m) (row_of s m) (there m) (here m)
 
-pub tells_so : (r s : SetRows) → IsValidRows r → IsValidRows s → r.partitions ≡ s.partitions → r.rows ≡ s.rows → TellsSame r s true
-tells_so r s valid valid' below same =
-    tells r s true valid valid' below (λ yes. ap (λ n. record r { partitions = n }) below ∙ ap (λ (rows : Rows). record s { rows = rows }) same, λ same. refl)
-
--- equal rows have equal items at a place
-pub same_at : (xs ys : Rows) (i : ℕ) (x y : ℕ × PartitionSet) → xs ≡ ys → i < length xs → x ≡ get_or xs i x → y ≡ get_or ys i y → x ≡ y
-same_at xs ys i x y same lt at at' = at ∙ get_or_default xs i x y lt ∙ ap (λ (rows : Rows). get_or rows i y) same ∙ sym at'
+-- what the second of two answers tells of rows, where the first was yes
+pub tells_equal : (r s : SetRows) (b : Bool) → IsValidRows r → IsValidRows s → r.partitions ≡ s.partitions
+    → HasRowsOf r s → IsTrue b ↔ HasRowsOf s r → IsTrue b ↔ (r ≡ s)
+tells_equal r s b valid valid' below here there = (
+  λ yes. same_rows r s valid valid' below (same_of r s here (there.0 yes)),
+  λ same. there.1 (λ m row e. sym (ap (λ x. row_of x m) same) ∙ e),
+)

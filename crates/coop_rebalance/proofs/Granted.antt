@@ -1,5 +1,6 @@
 -- What others are granted, by how often each partition is.
-use Rattle.std.proofs.Common.{ℕ, suc, ◌≡◌, ◌≢◌, ◌+◌, ◌<◌, ◌==◌, Bool, true, false, ◌||◌, ◌&&◌, not, List, [], ◌∷◌, ◌++◌, length, map, get_or, Some, None, cond, refl, ap, sym, ◌∙◌, arith}
+use Rattle.std.proofs.Common.{ℕ, suc, ◌≡◌, ◌≢◌, ◌+◌, ◌<◌, ◌==◌, Bool, true, false, ◌||◌, ◌&&◌, not, List, [], ◌∷◌, ◌++◌, length, map, take, get_or, Some, None, cond, refl, ap, sym, subst, ◌∙◌, arith}
+use Rattle.std.proofs.lemmas.List.{take_all}
 use Rattle.std.specs.Prelude.{nat_lt}
 use Rattle.std.proofs.lemmas.Bool.{le-ltb}
 use Rattle.std.proofs.lemmas.Bool.Decides.{nat_tests}
@@ -7,7 +8,7 @@ use Rattle.bit_planes.specs.PartitionSet.{PartitionSet, partitions_of, is_in, on
 use Rattle.bit_planes.specs.SetRows.{SetRows, IsValidRows, IsRising, find_row, set_or_empty}
 use Rattle.bit_planes.proofs.Sets.{in_empty, in_minus, in_union, partitions_empty, partitions_minus, partitions_union}
 use Rattle.bit_planes.proofs.RowLaws.{rising_rest}
-use Rattle.coop_rebalance.specs.Grants.{times_granted, AreGrants}
+use Rattle.coop_rebalance.specs.Private.Grants.{times_granted, AreGrants}
 use Rattle.coop_rebalance.specs.Withheld.{granted_to_other}
 
 abbrev Rows : Type 0
@@ -112,3 +113,7 @@ grants_more p rows row some several below g =
       to_some = λ q. rw (in_union some fresh q some_len, in_minus row.1 some q, g.to_some q, times-last rows row q) (more_some (times_granted rows q) (is_in row.1 q));
       to_several = λ q. rw (in_union several (minus row.1 fresh) q several_len, in_minus row.1 fresh q, in_minus row.1 some q, g.to_several q, g.to_some q, times-last rows row q) (more_several (times_granted rows q) (is_in row.1 q));
     }
+
+-- all rows
+pub grants_all : (r : SetRows) (some several : PartitionSet) (i : ℕ) → i ≡ length r.rows → AreGrants some several (record { partitions = r.partitions; rows = take i r.rows }) → AreGrants some several r
+grants_all r some several i e g = subst (λ (rows : Rows). AreGrants some several (record { partitions = r.partitions; rows = rows })) (take_all i r.rows (omega arith)) g

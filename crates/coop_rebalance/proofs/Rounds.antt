@@ -10,12 +10,12 @@ use Rattle.sticky_assignor.specs.Balanced.{holders, IsBalanced, AreApart, AreBel
 use Rattle.sticky_assignor.specs.Target.{row_at, target}
 use Rattle.sticky_assignor.specs.Assigned.{pair_up, target_rows}
 use Rattle.sticky_assignor.proofs.Rows.{eq_self, not_eq, not_eq_back}
-use Rattle.sticky_assignor.proofs.Laws.{is_balanced}
+use Rattle.sticky_assignor.proofs.TargetLaws.{is_balanced}
 use Rattle.sticky_assignor.proofs.Even.{balanced_apart}
 use Rattle.sticky_assignor.proofs.SecondRound.{Lies, lies_apart, kept_whole, target_over, length_target}
 use Rattle.sticky_assignor.proofs.AssignedLaws.{members_paired, sets_paired, over_paired, sets_over, length_sets, paired, target_paired}
 use Rattle.coop_rebalance.specs.Withheld.{granted_to_other, withheld_row, withheld}
-use Rattle.coop_rebalance.specs.Rounds.{next_rows, RowsWithin, Settles, LieInBalanced, together}
+use Rattle.coop_rebalance.specs.Rounds.{next_rows, RowsWithin, Settles, LiesInTarget, together}
 
 -- ---- what the others are granted
 -- how many of the rows of members other than m have a partition
@@ -251,7 +251,7 @@ rows_paired p ms rows some few len rising over = record {
 }
 
 next_within_paired : (p : ℕ) (ms : List ℕ) (gs : List PartitionSet) → 1 ≤ p → p ≤ 4096 → length gs ≡ length ms → IsRising ms → 0 < length gs → AreBelow p gs → AreApart gs
-    → LieInBalanced (record { partitions = p; rows = pair_up ms gs }) (next_rows (record { partitions = p; rows = pair_up ms gs }))
+    → LiesInTarget (record { partitions = p; rows = pair_up ms gs }) (next_rows (record { partitions = p; rows = pair_up ms gs }))
 next_within_paired p ms gs lo hi len rising some over apart =
     let ts : List PartitionSet = target p gs in
     let ws : List PartitionSet = taken_off (pair_up ms gs) ms ts in
@@ -261,7 +261,7 @@ next_within_paired p ms gs lo hi len rising some over apart =
     let is_target : target_rows g ≡ record { partitions = p; rows = pair_up ms ts } = target_paired p ms gs len rising in
     let mine : members g ≡ ms = members_paired ms gs len in
     let sets : sets_of (record { partitions = p; rows = pair_up ms ts }) ms ≡ ts = sets_paired p ms ts n.target_long rising in
-    let lies : LieInBalanced g w = record {
+    let lies : LiesInTarget g w = record {
       below = refl;
       same_members = members_paired ms ws n.long ∙ sym mine;
       valid = rows_paired p ms ws lo hi n.long rising n.over;
@@ -269,15 +269,15 @@ next_within_paired p ms gs lo hi len rising some over apart =
       within = subst (RowsWithin w) (sym is_target) (within_paired p ms ws ts n.lies);
       balanced = subst (IsBalanced p) (sym (ap (λ r. sets_of r (members g)) is_target ∙ ap (λ ns. sets_of (record { partitions = p; rows = pair_up ms ts }) ns) mine ∙ sets)) n.balanced;
     } in
-    subst (LieInBalanced g) (sym (next_paired p ms gs len rising)) lies
+    subst (LiesInTarget g) (sym (next_paired p ms gs len rising)) lies
 
 -- What is next lies within balanced rows
-pub next_within : (g : SetRows) → IsValidRows g → 0 < length g.rows → AreApart (sets_of g (members g)) → LieInBalanced g (next_rows g)
+pub next_within : (g : SetRows) → IsValidRows g → 0 < length g.rows → AreApart (sets_of g (members g)) → LiesInTarget g (next_rows g)
 next_within g valid some apart =
     let ms : List ℕ = members g in
     let gs : List PartitionSet = sets_of g ms in
     let len : length gs ≡ length ms = length_sets g ms in
-    subst (λ r. LieInBalanced r (next_rows r)) (sym (paired g valid.rising)) (next_within_paired g.partitions ms gs valid.some valid.few len valid.rising (omega (arith, length_members g.rows)) (sets_over g ms valid) apart)
+    subst (λ r. LiesInTarget r (next_rows r)) (sym (paired g valid.rising)) (next_within_paired g.partitions ms gs valid.some valid.few len valid.rising (omega (arith, length_members g.rows)) (sets_over g ms valid) apart)
 
 -- ---- what is granted, with what is given
 abbrev unions : List PartitionSet → List PartitionSet → List PartitionSet

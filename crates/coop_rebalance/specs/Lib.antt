@@ -1,3 +1,3 @@
-pub mod Grants
+pub mod Private
 pub mod Rounds
 pub mod Withheld

@@ -1,9 +1,15 @@
 -- Rounds of a rebalance, by what is granted.
-use Rattle.std.specs.Prelude.{◌≡◌, ℕ, List, IsTrue, map}
+use Rattle.std.specs.Prelude.{◌≡◌, ◌<◌, ℕ, List, IsTrue, length, map}
 use Rattle.bit_planes.specs.PartitionSet.{PartitionSet, union, is_within}
 use Rattle.bit_planes.specs.SetRows.{SetRows, IsValidRows, members, set_of, sets_of}
 pub use Rattle.sticky_assignor.specs.Balanced.{AreApart, IsBalanced}
 pub use Rattle.coop_rebalance.specs.Withheld.{target_rows, next_rows}
+
+-- what members are granted: rows of some members, with no partition in two of them
+pub record AreGranted (granted : SetRows) : Type 0 where
+  pub valid : IsValidRows granted
+  pub some : 0 < length granted.rows
+  pub apart : AreApart (sets_of granted (members granted))
 
 -- each member's row lies within its row of the other
 abbrev pub RowsWithin : SetRows → SetRows → Type 0
@@ -14,8 +20,9 @@ pub record Settles (rows : SetRows) : Type 0 where
   pub keeps : RowsWithin rows (target_rows rows)
   pub all : next_rows rows ≡ target_rows rows
 
--- the next rows are rows of the same members and P, are disjoint, and lie within the target's, which are balanced
-pub record LieInBalanced (granted rows : SetRows) : Type 0 where
+-- the next rows are of the same members and partitions, are disjoint, and lie within the target's,
+-- which are balanced
+pub record LiesInTarget (granted rows : SetRows) : Type 0 where
   pub below : rows.partitions ≡ granted.partitions
   pub same_members : members rows ≡ members granted
   pub valid : IsValidRows rows

@@ -1,4 +1,5 @@
-//! Cooperative rebalancing: a partition that changes its owner is revoked by the old one before it is given to the new.
+//! Cooperative rebalancing: a partition that changes its owner is revoked by the old one before it
+//! is given to the new.
 #![tactic(auto)]
 
 mod laws;

@@ -1,33 +1,23 @@
-//! A partition that moves from member 1 to member 2, step by step, and each call once.
+//! A partition that moves from member 1 to member 2, step by step, each call once, and as many
+//! members and partitions as there can be.
 
-ghost use Rattle.std.specs.Prelude.{◌≡◌, ◌≤◌};
+ghost use Rattle.std.specs.Prelude.{◌≡◌, length, IfOk};
 ghost use Rattle.bit_planes.specs.PartitionSet.{partitions_of};
 
 use super::*;
 use bit_planes::{Plane, PlaneRows};
+use lane_words::{MOST_MEMBERS, MOST_PARTITIONS, Memory};
+use std::alloc::Global;
 use std::test::Fail;
-
-// The set of these of four partitions.
-fn of_four(numbers: &[u32]) -> Plane
-    ensures { partitions_of result ≡ 4 }
-{
-    let mut set = Plane::new(4);
-    for q in numbers {
-        if *q < 4 {
-            set.insert(*q);
-        }
-    }
-    set
-}
 
 #[test]
 fn moves_two_partitions(rt: HostRuntime) -> Result<(), Fail> {
     let mut target = PlaneRows::new(rt.alloc(), 4);
-    target.put(1, of_four(&[0, 1]))?;
-    target.put(2, of_four(&[2, 3]))?;
+    target.put(1, Plane::of(4, &[0, 1]))?;
+    target.put(2, Plane::of(4, &[2, 3]))?;
     let mut granted = PlaneRows::new(rt.alloc(), 4);
-    granted.put(1, of_four(&[0, 1, 2, 3]))?;
-    granted.put(2, of_four(&[]))?;
+    granted.put(1, Plane::of(4, &[0, 1, 2, 3]))?;
+    granted.put(2, Plane::of(4, &[]))?;
     let rows = withhold(rt.alloc(), &target, &granted)?;
     assert!(rt; rows.get(1).is_some_and(|row| row.iter().eq([0, 1])));
     assert!(rt; rows.get(2).is_some_and(|row| row.count() == 0));
@@ -38,9 +28,62 @@ fn moves_two_partitions(rt: HostRuntime) -> Result<(), Fail> {
 
 #[test]
 fn tells_what_to_give_and_what_is_new(rt: HostRuntime) -> Result<(), Fail> {
-    let give = to_give(&of_four(&[0, 1, 2, 3]), &of_four(&[0, 1]));
+    let give = to_give(&Plane::of(4, &[0, 1, 2, 3]), &Plane::of(4, &[0, 1]));
     assert!(rt; give.iter().eq([2, 3]));
-    let new = added(&of_four(&[2, 3]), &of_four(&[]));
+    let new = added(&Plane::of(4, &[2, 3]), &Plane::of(4, &[]));
     assert!(rt; new.iter().eq([2, 3]));
+    Ok(())
+}
+
+/// The rows of members 1 to 512, by the owner of each partition.
+fn rows_by(alloc: Global, owners: &[u32]) -> Result<PlaneRows, Memory>
+    requires { length owners.now ≡ MOST_PARTITIONS }
+    ensures { IfOk result (λ rows. rows.partitions ≡ MOST_PARTITIONS) }
+{
+    let mut rows = PlaneRows::new(alloc, MOST_PARTITIONS);
+    for member in 1..MOST_MEMBERS as u32 + 1 {
+        rows.put(member, row_by(member, owners))?;
+    }
+    Ok(rows)
+}
+
+/// The partitions of one owner.
+fn row_by(member: u32, owners: &[u32]) -> Plane
+    requires { length owners.now ≡ MOST_PARTITIONS }
+    ensures { partitions_of result ≡ MOST_PARTITIONS }
+{
+    let mut row = Plane::new(MOST_PARTITIONS);
+    for q in 0..MOST_PARTITIONS {
+        if owners[q as usize] == member {
+            row.insert(q);
+        }
+    }
+    row
+}
+
+#[test]
+fn withholds_among_the_most(rt: HostRuntime) -> Result<(), Fail> {
+    let members = MOST_MEMBERS as u32;
+    let mut owners = vec![in rt.alloc(); 0; MOST_PARTITIONS as usize]?;
+    for q in 0..MOST_PARTITIONS {
+        owners[q as usize] = q % members + 1;
+    }
+    let target = rows_by(rt.alloc(), &owners)?;
+    // The upper half of the partitions is with the next member.
+    for q in MOST_PARTITIONS / 2..MOST_PARTITIONS {
+        owners[q as usize] = (q + 1) % members + 1;
+    }
+    let granted = rows_by(rt.alloc(), &owners)?;
+    let rows = withhold(rt.alloc(), &target, &granted)?;
+    assert_eq!(rt; rows.len(), MOST_MEMBERS);
+    for (member, row) in rows.iter() {
+        assert_eq!(rt; row.count(), MOST_PARTITIONS / 2 / members, "{member}");
+        let half = row
+            .iter()
+            .filter(|q| *q < MOST_PARTITIONS / 2 && *q % members + 1 == member);
+        assert_eq!(rt; half.count(), row.count() as usize, "{member}");
+    }
+    assert!(rt; !is_final(&rows, &target) && !is_final(&target, &granted));
+    assert!(rt; is_final(&target, &withhold(rt.alloc(), &target, &target)?));
     Ok(())
 }

@@ -2,98 +2,105 @@
 
 ghost use Rattle.std.specs.Prelude.{◌≡◌, ◌&&◌, ◌↔◌, ℕ, not, IfOk, IsTrue};
 ghost use Rattle.bit_planes.specs.PartitionSet.{partitions_of, is_in, minus};
-ghost use Rattle.bit_planes.specs.SetRows.{IsValidRows, members, set_of};
-ghost use Rattle.coop_rebalance.specs.Grants.{AreGrants, HaveSameRows};
-ghost use Rattle.coop_rebalance.specs.Withheld.{granted_to_other, withheld};
+ghost use Rattle.bit_planes.specs.SetRows.{HaveSameRows, IsValidRows, members};
+ghost use Rattle.coop_rebalance.specs.Private.Grants.{AreGrants};
+ghost use Rattle.coop_rebalance.specs.Private.Final.{HasRowsOf};
+ghost use Rattle.coop_rebalance.specs.Withheld.{AreWithoutOthers, granted_to_other, withheld};
 
 use bit_planes::{Plane, PlaneRows};
 use lane_words::Memory;
 use std::alloc::Global;
 
-/// Each member's row of the target without what any other member is granted, at one P. So a partition that is to
-/// change its owner is given to nobody until the present one has given it up, which is KIP-429's rule.
+/// Each member's row of the target without what any other member is granted, of as many partitions.
+/// So a partition that is to change its owner is given to nobody until the present one has given it
+/// up, which is KIP-429's rule.
 ///
-/// Its cost is linear in members times P. It is refused for want of memory alone.
+/// Its cost is linear in members times partitions. It is refused for want of memory alone.
 pub fn withhold(alloc: Global, target: &PlaneRows, granted: &PlaneRows) -> Result<PlaneRows, Memory>
     requires { target.now.partitions ≡ granted.now.partitions }
     ensures value { IfOk result (λ rows. rows ≡ withheld target.now granted.now) }
-    ensures sets { IfOk result (λ rows. (m q : ℕ) → is_in (set_of rows m) q ≡ (is_in (set_of target.now m) q && not (granted_to_other granted.now.rows m q))) }
+    ensures elements { IfOk result (λ rows. AreWithoutOthers rows target.now granted.now) }
     ensures members { IfOk result (λ rows. members rows ≡ members target.now) }
-    ensures below { IfOk result (λ rows. rows.partitions ≡ target.now.partitions) }
+    ensures partitions { IfOk result (λ rows. rows.partitions ≡ target.now.partitions) }
     ensures valid { IfOk result IsValidRows }
 {
     let grants = Grants::of(granted);
     let mut rows = PlaneRows::new(alloc, target.partitions());
-    for (member, row) in target.rows() {
-        let others = grants.of_others(granted, *member);
-        rows.put(*member, row.minus(&others))?;
+    for (member, row) in target.iter() {
+        let others = grants.of_others(granted, member);
+        rows.put(member, row.minus(&others))?;
     }
     Ok(rows)
 }
 
-/// What a member has to give up: what it is granted and not assigned, at one P. It takes no memory.
+/// What a member has to give up: what it is granted and not assigned, of as many partitions. It
+/// takes no memory.
 pub fn to_give(granted: &Plane, assigned: &Plane) -> Plane
     requires { partitions_of granted.now ≡ partitions_of assigned.now }
     ensures value { result ≡ minus granted.now assigned.now }
-    ensures elements { (q : ℕ) → is_in result q ≡ (is_in granted.now q && not (is_in assigned.now q)) }
+    ensures elements { (q : ℕ)
+        → is_in result q ≡ (is_in granted.now q && not (is_in assigned.now q)) }
     ensures partitions { partitions_of result ≡ partitions_of granted.now }
 {
     granted.minus(assigned)
 }
 
-/// What a member gets anew: what it is assigned and not granted, at one P. It takes no memory.
+/// What a member gets anew: what it is assigned and not granted, of as many partitions. It takes no
+/// memory.
 pub fn added(assigned: &Plane, granted: &Plane) -> Plane
     requires { partitions_of assigned.now ≡ partitions_of granted.now }
     ensures value { result ≡ minus assigned.now granted.now }
-    ensures elements { (q : ℕ) → is_in result q ≡ (is_in assigned.now q && not (is_in granted.now q)) }
+    ensures elements { (q : ℕ)
+        → is_in result q ≡ (is_in assigned.now q && not (is_in granted.now q)) }
     ensures partitions { partitions_of result ≡ partitions_of assigned.now }
 {
     assigned.minus(granted)
 }
 
-/// Whether each member is granted what it is assigned, at one P. Where a member has a row on one side only, also an
-/// empty one, it is not. It takes no memory.
+/// Whether each member is granted what it is assigned, of as many partitions. Where a member has a
+/// row on one side only, also an empty one, it is not. It takes no memory.
 pub fn is_final(granted: &PlaneRows, assigned: &PlaneRows) -> bool
     requires { granted.now.partitions ≡ assigned.now.partitions }
     ensures rows { IsTrue result ↔ HaveSameRows granted.now assigned.now }
     ensures equal { IsTrue result ↔ (granted.now ≡ assigned.now) }
 {
-    let granted = granted.rows();
-    let assigned = assigned.rows();
-    if granted.len() != assigned.len() {
-        return false;
-    }
-    for i in 0..granted.len() {
-        if !is_same_row(&granted[i], &assigned[i]) {
+    has_rows_of(granted, assigned) && has_rows_of(assigned, granted)
+}
+
+/// Whether each row of the others is in these rows too.
+fn has_rows_of(rows: &PlaneRows, others: &PlaneRows) -> bool
+    requires { rows.now.partitions ≡ others.now.partitions }
+    ensures rows { IsTrue result ↔ HasRowsOf rows.now others.now }
+    ensures valid { IsValidRows others.now }
+{
+    for (member, row) in others.iter() {
+        let Some(own) = rows.get(member) else {
+            return false;
+        };
+        if !own.same(row) {
             return false;
         }
     }
     true
 }
 
-// Whether two rows have the same member and the same set.
-fn is_same_row(row: &(u32, Plane), other: &(u32, Plane)) -> bool
-    requires { partitions_of row.now.1 ≡ partitions_of other.now.1 }
-    ensures { IsTrue result ↔ (row.now ≡ other.now) }
-{
-    row.0 == other.0 && row.1.same(&other.1)
-}
-
-// What is granted to some member, and what to two or more.
+/// What is granted to some member, and what to two or more.
 #[derive(Drop)]
 struct Grants {
+    /// What one or more members are granted.
     some: Plane,
+    /// What two or more members are granted.
     several: Plane,
 }
 
 impl Grants {
-    // Collects what members are granted.
+    /// Collects what members are granted.
     fn of(granted: &PlaneRows) -> Grants
         ensures { AreGrants result.some result.several granted.now }
     {
         let mut some = Plane::new(granted.partitions());
         let mut several = Plane::new(granted.partitions());
-        for (_, row) in granted.rows() {
+        for (_, row) in granted.iter() {
             let fresh = row.minus(&some);
             several = several.union(&row.minus(&fresh));
             some = some.union(&fresh);
@@ -101,7 +108,7 @@ impl Grants {
         Grants { some, several }
     }
 
-    // What members other than this one are granted.
+    /// What members other than this one are granted.
     fn of_others(&self, granted: &PlaneRows, member: u32) -> Plane
         requires { AreGrants self.now.some self.now.several granted.now }
         ensures elements { (q : ℕ) → is_in result q ≡ granted_to_other granted.now.rows member q }

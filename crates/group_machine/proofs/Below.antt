@@ -7,10 +7,10 @@ use Rattle.bit_planes.specs.SetRows.{SetRows, IsValidRows, members, find_row, se
 use Rattle.bit_planes.proofs.Sets.{both_true, same_set, in_empty, in_where, past_where, past}
 use Rattle.sticky_assignor.specs.Balanced.{AreBelow, IsBalanced}
 use Rattle.sticky_assignor.proofs.AssignedLaws.{members_assigned, assigned_kept, below_assigned}
-use Rattle.coop_rebalance.specs.Rounds.{target_rows, next_rows, LieInBalanced, Settles}
+use Rattle.coop_rebalance.specs.Rounds.{AreGranted, target_rows, next_rows, LiesInTarget, Settles}
 use Rattle.coop_rebalance.specs.Withheld.{granted_to_other, withheld_row, withheld}
+use Rattle.coop_rebalance.proofs.WithheldRows.{set_withheld}
 use Rattle.coop_rebalance.proofs.Rounds.{next_within, settles}
-use Rattle.group_machine.specs.Private.Walks.{AreOwned}
 use Rattle.group_machine.proofs.SlotsLemmas.{number_is, same_id, other_id}
 use Rattle.group_machine.proofs.PresentLemmas.{Listed, RisesFrom, rises}
 use Rattle.group_machine.proofs.Rows.{apart_says, balanced_apart, member_listed, set_over, sets_below}
@@ -24,51 +24,24 @@ target_kept r valid = assigned_kept (members r) r valid valid.rising
 pub target_below : (r : SetRows) → (target_rows r).partitions ≡ r.partitions
 target_below r = below_assigned r.partitions (members r) r
 
-length_mapped : (xs : List (ℕ × PartitionSet)) → length (map (λ row. row.0) xs) ≡ length xs
-length_mapped [] = refl
-length_mapped (x ∷ xs) = ap (λ n. suc n) (length_mapped xs)
+next_lies : (r : SetRows) → AreGranted r → LiesInTarget r (next_rows r)
+next_lies r owned = next_within r owned.valid owned.some owned.apart
 
-next_lies : (r : SetRows) → AreOwned r → LieInBalanced r (next_rows r)
-next_lies r owned = next_within r owned.valid (omega (arith, owned.some, length_mapped r.rows)) owned.apart
-
-pub target_balanced : (r : SetRows) → AreOwned r → IsBalanced r.partitions (sets_of (target_rows r) (members r))
+pub target_balanced : (r : SetRows) → AreGranted r → IsBalanced r.partitions (sets_of (target_rows r) (members r))
 target_balanced r owned = (next_lies r owned).balanced
 
-pub next_members : (r : SetRows) → AreOwned r → members (next_rows r) ≡ members r
+pub next_members : (r : SetRows) → AreGranted r → members (next_rows r) ≡ members r
 next_members r owned = (next_lies r owned).same_members
 
-pub next_below : (r : SetRows) → AreOwned r → (next_rows r).partitions ≡ r.partitions
+pub next_below : (r : SetRows) → AreGranted r → (next_rows r).partitions ≡ r.partitions
 next_below r owned = (next_lies r owned).below
 
-pub next_kept : (r : SetRows) → AreOwned r → IsValidRows (next_rows r)
+pub next_kept : (r : SetRows) → AreGranted r → IsValidRows (next_rows r)
 next_kept r owned = (next_lies r owned).valid
 
 -- ---- a row without what others are granted
-first_false : (x y : Bool) → x ≡ false → x ≡ (x && y)
-first_false true y e = absurd (false≢true (sym e))
-first_false false y e = refl
-
-in_withheld : (granted : List (ℕ × PartitionSet)) (m : ℕ) (row : PartitionSet) (q : ℕ) → is_in (withheld_row granted (m, row)).1 q ≡ (is_in row q && not (granted_to_other granted m q))
-in_withheld granted m row q = elim (cases_lt q (partitions_of row)) [
-  | inl lt ↦ in_where (partitions_of row) _ q lt
-  | inr le ↦ past_where (partitions_of row) _ q le ∙ sym (past row q le) ∙ first_false (is_in row q) (not (granted_to_other granted m q)) (past row q le)
-]
-
-found_withheld : (p : ℕ) (granted rows : List (ℕ × PartitionSet)) (m q : ℕ) → is_in (set_or_empty p (find_row (map (withheld_row granted) rows) m)) q ≡ (is_in (set_or_empty p (find_row rows m)) q && not (granted_to_other granted m q))
-found_withheld p granted [] m q = in_empty p q ∙ sym (ap (λ b. b && not (granted_to_other granted m q)) (in_empty p q))
-found_withheld p granted (row ∷ rows) m q = go (found_withheld p granted rows m q) (row.0 == m) refl
-  where
-    go : is_in (set_or_empty p (find_row (map (withheld_row granted) rows) m)) q ≡ (is_in (set_or_empty p (find_row rows m)) q && not (granted_to_other granted m q))
-        → (b : Bool) → (row.0 == m) ≡ b → is_in (set_or_empty p (cond b (Some (withheld_row granted row).1) (find_row (map (withheld_row granted) rows) m))) q ≡ (is_in (set_or_empty p (cond b (Some row.1) (find_row rows m))) q && not (granted_to_other granted m q))
-    go later true e = in_withheld granted row.0 row.1 q ∙ ap (λ n. is_in row.1 q && not (granted_to_other granted n q)) (number_is row.0 m e)
-    go later false e = later
-
-next_found : (t r : SetRows) (m q : ℕ) → is_in (set_of (withheld t r) m) q ≡ (is_in (set_of t m) q && not (granted_to_other r.rows m q))
-unfolding withheld
-next_found t r m q = found_withheld t.partitions r.rows t.rows m q
-
 pub next_in : (r : SetRows) (m q : ℕ) → is_in (set_of (next_rows r) m) q ≡ (is_in (set_of (target_rows r) m) q && not (granted_to_other r.rows m q))
-next_in r m q = next_found (target_rows r) r m q
+next_in r m q = set_withheld (target_rows r) r m q
 
 -- ---- what others are granted
 listed_above : (m : ℕ) (ms : List ℕ) (n : ℕ) → RisesFrom m ms → Listed n ms → m ≤ n
@@ -115,13 +88,13 @@ pub other_of : (r : SetRows) (m n q : ℕ) → (m ≡ n → ⊥) → is_in (set_
 other_of r m n q ne e = found_other r.partitions r.rows m n q ne e
 
 -- ---- the second round keeps everything and withholds nothing
-second : (r : SetRows) → AreOwned r → Settles (next_rows r)
-second r owned = settles r owned.valid (omega (arith, owned.some, length_mapped r.rows)) owned.apart
+second : (r : SetRows) → AreGranted r → Settles (next_rows r)
+second r owned = settles r owned.valid owned.some owned.apart
 
-pub second_all : (r : SetRows) → AreOwned r → next_rows (next_rows r) ≡ target_rows (next_rows r)
+pub second_all : (r : SetRows) → AreGranted r → next_rows (next_rows r) ≡ target_rows (next_rows r)
 second_all r owned = (second r owned).all
 
-pub second_within : (r : SetRows) → AreOwned r → (m : ℕ) → IsTrue (is_within (set_of (next_rows r) m) (set_of (target_rows (next_rows r)) m))
+pub second_within : (r : SetRows) → AreGranted r → (m : ℕ) → IsTrue (is_within (set_of (next_rows r) m) (set_of (target_rows (next_rows r)) m))
 second_within r owned m = (second r owned).keeps m
 
 -- ---- by look-up
@@ -143,18 +116,18 @@ next_not_other r m n q e h = go (m == n) refl
     go true is = number_is m n is
     go false is = absurd (false≢true (sym free ∙ other_of r m n q (λ same. false≢true (sym is ∙ ap (λ k. m == k) (sym same) ∙ same_id m)) h))
 
-pub target_apart : (r : SetRows) → AreOwned r → (m n q : ℕ) → is_in (set_of (target_rows r) m) q ≡ true → is_in (set_of (target_rows r) n) q ≡ true → m ≡ n
+pub target_apart : (r : SetRows) → AreGranted r → (m n q : ℕ) → is_in (set_of (target_rows r) m) q ≡ true → is_in (set_of (target_rows r) n) q ≡ true → m ≡ n
 target_apart r owned m n q e h =
     let ms = members (target_rows r) in
     let same : ms ≡ members r = target_members r in
     let below : AreBelow r.partitions (sets_of (target_rows r) (members r)) = subst (λ (p : ℕ). AreBelow p (sets_of (target_rows r) (members r))) (target_below r) (sets_below (target_rows r) (members r) (target_kept r owned.valid)) in
     apart_says (set_of (target_rows r)) (members r) (balanced_apart r.partitions (sets_of (target_rows r) (members r)) below (target_balanced r owned)) m n q (subst (Listed m) same (member_listed (target_rows r) m q e)) (subst (Listed n) same (member_listed (target_rows r) n q h)) e h
 
-pub next_apart : (r : SetRows) → AreOwned r → (m n q : ℕ) → is_in (set_of (next_rows r) m) q ≡ true → is_in (set_of (next_rows r) n) q ≡ true → m ≡ n
+pub next_apart : (r : SetRows) → AreGranted r → (m n q : ℕ) → is_in (set_of (next_rows r) m) q ≡ true → is_in (set_of (next_rows r) n) q ≡ true → m ≡ n
 next_apart r owned m n q e h = target_apart r owned m n q (next_in_target r m q e) (next_in_target r n q h)
 
 -- where nothing that is granted is taken from its member, nothing is withheld
-pub next_is_target : (r : SetRows) → AreOwned r → ((m q : ℕ) → is_in (set_of r m) q ≡ true → is_in (set_of (next_rows r) m) q ≡ true) → (m : ℕ) → set_of (next_rows r) m ≡ set_of (target_rows r) m
+pub next_is_target : (r : SetRows) → AreGranted r → ((m q : ℕ) → is_in (set_of r m) q ≡ true → is_in (set_of (next_rows r) m) q ≡ true) → (m : ℕ) → set_of (next_rows r) m ≡ set_of (target_rows r) m
 next_is_target r owned stays m =
     same_set (set_of (next_rows r) m) (set_of (target_rows r) m) (set_over (next_rows r) m (next_kept r owned) ∙ next_below r owned ∙ sym (set_over (target_rows r) m (target_kept r owned.valid) ∙ target_below r)) (λ q lt.
     next_in r m q ∙ go q (is_in (set_of (target_rows r) m) q) refl (granted_to_other r.rows m q) refl)

@@ -7,7 +7,7 @@ use Rattle.bit_planes.specs.PartitionSet.{PartitionSet, partitions_of, is_in, is
 use Rattle.bit_planes.specs.SetRows.{SetRows, set_of, IsValidRows}
 use Rattle.bit_planes.proofs.Sets.{in_below, in_union, in_empty, partitions_union, within_of, same_says, both_true}
 use Rattle.sticky_assignor.specs.Balanced.{IsBalanced}
-use Rattle.coop_rebalance.specs.Rounds.{target_rows, next_rows}
+use Rattle.coop_rebalance.specs.Rounds.{AreGranted, target_rows, next_rows}
 use Rattle.group_machine.specs.declared.group.Seat.{Seat}
 use Rattle.group_machine.specs.declared.group.Phase.TheVariants.{Empty, Preparing}
 use Rattle.group_machine.specs.State.{GroupState, member_of, members, is_anybody, seat_joined, seat_granted, seat_assigned, granted_of, granted_rows, last_holder}
@@ -19,7 +19,6 @@ use Rattle.group_machine.proofs.SlotsLemmas.{seat_each}
 use Rattle.group_machine.proofs.PresentLemmas.{Listed, listed_present, numbers_each, length_reseated, any_each, all_says, some_not}
 use Rattle.group_machine.proofs.Rows.{map_same, member_listed, set_over}
 use Rattle.group_machine.specs.Private.Changes.{IsChanged}
-use Rattle.group_machine.specs.Private.Walks.{AreOwned}
 use Rattle.group_machine.proofs.Below.{target_kept, target_below, target_balanced, next_members, next_kept, next_below, next_in_target, next_not_other, next_apart, next_is_target}
 use Rattle.group_machine.proofs.GroupLemmas.{members_granted, set_granted, granted_owned, granted_over}
 use Rattle.group_machine.proofs.TakerLemmas.{held_after}
@@ -127,7 +126,7 @@ complete_good g n e =
     let p : ℕ = g.partitions in
     let r : SetRows = granted_rows g in
     let next : SetRows = next_rows r in
-    let owned : AreOwned r = granted_owned g n.sized n.fit n.apart any in
+    let owned : AreGranted r = granted_owned g n.sized n.fit n.apart any in
     let valid : IsValidRows next = next_kept r owned in
     let over : (m : ℕ) → partitions_of (set_of next m) ≡ p = λ m. set_over next m valid ∙ next_below r owned in
     let at : (m : ℕ) → member_of (complete g) m ≡ option_map (completed_seat next m) (member_of g m) = λ m. seat_each (completed_seat next) g.slots m in

@@ -10,7 +10,7 @@ use Rattle.bit_planes.specs.SetRows.{SetRows, set_of, sets_of, IsValidRows}
 use Rattle.bit_planes.proofs.Sets.{in_union, partitions_union, within_says, same_set, same_self, both_true}
 use Rattle.sticky_assignor.specs.Assigned.{pair_up}
 use Rattle.sticky_assignor.proofs.AssignedLaws.{paired}
-use Rattle.coop_rebalance.specs.Rounds.{target_rows, next_rows}
+use Rattle.coop_rebalance.specs.Rounds.{AreGranted, target_rows, next_rows}
 use Rattle.group_machine.specs.declared.group.Slot.{Slot}
 use Rattle.group_machine.specs.declared.group.Seat.{Seat}
 use Rattle.group_machine.specs.declared.group.Move.{Move}
@@ -25,7 +25,6 @@ use Rattle.group_machine.specs.Good.{IsSized, IsApart, AllFit, IsValidGroup}
 use Rattle.group_machine.proofs.SlotsLemmas.{seat_each, each_two, each_same, one_is_each, at_only}
 use Rattle.group_machine.proofs.PresentLemmas.{length_reseated, present_each, numbers_each, any_each, any_of, all_of, all_says}
 use Rattle.group_machine.proofs.Rows.{set_over}
-use Rattle.group_machine.specs.Private.Walks.{AreOwned}
 use Rattle.group_machine.proofs.Below.{next_kept, next_below, next_members, second_all, second_within, target_kept, target_below}
 use Rattle.group_machine.proofs.GroupLemmas.{assigned_owned, members_assigned}
 use Rattle.group_machine.proofs.CompletionLemmas.{seat_behind}
@@ -64,7 +63,7 @@ rows_by_members : (w : SetRows) → IsValidRows w → w ≡ record { partitions 
 rows_by_members w valid = paired w valid.rising ∙ ap (λ rs. record { partitions = w.partitions; rows = rs }) (pair_map (set_of w) (rows.members w))
 
 -- what a round assigns is what members are to keep after it
-pub round_assigned : (g : GroupState) → AreOwned (assigned_rows g) → rows.members (assigned_rows g) ≡ members g → assigned_rows (round g) ≡ next_rows (assigned_rows g)
+pub round_assigned : (g : GroupState) → AreGranted (assigned_rows g) → rows.members (assigned_rows g) ≡ members g → assigned_rows (round g) ≡ next_rows (assigned_rows g)
 round_assigned g owned same =
     let w : SetRows = next_rows (assigned_rows g) in
     let next : next_rows (granted_rows (yielded g)) ≡ w = ap next_rows (granted_yielded g) in
@@ -92,7 +91,7 @@ seat_assigned_is g next m y is =
 
 pub two_rounds : (g : GroupState) → IsSized g → is_anybody g ≡ true → AllFit g → IsApart g → is_settled (round (round g)) ≡ true
 two_rounds g sized any fit apart =
-    let owned : AreOwned (assigned_rows g) = assigned_owned g sized fit apart any in
+    let owned : AreGranted (assigned_rows g) = assigned_owned g sized fit apart any in
     let w : SetRows = next_rows (assigned_rows g) in
     let one : assigned_rows (round g) ≡ w = round_assigned g owned (members_assigned g) in
     let all : next_rows w ≡ target_rows w = second_all (assigned_rows g) owned in

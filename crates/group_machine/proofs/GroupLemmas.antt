@@ -6,6 +6,7 @@ use Rattle.bit_planes.specs.SetRows as rows
 use Rattle.bit_planes.specs.SetRows.{SetRows, find_row, set_or_empty, set_of, sets_of, IsValidRows, AreOver}
 use Rattle.bit_planes.proofs.Sets.{partitions_empty, within_says}
 use Rattle.sticky_assignor.specs.Balanced.{AreApart}
+use Rattle.coop_rebalance.specs.Rounds.{AreGranted}
 use Rattle.group_machine.specs.declared.group.Slot.{Slot}
 use Rattle.group_machine.specs.declared.group.Seat.{Seat}
 use Rattle.group_machine.specs.Slots.{seat_in, and_member, present_from, present}
@@ -13,7 +14,6 @@ use Rattle.group_machine.specs.State.{GroupState, member_of, members, is_anybody
 use Rattle.group_machine.specs.Good.{IsSized, IsFit, AllFit, IsApart}
 use Rattle.group_machine.proofs.PresentLemmas.{RisesFrom, rising, present_rises, find_present, any_count}
 use Rattle.group_machine.proofs.Rows.{apart_of}
-use Rattle.group_machine.specs.Private.Walks.{AreOwned}
 
 -- ---- rows of the present members
 numbers_of : (h : Seat → PartitionSet) (xs : List (ℕ × Seat)) → map {A = ℕ × PartitionSet} (λ row. row.0) (map (λ r. (r.0, h r.1)) xs) ≡ map (λ r. r.0) xs
@@ -77,10 +77,10 @@ some_members g any = omega (arith, any_count g.slots any, length_map (λ r. r.0)
 rows_apart : (r : SetRows) → RisesFrom 1 (rows.members r) → ((m n q : ℕ) → is_in (set_of r m) q ≡ true → is_in (set_of r n) q ≡ true → m ≡ n) → AreApart (sets_of r (rows.members r))
 rows_apart r up alone = apart_of (set_of r) 1 (rows.members r) up alone
 
-pub granted_owned : (g : GroupState) → IsSized g → AllFit g → IsApart g → is_anybody g ≡ true → AreOwned (granted_rows g)
+pub granted_owned : (g : GroupState) → IsSized g → AllFit g → IsApart g → is_anybody g ≡ true → AreGranted (granted_rows g)
 granted_owned g sized fit apart any = record {
   valid = granted_kept g sized fit;
-  some = subst (λ ms. 0 < length ms) (sym (members_granted g)) (some_members g any);
+  some = omega (arith, any_count g.slots any, length_map {B = ℕ × PartitionSet} (λ (m : ℕ × Seat). (m.0, m.1.granted)) (present g.slots));
   apart = rows_apart (granted_rows g) (subst (RisesFrom 1) (sym (members_granted g)) (members_rise g)) (λ m n q e h.
       apart m n q (ap (λ s. is_in s q) (sym (set_granted g m)) ∙ e) (ap (λ s. is_in s q) (sym (set_granted g n)) ∙ h));
 }
@@ -93,10 +93,10 @@ granted_within p (Some x) fit q e = within_says x.assigned x.granted ((fit x ref
 pub assigned_in_granted : (g : GroupState) → AllFit g → (m q : ℕ) → is_in (assigned_of g m) q ≡ true → is_in (granted_of g m) q ≡ true
 assigned_in_granted g fit m q e = granted_within g.partitions (member_of g m) (λ x is. fit m x is) q e
 
-pub assigned_owned : (g : GroupState) → IsSized g → AllFit g → IsApart g → is_anybody g ≡ true → AreOwned (assigned_rows g)
+pub assigned_owned : (g : GroupState) → IsSized g → AllFit g → IsApart g → is_anybody g ≡ true → AreGranted (assigned_rows g)
 assigned_owned g sized fit apart any = record {
   valid = assigned_kept g sized fit;
-  some = subst (λ ms. 0 < length ms) (sym (members_assigned g)) (some_members g any);
+  some = omega (arith, any_count g.slots any, length_map {B = ℕ × PartitionSet} (λ (m : ℕ × Seat). (m.0, m.1.assigned)) (present g.slots));
   apart = rows_apart (assigned_rows g) (subst (RisesFrom 1) (sym (members_assigned g)) (members_rise g)) (λ m n q e h.
       apart m n q (assigned_in_granted g fit m q (ap (λ s. is_in s q) (sym (set_assigned g m)) ∙ e)) (assigned_in_granted g fit n q (ap (λ s. is_in s q) (sym (set_assigned g n)) ∙ h)));
 }

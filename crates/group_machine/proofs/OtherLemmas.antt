@@ -8,7 +8,7 @@ use Rattle.lane_words.specs.declared.limits.TheConstants.{MOST_MEMBERS}
 use Rattle.bit_planes.specs.PartitionSet.{PartitionSet, partitions_of, is_in}
 use Rattle.bit_planes.specs.SetRows.{SetRows, set_of}
 use Rattle.bit_planes.proofs.Sets.{in_union, both_true}
-use Rattle.coop_rebalance.specs.Rounds.{next_rows}
+use Rattle.coop_rebalance.specs.Rounds.{AreGranted, next_rows}
 use Rattle.group_machine.specs.declared.group.Slot.{Slot}
 use Rattle.group_machine.specs.declared.group.Seat.{Seat}
 use Rattle.group_machine.specs.Slots.{seat_in, seat_of}
@@ -18,7 +18,6 @@ use Rattle.group_machine.specs.Steps.{is_name_used, newcomer, joining, join_answ
 use Rattle.group_machine.specs.Good.{IsFit, IsValidGroup}
 use Rattle.group_machine.specs.Others.{IsAsBefore, IsInNextGeneration, LeavesMember, LeavesOthers, IsNewcomer, HasRejoined, LeavesRejoined, LeavesSynced}
 use Rattle.group_machine.specs.Private.Changes.{IsChanged}
-use Rattle.group_machine.specs.Private.Walks.{AreOwned}
 use Rattle.group_machine.proofs.SlotsLemmas.{same_id, other_id, seat_each, seat_without, one_is_each, at_only}
 use Rattle.group_machine.proofs.Rows.{set_over}
 use Rattle.group_machine.proofs.Below.{next_kept, next_below}
@@ -43,7 +42,7 @@ completion_leaves : (g : GroupState) → IsChanged g → is_ready g ≡ true →
 completion_leaves g c ready n =
     let any : is_anybody g ≡ true = (both_true (is_anybody g) (all_joined g) ready).0 in
     let next : SetRows = next_rows (granted_rows g) in
-    let owned : AreOwned (granted_rows g) = granted_owned g c.sized c.fit c.apart any in
+    let owned : AreGranted (granted_rows g) = granted_owned g c.sized c.fit c.apart any in
     let over : partitions_of (set_of next n) ≡ g.partitions = set_over next n (next_kept (granted_rows g) owned) ∙ next_below (granted_rows g) owned in
     let at : member_of (complete g) n ≡ option_map (completed_seat next n) (member_of g n) = seat_each (completed_seat next) g.slots n in
     let flags = no_flags next n (member_of g n) in

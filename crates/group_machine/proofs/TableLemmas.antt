@@ -10,7 +10,7 @@ use Rattle.lane_words.specs.declared.Refusal.TheVariants as r
 use Rattle.bit_planes.specs.PartitionSet.{PartitionSet, partitions_of, is_in, is_same}
 use Rattle.bit_planes.specs.SetRows.{SetRows, set_of}
 use Rattle.bit_planes.proofs.Sets.{same_says}
-use Rattle.coop_rebalance.specs.Rounds.{next_rows}
+use Rattle.coop_rebalance.specs.Rounds.{AreGranted, next_rows}
 use Rattle.group_machine.specs.declared.group.Slot.{Slot}
 use Rattle.group_machine.specs.declared.group.Seat.{Seat}
 use Rattle.group_machine.specs.declared.group.Move.{Move}
@@ -24,7 +24,7 @@ use Rattle.group_machine.specs.Steps.{unless_over, is_name_used, joining, join_a
 use Rattle.group_machine.specs.Good.{AllFit}
 use Rattle.group_machine.specs.declared.group.completion.Completion.{Completion}
 use Rattle.group_machine.specs.Private.Changes.{IsChanged, IsPlanned, IsRefused}
-use Rattle.group_machine.specs.Private.Walks.{AreOwned, AreSeatsOver}
+use Rattle.group_machine.specs.Private.Walks.{AreSeatsOver}
 use Rattle.group_machine.proofs.GroupLemmas.{granted_owned}
 use Rattle.group_machine.proofs.Below.{next_below, next_apart}
 
@@ -55,7 +55,7 @@ all_present test slots = all_from test 1 slots
 pub seats_over : (g : GroupState) → AllFit g → AreSeatsOver g.partitions g.slots
 seats_over g fit m x is = record { granted = (fit m x is).granted_below; assigned = (fit m x is).assigned_below }
 
-pub owned_rows : (g : GroupState) → IsChanged g → is_anybody g ≡ true → AreOwned (granted_rows g)
+pub owned_rows : (g : GroupState) → IsChanged g → is_anybody g ≡ true → AreGranted (granted_rows g)
 owned_rows g changed any = granted_owned g changed.sized changed.fit changed.apart any
 
 pub rows_below : (g : GroupState) (next : SetRows) → IsChanged g → is_anybody g ≡ true → next ≡ next_rows (granted_rows g) → next.partitions ≡ g.partitions

@@ -10,8 +10,8 @@ use Rattle.group_machine.specs.State.{GroupState, assigned_of, granted_of, is_pr
 use Rattle.group_machine.specs.Good.{IsValidGroup}
 use Rattle.group_machine.specs.Steps.{sync_answer}
 
--- a commit that is sent: of which member and in which generation, and of which records: those of a partition from an
--- offset on, by their key numbers
+-- a commit that is sent: of which member and in which generation, and of which records: those of a
+-- partition from an offset on, by their key numbers
 pub record CommitTerms : Type 0 where
   pub member : ℕ
   pub generation : ℕ
@@ -19,7 +19,8 @@ pub record CommitTerms : Type 0 where
   pub from : ℕ
   pub ids : List ℕ
 
--- a lease: what a member is to keep in a generation, and at which offset each partition is committed
+-- a lease: what a member is to keep in a generation, and at which offset each partition is
+-- committed
 pub record LeaseTerms : Type 0 where
   pub member : ℕ
   pub generation : ℕ
@@ -30,7 +31,8 @@ pub record LeaseTerms : Type 0 where
 abbrev pub start_of : LeaseTerms → ℕ → ℕ
 start_of lease p = slice_index_or lease.starts p 0
 
--- the group, the logs, and the store, of which the room that is reserved for counters is not seen: it is always 0 here
+-- the group, the logs, and the store, of which the room that is reserved for counters is not seen:
+-- it is always 0 here
 pub record ClusterState : Type 0 where
   pub group : GroupState
   pub logs : PartitionLogs
@@ -40,8 +42,8 @@ pub record ClusterState : Type 0 where
 abbrev pub without_room : Commits → Commits
 without_room s = record s { room = 0 }
 
--- What a cluster keeps: its group is valid, its store is exact over its logs, all three have the same partitions, and each
--- key has a counter
+-- What a cluster keeps: its group is valid, its store is exact over its logs, all three have the
+-- same partitions, and each key has a counter
 pub record IsValidCluster (s : ClusterState) : Type 0 where
   pub good : IsValidGroup s.group
   pub logs : IsValidLogs s.logs
@@ -51,9 +53,10 @@ pub record IsValidCluster (s : ClusterState) : Type 0 where
   pub a_counter_each : length s.store.counts ≡ length s.logs.keys
 
 -- ---- commit
--- What a commit answers, in this order: nobody present has its number; it is of another generation, so its sender has
--- missed a rebalance; its partition is not granted to the member, as none past the last is; else what the store answers.
--- A member that was lost or that lags behind is fenced off by the first three (KIP-429: its partitions count as lost)
+-- What a commit answers, in this order: nobody present has its number; it is of another generation,
+-- so its sender has missed a rebalance; its partition is not granted to the member, as none past
+-- the last is; else what the store answers. A member that was lost or that lags behind is fenced
+-- off by the first three (KIP-429: its partitions count as lost)
 abbrev pub fence : GroupState → CommitTerms → Result (Unit {0}) Refusal
 fence g c =
     if not (is_present g c.member) then Err r.UnknownMember
@@ -65,7 +68,8 @@ abbrev pub cluster_commit_answer : ClusterState → CommitTerms → Result ℕ R
 cluster_commit_answer s c =
     result_and (fence s.group c) (commit_answer s.store s.logs c.partition c.from c.ids)
 
--- a commit is due: its member is present, of this generation, is granted the partition, and the store takes it
+-- a commit is due: its member is present, of this generation, is granted the partition, and the
+-- store takes it
 pub record IsDue (s : ClusterState) (c : CommitTerms) : Type 0 where
   pub present : is_present s.group c.member ≡ true
   pub current : c.generation ≡ s.group.generation
@@ -82,7 +86,8 @@ abbrev pub with_counter_for : PartitionLogs → Key → Commits → Commits
 with_counter_for l key store =
     if is_known l.keys key then store else (record store { counts = store.counts ++ 0 ∷ [] })
 
--- one record more at the end of the log of its place, a counter at 0 for a new key, and all else as it was
+-- one record more at the end of the log of its place, a counter at 0 for a new key, and all else as
+-- it was
 abbrev pub appended_to : ClusterState → Key → ClusterState
 appended_to s key = record s {
   logs = with_record s.logs key;

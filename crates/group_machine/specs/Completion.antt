@@ -17,9 +17,10 @@ all_joined g = all_joined_in g.slots
 abbrev pub is_ready : GroupState → Bool
 is_ready g = is_ready_in g.slots
 
--- a member keeps its row of the next assignment. What it is granted it may go on reading until it gives it up, and what
--- it is to keep it is granted at once (KIP-429: kept partitions are read during a rebalance, a partition that moves is
--- revoked before it is assigned). Its flags are cleared
+-- a member keeps its row of the next assignment. What it is granted it may go on reading until it
+-- gives it up, and what it is to keep it is granted at once (KIP-429: kept partitions are read
+-- during a rebalance, a partition that moves is revoked before it is assigned). Its flags are
+-- cleared
 abbrev pub completed_seat : SetRows → ℕ → Seat → Seat
 completed_seat next member seat = record {
   joined = false;
@@ -39,7 +40,8 @@ completed_with g next = record {
   moves = g.moves ++ moves_to g next;
 }
 
--- the next generation: each member's row is its sticky target of what is granted, without what any other member is granted
+-- the next generation: each member's row is its sticky target of what is granted, without what any
+-- other member is granted
 abbrev pub complete : GroupState → GroupState
 complete g = completed_with g (next_rows (granted_rows g))
 

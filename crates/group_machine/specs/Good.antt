@@ -19,7 +19,8 @@ pub record IsSized (g : GroupState) : Type 0 where
 abbrev pub IsApart : GroupState → Type 0
 IsApart g = (m n q : ℕ) → is_in (granted_of g m) q ≡ true → is_in (granted_of g n) q ≡ true → m ≡ n
 
--- a member's sets are over the group's partitions; what it is to keep is granted to it, and is all of that once it has joined
+-- a member's sets are over the group's partitions; what it is to keep is granted to it, and is all
+-- of that once it has joined
 pub record IsFit (partitions : ℕ) (seat : Seat) : Type 0 where
   pub granted_below : partitions_of seat.granted ≡ partitions
   pub assigned_below : partitions_of seat.assigned ≡ partitions

@@ -14,7 +14,8 @@ takes g next q member = is_in (set_of next member) q && not (is_in (granted_of g
 -- the member that takes a partition, if one does: it is in its next row, and not in the row granted
 abbrev pub taker_in : List (ℕ × PartitionSet) → SetRows → ℕ → Option ℕ
 taker_in granted next q =
-    option_map (λ row. row.0) (find (λ row. is_in (set_of next row.0) q && not (is_in row.1 q)) granted)
+    option_map (λ row. row.0)
+    (find (λ row. is_in (set_of next row.0) q && not (is_in row.1 q)) granted)
 
 -- who takes each partition
 abbrev pub takers_in : SetRows → SetRows → List (Option ℕ)

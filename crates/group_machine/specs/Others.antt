@@ -17,7 +17,8 @@ pub record IsInNextGeneration (old new : GroupState) (n : ℕ) : Type 0 where
   pub joined : is_joined new n ≡ false
   pub synced : is_synced new n ≡ false
 
--- a member is present as it was, is granted all that it was granted, and is as it was or in the next generation
+-- a member is present as it was, is granted all that it was granted, and is as it was or in the
+-- next generation
 pub record LeavesMember (old new : GroupState) (n : ℕ) : Type 0 where
   pub present : is_present new n ≡ is_present old n
   pub granted : (q : ℕ) → is_in (granted_of old n) q ≡ true → is_in (granted_of new n) q ≡ true
@@ -35,7 +36,8 @@ pub record IsNewcomer (old new : GroupState) (n : ℕ) : Type 0 where
   pub present : is_present new n ≡ true
   pub unsynced : is_synced new n ≡ false
 
--- a member has joined again, in the generation as it was: it is granted what it was to keep, and no more
+-- a member has joined again, in the generation as it was: it is granted what it was to keep, and no
+-- more
 pub record HasRejoined (old new : GroupState) (n : ℕ) : Type 0 where
   pub generation : new.generation ≡ old.generation
   pub joined : is_joined new n ≡ true
@@ -43,7 +45,8 @@ pub record HasRejoined (old new : GroupState) (n : ℕ) : Type 0 where
   pub granted : granted_of new n ≡ assigned_of old n
   pub assigned : assigned_of new n ≡ assigned_of old n
 
--- a member that rejoined is granted what it was to keep, and has joined or is in the next generation
+-- a member that rejoined is granted what it was to keep, and has joined or is in the next
+-- generation
 pub record LeavesRejoined (old new : GroupState) (n : ℕ) : Type 0 where
   pub present : is_present new n ≡ true
   pub granted : (q : ℕ) → is_in (assigned_of old n) q ≡ true → is_in (granted_of new n) q ≡ true

@@ -26,14 +26,24 @@ abbrev pub is_settled : GroupState → Bool
 is_settled g = is_stable g.phase && all_agree g
 
 abbrev pub bare_seat : Seat → Seat
-bare_seat seat = record { joined = false; synced = false; granted = seat.granted; assigned = seat.assigned }
+bare_seat seat = record {
+  joined = false;
+  synced = false;
+  granted = seat.granted;
+  assigned = seat.assigned;
+}
 
 -- the group without its flags: the same, with nobody joined or synced
 abbrev pub bare : GroupState → GroupState
 bare g = record g { slots = each_changed (λ m. bare_seat) g.slots }
 
 abbrev pub yielded_seat : Seat → Seat
-yielded_seat seat = record { joined = false; synced = false; granted = seat.assigned; assigned = seat.assigned }
+yielded_seat seat = record {
+  joined = false;
+  synced = false;
+  granted = seat.assigned;
+  assigned = seat.assigned;
+}
 
 -- each member gives up what it is not to keep
 abbrev pub yielded : GroupState → GroupState
@@ -43,10 +53,13 @@ yielded g = record g { slots = each_changed (λ m. yielded_seat) g.slots }
 abbrev pub round : GroupState → GroupState
 round g = complete (yielded g)
 
--- where a rebalance ends, whatever the order of its calls: the group itself where nobody is present, or else the first
--- settled one of it, one round and two rounds, without flags
+-- where a rebalance ends, whatever the order of its calls: the group itself where nobody is
+-- present, or else the first settled one of it, one round and two rounds, without flags
 abbrev pub finish : GroupState → GroupState
 finish g =
     if is_anybody g
-    then (if is_settled g then bare g else if is_settled (round g) then round g else round (round g))
+    then
+    (if is_settled g then bare g
+    else if is_settled (round g) then round g
+    else round (round g))
     else bare g

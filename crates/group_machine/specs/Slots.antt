@@ -1,4 +1,5 @@
--- Members by their numbers. Slot k is of member number k + 1: it has its name and, while the member is present, its seat.
+-- Members by their numbers. Slot k is of member number k + 1: it has its name and, while the member
+-- is present, its seat.
 use Rattle.std.specs.Prelude.{ℕ, zero, suc, Bool, ◌&&◌, List, [], ◌∷◌, Option, Some, None, ◌==◌, is_some, map, find, slice_get, if◌then◌else◌}
 use Rattle.std.specs.List.{list_any, list_all}
 use Rattle.std.specs.Option.{option_map, option_and_then}

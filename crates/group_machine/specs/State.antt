@@ -10,8 +10,8 @@ use Rattle.group_machine.specs.declared.group.Phase.{Phase}
 use Rattle.group_machine.specs.declared.group.Phase.TheVariants.{Empty}
 use Rattle.group_machine.specs.Slots.{seat_of, present, members_in, granted_in, owner_in, is_anybody_in}
 
--- A group: its generation, its phase, how many partitions there are, the members by their numbers, for each partition
--- the member that was last granted it, and the moves so far
+-- A group: its generation, its phase, how many partitions there are, the members by their numbers,
+-- for each partition the member that was last granted it, and the moves so far
 pub record GroupState : Type 0 where
   pub generation : ℕ
   pub phase : Phase

@@ -19,11 +19,12 @@ use std::alloc::Global;
 use std::marker::Model;
 use std::random::RandomSource;
 
-/// Consumers that read partitioned logs, in one group: which partition is read by whom, and what was committed.
+/// Consumers that read partitioned logs, in one group: which partition is read by whom, and what
+/// was committed.
 ///
-/// The group is that of Kafka's cooperative rebalancing (KIP-429) with the balance of its sticky assignor. After each
-/// call no partition is granted to two present members, and the counter of each key is how often the key is in the
-/// records below the committed offsets, each taken once.
+/// The group is that of Kafka's cooperative rebalancing (KIP-429) with the balance of its sticky
+/// assignor. After each call no partition is granted to two present members, and the counter of
+/// each key is how often the key is in the records below the committed offsets, each taken once.
 #[derive(Drop)]
 pub struct Cluster {
     alloc: Global,
@@ -44,8 +45,9 @@ impl Model for Cluster {
 }
 
 impl Cluster {
-    /// A cluster of 1 to 4096 partitions, with nobody present and nothing appended. Refused for want of memory, or where
-    /// the random source fails, from which the hasher of the keys is drawn.
+    /// A cluster of 1 to 4096 partitions, with nobody present and nothing appended. Refused for
+    /// want of memory, or where the random source fails, from which the hasher of the keys is
+    /// drawn.
     pub fn new(rt: &impl RandomSource, alloc: Global, partitions: u32) -> Result<Cluster, Memory>
         requires { (1 ≤ partitions) × (partitions ≤ MOST_PARTITIONS) }
         ensures group { IfOk result (λ cluster. cluster.group ≡ opening partitions) }
@@ -67,8 +69,9 @@ impl Cluster {
 
     /// A new member joins, and gets the next number, from 1 on.
     ///
-    /// Refused, with everything as it was: a name that was used (`NameUsed`); a 513th member (`TooManyMembers`); a
-    /// completion past the last generation (`GenerationsOver`); want of memory.
+    /// Refused, with everything as it was: a name that was used (`NameUsed`); a 513th member
+    /// (`TooManyMembers`); a completion past the last generation (`GenerationsOver`); want of
+    /// memory.
     pub fn join(&mut self, name: Name) -> Result<u32, Refusal>
         ensures answer { Answers (join_answer self.old.group name) result }
         ensures ok { OnOk result (self.new ≡ with_group self.old (joined_by self.old.group name)) }
@@ -79,13 +82,15 @@ impl Cluster {
 
     /// A member gives up what it was not to keep, tells what it keeps, and joins the rebalance.
     ///
-    /// Refused, with everything as it was: a member that is not present (`UnknownMember`); another generation than the
-    /// group's (`StaleGeneration`); one that joined (`AlreadyJoined`); one that has not synced (`SyncFirst`); in a stable
-    /// group one with nothing to give (`NothingToGive`); a claim other than what it is to keep (`ClaimDiffers`), as one
-    /// of another number of partitions; a completion past the last generation (`GenerationsOver`); want of memory.
+    /// Refused, with everything as it was: a member that is not present (`UnknownMember`); another
+    /// generation than the group's (`StaleGeneration`); one that joined (`AlreadyJoined`); one that
+    /// has not synced (`SyncFirst`); in a stable group one with nothing to give (`NothingToGive`);
+    /// a claim other than what it is to keep (`ClaimDiffers`), as one of another number of
+    /// partitions; a completion past the last generation (`GenerationsOver`); want of memory.
     pub fn rejoin(&mut self, member: u32, generation: u32, claim: &Plane) -> Result<(), Refusal>
         ensures answer { Answers (rejoin_answer self.old.group member generation claim.now) result }
-        ensures ok { OnOk result (self.new ≡ with_group self.old (rejoined_by self.old.group member)) }
+        ensures ok { OnOk result (self.new
+            ≡ with_group self.old (rejoined_by self.old.group member)) }
         ensures err { OnErr result (self.new ≡ self.old) }
     {
         self.group.rejoin(self.alloc, member, generation, claim)
@@ -93,11 +98,12 @@ impl Cluster {
 
     /// A member learns what it is to keep in this generation, and where to read on.
     ///
-    /// Refused, with everything as it was: a member that is not present (`UnknownMember`); one that has joined the
-    /// rebalance that is to come (`RebalanceInProgress`); want of memory.
+    /// Refused, with everything as it was: a member that is not present (`UnknownMember`); one that
+    /// has joined the rebalance that is to come (`RebalanceInProgress`); want of memory.
     pub fn sync(&mut self, member: u32) -> Result<Lease, Refusal>
         ensures answer { Answers (cluster_sync_answer self.old member) result }
-        ensures ok { OnOk result (self.new ≡ with_group self.old (synced_by self.old.group member)) }
+        ensures ok { OnOk result (self.new
+            ≡ with_group self.old (synced_by self.old.group member)) }
         ensures err { OnErr result (self.new ≡ self.old) }
     {
         let lease = self.lease(member)?;
@@ -107,8 +113,8 @@ impl Cluster {
 
     /// A member leaves. What it was granted is free for others.
     ///
-    /// Refused, with everything as it was: a member that is not present (`UnknownMember`); a completion past the last
-    /// generation (`GenerationsOver`); want of memory.
+    /// Refused, with everything as it was: a member that is not present (`UnknownMember`); a
+    /// completion past the last generation (`GenerationsOver`); want of memory.
     pub fn leave(&mut self, member: u32) -> Result<(), Refusal>
         ensures answer { Answers (leave_answer self.old.group member) result }
         ensures ok { OnOk result (self.new ≡ with_group self.old (left_by self.old.group member)) }
@@ -126,15 +132,18 @@ impl Cluster {
         self.leave(member)
     }
 
-    /// Takes a commit whole, and answers the new committed offset of its partition. It takes no memory.
+    /// Takes a commit whole, and answers the new committed offset of its partition. It takes no
+    /// memory.
     ///
-    /// Refused, with everything as it was, by the first that holds: its member is not present (`UnknownMember`); it is of
-    /// another generation (`StaleGeneration`); the partition is not granted to the member (`NotOwner`), as one past the
-    /// last; no records (`EmptyCommit`); an offset other than the committed one (`OffsetMismatch`); records past the log's
-    /// end (`PastEnd`); numbers other than the log's (`WrongRecords`).
+    /// Refused, with everything as it was, by the first that holds: its member is not present
+    /// (`UnknownMember`); it is of another generation (`StaleGeneration`); the partition is not
+    /// granted to the member (`NotOwner`), as one past the last; no records (`EmptyCommit`); an
+    /// offset other than the committed one (`OffsetMismatch`); records past the log's end
+    /// (`PastEnd`); numbers other than the log's (`WrongRecords`).
     pub fn commit(&mut self, commit: &Commit) -> Result<u32, Refusal>
         ensures answer { result ≡ cluster_commit_answer self.old commit.now }
-        ensures accepts { IsDue self.old commit.now → result ≡ Ok (commit.now.from + length commit.now.ids) }
+        ensures accepts { IsDue self.old commit.now
+            → result ≡ Ok (commit.now.from + length commit.now.ids) }
         ensures accepted { OnOk result (IsDue self.old commit.now) }
         ensures ok { OnOk result (self.new ≡ committed_by self.old commit.now) }
         ensures err { OnErr result (self.new ≡ self.old) }
@@ -151,8 +160,8 @@ impl Cluster {
     /// Appends a record of this key to the log of its place, and answers the partition and the
     /// record's offset. A new key gets a counter at 0.
     ///
-    /// Refused, with everything as it was, as `Logs::append` is: `KeyTooLong`, `LogFull`, and for want
-    /// of memory.
+    /// Refused, with everything as it was, as `Logs::append` is: `KeyTooLong`, `LogFull`, and for
+    /// want of memory.
     pub fn append(&mut self, key: &[u8]) -> Result<(u32, u32), Refusal>
         ensures answer { Answers (append_answer self.old.logs key.now) result }
         ensures ok { OnOk result (self.new ≡ appended_to self.old key.now) }
@@ -251,7 +260,8 @@ impl Cluster {
 
     /// The name of each member that was given a number, present or not.
     pub fn name(&self, member: u32) -> Option<&Name>
-        ensures { MatchOption result (name_of self.now.group member ≡ None) (λ name. name_of self.now.group member ≡ Some name.now) }
+        ensures { MatchOption result (name_of self.now.group member ≡ None)
+            (λ name. name_of self.now.group member ≡ Some name.now) }
     {
         members::name_of(&self.group.slots, member)
     }
@@ -295,7 +305,8 @@ impl Cluster {
 
     /// What a member has, while it is present.
     fn seat(&self, member: u32) -> Option<&Seat>
-        ensures { MatchOption result (member_of self.now.group member ≡ None) (λ seat. member_of self.now.group member ≡ Some seat.now) }
+        ensures { MatchOption result (member_of self.now.group member ≡ None)
+            (λ seat. member_of self.now.group member ≡ Some seat.now) }
     {
         slots::seat_of(&self.group.slots, member)
     }

@@ -8,8 +8,8 @@ use bit_planes::Plane;
 use keyed_table::Partial;
 use std::marker::Model;
 
-/// A commit: the records of a partition from an offset on, by the numbers of their keys with the counts of these, in the
-/// name of a member in a generation.
+/// A commit: the records of a partition from an offset on, by the numbers of their keys with the
+/// counts of these, in the name of a member in a generation.
 #[derive(Drop)]
 pub struct Commit {
     member: u32,
@@ -24,13 +24,27 @@ impl Model for Commit {
 
     ghost Value = { CommitTerms };
 
-    ghost view = { λ c. record { member = c.member; generation = c.generation; partition = c.partition; from = c.from; ids = c.partial } };
+    ghost view = { λ c.
+        record {
+          member = c.member;
+          generation = c.generation;
+          partition = c.partition;
+          from = c.from;
+          ids = c.partial;
+        } };
 }
 
 impl Commit {
     /// A commit of these terms. It takes no memory.
     pub fn new(member: u32, generation: u32, partition: u32, from: u32, partial: Partial) -> Commit
-        ensures { result ≡ record { member = member; generation = generation; partition = partition; from = from; ids = partial } }
+        ensures { result
+            ≡ record {
+              member = member;
+              generation = generation;
+              partition = partition;
+              from = from;
+              ids = partial;
+            } }
     {
         Commit {
             member,
@@ -77,7 +91,8 @@ impl Commit {
     }
 }
 
-/// What a member is to keep in a generation, and from which offset on each of these partitions is to be read.
+/// What a member is to keep in a generation, and from which offset on each of these partitions is
+/// to be read.
 #[derive(Drop)]
 pub struct Lease {
     pub(crate) member: u32,
@@ -93,7 +108,8 @@ impl Model for Lease {
 
     ghost Value = { LeaseTerms };
 
-    ghost view = { λ l. record { member = l.member; generation = l.generation; assigned = l.assigned; starts = l.starts.items } };
+    ghost view = { λ l.
+        record { member = l.member; generation = l.generation; assigned = l.assigned; starts = l.starts.items } };
 
     ghost invariant = { λ l. length l.starts.items ≡ partitions_of l.assigned };
 }

@@ -4,14 +4,13 @@ ghost use Rattle.std.specs.Prelude.{◌≡◌, ◌+◌, ◌<◌, ◌≤◌, ℕ,
 ghost use Rattle.std.specs.Vec.{vec_len, vec_capacity};
 ghost use Rattle.lane_words.specs.Answers.{Answers};
 ghost use Rattle.bit_planes.specs.PartitionSet.{is_same};
-ghost use Rattle.group_machine.specs.State.{assigned_of, opening, is_present, member_of, is_anybody};
+ghost use Rattle.group_machine.specs.State.{opening, is_present, member_of, is_anybody};
 ghost use Rattle.group_machine.specs.Completion.{complete, completed};
 ghost use Rattle.group_machine.specs.Rounds.{is_settled, is_stable};
 ghost use Rattle.group_machine.specs.Steps.{newcomer, join_answer, joined_by, rejoin_refusal, rejoin_answer, rejoined_by, sync_answer, synced_by, leave_answer, left_by};
 ghost use Rattle.group_machine.specs.Good.{IsValidGroup};
-ghost use Rattle.group_machine.specs.Private.Changes.{after, IsChanged, IsCompletion, IsPlanned, IsRefused};
+ghost use Rattle.group_machine.specs.Private.Changes.{after, HasRoom, IsChanged, IsCompletion, IsLeasable, IsPlanned, IsRefused};
 ghost use Rattle.group_machine.specs.Private.GroupView.{group_view};
-ghost use Rattle.group_machine.specs.declared.group.completion.Completion.{Completion};
 
 mod change;
 mod completion;
@@ -77,7 +76,8 @@ pub struct Slot {
 ///
 /// Its steps are those of Kafka's cooperative rebalancing (KIP-429): a member that joins is given
 /// nothing that another still holds, and a partition moves once its holder has rejoined without it.
-/// What a valid group is the steps ask for and leave; the cluster, which has the one group, keeps it.
+/// What a valid group is the steps ask for and leave; the cluster, which has the one group, keeps
+/// it.
 #[derive(Drop)]
 pub struct Group {
     /// The generation: 0 until the first completion.
@@ -110,8 +110,8 @@ impl Group {
         })
     }
 
-    /// A member joins under a name that was never used, and is answered its number: 1 for the first,
-    /// then one more for each.
+    /// A member joins under a name that was never used, and is answered its number: 1 for the
+    /// first, then one more for each.
     pub fn join(&mut self, alloc: Global, name: Name) -> Result<u32, Refusal>
         requires { IsValidGroup (group_view self.old) }
         ensures answer { Answers (join_answer (group_view self.old) name) result }
@@ -143,7 +143,8 @@ impl Group {
         claim: &Plane,
     ) -> Result<(), Refusal>
         requires { IsValidGroup (group_view self.old) }
-        ensures answer { Answers (rejoin_answer (group_view self.old) member generation claim.now) result }
+        ensures answer { Answers
+            (rejoin_answer (group_view self.old) member generation claim.now) result }
         ensures ok { OnOk result (group_view self.new ≡ rejoined_by (group_view self.old) member) }
         ensures err { OnErr result (group_view self.new ≡ group_view self.old) }
         ensures valid { IsValidGroup (group_view self.new) }
@@ -160,7 +161,8 @@ impl Group {
 
     /// What a member is to keep, where it may sync.
     pub fn leasable(&self, member: u32) -> Result<&Plane, Refusal>
-        ensures may { IfOk result (λ assigned. (sync_answer (group_view self.now) member ≡ Ok tt) × (assigned.now ≡ assigned_of (group_view self.now) member) × (is_present (group_view self.now) member ≡ true)) }
+        ensures may { IfOk result
+            (λ assigned. IsLeasable (group_view self.now) member assigned.now) }
         ensures refused { IfErr result (λ why. sync_answer (group_view self.now) member ≡ Err why) }
     {
         let Some(seat) = slots::seat_of(&self.slots, member) else {
@@ -211,7 +213,8 @@ impl Group {
     /// Why a rejoin is refused, but for the last generation.
     fn why_no_rejoin(&self, member: u32, generation: u32, claim: &Plane) -> Option<Refusal>
         requires { IsValidGroup (group_view self.now) }
-        ensures { result ≡ rejoin_refusal (group_view self.now) generation claim.now (member_of (group_view self.now) member) }
+        ensures { result ≡ rejoin_refusal (group_view self.now) generation claim.now
+            (member_of (group_view self.now) member) }
     {
         let Some(seat) = slots::seat_of(&self.slots, member) else {
             return Some(Refusal::UnknownMember);
@@ -235,8 +238,8 @@ impl Group {
     }
 
     /// Plans the completion that comes after a change, if one does: it takes all memory that this
-    /// needs, with room for the moves, and changes nothing. Refused, in this order: a completion past
-    /// the last generation (`GenerationsOver`); want of memory.
+    /// needs, with room for the moves, and changes nothing. Refused, in this order: a completion
+    /// past the last generation (`GenerationsOver`); want of memory.
     fn plan_completion(
         &mut self,
         alloc: Global,
@@ -244,9 +247,12 @@ impl Group {
     ) -> Result<Option<Completion>, Refusal>
         requires valid { IsValidGroup (group_view self.old) }
         requires changed { (name : List ℕ) → IsChanged (after change name (group_view self.old)) }
-        ensures ok { (name : List ℕ) → IfOk result (IsPlanned (after change name (group_view self.old))) }
-        ensures room { IfOk result (λ planned. (a : Completion) → planned ≡ Some a → vec_len self.new.moves + length a.moves.items ≤ vec_capacity self.new.moves) }
-        ensures err { (name : List ℕ) → IfErr result (IsRefused (after change name (group_view self.old))) }
+        ensures ok { (name : List ℕ)
+            → IfOk result (IsPlanned (after change name (group_view self.old))) }
+        ensures room { IfOk result (λ planned.
+            HasRoom planned (vec_len self.new.moves) (vec_capacity self.new.moves)) }
+        ensures err { (name : List ℕ)
+            → IfErr result (IsRefused (after change name (group_view self.old))) }
         ensures same { group_view self.new ≡ group_view self.old }
         ensures valid { IsValidGroup (group_view self.new) }
     {
@@ -265,9 +271,11 @@ impl Group {
     fn completion_after(&self, alloc: Global, change: Change) -> Result<Completion, Memory>
         requires valid { IsValidGroup (group_view self.now) }
         requires changed { (name : List ℕ) → IsChanged (after change name (group_view self.now)) }
-        requires some { (name : List ℕ) → is_anybody (after change name (group_view self.now)) ≡ true }
+        requires some { (name : List ℕ) → is_anybody (after change name (group_view self.now))
+            ≡ true }
         requires more { self.now.generation < LAST_GENERATION }
-        ensures { (name : List ℕ) → IfOk result (IsCompletion (after change name (group_view self.now))) }
+        ensures { (name : List ℕ)
+            → IfOk result (IsCompletion (after change name (group_view self.now))) }
     {
         let granted = change::granted_rows(alloc, self.partitions, &self.slots, change)?;
         let next = completion::next_rows(alloc, &granted)?;
@@ -284,7 +292,7 @@ impl Group {
     fn complete(&mut self, planned: Option<Completion>)
         requires changed { IsChanged (group_view self.old) }
         requires planned { IsPlanned (group_view self.old) planned }
-        requires room { (a : Completion) → planned ≡ Some a → vec_len self.old.moves + length a.moves.items ≤ vec_capacity self.old.moves }
+        requires room { HasRoom planned (vec_len self.old.moves) (vec_capacity self.old.moves) }
         ensures completed { group_view self.new ≡ completed (group_view self.old) }
         ensures valid { IsValidGroup (group_view self.new) }
     {
@@ -298,7 +306,8 @@ impl Group {
         requires changed { IsChanged (group_view self.old) }
         requires more { self.old.generation < LAST_GENERATION }
         requires completion { IsCompletion (group_view self.old) completion.now }
-        requires room { vec_len self.old.moves + length completion.now.moves.items ≤ vec_capacity self.old.moves }
+        requires room { vec_len self.old.moves + length completion.now.moves.items
+            ≤ vec_capacity self.old.moves }
         requires some { is_anybody (group_view self.old) ≡ true }
         ensures { group_view self.new ≡ complete (group_view self.old) }
     {

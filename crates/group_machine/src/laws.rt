@@ -10,10 +10,11 @@ ghost use Rattle.group_machine.specs.Steps.{join_answer, joined_by, leave_answer
 ghost use Rattle.group_machine.specs.Good.{IsSound, IsValidGroup};
 ghost use Rattle.group_machine.specs.Others.{IsNewcomer, LeavesOthers, LeavesRejoined, LeavesSynced};
 
-/// After two rounds a group with a member is settled, where no partition is granted to two members and each member's
-/// sets are fit.
+/// After two rounds a group with a member is settled, where no partition is granted to two members
+/// and each member's sets are fit.
 pub fn two_rounds_settle()
-    ensures { (g : GroupState) → IsSound g → is_anybody g ≡ true → is_settled (round (round g)) ≡ true }
+    ensures { (g : GroupState) → IsSound g → is_anybody g ≡ true
+        → is_settled (round (round g)) ≡ true }
 {}
 
 /// A sync changes nothing of where a rebalance ends, moves and last holders included.
@@ -23,43 +24,55 @@ pub fn sync_keeps_the_end()
 
 /// An accepted rejoin changes nothing of where a rebalance ends, moves and last holders included.
 pub fn rejoin_keeps_the_end()
-    ensures { (g : GroupState) (member generation : ℕ) (claim : PartitionSet) → IsValidGroup g → rejoin_answer g member generation claim ≡ Ok tt → finish (rejoined_by g member) ≡ finish g }
+    ensures { (g : GroupState) (member generation : ℕ) (claim : PartitionSet) → IsValidGroup g
+        → rejoin_answer g member generation claim ≡ Ok tt
+        → finish (rejoined_by g member) ≡ finish g }
 {}
 
-/// At a completion no partition comes to two members: each that takes one, of its next row and not granted to it just
-/// before, is the one that the moves name.
+/// At a completion no partition comes to two members: each that takes one, of its next row and not
+/// granted to it just before, is the one that the moves name.
 pub fn one_member_takes_a_partition()
-    ensures { (g : GroupState) → IsSound g → is_anybody g ≡ true → (q member : ℕ) → takes g (next_rows (granted_rows g)) q member ≡ true → taker g (next_rows (granted_rows g)) q ≡ Some member }
+    ensures { (g : GroupState) → IsSound g → is_anybody g ≡ true → (q member : ℕ)
+        → takes g (next_rows (granted_rows g)) q member ≡ true
+        → taker g (next_rows (granted_rows g)) q ≡ Some member }
 {}
 
 /// A join leaves the members that were there.
 pub fn join_leaves_others()
-    ensures { (g : GroupState) (name : List ℕ) (number : ℕ) → IsValidGroup g → join_answer g name ≡ Ok number → LeavesOthers g (joined_by g name) number }
+    ensures { (g : GroupState) (name : List ℕ) (number : ℕ) → IsValidGroup g
+        → join_answer g name ≡ Ok number → LeavesOthers g (joined_by g name) number }
 {}
 
 /// The member that joined is new, and has not synced.
 pub fn join_brings_a_newcomer()
-    ensures { (g : GroupState) (name : List ℕ) (number : ℕ) → IsValidGroup g → join_answer g name ≡ Ok number → IsNewcomer g (joined_by g name) number }
+    ensures { (g : GroupState) (name : List ℕ) (number : ℕ) → IsValidGroup g
+        → join_answer g name ≡ Ok number → IsNewcomer g (joined_by g name) number }
 {}
 
 /// An accepted rejoin leaves the other members.
 pub fn rejoin_leaves_others()
-    ensures { (g : GroupState) (member generation : ℕ) (claim : PartitionSet) → IsValidGroup g → rejoin_answer g member generation claim ≡ Ok tt → LeavesOthers g (rejoined_by g member) member }
+    ensures { (g : GroupState) (member generation : ℕ) (claim : PartitionSet) → IsValidGroup g
+        → rejoin_answer g member generation claim ≡ Ok tt
+        → LeavesOthers g (rejoined_by g member) member }
 {}
 
 /// A member that rejoins is granted what it was to keep.
 pub fn rejoin_leaves_what_is_kept()
-    ensures { (g : GroupState) (member generation : ℕ) (claim : PartitionSet) → IsValidGroup g → rejoin_answer g member generation claim ≡ Ok tt → LeavesRejoined g (rejoined_by g member) member }
+    ensures { (g : GroupState) (member generation : ℕ) (claim : PartitionSet) → IsValidGroup g
+        → rejoin_answer g member generation claim ≡ Ok tt
+        → LeavesRejoined g (rejoined_by g member) member }
 {}
 
 /// A member that leaves leaves the other members.
 pub fn leave_leaves_others()
-    ensures { (g : GroupState) (member : ℕ) → IsValidGroup g → leave_answer g member ≡ Ok tt → LeavesOthers g (left_by g member) member }
+    ensures { (g : GroupState) (member : ℕ) → IsValidGroup g → leave_answer g member ≡ Ok tt
+        → LeavesOthers g (left_by g member) member }
 {}
 
 /// A member that left is not present.
 pub fn leave_takes_its_member_out()
-    ensures { (g : GroupState) (member : ℕ) → IsValidGroup g → leave_answer g member ≡ Ok tt → is_present (left_by g member) member ≡ false }
+    ensures { (g : GroupState) (member : ℕ) → IsValidGroup g → leave_answer g member ≡ Ok tt
+        → is_present (left_by g member) member ≡ false }
 {}
 
 /// A sync leaves the other members.

@@ -9,7 +9,8 @@ use std::marker::Model;
 /// The most bytes of a name.
 const LONGEST_NAME: usize = 32;
 
-/// A member's name: 1 to 32 ASCII letters, digits, `-` and `_`. It lies in place and takes no memory.
+/// A member's name: 1 to 32 ASCII letters, digits, `-` and `_`. It lies in place and takes no
+/// memory.
 #[derive(Drop)]
 pub struct Name {
     bytes: [u8; 32],

@@ -1,24 +1,16 @@
-//! Worked rows, and each call once with ample memory.
+//! Worked rows, each call once with ample memory, and as many members and partitions as there can
+//! be.
 
 use super::*;
 use bit_planes::Plane;
 use keyed_table::Partial;
-use lane_words::{Memory, Refusal};
+use lane_words::{MOST_MEMBERS, MOST_PARTITIONS, Memory, Refusal};
 use partition_log::LogRead;
 use std::alloc::Global;
 use std::process::Abort;
 use std::test::Fail;
 
-fn plane(list: &[u32]) -> Plane {
-    let mut plane = Plane::new(4);
-    for q in list {
-        if *q < plane.partitions() {
-            plane.insert(*q);
-        }
-    }
-    plane
-}
-
+/// Whether a set has these elements and no others.
 fn is(set: &Plane, list: &[u32]) -> bool {
     set.count() as usize == list.len() && list.iter().all(|q| set.contains(*q))
 }
@@ -31,8 +23,26 @@ fn has(cluster: &Cluster, member: u32, granted: &[u32], assigned: &[u32]) -> boo
     }
 }
 
+/// The name of this text, which is one.
 fn name(rt: &impl Abort, text: &[u8]) -> Name {
     Name::new(text).expect(rt, "a name")
+}
+
+/// The last digit of a number.
+fn digit(n: u32) -> u8 {
+    b'0' + (n % 10) as u8
+}
+
+/// A name of three digits.
+fn numbered(rt: &impl Abort, n: u32) -> Name {
+    name(rt, &[digit(n / 100), digit(n / 10), digit(n)])
+}
+
+/// A member syncs and rejoins with what it is leased, and tells how much that is.
+fn sync_and_rejoin(cluster: &mut Cluster, member: u32) -> Result<u32, Refusal> {
+    let lease = cluster.sync(member)?;
+    cluster.rejoin(member, lease.generation(), lease.assigned())?;
+    Ok(lease.assigned().count())
 }
 
 /// Whether a member is leased these partitions in this generation.
@@ -69,13 +79,13 @@ fn a_partition_moves_once_it_is_revoked(rt: HostRuntime) -> Result<(), Fail> {
     assert!(rt; cluster.is_joined(2) && !cluster.is_joined(1) && !cluster.is_synced(1));
     assert_eq!(rt; leases(&mut cluster, 1, 1, &[0, 1, 2, 3]), Ok(true));
     assert!(rt; cluster.is_synced(1));
-    assert_eq!(rt; cluster.rejoin(1, 1, &plane(&[0, 1, 2, 3])), Ok(()));
+    assert_eq!(rt; cluster.rejoin(1, 1, &Plane::of(4, &[0, 1, 2, 3])), Ok(()));
     assert!(rt; cluster.generation() == 2 && !cluster.is_settled());
     assert!(rt; has(&cluster, 1, &[0, 1, 2, 3], &[0, 1]) && has(&cluster, 2, &[], &[]));
     assert_eq!(rt; leases(&mut cluster, 1, 2, &[0, 1]), Ok(true));
-    assert_eq!(rt; cluster.rejoin(1, 2, &plane(&[0, 1])), Ok(()));
+    assert_eq!(rt; cluster.rejoin(1, 2, &Plane::of(4, &[0, 1])), Ok(()));
     assert_eq!(rt; leases(&mut cluster, 2, 2, &[]), Ok(true));
-    assert_eq!(rt; cluster.rejoin(2, 2, &plane(&[])), Ok(()));
+    assert_eq!(rt; cluster.rejoin(2, 2, &Plane::of(4, &[])), Ok(()));
     assert!(rt; cluster.generation() == 3 && cluster.is_settled());
     let last = cluster
         .moves()
@@ -97,11 +107,14 @@ fn commits_are_fenced_and_taken_once(rt: HostRuntime) -> Result<(), Fail> {
     assert_eq!(rt; cluster.append(b"21"), Ok((0, 0)));
     assert_eq!(rt; cluster.append(b"21"), Ok((0, 1)));
     assert_eq!(rt; cluster.join(name(&rt, b"A")), Ok(1));
-    assert_eq!(rt; cluster.rejoin(1, 1, &plane(&[])), Err(Refusal::SyncFirst));
+    assert_eq!(rt;
+        cluster.rejoin(1, 1, &Plane::of(4, &[])),
+        Err(Refusal::SyncFirst)
+    );
     assert_eq!(rt; leases(&mut cluster, 1, 1, &[0, 1, 2, 3]), Ok(true));
     assert_eq!(rt; cluster.join(name(&rt, b"B")), Ok(2));
     assert_eq!(rt;
-        cluster.rejoin(1, 1, &plane(&[0, 1])),
+        cluster.rejoin(1, 1, &Plane::of(4, &[0, 1])),
         Err(Refusal::ClaimDiffers)
     );
     let commits: [((u32, u32, u32, u32), &[u32], Result<u32, Refusal>); 9] = [
@@ -173,4 +186,31 @@ fn names_are_of_letters_digits_and_two_marks(rt: HostRuntime) {
     for (text, is_name) in texts {
         assert_eq!(rt; Name::new(text).is_some(), is_name, "{text:?}");
     }
+}
+
+#[test]
+fn a_cluster_at_its_limits(rt: HostRuntime) -> Result<(), Fail> {
+    let mut cluster = Cluster::new(&rt, rt.alloc(), MOST_PARTITIONS)?;
+    for member in 1..MOST_MEMBERS as u32 + 1 {
+        assert_eq!(rt; cluster.join(numbered(&rt, member)), Ok(member));
+    }
+    assert_eq!(rt;
+        cluster.join(name(&rt, b"late")),
+        Err(Refusal::TooManyMembers)
+    );
+    assert_eq!(rt; cluster.join(numbered(&rt, 7)), Err(Refusal::NameUsed));
+    assert_eq!(rt; sync_and_rejoin(&mut cluster, 1), Ok(MOST_PARTITIONS));
+    assert!(rt; cluster.generation() == 2 && cluster.moves().len() == MOST_PARTITIONS as usize);
+    assert!(rt;
+        cluster
+            .assigned(1)
+            .is_some_and(|kept| is(kept, &[0, 1, 2, 3, 4, 5, 6, 7]))
+    );
+    assert_eq!(rt; sync_and_rejoin(&mut cluster, 1), Ok(8));
+    assert_eq!(rt; sync_and_rejoin(&mut cluster, 512), Ok(0));
+    assert_eq!(rt; cluster.leave(512), Ok(()));
+    assert_eq!(rt; cluster.leave(512), Err(Refusal::UnknownMember));
+    assert!(rt; cluster.phase() == Phase::Preparing && cluster.generation() == 2);
+    assert!(rt; cluster.is_present(511) && !cluster.is_present(512));
+    Ok(())
 }

@@ -5,12 +5,12 @@ use Rattle.bit_planes.specs.PartitionSet.{PartitionSet, partitions_of}
 use Rattle.bit_planes.specs.SetRows.{SetRows, members, find_row, set_or_empty, sets_of, IsRising, AreOver, IsValidRows}
 use Rattle.bit_planes.proofs.Sets.{partitions_empty}
 use Rattle.sticky_assignor.specs.Balanced.{AreApart, AreBelow, IsBalanced}
-use Rattle.sticky_assignor.specs.Filling.{quotas, keeping, free_of, gaps, filled}
-use Rattle.sticky_assignor.specs.Kept.{kept}
+use Rattle.sticky_assignor.specs.Private.Filling.{quotas, keeping, free_of, gaps, filled}
+use Rattle.sticky_assignor.specs.Kept.{kept, KeepsMost}
 use Rattle.sticky_assignor.specs.Target.{target}
 use Rattle.bit_planes.proofs.RowLaws.{rising_rest}
 use Rattle.sticky_assignor.proofs.Rows.{eq_self, not_eq}
-use Rattle.sticky_assignor.proofs.Laws.{is_balanced, keeps_most}
+use Rattle.sticky_assignor.proofs.TargetLaws.{is_balanced, keeps_most}
 use Rattle.sticky_assignor.proofs.Ranks.{filling_is_target, length_quotas}
 use Rattle.sticky_assignor.specs.Assigned.{pair_up, assigned, target_rows}
 use Rattle.sticky_assignor.proofs.SecondRound.{target_over, length_target}
@@ -139,7 +139,7 @@ balanced_assigned p ms owned below kept some rising apart =
     subst (IsBalanced p) (sym (sets_assigned p ms owned rising)) (is_balanced p (sets_of owned ms) many over apart)
 
 pub most_assigned : (p : ℕ) (ms : List ℕ) (owned : SetRows) → owned.partitions ≡ p → IsValidRows owned → IsRising ms
-    → (others : List PartitionSet) → length others ≡ length ms → AreBelow p others → IsBalanced p others → kept (sets_of owned ms) others ≤ kept (sets_of owned ms) (sets_of (assigned p ms owned) ms)
+    → KeepsMost p (sets_of owned ms) (sets_of (assigned p ms owned) ms)
 most_assigned p ms owned below is rising others len over balanced =
     let mine : AreBelow p (sets_of owned ms) = subst (λ n. AreBelow n (sets_of owned ms)) below (sets_over owned ms is) in
-    subst (λ rows. kept (sets_of owned ms) others ≤ kept (sets_of owned ms) rows) (sym (sets_assigned p ms owned rising)) (keeps_most p (sets_of owned ms) others (len ∙ sym (length_sets owned ms)) mine over balanced)
+    subst (λ rows. kept (sets_of owned ms) others ≤ kept (sets_of owned ms) rows) (sym (sets_assigned p ms owned rising)) (keeps_most p (sets_of owned ms) others len mine over balanced)

@@ -5,7 +5,7 @@ use Rattle.std.proofs.lemmas.Bool.{cases_lt}
 use Rattle.bit_planes.specs.PartitionSet.{PartitionSet, partitions_of, is_in, one, size, full_set, union, minus, lowest}
 use Rattle.bit_planes.proofs.Sets.{one_le, one_or, one_in_minus, in_union, in_full, partitions_full, partitions_lowest, partitions_minus, lowest_splits, size_lowest, size_union, size_minus, size_full}
 use Rattle.sticky_assignor.specs.Balanced.{holders, size_at, IsBalanced, AreApart, AreBelow}
-use Rattle.sticky_assignor.specs.Filling.{one_of, shares, quotas, keeping, free_of, gaps, filled, filled_up, filling}
+use Rattle.sticky_assignor.specs.Private.Filling.{one_of, shares, quotas, keeping, free_of, gaps, filled, filled_up, filling}
 use Rattle.sticky_assignor.specs.Target.{is_heavy, heavies}
 use Rattle.sticky_assignor.proofs.Rows.{one_none, size_beyond, none_past}
 

@@ -5,7 +5,7 @@ use Rattle.std.proofs.lemmas.Bool.{cases_lt}
 use Rattle.bit_planes.specs.PartitionSet.{PartitionSet, partitions_of, is_in, one, size, full_set}
 use Rattle.bit_planes.proofs.Sets.{one_le, size_is, how_many-none, partitions_full}
 use Rattle.sticky_assignor.specs.Balanced.{size_at, IsBalanced, AreApart, AreBelow}
-use Rattle.sticky_assignor.specs.Filling.{free_of}
+use Rattle.sticky_assignor.specs.Private.Filling.{free_of}
 use Rattle.sticky_assignor.proofs.Rows.{one_past, none_past, is_false}
 use Rattle.sticky_assignor.proofs.Balance.{total, sizes, Within, InAll, in_all, free_holders, size_free}
 

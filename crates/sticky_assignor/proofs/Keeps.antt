@@ -5,7 +5,7 @@ use Rattle.std.proofs.lemmas.Bool.{lt-ltb}
 use Rattle.std.proofs.lemmas.Bool.Decides.{nat_tests}
 use Rattle.bit_planes.specs.PartitionSet.{PartitionSet, is_in, rank, size, lowest}
 use Rattle.bit_planes.proofs.Sets.{same_set, partitions_lowest, in_lowest, rank_below}
-use Rattle.sticky_assignor.specs.Filling.{one_of, shares, quotas, keeping}
+use Rattle.sticky_assignor.specs.Private.Filling.{one_of, shares, quotas, keeping}
 use Rattle.sticky_assignor.specs.Target.{is_heavy, heavies}
 use Rattle.sticky_assignor.proofs.Balance.{total, Within, Fits, heavies_cons}
 

@@ -2,10 +2,10 @@ pub mod AssignedLaws
 pub mod Balance
 pub mod Even
 pub mod Keeps
-pub mod Laws
 pub mod Most
 pub mod Ranks
 pub mod Rows
 pub mod SecondRound
 pub mod Stays
 pub mod Steps
+pub mod TargetLaws

@@ -5,7 +5,7 @@ use Rattle.std.proofs.lemmas.Bool.Decides.{nat_tests}
 use Rattle.bit_planes.specs.PartitionSet.{PartitionSet, partitions_of, is_in, one, rank, size, union, minus, lowest}
 use Rattle.bit_planes.proofs.Sets.{how_many-same, size_is, in_lowest, in_union, partitions_lowest, partitions_minus, size_lowest}
 use Rattle.sticky_assignor.specs.Balanced.{AreBelow, IsBalanced}
-use Rattle.sticky_assignor.specs.Filling.{one_of, shares, quotas, keeping, free_of, gaps, filled, filling}
+use Rattle.sticky_assignor.specs.Private.Filling.{one_of, shares, quotas, keeping, free_of, gaps, filled, filling}
 use Rattle.sticky_assignor.specs.Target.{is_heavy, heavies}
 use Rattle.sticky_assignor.specs.Kept.{in_both, kept}
 use Rattle.sticky_assignor.proofs.Rows.{how_many-most}

@@ -5,11 +5,11 @@ use Rattle.std.proofs.lemmas.Bool.Decides.{nat_tests}
 use Rattle.std.specs.Prelude.{nat_lt, nat_le}
 use Rattle.bit_planes.specs.PartitionSet.{PartitionSet, partitions_of, is_in, one, any_below, rank, size, union, minus, lowest}
 use Rattle.bit_planes.proofs.Sets.{same_set, partitions_where, in_where, in_full, in_minus, in_lowest, partitions_lowest, partitions_minus, rank_is, rank_next, rank_lowest, lowest_splits}
-use Rattle.sticky_assignor.specs.Filling.{one_of, shares, quotas, keeping, free_of, gaps, filled, filling}
+use Rattle.sticky_assignor.specs.Private.Filling.{one_of, shares, quotas, keeping, free_of, gaps, filled, filling}
 use Rattle.sticky_assignor.specs.Target.{is_heavy, heavies, row_at, sum_below, quota_of, kept_row, free_set, gap_of, covers, taken_row, rows_by, target}
 use Rattle.sticky_assignor.proofs.Balance.{total, heavies_cons, length_shares, partitions_free, length_gaps, keeping_fits}
 
--- ---- quotas by place
+-- ---- quotas by index
 one_of_lt : (n : ℕ) → one_of n ≡ one (nat_lt 0 n)
 one_of_lt zero = refl
 one_of_lt (suc n) = rw (lt-ltb 0 (suc n) (omega arith)) refl
@@ -56,7 +56,7 @@ rank_parts n s (suc q) =
 rank_beyond : (n : ℕ) (s : PartitionSet) (q : ℕ) → rank (minus s (lowest n s)) q ≡ rank s q - n
 rank_beyond n s q = omega (arith, rank_parts n s q, rank_lowest n s q)
 
--- ---- what the member at place i is given
+-- ---- what the member at index i is given
 abbrev given : PartitionSet → List ℕ → ℕ → PartitionSet
 given free [] i = free
 given free (g ∷ gs) zero = lowest g free

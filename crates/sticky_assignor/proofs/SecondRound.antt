@@ -3,7 +3,7 @@ use Rattle.std.proofs.Common.{ℕ, zero, suc, ◌≡◌, ◌/◌, ◌<◌, ◌�
 use Rattle.bit_planes.specs.PartitionSet.{PartitionSet, partitions_of, is_in, one, size, minus, lowest}
 use Rattle.bit_planes.proofs.Sets.{in_union, partitions_union, partitions_lowest, partitions_minus, size_is}
 use Rattle.sticky_assignor.specs.Balanced.{holders, AreBelow, AreApart, IsBalanced}
-use Rattle.sticky_assignor.specs.Filling.{quotas, keeping, free_of, gaps, filled}
+use Rattle.sticky_assignor.specs.Private.Filling.{quotas, keeping, free_of, gaps, filled}
 use Rattle.sticky_assignor.specs.Target.{rows_by, target}
 use Rattle.sticky_assignor.proofs.Rows.{how_many-most}
 use Rattle.sticky_assignor.proofs.Balance.{Within, Fits, partitions_free, length_gaps, keeping_over}

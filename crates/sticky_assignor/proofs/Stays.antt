@@ -3,7 +3,7 @@ use Rattle.std.proofs.Common.{ℕ, ◌≡◌, ◌<◌, Bool, true, false, ◌||�
 use Rattle.bit_planes.specs.PartitionSet.{PartitionSet, partitions_of, is_in, size, union, minus, lowest}
 use Rattle.bit_planes.proofs.Sets.{same_set, in_union, partitions_union, partitions_lowest, partitions_minus, none_of_no_size, size_lowest}
 use Rattle.sticky_assignor.specs.Balanced.{AreBelow, IsBalanced}
-use Rattle.sticky_assignor.specs.Filling.{quotas, free_of, gaps, filled, filling}
+use Rattle.sticky_assignor.specs.Private.Filling.{quotas, free_of, gaps, filled, filling}
 use Rattle.sticky_assignor.proofs.Rows.{size_beyond}
 use Rattle.sticky_assignor.proofs.Balance.{Fits, length_gaps, partitions_free}
 use Rattle.sticky_assignor.proofs.Keeps.{keeping_all, fits_quotas}

@@ -6,11 +6,11 @@ use Rattle.bit_planes.specs.SetRows.{SetRows, members, put_row, with_row, set_of
 use Rattle.bit_planes.proofs.Sets.{same_set, in_minus, partitions_minus}
 use Rattle.bit_planes.proofs.RowLaws.{put_last}
 use Rattle.sticky_assignor.specs.Assigned.{pair_up}
-use Rattle.sticky_assignor.specs.Filling.{one_of, shares, keeping, free_of, gaps, filled}
+use Rattle.sticky_assignor.specs.Private.Filling.{one_of, shares, keeping, free_of, gaps, filled}
 use Rattle.sticky_assignor.specs.Target.{is_heavy, heavies}
 use Rattle.sticky_assignor.proofs.Balance.{heavies_cons}
 
--- the sets from place i on
+-- the sets from index i on
 pub sets_next : (owned : SetRows) (ms : List ℕ) (i m : ℕ) → i < length ms → m ≡ get_or ms i m → sets_of owned (drop i ms) ≡ set_of owned m ∷ sets_of owned (drop (i + 1) ms)
 sets_next owned [] i m lt e = absurd (omega arith)
 sets_next owned (x ∷ ms) zero m lt e = rw e refl
@@ -75,7 +75,7 @@ keeping_next owned (x ∷ ms) (y ∷ qs) (suc i) m n lm lq em en =
     let k : suc i + 1 ≡ suc (i + 1) = omega arith in rw k (keeping_next owned ms qs i m n (omega arith) (omega arith) em en)
 
 -- ---- filling
--- the rows of the members from place i on
+-- the rows of the members from index i on
 abbrev pub filled_from : SetRows → PartitionSet → List ℕ → List ℕ → ℕ → List (ℕ × PartitionSet)
 filled_from owned free ms qs i =
     let ks = keeping (drop i qs) (sets_of owned (drop i ms)) in

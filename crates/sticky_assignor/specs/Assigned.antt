@@ -12,7 +12,8 @@ pair_up (m ∷ ms) (row ∷ rows) = (m, row) ∷ pair_up ms rows
 
 -- the target of these members, by what they own. Rows of other members are disregarded
 unfoldable pub assigned : ℕ → List ℕ → SetRows → SetRows
-assigned partitions ms owned = record { partitions = partitions; rows = pair_up ms (target partitions (sets_of owned ms)) }
+assigned partitions ms owned =
+    record { partitions = partitions; rows = pair_up ms (target partitions (sets_of owned ms)) }
 
 -- the target of rows: of all their members
 abbrev pub target_rows : SetRows → SetRows

@@ -1,6 +1,7 @@
 -- How much stays where it is.
-use Rattle.std.specs.Prelude.{ℕ, ◌+◌, ◌&&◌, List, [], ◌∷◌}
+use Rattle.std.specs.Prelude.{◌≡◌, ◌≤◌, ℕ, ◌+◌, ◌&&◌, List, [], ◌∷◌, length}
 use Rattle.bit_planes.specs.PartitionSet.{PartitionSet, partitions_of, is_in, how_many}
+use Rattle.sticky_assignor.specs.Balanced.{AreBelow, IsBalanced}
 
 -- how many partitions are in both sets
 abbrev pub in_both : PartitionSet → PartitionSet → ℕ
@@ -11,3 +12,9 @@ abbrev pub kept : List PartitionSet → List PartitionSet → ℕ
 kept [] rows = 0
 kept (own ∷ owned) [] = 0
 kept (own ∷ owned) (row ∷ rows) = in_both own row + kept owned rows
+
+-- of what was owned, no balanced rows keep more
+abbrev pub KeepsMost : ℕ → List PartitionSet → List PartitionSet → Type 0
+KeepsMost partitions owned rows = (others : List PartitionSet) → length others ≡ length owned
+    → AreBelow partitions others → IsBalanced partitions others
+    → kept owned others ≤ kept owned rows

@@ -1,44 +1,34 @@
-//! The sticky assignment: who is to own which partition, so that the sizes are even and as much as can stays with
-//! its owner, as Kafka's StickyAssignor documents it.
+//! The sticky assignment: who is to own which partition, so that the sizes are even and as much as
+//! can stays with its owner, as Kafka's StickyAssignor documents it.
 #![tactic(auto)]
 
-ghost use Rattle.std.specs.Prelude.{◌≡◌, ◌+◌, ◌-◌, ◌<◌, ◌≤◌, ℕ, List, length, vec_len, IfOk, IsSome};
-ghost use Rattle.bit_planes.specs.PartitionSet.{PartitionSet, partitions_of};
+ghost use Rattle.std.specs.Prelude.{◌≡◌, ◌<◌, ◌≤◌, length, IfOk, IsSome};
+ghost use Rattle.bit_planes.specs.PartitionSet.{partitions_of};
 ghost use Rattle.bit_planes.specs.SetRows.{IsValidRows, IsRising, members as members_of, row_of, set_of, sets_of};
-ghost use Rattle.sticky_assignor.specs.Assigned.{assigned, pair_up, HaveRows};
-ghost use Rattle.sticky_assignor.specs.Balanced.{AreApart, AreBelow, IsBalanced};
-ghost use Rattle.sticky_assignor.specs.Filling.{filled, free_of, gaps, keeping, one_of, quotas, shares};
-ghost use Rattle.sticky_assignor.specs.Kept.{kept};
-ghost use Rattle.sticky_assignor.specs.Target.{heavies, target};
+ghost use Rattle.sticky_assignor.specs.Assigned.{assigned, HaveRows};
+ghost use Rattle.sticky_assignor.specs.Balanced.{AreApart, IsBalanced};
+ghost use Rattle.sticky_assignor.specs.Kept.{KeepsMost};
+ghost use Rattle.sticky_assignor.specs.Private.Filling.{filled_rows, free_of, keeping, one_of, quotas, shares};
+ghost use Rattle.sticky_assignor.specs.Target.{heavies};
+
+mod laws;
+
+pub use laws::{balanced_stays, target_is_balanced, target_keeps_most};
 
 #[cfg(test)]
 mod tests;
 
 use bit_planes::{Plane, PlaneRows};
-use lane_words::Memory;
+use lane_words::{MOST_PARTITIONS, Memory};
 use std::alloc::Global;
 
-/// Each target is balanced.
-pub fn target_is_balanced()
-    ensures { (partitions : ℕ) (owned : List PartitionSet) → 0 < length owned → AreBelow partitions owned → AreApart owned → IsBalanced partitions (target partitions owned) }
-{}
-
-/// No balanced rows leave more partitions with their owners.
-pub fn target_keeps_most()
-    ensures { (partitions : ℕ) (owned rows : List PartitionSet) → length rows ≡ length owned → AreBelow partitions owned → AreBelow partitions rows → IsBalanced partitions rows → kept owned rows ≤ kept owned (target partitions owned) }
-{}
-
-/// Nothing moves where the rows are balanced already.
-pub fn balanced_stays()
-    ensures { (partitions : ℕ) (rows : List PartitionSet) → AreBelow partitions rows → IsBalanced partitions rows → target partitions rows ≡ rows }
-{}
-
-/// The rows that the members are to own, of the partitions below `p`: balanced, and of all balanced rows those that
-/// leave the most partitions with their owners.
+/// The rows that the members are to own, of this many partitions: balanced, and of all balanced
+/// rows those that leave the most partitions with their owners.
 ///
-/// There is at least one member, the numbers of the members rise, and `owned`, of sets below `p`, has a row for each
-/// of them; these rows are disjoint. What `owned` has of other members is disregarded. Refused for want of memory
-/// alone. Its cost is linear in members times partitions.
+/// There is at least one member, the numbers of the members rise, and `owned`, of as many
+/// partitions, has a row for each of them; these rows are disjoint. What `owned` has of other
+/// members is disregarded. Refused for want of memory alone. Its cost is linear in members times
+/// partitions.
 pub fn assign(
     alloc: Global,
     partitions: u32,
@@ -53,7 +43,8 @@ pub fn assign(
     ensures target { IfOk result (λ rows. rows ≡ assigned partitions members.now owned.now) }
     ensures members { IfOk result (λ rows. members_of rows ≡ members.now) }
     ensures balanced { IfOk result (λ rows. IsBalanced partitions (sets_of rows members.now)) }
-    ensures most { IfOk result (λ rows. (others : List PartitionSet) → length others ≡ length members.now → AreBelow partitions others → IsBalanced partitions others → kept (sets_of owned.now members.now) others ≤ kept (sets_of owned.now members.now) (sets_of rows members.now)) }
+    ensures most { IfOk result (λ rows.
+        KeepsMost partitions (sets_of owned.now members.now) (sets_of rows members.now)) }
     ensures valid { IfOk result IsValidRows }
 {
     prove!(owned.partitions() == partitions);
@@ -66,7 +57,8 @@ pub fn assign(
 fn quotas_of(alloc: Global, members: &[u32], owned: &PlaneRows) -> Result<Vec<u32>, Memory>
     requires some { 0 < length members.now }
     requires rows { HaveRows owned.now members.now }
-    ensures { IfOk result (λ qs. qs.items ≡ quotas owned.now.partitions (sets_of owned.now members.now)) }
+    ensures { IfOk result (λ qs.
+        qs.items ≡ quotas owned.now.partitions (sets_of owned.now members.now)) }
 {
     let partitions = owned.partitions() as usize;
     let share = (partitions / members.len()) as u32;
@@ -99,9 +91,10 @@ fn shares_of(
     members: &[u32],
     owned: &PlaneRows,
 ) -> Result<Vec<u32>, Memory>
-    requires few { share ≤ 4096 }
+    requires few { share ≤ MOST_PARTITIONS }
     requires rows { HaveRows owned.now members.now }
-    ensures { IfOk result (λ qs. qs.items ≡ shares share for_heavy for_others (sets_of owned.now members.now)) }
+    ensures { IfOk result (λ qs.
+        qs.items ≡ shares share for_heavy for_others (sets_of owned.now members.now)) }
 {
     let mut quotas = Vec::with_capacity(alloc, members.len())?;
     let mut heavy_left = for_heavy;
@@ -130,7 +123,8 @@ fn one_of(left: usize) -> u32
 fn free_beside(quotas: &[u32], members: &[u32], owned: &PlaneRows) -> Plane
     requires long { length quotas.now ≡ length members.now }
     requires rows { HaveRows owned.now members.now }
-    ensures free { result ≡ free_of owned.now.partitions (keeping quotas.now (sets_of owned.now members.now)) }
+    ensures free { result
+        ≡ free_of owned.now.partitions (keeping quotas.now (sets_of owned.now members.now)) }
     ensures below { partitions_of result ≡ owned.now.partitions }
 {
     let mut free = Plane::full(owned.partitions());
@@ -140,7 +134,8 @@ fn free_beside(quotas: &[u32], members: &[u32], owned: &PlaneRows) -> Plane
     free
 }
 
-/// The rows: what each member keeps, and of the free partitions, in rising order, what its quota lacks.
+/// The rows: what each member keeps, and of the free partitions, in rising order, what its quota
+/// lacks.
 fn fill(
     alloc: Global,
     all_free: Plane,
@@ -152,7 +147,7 @@ fn fill(
     requires long { length quotas.now ≡ length members.now }
     requires rising { IsRising members.now }
     requires rows { HaveRows owned.now members.now }
-    ensures { IfOk result (λ rows. rows ≡ record { partitions = owned.now.partitions; rows = pair_up members.now (filled all_free (gaps quotas.now (keeping quotas.now (sets_of owned.now members.now))) (keeping quotas.now (sets_of owned.now members.now))) }) }
+    ensures { IfOk result (λ rows. rows ≡ filled_rows all_free quotas.now members.now owned.now) }
 {
     let mut rows = PlaneRows::new(alloc, owned.partitions());
     let mut free = all_free;

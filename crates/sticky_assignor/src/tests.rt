@@ -1,5 +1,6 @@
-//! The worked rows, and the assignment beside a search over all assignments. Here an assignment is the list of its
-//! partitions' owners, 0 where nobody owns a partition.
+//! The worked rows, the assignment beside a search over all assignments, and as many members and
+//! partitions as there can be. Here an assignment is the list of its partitions' owners, 0 where
+//! nobody owns a partition.
 
 ghost use Rattle.std.specs.Prelude.{◌≡◌, ◌<◌, ◌≤◌, length, IfOk, IsTrue};
 ghost use Rattle.bit_planes.specs.PartitionSet.{partitions_of};
@@ -8,12 +9,13 @@ ghost use Rattle.sticky_assignor.specs.Assigned.{HaveRows};
 ghost use Rattle.sticky_assignor.specs.Balanced.{AreApart};
 
 use super::*;
+use lane_words::MOST_MEMBERS;
 use std::process::Abort;
 use std::test::Fail;
 
 /// The rows of these members.
 fn rows_by(alloc: Global, members: &[u32], owners: &[u32]) -> Result<PlaneRows, Memory>
-    requires { (1 ≤ length owners.now) × (length owners.now ≤ 4096) }
+    requires { (1 ≤ length owners.now) × (length owners.now ≤ MOST_PARTITIONS) }
     ensures { IfOk result (λ rows. rows.partitions ≡ length owners.now) }
 {
     let mut rows = PlaneRows::new(alloc, owners.len() as u32);
@@ -25,7 +27,7 @@ fn rows_by(alloc: Global, members: &[u32], owners: &[u32]) -> Result<PlaneRows, 
 
 /// The partitions of one owner.
 fn row_by(member: u32, owners: &[u32]) -> Plane
-    requires { (1 ≤ length owners.now) × (length owners.now ≤ 4096) }
+    requires { (1 ≤ length owners.now) × (length owners.now ≤ MOST_PARTITIONS) }
     ensures { partitions_of result ≡ length owners.now }
 {
     let partitions = owners.len() as u32;
@@ -43,9 +45,9 @@ fn owners_by(alloc: Global, rows: &PlaneRows) -> Result<Vec<u32>, Memory> {
     let mut owners = Vec::new(alloc);
     for q in 0..rows.partitions() {
         let mut owner = 0;
-        for row in rows.rows() {
-            if row.1.contains(q) {
-                owner = if owner == 0 { row.0 } else { u32::MAX };
+        for (member, row) in rows.iter() {
+            if row.contains(q) {
+                owner = if owner == 0 { member } else { u32::MAX };
             }
         }
         owners.push(owner)?;
@@ -97,7 +99,7 @@ fn assigned(
     members: &[u32],
     owners: &[u32],
 ) -> Result<Vec<u32>, Memory>
-    requires { (1 ≤ length owners.now) × (length owners.now ≤ 4096) }
+    requires { (1 ≤ length owners.now) × (length owners.now ≤ MOST_PARTITIONS) }
 {
     let owned = rows_by(alloc, members, owners)?;
     assert!(rt; !members.is_empty());
@@ -126,7 +128,7 @@ fn check_row(
     expected: &[u32],
     stay: usize,
 ) -> Result<(), Memory>
-    requires { (1 ≤ length owners.now) × (length owners.now ≤ 4096) }
+    requires { (1 ≤ length owners.now) × (length owners.now ≤ MOST_PARTITIONS) }
 {
     let given = assigned(rt, alloc, members, owners)?;
     assert_eq!(rt; given.as_slice(), expected);
@@ -177,7 +179,8 @@ fn owners_of(code: u32) -> [u32; 4] {
     owners
 }
 
-/// Whether each partition is owned, by one of the members 1 to n, of whom none has two more than another.
+/// Whether each partition is owned, by one of the members 1 to n, of whom none has two more than
+/// another.
 fn is_balanced(n: u32, owners: &[u32]) -> bool {
     let (mut least, mut most) = (usize::MAX, 0);
     for member in 1..=n {
@@ -218,5 +221,36 @@ fn no_balanced_assignment_keeps_more(rt: HostRuntime) -> Result<(), Fail> {
             }
         }
     }
+    Ok(())
+}
+
+/// The owners that the assignment gives to members 1 to 512, who have eight partitions each.
+fn spread(rt: &impl Abort, alloc: Global, owners: &[u32]) -> Result<Vec<u32>, Memory>
+    requires { length owners.now ≡ MOST_PARTITIONS }
+{
+    let members: Vec<u32> = (1..MOST_MEMBERS as u32 + 1).collect(alloc)?;
+    let given = assigned(rt, alloc, &members, owners)?;
+    for member in &members {
+        let size = given.iter().filter(|owner| *owner == member).count();
+        assert_eq!(rt; size, MOST_PARTITIONS as usize / MOST_MEMBERS, "{member}");
+    }
+    Ok(given)
+}
+
+#[test]
+fn spreads_the_most_partitions(rt: HostRuntime) -> Result<(), Fail> {
+    // All with one member, of which eight stay, and then all even, of which all stay.
+    let first = vec![in rt.alloc(); 1; MOST_PARTITIONS as usize]?;
+    let given = spread(&rt, rt.alloc(), &first)?;
+    assert_eq!(rt;
+        kept(&first, &given),
+        MOST_PARTITIONS as usize / MOST_MEMBERS
+    );
+    let mut even = vec![in rt.alloc(); 0; MOST_PARTITIONS as usize]?;
+    for q in 0..MOST_PARTITIONS {
+        even[q as usize] = q % MOST_MEMBERS as u32 + 1;
+    }
+    let given = spread(&rt, rt.alloc(), &even)?;
+    assert!(rt; given == even);
     Ok(())
 }

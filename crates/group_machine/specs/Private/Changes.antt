@@ -1,9 +1,10 @@
 -- What a step is to change, and what its completion needs.
-use Rattle.std.specs.Prelude.{◌≡◌, ℕ, ◌<◌, true, false, List, [], ◌∷◌, ◌++◌, ◌⊎◌, Option, Some, None}
+use Rattle.std.specs.Prelude.{◌≡◌, ℕ, ◌<◌, true, false, List, [], ◌∷◌, ◌++◌, ◌⊎◌, Option, Some, None, Ok, ◌+◌, ◌≤◌, length}
 use Rattle.std.specs.Option.{option_map}
 use Rattle.lane_words.specs.declared.limits.TheConstants.{LAST_GENERATION}
 use Rattle.lane_words.specs.declared.Refusal.{Refusal}
 use Rattle.lane_words.specs.declared.Refusal.TheVariants as r
+use Rattle.bit_planes.specs.PartitionSet.{PartitionSet}
 use Rattle.coop_rebalance.specs.Rounds.{next_rows}
 use Rattle.group_machine.specs.declared.group.Slot.{Slot}
 use Rattle.group_machine.specs.declared.group.Seat.{Seat}
@@ -13,10 +14,10 @@ use Rattle.group_machine.specs.declared.group.change.Change.{Change}
 use Rattle.group_machine.specs.declared.group.change.Change.TheVariants.{Joins, Rejoins, Leaves}
 use Rattle.group_machine.specs.declared.group.completion.Completion.{Completion}
 use Rattle.group_machine.specs.Slots.{only_of, one_changed, without_seat}
-use Rattle.group_machine.specs.State.{GroupState, is_anybody, granted_rows}
+use Rattle.group_machine.specs.State.{GroupState, assigned_of, is_anybody, is_present, granted_rows}
 use Rattle.group_machine.specs.Moves.{takers, moves_to}
 use Rattle.group_machine.specs.Completion.{all_joined, is_ready, is_over}
-use Rattle.group_machine.specs.Steps.{newcomer, rejoined_seat, phase_left}
+use Rattle.group_machine.specs.Steps.{sync_answer, newcomer, rejoined_seat, phase_left}
 use Rattle.group_machine.specs.Good.{IsSized, IsApart, AllFit, IsHeldByLast}
 
 -- the seat after a change of the member m that had this one
@@ -65,7 +66,24 @@ IsPlanned g None = is_ready g ≡ false
 IsPlanned g (Some a) =
     (is_ready g ≡ true) × (g.generation < LAST_GENERATION) × IsCompletion g a
 
+-- there is room for the moves of a planned completion
+abbrev pub HasRoom : Option Completion → ℕ → ℕ → Type 0
+HasRoom planned used capacity =
+    (a : Completion) → planned ≡ Some a → used + length a.moves.items ≤ capacity
+
 -- why none is planned: it would pass the last generation, or memory was refused
 abbrev pub IsRefused : GroupState → Refusal → Type 0
 IsRefused g why =
     ((is_over g ≡ true) × (why ≡ r.GenerationsOver)) ⊎ (why ≡ r.Memory)
+
+-- a member may sync, and this is what it is to keep
+abbrev pub IsLeasable : GroupState → ℕ → PartitionSet → Type 0
+IsLeasable g member assigned =
+    (sync_answer g member ≡ Ok tt)
+    × (assigned ≡ assigned_of g member)
+    × (is_present g member ≡ true)
+
+-- the seat after a change of the member m that had this one has this granted set
+abbrev pub HasGranted : Change → ℕ → Option Seat → PartitionSet → Type 0
+HasGranted change m seat granted =
+    (after : Seat) × (seat_after change m seat ≡ Some after) × (granted ≡ after.granted)

@@ -3,6 +3,7 @@ use Rattle.std.specs.Prelude.{◌≡◌, ℕ, ◌<◌, List, Some, length}
 use Rattle.bit_planes.specs.PartitionSet.{partitions_of}
 use Rattle.bit_planes.specs.SetRows.{SetRows, IsValidRows, members, sets_of}
 use Rattle.sticky_assignor.specs.Balanced.{AreApart}
+use Rattle.coop_rebalance.specs.Rounds.{AreGranted}
 use Rattle.group_machine.specs.declared.group.Slot.{Slot}
 use Rattle.group_machine.specs.declared.group.Seat.{Seat}
 use Rattle.group_machine.specs.Slots.{seat_of}
@@ -15,9 +16,3 @@ pub record IsSeatOver (partitions : ℕ) (seat : Seat) : Type 0 where
 abbrev pub AreSeatsOver : ℕ → List Slot → Type 0
 AreSeatsOver partitions slots =
     (member : ℕ) (seat : Seat) → seat_of slots member ≡ Some seat → IsSeatOver partitions seat
-
--- rows of some members, with no partition in two of them
-pub record AreOwned (r : SetRows) : Type 0 where
-  pub valid : IsValidRows r
-  pub some : 0 < length (members r)
-  pub apart : AreApart (sets_of r (members r))

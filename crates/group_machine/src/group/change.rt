@@ -2,10 +2,9 @@
 
 ghost use Rattle.std.specs.Prelude.{◌≡◌, ◌≤◌, ℕ, List, None, Some, MatchOption, IfOk, length};
 ghost use Rattle.std.specs.Option.{option_map};
-ghost use Rattle.group_machine.specs.declared.group.Seat.{Seat};
 ghost use Rattle.group_machine.specs.Slots.{granted_in, is_ready_in};
 ghost use Rattle.group_machine.specs.Private.Walks.{AreSeatsOver};
-ghost use Rattle.group_machine.specs.Private.Changes.{seat_after, slots_after};
+ghost use Rattle.group_machine.specs.Private.Changes.{HasGranted, seat_after, slots_after};
 
 use super::Slot;
 use bit_planes::{Plane, PlaneRows};
@@ -26,7 +25,8 @@ pub enum Change {
 impl Change {
     /// What a member of before is granted after the change, while it is present then.
     fn granted(self, member: u32, slot: &Slot) -> Option<&Plane>
-        ensures { MatchOption result (seat_after self member slot.now.seat ≡ None) (λ plane. (x : Seat) × (seat_after self member slot.now.seat ≡ Some x) × (plane.now ≡ x.granted)) }
+        ensures { MatchOption result (seat_after self member slot.now.seat ≡ None)
+            (λ plane. HasGranted self member slot.now.seat plane.now) }
     {
         let seat = slot.seat.as_ref()?;
         match self {
@@ -52,7 +52,8 @@ impl Change {
 /// Whether after the change somebody is present, and all who are have joined.
 pub fn is_ready_after(slots: &[Slot], change: Change) -> bool
     requires { length slots.now ≤ 512 }
-    ensures { (partitions : ℕ) (name : List ℕ) → result ≡ is_ready_in (slots_after partitions name change slots.now) }
+    ensures { (partitions : ℕ) (name : List ℕ)
+        → result ≡ is_ready_in (slots_after partitions name change slots.now) }
 {
     let mut anybody = matches!(change, Change::Joins);
     for (index, slot) in slots.iter().enumerate() {
@@ -76,7 +77,8 @@ pub fn granted_rows(
     requires bounds { (1 ≤ partitions) × (partitions ≤ 4096) }
     requires few { length slots.now ≤ 512 }
     requires over { AreSeatsOver partitions slots.now }
-    ensures { (name : List ℕ) → IfOk result (λ rows. rows ≡ granted_in partitions (slots_after partitions name change slots.now)) }
+    ensures { (name : List ℕ) → IfOk result (λ rows.
+        rows ≡ granted_in partitions (slots_after partitions name change slots.now)) }
 {
     let mut rows = PlaneRows::new(alloc, partitions);
     for (index, slot) in slots.iter().enumerate() {

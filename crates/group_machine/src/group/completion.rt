@@ -2,11 +2,11 @@
 
 ghost use Rattle.std.specs.Prelude.{◌≡◌, ◌≤◌, length, false, IfOk};
 ghost use Rattle.bit_planes.specs.PartitionSet.{partitions_of, union};
-ghost use Rattle.bit_planes.specs.SetRows.{members, set_of};
-ghost use Rattle.coop_rebalance.specs.Rounds.{next_rows};
+ghost use Rattle.bit_planes.specs.SetRows.{set_of};
+ghost use Rattle.coop_rebalance.specs.Rounds.{AreGranted, next_rows};
 ghost use Rattle.group_machine.specs.Slots.{each_changed};
 ghost use Rattle.group_machine.specs.Completion.{completed_seat};
-ghost use Rattle.group_machine.specs.Private.Walks.{AreSeatsOver, AreOwned};
+ghost use Rattle.group_machine.specs.Private.Walks.{AreSeatsOver};
 
 use super::{Move, Seat, Slot};
 use bit_planes::{Plane, PlaneRows};
@@ -26,26 +26,15 @@ pub struct Completion {
     pub moves: Vec<Move>,
 }
 
-/// What each member is to keep, by what each is granted: its sticky target, without what any other member is granted.
+/// What each member is to keep, by what each is granted: its sticky target, without what any other
+/// member is granted.
 pub fn next_rows(alloc: Global, granted: &PlaneRows) -> Result<PlaneRows, Memory>
-    requires { AreOwned granted.now }
+    requires { AreGranted granted.now }
     ensures { IfOk result (λ rows. rows ≡ next_rows granted.now) }
 {
-    let members = numbers_of(alloc, granted)?;
+    let members: Vec<u32> = granted.members().collect(alloc)?;
     let target = assign(alloc, granted.partitions(), &members, granted)?;
     withhold(alloc, &target, granted)
-}
-
-/// The numbers of the members, in rising order.
-fn numbers_of(alloc: Global, granted: &PlaneRows) -> Result<Vec<u32>, Memory>
-    ensures { IfOk result (λ numbers. numbers.items ≡ members granted.now) }
-{
-    let rows = granted.rows();
-    let mut numbers = Vec::with_capacity(alloc, rows.len())?;
-    for (member, _) in rows {
-        numbers.push_reserved(*member);
-    }
-    Ok(numbers)
 }
 
 /// Gives each present member its row, and clears its flags.
@@ -75,7 +64,8 @@ fn row_for(next: &PlaneRows, member: u32) -> Plane
 /// A member keeps its row, and is granted it besides what it is granted.
 fn complete_seat(seat: &mut Seat, row: Plane)
     requires { partitions_of seat.old.granted ≡ partitions_of row }
-    ensures { seat.new ≡ record { joined = false; synced = false; granted = union seat.old.granted row; assigned = row } }
+    ensures { seat.new
+        ≡ record { joined = false; synced = false; granted = union seat.old.granted row; assigned = row } }
 {
     seat.joined = false;
     seat.synced = false;

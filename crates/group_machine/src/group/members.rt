@@ -76,7 +76,8 @@ pub fn owner_of(slots: &[Slot], q: u32) -> Option<u32>
 
 /// The name of a member that was given a number, present or not.
 pub fn name_of(slots: &[Slot], member: u32) -> Option<&Name>
-    ensures { MatchOption result (name_at slots.now member ≡ None) (λ name. name_at slots.now member ≡ Some name.now) }
+    ensures { MatchOption result (name_at slots.now member ≡ None)
+        (λ name. name_at slots.now member ≡ Some name.now) }
 {
     let index = member.checked_sub(1)?;
     let slot = slots.get(index as usize)?;

@@ -12,21 +12,22 @@ use coop_rebalance::added;
 use lane_words::Memory;
 use std::alloc::Global;
 
-/// Who takes each partition, where members that are granted these rows are given the next ones: a member takes what is
-/// in its next row and was not granted to it.
+/// Who takes each partition, where members that are granted these rows are given the next ones: a
+/// member takes what is in its next row and was not granted to it.
 pub fn takers_of(
     alloc: Global,
     granted: &PlaneRows,
     next: &PlaneRows,
 ) -> Result<Vec<Option<u32>>, Memory>
     requires below { next.now.partitions ≡ granted.now.partitions }
-    requires apart { (m n q : ℕ) → is_in (set_of next.now m) q ≡ true → is_in (set_of next.now n) q ≡ true → m ≡ n }
+    requires apart { (m n q : ℕ) → is_in (set_of next.now m) q ≡ true
+        → is_in (set_of next.now n) q ≡ true → m ≡ n }
     ensures { IfOk result (λ takers. takers.items ≡ takers_in granted.now next.now) }
 {
     let mut takers: Vec<Option<u32>> = vec![in alloc; None; granted.partitions() as usize]?;
-    for (member, plane) in granted.rows() {
-        if let Some(row) = next.get(*member) {
-            take_added(&mut takers, *member, &added(row, plane));
+    for (member, plane) in granted.iter() {
+        if let Some(row) = next.get(member) {
+            take_added(&mut takers, member, &added(row, plane));
         }
     }
     Ok(takers)
@@ -35,7 +36,9 @@ pub fn takers_of(
 /// A member takes these partitions.
 fn take_added(takers: &mut [Option<u32>], member: u32, added: &Plane)
     requires { length takers.old < 2 ^ 32 }
-    ensures taken { (q : ℕ) → q < length takers.old → slice_index_or takers.new q None ≡ (if is_in added.now q then Some member else slice_index_or takers.old q None) }
+    ensures taken { (q : ℕ) → q < length takers.old
+        → slice_index_or takers.new q None
+        ≡ (if is_in added.now q then Some member else slice_index_or takers.old q None) }
     ensures long { length takers.new ≡ length takers.old }
 {
     for q in 0..takers.len() {

@@ -21,7 +21,8 @@ pub fn is_used(slots: &[Slot], name: &Name) -> bool
 
 /// The seat of a member, while it is present.
 pub fn seat_of(slots: &[Slot], member: u32) -> Option<&Seat>
-    ensures { MatchOption result (seat_of slots.now member ≡ None) (λ seat. seat_of slots.now member ≡ Some seat.now) }
+    ensures { MatchOption result (seat_of slots.now member ≡ None)
+        (λ seat. seat_of slots.now member ≡ Some seat.now) }
 {
     let index = member.checked_sub(1)?;
     slots.get(index as usize)?.seat.as_ref()

@@ -1,10 +1,9 @@
-use Rattle.std.proofs.Common.{◌≡◌, ◌≤◌, List, length, IfOk, ap, sym, ◌∙◌, subst}
+use Rattle.std.proofs.Common.{◌≡◌, IfOk, ap, sym, ◌∙◌, subst}
 use Rattle.std.proofs.lemmas.Result.{IfOk-weaker}
-use Rattle.bit_planes.specs.PartitionSet.{PartitionSet}
 use Rattle.bit_planes.specs.SetRows.{SetRows, members as members_of, sets_of}
 use Rattle.sticky_assignor.specs.Assigned.{assigned}
-use Rattle.sticky_assignor.specs.Balanced.{AreBelow, IsBalanced}
-use Rattle.sticky_assignor.specs.Kept.{kept}
+use Rattle.sticky_assignor.specs.Balanced.{IsBalanced}
+use Rattle.sticky_assignor.specs.Kept.{KeepsMost}
 use Rattle.sticky_assignor.proofs.AssignedLaws.{quotas_long, is_assigned, members_assigned, balanced_assigned, most_assigned}
 use Rattle.sticky_assignor.proofs.assign.Goals as goal
 
@@ -32,5 +31,5 @@ returns-clause-balanced c =
 
 pub returns-clause-most : goal.returns-clause-most
 returns-clause-most c =
-    let P : SetRows → Type 0 = λ rows. (others : List PartitionSet) → length others ≡ length c.args.members.now → AreBelow c.args.partitions others → IsBalanced c.args.partitions others → kept (sets_of c.args.owned.now c.args.members.now) others ≤ kept (sets_of c.args.owned.now c.args.members.now) (sets_of rows c.args.members.now) in
+    let P : SetRows → Type 0 = λ rows. KeepsMost c.args.partitions (sets_of c.args.owned.now c.args.members.now) (sets_of rows c.args.members.now) in
     IfOk-weaker c.fill.result _ P (λ rows e. subst P (sym e) (most_assigned _ _ _ c.requires.below c.partitions.ensures.valid c.requires.rising)) (is_target c)

@@ -1,7 +1,7 @@
 use Rattle.std.proofs.Common.{◌≡◌, length, drop}
 use Rattle.bit_planes.specs.PartitionSet.{partitions_of}
 use Rattle.bit_planes.specs.SetRows.{sets_of}
-use Rattle.sticky_assignor.specs.Filling.{keeping, free_of}
+use Rattle.sticky_assignor.specs.Private.Filling.{keeping, free_of}
 use Rattle.sticky_assignor.proofs.Steps.{left_by}
 use Rattle.sticky_assignor.proofs.free_beside.Given as goal
 

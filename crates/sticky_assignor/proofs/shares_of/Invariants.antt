@@ -1,6 +1,6 @@
 use Rattle.std.proofs.Common.{◌≡◌, ◌++◌, drop}
 use Rattle.bit_planes.specs.SetRows.{sets_of}
-use Rattle.sticky_assignor.specs.Filling.{shares}
+use Rattle.sticky_assignor.specs.Private.Filling.{shares}
 use Rattle.sticky_assignor.proofs.shares_of.Given as goal
 
 abbrev pub invariant-loop-member : goal.invariant-loop-member

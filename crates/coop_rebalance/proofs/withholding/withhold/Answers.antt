@@ -1,40 +1,47 @@
-use Rattle.std.proofs.Common.{◌≡◌, ◌∙◌, ap, sym}
-use Rattle.bit_planes.specs.PartitionSet.{is_in}
+use Rattle.std.proofs.Common.{ℕ, ◌≡◌, refl, ◌∙◌, length, ap, sym, arith}
+use Rattle.std.proofs.lemmas.List.{length_push}
+use Rattle.bit_planes.specs.PartitionSet.{PartitionSet, is_in}
 use Rattle.bit_planes.specs.SetRows.{SetRows, no_rows, with_row, members, set_of}
-use Rattle.coop_rebalance.proofs.Items.{item_over}
+use Rattle.bit_planes.proofs.Walks.{row_turn, row_end}
 use Rattle.coop_rebalance.proofs.WithheldRows.{withheld_more, withheld_all, members_withheld, set_withheld}
 use Rattle.coop_rebalance.specs.Withheld.{withheld}
 use Rattle.coop_rebalance.proofs.withholding.withhold.Goals as goal
 
 pub loop-member-init : goal.loop-member-init
-loop-member-init c = record { so_far = c.new-rows.ensures.value ∙ ap no_rows c.partitions.ensures.value; valid = c.new-rows.ensures.valid }
+loop-member-init c = record { next = tt; ends = tt; so_far = c.new-rows.ensures.value ∙ ap no_rows c.partitions.ensures.value; valid = c.new-rows.ensures.valid }
 
 pub minus-requires : goal.minus-requires
 minus-requires c =
-    item_over c.args.target.now c.rows-member-items.result.now c.loop-member.member-index c.loop-member-item.result c.rows-member-items.ensures.valid c.rows-member-items.ensures.value c.loop-member-test.true c.loop-member-item.is
-    ∙ c.requires ∙ sym c.of_others-others.ensures.partitions
+    let turn = row_turn c.args.target.now _ _ _ c.loop-member.yielded _ (c.in-Some.member, c.in-Some.row) c.iter-member-items.ensures.valid (cc) c.loop-member.yielded_by c.in-Some.is c.next.ensures.steps in
+    turn.below ∙ c.requires ∙ sym c.of_others-others.ensures.partitions
 
 pub put-requires : goal.put-requires
 put-requires c =
-    c.minus.ensures.partitions
-    ∙ item_over c.args.target.now c.rows-member-items.result.now c.loop-member.member-index c.loop-member-item.result c.rows-member-items.ensures.valid c.rows-member-items.ensures.value c.loop-member-test.true c.loop-member-item.is
-    ∙ sym (ap (λ (r : SetRows). r.partitions) c.loop-member.invariant.so_far)
+    let turn = row_turn c.args.target.now _ _ _ c.loop-member.yielded _ (c.in-Some.member, c.in-Some.row) c.iter-member-items.ensures.valid (cc) c.loop-member.yielded_by c.in-Some.is c.next.ensures.steps in
+    c.minus.ensures.partitions ∙ turn.below ∙ sym (ap (λ (r : SetRows). r.partitions) c.loop-member.invariant.so_far)
 
 pub loop-member-preserved : goal.loop-member-preserved
-loop-member-preserved c = record {
-  so_far = withheld_more c.args.target.now c.args.granted.now c.rows-member-items.result.now c.loop-member.member-index c.loop-member-item.result c.of_others-others.result c.loop-member.rows c.put.new.self
-      c.rows-member-items.ensures.valid c.rows-member-items.ensures.value c.loop-member-test.true c.loop-member-item.is c.of_others-others.ensures.elements c.loop-member.invariant.so_far
-      (c.in_ok-put.ensures.value ∙ ap (λ s. with_row c.loop-member.rows c.loop-member-item.result.0 s) c.minus.ensures.value);
-  valid = c.put.ensures.valid;
-}
+loop-member-preserved c =
+    let turn = row_turn c.args.target.now _ _ _ c.loop-member.yielded _ (c.in-Some.member, c.in-Some.row) c.iter-member-items.ensures.valid (cc) c.loop-member.yielded_by c.in-Some.is c.next.ensures.steps in
+    let row : ℕ × PartitionSet = (c.in-Some.member, c.in-Some.row.now) in
+    let next = length_push c.loop-member.yielded (c.in-Some.member, c.in-Some.row) in
+    record {
+      next = tt;
+      ends = tt;
+      so_far = rw next (withheld_more c.args.target.now c.args.granted.now c.args.target.now.rows (length c.loop-member.yielded) row c.of_others-others.result c.loop-member.rows c.put.new.self
+          c.iter-member-items.ensures.valid refl turn.within turn.at c.of_others-others.ensures.elements c.loop-member.invariant.so_far
+          (c.in_ok-put.ensures.value ∙ ap (λ s. with_row c.loop-member.rows c.in-Some.member s) c.minus.ensures.value));
+      valid = c.put.ensures.valid;
+    }
 
 pub returns : goal.returns
 returns c =
-    let value : c.loop-member.rows ≡ withheld c.args.target.now c.args.granted.now = c.loop-member.invariant.so_far ∙ withheld_all c.args.target.now c.args.granted.now c.rows-member-items.result.now c.loop-member.member-index c.rows-member-items.ensures.value c.loop-member-test.false in
+    let all = row_end c.args.target.now _ _ _ c.loop-member.yielded _ (cc) c.loop-member.yielded_by c.in-None.is c.next.ensures.steps in
+    let value : c.loop-member.rows ≡ withheld c.args.target.now c.args.granted.now = c.loop-member.invariant.so_far ∙ withheld_all c.args.target.now c.args.granted.now c.args.target.now.rows (length c.loop-member.yielded) refl (omega (arith, all)) in
     record {
       value = value;
-      sets = λ m q. ap (λ r. is_in (set_of r m) q) value ∙ set_withheld c.args.target.now c.args.granted.now m q;
+      elements = λ m q. ap (λ r. is_in (set_of r m) q) value ∙ set_withheld c.args.target.now c.args.granted.now m q;
       members = ap members value ∙ members_withheld c.args.target.now c.args.granted.now;
-      below = ap (λ (r : SetRows). r.partitions) c.loop-member.invariant.so_far;
+      partitions = ap (λ (r : SetRows). r.partitions) c.loop-member.invariant.so_far;
       valid = c.loop-member.invariant.valid;
     }

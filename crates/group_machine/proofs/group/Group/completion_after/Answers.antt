@@ -1,12 +1,12 @@
 use Rattle.std.proofs.Common.{◌∙◌, ◌≡◌, ◌+◌, List, [], ap, sym, subst, length, arith}
 use Rattle.std.proofs.lemmas.List.FromFn.{length-map-range_with_len}
 use Rattle.bit_planes.specs.SetRows.{SetRows}
-use Rattle.coop_rebalance.specs.Rounds.{next_rows}
+use Rattle.coop_rebalance.specs.Rounds.{AreGranted, next_rows}
 use Rattle.group_machine.specs.Slots.{granted_in}
 use Rattle.group_machine.specs.declared.group.Slot.{Slot}
 use Rattle.group_machine.specs.State.{GroupState, granted_rows}
 use Rattle.group_machine.specs.Moves.{taker_in, takers_in, moves_by}
-use Rattle.group_machine.specs.Private.Walks.{AreSeatsOver, AreOwned}
+use Rattle.group_machine.specs.Private.Walks.{AreSeatsOver}
 use Rattle.group_machine.specs.Private.Changes.{slots_after, after}
 use Rattle.group_machine.specs.Private.GroupView.{group_view}
 use Rattle.group_machine.proofs.TableLemmas.{seats_over, owned_rows, rows_below, rows_apart}
@@ -19,7 +19,7 @@ pub next_rows-requires : goal.next_rows-requires
 next_rows-requires c =
     let g : GroupState = after c.args.change [] (group_view c.args.self.now) in
     let is : c.in_ok-granted.granted ≡ granted_rows g = c.in_ok-granted.ensures [] ∙ ap (λ slots. granted_in g.partitions (slots_after g.partitions [] c.args.change slots)) c.deref.ensures.value in
-    subst AreOwned (sym is) (owned_rows g (c.requires.changed []) (c.requires.some []))
+    subst AreGranted (sym is) (owned_rows g (c.requires.changed []) (c.requires.some []))
 
 pub takers_of-requires-clause-below : goal.takers_of-requires-clause-below
 takers_of-requires-clause-below c =

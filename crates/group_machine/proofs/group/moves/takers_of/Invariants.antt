@@ -4,6 +4,8 @@ use Rattle.group_machine.proofs.group.moves.takers_of.Given as goal
 
 abbrev pub invariant-loop-member : goal.invariant-loop-member
 invariant-loop-member l = record {
+  next : (goal.iterator-loop-member).can_next l.member-iterator;
+  ends : (goal.iterator-loop-member).is_finite l.member-iterator;
   long : length l.takers.items ≡ l.granted.partitions;
-  so_far : (q : ℕ) → q < l.granted.partitions → slice_index_or l.takers.items q None ≡ taker_in (take l.member-index l.member-items) l.next q;
+  so_far : (q : ℕ) → q < l.granted.partitions → slice_index_or l.takers.items q None ≡ taker_in (take (length l.yielded) l.granted.rows) l.next q;
 }

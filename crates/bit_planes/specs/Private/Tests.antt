@@ -1,0 +1,16 @@
+-- What a test of two memberships comes to, where `tells x y answer` says that the test may answer
+-- so.
+use Rattle.std.specs.Prelude.{ℕ, ◌<◌, Bool, true, false, MatchBool}
+use Rattle.bit_planes.specs.PartitionSet.{PartitionSet, partitions_of, is_in}
+
+-- u has what the test answers of each partition
+abbrev pub IsCombined : (Bool → Bool → Bool → Type 0)
+    → PartitionSet → PartitionSet → PartitionSet → Type 0
+IsCombined tells s t u = (q : ℕ) → q < partitions_of s → tells (is_in s q) (is_in t q) (is_in u q)
+
+-- the answer is whether some partition passes
+abbrev pub TellsSomePass : (Bool → Bool → Bool → Type 0)
+    → PartitionSet → PartitionSet → Bool → Type 0
+TellsSomePass tells s t answer = MatchBool answer
+    ((q : ℕ) × (q < partitions_of s) × tells (is_in s q) (is_in t q) true)
+    ((q : ℕ) → q < partitions_of s → tells (is_in s q) (is_in t q) false)

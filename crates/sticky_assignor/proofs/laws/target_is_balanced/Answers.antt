@@ -1,0 +1,5 @@
+use Rattle.sticky_assignor.proofs.TargetLaws.{is_balanced}
+use Rattle.sticky_assignor.proofs.laws.target_is_balanced.Goals as goal
+
+pub returns : goal.returns
+returns c = is_balanced
