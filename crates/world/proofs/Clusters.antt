@@ -6,14 +6,14 @@ use Rattle.std.proofs.Math.ListN.{length-set}
 use Rattle.std.proofs.lemmas.Bool.{cases_lt}
 use Rattle.std.proofs.lemmas.Bool.Decides.{nat_tests}
 use Rattle.std.proofs.lemmas.List.{append-nil, get_or-set_other, get_or-set_same, take-append-le, drop-append-le}
-use Rattle.lane_words.specs.declared.limits.TheConstants.{MOST_MEMBERS}
+use Rattle.lane_words.specs.declared.limits.TheConstants.{LONGEST_KEY}
 use Rattle.lane_words.specs.declared.Refusal.{Refusal}
 use Rattle.lane_words.specs.declared.Refusal.TheVariants as r
 use Rattle.bit_planes.specs.PartitionSet.{PartitionSet, is_in}
 use Rattle.keyed_table.proofs.Raised.{length-raised}
 use Rattle.partitioner.proofs.Places.{place_of-below}
 use Rattle.partition_log.specs.Keys.{Key, id_of, is_known}
-use Rattle.partition_log.specs.Logs.{PartitionLogs, is_full_for, log_at, longest_key, place_in}
+use Rattle.partition_log.specs.Logs.{PartitionLogs, is_full_for, log_at, place_in}
 use Rattle.partition_log.proofs.Valid.{is_place, log-other, log-same, valid}
 use Rattle.commit_store.specs.Commits.{Commits, Fits, commit_answer, committed_at, raised}
 use Rattle.commit_store.proofs.Answered.{accepted}
@@ -55,8 +55,8 @@ not_longer most n e = grind (arith, nat_tests)
 
 pub appended_valid : (s : ClusterState) (key : Key) (at : ℕ × ℕ) → IsValidCluster s → append_answer s.logs key ≡ Ok at → IsValidCluster (appended_to s key)
 appended_valid s key at v ok =
-    let passed = accepted_append (nat_lt longest_key (length key)) (is_full_for s.logs key) (place_in s.logs key, length (log_at s.logs (place_in s.logs key))) at ok in
-    append-kept s key v (valid s.logs key v.logs (place_of-below s.logs.partitions key v.logs.some_partitions) (not_longer longest_key (length key) passed.0) passed.1)
+    let passed = accepted_append (nat_lt LONGEST_KEY (length key)) (is_full_for s.logs key) (place_in s.logs key, length (log_at s.logs (place_in s.logs key))) at ok in
+    append-kept s key v (valid s.logs key v.logs (place_of-below s.logs.partitions key v.logs.some_partitions) (not_longer LONGEST_KEY (length key) passed.0) passed.1)
 
 -- ---- commits
 passed_fence : (a : Result (Unit {0}) Refusal) (b : Result ℕ Refusal) (end : ℕ) → result_and a b ≡ Ok end → (a ≡ Ok tt) × (b ≡ Ok end)
