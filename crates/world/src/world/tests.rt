@@ -168,17 +168,194 @@ fn a_member_that_leaves_or_rejoins_is_told(rt: HostRuntime) -> Result<(), Fail> 
     Ok(())
 }
 
-/// The numbers by which the long schedule is chosen.
+/// The numbers by which the long schedule is chosen: x' = 1664525 x + 1013904223, modulo 2^32.
 struct Chosen {
     x: u32,
 }
 
 impl Chosen {
-    /// A number below `n`, which is not 0.
+    /// A number below `n`.
     fn below(&mut self, n: u32) -> u32
         requires { 0 < n }
+        ensures { result < n }
     {
         self.x = self.x.wrapping_mul(1_664_525).wrapping_add(1_013_904_223);
         (self.x >> 8) % n
     }
+
+    /// A member number: those of eight members, and two that nobody has.
+    fn member(&mut self) -> u32 {
+        self.below(10)
+    }
+
+    /// The number of a commit: mostly one of the latest, or any, late or never sent.
+    fn commit(&mut self, sent: u32) -> u32 {
+        if self.below(3) == 0 {
+            self.below(1000)
+        } else {
+            sent.saturating_sub(self.below(2))
+        }
+    }
+}
+
+/// Which kind of event this is, and an event of it.
+fn chosen_event<'a>(
+    chosen: &mut Chosen,
+    sent: u32,
+    names: &'a [Name; 8],
+    keys: &'a [&'a [u8]; 8],
+) -> (usize, Event<'a>)
+    ensures { result.0 < 10 }
+{
+    match chosen.below(1024) {
+        0..=1 => (0, Event::Lose(chosen.member())),
+        2..=3 => (1, Event::Leave(chosen.member())),
+        4..=15 => (2, Event::Join(&names[chosen.below(8) as usize])),
+        16..=119 => (3, Event::Append(keys[chosen.below(8) as usize])),
+        120..=319 => (4, Event::Sync(chosen.member())),
+        320..=469 => (5, Event::Rejoin(chosen.member())),
+        470..=679 => {
+            let member = chosen.member();
+            let partition = chosen.below(6);
+            let records = chosen.below(4);
+            (6, Event::Poll { member, partition, records })
+        }
+        680..=859 => {
+            let member = chosen.member();
+            let partition = chosen.below(6);
+            (7, Event::Send { member, partition })
+        }
+        860..=969 => (8, Event::Deliver(chosen.commit(sent))),
+        _ => (9, Event::DeliverUnanswered(chosen.commit(sent))),
+    }
+}
+
+/// No partition is granted to two members, and where the group is settled each is granted to one, evenly.
+fn grants_are_right(rt: &HostRuntime, cluster: &Cluster) {
+    let mut owners = [0u32; 5];
+    let (mut least, mut most) = (u32::MAX, 0);
+    for member in cluster.members() {
+        if let Some(granted) = cluster.granted(member) {
+            least = least.min(granted.count());
+            most = most.max(granted.count());
+            for p in 0..5 {
+                if granted.contains(p as u32) {
+                    owners[p] = owners[p].saturating_add(1);
+                }
+            }
+        }
+    }
+    assert!(rt; owners.iter().all(|n| *n <= 1), "{owners:?}");
+    if cluster.is_settled() {
+        assert!(rt; owners.iter().all(|n| *n == 1) && most <= least.saturating_add(1));
+    }
+}
+
+/// Each key's count is how often it is below the committed offsets.
+fn counts_are_exact(rt: &HostRuntime, cluster: &Cluster) {
+    let (logs, store) = (cluster.logs(), cluster.store());
+    let mut counts = [0u64; 8];
+    assert_eq!(rt; logs.partitions(), 5);
+    for p in 0..5u32 {
+        let committed = store.offsets().get(p as usize).copied().unwrap_or(u32::MAX);
+        assert!(rt; committed <= logs.len(p));
+        for id in logs.ids(p, 0, committed) {
+            assert!(rt; *id < 8);
+            counts[*id as usize] = counts[*id as usize].saturating_add(1);
+        }
+    }
+    for (count, plain) in store.counts().iter().zip(counts.iter()) {
+        assert_eq!(rt; *count, *plain);
+    }
+}
+
+/// A consumer holds only what its member is granted, follows its lease, and is nowhere ahead of the cluster.
+fn consumer_is_in_step(rt: &HostRuntime, cluster: &Cluster, member: u32, consumer: &Consumer) {
+    assert_eq!(rt; cluster.logs().partitions(), 5);
+    for p in 0..5u32 {
+        let committed = cluster.store().offsets().get(p as usize).copied();
+        assert!(rt; committed.is_some_and(|offset| consumer.base(p) <= offset));
+        assert!(rt; consumer.base(p) <= consumer.position(p));
+        assert!(rt; consumer.position(p) <= cluster.logs().len(p));
+    }
+    let (Some(granted), Some(assigned)) = (cluster.granted(member), cluster.assigned(member)) else {
+        return;
+    };
+    let synced = cluster.is_synced(member);
+    assert_eq!(rt; consumer.member(), Some(member));
+    assert!(rt; consumer.generation() <= cluster.generation());
+    assert_eq!(rt; consumer.generation() == cluster.generation(), synced);
+    for p in 0..5u32 {
+        assert!(rt; !consumer.holds(p) || granted.contains(p));
+        assert!(rt; !synced || consumer.claim().contains(p) == assigned.contains(p));
+        assert!(rt; !synced || !assigned.contains(p) || consumer.holds(p));
+    }
+}
+
+/// A commit of the mail has the records of its log.
+fn commit_is_sound(rt: &HostRuntime, cluster: &Cluster, commit: &Commit) {
+    let ids = commit.partial().ids();
+    let (p, from) = (commit.partition(), commit.from());
+    assert!(rt; p < cluster.logs().partitions() && !ids.is_empty());
+    let end = u32::try_from(ids.len()).map_or(u32::MAX, |n| from.saturating_add(n));
+    assert!(rt; from <= end && end <= cluster.logs().len(p));
+    assert_eq!(rt; cluster.logs().ids(p, from, end), ids);
+}
+
+/// What holds after each event, by plain lists.
+fn world_is_good(rt: &HostRuntime, world: &World) {
+    let cluster = world.cluster();
+    grants_are_right(rt, cluster);
+    counts_are_exact(rt, cluster);
+    for member in 1..9 {
+        if let Some(consumer) = world.consumer(member) {
+            consumer_is_in_step(rt, cluster, member, consumer);
+        }
+    }
+    if let Some(commit) = world.mail().last() {
+        commit_is_sound(rt, cluster, commit);
+    }
+}
+
+fn eight_names(rt: &impl Abort) -> [Name; 8] {
+    [
+        name(rt, b"A"),
+        name(rt, b"B"),
+        name(rt, b"C"),
+        name(rt, b"D"),
+        name(rt, b"E"),
+        name(rt, b"F"),
+        name(rt, b"G"),
+        name(rt, b"H"),
+    ]
+}
+
+#[test]
+fn a_long_schedule_keeps_the_world_good(rt: HostRuntime) -> Result<(), Fail> {
+    let names = eight_names(&rt);
+    let long = vec![in rt.alloc(); 0u8; 65_536]?;
+    let keys: [&[u8]; 8] = [
+        b"21", b"4", b"foobar", b"abc", b"", b"34", b"1234", long.as_slice(),
+    ];
+    let mut world = World::new(&rt, rt.alloc(), 5)?;
+    let mut chosen = Chosen { x: 1 };
+    let mut accepted = [0u32; 10];
+    let mut refused = [0u32; 10];
+    for _ in 0..10_000 {
+        let sent = u32::try_from(world.mail().len()).unwrap_or(0);
+        let (kind, event) = chosen_event(&mut chosen, sent, &names, &keys);
+        if let Reply::Refused(_) = world.step(event) {
+            refused[kind] = refused[kind].saturating_add(1);
+        } else {
+            accepted[kind] = accepted[kind].saturating_add(1);
+        }
+        world_is_good(&rt, &world);
+    }
+    for commit in world.mail() {
+        commit_is_sound(&rt, world.cluster(), commit);
+    }
+    assert!(rt; accepted.iter().all(|n| *n > 0), "accepted: {accepted:?}");
+    assert!(rt; refused.iter().all(|n| *n > 0), "refused: {refused:?}");
+    assert!(rt; world.cluster().generation() > 8);
+    Ok(())
 }
