@@ -15,19 +15,24 @@ fn name(rt: &impl Abort, text: &[u8]) -> Name {
 }
 
 /// A world of four partitions with the five records.
-fn loaded(rt: &HostRuntime) -> Result<World, Fail> {
-    let mut world = World::new(rt, rt.alloc(), 4)?;
+fn loaded<R: Abort + RandomSource + Threads + Sync>(rt: &R, alloc: Global) -> Result<World, Fail> {
+    let mut world = World::new(rt, alloc, 4)?;
     assert_eq!(rt; world.load(rt, &FIVE), Ok(()));
     Ok(world)
 }
 
 /// The replies to a schedule, event by event and by one run of another world.
-fn replies_are(rt: &HostRuntime, events: &[Event], expected: &[Reply]) -> Result<World, Fail> {
-    let mut world = loaded(rt)?;
+fn replies_are<R: Abort + RandomSource + Threads + Sync>(
+    rt: &R,
+    alloc: Global,
+    events: &[Event],
+    expected: &[Reply],
+) -> Result<World, Fail> {
+    let mut world = loaded(rt, alloc)?;
     for (event, reply) in events.iter().zip(expected) {
         assert_eq!(rt; world.step(*event), *reply);
     }
-    let mut other = loaded(rt)?;
+    let mut other = loaded(rt, alloc)?;
     let replies = other.run(events)?;
     assert_eq!(rt; replies.as_slice(), expected);
     Ok(world)
@@ -65,7 +70,7 @@ fn a_commit_is_taken_once(rt: HostRuntime) -> Result<(), Fail> {
         Reply::Refused(Refusal::OffsetMismatch { committed: 2 }),
         Reply::Refused(Refusal::NoSuchCommit),
     ];
-    let world = replies_are(&rt, &events, &expected)?;
+    let world = replies_are(&rt, rt.alloc(), &events, &expected)?;
     assert_eq!(rt; world.cluster().store().count(0), 2);
     assert_eq!(rt; world.mail().len(), 1);
     Ok(())
@@ -97,7 +102,7 @@ fn a_lost_members_commit_is_refused(rt: HostRuntime) -> Result<(), Fail> {
         Reply::Refused(Refusal::UnknownMember),
         Reply::Refused(Refusal::OutOfGroup),
     ];
-    let world = replies_are(&rt, &events, &expected)?;
+    let world = replies_are(&rt, rt.alloc(), &events, &expected)?;
     assert_eq!(rt; world.cluster().store().committed(0), 0);
     Ok(())
 }
@@ -125,7 +130,80 @@ fn an_unanswered_commit_is_not_taken_again(rt: HostRuntime) -> Result<(), Fail> 
         Reply::Refused(Refusal::OffsetMismatch { committed: 2 }),
         Reply::Refused(Refusal::EmptyCommit),
     ];
-    replies_are(&rt, &events, &expected)?;
+    replies_are(&rt, rt.alloc(), &events, &expected)?;
+    Ok(())
+}
+
+#[test]
+fn an_answer_moves_the_base(rt: HostRuntime) -> Result<(), Fail> {
+    let a = name(&rt, b"A");
+    let one = Event::Poll {
+        member: 1,
+        partition: 0,
+        records: 1,
+    };
+    let events = [
+        Event::Join(&a),
+        Event::Sync(1),
+        one,
+        SEND,
+        one,
+        SEND,
+        Event::Deliver(1),
+        Event::Deliver(2),
+        SEND,
+        Event::Deliver(3),
+    ];
+    let expected = [
+        Reply::Joined(1),
+        Reply::Leased(1),
+        Reply::Polled(1),
+        Reply::Sent(1),
+        Reply::Polled(1),
+        Reply::Sent(2),
+        Reply::Committed(1),
+        Reply::Refused(Refusal::OffsetMismatch { committed: 1 }),
+        Reply::Sent(3),
+        Reply::Committed(2),
+    ];
+    let world = replies_are(&rt, rt.alloc(), &events, &expected)?;
+    let sent = world.mail();
+    assert_eq!(rt; sent.len(), 3);
+    assert!(rt; sent[1].partial().ids() == [0, 0].as_slice() && sent[2].from() == 1);
+    let Some(consumer) = world.consumer(1) else {
+        return Err("no consumer".into());
+    };
+    assert!(rt; consumer.base(0) == 2 && consumer.position(0) == 2 && consumer.generation() == 1);
+    Ok(())
+}
+
+#[test]
+fn reads_and_sends_at_real_sizes(rt: HostRuntime) -> Result<(), Fail> {
+    let keys: Vec<&[u8]> = vec![in rt.alloc(); b"21".as_slice(); 100_000]?;
+    let a = name(&rt, b"A");
+    let mut world = World::new(&rt, rt.alloc(), 4096)?;
+    assert_eq!(rt; world.load(&rt, keys.as_slice()), Ok(()));
+    let Reply::Appended(partition, 100_000) = world.step(Event::Append(b"21")) else {
+        return Err("not appended".into());
+    };
+    assert_eq!(rt; world.step(Event::Join(&a)), Reply::Joined(1));
+    assert_eq!(rt; world.step(Event::Sync(1)), Reply::Leased(1));
+    let poll = Event::Poll {
+        member: 1,
+        partition,
+        records: 1_000_000,
+    };
+    let send = Event::Send {
+        member: 1,
+        partition,
+    };
+    assert_eq!(rt; world.step(poll), Reply::Polled(100_001));
+    assert_eq!(rt; world.step(send), Reply::Sent(1));
+    assert_eq!(rt; world.step(Event::Deliver(1)), Reply::Committed(100_001));
+    let events = vec![in rt.alloc(); Event::Append(b"4"); 70_000]?;
+    let replies = world.run(events.as_slice())?;
+    assert_eq!(rt; replies.len(), 70_000);
+    assert_eq!(rt; world.cluster().logs().keys(), 2);
     Ok(())
 }
 
@@ -163,12 +241,13 @@ fn a_member_that_leaves_or_rejoins_is_told(rt: HostRuntime) -> Result<(), Fail> 
         Reply::Refused(Refusal::OutOfGroup),
         Reply::Refused(Refusal::UnknownMember),
     ];
-    let world = replies_are(&rt, &events, &expected)?;
+    let world = replies_are(&rt, rt.alloc(), &events, &expected)?;
     assert!(rt; world.cluster().generation() == 2 && world.cluster().phase() == Phase::Preparing);
     Ok(())
 }
 
 /// The numbers by which the long schedule is chosen: x' = 1664525 x + 1013904223, modulo 2^32.
+#[derive(Drop)]
 struct Chosen {
     x: u32,
 }
@@ -231,7 +310,7 @@ fn chosen_event<'a>(
 }
 
 /// No partition is granted to two members, and where the group is settled each is granted to one, evenly.
-fn grants_are_right(rt: &HostRuntime, cluster: &Cluster) {
+fn grants_are_right(rt: &impl Abort, cluster: &Cluster) {
     let mut owners = [0u32; 5];
     let (mut least, mut most) = (u32::MAX, 0);
     for member in cluster.members() {
@@ -252,7 +331,7 @@ fn grants_are_right(rt: &HostRuntime, cluster: &Cluster) {
 }
 
 /// Each key's count is how often it is below the committed offsets.
-fn counts_are_exact(rt: &HostRuntime, cluster: &Cluster) {
+fn counts_are_exact(rt: &impl Abort, cluster: &Cluster) {
     let (logs, store) = (cluster.logs(), cluster.store());
     let mut counts = [0u64; 8];
     assert_eq!(rt; logs.partitions(), 5);
@@ -270,7 +349,7 @@ fn counts_are_exact(rt: &HostRuntime, cluster: &Cluster) {
 }
 
 /// A consumer holds only what its member is granted, follows its lease, and is nowhere ahead of the cluster.
-fn consumer_is_in_step(rt: &HostRuntime, cluster: &Cluster, member: u32, consumer: &Consumer) {
+fn consumer_is_in_step(rt: &impl Abort, cluster: &Cluster, member: u32, consumer: &Consumer) {
     assert_eq!(rt; cluster.logs().partitions(), 5);
     for p in 0..5u32 {
         let committed = cluster.store().offsets().get(p as usize).copied();
@@ -293,7 +372,7 @@ fn consumer_is_in_step(rt: &HostRuntime, cluster: &Cluster, member: u32, consume
 }
 
 /// A commit of the mail has the records of its log.
-fn commit_is_sound(rt: &HostRuntime, cluster: &Cluster, commit: &Commit) {
+fn commit_is_sound(rt: &impl Abort, cluster: &Cluster, commit: &Commit) {
     let ids = commit.partial().ids();
     let (p, from) = (commit.partition(), commit.from());
     assert!(rt; p < cluster.logs().partitions() && !ids.is_empty());
@@ -303,7 +382,7 @@ fn commit_is_sound(rt: &HostRuntime, cluster: &Cluster, commit: &Commit) {
 }
 
 /// What holds after each event, by plain lists.
-fn world_is_good(rt: &HostRuntime, world: &World) {
+fn world_is_good(rt: &impl Abort, world: &World) {
     let cluster = world.cluster();
     grants_are_right(rt, cluster);
     counts_are_exact(rt, cluster);
