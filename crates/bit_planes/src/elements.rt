@@ -9,7 +9,7 @@ use lane_words::MOST_PARTITIONS;
 use std::marker::Model;
 
 /// The elements of a set that are left, in rising order.
-#[derive(Drop)]
+#[derive(Debug, Drop)]
 pub struct Elements<'a> {
     /// The set.
     plane: &'a Plane,

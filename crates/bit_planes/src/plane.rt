@@ -7,6 +7,7 @@ ghost use Rattle.bit_planes.specs.PartitionSet.{partitions_of, is_in, rank, size
 
 use crate::elements::Elements;
 use lane_words::MOST_PARTITIONS;
+use std::fmt;
 use std::marker::Model;
 
 /// The most partitions, as a length.
@@ -247,5 +248,12 @@ impl Plane {
             }
         }
         false
+    }
+}
+
+/// A set is printed as its elements.
+impl fmt::Debug for Plane {
+    fn fmt<W: fmt::Write>(&self, f: &mut fmt::Formatter<W>) -> fmt::Result {
+        f.debug_set().entries(self.iter()).finish()
     }
 }

@@ -13,7 +13,7 @@ use std::marker::Model;
 
 /// A set of partitions for each of some members: a map from member numbers. All sets are of as many
 /// partitions, 1 to 4096, which it tells also where it has no row.
-#[derive(Drop)]
+#[derive(Debug, Drop)]
 pub struct PlaneRows {
     /// How many partitions there are.
     partitions: u32,
@@ -120,7 +120,7 @@ impl PlaneRows {
 }
 
 /// The numbers of the members that are left, in rising order.
-#[derive(Drop)]
+#[derive(Debug, Drop)]
 pub struct Members<'a> {
     /// The rows whose members have not been given.
     rows: &'a [(u32, Plane)],
@@ -135,7 +135,7 @@ impl<'a> Model for Members<'a> {
 }
 
 /// The rows that are left, in rising order of their members.
-#[derive(Drop)]
+#[derive(Debug, Drop)]
 pub struct Rows<'a> {
     /// The rows that have not been given.
     rows: &'a [(u32, Plane)],

@@ -50,6 +50,7 @@ fn tells_sets_past_a_word(rt: HostRuntime) -> Result<(), Fail> {
         (elements.next(), elements.next(), elements.next()),
         (Some(0), Some(512), None)
     );
+    assert_eq!(rt; format!(in rt.alloc(); "{both:?}")?.as_str(), "{0, 512}");
     Ok(())
 }
 

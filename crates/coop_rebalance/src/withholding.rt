@@ -85,7 +85,7 @@ fn has_rows_of(rows: &PlaneRows, others: &PlaneRows) -> bool
 }
 
 /// What is granted to some member, and what to two or more.
-#[derive(Drop)]
+#[derive(Debug, Drop)]
 struct Grants {
     /// What one or more members are granted.
     some: Plane,
