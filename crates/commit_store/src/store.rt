@@ -14,7 +14,7 @@ use std::marker::Model;
 ///
 /// An offset and its counts are taken together: after each call the counters add up to the
 /// committed offsets.
-#[derive(Drop)]
+#[derive(Debug, Drop)]
 pub struct Store {
     /// The committed offsets, in the order of the partitions.
     committed: Vec<u32>,

@@ -15,7 +15,7 @@ use std::marker::Model;
 /// A list of key numbers, and beside it how often each number is in it, in an ordered map.
 ///
 /// The counts are always those of the list, whatever the list.
-#[derive(Drop)]
+#[derive(Debug, Drop)]
 pub struct Partial {
     /// The list, in its own order.
     ids: Vec<u32>,

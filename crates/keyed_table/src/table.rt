@@ -9,7 +9,7 @@ use std::alloc::Global;
 use std::marker::Model;
 
 /// A counter for each key number, from 0 on.
-#[derive(Drop)]
+#[derive(Debug, Drop)]
 pub struct Table {
     /// The counters, each at the index of its key number.
     counts: Vec<u64>,

@@ -14,7 +14,7 @@ use std::mem;
 use std::random::RandomSource;
 
 /// Keys by their numbers. The hasher is drawn anew for each, since strangers choose the keys.
-#[derive(Drop)]
+#[derive(Debug, Drop)]
 pub struct KeyIds {
     /// Where the keys are stored.
     alloc: Global,

@@ -30,7 +30,7 @@ use std::random::RandomSource;
 /// A record is its key alone. A key has 0 to 65,535 bytes of any value and is numbered from 0 in
 /// the order of first appearance; a log holds up to 4,294,967,295 records, each as the number of
 /// its key, and there are up to 4,294,967,295 keys.
-#[derive(Drop)]
+#[derive(Debug, Drop)]
 pub struct Logs {
     /// How many logs there are.
     partitions: Partitions,

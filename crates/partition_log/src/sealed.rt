@@ -10,7 +10,7 @@ use std::marker::Model;
 use std::random::RandomSource;
 
 /// Logs that only can be read: nothing more is appended to them, so many may read them at once.
-#[derive(Drop)]
+#[derive(Debug, Drop)]
 pub struct SealedLogs {
     /// The logs, which are only read.
     pub(crate) logs: Logs,

@@ -14,7 +14,7 @@ use std::marker::Model;
 pub const LONGEST_INLINE: usize = 22;
 
 /// Where a key's bytes lie.
-#[derive(Drop)]
+#[derive(Debug, Drop)]
 enum Storage {
     /// As many of these bytes as its size.
     Inline {
@@ -26,7 +26,7 @@ enum Storage {
 }
 
 /// A key. A short one is stored inline, so that a look-up follows no pointer to it.
-#[derive(Drop)]
+#[derive(Debug, Drop)]
 pub struct StoredKey {
     storage: Storage,
 }

@@ -33,7 +33,7 @@ pub enum Job<'a> {
 }
 
 /// Why the words name no job.
-#[derive(Drop)]
+#[derive(Debug, Drop)]
 pub enum Usage {
     /// They ask for help: the text is for standard output.
     Help(String),

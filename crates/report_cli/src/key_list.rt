@@ -11,7 +11,7 @@ use std::marker::Model;
 /// ends.
 ///
 /// So a key takes its bytes and one word, and no allocation of its own.
-#[derive(Drop)]
+#[derive(Debug, Drop)]
 pub struct KeyList {
     /// The bytes of all keys, one after another.
     text: Vec<u8>,
