@@ -11,9 +11,9 @@ use Rattle.partition_log.specs.Logs.{PartitionLogs, log_at}
 use Rattle.group_machine.specs.Cluster.{CommitTerms, LeaseTerms, start_of}
 use Rattle.consumer.specs.declared.held.Held.{Held}
 
--- A consumer of this many partitions: its member number where it is in the group; the generation and the partitions of
--- its last lease; and for each partition, where it holds it, from which offset on it has not committed (the base), and
--- at which offset it reads on (the position)
+-- A consumer of this many partitions: its member number where it is in the group; the generation
+-- and the partitions of its last lease; and for each partition, where it holds it, from which
+-- offset on it has not committed (the base), and at which offset it reads on (the position)
 pub record ConsumerState : Type 0 where
   pub partitions : ℕ
   pub member : Option ℕ
@@ -59,7 +59,8 @@ pub record IsValidConsumer (c : ConsumerState) : Type 0 where
 abbrev pub joined_as : ConsumerState → ℕ → ConsumerState
 joined_as c member = record (out_of_group c.partitions) { member = Some member }
 
--- a partition that is leased anew is read from the committed offset on; what was held stays as it was
+-- a partition that is leased anew is read from the committed offset on; what was held stays as it
+-- was
 abbrev pub leased_slot : LeaseTerms → ℕ → Option Held → Option Held
 leased_slot lease p (Some h) = Some h
 leased_slot lease p None =
@@ -67,7 +68,8 @@ leased_slot lease p None =
     then Some (record { base = start_of lease p; position = start_of lease p })
     else None
 
--- the consumer with a lease: it gives nothing up yet (KIP-429: what is kept is read on during a rebalance)
+-- the consumer with a lease: it gives nothing up yet (KIP-429: what is kept is read on during a
+-- rebalance)
 abbrev pub leased : ConsumerState → LeaseTerms → ConsumerState
 leased c lease = record c {
   generation = lease.generation;
@@ -107,7 +109,8 @@ IsWithinLogs c l = (p : ℕ) → position_of c p ≤ length (log_at l p)
 -- whether there is anything to send
 abbrev pub sendable_answer : ConsumerState → ℕ → Result (Unit {0}) Refusal
 sendable_answer c p =
-    result_and (hold_answer c p) (if base_of c p == position_of c p then Err r.EmptyCommit else Ok tt)
+    result_and (hold_answer c p)
+      (if base_of c p == position_of c p then Err r.EmptyCommit else Ok tt)
 
 -- the key numbers of what is pending: the log's records from the base to the position
 abbrev pub pending : ConsumerState → PartitionLogs → ℕ → List ℕ
@@ -127,8 +130,8 @@ abbrev pub send_answer : ConsumerState → PartitionLogs → ℕ → Result Comm
 send_answer c l p = result_and (sendable_answer c p) (Ok (commit_of c l p))
 
 -- ---- answers
--- the offsets once this one is known to be committed: what is committed is pending no more, and a base that was past it
--- goes back
+-- the offsets once this one is known to be committed: what is committed is pending no more, and a
+-- base that was past it goes back
 abbrev pub realigned_held : Held → ℕ → Held
 realigned_held h committed = record {
   base = committed;
@@ -142,8 +145,9 @@ realigned_slot c p committed (Some h) = with_held c p (realigned_held h committe
 abbrev pub realigned : ConsumerState → ℕ → ℕ → ConsumerState
 realigned c p committed = realigned_slot c p committed (held_at c p)
 
--- the consumer after the answer to a commit of a partition: it is out where its member is not known; an offset that is
--- told, by an acceptance or a mismatch, realigns it; every other answer changes nothing
+-- the consumer after the answer to a commit of a partition: it is out where its member is not
+-- known; an offset that is told, by an acceptance or a mismatch, realigns it; every other answer
+-- changes nothing
 abbrev pub answered_by : ConsumerState → ℕ → Result ℕ Refusal → ConsumerState
 answered_by c p (Ok committed) = realigned c p committed
 answered_by c p (Err r.UnknownMember) = out_of_group c.partitions
@@ -154,5 +158,6 @@ answered_by c p (Err refusal) = c
 -- what is not assigned is dropped, with what is pending of it
 abbrev pub given_up : ConsumerState → ConsumerState
 given_up c = record c {
-  held = map (λ p. if is_in c.assigned p then held_at c p else None) (range_with_len 0 (length c.held));
+  held = map (λ p. if is_in c.assigned p then held_at c p else None)
+    (range_with_len 0 (length c.held));
 }

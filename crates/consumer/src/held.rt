@@ -14,7 +14,8 @@ use lane_words::MOST_PARTITIONS;
 pub struct Held {
     /// The offset up to which all records are known to be committed.
     pub base: u32,
-    /// The offset of the next record to be read: what is before it and not below the base is pending.
+    /// The offset of the next record to be read: what is before it and not below the base is
+    /// pending.
     pub position: u32,
 }
 
@@ -39,7 +40,8 @@ impl Held {
 pub fn lease(held: &mut [Option<Held>], lease: &Lease)
     requires few { length held.old ≤ MOST_PARTITIONS }
     requires one_each { length held.old ≡ partitions_of lease.now.assigned }
-    ensures { held.new ≡ map (λ p. leased_slot lease.now p (slice_index_or held.old p None)) (range_with_len 0 (length held.old)) }
+    ensures { held.new ≡ map (λ p. leased_slot lease.now p (slice_index_or held.old p None))
+        (range_with_len 0 (length held.old)) }
 {
     for p in 0..held.len() {
         if held[p].is_none() && lease.assigned().contains(p as u32) {
@@ -55,7 +57,9 @@ pub fn lease(held: &mut [Option<Held>], lease: &Lease)
 /// What is not assigned is dropped.
 pub fn give_up(held: &mut [Option<Held>], assigned: &Plane)
     requires { length held.old ≤ MOST_PARTITIONS }
-    ensures { held.new ≡ map (λ p. if is_in assigned.now p then slice_index_or held.old p None else None) (range_with_len 0 (length held.old)) }
+    ensures { held.new ≡ map
+        (λ p. if is_in assigned.now p then slice_index_or held.old p None else None)
+        (range_with_len 0 (length held.old)) }
 {
     for p in 0..held.len() {
         if !assigned.contains(p as u32) {

@@ -1,4 +1,5 @@
-//! A consumer: it reads the partitions that it holds, sends commits of what it read, and learns what became of them.
+//! A consumer: it reads the partitions that it holds, sends commits of what it read, and learns
+//! what became of them.
 #![tactic(auto)]
 
 ghost use Rattle.std.specs.Prelude.{◌≡◌, ◌≤◌, ℕ, Some, Ok, Err, IfOk, IfErr, OnOk, OnErr};
@@ -20,8 +21,9 @@ use std::marker::Model;
 
 /// One consumer of a group, as it knows itself.
 ///
-/// For each partition that it holds it has a base, up to which it knows the records to be committed, and a position, at
-/// which it reads on: the records between them are pending. What it holds takes at most 16 bytes a partition.
+/// For each partition that it holds it has a base, up to which it knows the records to be
+/// committed, and a position, at which it reads on: the records between them are pending. What it
+/// holds takes at most 16 bytes a partition.
 ///
 /// It may lag behind the cluster: whoever is lost goes on as before until an answer tells it.
 #[derive(Drop)]
@@ -46,8 +48,8 @@ impl Model for Consumer {
 }
 
 impl Consumer {
-    /// A consumer of 1 to 4096 partitions that is out of a group. Refused for want of memory alone; no other call but
-    /// `send` takes memory.
+    /// A consumer of 1 to 4096 partitions that is out of a group. Refused for want of memory alone;
+    /// no other call but `send` takes memory.
     pub fn new(alloc: Global, partitions: u32) -> Result<Consumer, Memory>
         requires { (1 ≤ partitions) × (partitions ≤ MOST_PARTITIONS) }
         ensures value { IfOk result (λ consumer. consumer ≡ out_of_group partitions) }
@@ -72,8 +74,8 @@ impl Consumer {
         self.member = Some(member);
     }
 
-    /// It takes a lease of its member: what it does not hold yet of the leased partitions it reads from their committed
-    /// offsets on. What it held it keeps until it gives up.
+    /// It takes a lease of its member: what it does not hold yet of the leased partitions it reads
+    /// from their committed offsets on. What it held it keeps until it gives up.
     pub fn take_lease(&mut self, lease: &Lease)
         requires member { self.old.member ≡ Some lease.now.member }
         requires partitions { partitions_of lease.now.assigned ≡ self.old.partitions }
@@ -84,10 +86,11 @@ impl Consumer {
         self.assigned = lease.assigned().copy();
     }
 
-    /// Reads at most `n` records of a partition on from its position, and answers how many there were.
+    /// Reads at most `n` records of a partition on from its position, and answers how many there
+    /// were.
     ///
-    /// Refused, with everything as it was: a consumer that is out (`OutOfGroup`); a partition that it does not hold
-    /// (`NotHeld`), as each past the last.
+    /// Refused, with everything as it was: a consumer that is out (`OutOfGroup`); a partition that
+    /// it does not hold (`NotHeld`), as each past the last.
     pub fn poll<L: LogRead>(&mut self, logs: &L, p: u32, n: u32) -> Result<u32, Refusal>
         requires partitions { (L.contents logs.now).partitions ≡ self.old.partitions }
         requires within { IsWithinLogs self.old (L.contents logs.now) }
@@ -106,8 +109,8 @@ impl Consumer {
 
     /// Whether anything is pending of a partition.
     ///
-    /// Refused: a consumer that is out (`OutOfGroup`); a partition that it does not hold (`NotHeld`); one of which
-    /// nothing is pending (`EmptyCommit`).
+    /// Refused: a consumer that is out (`OutOfGroup`); a partition that it does not hold
+    /// (`NotHeld`); one of which nothing is pending (`EmptyCommit`).
     pub fn sendable(&self, p: u32) -> Result<(), Refusal>
         ensures { result ≡ sendable_answer self.now p }
     {
@@ -115,8 +118,8 @@ impl Consumer {
         Ok(())
     }
 
-    /// The commit of all that is pending of a partition, in the name of its member and of the generation of its lease.
-    /// Refused as `sendable` is, and for want of memory.
+    /// The commit of all that is pending of a partition, in the name of its member and of the
+    /// generation of its lease. Refused as `sendable` is, and for want of memory.
     pub fn send<L: LogRead>(&self, logs: &L, p: u32) -> Result<Commit, Refusal>
         requires partitions { (L.contents logs.now).partitions ≡ self.now.partitions }
         requires within { IsWithinLogs self.now (L.contents logs.now) }
@@ -128,9 +131,10 @@ impl Consumer {
         Ok(Commit::new(member, self.generation, p, held.base, partial))
     }
 
-    /// It learns what became of a commit of this partition. Where its member is not known any more, it is out and drops
-    /// all. Where an offset is told, as the new committed one or with a mismatch, its base becomes that offset, and so
-    /// does its position where it is less, or where the base was past it. Every other answer changes nothing.
+    /// It learns what became of a commit of this partition. Where its member is not known any more,
+    /// it is out and drops all. Where an offset is told, as the new committed one or with a
+    /// mismatch, its base becomes that offset, and so does its position where it is less, or where
+    /// the base was past it. Every other answer changes nothing.
     pub fn answered(&mut self, p: u32, reply: Result<u32, Refusal>)
         ensures { self.new ≡ answered_by self.old p reply }
     {
@@ -196,7 +200,8 @@ impl Consumer {
         self.held_at(p).is_some()
     }
 
-    /// The base of a partition: the offset up to which it knows the records to be committed; 0 where it is not held.
+    /// The base of a partition: the offset up to which it knows the records to be committed; 0
+    /// where it is not held.
     pub fn base(&self, p: u32) -> u32
         ensures { result ≡ base_of self.now p }
     {

@@ -1,4 +1,5 @@
-//! A consumer by itself, each call that needs no cluster once. Leases, polls and sends are tested in worlds.
+//! A consumer by itself, each call that needs no cluster once. Leases, polls and sends are tested
+//! in worlds.
 
 use super::*;
 use std::test::Fail;

@@ -44,7 +44,8 @@ appended_by event reply = []
 abbrev pub appended_in : List Event → List Reply → List Key
 appended_in [] replies = []
 appended_in (event ∷ events) [] = []
-appended_in (event ∷ events) (reply ∷ replies) = appended_by event reply ++ appended_in events replies
+appended_in (event ∷ events) (reply ∷ replies) =
+    appended_by event reply ++ appended_in events replies
 
 -- logs of a list of keys are afterwards those of the list with these at its end
 abbrev pub AppendsKeys : List Key → WorldState → WorldState → Type 0
@@ -63,19 +64,24 @@ AreAppended (reply ∷ replies) = ⊥
 
 -- all of these keys were appended, one after the other
 abbrev pub Appends : WorldState → List (Bor Key) → WorldState → Type 0
-Appends w keys w2 = (replies : List Reply) × Run w (appends_of keys) replies w2 × AreAppended replies
+Appends w keys w2 =
+    (replies : List Reply) × Run w (appends_of keys) replies w2 × AreAppended replies
 
 -- the append of the first of these keys is refused
 abbrev pub IsRefusedNext : WorldState → List Event → Refusal → Type 0
 IsRefusedNext w [] why = ⊥
 IsRefusedNext w (event ∷ events) why = Step w event (reply.Refused why) w
 
--- Why a load stopped after n keys: the append of the next one was refused, or at the beginning memory for the places was
+-- Why a load stopped after n keys: the append of the next one was refused, or at the beginning
+-- memory for the places was
 abbrev pub StopsLoad : WorldState → List (Bor Key) → ℕ → Refusal → Type 0
 StopsLoad w rest n why = IsRefusedNext w (appends_of rest) why ⊎ ((n ≡ 0) × (why ≡ r.Memory))
 
--- a load of keys: all are appended; or those before the first that is refused, and it is told how many these are
-abbrev pub Loads : WorldState → List (Bor Key) → Result (Unit {0}) (ℕ × Refusal) → WorldState → Type 0
+-- a load of keys: all are appended; or those before the first that is refused, and it is told how
+-- many these are
+abbrev pub Loads : WorldState → List (Bor Key) → Result (Unit {0}) (ℕ × Refusal) → WorldState
+    → Type 0
 Loads w keys (Ok _) w2 = Appends w keys w2
 Loads w keys (Err stop) w2 =
-    (stop.0 ≤ length keys) × Appends w (take stop.0 keys) w2 × StopsLoad w2 (drop stop.0 keys) stop.0 stop.1
+    (stop.0 ≤ length keys) × Appends w (take stop.0 keys) w2
+    × StopsLoad w2 (drop stop.0 keys) stop.0 stop.1

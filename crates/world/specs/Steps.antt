@@ -28,7 +28,8 @@ refused w why = done (reply.Refused why) w
 
 -- ---- the cluster's own events
 abbrev pub append_outcome : WorldState → Key → Result (ℕ × ℕ) Refusal → Outcome
-append_outcome w key (Ok at) = done (reply.Appended at.0 at.1) (with_cluster w (appended_to w.cluster key))
+append_outcome w key (Ok at) = done (reply.Appended at.0 at.1)
+    (with_cluster w (appended_to w.cluster key))
 append_outcome w key (Err why) = refused w why
 
 abbrev pub append_event : WorldState → Key → Outcome
@@ -48,7 +49,8 @@ join_event w name = join_outcome w name (join_answer w.cluster.group name)
 
 -- a member that is lost is not told
 abbrev pub lose_outcome : WorldState → ℕ → Result (Unit {0}) Refusal → Outcome
-lose_outcome w m (Ok _) = done reply.Lost (with_cluster w (with_group w.cluster (left_by w.cluster.group m)))
+lose_outcome w m (Ok _) =
+    done reply.Lost (with_cluster w (with_group w.cluster (left_by w.cluster.group m)))
 lose_outcome w m (Err why) = refused w why
 
 abbrev pub lose_event : WorldState → ℕ → Outcome
@@ -59,9 +61,11 @@ lose_event w m = lose_outcome w m (leave_answer w.cluster.group m)
 abbrev pub dropped : ConsumerState → ConsumerState
 dropped c = out_of_group c.partitions
 
--- refused by the cluster: a consumer that learns that its member is not present is out, and else nothing changes
+-- refused by the cluster: a consumer that learns that its member is not present is out, and else
+-- nothing changes
 abbrev pub refused_by_cluster : WorldState → ℕ → Refusal → Outcome
-refused_by_cluster w m r.UnknownMember = done (reply.Refused r.UnknownMember) (on_consumer w m dropped)
+refused_by_cluster w m r.UnknownMember = done (reply.Refused r.UnknownMember)
+    (on_consumer w m dropped)
 refused_by_cluster w m why = refused w why
 
 -- the cluster and the consumer of a member after an accepted step of both
@@ -83,8 +87,8 @@ leave_outcome w m (Ok _) = done reply.Left
     (both w m (with_group w.cluster (left_by w.cluster.group m)) dropped)
 leave_outcome w m (Err why) = refused_by_cluster w m why
 
--- an event that the consumer of a member asks the cluster for: refused by 1 where there never was such a member, and by
--- 16 where its consumer is out
+-- an event that the consumer of a member asks the cluster for: refused by 1 where there never was
+-- such a member, and by 16 where its consumer is out
 abbrev pub asked : WorldState → Option ConsumerState → (ConsumerState → Outcome) → Outcome
 asked w None f = refused w r.UnknownMember
 asked w (Some c) f = if is_none c.member then refused w r.OutOfGroup else f c
@@ -97,11 +101,13 @@ rejoin_event w m = asked w (consumer_of w m)
     (λ c. rejoin_outcome w m (rejoin_answer w.cluster.group m c.generation c.assigned))
 
 abbrev pub leave_event : WorldState → ℕ → Outcome
-leave_event w m = asked w (consumer_of w m) (λ c. leave_outcome w m (leave_answer w.cluster.group m))
+leave_event w m =
+    asked w (consumer_of w m) (λ c. leave_outcome w m (leave_answer w.cluster.group m))
 
 -- ---- events of a consumer alone
 abbrev pub poll_outcome : WorldState → ℕ → ℕ → ℕ → ConsumerState → Result ℕ Refusal → Outcome
-poll_outcome w m p n c (Ok count) = done (reply.Polled count) (on_consumer w m (λ x. polled x w.cluster.logs p n))
+poll_outcome w m p n c (Ok count) = done (reply.Polled count)
+    (on_consumer w m (λ x. polled x w.cluster.logs p n))
 poll_outcome w m p n c (Err why) = refused w why
 
 abbrev pub poll_known : WorldState → ℕ → ℕ → ℕ → Option ConsumerState → Outcome
@@ -114,7 +120,8 @@ poll_event w m p n = poll_known w m p n (consumer_of w m)
 -- whether a commit can be sent: the consumer has something to send, and the mail has room for it
 abbrev pub mail_answer : WorldState → ConsumerState → ℕ → Result (Unit {0}) Refusal
 mail_answer w c p =
-    result_and (sendable_answer c p) (if nat_le MOST_COMMITS (length w.mail) then Err r.MailFull else Ok tt)
+    result_and (sendable_answer c p)
+    (if nat_le MOST_COMMITS (length w.mail) then Err r.MailFull else Ok tt)
 
 abbrev pub send_outcome : WorldState → ℕ → ConsumerState → Result (Unit {0}) Refusal → Outcome
 send_outcome w p c (Ok _) = done (reply.Sent (length w.mail + 1))
@@ -147,7 +154,8 @@ delivered w c answer = done (told answer)
 abbrev pub delivered_unanswered : WorldState → CommitTerms → Result ℕ Refusal → Outcome
 delivered_unanswered w c answer = done reply.Unanswered (with_cluster w (given w.cluster c answer))
 
-abbrev pub delivery : WorldState → (CommitTerms → Result ℕ Refusal → Outcome) → Option CommitTerms → Outcome
+abbrev pub delivery : WorldState → (CommitTerms → Result ℕ Refusal → Outcome) → Option CommitTerms
+    → Outcome
 delivery w f None = refused w r.NoSuchCommit
 delivery w f (Some c) = f c (cluster_commit_answer w.cluster c)
 
@@ -193,8 +201,8 @@ IsNoCommitFault (Err r.WrongRecords) = ⊥
 IsNoCommitFault (Err r.EmptyCommit) = ⊥
 IsNoCommitFault answer = Unit {0}
 
--- The cluster never answers an event by one of these: a rejoin that has to sync first, or whose claim differs; a commit
--- past the end, with wrong records, or without records
+-- The cluster never answers an event by one of these: a rejoin that has to sync first, or whose
+-- claim differs; a commit past the end, with wrong records, or without records
 abbrev pub NeverFaults : WorldState → Event → Type 0
 NeverFaults w (event.Rejoin m) = (c : ConsumerState) → consumer_of w m ≡ Some c
     → IsNoRejoinFault (rejoin_answer w.cluster.group m c.generation c.assigned)

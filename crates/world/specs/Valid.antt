@@ -8,8 +8,8 @@ use Rattle.consumer.specs.Consumer.{ConsumerState, IsValidConsumer, IsWithinLogs
 use Rattle.world.specs.declared.event.TheConstants.{MOST_COMMITS}
 use Rattle.world.specs.World.{WorldState, consumer_of}
 
--- The consumer of member number m, present or not: it is out or that member's; what it takes for committed is committed,
--- and it has read nothing past a log's end
+-- The consumer of member number m, present or not: it is out or that member's; what it takes for
+-- committed is committed, and it has read nothing past a log's end
 pub record IsConsumerOf (s : ClusterState) (m : ℕ) (c : ConsumerState) : Type 0 where
   pub valid : IsValidConsumer c
   pub partitions : c.partitions ≡ s.group.partitions
@@ -17,9 +17,9 @@ pub record IsConsumerOf (s : ClusterState) (m : ℕ) (c : ConsumerState) : Type 
   pub committed : (p : ℕ) → base_of c p ≤ committed_at s.store p
   pub within : IsWithinLogs c s.logs
 
--- The consumer of a present member: it is in, and holds only what the member is granted. Its generation is at most the
--- group's, and is the group's exactly where the member is synced: then its lease is what the member is to keep, all of
--- which it holds
+-- The consumer of a present member: it is in, and holds only what the member is granted. Its
+-- generation is at most the group's, and is the group's exactly where the member is synced: then
+-- its lease is what the member is to keep, all of which it holds
 pub record IsInStep (g : GroupState) (m : ℕ) (c : ConsumerState) : Type 0 where
   pub member : c.member ≡ Some m
   pub granted : (p : ℕ) → is_held c p ≡ true → is_in (granted_of g m) p ≡ true
@@ -38,7 +38,8 @@ pub record IsSent (l : PartitionLogs) (c : CommitTerms) : Type 0 where
 pub record IsValidWorld (w : WorldState) : Type 0 where
   pub cluster : IsValidCluster w.cluster
   pub a_consumer_each : length w.consumers ≡ length w.cluster.group.slots
-  pub consumers : (m : ℕ) (c : ConsumerState) → consumer_of w m ≡ Some c → IsConsumerOf w.cluster m c
+  pub consumers : (m : ℕ) (c : ConsumerState) → consumer_of w m ≡ Some c
+      → IsConsumerOf w.cluster m c
   pub present : (m : ℕ) (c : ConsumerState) → is_present w.cluster.group m ≡ true
       → consumer_of w m ≡ Some c → IsInStep w.cluster.group m c
   pub mail : (i : ℕ) (c : CommitTerms) → slice_get w.mail i ≡ Some c → IsSent w.cluster.logs c

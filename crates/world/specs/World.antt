@@ -1,10 +1,11 @@
--- A world: a cluster, the consumers of all members that ever joined, and the commits that were sent.
+-- A world: a cluster, the consumers of all members that ever joined, and the commits that were
+-- sent.
 use Rattle.std.specs.Prelude.{◌≡◌, ℕ, zero, suc, List, [], Option, Some, None, slice_get, slice_set}
 use Rattle.consumer.specs.Consumer.{ConsumerState}
 use Rattle.group_machine.specs.Cluster.{ClusterState, CommitTerms}
 
--- The consumer of member number m stands at index m - 1, and commit number k of the mail at index k - 1. The mail only
--- grows: a commit that was delivered may be delivered again
+-- The consumer of member m stands at index m - 1, and commit k of the mail at index k - 1. The mail
+-- only grows: a commit that was delivered may be delivered again
 pub record WorldState : Type 0 where
   pub cluster : ClusterState
   pub consumers : List ConsumerState
@@ -28,7 +29,8 @@ abbrev pub with_consumer : WorldState → ℕ → ConsumerState → WorldState
 with_consumer w zero c = w
 with_consumer w (suc i) c = record w { consumers = slice_set w.consumers i c }
 
-abbrev pub changed : WorldState → ℕ → (ConsumerState → ConsumerState) → Option ConsumerState → WorldState
+abbrev pub changed : WorldState → ℕ → (ConsumerState → ConsumerState) → Option ConsumerState
+    → WorldState
 changed w member f None = w
 changed w member f (Some c) = with_consumer w member (f c)
 

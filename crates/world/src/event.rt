@@ -6,7 +6,8 @@ use lane_words::Refusal;
 /// The most commits that are sent in a world.
 pub const MOST_COMMITS: usize = 65_536;
 
-/// What happens in a world. Members go by their numbers, from 1, and commits of the mail by theirs, from 1.
+/// What happens in a world. Members go by their numbers, from 1, and commits of the mail by theirs,
+/// from 1.
 #[derive(Clone, Copy)]
 pub enum Event<'a> {
     /// A record of this key is appended.
@@ -27,7 +28,8 @@ pub enum Event<'a> {
         partition: u32,
         records: u32,
     },
-    /// A member's consumer sends a commit of what is pending of a partition: it goes last into the mail.
+    /// A member's consumer sends a commit of what is pending of a partition: it goes last into the
+    /// mail.
     Send {
         member: u32,
         partition: u32,

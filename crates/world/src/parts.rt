@@ -59,7 +59,8 @@ impl Parts {
     ) -> Result<(), (u64, Refusal)>
         requires { IsValidWorld (world_view self.old) }
         ensures loads { Loads (world_view self.old) keys.now result (world_view self.new) }
-        ensures history { OnOk result (AppendsKeys (map (λ key. key.now) keys.now) (world_view self.old) (world_view self.new)) }
+        ensures history { OnOk result (AppendsKeys (map (λ key. key.now) keys.now)
+            (world_view self.old) (world_view self.new)) }
         ensures valid { IsValidWorld (world_view self.new) }
     {
         let partitions = Partitions::new(self.cluster.partitions());
@@ -75,7 +76,8 @@ impl Parts {
     }
 
     fn append(&mut self, key: &[u8]) -> Reply
-        ensures { MayCome (world_view self.old) (append_event (world_view self.old) key.now) result (world_view self.new) }
+        ensures { MayCome (world_view self.old) (append_event (world_view self.old) key.now) result
+            (world_view self.new) }
     {
         match self.cluster.append(key) {
             Ok((partition, offset)) => return Reply::Appended(partition, offset),
@@ -85,7 +87,8 @@ impl Parts {
 
     // All that grows grows before the cluster is asked.
     fn join(&mut self, alloc: Global, name: &Name) -> Reply
-        ensures { MayCome (world_view self.old) (join_event (world_view self.old) name.now) result (world_view self.new) }
+        ensures { MayCome (world_view self.old) (join_event (world_view self.old) name.now) result
+            (world_view self.new) }
     {
         if self.consumers.reserve(1).is_err() {
             return Reply::Refused(Refusal::Memory);
@@ -105,7 +108,8 @@ impl Parts {
 
     fn sync(&mut self, member: u32) -> Reply
         requires { IsValidWorld (world_view self.old) }
-        ensures { MayCome (world_view self.old) (sync_event (world_view self.old) member) result (world_view self.new) }
+        ensures { MayCome (world_view self.old) (sync_event (world_view self.old) member) result
+            (world_view self.new) }
     {
         let index = match self.asking(member) {
             Ok(index) => index,
@@ -121,7 +125,8 @@ impl Parts {
     }
 
     fn rejoin(&mut self, member: u32) -> Reply
-        ensures { MayCome (world_view self.old) (rejoin_event (world_view self.old) member) result (world_view self.new) }
+        ensures { MayCome (world_view self.old) (rejoin_event (world_view self.old) member) result
+            (world_view self.new) }
     {
         let index = match self.asking(member) {
             Ok(index) => index,
@@ -141,7 +146,8 @@ impl Parts {
     }
 
     fn leave(&mut self, member: u32) -> Reply
-        ensures { MayCome (world_view self.old) (leave_event (world_view self.old) member) result (world_view self.new) }
+        ensures { MayCome (world_view self.old) (leave_event (world_view self.old) member) result
+            (world_view self.new) }
     {
         let index = match self.asking(member) {
             Ok(index) => index,
@@ -157,7 +163,8 @@ impl Parts {
     }
 
     fn lose(&mut self, member: u32) -> Reply
-        ensures { MayCome (world_view self.old) (lose_event (world_view self.old) member) result (world_view self.new) }
+        ensures { MayCome (world_view self.old) (lose_event (world_view self.old) member) result
+            (world_view self.new) }
     {
         match self.cluster.lose(member) {
             Ok(()) => return Reply::Lost,
@@ -167,7 +174,8 @@ impl Parts {
 
     fn poll(&mut self, member: u32, partition: u32, records: u32) -> Reply
         requires { IsValidWorld (world_view self.old) }
-        ensures { Comes (poll_event (world_view self.old) member partition records) result (world_view self.new) }
+        ensures { Comes (poll_event (world_view self.old) member partition records) result
+            (world_view self.new) }
     {
         let Some(index) = index_of(member, self.consumers.len()) else {
             return Reply::Refused(Refusal::UnknownMember);
@@ -180,7 +188,8 @@ impl Parts {
 
     fn send(&mut self, member: u32, partition: u32) -> Reply
         requires { IsValidWorld (world_view self.old) }
-        ensures { MayCome (world_view self.old) (send_event (world_view self.old) member partition) result (world_view self.new) }
+        ensures { MayCome (world_view self.old) (send_event (world_view self.old) member partition)
+            result (world_view self.new) }
     {
         let Some(index) = index_of(member, self.consumers.len()) else {
             return Reply::Refused(Refusal::UnknownMember);
@@ -222,7 +231,8 @@ impl Parts {
     }
 
     fn deliver_unanswered(&mut self, number: u32) -> Reply
-        ensures { Comes (deliver_unanswered_event (world_view self.old) number) result (world_view self.new) }
+        ensures { Comes (deliver_unanswered_event (world_view self.old) number) result
+            (world_view self.new) }
     {
         let Some(index) = index_of(number, self.mail.len()) else {
             return Reply::Refused(Refusal::NoSuchCommit);
@@ -231,7 +241,8 @@ impl Parts {
         Reply::Unanswered
     }
 
-    /// The index of the consumer of a member that may ask the cluster for something: there is one, and it is in.
+    /// The index of the consumer of a member that may ask the cluster for something: there is one,
+    /// and it is in.
     fn asking(&self, member: u32) -> Result<usize, Refusal>
         ensures asking { IfOk result (IsAsking (world_view self.now) member) }
         ensures refused { IfErr result (IsNotAsking (world_view self.now) member) }
@@ -248,7 +259,8 @@ impl Parts {
     /// Refuses what a consumer asked for, as the cluster did. One whose member is not known is out.
     fn refuse(&mut self, index: usize, why: Refusal) -> Reply
         requires { index < length (world_view self.old).consumers }
-        ensures { Comes (refused_by_cluster (world_view self.old) (suc index) why) result (world_view self.new) }
+        ensures { Comes (refused_by_cluster (world_view self.old) (suc index) why) result
+            (world_view self.new) }
     {
         if why == Refusal::UnknownMember {
             self.consumers[index].drop_all();

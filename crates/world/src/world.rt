@@ -19,10 +19,10 @@ use std::thread::Threads;
 
 /// A cluster, a consumer for each member that ever joined, and the commits that were sent.
 ///
-/// Any list of events may come: appends, joins, rejoins, syncs, leaves and losses of members, polls, and commits that
-/// are sent, delivered late, again and again, or unanswered. After each of them no partition is granted to two present
-/// members, a settled assignment is balanced, and every key's count is that of the records below the committed offsets,
-/// each taken once.
+/// Any list of events may come: appends, joins, rejoins, syncs, leaves and losses of members,
+/// polls, and commits that are sent, delivered late, again and again, or unanswered. After each of
+/// them no partition is granted to two present members, a settled assignment is balanced, and every
+/// key's count is that of the records below the committed offsets, each taken once.
 #[derive(Drop)]
 pub struct World {
     alloc: Global,
@@ -42,8 +42,8 @@ impl Model for World {
 }
 
 impl World {
-    /// A world of 1 to 4096 partitions in which nothing has happened. Refused for want of memory, or where the random
-    /// source fails, from which the hasher of the keys is drawn.
+    /// A world of 1 to 4096 partitions in which nothing has happened. Refused for want of memory,
+    /// or where the random source fails, from which the hasher of the keys is drawn.
     pub fn new(rt: &impl RandomSource, alloc: Global, partitions: u32) -> Result<World, Memory>
         requires { (1 ≤ partitions) × (partitions ≤ MOST_PARTITIONS) }
         ensures opening { IfOk result (IsOpening partitions) }
@@ -63,9 +63,9 @@ impl World {
 
     /// One event, and the reply to it.
     ///
-    /// A refused event changes nothing, but that a consumer which learns that its member is not present drops all, and
-    /// that one which learns the committed offset is realigned. An event that takes memory may be refused for want of
-    /// it, with everything as it was.
+    /// A refused event changes nothing, but that a consumer which learns that its member is not
+    /// present drops all, and that one which learns the committed offset is realigned. An event
+    /// that takes memory may be refused for want of it, with everything as it was.
     pub fn step(&mut self, event: Event<'_>) -> Reply
         ensures step { Step self.old event.entry result self.new }
         ensures never_faults { NeverFaults self.old event.entry }
@@ -75,11 +75,12 @@ impl World {
         self.parts.step(self.alloc, event)
     }
 
-    /// Events in order, and the replies to them. Refused for want of memory for the replies alone, with everything as
-    /// it was; an event that is refused has its reply, and the run goes on.
+    /// Events in order, and the replies to them. Refused for want of memory for the replies alone,
+    /// with everything as it was; an event that is refused has its reply, and the run goes on.
     pub fn run(&mut self, events: &[Event<'_>]) -> Result<Vec<Reply>, Memory>
         ensures run { IfOk result (λ replies. Run self.old events.now replies.items self.new) }
-        ensures history { IfOk result (λ replies. AppendsKeys (appended_in events.now replies.items) self.old self.new) }
+        ensures history { IfOk result (λ replies. AppendsKeys
+            (appended_in events.now replies.items) self.old self.new) }
         ensures valid { IsValidWorld self.new }
         ensures err { OnErr result (self.new ≡ self.old) }
     {
@@ -92,11 +93,12 @@ impl World {
 
     /// Appends records of these keys in order, as their events would.
     ///
-    /// Where one is refused it stops, and answers how many stand before it, with the refusal: those stand. Where the
-    /// memory for the places of the keys is refused, that number is 0.
+    /// Where one is refused it stops, and answers how many stand before it, with the refusal: those
+    /// stand. Where the memory for the places of the keys is refused, that number is 0.
     pub fn load<R: Threads + Sync>(&mut self, rt: &R, keys: &[&[u8]]) -> Result<(), (u64, Refusal)>
         ensures loads { Loads self.old keys.now result self.new }
-        ensures history { OnOk result (AppendsKeys (map (λ key. key.now) keys.now) self.old self.new) }
+        ensures history { OnOk result (AppendsKeys (map (λ key. key.now) keys.now) self.old
+            self.new) }
         ensures valid { IsValidWorld self.new }
     {
         self.parts.load(rt, self.alloc, keys)
@@ -112,7 +114,8 @@ impl World {
 
     /// The consumer of a member that ever joined, present or not.
     pub fn consumer(&self, member: u32) -> Option<&Consumer>
-        ensures value { MatchOption result (consumer_of self.now member ≡ None) (λ consumer. consumer_of self.now member ≡ Some consumer.now) }
+        ensures value { MatchOption result (consumer_of self.now member ≡ None)
+            (λ consumer. consumer_of self.now member ≡ Some consumer.now) }
         ensures valid { IsValidWorld self.now }
     {
         let index = index_of(member, self.parts.consumers.len())?;

@@ -297,7 +297,14 @@ fn chosen_event<'a>(
             let member = chosen.member();
             let partition = chosen.below(6);
             let records = chosen.below(4);
-            (6, Event::Poll { member, partition, records })
+            (
+                6,
+                Event::Poll {
+                    member,
+                    partition,
+                    records,
+                },
+            )
         }
         680..=859 => {
             let member = chosen.member();
@@ -309,7 +316,8 @@ fn chosen_event<'a>(
     }
 }
 
-/// No partition is granted to two members, and where the group is settled each is granted to one, evenly.
+/// No partition is granted to two members, and where the group is settled each is granted to one,
+/// evenly.
 fn grants_are_right(rt: &impl Abort, cluster: &Cluster) {
     let mut owners = [0u32; 5];
     let (mut least, mut most) = (u32::MAX, 0);
@@ -348,7 +356,8 @@ fn counts_are_exact(rt: &impl Abort, cluster: &Cluster) {
     }
 }
 
-/// A consumer holds only what its member is granted, follows its lease, and is nowhere ahead of the cluster.
+/// A consumer holds only what its member is granted, follows its lease, and is nowhere ahead of the
+/// cluster.
 fn consumer_is_in_step(rt: &impl Abort, cluster: &Cluster, member: u32, consumer: &Consumer) {
     assert_eq!(rt; cluster.logs().partitions(), 5);
     for p in 0..5u32 {
@@ -414,7 +423,14 @@ fn a_long_schedule_keeps_the_world_good(rt: HostRuntime) -> Result<(), Fail> {
     let names = eight_names(&rt);
     let long = vec![in rt.alloc(); 0u8; 65_536]?;
     let keys: [&[u8]; 8] = [
-        b"21", b"4", b"foobar", b"abc", b"", b"34", b"1234", long.as_slice(),
+        b"21",
+        b"4",
+        b"foobar",
+        b"abc",
+        b"",
+        b"34",
+        b"1234",
+        long.as_slice(),
     ];
     let mut world = World::new(&rt, rt.alloc(), 5)?;
     let mut chosen = Chosen { x: 1 };
