@@ -25,7 +25,12 @@ impl Model for Lease {
     ghost Value = { LeaseTerms };
 
     ghost view = { λ l.
-        record { member = l.member; generation = l.generation; assigned = l.assigned; starts = l.starts.items } };
+        record {
+          member = l.member;
+          generation = l.generation;
+          assigned = l.assigned;
+          starts = l.starts.items;
+        } };
 
     ghost invariant = { λ l. length l.starts.items ≡ partitions_of l.assigned };
 }
