@@ -3,6 +3,7 @@ use Rattle.std.proofs.Common.{◌≡◌, ◌∙◌, ◌+◌, ◌<◌, ◌≤◌,
 use Rattle.std.specs.Prelude.{Option, Some, None, Result, Ok, Err, OnOk, OnErr, if◌then◌else◌, ◌==◌, not}
 use Rattle.std.proofs.Math.ListN.{length-set}
 use Rattle.std.proofs.lemmas.Bool.Decides.{eqb_tells}
+use Rattle.lane_words.specs.declared.limits.TheConstants.{MOST_PARTITIONS}
 use Rattle.lane_words.specs.declared.Refusal.{Refusal}
 use Rattle.lane_words.specs.declared.Refusal.TheVariants as r
 use Rattle.bit_planes.specs.PartitionSet.{is_in, partitions_of}
@@ -138,7 +139,7 @@ assigned_over g fit m = go (member_of g m) (λ x is. fit m x is)
     go (Some x) f = (f x refl).assigned_below
 
 -- ---- the beginning
-pub new-consistent : (p : ℕ) (g : GroupState) (l : PartitionLogs) (store : Commits) → 1 ≤ p → p ≤ 4096 → g ≡ opening p → l.partitions ≡ p → AreLogsOf [] l → IsValidLogs l
+pub new-consistent : (p : ℕ) (g : GroupState) (l : PartitionLogs) (store : Commits) → 1 ≤ p → p ≤ MOST_PARTITIONS → g ≡ opening p → l.partitions ≡ p → AreLogsOf [] l → IsValidLogs l
     → length store.offsets ≡ p → store.counts ≡ [] → IsExact store l → IsValidCluster (record { group = g; logs = l; store = without_room store })
 unfolding distinct
 new-consistent p g l store some few group parts none logs offsets counts exact =

@@ -3,7 +3,7 @@ use Rattle.std.proofs.Common.{ℕ, zero, suc, ◌≡◌, ◌<◌, ◌≤◌, ◌
 use Rattle.std.proofs.lemmas.Bool.{false≢true}
 use Rattle.std.specs.List.{list_any, list_all}
 use Rattle.std.specs.Option.{option_map}
-use Rattle.lane_words.specs.declared.limits.TheConstants.{MOST_MEMBERS}
+use Rattle.lane_words.specs.declared.limits.TheConstants.{MOST_MEMBERS, MOST_PARTITIONS}
 use Rattle.bit_planes.specs.PartitionSet.{is_in, is_within, empty_set}
 use Rattle.bit_planes.proofs.Sets.{in_empty, partitions_empty, within_of, within_says}
 use Rattle.sticky_assignor.specs.Balanced.{IsBalanced}
@@ -286,7 +286,7 @@ length_replicate : {A : Type 0} (n : ℕ) (x : A) → length (replicate n x) ≡
 length_replicate zero x = refl
 length_replicate (suc n) x = ap (λ k. suc k) (length_replicate n x)
 
-pub opening_good : (p : ℕ) → 1 ≤ p → p ≤ 4096 → IsValidGroup (opening p)
+pub opening_good : (p : ℕ) → 1 ≤ p → p ≤ MOST_PARTITIONS → IsValidGroup (opening p)
 opening_good p some few = record {
   sized = record { some_partitions = some; few_partitions = few; few_members = omega arith; a_holder_each = length_replicate p None };
   apart = λ m n q e h. absurd (false≢true (sym (in_empty p q) ∙ ap (λ o. is_in (seat_granted p o) q) (sym (nobody_at m)) ∙ e));

@@ -40,10 +40,14 @@ completed_with g next = record {
   moves = g.moves ++ moves_to g next;
 }
 
--- the next generation: each member's row is its sticky target of what is granted, without what any
+-- the rows of the next generation: each member's sticky target of what is granted, without what any
 -- other member is granted
+abbrev pub next_rows_of : GroupState → SetRows
+next_rows_of g = next_rows (granted_rows g)
+
+-- the next generation
 abbrev pub complete : GroupState → GroupState
-complete g = completed_with g (next_rows (granted_rows g))
+complete g = completed_with g (next_rows_of g)
 
 -- a completion would pass the last generation
 abbrev pub is_over : GroupState → Bool

@@ -8,7 +8,8 @@ use Rattle.group_machine.specs.declared.group.Phase.TheVariants.{Empty, Preparin
 use Rattle.group_machine.specs.State.{GroupState, member_of, members, is_present, is_joined, granted_of, assigned_of, is_anybody, last_holder}
 use Rattle.group_machine.specs.Rounds.{is_settled}
 
--- 1 to 4096 partitions, up to 512 members over all, and a last holder or none for each partition
+-- within the limits of partitions and of members over all, with a last holder or none for each
+-- partition
 pub record IsSized (g : GroupState) : Type 0 where
   pub some_partitions : 1 ≤ g.partitions
   pub few_partitions : g.partitions ≤ MOST_PARTITIONS

@@ -41,7 +41,9 @@ move_of generation q last holder = record {
 abbrev pub moves_by : ℕ → List (Option ℕ) → List (Option ℕ) → List Move
 moves_by generation takers last =
     filter_map
-    (λ q. option_map (move_of generation q (slice_index_or last q None)) (slice_index_or takers q None))
+    (λ q.
+    option_map (move_of generation q (slice_index_or last q None))
+    (slice_index_or takers q None))
     (range_with_len 0 (length takers))
 
 -- for each partition the member that takes it, or else the one that was last granted it before

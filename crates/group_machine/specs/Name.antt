@@ -1,6 +1,7 @@
 -- The names of members.
 use Rattle.std.specs.Prelude.{◌≡◌, ℕ, ◌≤◌, Bool, true, ◌&&◌, ◌||◌, ◌==◌, nat_le, List, length, take}
 use Rattle.std.specs.List.{list_all}
+use Rattle.group_machine.specs.declared.name.TheConstants.{LONGEST_NAME}
 
 abbrev pub is_letter : ℕ → Bool
 is_letter b = (nat_le 65 b && nat_le b 90) || (nat_le 97 b && nat_le b 122)
@@ -12,14 +13,15 @@ is_digit b = nat_le 48 b && nat_le b 57
 abbrev pub is_name_byte : ℕ → Bool
 is_name_byte b = is_letter b || is_digit b || (b == 45) || (b == 95)
 
--- 1 to 32 of them
+-- 1 to `LONGEST_NAME` of them
 abbrev pub is_name : List ℕ → Bool
-is_name text = nat_le 1 (length text) && nat_le (length text) 32 && list_all is_name_byte text
+is_name text =
+    nat_le 1 (length text) && nat_le (length text) LONGEST_NAME && list_all is_name_byte text
 
 -- a name in place: the first of its bytes
 abbrev pub text_in : ℕ → List ℕ → List ℕ
 text_in size bytes = take size bytes
 
 pub record IsValidName (size : ℕ) (bytes : List ℕ) : Type 0 where
-  pub short : size ≤ 32
+  pub short : size ≤ LONGEST_NAME
   pub name : is_name (take size bytes) ≡ true

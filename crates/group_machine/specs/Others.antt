@@ -1,7 +1,9 @@
 -- What a step leaves of the members that it is not about.
-use Rattle.std.specs.Prelude.{◌≡◌, ℕ, ◌+◌, ◌≤◌, ◌⊎◌, true, false}
-use Rattle.bit_planes.specs.PartitionSet.{is_in}
+use Rattle.std.specs.Prelude.{◌≡◌, ℕ, ◌+◌, ◌≤◌, ◌⊎◌, true, false, Ok}
+use Rattle.bit_planes.specs.PartitionSet.{PartitionSet, is_in}
 use Rattle.group_machine.specs.State.{GroupState, is_present, is_joined, is_synced, granted_of, assigned_of}
+use Rattle.group_machine.specs.Good.{IsValidGroup}
+use Rattle.group_machine.specs.Steps.{rejoin_answer}
 
 -- a member is as it was, in the generation as it was
 pub record IsAsBefore (old new : GroupState) (n : ℕ) : Type 0 where
@@ -35,6 +37,12 @@ pub record IsNewcomer (old new : GroupState) (n : ℕ) : Type 0 where
   pub new_number : is_present old n ≡ false
   pub present : is_present new n ≡ true
   pub unsynced : is_synced new n ≡ false
+
+-- a rejoin that is accepted, in a valid group
+pub record IsAcceptedRejoin
+    (g : GroupState) (member generation : ℕ) (claim : PartitionSet) : Type 0 where
+  pub valid : IsValidGroup g
+  pub accepted : rejoin_answer g member generation claim ≡ Ok tt
 
 -- a member has joined again, in the generation as it was: it is granted what it was to keep, and no
 -- more

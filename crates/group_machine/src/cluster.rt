@@ -8,8 +8,9 @@ ghost use Rattle.group_machine.specs.Steps.{join_answer, joined_by, leave_answer
 ghost use Rattle.group_machine.specs.Rounds.{is_settled};
 ghost use Rattle.group_machine.specs.Cluster.{AreLogsOf, ClusterState, GrowsBy, IsDue, IsValidCluster, append_answer, appended_to, cluster_commit_answer, cluster_sync_answer, committed_at, committed_by, fence, with_group, without_room};
 
-use crate::commit::{Commit, Lease};
+use crate::commit::Commit;
 use crate::group::{Group, Members, Move, Phase, Seat, members, slots};
+use crate::lease::Lease;
 use crate::name::Name;
 use bit_planes::Plane;
 use commit_store::Store;

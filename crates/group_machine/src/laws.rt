@@ -2,13 +2,13 @@
 
 ghost use Rattle.std.specs.Prelude.{◌≡◌, ℕ, List, true, false, Ok, Some};
 ghost use Rattle.bit_planes.specs.PartitionSet.{PartitionSet};
-ghost use Rattle.coop_rebalance.specs.Rounds.{next_rows};
-ghost use Rattle.group_machine.specs.State.{GroupState, is_anybody, is_present, granted_rows};
+ghost use Rattle.group_machine.specs.State.{GroupState, is_anybody, is_present};
+ghost use Rattle.group_machine.specs.Completion.{next_rows_of};
 ghost use Rattle.group_machine.specs.Moves.{takes, taker};
 ghost use Rattle.group_machine.specs.Rounds.{is_settled, round, finish};
-ghost use Rattle.group_machine.specs.Steps.{join_answer, joined_by, leave_answer, left_by, rejoin_answer, rejoined_by, synced_by};
+ghost use Rattle.group_machine.specs.Steps.{join_answer, joined_by, leave_answer, left_by, rejoined_by, synced_by};
 ghost use Rattle.group_machine.specs.Good.{IsSound, IsValidGroup};
-ghost use Rattle.group_machine.specs.Others.{IsNewcomer, LeavesOthers, LeavesRejoined, LeavesSynced};
+ghost use Rattle.group_machine.specs.Others.{IsAcceptedRejoin, IsNewcomer, LeavesOthers, LeavesRejoined, LeavesSynced};
 
 /// After two rounds a group with a member is settled, where no partition is granted to two members
 /// and each member's sets are fit.
@@ -24,8 +24,8 @@ pub fn sync_keeps_the_end()
 
 /// An accepted rejoin changes nothing of where a rebalance ends, moves and last holders included.
 pub fn rejoin_keeps_the_end()
-    ensures { (g : GroupState) (member generation : ℕ) (claim : PartitionSet) → IsValidGroup g
-        → rejoin_answer g member generation claim ≡ Ok tt
+    ensures { (g : GroupState) (member generation : ℕ) (claim : PartitionSet)
+        → IsAcceptedRejoin g member generation claim
         → finish (rejoined_by g member) ≡ finish g }
 {}
 
@@ -33,8 +33,7 @@ pub fn rejoin_keeps_the_end()
 /// granted to it just before, is the one that the moves name.
 pub fn one_member_takes_a_partition()
     ensures { (g : GroupState) → IsSound g → is_anybody g ≡ true → (q member : ℕ)
-        → takes g (next_rows (granted_rows g)) q member ≡ true
-        → taker g (next_rows (granted_rows g)) q ≡ Some member }
+        → takes g (next_rows_of g) q member ≡ true → taker g (next_rows_of g) q ≡ Some member }
 {}
 
 /// A join leaves the members that were there.
@@ -51,15 +50,15 @@ pub fn join_brings_a_newcomer()
 
 /// An accepted rejoin leaves the other members.
 pub fn rejoin_leaves_others()
-    ensures { (g : GroupState) (member generation : ℕ) (claim : PartitionSet) → IsValidGroup g
-        → rejoin_answer g member generation claim ≡ Ok tt
+    ensures { (g : GroupState) (member generation : ℕ) (claim : PartitionSet)
+        → IsAcceptedRejoin g member generation claim
         → LeavesOthers g (rejoined_by g member) member }
 {}
 
 /// A member that rejoins is granted what it was to keep.
 pub fn rejoin_leaves_what_is_kept()
-    ensures { (g : GroupState) (member generation : ℕ) (claim : PartitionSet) → IsValidGroup g
-        → rejoin_answer g member generation claim ≡ Ok tt
+    ensures { (g : GroupState) (member generation : ℕ) (claim : PartitionSet)
+        → IsAcceptedRejoin g member generation claim
         → LeavesRejoined g (rejoined_by g member) member }
 {}
 

@@ -5,10 +5,11 @@ mod cluster;
 mod commit;
 mod group;
 mod laws;
+mod lease;
 mod name;
 
 pub use cluster::Cluster;
-pub use commit::{Commit, Lease};
+pub use commit::Commit;
 pub use group::{Members, Move, Phase};
 pub use laws::{
     join_brings_a_newcomer, join_leaves_others, leave_leaves_others, leave_takes_its_member_out,
@@ -16,6 +17,7 @@ pub use laws::{
     rejoin_leaves_what_is_kept, sync_keeps_the_end, sync_leaves_others, sync_marks_its_member,
     two_rounds_settle,
 };
+pub use lease::Lease;
 pub use name::Name;
 
 #[cfg(test)]

@@ -13,7 +13,9 @@ const LONGEST_NAME: usize = 32;
 /// memory.
 #[derive(Drop)]
 pub struct Name {
-    bytes: [u8; 32],
+    /// The name, and zeros after it.
+    bytes: [u8; LONGEST_NAME],
+    /// How many of the bytes are the name.
     size: u8,
 }
 
@@ -36,7 +38,7 @@ impl Name {
         if !is_name(text) {
             return None;
         }
-        let mut bytes = [0u8; 32];
+        let mut bytes = [0u8; LONGEST_NAME];
         bytes[..text.len()].copy_from_slice(text);
         Some(Name {
             bytes,
@@ -73,6 +75,7 @@ fn is_name(text: &[u8]) -> bool
     has_name_bytes(text)
 }
 
+/// Whether each byte may stand in a name.
 fn has_name_bytes(text: &[u8]) -> bool
     ensures { result ≡ list_all is_name_byte text.now }
 {

@@ -5,7 +5,6 @@ use Rattle.lane_words.specs.declared.limits.TheConstants.{LAST_GENERATION}
 use Rattle.lane_words.specs.declared.Refusal.{Refusal}
 use Rattle.lane_words.specs.declared.Refusal.TheVariants as r
 use Rattle.bit_planes.specs.PartitionSet.{PartitionSet}
-use Rattle.coop_rebalance.specs.Rounds.{next_rows}
 use Rattle.group_machine.specs.declared.group.Slot.{Slot}
 use Rattle.group_machine.specs.declared.group.Seat.{Seat}
 use Rattle.group_machine.specs.declared.group.Phase.{Phase}
@@ -14,9 +13,9 @@ use Rattle.group_machine.specs.declared.group.change.Change.{Change}
 use Rattle.group_machine.specs.declared.group.change.Change.TheVariants.{Joins, Rejoins, Leaves}
 use Rattle.group_machine.specs.declared.group.completion.Completion.{Completion}
 use Rattle.group_machine.specs.Slots.{only_of, one_changed, without_seat}
-use Rattle.group_machine.specs.State.{GroupState, assigned_of, is_anybody, is_present, granted_rows}
+use Rattle.group_machine.specs.State.{GroupState, assigned_of, is_anybody, is_present}
 use Rattle.group_machine.specs.Moves.{takers, moves_to}
-use Rattle.group_machine.specs.Completion.{all_joined, is_ready, is_over}
+use Rattle.group_machine.specs.Completion.{all_joined, is_ready, is_over, next_rows_of}
 use Rattle.group_machine.specs.Steps.{sync_answer, newcomer, rejoined_seat, phase_left}
 use Rattle.group_machine.specs.Good.{IsSized, IsApart, AllFit, IsHeldByLast}
 
@@ -56,7 +55,7 @@ pub record IsChanged (g : GroupState) : Type 0 where
 
 -- the completion of a group
 pub record IsCompletion (g : GroupState) (a : Completion) : Type 0 where
-  pub rows : a.next ≡ next_rows (granted_rows g)
+  pub rows : a.next ≡ next_rows_of g
   pub taken : a.takers.items ≡ takers g a.next
   pub moved : a.moves.items ≡ moves_to g a.next
 

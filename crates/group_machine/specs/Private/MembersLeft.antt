@@ -1,5 +1,6 @@
 -- How the members that are left are seen as a list of numbers.
 use Rattle.std.specs.Prelude.{ℕ, ◌+◌, ◌≤◌, List, map, drop, length}
+use Rattle.lane_words.specs.declared.limits.TheConstants.{MOST_MEMBERS}
 use Rattle.group_machine.specs.Slots.{present_from}
 use Rattle.group_machine.specs.declared.group.members.Members.TheInside.{Inside}
 
@@ -8,4 +9,4 @@ abbrev pub members_left : Inside → List ℕ
 members_left a = map (λ m. m.0) (present_from (a.index + 1) (drop a.index a.slots.now))
 
 abbrev pub IsValidMembers : Inside → Type 0
-IsValidMembers a = length a.slots.now ≤ 512
+IsValidMembers a = length a.slots.now ≤ MOST_MEMBERS

@@ -1,9 +1,6 @@
--- What walks over slots ask for.
-use Rattle.std.specs.Prelude.{◌≡◌, ℕ, ◌<◌, List, Some, length}
-use Rattle.bit_planes.specs.PartitionSet.{partitions_of}
-use Rattle.bit_planes.specs.SetRows.{SetRows, IsValidRows, members, sets_of}
-use Rattle.sticky_assignor.specs.Balanced.{AreApart}
-use Rattle.coop_rebalance.specs.Rounds.{AreGranted}
+-- What walks over slots and partitions ask for and do.
+use Rattle.std.specs.Prelude.{◌≡◌, ℕ, List, Option, Some, None, slice_index_or, if◌then◌else◌}
+use Rattle.bit_planes.specs.PartitionSet.{PartitionSet, partitions_of, is_in}
 use Rattle.group_machine.specs.declared.group.Slot.{Slot}
 use Rattle.group_machine.specs.declared.group.Seat.{Seat}
 use Rattle.group_machine.specs.Slots.{seat_of}
@@ -16,3 +13,7 @@ pub record IsSeatOver (partitions : ℕ) (seat : Seat) : Type 0 where
 abbrev pub AreSeatsOver : ℕ → List Slot → Type 0
 AreSeatsOver partitions slots =
     (member : ℕ) (seat : Seat) → seat_of slots member ≡ Some seat → IsSeatOver partitions seat
+
+-- who takes a partition, after a member has taken these
+abbrev pub taken_by : ℕ → PartitionSet → List (Option ℕ) → ℕ → Option ℕ
+taken_by member added takers q = if is_in added q then Some member else slice_index_or takers q None

@@ -8,7 +8,7 @@ ghost use Rattle.group_machine.specs.Private.Changes.{HasGranted, seat_after, sl
 
 use super::Slot;
 use bit_planes::{Plane, PlaneRows};
-use lane_words::Memory;
+use lane_words::{MOST_MEMBERS, MOST_PARTITIONS, Memory};
 use std::alloc::Global;
 
 /// What a step is to do to the group's members.
@@ -51,7 +51,7 @@ impl Change {
 
 /// Whether after the change somebody is present, and all who are have joined.
 pub fn is_ready_after(slots: &[Slot], change: Change) -> bool
-    requires { length slots.now ≤ 512 }
+    requires { length slots.now ≤ MOST_MEMBERS }
     ensures { (partitions : ℕ) (name : List ℕ)
         → result ≡ is_ready_in (slots_after partitions name change slots.now) }
 {
@@ -74,8 +74,8 @@ pub fn granted_rows(
     slots: &[Slot],
     change: Change,
 ) -> Result<PlaneRows, Memory>
-    requires bounds { (1 ≤ partitions) × (partitions ≤ 4096) }
-    requires few { length slots.now ≤ 512 }
+    requires bounds { (1 ≤ partitions) × (partitions ≤ MOST_PARTITIONS) }
+    requires few { length slots.now ≤ MOST_MEMBERS }
     requires over { AreSeatsOver partitions slots.now }
     ensures { (name : List ℕ) → IfOk result (λ rows.
         rows ≡ granted_in partitions (slots_after partitions name change slots.now)) }

@@ -11,7 +11,7 @@ ghost use Rattle.group_machine.specs.Private.Walks.{AreSeatsOver};
 use super::{Move, Seat, Slot};
 use bit_planes::{Plane, PlaneRows};
 use coop_rebalance::withhold;
-use lane_words::Memory;
+use lane_words::{MOST_MEMBERS, Memory};
 use std::alloc::Global;
 use sticky_assignor::assign;
 
@@ -39,7 +39,7 @@ pub fn next_rows(alloc: Global, granted: &PlaneRows) -> Result<PlaneRows, Memory
 
 /// Gives each present member its row, and clears its flags.
 pub fn give(slots: &mut [Slot], next: &PlaneRows)
-    requires few { length slots.old ≤ 512 }
+    requires few { length slots.old ≤ MOST_MEMBERS }
     requires over { AreSeatsOver next.now.partitions slots.old }
     ensures { slots.new ≡ each_changed (completed_seat next.now) slots.old }
 {
@@ -65,7 +65,12 @@ fn row_for(next: &PlaneRows, member: u32) -> Plane
 fn complete_seat(seat: &mut Seat, row: Plane)
     requires { partitions_of seat.old.granted ≡ partitions_of row }
     ensures { seat.new
-        ≡ record { joined = false; synced = false; granted = union seat.old.granted row; assigned = row } }
+        ≡ record {
+          joined = false;
+          synced = false;
+          granted = union seat.old.granted row;
+          assigned = row;
+        } }
 {
     seat.joined = false;
     seat.synced = false;

@@ -7,13 +7,15 @@ ghost use Rattle.group_machine.specs.State.{name_at};
 
 use super::Slot;
 use crate::Name;
+use lane_words::MOST_MEMBERS;
 use std::marker::Model;
 
 /// The numbers of the present members that are left, in rising order.
 #[derive(Drop)]
 pub struct Members<'a> {
+    /// All slots.
     slots: &'a [Slot],
-    // The slots before this one have been passed.
+    /// The slots before this one have been passed.
     index: usize,
 }
 
@@ -32,7 +34,7 @@ impl<'a> Model for Members<'a> {
 impl<'a> Members<'a> {
     /// All present members.
     pub(crate) fn new(slots: &'a [Slot]) -> Members<'a>
-        requires { length slots.now ≤ 512 }
+        requires { length slots.now ≤ MOST_MEMBERS }
         ensures { result ≡ members_in slots.now }
     {
         Members { slots, index: 0 }
@@ -61,7 +63,7 @@ impl<'a> Iterator for Members<'a> {
 
 /// The present member that is granted a partition.
 pub fn owner_of(slots: &[Slot], q: u32) -> Option<u32>
-    requires { length slots.now ≤ 512 }
+    requires { length slots.now ≤ MOST_MEMBERS }
     ensures { result ≡ owner_in slots.now q }
 {
     for (index, slot) in slots.iter().enumerate() {

@@ -5,6 +5,7 @@ ghost use Rattle.std.specs.Vec.{vec_len, vec_capacity};
 ghost use Rattle.bit_planes.specs.PartitionSet.{partitions_of, is_in};
 ghost use Rattle.bit_planes.specs.SetRows.{set_of};
 ghost use Rattle.group_machine.specs.Moves.{takers_in, moves_by, last_by};
+ghost use Rattle.group_machine.specs.Private.Walks.{taken_by};
 
 use super::Move;
 use bit_planes::{Plane, PlaneRows};
@@ -37,8 +38,7 @@ pub fn takers_of(
 fn take_added(takers: &mut [Option<u32>], member: u32, added: &Plane)
     requires { length takers.old < 2 ^ 32 }
     ensures taken { (q : ℕ) → q < length takers.old
-        → slice_index_or takers.new q None
-        ≡ (if is_in added.now q then Some member else slice_index_or takers.old q None) }
+        → slice_index_or takers.new q None ≡ taken_by member added.now takers.old q }
     ensures long { length takers.new ≡ length takers.old }
 {
     for q in 0..takers.len() {
