@@ -1,0 +1,42 @@
+-- What a script is read as.
+use Rattle.std.specs.Prelude.{ℕ, ◌==◌, ◌&&◌, ◌||◌, not, nat_lt, Bool, if◌then◌else◌, List, length, slice_index, Option, None, Result, Ok, Err, Vec}
+use Rattle.std.specs.Global.{Global}
+use Rattle.std.specs.List.{filter_map, find}
+use Rattle.std.specs.Option.{is_none, option_map, option_map_or}
+use Rattle.std.specs.Result.{result_map_both}
+use Rattle.lane_words.specs.declared.Refusal.{Refusal}
+use Rattle.lane_words.specs.declared.Refusal.TheVariants as r
+use Rattle.script.specs.Grammar.{action_of, lines_from}
+use Rattle.script.specs.declared.limits.TheConstants.{LONGEST_LINE}
+use Rattle.script.specs.declared.replay.Line.{Line}
+
+-- an empty line, and a comment, which begins with '#'
+abbrev pub is_silent : List ℕ → Bool
+is_silent line = (length line == 0) || (slice_index line 0 == 35)
+
+-- a line that is too long, be it a comment, or that is neither silent nor says an action
+unfoldable pub is_bad : List ℕ → Bool
+is_bad line =
+    nat_lt LONGEST_LINE (length line) || (not (is_silent line) && is_none (action_of line))
+
+-- what a line says, beside its number
+unfoldable pub said : ℕ × List ℕ → Option Line
+said (number, line) =
+    if is_silent line then None
+    else option_map (λ action. record { number = number; action = action }) (action_of line)
+
+-- the first bad line is told, and where none is bad, what the lines say
+unfoldable pub answer_of : List (ℕ × List ℕ) → Result (List Line) Refusal
+answer_of lines =
+    option_map_or
+    (λ bad. Err (r.BadLine bad.0))
+    (find (λ line. is_bad line.1) lines)
+    (Ok (filter_map said lines))
+
+-- the lines of a script are numbered from 1
+abbrev pub read_answer : List ℕ → Result (List Line) Refusal
+read_answer bytes = answer_of (lines_from 1 bytes)
+
+-- an answer as a list of lines
+abbrev pub lines_seen : Result (Vec Line Global) Refusal → Result (List Line) Refusal
+lines_seen answer = result_map_both (λ lines. lines.items) (λ refusal. refusal) answer

@@ -1,0 +1,47 @@
+//! Words, which one space parts, and numbers.
+
+ghost use Rattle.std.specs.Prelude.{◌≡◌, ◌==◌, [], ◌∷◌, IfSome, IfNone};
+ghost use Rattle.std.specs.Char.{is_ascii_digit};
+ghost use Rattle.std.specs.List.{list_all, position};
+ghost use Rattle.script.specs.Grammar.{number_of, words_of};
+
+use crate::limits::MOST_DIGITS;
+
+/// The word before the first space, and the text behind it.
+pub fn split_word(text: &[u8]) -> Option<(&[u8], &[u8])>
+    ensures found { IfSome result (λ parts. words_of text.now ≡ parts.0.now ∷ words_of parts.1.now) }
+    ensures none { IfNone result (words_of text.now ≡ text.now ∷ []) }
+{
+    match first_index(text, b' ') {
+        Some(end) => Some((&text[..end], &text[end + 1..])),
+        None => None,
+    }
+}
+
+/// Where a byte stands first.
+pub fn first_index(text: &[u8], byte: u8) -> Option<usize>
+    ensures { result ≡ position (λ b. b == byte) text.now }
+{
+    text.iter().position(|b| *b == byte)
+}
+
+/// The number that a word is.
+#[tactic(auto, unfolding(crate::specs::Grammar::number_of))]
+pub fn number_of(word: &[u8]) -> Option<u32>
+    ensures { result ≡ number_of word.now }
+{
+    if !has_digits_alone(word) || word.is_empty() || word.len() > MOST_DIGITS {
+        return None;
+    }
+    let Ok(text) = str::from_utf8(word) else {
+        return None;
+    };
+    text.parse().ok()
+}
+
+/// Whether each byte is a decimal digit.
+fn has_digits_alone(word: &[u8]) -> bool
+    ensures { result ≡ list_all is_ascii_digit word.now }
+{
+    word.iter().all(|byte| byte.is_ascii_digit())
+}
