@@ -1,5 +1,7 @@
 //! Worked rows, and a long random schedule.
 
+ghost use Rattle.std.specs.Prelude.{◌<◌};
+
 use super::*;
 use consumer::Consumer;
 use group_machine::{Name, Phase};
@@ -71,7 +73,7 @@ fn a_commit_is_taken_once(rt: HostRuntime) -> Result<(), Fail> {
         Reply::Refused(Refusal::NoSuchCommit),
     ];
     let world = replies_are(&rt, rt.alloc(), &events, &expected)?;
-    assert_eq!(rt; world.cluster().store().count(0), 2);
+    assert_eq!(rt; world.cluster().store().counts().first().copied(), Some(2));
     assert_eq!(rt; world.mail().len(), 1);
     Ok(())
 }
@@ -222,7 +224,6 @@ fn a_load_stops_at_the_first_key_that_is_refused(rt: HostRuntime) -> Result<(), 
 fn a_member_that_leaves_or_rejoins_is_told(rt: HostRuntime) -> Result<(), Fail> {
     let (a, b) = (name(&rt, b"A"), name(&rt, b"B"));
     let events = [
-        Event::Append(b"4"),
         Event::Join(&a),
         Event::Sync(1),
         Event::Join(&b),
@@ -232,7 +233,6 @@ fn a_member_that_leaves_or_rejoins_is_told(rt: HostRuntime) -> Result<(), Fail> 
         Event::Sync(3),
     ];
     let expected = [
-        Reply::Appended(1, 1),
         Reply::Joined(1),
         Reply::Leased(1),
         Reply::Joined(2),
