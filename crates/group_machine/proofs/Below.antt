@@ -1,14 +1,14 @@
 -- What the target and the withheld rows give each member.
-use Rattle.std.proofs.Common.{ℕ, suc, ◌≡◌, ◌<◌, ◌≤◌, ◌==◌, Bool, true, false, ◌&&◌, ◌||◌, ◌⊎◌, inl, inr, not, List, [], ◌∷◌, length, map, cond, refl, ap, sym, ◌∙◌, subst, arith}
+use Rattle.std.proofs.Common.{ℕ, suc, ◌≡◌, ◌<◌, ◌≤◌, ◌==◌, Bool, true, false, ◌&&◌, ◌||◌, ◌⊎◌, inl, inr, not, List, [], ◌∷◌, map, cond, refl, ap, sym, ◌∙◌, subst, arith}
 use Rattle.std.specs.Prelude.{Some, IsTrue}
-use Rattle.std.proofs.lemmas.Bool.{false≢true, cases_lt}
-use Rattle.bit_planes.specs.PartitionSet.{PartitionSet, partitions_of, is_in, is_within}
+use Rattle.std.proofs.lemmas.Bool.{false≢true}
+use Rattle.bit_planes.specs.PartitionSet.{PartitionSet, is_in, is_within}
 use Rattle.bit_planes.specs.SetRows.{SetRows, IsValidRows, members, find_row, set_or_empty, set_of, sets_of}
-use Rattle.bit_planes.proofs.Sets.{both_true, same_set, in_empty, in_where, past_where, past}
+use Rattle.bit_planes.proofs.Sets.{both_true, same_set, in_empty}
 use Rattle.sticky_assignor.specs.Balanced.{AreBelow, IsBalanced}
 use Rattle.sticky_assignor.proofs.AssignedLaws.{members_assigned, assigned_kept, below_assigned}
 use Rattle.coop_rebalance.specs.Rounds.{AreGranted, target_rows, next_rows, LiesInTarget, Settles}
-use Rattle.coop_rebalance.specs.Withheld.{granted_to_other, withheld_row, withheld}
+use Rattle.coop_rebalance.specs.Withheld.{granted_to_other, withheld}
 use Rattle.coop_rebalance.proofs.WithheldRows.{set_withheld}
 use Rattle.coop_rebalance.proofs.Rounds.{next_within, settles}
 use Rattle.group_machine.proofs.SlotsLemmas.{number_is, same_id, other_id}

@@ -6,7 +6,7 @@ use Rattle.lane_words.specs.declared.Refusal.{Refusal}
 use Rattle.lane_words.specs.declared.Refusal.TheVariants as r
 use Rattle.bit_planes.specs.PartitionSet.{PartitionSet, partitions_of, is_in, is_within, is_same, union}
 use Rattle.bit_planes.specs.SetRows as rows
-use Rattle.bit_planes.specs.SetRows.{SetRows, set_of, sets_of, IsValidRows}
+use Rattle.bit_planes.specs.SetRows.{SetRows, set_of, IsValidRows}
 use Rattle.bit_planes.proofs.Sets.{in_union, partitions_union, within_says, same_set, same_self, both_true}
 use Rattle.sticky_assignor.specs.Assigned.{pair_up}
 use Rattle.sticky_assignor.proofs.AssignedLaws.{paired}

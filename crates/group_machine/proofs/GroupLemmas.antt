@@ -3,7 +3,7 @@ use Rattle.std.proofs.Common.{ℕ, suc, ◌≡◌, ◌<◌, true, List, [], ◌�
 use Rattle.std.specs.Option.{option_map}
 use Rattle.bit_planes.specs.PartitionSet.{PartitionSet, partitions_of, is_in}
 use Rattle.bit_planes.specs.SetRows as rows
-use Rattle.bit_planes.specs.SetRows.{SetRows, find_row, set_or_empty, set_of, sets_of, IsValidRows, AreOver}
+use Rattle.bit_planes.specs.SetRows.{SetRows, set_or_empty, set_of, sets_of, IsValidRows, AreOver}
 use Rattle.bit_planes.proofs.Sets.{partitions_empty, within_says}
 use Rattle.sticky_assignor.specs.Balanced.{AreApart}
 use Rattle.coop_rebalance.specs.Rounds.{AreGranted}

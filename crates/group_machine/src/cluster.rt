@@ -3,7 +3,7 @@
 ghost use Rattle.std.specs.Prelude.{◌≡◌, ◌+◌, ◌≤◌, ℕ, [], Ok, Some, None, MatchOption, IfOk, IfSome, OnOk, OnErr, is_some, length};
 ghost use Rattle.lane_words.specs.Answers.{Answers};
 ghost use Rattle.partition_log.specs.Logs.{place_in};
-ghost use Rattle.group_machine.specs.State.{GroupState, assigned_of, granted_of, is_joined, is_present, is_synced, member_of, members, name_of, opening, owner_of};
+ghost use Rattle.group_machine.specs.State.{assigned_of, granted_of, is_joined, is_present, is_synced, member_of, members, name_of, opening, owner_of};
 ghost use Rattle.group_machine.specs.Steps.{join_answer, joined_by, leave_answer, left_by, rejoin_answer, rejoined_by, synced_by};
 ghost use Rattle.group_machine.specs.Rounds.{is_settled};
 ghost use Rattle.group_machine.specs.Cluster.{AreLogsOf, ClusterState, GrowsBy, IsDue, IsValidCluster, append_answer, appended_to, cluster_commit_answer, cluster_sync_answer, committed_at, committed_by, fence, with_group, without_room};

@@ -1,8 +1,8 @@
 //! Who takes which partition at a completion, and the moves that it makes.
 
-ghost use Rattle.std.specs.Prelude.{◌≡◌, ◌^◌, ◌+◌, ◌++◌, ◌<◌, ◌≤◌, ℕ, Some, None, true, length, slice_index_or, IfOk, if◌then◌else◌};
+ghost use Rattle.std.specs.Prelude.{◌≡◌, ◌^◌, ◌+◌, ◌++◌, ◌<◌, ◌≤◌, ℕ, Some, None, true, length, slice_index_or, IfOk};
 ghost use Rattle.std.specs.Vec.{vec_len, vec_capacity};
-ghost use Rattle.bit_planes.specs.PartitionSet.{partitions_of, is_in};
+ghost use Rattle.bit_planes.specs.PartitionSet.{is_in};
 ghost use Rattle.bit_planes.specs.SetRows.{set_of};
 ghost use Rattle.group_machine.specs.Moves.{takers_in, moves_by, last_by};
 ghost use Rattle.group_machine.specs.Private.Walks.{taken_by};

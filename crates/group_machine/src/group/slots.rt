@@ -1,6 +1,6 @@
 //! Members by their numbers: slot k is of member number k + 1.
 
-ghost use Rattle.std.specs.Prelude.{◌≡◌, Some, None, MatchOption, true, is_some, if◌then◌else◌, ℕ};
+ghost use Rattle.std.specs.Prelude.{◌≡◌, Some, None, MatchOption, true, is_some, ℕ};
 ghost use Rattle.std.specs.List.{list_any, list_all};
 ghost use Rattle.std.specs.Option.{option_map_or};
 ghost use Rattle.std.specs.Str.{bytes_eq};
