@@ -1,3 +1,4 @@
+pub mod FormLemmas
 pub mod Numbers
 pub mod Parts
 pub mod Progress
