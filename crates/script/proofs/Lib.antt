@@ -2,3 +2,4 @@ pub mod FormLemmas
 pub mod Numbers
 pub mod Parts
 pub mod Progress
+pub mod ReadLemmas
