@@ -9,7 +9,8 @@ use crate::limits::MOST_DIGITS;
 
 /// The word before the first space, and the text behind it.
 pub fn split_word(text: &[u8]) -> Option<(&[u8], &[u8])>
-    ensures found { IfSome result (λ parts. words_of text.now ≡ parts.0.now ∷ words_of parts.1.now) }
+    ensures found { IfSome result
+        (λ parts. words_of text.now ≡ parts.0.now ∷ words_of parts.1.now) }
     ensures none { IfNone result (words_of text.now ≡ text.now ∷ []) }
 {
     match first_index(text, b' ') {
