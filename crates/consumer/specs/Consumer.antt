@@ -110,7 +110,7 @@ IsWithinLogs c l = (p : ℕ) → position_of c p ≤ length (log_at l p)
 abbrev pub sendable_answer : ConsumerState → ℕ → Result (Unit {0}) Refusal
 sendable_answer c p =
     result_and (hold_answer c p)
-      (if base_of c p == position_of c p then Err r.EmptyCommit else Ok tt)
+    (if base_of c p == position_of c p then Err r.EmptyCommit else Ok tt)
 
 -- the key numbers of what is pending: the log's records from the base to the position
 abbrev pub pending : ConsumerState → PartitionLogs → ℕ → List ℕ
@@ -159,5 +159,5 @@ answered_by c p (Err refusal) = c
 abbrev pub given_up : ConsumerState → ConsumerState
 given_up c = record c {
   held = map (λ p. if is_in c.assigned p then held_at c p else None)
-    (range_with_len 0 (length c.held));
+      (range_with_len 0 (length c.held));
 }
