@@ -26,7 +26,7 @@ use std::marker::Model;
 /// holds takes at most 16 bytes a partition.
 ///
 /// It may lag behind the cluster: whoever is lost goes on as before until an answer tells it.
-#[derive(Drop)]
+#[derive(Debug, Drop)]
 pub struct Consumer {
     alloc: Global,
     partitions: u32,

@@ -26,7 +26,7 @@ use std::random::RandomSource;
 /// The group is that of Kafka's cooperative rebalancing (KIP-429) with the balance of its sticky
 /// assignor. After each call no partition is granted to two present members, and the counter of
 /// each key is how often the key is in the records below the committed offsets, each taken once.
-#[derive(Drop)]
+#[derive(Debug, Drop)]
 pub struct Cluster {
     alloc: Global,
     group: Group,

@@ -8,7 +8,7 @@ use std::marker::Model;
 
 /// A commit: the records of a partition from an offset on, by the numbers of their keys with the
 /// counts of these, in the name of a member in a generation.
-#[derive(Drop)]
+#[derive(Debug, Drop)]
 pub struct Commit {
     member: u32,
     generation: u32,

@@ -51,7 +51,7 @@ pub struct Move {
 }
 
 /// What a present member has.
-#[derive(Drop)]
+#[derive(Debug, Drop)]
 pub struct Seat {
     /// Whether it has joined the rebalance that is to come.
     pub joined: bool,
@@ -64,7 +64,7 @@ pub struct Seat {
 }
 
 /// A member number that was given: its name, and its seat while it is present.
-#[derive(Drop)]
+#[derive(Debug, Drop)]
 pub struct Slot {
     /// Its name, which nobody else ever has.
     pub name: Name,
@@ -78,7 +78,7 @@ pub struct Slot {
 /// nothing that another still holds, and a partition moves once its holder has rejoined without it.
 /// What a valid group is the steps ask for and leave; the cluster, which has the one group, keeps
 /// it.
-#[derive(Drop)]
+#[derive(Debug, Drop)]
 pub struct Group {
     /// The generation: 0 until the first completion.
     pub generation: u32,

@@ -9,7 +9,7 @@ use std::marker::Model;
 
 /// What a member is to keep in a generation, and from which offset on each of these partitions is
 /// to be read.
-#[derive(Drop)]
+#[derive(Debug, Drop)]
 pub struct Lease {
     pub(crate) member: u32,
     pub(crate) generation: u32,

@@ -11,7 +11,7 @@ const LONGEST_NAME: usize = 32;
 
 /// A member's name: 1 to 32 ASCII letters, digits, `-` and `_`. It lies in place and takes no
 /// memory.
-#[derive(Drop)]
+#[derive(Debug, Drop)]
 pub struct Name {
     /// The name, and zeros after it.
     bytes: [u8; LONGEST_NAME],

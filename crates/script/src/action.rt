@@ -48,7 +48,7 @@ impl Key {
 }
 
 /// What a line says: an event of the group, its logs or its mail, or a command that makes many.
-#[derive(Drop)]
+#[derive(Debug, Drop)]
 pub enum Action {
     /// A record with this key is appended.
     Append(Key),

@@ -14,7 +14,7 @@ use lane_words::Refusal;
 use std::alloc::Global;
 
 /// A line that says something.
-#[derive(Drop)]
+#[derive(Debug, Drop)]
 pub struct Line {
     /// The line's number, from 1; empty lines and comments have numbers too.
     pub number: u64,

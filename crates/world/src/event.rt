@@ -8,7 +8,7 @@ pub const MOST_COMMITS: usize = 65_536;
 
 /// What happens in a world. Members go by their numbers, from 1, and commits of the mail by theirs,
 /// from 1.
-#[derive(Clone, Copy)]
+#[derive(Clone, Copy, Debug)]
 pub enum Event<'a> {
     /// A record of this key is appended.
     Append(&'a [u8]),

@@ -17,7 +17,7 @@ use std::alloc::Global;
 use std::thread::Threads;
 
 /// The parts of a world.
-#[derive(Drop)]
+#[derive(Debug, Drop)]
 pub struct Parts {
     pub cluster: Cluster,
     /// By member number: that of member m stands at index m - 1.

@@ -23,7 +23,7 @@ use std::thread::Threads;
 /// polls, and commits that are sent, delivered late, again and again, or unanswered. After each of
 /// them no partition is granted to two present members, a settled assignment is balanced, and every
 /// key's count is that of the records below the committed offsets, each taken once.
-#[derive(Drop)]
+#[derive(Debug, Drop)]
 pub struct World {
     alloc: Global,
     parts: Parts,
