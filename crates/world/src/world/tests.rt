@@ -223,25 +223,16 @@ fn a_load_stops_at_the_first_key_that_is_refused(rt: HostRuntime) -> Result<(), 
 #[test]
 fn a_member_that_leaves_or_rejoins_is_told(rt: HostRuntime) -> Result<(), Fail> {
     let (a, b) = (name(&rt, b"A"), name(&rt, b"B"));
-    let events = [
-        Event::Join(&a),
-        Event::Sync(1),
-        Event::Join(&b),
-        Event::Rejoin(1),
-        Event::Leave(2),
-        Event::Leave(2),
-        Event::Sync(3),
-    ];
-    let expected = [
-        Reply::Joined(1),
-        Reply::Leased(1),
-        Reply::Joined(2),
-        Reply::Rejoined,
-        Reply::Left,
-        Reply::Refused(Refusal::OutOfGroup),
-        Reply::Refused(Refusal::UnknownMember),
-    ];
-    let world = replies_are(&rt, rt.alloc(), &events, &expected)?;
+    let mut world = loaded(&rt, rt.alloc())?;
+    assert_eq!(rt; world.step(Event::Join(&a)), Reply::Joined(1));
+    assert_eq!(rt; world.step(Event::Sync(1)), Reply::Leased(1));
+    assert_eq!(rt; world.step(Event::Join(&b)), Reply::Joined(2));
+    assert_eq!(rt; world.step(Event::Rejoin(1)), Reply::Rejoined);
+    assert_eq!(rt; world.step(Event::Leave(2)), Reply::Left);
+    let out = Reply::Refused(Refusal::OutOfGroup);
+    assert_eq!(rt; world.step(Event::Leave(2)), out);
+    let unknown = Reply::Refused(Refusal::UnknownMember);
+    assert_eq!(rt; world.step(Event::Sync(3)), unknown);
     assert!(rt; world.cluster().generation() == 2 && world.cluster().phase() == Phase::Preparing);
     Ok(())
 }
