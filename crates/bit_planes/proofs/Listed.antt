@@ -1,11 +1,13 @@
 -- The elements of a set, listed in rising order.
-use Rattle.std.proofs.Common.{ℕ, zero, suc, ◌≡◌, ◌+◌, ◌<◌, Bool, true, false, List, [], ◌∷◌, ◌++◌, length, drop, refl, ap, sym, ◌∙◌, arith, inl, inr, length-append}
+use Rattle.std.proofs.Common.{ℕ, zero, suc, ◌≡◌, ◌≢◌, ◌+◌, ◌<◌, ◌≤◌, ◌==◌, ◌||◌, ◌&&◌, Bool, true, false, List, [], ◌∷◌, ◌++◌, length, drop, refl, ap, sym, ◌∙◌, arith, inl, inr, length-append}
 use Rattle.std.specs.Prelude.{if◌then◌else◌}
+use Rattle.std.specs.List.{list_any}
 use Rattle.std.proofs.lemmas.Bool.{cases_lt}
+use Rattle.std.proofs.lemmas.Bool.Decides.{nat_tests}
 use Rattle.std.proofs.lemmas.List.{drop-append-le, drop_all}
 use Rattle.bit_planes.specs.Private.Lists.{list_where}
-use Rattle.bit_planes.specs.PartitionSet.{PartitionSet, partitions_of, is_in, one, how_many, rank, elements}
-use Rattle.bit_planes.proofs.Sets.{in_below, rank_is, rank_in, how_many-rises}
+use Rattle.bit_planes.specs.PartitionSet.{PartitionSet, partitions_of, is_in, any_below, one, how_many, rank, elements}
+use Rattle.bit_planes.proofs.Sets.{in_below, past, rank_is, rank_in, how_many-none, how_many-rises, any_below-none}
 
 one_listed : (x : Bool) (n : ℕ) → length (if x then n ∷ [] else []) ≡ one x
 one_listed true n = refl
@@ -64,3 +66,73 @@ elements-end s r e =
 pub length-elements : (s : PartitionSet) → length (elements s) ≡ rank s (partitions_of s)
 unfolding elements
 length-elements s = length-list_where (partitions_of s) (is_in s) ∙ sym (rank_is s (partitions_of s))
+
+-- of a set with no element all are left, from wherever one looks
+pub elements-none : (s : PartitionSet) (q : ℕ) → q ≤ partitions_of s → any_below (partitions_of s) (is_in s) ≡ false → drop (rank s q) (elements s) ≡ elements s
+elements-none s q le none =
+    let zero_rank : rank s q ≡ 0 = rank_is s q ∙ how_many-none q (is_in s) (λ k lt. any_below-none (partitions_of s) (is_in s) none k (omega arith)) in
+    rw zero_rank refl
+
+-- ---- whether a number is listed
+or_none : (x : Bool) → (x || false) ≡ x
+or_none true = refl
+or_none false = refl
+
+no_second : (x y : Bool) → y ≡ false → (x && y) ≡ false
+no_second true y e = e
+no_second false y e = refl
+
+other : (q n : ℕ) → q ≢ n → (q == n) ≡ false
+other q n ne = grind (arith, nat_tests)
+
+this : (n : ℕ) → (n == n) ≡ true
+this n = grind (arith, nat_tests)
+
+-- whether a number is in a list
+abbrev pub is_listed : ℕ → List ℕ → Bool
+is_listed q xs = list_any (λ x. q == x) xs
+
+listed_either : (q : ℕ) (xs ys : List ℕ) → is_listed q (xs ++ ys) ≡ (is_listed q xs || is_listed q ys)
+listed_either q [] ys = refl
+listed_either q (x ∷ xs) ys = rw (listed_either q xs ys) (first (q == x) (is_listed q xs) (is_listed q ys))
+  where
+    first : (x y z : Bool) → (x || (y || z)) ≡ ((x || y) || z)
+    first true y z = refl
+    first false y z = refl
+
+listed_last : (q n : ℕ) (b : Bool) → is_listed q (if b then n ∷ [] else []) ≡ (b && (q == n))
+listed_last q n true = or_none (q == n)
+listed_last q n false = refl
+
+listed_step : (q n : ℕ) (f : ℕ → Bool) → is_listed q (list_where (suc n) f) ≡ (is_listed q (list_where n f) || (f n && (q == n)))
+listed_step q n f = listed_either q (list_where n f) (if f n then n ∷ [] else []) ∙ ap (λ x. is_listed q (list_where n f) || x) (listed_last q n (f n))
+
+listed_past : (q n : ℕ) (f : ℕ → Bool) → n ≤ q → is_listed q (list_where n f) ≡ false
+listed_past q zero f le = refl
+listed_past q (suc n) f le =
+    let before = listed_past q n f (omega arith) in
+    listed_step q n f ∙ rw before (no_second (f n) (q == n) (other q n (λ e. omega arith)))
+
+listed_below : (q n : ℕ) (f : ℕ → Bool) → q < n → is_listed q (list_where n f) ≡ f q
+listed_below q zero f lt = absurd (omega arith)
+listed_below q (suc n) f lt = listed_step q n f ∙ elim (cases_lt q n) [
+  | inl below ↦
+      let before = listed_below q n f below in
+      let none = no_second (f n) (q == n) (other q n (λ e. omega arith)) in
+      rw (before, none) (or_none (f q))
+  | inr le ↦
+      let e : q ≡ n = omega arith in
+      let before = listed_past q n f le in
+      rw before (rw e (all_of (f n) (n == n) (this n)))
+]
+  where
+    all_of : (x y : Bool) → y ≡ true → (x && y) ≡ x
+    all_of true y e = e
+    all_of false y e = refl
+
+pub elements_tell : (s : PartitionSet) (q : ℕ) → is_listed q (elements s) ≡ is_in s q
+unfolding elements
+elements_tell s q = elim (cases_lt q (partitions_of s)) [
+  | inl lt ↦ listed_below q (partitions_of s) (is_in s) lt
+  | inr le ↦ listed_past q (partitions_of s) (is_in s) le ∙ sym (past s q le)
+]

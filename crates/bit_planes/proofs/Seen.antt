@@ -1,6 +1,6 @@
 -- A plane's flags, seen as a set.
 use Rattle.std.proofs.Common.{ℕ, ◌≡◌, ◌≢◌, ◌+◌, ◌-◌, ◌<◌, ◌≤◌, ◌==◌, Bool, true, false, ◌||◌, ◌&&◌, not, List, length, take, get_or, replicate, refl, ap, sym, subst, ◌∙◌, arith, inl, inr}
-use Rattle.std.specs.Prelude.{slice_set, nat_lt}
+use Rattle.std.specs.Prelude.{MatchBool, slice_set, nat_lt}
 use Rattle.std.proofs.lemmas.Bool.{cases_lt, cases_eq}
 use Rattle.std.proofs.lemmas.Bool.Decides.{nat_tests}
 use Rattle.std.proofs.lemmas.List.{get_or-take, length-take-le, get_or-set_other, get_or-set_same, get_or-replicate, length-set, length-replicate}
@@ -189,6 +189,21 @@ failed_more R s t n a b x mine theirs fails told before q below = elim (cases_lt
   | inl earlier ↦ before q earlier
   | inr late ↦ let same : q ≡ n = omega arith in rw same (tested_at R a b x (is_in s n) (is_in t n) false mine theirs fails told)
 ]
+
+-- whether a test has passed below n
+abbrev pub HasPassed : (Bool → Bool → Bool → Type 0) → PartitionSet → PartitionSet → ℕ → Bool → Type 0
+HasPassed R s t n passed = MatchBool passed ((q : ℕ) × (q < n) × R (is_in s q) (is_in t q) true) ((q : ℕ) → q < n → R (is_in s q) (is_in t q) false)
+
+pub passed_more : (R : Bool → Bool → Bool → Type 0) (s t : PartitionSet) (n : ℕ) (a b x passed : Bool) → a ≡ is_in s n → b ≡ is_in t n → R a b x → HasPassed R s t n passed → HasPassed R s t (n + 1) (passed || x)
+passed_more R s t n a b x true mine theirs told h = (h.0, omega (arith, h.1), h.2)
+passed_more R s t n a b true false mine theirs told h = (n, omega arith, tested_at R a b true (is_in s n) (is_in t n) true mine theirs refl told)
+passed_more R s t n a b false false mine theirs told h = failed_more R s t n a b false mine theirs refl told h
+
+pub passed_none : (R : Bool → Bool → Bool → Type 0) (s t : PartitionSet) → HasPassed R s t 0 false
+passed_none R s t q lt = absurd (omega (arith, lt))
+
+pub passed_whole : (R : Bool → Bool → Bool → Type 0) (s t : PartitionSet) (n : ℕ) (passed : Bool) → n ≡ partitions_of s → HasPassed R s t n passed → HasPassed R s t (partitions_of s) passed
+passed_whole R s t n passed e h = subst (λ k. HasPassed R s t k passed) e h
 
 pub tested_seen : (R : Bool → Bool → Bool → Type 0) (a b : Bool) (p : ℕ) (flags : List Bool) (q : ℕ) → q < p → R a b (get_or flags q false) → R a b (is_in (seen p flags) q)
 tested_seen R a b p flags q lt h = subst (R a b) (sym (seen_flag p flags q lt)) h

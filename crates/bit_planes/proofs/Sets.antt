@@ -205,6 +205,15 @@ size_full p =
     let e = partitions_full p in
     size_is (full_set p) ∙ how_many-all (partitions_of (full_set p)) (is_in (full_set p)) (λ q lt. in_full p q (omega arith)) ∙ e
 
+none_first : (b : Bool) (r : ℕ) → (b && nat_lt r 0) ≡ false
+none_first true r = grind (arith, nat_tests)
+none_first false r = refl
+
+pub lowest_none : (n : ℕ) (s : PartitionSet) → n ≡ 0 → lowest n s ≡ empty_set (partitions_of s)
+lowest_none n s e =
+    same_set (lowest n s) (empty_set (partitions_of s)) (partitions_lowest n s ∙ sym (partitions_empty (partitions_of s)))
+    (λ q lt. in_lowest n s q ∙ ap (λ k. is_in s q && nat_lt (rank s q) k) e ∙ none_first (is_in s q) (rank s q) ∙ sym (in_empty (partitions_of s) q))
+
 lowest_step : (x : Bool) (r n : ℕ) → min n r + one (x && nat_lt r n) ≡ min n (r + one x)
 lowest_step true r n = grind (arith, nat_tests)
 lowest_step false r n = let z : r + 0 ≡ r = omega arith in rw z (omega arith)
@@ -265,6 +274,14 @@ lowest_within n s q = rw (in_lowest n s q) (one_and_below (is_in s q) (nat_lt (r
 pub lowest_splits : (n : ℕ) (s : PartitionSet) (q : ℕ) → one (is_in (lowest n s) q) + one (is_in (minus s (lowest n s)) q) ≡ one (is_in s q)
 lowest_splits n s q = omega (arith, one_in_minus s (lowest n s) q (lowest_within n s q))
 
+-- where there are no more than n, the n lowest are all
+all_low : (x : Bool) (r n : ℕ) → (x ≡ true → r < n) → x ≡ (x && nat_lt r n)
+all_low true r n low = sym (lt-ltb r n (low refl))
+all_low false r n low = refl
+
+pub lowest_all : (n : ℕ) (s : PartitionSet) → size s ≤ n → s ≡ lowest n s
+lowest_all n s le = same_set s (lowest n s) (sym (partitions_lowest n s)) (λ q lt. all_low (is_in s q) (rank s q) n (λ h. omega (arith, le, rank_below s q h)) ∙ sym (in_lowest n s q))
+
 -- ---- tests over two sets
 neither_one : (x y : Bool) → (x || y) ≡ false → (x ≡ false) × (y ≡ false)
 neither_one true y h = absurd (grind (arith, h))
@@ -283,7 +300,10 @@ pub any_below-of_none : (n : ℕ) (f : ℕ → Bool) → ((q : ℕ) → q < n �
 any_below-of_none zero f none = refl
 any_below-of_none (suc n) f none = neither (any_below n f) (f n) (any_below-of_none n f (λ q lt. none q (omega arith))) (none n (omega arith))
 
-not_false : (x : Bool) → not x ≡ true → x ≡ false
+pub any_below-more : (f : ℕ → Bool) (n : ℕ) (x y : Bool) → x ≡ any_below n f → y ≡ f n → (x || y) ≡ any_below (n + 1) f
+any_below-more f n x y before here = let next : n + 1 ≡ suc n = omega arith in rw (next, before, here) refl
+
+pub not_false : (x : Bool) → not x ≡ true → x ≡ false
 not_false true h = sym h
 not_false false h = refl
 

@@ -32,16 +32,14 @@ impl<'a> Model for Elements<'a> {
 }
 
 impl<'a> Elements<'a> {
-    /// All elements of a set.
+    /// All elements of a set. Over an empty set it begins at its end, since `next` leaves early.
     pub(crate) fn new(plane: &'a Plane) -> Elements<'a>
         ensures value { result ≡ elements plane.now }
         ensures few { length result ≤ MOST_PARTITIONS }
     {
-        Elements {
-            plane,
-            from: 0,
-            end: plane.partitions(),
-        }
+        let end = plane.partitions();
+        let from = if plane.is_empty() { end } else { 0 };
+        Elements { plane, from, end }
     }
 }
 

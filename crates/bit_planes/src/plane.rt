@@ -3,7 +3,7 @@
 ghost use Rattle.std.specs.Prelude.{◌≡◌, ◌<◌, ◌≤◌, ◌==◌, ◌&&◌, ◌||◌, ◌↔◌, ℕ, false, true, not, nat_lt, min, length, IsTrue, All};
 ghost use Rattle.std.specs.List.{list_any};
 ghost use Rattle.bit_planes.specs.Private.Tests.{IsCombined, TellsSomePass};
-ghost use Rattle.bit_planes.specs.PartitionSet.{partitions_of, is_in, rank, size, elements, empty_set, full_set, with_one, without_one, union, minus, lowest, meets, is_within, is_same};
+ghost use Rattle.bit_planes.specs.PartitionSet.{partitions_of, is_in, any_below, rank, size, elements, empty_set, full_set, with_one, without_one, union, minus, lowest, meets, is_within, is_same};
 
 use crate::elements::Elements;
 use lane_words::MOST_PARTITIONS;
@@ -154,6 +154,12 @@ impl Plane {
         ensures partitions { partitions_of result ≡ partitions_of self.now }
         ensures size { size result ≡ min n (size self.now) }
     {
+        if n == 0 {
+            return Plane::new(self.partitions);
+        }
+        if self.count() <= n {
+            return self.copy();
+        }
         let mut flags = self.flags;
         let mut left = n;
         for q in 0..self.partitions as usize {
@@ -219,6 +225,17 @@ impl Plane {
         Elements::new(self)
     }
 
+    /// Whether no number is in the set. All flags are looked at, as by `some_pass`.
+    pub(crate) fn is_empty(&self) -> bool
+        ensures { result ≡ not (any_below (partitions_of self.now) (is_in self.now)) }
+    {
+        let mut found = false;
+        for q in 0..self.partitions as usize {
+            found |= self.flags[q];
+        }
+        !found
+    }
+
     /// The partitions of which a test holds: whether one is in this set, and whether in the other.
     fn combined<F: Fn(bool, bool) -> bool>(&self, other: &Plane, test: F) -> Plane
         requires callable { F.IsAlwaysCallable test }
@@ -237,17 +254,17 @@ impl Plane {
     }
 
     /// Whether a test holds of some partition: whether it is in this set, and whether in the other.
+    /// All are tested, since a loop that leaves early is not made into one over many at a time.
     fn some_pass<F: Fn(bool, bool) -> bool>(&self, other: &Plane, test: F) -> bool
         requires callable { F.IsAlwaysCallable test }
         requires partitions { partitions_of self.now ≡ partitions_of other.now }
         ensures { TellsSomePass (F.post test) self.now other.now result }
     {
+        let mut passed = false;
         for q in 0..self.partitions as usize {
-            if test(self.flags[q], other.flags[q]) {
-                return true;
-            }
+            passed |= test(self.flags[q], other.flags[q]);
         }
-        false
+        passed
     }
 }
 
