@@ -3,6 +3,7 @@
 ghost use Rattle.std.specs.Prelude.{◌≡◌, ◌≤◌, ℕ, None, length, map, slice_index_or, if◌then◌else◌};
 ghost use Rattle.std.specs.List.{range_with_len};
 ghost use Rattle.bit_planes.specs.PartitionSet.{is_in, partitions_of};
+ghost use Rattle.consumer.specs.Private.Hold.{IsHolding};
 ghost use Rattle.consumer.specs.Consumer.{leased_slot, realigned_held};
 
 use bit_planes::Plane;
@@ -37,33 +38,37 @@ impl Held {
 }
 
 /// What is leased and not held yet is held from the committed offset on.
-pub fn lease(held: &mut [Option<Held>], lease: &Lease)
+pub fn lease(held: &mut [Option<Held>], holding: &mut Plane, lease: &Lease)
     requires few { length held.old ≤ MOST_PARTITIONS }
     requires one_each { length held.old ≡ partitions_of lease.now.assigned }
-    ensures { held.new ≡ map (λ p. leased_slot lease.now p (slice_index_or held.old p None))
+    requires holding { IsHolding holding.old held.old }
+    ensures slots { held.new ≡ map (λ p. leased_slot lease.now p (slice_index_or held.old p None))
         (range_with_len 0 (length held.old)) }
+    ensures holding { IsHolding holding.new held.new }
 {
-    for p in 0..held.len() {
-        if held[p].is_none() && lease.assigned().contains(p as u32) {
-            let start = lease.start(p as u32);
-            held[p] = Some(Held {
-                base: start,
-                position: start,
-            });
-        }
+    for p in lease.assigned().minus(holding).iter() {
+        let start = lease.start(p);
+        held[p as usize] = Some(Held {
+            base: start,
+            position: start,
+        });
     }
+    *holding = holding.union(lease.assigned());
 }
 
 /// What is not assigned is dropped.
-pub fn give_up(held: &mut [Option<Held>], assigned: &Plane)
-    requires { length held.old ≤ MOST_PARTITIONS }
-    ensures { held.new ≡ map
+pub fn give_up(held: &mut [Option<Held>], holding: &mut Plane, assigned: &Plane)
+    requires few { length held.old ≤ MOST_PARTITIONS }
+    requires one_each { length held.old ≡ partitions_of assigned.now }
+    requires holding { IsHolding holding.old held.old }
+    ensures slots { held.new ≡ map
         (λ p. if is_in assigned.now p then slice_index_or held.old p None else None)
         (range_with_len 0 (length held.old)) }
+    ensures holding { IsHolding holding.new held.new }
 {
-    for p in 0..held.len() {
-        if !assigned.contains(p as u32) {
-            held[p] = None;
-        }
+    let dropped = holding.minus(assigned);
+    for p in dropped.iter() {
+        held[p as usize] = None;
     }
+    *holding = holding.minus(&dropped);
 }

@@ -34,17 +34,19 @@ pub struct Consumer {
     generation: u32,
     assigned: Plane,
     held: Vec<Option<Held>>,
+    /// The partitions that are held.
+    holding: Plane,
 }
 
 impl Model for Consumer {
-    ghost use Rattle.consumer.specs.Consumer.{ConsumerState, IsValidConsumer};
-    ghost use Rattle.consumer.specs.Private.View.{consumer_view};
+    ghost use Rattle.consumer.specs.Consumer.{ConsumerState};
+    ghost use Rattle.consumer.specs.Private.View.{consumer_view, IsValidInside};
 
     ghost Value = { ConsumerState };
 
     ghost view = { consumer_view };
 
-    ghost invariant = { λ a. IsValidConsumer (consumer_view a) };
+    ghost invariant = { IsValidInside };
 }
 
 impl Consumer {
@@ -63,6 +65,7 @@ impl Consumer {
             generation: 0,
             assigned: Plane::new(partitions),
             held,
+            holding: Plane::new(partitions),
         })
     }
 
@@ -81,7 +84,7 @@ impl Consumer {
         requires partitions { partitions_of lease.now.assigned ≡ self.old.partitions }
         ensures { self.new ≡ leased self.old lease.now }
     {
-        held::lease(&mut self.held, lease);
+        held::lease(&mut self.held, &mut self.holding, lease);
         self.generation = lease.generation();
         self.assigned = lease.assigned().copy();
     }
@@ -158,7 +161,7 @@ impl Consumer {
     pub fn give_up(&mut self)
         ensures { self.new ≡ given_up self.old }
     {
-        held::give_up(&mut self.held, &self.assigned);
+        held::give_up(&mut self.held, &mut self.holding, &self.assigned);
     }
 
     /// It drops all, and is out of the group.
@@ -169,6 +172,7 @@ impl Consumer {
         self.generation = 0;
         self.assigned = Plane::new(self.partitions);
         self.held.fill(None);
+        self.holding = Plane::new(self.partitions);
     }
 
     /// How many partitions there are.

@@ -1,5 +1,6 @@
--- What a consumer reads and sends a partition by.
-use Rattle.std.specs.Prelude.{◌≡◌, ℕ, Some, Ok}
+-- What a consumer holds, and what it reads and sends a partition by.
+use Rattle.std.specs.Prelude.{◌≡◌, ℕ, List, Option, Some, None, Ok, is_some, length, slice_index_or}
+use Rattle.bit_planes.specs.PartitionSet.{PartitionSet, is_in, partitions_of}
 use Rattle.consumer.specs.Consumer.{ConsumerState, held_at, hold_answer}
 use Rattle.consumer.specs.declared.held.Held.{Held}
 
@@ -8,3 +9,8 @@ pub record IsHold (c : ConsumerState) (p : ℕ) (hold : ℕ × Held) : Type 0 wh
   pub held : hold_answer c p ≡ Ok tt
   pub member : c.member ≡ Some hold.0
   pub offsets : held_at c p ≡ Some hold.1
+
+-- a set has the partitions that are held, and no other number
+pub record IsHolding (holding : PartitionSet) (held : List (Option Held)) : Type 0 where
+  pub partitions : partitions_of holding ≡ length held
+  pub elements : (p : ℕ) → is_in holding p ≡ is_some (slice_index_or held p None)

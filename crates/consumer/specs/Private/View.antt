@@ -1,5 +1,6 @@
--- How a consumer's fields are seen.
-use Rattle.consumer.specs.Consumer.{ConsumerState}
+-- How a consumer's fields are seen, and what they keep.
+use Rattle.consumer.specs.Consumer.{ConsumerState, IsValidConsumer}
+use Rattle.consumer.specs.Private.Hold.{IsHolding}
 use Rattle.consumer.specs.declared.Consumer.TheInside.{Inside}
 
 abbrev pub consumer_view : Inside → ConsumerState
@@ -10,3 +11,8 @@ consumer_view a = record {
   assigned = a.assigned;
   held = a.held.items;
 }
+
+-- what the fields keep
+pub record IsValidInside (a : Inside) : Type 0 where
+  pub seen : IsValidConsumer (consumer_view a)
+  pub holding : IsHolding a.holding a.held.items
