@@ -8,7 +8,7 @@ use Rattle.bit_planes.proofs.Sets.{both_true, same_set, in_empty}
 use Rattle.sticky_assignor.specs.Balanced.{AreBelow, IsBalanced}
 use Rattle.sticky_assignor.proofs.AssignedLaws.{members_assigned, assigned_kept, below_assigned}
 use Rattle.coop_rebalance.specs.Rounds.{AreGranted, target_rows, next_rows, LiesInTarget, Settles}
-use Rattle.coop_rebalance.specs.Withheld.{granted_to_other, withheld}
+use Rattle.coop_rebalance.specs.Withheld.{granted_to_other}
 use Rattle.coop_rebalance.proofs.WithheldRows.{set_withheld}
 use Rattle.coop_rebalance.proofs.Rounds.{next_within, settles}
 use Rattle.group_machine.proofs.SlotsLemmas.{number_is, same_id, other_id}

@@ -81,7 +81,7 @@ implies_or : (a b : Bool) → (a ≡ true → b ≡ true) → (a || b) ≡ b
 implies_or true b h = sym (h refl)
 implies_or false b h = refl
 
-union_within : (s t : PartitionSet) → partitions_of s ≡ partitions_of t → is_within s t ≡ true → union s t ≡ t
+pub union_within : (s t : PartitionSet) → partitions_of s ≡ partitions_of t → is_within s t ≡ true → union s t ≡ t
 union_within s t over within = same_set (union s t) t (partitions_union s t ∙ over) (λ q lt. in_union s t q over ∙ implies_or (is_in s q) (is_in t q) (within_says s t within q))
 
 seat_assigned_is : (g : GroupState) (next : SetRows) (m : ℕ) (y : Seat) → seat_of (each_changed (completed_seat next) g.slots) m ≡ Some y → y.assigned ≡ set_of next m
@@ -134,7 +134,7 @@ complete_bare g =
     ∙ ap (λ l. complete_parts (g.generation + 1) g.partitions (each_changed (completed_seat next) g.slots) l (g.moves ++ moves_to (bare g) next)) last
     ∙ ap (λ ns. complete_parts (g.generation + 1) g.partitions (each_changed (completed_seat next) g.slots) (last_after g next) (g.moves ++ ns)) moves
 
-complete_round : (g : GroupState) → AllFit g → all_joined g ≡ true → complete g ≡ round g
+pub complete_round : (g : GroupState) → AllFit g → all_joined g ≡ true → complete g ≡ round g
 complete_round g fit joined = sym (ap (λ s. complete (with_slots g s)) (yields_nothing g fit joined) ∙ complete_bare g)
 
 -- after a round nobody's flags are set
@@ -174,9 +174,12 @@ forgets f h same slots member =
     ∙ each_two (λ m. f) (at_only member h) slots
     ∙ each_same (λ m x. f (at_only member h m x)) (λ m. f) slots (λ m x is. only_same f h same member m x)
 
+pub synced_round : (g : GroupState) (member : ℕ) → round (synced_by g member) ≡ round g
+synced_round g member = ap (λ s. complete (with_slots g s)) (forgets yielded_seat synced_seat (λ x. refl) g.slots member)
+
 pub sync_finish : (g : GroupState) (member : ℕ) → finish (synced_by g member) ≡ finish g
 sync_finish g member =
-    let same : round (synced_by g member) ≡ round g = ap (λ s. complete (with_slots g s)) (forgets yielded_seat synced_seat (λ x. refl) g.slots member) in
+    let same : round (synced_by g member) ≡ round g = synced_round g member in
     let base : bare (synced_by g member) ≡ bare g = ap (λ s. with_slots g s) (forgets bare_seat synced_seat (λ x. refl) g.slots member) in
     end_same (is_anybody g) (is_anybody (synced_by g member)) (is_settled g) (is_settled (synced_by g member)) (is_settled (round g)) (is_settled (round (synced_by g member))) (bare g) (bare (synced_by g member)) (round g) (round (synced_by g member)) (round (round g)) (round (round (synced_by g member))) (any_synced g member) (settled_synced g member) (ap is_settled same) base same (ap round same)
 
@@ -211,10 +214,13 @@ unsettled_by g member x is h = not_settled (is_stable g.phase) (all_agree g) (ag
 same_end : (a0 a1 s0 s1 s1' : Bool) (b0 b0' r1 r1' r2 r2' : GroupState) → a0 ≡ true → a1 ≡ a0 → s0 ≡ false → s1' ≡ s1 → r1' ≡ r1 → r2' ≡ r2 → end_of a1 false s1' b0' r1' r2' ≡ end_of a0 s0 s1 b0 r1 r2
 same_end a0 a1 s0 s1 s1' b0 b0' r1 r1' r2 r2' t a b c d e = rw (a, t, b, c, d, e) refl
 
+pub rejoining_round : (g : GroupState) (member : ℕ) → round (rejoining g member) ≡ round g
+rejoining_round g member = ap (λ s. complete (with_slots g s)) (forgets yielded_seat rejoined_seat (λ x. refl) g.slots member)
+
 -- before its completion a rejoin changes nothing of where the rebalance ends
-rejoining_finish : (g : GroupState) (member : ℕ) → is_anybody g ≡ true → is_settled g ≡ false → finish (rejoining g member) ≡ finish g
+pub rejoining_finish : (g : GroupState) (member : ℕ) → is_anybody g ≡ true → is_settled g ≡ false → finish (rejoining g member) ≡ finish g
 rejoining_finish g member any un =
-    let same : round (rejoining g member) ≡ round g = ap (λ s. complete (with_slots g s)) (forgets yielded_seat rejoined_seat (λ x. refl) g.slots member) in
+    let same : round (rejoining g member) ≡ round g = rejoining_round g member in
     same_end (is_anybody g) (is_anybody (rejoining g member)) (is_settled g) (is_settled (round g)) (is_settled (round (rejoining g member))) (bare g) (bare (rejoining g member)) (round g) (round (rejoining g member)) (round (round g)) (round (round (rejoining g member))) any (any_rejoining g member) un (ap is_settled same) same (ap round same)
 
 pub rejoining_sized : (g : GroupState) (member : ℕ) → IsSized g → IsSized (rejoining g member)

@@ -1,11 +1,14 @@
 pub mod Below
+pub mod CalmLemmas
 pub mod ChangeLemmas
 pub mod ClusterLemmas
 pub mod CompletionLemmas
 pub mod FinishLemmas
 pub mod GroupLemmas
 pub mod MovesLemmas
+pub mod NearLemmas
 pub mod OtherLemmas
+pub mod PassLemmas
 pub mod PresentLemmas
 pub mod Rows
 pub mod SlotsLemmas

@@ -26,7 +26,7 @@ use Rattle.group_machine.proofs.StepLemmas.{joining_changed, rejoining_changed, 
 use Rattle.group_machine.proofs.FinishLemmas.{accepted}
 
 -- ---- a completion
-some_on : (f : Seat → Seat) (o : Option Seat) → is_some (option_map f o) ≡ is_some o
+pub some_on : (f : Seat → Seat) (o : Option Seat) → is_some (option_map f o) ≡ is_some o
 some_on f None = refl
 some_on f (Some x) = refl
 
@@ -155,7 +155,7 @@ join_brings g name n valid ok =
     }
 
 -- ---- rejoining
-rejoining_at : (g : GroupState) (member n : ℕ) → member_of (rejoining g member) n ≡ option_map (at_only member rejoined_seat n) (member_of g n)
+pub rejoining_at : (g : GroupState) (member n : ℕ) → member_of (rejoining g member) n ≡ option_map (at_only member rejoined_seat n) (member_of g n)
 rejoining_at g member n = ap (λ slots. seat_of slots n) (one_is_each rejoined_seat g.slots member) ∙ seat_each (at_only member rejoined_seat) g.slots n
 
 on_nothing : (o : Option Seat) → option_map (λ x. x) o ≡ o
@@ -165,7 +165,7 @@ on_nothing (Some x) = refl
 rejoining_others : (g : GroupState) (member n : ℕ) → (n ≡ member → ⊥) → member_of (rejoining g member) n ≡ member_of g n
 rejoining_others g member n ne = rejoining_at g member n ∙ ap (λ (b : Bool). option_map (λ x. cond b (rejoined_seat x) x) (member_of g n)) (other_id n member ne) ∙ on_nothing (member_of g n)
 
-rejoining_here : (g : GroupState) (member : ℕ) → member_of (rejoining g member) member ≡ option_map rejoined_seat (member_of g member)
+pub rejoining_here : (g : GroupState) (member : ℕ) → member_of (rejoining g member) member ≡ option_map rejoined_seat (member_of g member)
 rejoining_here g member = rejoining_at g member member ∙ ap (λ (b : Bool). option_map (λ x. cond b (rejoined_seat x) x) (member_of g member)) (same_id member)
 
 pub rejoin_leaves : (g : GroupState) (member generation : ℕ) (claim : PartitionSet) → IsValidGroup g → rejoin_answer g member generation claim ≡ Ok tt → LeavesOthers g (rejoined_by g member) member
@@ -211,7 +211,7 @@ leave_takes_out g member valid ok =
     ∙ ap is_some (seat_without g.slots member member) ∙ rw (same_id member) refl
 
 -- ---- syncing
-synced_at : (g : GroupState) (member n : ℕ) → member_of (synced_by g member) n ≡ option_map (at_only member synced_seat n) (member_of g n)
+pub synced_at : (g : GroupState) (member n : ℕ) → member_of (synced_by g member) n ≡ option_map (at_only member synced_seat n) (member_of g n)
 synced_at g member n = ap (λ slots. seat_of slots n) (one_is_each synced_seat g.slots member) ∙ seat_each (at_only member synced_seat) g.slots n
 
 synced_others : (g : GroupState) (member n : ℕ) → (n ≡ member → ⊥) → member_of (synced_by g member) n ≡ member_of g n

@@ -4,6 +4,7 @@ pub mod Good
 pub mod Moves
 pub mod Name
 pub mod Others
+pub mod Passes
 pub mod Private
 pub mod Rounds
 pub mod Slots

@@ -54,6 +54,7 @@ impl Cluster {
         ensures group { IfOk result (λ cluster. cluster.group ≡ opening partitions) }
         ensures logs { IfOk result (λ cluster. AreLogsOf [] cluster.logs) }
         ensures counters { IfOk result (λ cluster. cluster.store.counts ≡ []) }
+        ensures room { IfOk result (λ cluster. cluster.store.room ≡ 0) }
         ensures offsets { IfOk result (λ cluster. (p : ℕ) → committed_at cluster.store p ≡ 0) }
         ensures valid { IfOk result IsValidCluster }
     {

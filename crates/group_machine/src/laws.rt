@@ -8,6 +8,7 @@ ghost use Rattle.group_machine.specs.Moves.{takes, taker};
 ghost use Rattle.group_machine.specs.Rounds.{is_settled, round, finish};
 ghost use Rattle.group_machine.specs.Steps.{join_answer, joined_by, leave_answer, left_by, rejoined_by, synced_by};
 ghost use Rattle.group_machine.specs.Good.{IsSound, IsValidGroup};
+ghost use Rattle.group_machine.specs.Passes.{turned, passed, is_calm};
 ghost use Rattle.group_machine.specs.Others.{IsAcceptedRejoin, IsNewcomer, LeavesOthers, LeavesRejoined, LeavesSynced};
 
 /// After two rounds a group with a member is settled, where no partition is granted to two members
@@ -27,6 +28,18 @@ pub fn rejoin_keeps_the_end()
     ensures { (g : GroupState) (member generation : ℕ) (claim : PartitionSet)
         → IsAcceptedRejoin g member generation claim
         → finish (rejoined_by g member) ≡ finish g }
+{}
+
+/// A member's turn changes nothing of where a rebalance ends, moves and last holders included.
+pub fn a_turn_keeps_the_end()
+    ensures { (g : GroupState) (member : ℕ) → IsValidGroup g → is_present g member ≡ true
+        → finish (turned g member) ≡ finish g }
+{}
+
+/// Four passes settle any valid group with a member, and each member has synced then.
+pub fn four_passes_settle()
+    ensures { (g : GroupState) → IsValidGroup g → is_anybody g ≡ true
+        → is_calm (passed (passed (passed (passed g)))) ≡ true }
 {}
 
 /// At a completion no partition comes to two members: each that takes one, of its next row and not
