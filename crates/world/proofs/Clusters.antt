@@ -1,15 +1,14 @@
 -- Clusters stay valid, and what a step of the cluster leaves for consumers and mail.
-use Rattle.std.proofs.Common.{◌≡◌, ◌⊎◌, ◌∙◌, ◌+◌, ◌-◌, ◌<◌, ◌≤◌, ◌≢◌, ℕ, Bool, true, false, List, [], ◌∷◌, ◌++◌, Option, Some, None, Result, Ok, Err, length, take, drop, slice_index_or, refl, sym, ap, subst, inl, inr, arith, length-append, length-drop}
-use Rattle.std.specs.Prelude.{nat_lt, nat_le, not, ◌==◌, is_some, slice_range, slice_set, if◌then◌else◌}
+use Rattle.std.proofs.Common.{◌≡◌, ◌∙◌, ◌+◌, ◌<◌, ◌≤◌, ℕ, Bool, true, false, List, [], ◌∷◌, ◌++◌, Result, Ok, Err, length, slice_index_or, refl, sym, ap, inl, inr, arith}
+use Rattle.std.specs.Prelude.{nat_lt, is_some, slice_set, if◌then◌else◌}
 use Rattle.std.specs.Result.{result_and}
 use Rattle.std.proofs.Math.ListN.{length-set}
-use Rattle.std.proofs.lemmas.Bool.{cases_lt}
 use Rattle.std.proofs.lemmas.Bool.Decides.{nat_tests}
-use Rattle.std.proofs.lemmas.List.{append-nil, get_or-set_other, get_or-set_same, take-append-le, drop-append-le}
+use Rattle.std.proofs.lemmas.List.{append-nil, get_or-set_other, get_or-set_same}
 use Rattle.lane_words.specs.declared.limits.TheConstants.{LONGEST_KEY}
 use Rattle.lane_words.specs.declared.Refusal.{Refusal}
 use Rattle.lane_words.specs.declared.Refusal.TheVariants as r
-use Rattle.bit_planes.specs.PartitionSet.{PartitionSet, is_in}
+use Rattle.bit_planes.specs.PartitionSet.{PartitionSet}
 use Rattle.keyed_table.proofs.Raised.{length-raised}
 use Rattle.partitioner.proofs.Places.{place_of-below}
 use Rattle.partition_log.specs.Keys.{Key, id_of, is_known}

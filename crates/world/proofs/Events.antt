@@ -1,6 +1,6 @@
 -- A world stays valid, whatever event comes and whatever is replied to it.
-use Rattle.std.proofs.Common.{◌≡◌, ◌⊎◌, ◌∙◌, ◌+◌, ◌-◌, ◌<◌, ◌≤◌, ℕ, zero, suc, Bool, true, false, List, [], ◌∷◌, ◌++◌, Option, Some, None, Result, Ok, Err, length, take, drop, refl, sym, ap, subst, inl, inr, arith, length-append, length-drop}
-use Rattle.std.specs.Prelude.{is_none, nat_le, ◌==◌, slice_get, slice_range, if◌then◌else◌}
+use Rattle.std.proofs.Common.{◌≡◌, ◌⊎◌, ◌∙◌, ◌+◌, ◌-◌, ◌<◌, ◌≤◌, ℕ, zero, suc, Bool, true, false, List, [], ◌∷◌, ◌++◌, Option, Some, None, Result, Ok, Err, length, drop, refl, sym, ap, subst, inl, inr, arith, length-append, length-drop}
+use Rattle.std.specs.Prelude.{is_none, nat_le, ◌==◌, slice_range, if◌then◌else◌}
 use Rattle.std.specs.Result.{result_and}
 use Rattle.std.proofs.lemmas.Bool.{cases_lt}
 use Rattle.std.proofs.lemmas.Bool.Decides.{eqb_tells, nat_tests}
@@ -12,30 +12,30 @@ use Rattle.lane_words.specs.declared.Refusal.TheVariants as r
 use Rattle.partition_log.specs.Keys.{Key}
 use Rattle.partition_log.specs.Logs.{PartitionLogs, log_at}
 use Rattle.commit_store.specs.Commits.{committed_at}
-use Rattle.group_machine.specs.State.{GroupState, is_anybody, is_present}
+use Rattle.group_machine.specs.State.{is_present}
 use Rattle.group_machine.specs.Steps.{join_answer, joined_by, leave_answer, left_by, rejoin_answer, rejoined_by, synced_by}
 use Rattle.group_machine.specs.Cluster.{ClusterState, CommitTerms, LeaseTerms, append_answer, appended_to, cluster_commit_answer, cluster_sync_answer, committed_by, lease_of, with_group}
-use Rattle.group_machine.proofs.OtherLemmas.{accepted_join, accepted_leave, join_brings, join_leaves, leave_leaves, leave_takes_out, rejoin_leaves, sync_leaves}
+use Rattle.group_machine.proofs.OtherLemmas.{accepted_join, join_brings, join_leaves, leave_leaves, leave_takes_out, rejoin_leaves, sync_leaves}
 use Rattle.group_machine.proofs.StepLemmas.{any_of_present}
-use Rattle.consumer.specs.Consumer.{ConsumerState, answered_by, base_of, commit_of, given_up, hold_answer, joined_as, leased, out_of_group, pending, poll_answer, polled, position_of, sendable_answer}
-use Rattle.consumer.proofs.Changed.{PollLeaves, RealignLeaves, poll_leaves, realign_leaves}
+use Rattle.consumer.specs.Consumer.{ConsumerState, answered_by, base_of, commit_of, given_up, hold_answer, joined_as, leased, out_of_group, poll_answer, polled, position_of, sendable_answer}
+use Rattle.consumer.proofs.Changed.{poll_leaves, realign_leaves}
 use Rattle.world.specs.declared.event.Event.{Event}
 use Rattle.world.specs.declared.event.Event.TheVariants as event
 use Rattle.world.specs.declared.event.Reply.{Reply}
 use Rattle.world.specs.declared.event.Reply.TheVariants as reply
 use Rattle.world.specs.declared.event.TheConstants.{MOST_COMMITS}
-use Rattle.world.specs.World.{WorldState, commit_at, consumer_of, on_consumer, with_cluster}
+use Rattle.world.specs.World.{WorldState, commit_at, consumer_of, with_cluster}
 use Rattle.world.specs.Steps.{Comes, MayCome, NeverFaults, Outcome, Step, append_event, append_outcome, asked, deliver_event, deliver_unanswered_event, delivered, delivered_unanswered, delivery, dropped, join_event, join_outcome, leave_event, leave_outcome, lose_event, lose_outcome, mail_answer, poll_event, poll_known, poll_outcome, refused_by_cluster, rejoin_event, rejoin_outcome, send_event, send_known, send_outcome, sync_event, sync_outcome}
-use Rattle.world.specs.Valid.{IsConsumerOf, IsInStep, IsSent, IsValidWorld}
+use Rattle.world.specs.Valid.{IsSent, IsValidWorld}
 use Rattle.world.proofs.Clusters.{Leaves, append_leaves, commit_leaves, committed_valid, joined_valid, leaves_by_group, left_valid, nothing_leaves, rejoined_valid, synced_valid}
 use Rattle.world.proofs.Fine.{join_fine, rejoin_fine, sync_fine}
 use Rattle.world.proofs.Groups.{in_step_same}
 use Rattle.world.proofs.Lists.{get_push}
 use Rattle.world.proofs.Lookups.{consumer_more}
-use Rattle.world.proofs.Outcomes.{is_in_as, leased_to}
-use Rattle.world.proofs.Refusals.{IsRejoining, commit_mismatch, commit_never_faults, commit_unknown, leave_unknown, rejoin_accepted, rejoin_never_faults, rejoin_unknown, sync_present, sync_unknown}
+use Rattle.world.proofs.Outcomes.{leased_to}
+use Rattle.world.proofs.Refusals.{commit_mismatch, commit_never_faults, commit_unknown, leave_unknown, rejoin_accepted, rejoin_never_faults, rejoin_unknown, sync_present, sync_unknown}
 use Rattle.world.proofs.Slots.{joined_slots, left_slots, rejoined_slots, synced_slots}
-use Rattle.world.proofs.Stays.{IsFine, IsFrom, both_stay, consumer_stays, out_fine, stays}
+use Rattle.world.proofs.Stays.{IsFine, both_stay, consumer_stays, out_fine, stays}
 
 is_it : (m n : ℕ) → (n ≡ m) ⊎ (n ≡ m → ⊥)
 is_it m n =

@@ -1,20 +1,20 @@
 -- Consumers after the steps that are about them.
-use Rattle.std.proofs.Common.{◌≡◌, ◌⊎◌, ◌∙◌, ◌+◌, ◌<◌, ◌≤◌, ℕ, Bool, true, false, List, Option, Some, None, Result, Ok, Err, length, slice_index_or, refl, sym, ap, subst, inl, inr, arith}
-use Rattle.std.specs.Prelude.{is_none, is_some, if◌then◌else◌}
+use Rattle.std.proofs.Common.{◌≡◌, ◌⊎◌, ◌∙◌, ◌<◌, ◌≤◌, ℕ, Bool, true, false, Option, Some, None, Ok, length, refl, sym, ap, inl, inr, arith}
+use Rattle.std.specs.Prelude.{is_some, if◌then◌else◌}
 use Rattle.std.proofs.lemmas.Bool.{cases_lt}
-use Rattle.bit_planes.specs.PartitionSet.{PartitionSet, is_in, partitions_of}
+use Rattle.bit_planes.specs.PartitionSet.{is_in, partitions_of}
 use Rattle.bit_planes.proofs.Sets.{in_below}
 use Rattle.partition_log.specs.Logs.{log_at}
 use Rattle.commit_store.specs.Commits.{committed_at}
-use Rattle.group_machine.specs.State.{GroupState, assigned_of, granted_of, is_present, is_synced}
-use Rattle.group_machine.specs.Others.{HasRejoined, IsInNextGeneration, IsNewcomer, LeavesRejoined, LeavesSynced}
+use Rattle.group_machine.specs.State.{GroupState, assigned_of, granted_of, is_present}
+use Rattle.group_machine.specs.Others.{IsNewcomer, LeavesRejoined}
 use Rattle.group_machine.specs.Steps.{rejoin_answer, rejoined_by, synced_by}
 use Rattle.group_machine.specs.Cluster.{ClusterState, IsValidCluster, LeaseTerms, lease_of, start_of, with_group}
 use Rattle.group_machine.proofs.ClusterLemmas.{assigned_over}
 use Rattle.group_machine.proofs.GroupLemmas.{assigned_in_granted}
 use Rattle.group_machine.proofs.OtherLemmas.{rejoin_keeps, rejoin_leaves, sync_marks}
 use Rattle.consumer.specs.declared.held.Held.{Held}
-use Rattle.consumer.specs.Consumer.{ConsumerState, base_of, given_up, held_at, is_held, joined_as, leased, leased_slot, out_of_group, position_of}
+use Rattle.consumer.specs.Consumer.{ConsumerState, given_up, held_at, is_held, joined_as, leased, leased_slot, out_of_group}
 use Rattle.consumer.proofs.Changed.{base_out, joined_valid, nothing_held, position_out}
 use Rattle.consumer.proofs.Valid.{given_up_valid, leased_valid, slot_base, slot_by, slot_past, slot_position}
 use Rattle.world.specs.Valid.{IsConsumerOf, IsInStep}

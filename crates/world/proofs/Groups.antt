@@ -1,8 +1,8 @@
 -- Consumers in step with their members, through the steps of the group.
-use Rattle.std.proofs.Common.{◌≡◌, ◌⊎◌, ◌∙◌, ◌+◌, ◌<◌, ◌≤◌, ℕ, Bool, true, false, Some, refl, sym, ap, subst, inl, inr, arith}
-use Rattle.bit_planes.specs.PartitionSet.{PartitionSet, is_in}
-use Rattle.group_machine.specs.State.{GroupState, assigned_of, granted_of, is_present, is_synced}
-use Rattle.group_machine.specs.Others.{IsAsBefore, IsInNextGeneration, LeavesMember, LeavesOthers, LeavesRejoined, LeavesSynced}
+use Rattle.std.proofs.Common.{◌≡◌, ◌∙◌, ◌+◌, ◌≤◌, ℕ, true, false, Some, sym, ap, inl, inr, arith}
+use Rattle.bit_planes.specs.PartitionSet.{is_in}
+use Rattle.group_machine.specs.State.{GroupState, granted_of, is_synced}
+use Rattle.group_machine.specs.Others.{IsAsBefore, LeavesMember}
 use Rattle.consumer.specs.Consumer.{ConsumerState, is_held}
 use Rattle.consumer.proofs.Changed.{KeepsHold}
 use Rattle.world.specs.Valid.{IsInStep}

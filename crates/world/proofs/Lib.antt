@@ -1,11 +1,17 @@
+pub mod Answered
 pub mod Clusters
+pub mod Drained
 pub mod Events
 pub mod Fine
+pub mod Following
 pub mod Groups
+pub mod Kept
 pub mod Lists
 pub mod Lookups
 pub mod Outcomes
 pub mod Refusals
 pub mod Runs
+pub mod Settled
 pub mod Slots
 pub mod Stays
+pub mod Walks

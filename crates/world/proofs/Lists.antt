@@ -1,5 +1,5 @@
 -- Look-ups in lists that changed at one index, or grew at the end.
-use Rattle.std.proofs.Common.{◌≡◌, ◌⊎◌, ◌∙◌, ◌+◌, ◌-◌, ◌<◌, ◌≤◌, ℕ, zero, suc, List, [], ◌∷◌, ◌++◌, Option, Some, None, length, take, drop, slice_index_or, refl, sym, ap, inl, inr, arith}
+use Rattle.std.proofs.Common.{◌≡◌, ◌⊎◌, ℕ, zero, suc, List, [], ◌∷◌, ◌++◌, Some, length, refl, ap, inl, inr, arith}
 use Rattle.std.specs.Prelude.{slice_get, slice_set}
 
 pub get_set : {A : Type 0} (xs : List A) (i j : ℕ) (c x : A) → slice_get (slice_set xs i c) j ≡ Some x → ((j ≡ i) × (x ≡ c)) ⊎ ((j ≡ i → ⊥) × (slice_get xs j ≡ Some x))

@@ -1,5 +1,5 @@
 -- The consumers of a world with one put in its place, or one more.
-use Rattle.std.proofs.Common.{◌≡◌, ◌⊎◌, ◌∙◌, ◌+◌, ◌<◌, ℕ, zero, suc, List, [], ◌∷◌, ◌++◌, Option, Some, None, length, refl, sym, ap, inl, inr, arith}
+use Rattle.std.proofs.Common.{◌≡◌, ◌⊎◌, ◌+◌, ℕ, zero, suc, [], ◌∷◌, ◌++◌, Some, length, ap, inl, inr, arith}
 use Rattle.consumer.specs.Consumer.{ConsumerState}
 use Rattle.world.specs.World.{WorldState, consumer_of}
 use Rattle.world.proofs.Lists.{get_push, get_set}

@@ -1,5 +1,5 @@
 -- What comes of events, where the consumer of the member is known.
-use Rattle.std.proofs.Common.{◌≡◌, ◌⊎◌, ◌∙◌, ◌+◌, ◌<◌, ◌≤◌, ℕ, zero, suc, Bool, true, false, List, [], ◌∷◌, ◌++◌, Option, Some, None, Result, Ok, Err, length, slice_index_or, get_or, refl, sym, ap, subst, inl, inr, arith}
+use Rattle.std.proofs.Common.{◌≡◌, ◌⊎◌, ◌∙◌, ◌+◌, ◌<◌, ℕ, suc, false, List, [], ◌∷◌, ◌++◌, Option, Some, None, Result, Ok, Err, length, slice_index_or, refl, sym, ap, subst, inl, inr, arith}
 use Rattle.std.specs.Prelude.{is_none, slice_get, slice_set, if◌then◌else◌, nat_le}
 use Rattle.std.specs.Result.{result_and}
 use Rattle.std.proofs.lemmas.Bool.Decides.{nat_tests}
@@ -14,7 +14,7 @@ use Rattle.group_machine.specs.Steps.{join_answer, joined_by, rejoin_answer, syn
 use Rattle.world.specs.declared.event.TheConstants.{MOST_COMMITS}
 use Rattle.world.specs.declared.event.Reply.{Reply}
 use Rattle.world.specs.declared.event.Reply.TheVariants as reply
-use Rattle.world.specs.World.{WorldState, changed, consumer_of, on_consumer, with_cluster}
+use Rattle.world.specs.World.{WorldState, consumer_of, on_consumer, with_cluster}
 use Rattle.world.specs.Steps.{Comes, MayCome, Outcome, asked, both, join_event, join_outcome, poll_event, poll_known, poll_outcome, refused, refused_by_cluster, rejoin_event, rejoin_outcome, send_event, send_known, send_outcome, sync_event, sync_outcome}
 use Rattle.world.specs.Private.Lookups.{IsAsking}
 

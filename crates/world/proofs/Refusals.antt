@@ -1,6 +1,6 @@
 -- What accepted and refused calls of the cluster tell.
-use Rattle.std.proofs.Common.{◌≡◌, ◌⊎◌, ◌∙◌, ◌+◌, ◌<◌, ◌≤◌, ℕ, zero, suc, Bool, true, false, List, [], ◌∷◌, Option, Some, None, Result, Ok, Err, length, refl, sym, ap, subst, inl, inr, arith}
-use Rattle.std.specs.Prelude.{nat_lt, not, ◌==◌, ◌&&◌, is_some, slice_range, if◌then◌else◌}
+use Rattle.std.proofs.Common.{◌≡◌, ◌∙◌, ◌+◌, ◌<◌, ◌≤◌, ℕ, Bool, true, false, List, Option, Some, None, Result, Ok, Err, length, refl, sym, ap, inl, inr, arith}
+use Rattle.std.specs.Prelude.{nat_lt, not, ◌==◌, ◌&&◌, is_some, if◌then◌else◌}
 use Rattle.std.specs.Option.{option_map_or}
 use Rattle.std.specs.Result.{result_and}
 use Rattle.std.specs.Str.{bytes_eq}
@@ -10,13 +10,13 @@ use Rattle.lane_words.specs.declared.Refusal.{Refusal}
 use Rattle.lane_words.specs.declared.Refusal.TheVariants as r
 use Rattle.bit_planes.specs.PartitionSet.{PartitionSet, is_same}
 use Rattle.bit_planes.proofs.Sets.{same_self}
-use Rattle.commit_store.specs.Commits.{PartitionLogs, commit_answer, committed_at, log_at, offset_answer, records_between}
+use Rattle.commit_store.specs.Commits.{commit_answer, committed_at, log_at, records_between}
 use Rattle.group_machine.specs.declared.group.Seat.{Seat}
 use Rattle.group_machine.specs.State.{GroupState, assigned_of, is_present, is_synced, member_of, seat_assigned, seat_synced}
 use Rattle.group_machine.specs.Rounds.{agrees, is_stable}
-use Rattle.group_machine.specs.Steps.{leave_answer, leaving, rejoin_answer, rejoin_refusal, rejoining, sync_answer, sync_seat_answer, unless_over}
+use Rattle.group_machine.specs.Steps.{leave_answer, leaving, rejoin_answer, rejoin_refusal, rejoining, sync_seat_answer, unless_over}
 use Rattle.group_machine.specs.Completion.{is_over}
-use Rattle.group_machine.specs.Cluster.{ClusterState, CommitTerms, LeaseTerms, cluster_commit_answer, cluster_sync_answer, fence, lease_of}
+use Rattle.group_machine.specs.Cluster.{ClusterState, CommitTerms, LeaseTerms, cluster_commit_answer, cluster_sync_answer, lease_of}
 use Rattle.world.specs.Steps.{IsNoCommitFault, IsNoRejoinFault}
 use Rattle.world.specs.Valid.{IsSent}
 
@@ -192,6 +192,24 @@ commit_mismatch s c k e =
     mismatch_offset (committed_at s.store c.partition) (c.from + length c.ids) k (length c.ids == 0) (not (c.from == committed_at s.store c.partition))
     (nat_lt (length (log_at s.logs c.partition)) (c.from + length c.ids)) (not (bytes_eq (records_between s.logs c.partition c.from (c.from + length c.ids)) c.ids))
     (mismatch_by (not (is_present s.group c.member)) _ _ (commit_answer s.store s.logs c.partition c.from c.ids) k e)
+
+mismatch_elsewhere : (committed end k : ℕ) (none elsewhere past wrong : Bool) → offset_by committed end none elsewhere past wrong ≡ Err (r.OffsetMismatch k) → elsewhere ≡ true
+mismatch_elsewhere committed end k true elsewhere past wrong e = absurd (cc e)
+mismatch_elsewhere committed end k false true past wrong e = refl
+mismatch_elsewhere committed end k false false true wrong e = absurd (cc e)
+mismatch_elsewhere committed end k false false false true e = absurd (cc e)
+mismatch_elsewhere committed end k false false false false e = absurd (cc e)
+
+not_equal : (a b : ℕ) → not (a == b) ≡ true → a ≡ b → ⊥
+not_equal a b e same = absurd (grind (arith, nat_tests, e, same))
+
+-- and is told where the commit is from another one
+pub commit_elsewhere : (s : ClusterState) (c : CommitTerms) (k : ℕ) → cluster_commit_answer s c ≡ Err (r.OffsetMismatch k) → c.from ≡ committed_at s.store c.partition → ⊥
+commit_elsewhere s c k e =
+    not_equal c.from (committed_at s.store c.partition)
+    (mismatch_elsewhere (committed_at s.store c.partition) (c.from + length c.ids) k (length c.ids == 0) (not (c.from == committed_at s.store c.partition))
+    (nat_lt (length (log_at s.logs c.partition)) (c.from + length c.ids)) (not (bytes_eq (records_between s.logs c.partition c.from (c.from + length c.ids)) c.ids))
+    (mismatch_by (not (is_present s.group c.member)) _ _ (commit_answer s.store s.logs c.partition c.from c.ids) k e))
 
 fine_offset : (committed end : ℕ) (none elsewhere past wrong : Bool) → none ≡ false → past ≡ false → wrong ≡ false → IsNoCommitFault (offset_by committed end none elsewhere past wrong)
 fine_offset committed end true elsewhere past wrong a b c = absurd (cc a)

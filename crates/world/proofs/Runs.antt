@@ -1,5 +1,5 @@
 -- Runs of events: one step more, and what they append.
-use Rattle.std.proofs.Common.{◌≡◌, ◌⊎◌, ◌∙◌, ◌+◌, ◌<◌, ◌≤◌, ℕ, zero, suc, List, [], ◌∷◌, ◌++◌, Option, Some, None, Result, Ok, Err, length, take, drop, map, get_or, append_assoc, refl, sym, ap, subst, inl, inr, arith}
+use Rattle.std.proofs.Common.{◌≡◌, ◌∙◌, ◌+◌, ◌<◌, ℕ, suc, List, [], ◌∷◌, ◌++◌, Option, Some, None, Result, Ok, Err, length, take, drop, map, get_or, append_assoc, refl, sym, ap, subst, inl, inr, arith}
 use Rattle.std.specs.Borrow.{Bor}
 use Rattle.std.proofs.lemmas.List.{append-nil, get_or_default, length-map, map-append, take_more}
 use Rattle.std.proofs.Math.ListN.{get_or-map as map_at}
@@ -13,13 +13,13 @@ use Rattle.partition_log.specs.Logs.{PartitionLogs, place_in, place_of}
 use Rattle.partition_log.proofs.History.{history}
 use Rattle.group_machine.specs.Cluster.{AreLogsOf, ClusterState, GrowsBy, CommitTerms, LeaseTerms, append_answer, appended_to, cluster_commit_answer, cluster_sync_answer}
 use Rattle.group_machine.specs.Steps.{join_answer, leave_answer, rejoin_answer}
-use Rattle.consumer.specs.Consumer.{ConsumerState, answered_by, poll_answer}
+use Rattle.consumer.specs.Consumer.{ConsumerState, poll_answer}
 use Rattle.world.specs.declared.event.Event.{Event}
 use Rattle.world.specs.declared.event.Event.TheVariants as event
 use Rattle.world.specs.declared.event.Reply.{Reply}
 use Rattle.world.specs.declared.event.Reply.TheVariants as reply
 use Rattle.world.specs.World.{WorldState, commit_at, consumer_of, on_consumer, with_cluster}
-use Rattle.world.specs.Steps.{Comes, MayCome, Outcome, Step, append_event, append_outcome, asked, both, deliver_event, deliver_unanswered_event, delivered, delivered_unanswered, delivery, dropped, given, join_event, join_outcome, leave_event, leave_outcome, lose_event, lose_outcome, mail_answer, poll_event, poll_known, poll_outcome, refused_by_cluster, rejoin_event, rejoin_outcome, send_event, send_known, send_outcome, sync_event, sync_outcome}
+use Rattle.world.specs.Steps.{Comes, MayCome, Outcome, Step, append_event, append_outcome, asked, deliver_event, deliver_unanswered_event, delivered, delivered_unanswered, delivery, dropped, given, join_event, join_outcome, leave_event, leave_outcome, lose_event, lose_outcome, mail_answer, poll_event, poll_known, poll_outcome, refused_by_cluster, rejoin_event, rejoin_outcome, send_event, send_known, send_outcome, sync_event, sync_outcome}
 use Rattle.world.specs.Runs.{AppendsKeys, AreAppended, Appends, IsRefusedNext, Run, StopsLoad, appended_by, appended_in, appends_of, key_if_appended}
 use Rattle.world.specs.Valid.{IsValidWorld}
 use Rattle.world.proofs.Stays.{on_cluster}

@@ -1,26 +1,18 @@
 -- A world stays valid over every event.
-use Rattle.std.proofs.Common.{◌≡◌, ◌⊎◌, ◌∙◌, ◌+◌, ◌-◌, ◌<◌, ◌≤◌, ℕ, zero, suc, Bool, true, false, List, [], ◌∷◌, ◌++◌, Option, Some, None, Result, Ok, Err, length, take, drop, min, refl, sym, ap, subst, inl, inr, arith, length-append, length-drop}
-use Rattle.std.specs.Prelude.{is_none, nat_le, not, ◌==◌, slice_get, slice_range, slice_set, if◌then◌else◌}
-use Rattle.std.specs.Result.{result_and}
+use Rattle.std.proofs.Common.{◌≡◌, ◌⊎◌, ◌∙◌, ◌+◌, ◌-◌, ◌≤◌, ℕ, zero, suc, true, false, List, ◌++◌, Option, Some, None, length, take, drop, refl, sym, ap, subst, inl, inr, arith, length-append, length-drop}
+use Rattle.std.specs.Prelude.{slice_get, slice_range}
 use Rattle.std.proofs.Math.ListN.{length-set}
-use Rattle.std.proofs.lemmas.Bool.{cases_lt}
-use Rattle.std.proofs.lemmas.Bool.Decides.{eqb_tells, nat_tests}
-use Rattle.std.proofs.lemmas.List.{take-append-le, drop-append-le, length-take-le}
-use Rattle.lane_words.specs.declared.Refusal.{Refusal}
-use Rattle.lane_words.specs.declared.Refusal.TheVariants as r
-use Rattle.partition_log.specs.Logs.{PartitionLogs, log_at}
-use Rattle.commit_store.specs.Commits.{committed_at}
-use Rattle.group_machine.specs.State.{GroupState, assigned_of, granted_of, is_present, is_synced}
+use Rattle.std.proofs.lemmas.List.{take-append-le, drop-append-le}
+use Rattle.partition_log.specs.Logs.{log_at}
+use Rattle.group_machine.specs.State.{is_present}
 use Rattle.group_machine.specs.Cluster.{ClusterState, CommitTerms}
-use Rattle.consumer.specs.Consumer.{ConsumerState, base_of, commit_of, is_held, out_of_group, pending, position_of, sendable_answer}
-use Rattle.consumer.proofs.Changed.{base_out, nothing_held, out_valid, position_out}
-use Rattle.world.specs.declared.event.TheConstants.{MOST_COMMITS}
+use Rattle.consumer.specs.Consumer.{ConsumerState, out_of_group}
+use Rattle.consumer.proofs.Changed.{base_out, out_valid, position_out}
 use Rattle.world.specs.World.{WorldState, changed, consumer_of, on_consumer, with_cluster}
 use Rattle.world.specs.Valid.{IsConsumerOf, IsInStep, IsSent, IsValidWorld}
 use Rattle.world.proofs.Clusters.{Leaves}
 use Rattle.world.proofs.Groups.{in_step_left}
 use Rattle.world.proofs.Lookups.{consumer_put}
-use Rattle.world.proofs.Outcomes.{put}
 
 -- ---- logs that grow at the end
 range_grown : (xs more : List ℕ) (a b : ℕ) → a ≤ b → b ≤ length xs → slice_range (xs ++ more) a b ≡ slice_range xs a b

@@ -1,5 +1,5 @@
 -- Events, one after another.
-use Rattle.std.specs.Prelude.{◌≡◌, ◌⊎◌, ◌<◌, ◌≤◌, ℕ, List, [], ◌∷◌, ◌++◌, Result, Ok, Err, length, map, take, drop}
+use Rattle.std.specs.Prelude.{◌≡◌, ◌⊎◌, ◌≤◌, ℕ, List, [], ◌∷◌, ◌++◌, Result, Ok, Err, length, map, take, drop}
 use Rattle.std.specs.Borrow.{Bor}
 use Rattle.lane_words.specs.declared.Refusal.{Refusal}
 use Rattle.lane_words.specs.declared.Refusal.TheVariants as r
@@ -11,7 +11,6 @@ use Rattle.world.specs.declared.event.Event.TheVariants as event
 use Rattle.world.specs.declared.event.Reply.{Reply}
 use Rattle.world.specs.declared.event.Reply.TheVariants as reply
 use Rattle.world.specs.Steps.{Step}
-use Rattle.world.specs.Valid.{IsValidWorld}
 use Rattle.world.specs.World.{WorldState}
 
 -- a world of this many partitions in which nothing has happened
@@ -19,6 +18,7 @@ pub record IsOpening (partitions : ℕ) (w : WorldState) : Type 0 where
   pub group : w.cluster.group ≡ opening partitions
   pub logs : AreLogsOf [] w.cluster.logs
   pub counts : w.cluster.store.counts ≡ []
+  pub room : w.cluster.store.room ≡ 0
   pub consumers : w.consumers ≡ []
   pub mail : w.mail ≡ []
 

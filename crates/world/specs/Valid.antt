@@ -1,5 +1,5 @@
 -- What a world keeps: the facts of a good world.
-use Rattle.std.specs.Prelude.{◌≡◌, ℕ, ◌+◌, ◌<◌, ◌≤◌, ◌↔◌, true, List, Option, Some, None, length, slice_get, slice_range}
+use Rattle.std.specs.Prelude.{◌≡◌, ℕ, ◌+◌, ◌<◌, ◌≤◌, ◌↔◌, true, Some, length, slice_get, slice_range}
 use Rattle.bit_planes.specs.PartitionSet.{is_in}
 use Rattle.partition_log.specs.Logs.{PartitionLogs, log_at}
 use Rattle.group_machine.specs.State.{GroupState, assigned_of, granted_of, is_present, is_synced}

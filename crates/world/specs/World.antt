@@ -1,6 +1,6 @@
 -- A world: a cluster, the consumers of all members that ever joined, and the commits that were
 -- sent.
-use Rattle.std.specs.Prelude.{◌≡◌, ℕ, zero, suc, List, [], Option, Some, None, slice_get, slice_set}
+use Rattle.std.specs.Prelude.{ℕ, zero, suc, List, Option, Some, None, slice_get, slice_set}
 use Rattle.consumer.specs.Consumer.{ConsumerState}
 use Rattle.group_machine.specs.Cluster.{ClusterState, CommitTerms}
 

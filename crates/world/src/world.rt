@@ -7,6 +7,9 @@ ghost use Rattle.world.specs.Steps.{NeverFaults, Step};
 ghost use Rattle.world.specs.Runs.{AppendsKeys, IsOpening, Loads, Run, appended_by, appended_in};
 ghost use Rattle.world.specs.Valid.{IsValidWorld};
 
+mod drain;
+mod settle;
+
 use crate::event::{Event, Reply};
 use crate::parts::{Parts, index_of};
 use consumer::Consumer;

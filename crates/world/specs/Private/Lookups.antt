@@ -1,5 +1,5 @@
 -- Look-ups by a number that counts from 1.
-use Rattle.std.specs.Prelude.{◌≡◌, ◌⊎◌, ℕ, suc, ◌<◌, Option, Some, None, Result, Ok, Err, length, slice_get, MatchOption, MatchResult, is_none, false}
+use Rattle.std.specs.Prelude.{◌≡◌, ◌⊎◌, ℕ, suc, ◌<◌, Option, Some, None, length, slice_get, MatchOption, is_none, false}
 use Rattle.lane_words.specs.declared.Refusal.{Refusal}
 use Rattle.lane_words.specs.declared.Refusal.TheVariants as r
 use Rattle.consumer.specs.Consumer.{ConsumerState}

@@ -237,6 +237,50 @@ fn a_member_that_leaves_or_rejoins_is_told(rt: HostRuntime) -> Result<(), Fail> 
     Ok(())
 }
 
+/// The group is settled, and each of the five records is committed and counted.
+fn all_is_drained(rt: &impl Abort, world: &World) {
+    let cluster = world.cluster();
+    assert!(rt; cluster.is_settled());
+    assert_eq!(rt; cluster.store().offsets(), [2, 1, 1, 1].as_slice());
+    assert_eq!(rt; cluster.store().counts(), [2, 1, 1, 1].as_slice());
+}
+
+#[test]
+fn a_drain_commits_all(rt: HostRuntime) -> Result<(), Fail> {
+    let a = name(&rt, b"A");
+    let mut world = loaded(&rt, rt.alloc())?;
+    assert_eq!(rt; world.drain(500), Err(Refusal::NobodyPresent));
+    assert_eq!(rt; world.step(Event::Join(&a)), Reply::Joined(1));
+    assert_eq!(rt; world.drain(500), Ok(()));
+    all_is_drained(&rt, &world);
+    Ok(())
+}
+
+#[test]
+fn a_drain_goes_on_from_what_is_pending(rt: HostRuntime) -> Result<(), Fail> {
+    let (a, b) = (name(&rt, b"A"), name(&rt, b"B"));
+    let mut world = loaded(&rt, rt.alloc())?;
+    assert_eq!(rt; world.step(Event::Join(&a)), Reply::Joined(1));
+    assert_eq!(rt; world.settle(), Ok(()));
+    let third = Event::Poll {
+        member: 1,
+        partition: 2,
+        records: 1,
+    };
+    let send_third = Event::Send {
+        member: 1,
+        partition: 2,
+    };
+    assert_eq!(rt; world.step(POLL), Reply::Polled(2));
+    assert_eq!(rt; world.step(SEND), Reply::Sent(1));
+    assert_eq!(rt; world.step(third), Reply::Polled(1));
+    assert_eq!(rt; world.step(send_third), Reply::Sent(2));
+    assert_eq!(rt; world.step(Event::Join(&b)), Reply::Joined(2));
+    assert_eq!(rt; world.drain(1), Ok(()));
+    all_is_drained(&rt, &world);
+    Ok(())
+}
+
 /// The numbers by which the long schedule is chosen: x' = 1664525 x + 1013904223, modulo 2^32.
 #[derive(Drop)]
 struct Chosen {

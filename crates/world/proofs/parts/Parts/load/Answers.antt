@@ -1,11 +1,11 @@
-use Rattle.std.proofs.Common.{◌≡◌, ◌∙◌, ◌<◌, ◌≤◌, ℕ, List, [], ap, arith, drop, get_or, length, map, refl, subst, sym, take}
+use Rattle.std.proofs.Common.{◌≡◌, ◌∙◌, [], ap, arith, drop, get_or, map, refl, subst, sym, take}
 use Rattle.std.specs.Borrow.{Bor}
 use Rattle.std.proofs.lemmas.List.{append-nil, take_all}
 use Rattle.partition_log.specs.Keys.{Key}
 use Rattle.group_machine.specs.Cluster.{ClusterState}
 use Rattle.world.specs.Runs.{Appends, AppendsKeys, StopsLoad}
 use Rattle.world.specs.Valid.{IsValidWorld}
-use Rattle.world.specs.World.{WorldState, with_cluster}
+use Rattle.world.specs.World.{with_cluster}
 use Rattle.world.specs.Private.View.{world_view}
 use Rattle.world.proofs.Events.{appended_world}
 use Rattle.world.proofs.Runs.{append_more, append_stops, keys_more, no_appends, place_among}

@@ -1,4 +1,4 @@
-use Rattle.std.proofs.Common.{◌≡◌, ◌∙◌, ◌<◌, ◌≤◌, ℕ, ap, arith, length, sym, subst}
+use Rattle.std.proofs.Common.{◌∙◌, ◌<◌, ◌≤◌, ap, arith, length, sym, subst}
 use Rattle.partition_log.specs.Logs.{PartitionLogs, log_at}
 use Rattle.consumer.specs.Consumer.{poll_answer, polled, position_of}
 use Rattle.world.specs.Private.View.{world_view}

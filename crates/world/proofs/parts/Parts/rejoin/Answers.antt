@@ -1,7 +1,7 @@
-use Rattle.std.proofs.Common.{◌≡◌, ◌∙◌, suc, Err, ap, subst, sym}
+use Rattle.std.proofs.Common.{◌≡◌, ◌∙◌, suc, Err, ap, subst}
 use Rattle.lane_words.specs.Answers.{Answers}
 use Rattle.group_machine.specs.Steps.{rejoin_answer}
-use Rattle.world.specs.World.{WorldState, with_cluster}
+use Rattle.world.specs.World.{with_cluster}
 use Rattle.world.specs.Steps.{Comes, refused_by_cluster, rejoin_event}
 use Rattle.world.specs.Private.View.{world_view}
 use Rattle.world.proofs.Outcomes.{consumer_there, put, put_same, refused_ok, rejoin_refused}

@@ -1,6 +1,5 @@
-use Rattle.std.proofs.Common.{◌≡◌, ◌∙◌, ◌+◌, ◌<◌, ◌≤◌, ◌++◌, ◌∷◌, [], ℕ, Ok, false, ap, arith, length, length-append, sym, subst}
+use Rattle.std.proofs.Common.{◌≡◌, ◌∙◌, ◌+◌, ◌<◌, ◌≤◌, ◌++◌, ◌∷◌, [], Ok, false, ap, arith, length, length-append, sym, subst}
 use Rattle.std.specs.Prelude.{nat_le}
-use Rattle.std.proofs.lemmas.Bool.Decides.{nat_tests}
 use Rattle.lane_words.specs.Answers.{Answers}
 use Rattle.partition_log.specs.Logs.{PartitionLogs, log_at}
 use Rattle.consumer.specs.Consumer.{position_of, send_answer}

@@ -1,0 +1,10 @@
+use Rattle.std.proofs.Common.{◌≡◌, ◌-◌}
+use Rattle.world.specs.Draining.{drain_log, read_up}
+use Rattle.world.proofs.Following.{Continues}
+use Rattle.world.proofs.world.World.drain_log.Given as goal
+
+abbrev pub invariant-loop : goal.invariant-loop
+invariant-loop l = record {
+  left : Continues l.fn.self (drain_log l.batch l.member l.p l.fn.self) l.self (read_up (l.end - l.counter) l.batch l.member l.p l.self);
+  partitions : l.self.cluster.group.partitions ≡ l.fn.self.cluster.group.partitions;
+}

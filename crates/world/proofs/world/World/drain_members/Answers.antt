@@ -1,0 +1,65 @@
+use Rattle.std.proofs.Common.{rules, ◌≡◌, ◌∙◌, ◌+◌, ◌<◌, ◌≤◌, Ok, Err, true, false, length, refl, ap, subst, sym}
+use Rattle.group_machine.specs.State.{is_present}
+use Rattle.world.specs.Courses.{Follows, for_each}
+use Rattle.world.specs.Draining.{drain_member, drain_members}
+use Rattle.world.proofs.Following.{Continues, each_done, each_on, each_stops, goes_further, drain_members_is, drain_member_course}
+use Rattle.world.proofs.Kept.{IsReading, LeavesGroup, SamePresent, drain_member_events, keeps_group, kept_following, reading_open}
+use Rattle.world.proofs.Walks.{numbers_gone, numbers_here, numbers_left, numbers_past}
+use Rattle.world.proofs.world.World.drain_members.Goals as goal
+use Rattle.world.proofs.world.World.drain_members.Goals.{then-is_present+in_ok-drain_member, else-is_present}
+
+pub loop-index-init : goal.loop-index-init
+loop-index-init c = record { left = drain_members_is c.args.batch c.args.self.now; present = λ n. refl }
+
+pub returns-in_err-drain_member : goal.returns-in_err-drain_member
+returns-in_err-drain_member c =
+    let same : c.from_residual.result ≡ Err c.in_err-drain_member.field-0.0 = search rules in
+    let w = c.args.self.now in
+    let mid = c.loop-index.self in
+    let slots = w.cluster.group.slots in
+    let i = c.loop-index.index in
+    let lt : i < length slots = search rules in
+    let now : is_present mid.cluster.group (i + 1) ≡ true = search rules in
+    let here = sym (c.loop-index.invariant.present (i + 1)) ∙ now in
+    c.loop-index.invariant.left c.from_residual.result c.drain_member.new.self
+    (subst (λ ns. Follows mid (for_each ns (drain_member c.args.batch) mid) c.from_residual.result c.drain_member.new.self) (sym (numbers_here slots i lt here))
+    (each_stops mid c.drain_member.new.self (i + 1) (numbers_left slots (i + 1)) (drain_member c.args.batch) c.drain_member.result c.from_residual.result c.in_err-drain_member.field-0.0 (drain_member_course c.args.batch (i + 1) mid) c.drain_member.ensures c.in_err-drain_member.was same))
+
+pub loop-index-preserved : goal.loop-index-preserved
+loop-index-preserved c =
+    let w = c.args.self.now in
+    let mid = c.loop-index.self in
+    let slots = w.cluster.group.slots in
+    let i = c.loop-index.index in
+    let lt : i < length slots = search rules in
+    let rest = numbers_left slots (i + 1) in
+    elim c.if-is_present.branch [
+      | then-is_present+in_ok-drain_member b ↦
+          let far = b.drain_member.new.self in
+          let now : is_present mid.cluster.group (i + 1) ≡ true = search rules in
+          let here = sym (c.loop-index.invariant.present (i + 1)) ∙ now in
+          let made = drain_member_course c.args.batch (i + 1) mid in
+          record {
+            left = subst (λ x. Continues w (drain_members c.args.batch w) x (for_each rest (drain_member c.args.batch) x)) (sym b.self-is)
+                (goes_further w mid far (drain_members c.args.batch w) (for_each (numbers_left slots i) (drain_member c.args.batch) mid) (for_each rest (drain_member c.args.batch) far) c.loop-index.invariant.left
+                (subst (λ ns. Continues mid (for_each ns (drain_member c.args.batch) mid) far (for_each rest (drain_member c.args.batch) far)) (sym (numbers_here slots i lt here))
+                (each_on mid far (i + 1) rest (drain_member c.args.batch) b.drain_member.result made b.drain_member.ensures b.in_ok-drain_member.was)));
+            present = subst (SamePresent w) (sym b.self-is)
+                (λ n. ap (λ g. is_present g n) (kept_following IsReading LeavesGroup keeps_group mid far (drain_member c.args.batch (i + 1) mid) b.drain_member.result made (drain_member_events IsReading reading_open c.args.batch (i + 1) mid) b.drain_member.ensures).group ∙ c.loop-index.invariant.present n);
+          }
+      | else-is_present b ↦
+          let now : is_present mid.cluster.group (i + 1) ≡ false = search rules in
+          let gone = sym (c.loop-index.invariant.present (i + 1)) ∙ now in
+          record {
+            left = subst (λ x. Continues w (drain_members c.args.batch w) x (for_each rest (drain_member c.args.batch) x)) (sym b.self-is)
+                (subst (λ ns. Continues w (drain_members c.args.batch w) mid (for_each ns (drain_member c.args.batch) mid)) (numbers_gone slots i lt gone) c.loop-index.invariant.left);
+            present = subst (SamePresent w) (sym b.self-is) c.loop-index.invariant.present;
+          }
+    ]
+
+pub returns : goal.returns
+returns c =
+    let mid = c.loop-index.self in
+    let slots = c.args.self.now.cluster.group.slots in
+    let past : length slots ≤ c.loop-index.index = search rules in
+    c.loop-index.invariant.left (Ok tt) mid (subst (λ ns. Follows mid (for_each ns (drain_member c.args.batch) mid) (Ok tt) mid) (sym (numbers_past slots c.loop-index.index past)) (each_done mid (drain_member c.args.batch)))

@@ -1,0 +1,8 @@
+use Rattle.bit_planes.specs.PartitionSet.{elements}
+use Rattle.world.specs.Courses.{for_each}
+use Rattle.world.specs.Settling.{flush}
+use Rattle.world.proofs.Following.{Continues}
+use Rattle.world.proofs.world.World.flush_all.Given as goal
+
+abbrev pub invariant-loop-p : goal.invariant-loop-p
+invariant-loop-p l = Continues l.fn.self (for_each (elements l.fn.given) (flush l.member) l.fn.self) l.self (for_each l.p-iterator (flush l.member) l.self)

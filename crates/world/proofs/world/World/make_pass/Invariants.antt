@@ -1,0 +1,12 @@
+use Rattle.world.specs.Courses.{for_each}
+use Rattle.world.specs.Settling.{pass, turn}
+use Rattle.world.proofs.Following.{Continues}
+use Rattle.world.proofs.Kept.{SamePresent}
+use Rattle.world.proofs.Walks.{numbers_left}
+use Rattle.world.proofs.world.World.make_pass.Given as goal
+
+abbrev pub invariant-loop-index : goal.invariant-loop-index
+invariant-loop-index l = record {
+  left : Continues l.fn.self (pass l.fn.self) l.self (for_each (numbers_left l.fn.self.cluster.group.slots l.index) turn l.self);
+  present : SamePresent l.fn.self l.self;
+}

@@ -1,0 +1,7 @@
+use Rattle.std.proofs.Common.{◌-◌}
+use Rattle.world.specs.Settling.{passes}
+use Rattle.world.proofs.Following.{Continues}
+use Rattle.world.proofs.world.World.make_passes.Given as goal
+
+abbrev pub invariant-loop : goal.invariant-loop
+invariant-loop l = Continues l.fn.self (passes 4 l.fn.self) l.self (passes (4 - l.counter) l.self)

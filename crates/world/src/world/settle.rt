@@ -1,0 +1,216 @@
+//! How a world settles: each member is brought to the end of the rebalance.
+
+ghost use Rattle.std.specs.Prelude.{◌≡◌, ◌≢◌, Err, MatchOption, OnOk, length, true, false};
+ghost use Rattle.std.specs.List.{list_all};
+ghost use Rattle.lane_words.specs.declared.Refusal.TheVariants as refusal;
+ghost use Rattle.bit_planes.specs.PartitionSet.{elements, minus};
+ghost use Rattle.group_machine.specs.State.{assigned_of, granted_of, is_present, is_synced, members};
+ghost use Rattle.group_machine.specs.Rounds.{bare, finish};
+ghost use Rattle.group_machine.specs.Passes.{has_to_rejoin, is_calm};
+ghost use Rattle.world.specs.Courses.{Follows, for_each, happens};
+ghost use Rattle.world.specs.Settling.{commit_pending, flush, forgiven, is_pending, pass, passes, rejoin_if_due, settling, sync_if_new, turn};
+ghost use Rattle.world.specs.Valid.{IsValidWorld};
+
+use super::World;
+use crate::event::{Event, Reply};
+use bit_planes::Plane;
+use group_machine::Phase;
+use lane_words::Refusal;
+
+/// The most passes that a settling takes: two completions and what comes before and after them.
+const MOST_PASSES: usize = 4;
+
+impl World {
+    /// Brings the group to the end of its rebalance: in each pass every present member, in rising
+    /// order of numbers, takes its lease if it is new to the generation, and rejoins if it has
+    /// something to give up or a generation is prepared; what is pending of the partitions that it
+    /// gives up it commits before. Passes are made until the group is settled and each member has
+    /// synced, and four are always enough.
+    ///
+    /// Refused: nobody is present (`NobodyPresent`), with everything as it was; or by the first of
+    /// its events that is refused, where what was done before stands: a full mail (`MailFull`), the
+    /// last generation (`GenerationsOver`), want of memory.
+    pub fn settle(&mut self) -> Result<(), Refusal>
+        ensures follows { Follows self.old (settling self.old) result self.new }
+        ensures four_passes { result ≢ Err refusal.NotSettled }
+        ensures calm { OnOk result (is_calm self.new.cluster.group ≡ true) }
+        ensures end { OnOk result (bare self.new.cluster.group ≡ finish self.old.cluster.group) }
+        ensures valid { IsValidWorld self.new }
+    {
+        match self.cluster().phase() {
+            Phase::Empty => Err(Refusal::NobodyPresent),
+            Phase::Preparing | Phase::Stable => self.make_passes(),
+        }
+    }
+
+    /// Passes until the group is calm.
+    fn make_passes(&mut self) -> Result<(), Refusal>
+        ensures { Follows self.old (passes 4 self.old) result self.new }
+    {
+        for _ in 0..MOST_PASSES {
+            if self.is_calm() {
+                return Ok(());
+            }
+            self.make_pass()?;
+        }
+        if self.is_calm() {
+            return Ok(());
+        }
+        Err(Refusal::NotSettled)
+    }
+
+    /// Whether the group is settled, and each member has synced.
+    fn is_calm(&self) -> bool
+        ensures { result ≡ is_calm self.now.cluster.group }
+    {
+        self.cluster().is_settled() && self.has_everybody_synced()
+    }
+
+    /// Whether each present member has synced.
+    fn has_everybody_synced(&self) -> bool
+        ensures { result ≡ list_all (is_synced self.now.cluster.group)
+            (members self.now.cluster.group) }
+    {
+        let cluster = self.cluster();
+        for member in cluster.members() {
+            if !cluster.is_synced(member) {
+                return false;
+            }
+        }
+        true
+    }
+
+    /// Each present member's turn.
+    fn make_pass(&mut self) -> Result<(), Refusal>
+        ensures { Follows self.old (pass self.old) result self.new }
+    {
+        for index in 0..self.last_member() {
+            if self.cluster().is_present(index + 1) {
+                self.take_turn(index + 1)?;
+            }
+        }
+        Ok(())
+    }
+
+    /// The highest number that was given to a member.
+    pub(super) fn last_member(&self) -> u32
+        ensures { result ≡ length self.now.cluster.group.slots }
+    {
+        self.parts.consumers.len() as u32
+    }
+
+    /// One member's turn.
+    fn take_turn(&mut self, member: u32) -> Result<(), Refusal>
+        requires { is_present self.old.cluster.group member ≡ true }
+        ensures { Follows self.old (turn member self.old) result self.new }
+    {
+        self.sync_if_new(member)?;
+        self.rejoin_if_due(member)
+    }
+
+    /// A member that has neither joined nor synced takes its lease.
+    fn sync_if_new(&mut self, member: u32) -> Result<(), Refusal>
+        ensures { Follows self.old (sync_if_new member self.old) result self.new }
+    {
+        let cluster = self.cluster();
+        if cluster.is_joined(member) || cluster.is_synced(member) {
+            return Ok(());
+        }
+        self.attempt(Event::Sync(member))
+    }
+
+    /// A member that has to rejoins, after it has committed what it gives up.
+    fn rejoin_if_due(&mut self, member: u32) -> Result<(), Refusal>
+        requires { is_present self.old.cluster.group member ≡ true }
+        ensures { Follows self.old (rejoin_if_due member self.old) result self.new }
+    {
+        let Some(given) = self.given_up_by(member) else {
+            return Ok(());
+        };
+        self.flush_all(member, &given)?;
+        self.attempt(Event::Rejoin(member))
+    }
+
+    /// What a present member gives up when it rejoins, if it has to.
+    fn given_up_by(&self, member: u32) -> Option<Plane>
+        requires { is_present self.now.cluster.group member ≡ true }
+        ensures { MatchOption result (has_to_rejoin self.now.cluster.group member ≡ false)
+            (λ given. (has_to_rejoin self.now.cluster.group member ≡ true)
+            × (given ≡ minus (granted_of self.now.cluster.group member)
+            (assigned_of self.now.cluster.group member))) }
+    {
+        let cluster = self.cluster();
+        if cluster.is_joined(member) {
+            return None;
+        }
+        let granted = cluster.granted(member)?;
+        let assigned = cluster.assigned(member)?;
+        if cluster.phase() == Phase::Stable && granted.same(assigned) {
+            return None;
+        }
+        Some(granted.minus(assigned))
+    }
+
+    /// Commits what is pending of some partitions, one after the other.
+    fn flush_all(&mut self, member: u32, given: &Plane) -> Result<(), Refusal>
+        ensures { Follows self.old (for_each (elements given.now) (flush member) self.old) result
+            self.new }
+    {
+        for p in given.iter() {
+            self.flush(member, p)?;
+        }
+        Ok(())
+    }
+
+    /// Commits what is pending of a partition; where the offset was another one, what is left then
+    /// is committed once more.
+    fn flush(&mut self, member: u32, p: u32) -> Result<(), Refusal>
+        ensures { Follows self.old (flush member p self.old) result self.new }
+    {
+        self.commit_or_realign(member, p)?;
+        self.commit_pending(member, p)
+    }
+
+    /// Commits what is pending of a partition, where an offset that was another one is no fault:
+    /// the consumer is realigned by it.
+    pub(super) fn commit_or_realign(&mut self, member: u32, p: u32) -> Result<(), Refusal>
+        ensures { Follows self.old (forgiven (commit_pending member p self.old)) result self.new }
+    {
+        match self.commit_pending(member, p) {
+            Err(Refusal::OffsetMismatch { .. }) => Ok(()),
+            answer => answer,
+        }
+    }
+
+    /// Sends what is pending of a partition, and delivers the commit.
+    fn commit_pending(&mut self, member: u32, p: u32) -> Result<(), Refusal>
+        ensures { Follows self.old (commit_pending member p self.old) result self.new }
+    {
+        if !self.is_pending(member, p) {
+            return Ok(());
+        }
+        self.attempt(Event::Send {
+            member,
+            partition: p,
+        })?;
+        self.attempt(Event::Deliver(self.mail().len() as u32))
+    }
+
+    /// Whether the consumer of a member holds a partition of which something is pending.
+    fn is_pending(&self, member: u32, p: u32) -> bool
+        ensures { result ≡ is_pending self.now member p }
+    {
+        self.consumer(member)
+            .is_some_and(|consumer| consumer.sendable(p).is_ok())
+    }
+
+    /// One event, refused or not.
+    pub(super) fn attempt(&mut self, event: Event<'_>) -> Result<(), Refusal>
+        ensures { Follows self.old (happens event.entry self.old) result self.new }
+    {
+        match self.step(event) {
+            Reply::Refused(why) => Err(why),
+            _ => Ok(()),
+        }
+    }
+}
