@@ -1,28 +1,78 @@
-//! `keycount`: counts the keys of a file of comma-separated records.
+//! `keycount`: counts the keys of a file of comma-separated records, or replays a script over them.
 #![tactic(auto)]
 
 ghost use Rattle.report_cli.specs.Reports.{AreInRange};
 
 use lane_words::Refusal;
 use report_cli::{
-    FromRead, FromWrite, Job, Options, Usage, count_text, fault_line, read_words, status,
+    FromRead, FromWrite, Job, Options, Usage, count_text, fault_line, read_words, replay_text,
+    status,
 };
 use std::alloc::AllocError;
 use std::env;
 use std::fs::File;
-use std::io::ErrorKind;
+use std::io::{ErrorKind, Read};
 use std::process::ExitCode;
+use std::random::RandomSource;
+use std::thread::Threads;
+
+/// Opens the file at this path.
+fn opened(rt: &HostRuntime, path: &str) -> Result<File, Refusal> {
+    let Ok(file) = File::open(rt, path) else {
+        return Err(Refusal::ReadFailed);
+    };
+    Ok(file)
+}
 
 /// Counts the keys of the file at this path, and prints the rows.
 fn count_file(rt: &HostRuntime, path: &str, options: Options) -> Result<(), Refusal>
     requires { AreInRange options }
 {
-    let Ok(file) = File::open(rt, path) else {
-        return Err(Refusal::ReadFailed);
-    };
-    let mut source = FromRead::new(file);
+    let mut source = FromRead::new(opened(rt, path)?);
     let mut sink = FromWrite::new(rt.stdout());
     count_text(rt, rt.alloc(), &mut source, options, &mut sink)
+}
+
+/// Replays a script over the keys of a file, and prints the rows.
+fn replay<R: Threads + Sync + RandomSource, F: Read + Drop, S: Read + Drop>(
+    rt: &HostRuntime,
+    threads: &R,
+    file: F,
+    script: S,
+    options: Options,
+) -> Result<(), Refusal>
+    requires { AreInRange options }
+{
+    let mut file = FromRead::new(file);
+    let mut script = FromRead::new(script);
+    let mut sink = FromWrite::new(rt.stdout());
+    replay_text(
+        threads,
+        rt.alloc(),
+        &mut file,
+        &mut script,
+        options,
+        &mut sink,
+    )
+}
+
+/// Replays the script at one path over the keys of the file at another. Both are opened before
+/// either is read. The path `-` is standard input; where both are, the file takes all of it.
+fn replay_files<R: Threads + Sync + RandomSource>(
+    rt: &HostRuntime,
+    threads: &R,
+    file: &str,
+    script: &str,
+    options: Options,
+) -> Result<(), Refusal>
+    requires { AreInRange options }
+{
+    match (file, script) {
+        ("-", "-") => replay(rt, threads, rt.stdin(), rt.stdin(), options),
+        ("-", _) => replay(rt, threads, rt.stdin(), opened(rt, script)?, options),
+        (_, "-") => replay(rt, threads, opened(rt, file)?, rt.stdin(), options),
+        _ => replay(rt, threads, opened(rt, file)?, opened(rt, script)?, options),
+    }
 }
 
 /// Tells a fault on standard error, and gives its exit status.
@@ -32,13 +82,29 @@ fn told(rt: &HostRuntime, fault: &Refusal) -> ExitCode {
     ExitCode::from(status(fault))
 }
 
-/// Does what the words say.
-fn run(rt: &HostRuntime, words: &[&str]) -> ExitCode {
+/// The status of a job that was done or refused.
+fn ended(rt: &HostRuntime, answer: Result<(), Refusal>) -> ExitCode {
+    match answer {
+        Ok(()) => ExitCode::SUCCESS,
+        Err(fault) => told(rt, &fault),
+    }
+}
+
+/// Does what the words say. The threads are the runtime's, which only `main` can lend.
+fn run<R: Threads + Sync + RandomSource>(
+    rt: &HostRuntime,
+    threads: &R,
+    words: &[&str],
+) -> ExitCode {
     match read_words(rt.alloc(), words) {
-        Ok(Job::Count { file, options }) => match count_file(rt, file, options) {
-            Ok(()) => ExitCode::SUCCESS,
-            Err(fault) => told(rt, &fault),
-        },
+        Ok(Job::Count { file, options }) => ended(rt, count_file(rt, file, options)),
+        Ok(
+            Job::Replay {
+                file,
+                script,
+                options,
+            },
+        ) => ended(rt, replay_files(rt, threads, file, script, options)),
         Err(Usage::Help(text)) => {
             let _ = print!(rt; "{text}");
             ExitCode::SUCCESS
@@ -73,7 +139,7 @@ fn main(rt: HostRuntime) -> ExitCode {
         return told(&rt, &Refusal::Memory);
     };
     match texts_of(&rt, owned.as_slice()) {
-        Ok(words) => run(&rt, words.as_slice()),
+        Ok(words) => run(&rt, &rt, words.as_slice()),
         Err(_) => told(&rt, &Refusal::Memory),
     }
 }

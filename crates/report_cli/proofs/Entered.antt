@@ -1,6 +1,6 @@
 -- The subcommand that clap entered, and what clap has tested of it.
 use Rattle.std.proofs.Common.{◌≡◌, ◌∙◌, ◌≤◌, ◌++◌, ◌&&◌, ◌||◌, not, cond, refl, ap, ap₂, sym, subst, arith, zero, suc, ℕ, List, [], ◌∷◌, length, drop, Option, Some, None, is_some, IsSome, Bool, true, false, true≢false, codes, inl, inr}
-use Rattle.std.specs.Prelude.{⊤, unwrap_or, option_and_then, option_map, encode_utf8, slice_get, find, fold, Box, pos}
+use Rattle.std.specs.Prelude.{⊤, ◌⊎◌, unwrap_or, option_and_then, option_map, encode_utf8, slice_get, find, fold, Box, pos}
 use Rattle.std.specs.Box.{box_value}
 use Rattle.std.specs.Option.{option_map_or}
 use Rattle.std.specs.Str.{bytes_eq, chars}
@@ -32,10 +32,8 @@ use Rattle.clap.specs.declared.error.kind.ErrorKind.TheVariants as kind
 use Rattle.clap.specs.declared.parser.matches.SubCommand.{SubCommand}
 use Rattle.clap.specs.declared.parser.matches.ArgMatches.TheViews.{out-SubCommand}
 use Rattle.clap.specs.declared.parser.matches.ValueSource.TheVariants.{CommandLine, DefaultValue}
-use Rattle.report_cli.specs.CommandLine.{HasCount, IsFlag, IsNumber, IsRefusal, keycount_app, keycount_top, name_of, path}
-use Rattle.report_cli.specs.Private.CommandLine.{ReadsNumber, TakesCount, Tells}
-use Rattle.report_cli.specs.declared.command_line.Job.{Job}
-use Rattle.report_cli.specs.declared.command_line.Job.TheVariants.{Count}
+use Rattle.report_cli.specs.CommandLine.{IsFlag, IsNumber, IsRefusal, keycount_app, keycount_top, path}
+use Rattle.report_cli.specs.Private.CommandLine.{IsCommand, ReadsNumber, TakesCount, TakesOptions, TakesReplay, Tells}
 use Rattle.report_cli.specs.declared.command_line.Usage.{Usage}
 use Rattle.report_cli.specs.declared.command_line.Usage.TheVariants.{Help, Bad, Memory}
 
@@ -55,12 +53,11 @@ pub described : (c0 c1 c2 : Command) (x y : _) → out-Command c1 ≡ record (ou
 described c0 c1 c2 x y h k = k ∙ ap (λ (f : Command-F Command). record f { after_help = y }) h
 
 -- a command with one more argument, which is not global
-pub added : (old new : Command) (a : Arg) (app : App) (rule : Rule) → AddsArg old a new → (app_of old ≡ app) × ((out-Command old).has_globals ≡ false) → rule_of a ≡ rule → a.global ≡ false
-    → (app_of new ≡ with_rule app rule) × ((out-Command new).has_globals ≡ false)
-added old new a app rule adds is rule_is local = (
-  adds.shape local ∙ ap₂ with_rule is.0 rule_is,
-  adds.globals ∙ ap₂ (λ x y. x || y) is.1 local,
-)
+pub added : (old new : Command) (a : Arg) (app : App) (rule : Rule) → AddsArg old a new → IsCommand app old → rule_of a ≡ rule → a.global ≡ false → IsCommand (with_rule app rule) new
+added old new a app rule adds is rule_is local = record {
+  read_as = adds.shape local ∙ ap₂ with_rule is.read_as rule_is;
+  local = adds.globals ∙ ap₂ (λ x y. x || y) is.local local;
+}
 
 -- the settings of the top command
 pub top_settings : (c0 c1 c2 : Command) → app_of c0 ≡ new_app (codes "keycount")
@@ -409,59 +406,94 @@ module _ (s : Shape) (names : Names) (helps : not s.disable_help_subcommand ≡ 
       let parts = none_of _ _ e in
       walk_stop rest (walked s.rules names w word) parts.1 (turn_stop w.stopped w word parts.0 refl r)
 
--- ---- what clap has tested of `count`
+-- ---- what clap has tested of the subcommands
 
--- the shape of the subcommand, as clap builds it
+abbrev keycount_built : App
+keycount_built = built keycount_app
+
+-- the shape of a subcommand, as clap builds it
+abbrev shape_at : ℕ → Shape
+shape_at k = unwrap_or (slice_get keycount_built.subs k) keycount_top.top
+
 abbrev count_shape : Shape
-count_shape = unwrap_or (slice_get (built keycount_app).subs 0) keycount_top.top
+count_shape = shape_at 0
+
+abbrev replay_shape : Shape
+replay_shape = shape_at 1
+
+abbrev help_shape : Shape
+help_shape = shape_at 2
 
 abbrev Named : Text → ℕ → Row → Type 0
 Named name most r = bytes_eq r.id name ≡ true → ReadsNumber (slice_get r.values 0) most
 
 -- the row has a value, which is a number in the range where it is a number's row
 abbrev RowPasses : Row → Type 0
-RowPasses r = IsSome (slice_get r.values 0) × Named (codes "partitions") 4096 r × Named (codes "column") 65535 r
+RowPasses r = IsSome (slice_get r.values 0) × Named (codes "partitions") 4096 r × Named (codes "column") 65535 r × Named (codes "batch") 1000000 r
 
-abbrev rule_at : ℕ → Rule
-rule_at k = unwrap_or (slice_get count_shape.rules k) (path (codes "file"))
+abbrev count_rule : ℕ → Rule
+count_rule k = unwrap_or (slice_get count_shape.rules k) (path (codes "file"))
+
+abbrev replay_rule : ℕ → Rule
+replay_rule k = unwrap_or (slice_get replay_shape.rules k) (path (codes "file"))
 
 other : {A : Type 0} → false ≡ true → A
 other e = absurd (true≢false (sym e))
 
-file_keeps : Keeps RowPasses count_shape (rule_at 0)
-file_keeps [] rows e r = absurd (some_kind _ _ e)
-file_keeps (v ∷ vs) rows e r = set_use RowPasses (rule_at 0) v vs rows (none_of _ _ e).1 (λ ok. (refl, (λ f. other f), (λ f. other f))) r
+-- a use of a rule keeps what each row has
+abbrev KeepsRows : Rule → Type 0
+KeepsRows = Keeps RowPasses count_shape
 
-partitions_keeps : Keeps RowPasses count_shape (rule_at 1)
+file_keeps : KeepsRows (count_rule 0)
+file_keeps [] rows e r = absurd (some_kind _ _ e)
+file_keeps (v ∷ vs) rows e r = set_use RowPasses (count_rule 0) v vs rows (none_of _ _ e).1 (λ ok. (refl, (λ f. other f), (λ f. other f), (λ f. other f))) r
+
+script_keeps : KeepsRows (replay_rule 1)
+script_keeps [] rows e r = absurd (some_kind _ _ e)
+script_keeps (v ∷ vs) rows e r = set_use RowPasses (replay_rule 1) v vs rows (none_of _ _ e).1 (λ ok. (refl, (λ f. other f), (λ f. other f), (λ f. other f))) r
+
+partitions_keeps : KeepsRows (count_rule 1)
 partitions_keeps [] rows e r = absurd (some_kind _ _ e)
 partitions_keeps (v ∷ vs) rows e r =
-    set_use RowPasses (rule_at 1) v vs rows (none_of _ _ e).1 (λ ok. (refl, (λ _. accepts-Accepts false (parser.Signed (pos 1) (pos 4096)) v ok), (λ f. other f))) r
+    set_use RowPasses (count_rule 1) v vs rows (none_of _ _ e).1 (λ ok. (refl, (λ _. accepts-Accepts false (parser.Signed (pos 1) (pos 4096)) v ok), (λ f. other f), (λ f. other f))) r
 
-column_keeps : Keeps RowPasses count_shape (rule_at 2)
+column_keeps : KeepsRows (count_rule 2)
 column_keeps [] rows e r = absurd (some_kind _ _ e)
 column_keeps (v ∷ vs) rows e r =
-    set_use RowPasses (rule_at 2) v vs rows (none_of _ _ e).1 (λ ok. (refl, (λ f. other f), (λ _. accepts-Accepts false (parser.Signed (pos 1) (pos 65535)) v ok))) r
+    set_use RowPasses (count_rule 2) v vs rows (none_of _ _ e).1 (λ ok. (refl, (λ f. other f), (λ _. accepts-Accepts false (parser.Signed (pos 1) (pos 65535)) v ok), (λ f. other f))) r
 
-header_keeps : Keeps RowPasses count_shape (rule_at 3)
-header_keeps [] rows e r = set_use RowPasses (rule_at 3) (codes "true") [] rows e (λ ok. (refl, (λ f. other f), (λ f. other f))) r
-header_keeps (v ∷ vs) rows e r = set_use RowPasses (rule_at 3) v vs rows (none_of _ _ e).1 (λ ok. (refl, (λ f. other f), (λ f. other f))) r
+header_keeps : KeepsRows (count_rule 3)
+header_keeps [] rows e r = set_use RowPasses (count_rule 3) (codes "true") [] rows e (λ ok. (refl, (λ f. other f), (λ f. other f), (λ f. other f))) r
+header_keeps (v ∷ vs) rows e r = set_use RowPasses (count_rule 3) v vs rows (none_of _ _ e).1 (λ ok. (refl, (λ f. other f), (λ f. other f), (λ f. other f))) r
 
-help_keeps : Keeps RowPasses count_shape (rule_at 4)
+batch_keeps : KeepsRows (replay_rule 5)
+batch_keeps [] rows e r = absurd (some_kind _ _ e)
+batch_keeps (v ∷ vs) rows e r =
+    set_use RowPasses (replay_rule 5) v vs rows (none_of _ _ e).1 (λ ok. (refl, (λ f. other f), (λ f. other f), (λ _. accepts-Accepts false (parser.Signed (pos 1) (pos 1000000)) v ok))) r
+
+help_keeps : KeepsRows (count_rule 4)
 help_keeps values rows e r = absurd (some_kind _ _ (none_of _ _ e).1)
+
+-- a default adds nothing to rows that pass but rows that pass
+abbrev DefaultKeepsRows : Rule → Type 0
+DefaultKeepsRows = KeepsDefault RowPasses count_shape
 
 no_default : (b : Bool) (rows : List Row) → Each RowPasses rows → Each RowPasses (cond b rows rows)
 no_default true rows r = r
 no_default false rows r = r
 
-header_default : KeepsDefault RowPasses count_shape (rule_at 3)
+header_default : DefaultKeepsRows (count_rule 3)
 header_default rows r = go (has_row (codes "header") rows) refl
   where
-    go : (b : Bool) → has_row (codes "header") rows ≡ b → Each RowPasses (cond b rows (default_rows (codes "header") (reading_by (rule_at 3)) (codes "false" ∷ []) rows))
+    go : (b : Bool) → has_row (codes "header") rows ≡ b → Each RowPasses (cond b rows (default_rows (codes "header") (reading_by (count_rule 3)) (codes "false" ∷ []) rows))
     go true e = r
-    go false e = joined RowPasses (codes "header") (more_values DefaultValue (codes "false" ∷ [])) (record { id = codes "header"; values = codes "false" ∷ []; count = None; source = Some DefaultValue; reading = reading_by (rule_at 3) } ∷ []) rows e r ((refl, (λ f. other f), (λ f. other f)), tt)
+    go false e = joined RowPasses (codes "header") (more_values DefaultValue (codes "false" ∷ [])) (record { id = codes "header"; values = codes "false" ∷ []; count = None; source = Some DefaultValue; reading = reading_by (count_rule 3) } ∷ []) rows e r ((refl, (λ f. other f), (λ f. other f), (λ f. other f)), tt)
 
 count_keeps : Each (Keeps RowPasses count_shape) count_shape.rules
 count_keeps = (file_keeps, (partitions_keeps, (column_keeps, (header_keeps, (help_keeps, tt)))))
+
+replay_keeps : Each (Keeps RowPasses replay_shape) replay_shape.rules
+replay_keeps = (file_keeps, (script_keeps, (partitions_keeps, (column_keeps, (header_keeps, (batch_keeps, (help_keeps, tt)))))))
 
 count_defaults : Each (KeepsDefault RowPasses count_shape) count_shape.rules
 count_defaults = (
@@ -471,6 +503,27 @@ count_defaults = (
     (
       (λ rows r. no_default (has_row (codes "column") rows) rows r),
       (header_default, ((λ rows r. no_default (has_row (codes "help") rows) rows r), tt)),
+    ),
+  ),
+)
+
+replay_defaults : Each (KeepsDefault RowPasses replay_shape) replay_shape.rules
+replay_defaults = (
+  (λ rows r. no_default (has_row (codes "file") rows) rows r),
+  (
+    (λ rows r. no_default (has_row (codes "script") rows) rows r),
+    (
+      (λ rows r. no_default (has_row (codes "partitions") rows) rows r),
+      (
+        (λ rows r. no_default (has_row (codes "column") rows) rows r),
+        (
+          header_default,
+          (
+            (λ rows r. no_default (has_row (codes "batch") rows) rows r),
+            ((λ rows r. no_default (has_row (codes "help") rows) rows r), tt),
+          ),
+        ),
+      ),
     ),
   ),
 )
@@ -498,7 +551,7 @@ given_some name rows e = go (find (λ r. bytes_eq r.id name) rows) e
     go None e = absurd (true≢false (sym e))
     go (Some r) e = refl
 
--- the last check of the level asks for the file
+-- the last check of the level asks for each path
 file_given : (rows : List Row) → check_fault count_shape rows false ≡ [] → is_given (codes "file") rows ≡ true
 file_given rows e = go (is_given (codes "file") rows) e
   where
@@ -506,25 +559,51 @@ file_given rows e = go (is_given (codes "file") rows) e
     go true e = refl
     go false e = absurd (some_kind _ _ e)
 
+paths_given : (rows : List Row) → check_fault replay_shape rows false ≡ [] → (is_given (codes "file") rows ≡ true) × (is_given (codes "script") rows ≡ true)
+paths_given rows e = go (is_given (codes "file") rows) (is_given (codes "script") rows) e
+  where
+    go : (b d : Bool) → check_kinds false false (not b || (not d || false)) ≡ [] → (b ≡ true) × (d ≡ true)
+    go true true e = (refl, refl)
+    go true false e = absurd (some_kind _ _ e)
+    go false d e = absurd (some_kind _ _ e)
+
+path_passes : (name : Text) (rows : List Row) → Each RowPasses rows → is_given name rows ≡ true → IsSome (first_of name rows)
+path_passes name rows all given = first_passes name rows all (given_some name rows given)
+
+options_pass : (rows : List Row) → Each RowPasses rows → TakesOptions rows
+options_pass rows all = record {
+  partitions = number_passes (codes "partitions") 4096 rows all (λ r passes. passes.1);
+  column = number_passes (codes "column") 65535 rows all (λ r passes. passes.2);
+}
+
 count_taken : (words : List Text) → level_fault count_shape [] nothing_held words false [] ≡ [] → TakesCount (rows_after count_shape.rules [] words)
 count_taken words e =
     let parts = level_parts count_shape [] words false [] e in
     let rows = rows_after count_shape.rules [] words in
     let all = level_keeps RowPasses count_shape count_keeps words false [] count_defaults e in
     record {
-      file = first_passes (codes "file") rows all (given_some (codes "file") rows (file_given rows parts.2));
-      partitions = number_passes (codes "partitions") 4096 rows all (λ r passes. passes.1);
-      column = number_passes (codes "column") 65535 rows all (λ r passes. passes.2);
+      file = path_passes (codes "file") rows all (file_given rows parts.2);
+      options = options_pass rows all;
     }
 
+replay_taken : (words : List Text) → level_fault replay_shape [] nothing_held words false [] ≡ [] → TakesReplay (rows_after replay_shape.rules [] words)
+replay_taken words e =
+    let parts = level_parts replay_shape [] words false [] e in
+    let rows = rows_after replay_shape.rules [] words in
+    let all = level_keeps RowPasses replay_shape replay_keeps words false [] replay_defaults e in
+    let given = paths_given rows parts.2 in
+    record {
+      file = path_passes (codes "file") rows all given.0;
+      script = path_passes (codes "script") rows all given.1;
+      options = options_pass rows all;
+      batch = number_passes (codes "batch") 1000000 rows all (λ r passes. passes.3);
+    }
+
+-- what clap has tested of the words after the subcommand of this name
+abbrev Takes : Text → List Row → Type 0
+Takes name rows = ((name ≡ codes "count") × TakesCount rows) ⊎ ((name ≡ codes "replay") × TakesReplay rows)
+
 -- ---- the program
-
-abbrev keycount_built : App
-keycount_built = built keycount_app
-
--- `help`, as clap builds it
-abbrev help_shape : Shape
-help_shape = unwrap_or (slice_get keycount_built.subs 1) keycount_top.top
 
 abbrev StopsElsewhere : Option (Text × List Text) → Type 0
 StopsElsewhere = NotHelp keycount_built.top (names_of keycount_built) refl
@@ -538,31 +617,35 @@ not_named_help t e = go (bytes_eq (codes "help") t) refl
         let is : codes "help" ≡ t = (bytes_eq-Decides (codes "help") t).0 same in
         absurd (true≢false (ap (λ u. bytes_eq u (codes "help")) is ∙ e))
 
--- where clap does not refuse what is below it, a walk that stopped at a subcommand other than `help` stopped at `count`
-count_entered : (stop : Option (Text × List Text)) → StopsElsewhere stop → is_some (entered keycount_built stop) ≡ true → entered_fault keycount_built stop ≡ []
-    → (rows : List Row) × (entered keycount_built stop ≡ Some (codes "count", rows)) × TakesCount rows
-count_entered None help some e = absurd (true≢false (sym some))
-count_entered (Some p) help some e = go (answers_to p.0 (label_of count_shape)) (answers_to p.0 (label_of help_shape)) (not_named_help p.0 help) some e
+-- where clap does not refuse what is below it, a walk that stopped at a subcommand other than `help` stopped at `count` or at `replay`
+job_entered : (stop : Option (Text × List Text)) → StopsElsewhere stop → is_some (entered keycount_built stop) ≡ true → entered_fault keycount_built stop ≡ []
+    → (name : Text) × (rows : List Row) × (entered keycount_built stop ≡ Some (name, rows)) × Takes name rows
+job_entered None help some e = absurd (true≢false (sym some))
+job_entered (Some p) help some e = go (answers_to p.0 (label_of count_shape)) (answers_to p.0 (label_of replay_shape)) (answers_to p.0 (label_of help_shape)) (not_named_help p.0 help) some e
   where
-    go : (b h : Bool) → h ≡ false → is_some (option_map (λ s. rows_at s p.1) (cond b (Some count_shape) (cond h (Some help_shape) None))) ≡ true
-        → option_map_or (λ s. level_fault s [] nothing_held p.1 false []) (cond b (Some count_shape) (cond h (Some help_shape) None)) [] ≡ []
-        → (rows : List Row) × (option_map (λ s. rows_at s p.1) (cond b (Some count_shape) (cond h (Some help_shape) None)) ≡ Some (codes "count", rows)) × TakesCount rows
-    go true h other_no given e = (rows_after count_shape.rules [] p.1, refl, count_taken p.1 e)
-    go false true other_no given e = absurd (true≢false other_no)
-    go false false other_no given e = absurd (true≢false (sym given))
+    found : (b d h : Bool) → Option Shape
+    found b d h = cond b (Some count_shape) (cond d (Some replay_shape) (cond h (Some help_shape) None))
+
+    go : (b d h : Bool) → h ≡ false → is_some (option_map (λ s. rows_at s p.1) (found b d h)) ≡ true
+        → option_map_or (λ s. level_fault s [] nothing_held p.1 false []) (found b d h) [] ≡ []
+        → (name : Text) × (rows : List Row) × (option_map (λ s. rows_at s p.1) (found b d h) ≡ Some (name, rows)) × Takes name rows
+    go true d h other_no given e = (codes "count", rows_after count_shape.rules [] p.1, refl, inl (refl, count_taken p.1 e))
+    go false true h other_no given e = (codes "replay", rows_after replay_shape.rules [] p.1, refl, inr (refl, replay_taken p.1 e))
+    go false false true other_no given e = absurd (true≢false other_no)
+    go false false false other_no given e = absurd (true≢false (sym given))
 
 -- the last check of the program asks for a subcommand
 subcommand_given : (rows : List Row) (has : Bool) → check_fault keycount_built.top rows has ≡ [] → has ≡ true
 subcommand_given rows true e = refl
 subcommand_given rows false e = absurd (some_kind _ _ e)
 
--- words that clap takes name `count`, with what its arguments want
-pub taken_count : (words : List Text) → fault_of keycount_app words ≡ [] → (rows : List Row) × (subcommand_of keycount_app words ≡ Some (codes "count", rows)) × TakesCount rows
-taken_count words e =
+-- words that clap takes name a job, with what its arguments want
+pub taken_job : (words : List Text) → fault_of keycount_app words ≡ [] → (name : Text) × (rows : List Row) × (subcommand_of keycount_app words ≡ Some (name, rows)) × Takes name rows
+taken_job words e =
     let stop = (walk keycount_built.top.rules (names_of keycount_built) nothing_held words).stopped in
     let parts = level_parts keycount_built.top (names_of keycount_built) words (is_some (entered keycount_built stop)) (entered_fault keycount_built stop) e in
     let elsewhere = walk_stop keycount_built.top (names_of keycount_built) refl words (walk_from nothing_held) parts.0 tt in
-    count_entered stop elsewhere (subcommand_given (matches_of keycount_app words) _ parts.2) parts.1
+    job_entered stop elsewhere (subcommand_given (matches_of keycount_app words) _ parts.2) parts.1
 
 -- the answer to an error of clap's
 pub told : (usage : Usage) (e : Error) (old kinds : Kinds) → old ≡ kinds → Tells usage (kind_of e) → HasKind old e → IsRefusal kinds usage
@@ -572,42 +655,57 @@ told (Bad text) e old kinds same tells (inl memory) = absurd (tells.1 memory)
 told (Bad text) e old kinds same tells (inr among) = (kind_of e, subst (λ ks. IsAmong (kind_of e) ks) same among, tells.0)
 told Memory e old kinds same tells has = tt
 
--- the matches of words that clap takes: the subcommand `count`, with what its arguments want
-pub record MatchesCount (words : List Text) (m : ArgMatches) : Type 0 where
+-- the matches of words that clap takes: the subcommand of a job, with what its arguments want
+pub record MatchesJob (words : List Text) (m : ArgMatches) : Type 0 where
   pub taken : fault_of keycount_app words ≡ []
+  pub name : Text
   pub rows : List Row
-  pub subcommand : subcommand_of keycount_app words ≡ Some (codes "count", rows)
-  pub entered : subcommand_rows_of m ≡ Some (codes "count", rows)
-  pub tested : TakesCount rows
+  pub subcommand : subcommand_of keycount_app words ≡ Some (name, rows)
+  pub entered : subcommand_rows_of m ≡ Some (name, rows)
+  pub tested : Takes name rows
 
 pub matches_are : (command : Command) (words : List Text) (m : ArgMatches) → app_of command ≡ keycount_app → HasMatchesOf (app_of command) words m
-    → (is_simple_and_free (app_of command) ≡ true → fault_of (app_of command) words ≡ []) → MatchesCount words m
+    → (is_simple_and_free (app_of command) ≡ true → fault_of (app_of command) words ≡ []) → MatchesJob words m
 matches_are command words m app found faults =
     let taken : fault_of keycount_app words ≡ [] = ap (λ a. fault_of a words) (sym app) ∙ faults (ap is_simple_and_free app ∙ keycount_free) in
-    let count = taken_count words taken in
+    let job = taken_job words taken in
     record {
       taken = taken;
-      rows = count.0;
-      subcommand = count.1;
-      entered = (found (ap is_simple app ∙ keycount_simple)).1 ∙ ap (λ a. subcommand_of a words) app ∙ count.1;
-      tested = count.2;
+      name = job.0;
+      rows = job.1;
+      subcommand = job.2;
+      entered = (found (ap is_simple app ∙ keycount_simple)).1 ∙ ap (λ a. subcommand_of a words) app ∙ job.2;
+      tested = job.3;
     }
 
 -- the name and the rows that two getters tell are those of the matches
-pub told_rows : {Z : Type 0} (o : Option (Box SubCommand Z)) (name : Text) (rows told_by : List Row) → subcommand_rows o ≡ Some (codes "count", rows)
+pub told_rows : {Z : Type 0} (o : Option (Box SubCommand Z)) (wanted name : Text) (rows told_by : List Row) → subcommand_rows o ≡ Some (wanted, rows)
     → Some name ≡ option_map (λ b. (out-SubCommand (box_value b)).name.now) o → Some told_by ≡ option_map (λ p. p.1) (subcommand_rows o)
-    → (name ≡ codes "count") × (rows ≡ told_by)
-told_rows None name rows told_by e h k = let no : ⊥ = cc in absurd no
-told_rows (Some b) name rows told_by e h k =
-    let pair : ◌≡◌ {A = Text × List Row} ((out-SubCommand (box_value b)).name.now, rows_of (found_of (out-SubCommand (box_value b)).matches)) (codes "count", rows) = cc in
+    → (wanted ≡ name) × (rows ≡ told_by)
+told_rows None wanted name rows told_by e h k = let no : ⊥ = cc in absurd no
+told_rows (Some b) wanted name rows told_by e h k =
+    let pair : ◌≡◌ {A = Text × List Row} ((out-SubCommand (box_value b)).name.now, rows_of (found_of (out-SubCommand (box_value b)).matches)) (wanted, rows) = cc in
     let named = ap (λ (p : Text × List Row). p.0) pair in
     let held = ap (λ (p : Text × List Row). p.1) pair in
     (cc, cc)
 
-pub none_told : {Z : Type 0} (o : Option (Box SubCommand Z)) (rows : List Row) → subcommand_rows o ≡ Some (codes "count", rows) → None ≡ option_map (λ p. p.1) (subcommand_rows o) → ⊥
-none_told None rows e h = cc
-none_told (Some b) rows e h = cc
+pub none_told : {Z : Type 0} (o : Option (Box SubCommand Z)) (wanted : Text) (rows : List Row) → subcommand_rows o ≡ Some (wanted, rows) → None ≡ option_map (λ p. p.1) (subcommand_rows o) → ⊥
+none_told None wanted rows e h = cc
+none_told (Some b) wanted rows e h = cc
 
--- a job with what `count` finds is one of `count`
-pub job_name : (rows : List Row) (job : Job) → HasCount rows job → name_of job ≡ codes "count"
-job_name rows (Count file options) h = refl
+-- ---- which job was named
+
+apart : codes "count" ≡ codes "replay" → ⊥
+apart e = true≢false (ap (λ t. bytes_eq t (codes "count")) e)
+
+pub takes_count : (name : Text) (rows : List Row) → Takes name rows → name ≡ codes "count" → TakesCount rows
+takes_count name rows (inl takes) is = takes.1
+takes_count name rows (inr takes) is = absurd (apart (sym is ∙ takes.0))
+
+pub takes_replay : (name : Text) (rows : List Row) → Takes name rows → name ≡ codes "replay" → TakesReplay rows
+takes_replay name rows (inl takes) is = absurd (apart (sym takes.0 ∙ is))
+takes_replay name rows (inr takes) is = takes.1
+
+pub takes_neither : (name : Text) (rows : List Row) → Takes name rows → (name ≡ codes "count" → ⊥) → (name ≡ codes "replay" → ⊥) → ⊥
+takes_neither name rows (inl takes) no_count no_replay = no_count takes.0
+takes_neither name rows (inr takes) no_count no_replay = no_replay takes.0

@@ -4,5 +4,11 @@ pub mod Entered
 pub mod Faulted
 pub mod Keys
 pub mod Known
+pub mod Lines
+pub mod Loaded
+pub mod Named
+pub mod Opening
 pub mod Progress
+pub mod Replayed
 pub mod Steps
+pub mod Told

@@ -1,5 +1,5 @@
 -- The command line of keycount, as clap describes one.
-use Rattle.std.specs.Prelude.{◌≡◌, ◌≤◌, ℕ, List, [], Option, Some, None, Ok, true, false, codes, Bool, ⊤, ◌≢◌, pos}
+use Rattle.std.specs.Prelude.{◌≡◌, ℕ, List, [], Option, Some, None, Ok, true, false, codes, Bool, ⊤, ◌≢◌, pos}
 use Rattle.std.specs.Str.Parse.{ParsesUnsigned}
 use Rattle.clap.specs.Simple.{App, new_app, new_rule, with_rule, with_subcommand, subcommand_of}
 use Rattle.clap.specs.Walk.{Row, Rule, Text, first_of, one_of}
@@ -12,10 +12,11 @@ use Rattle.clap.specs.declared.builder.value_parser.ValueParser.TheVariants as p
 use Rattle.clap.specs.declared.error.kind.ErrorKind.TheVariants as kind
 use Rattle.report_cli.specs.declared.command_line.Options.{Options}
 use Rattle.report_cli.specs.declared.command_line.Job.{Job}
-use Rattle.report_cli.specs.declared.command_line.Job.TheVariants.{Count}
+use Rattle.report_cli.specs.declared.command_line.Job.TheVariants.{Count, Replay}
 use Rattle.report_cli.specs.declared.command_line.Usage.{Usage}
 use Rattle.report_cli.specs.declared.command_line.Usage.TheVariants.{Help, Bad, Memory}
-use Rattle.report_cli.specs.declared.command_line.TheConstants.{LAST_COLUMN, DEFAULT_BATCH}
+use Rattle.report_cli.specs.declared.command_line.TheConstants.{LAST_COLUMN, DEFAULT_BATCH, MOST_BATCH}
+use Rattle.report_cli.specs.Reports.{AreInRange}
 
 -- an option that takes a number from 1 to this
 abbrev pub number_option : Text → ℕ → Rule
@@ -34,13 +35,23 @@ flag name = record (new_rule name) { long = Some name; action = Some action.SetT
 abbrev pub path : Text → Rule
 path name = record (new_rule name) { value_names = 1; required = true; action = Some action.Set }
 
--- the subcommand `count`
-abbrev pub count_app : App
-count_app =
-    let file = with_rule (new_app (codes "count")) (path (codes "file")) in
-    let partitions = with_rule file (number_option (codes "partitions") MOST_PARTITIONS) in
+-- a command with the options of both subcommands
+abbrev pub with_options : App → App
+with_options app =
+    let partitions = with_rule app (number_option (codes "partitions") MOST_PARTITIONS) in
     let column = with_rule partitions (number_option (codes "column") LAST_COLUMN) in
     with_rule column (flag (codes "header"))
+
+-- the subcommand `count`
+abbrev pub count_app : App
+count_app = with_options (with_rule (new_app (codes "count")) (path (codes "file")))
+
+-- the subcommand `replay`
+abbrev pub replay_app : App
+replay_app =
+    let file = with_rule (new_app (codes "replay")) (path (codes "file")) in
+    let script = with_rule file (path (codes "script")) in
+    with_rule (with_options script) (number_option (codes "batch") MOST_BATCH)
 
 -- the program without its subcommands, of which it wants one
 abbrev pub keycount_top : App
@@ -50,7 +61,7 @@ keycount_top =
 
 -- the program
 abbrev pub keycount_app : App
-keycount_app = with_subcommand keycount_top count_app.top
+keycount_app = with_subcommand (with_subcommand keycount_top count_app.top) replay_app.top
 
 -- n is the number that a text reads as, or the default where there is none
 abbrev pub IsNumber : Option Text → ℕ → ℕ → Type 0
@@ -63,31 +74,34 @@ IsFlag None given = given ≡ false
 IsFlag (Some text) given =
     (text ≡ codes "true" → given ≡ true) × (text ≡ codes "false" → given ≡ false)
 
--- the options are those that clap found, each number is in its range, and the batch is the default
+-- the options of both subcommands are those that clap found, and each number is in its range
 pub record HasOptions (rows : List Row) (options : Options) : Type 0 where
   pub partitions : IsNumber (first_of (codes "partitions") rows) 4 options.partitions
-  pub partitions_range : (1 ≤ options.partitions) × (options.partitions ≤ MOST_PARTITIONS)
   pub column : IsNumber (first_of (codes "column") rows) 1 options.column
-  pub column_range : (1 ≤ options.column) × (options.column ≤ LAST_COLUMN)
   pub header : IsFlag (one_of (codes "header") rows) options.header
-  pub batch : options.batch ≡ DEFAULT_BATCH
+  pub in_range : AreInRange options
 
--- the job is to count, with the file and the options that clap found
-abbrev pub HasCount : List Row → Job → Type 0
-HasCount rows (Count file options) =
-    (first_of (codes "file") rows ≡ Some file.now) × HasOptions rows options
+-- the job has the files and the options that clap found; the batch of a count is the default
+abbrev pub HasJob : List Row → Job → Type 0
+HasJob rows (Count file options) = (first_of (codes "file") rows ≡ Some file.now)
+    × HasOptions rows options × (options.batch ≡ DEFAULT_BATCH)
+HasJob rows (Replay file script options) = (first_of (codes "file") rows ≡ Some file.now)
+    × (first_of (codes "script") rows ≡ Some script.now)
+    × HasOptions rows options
+    × IsNumber (first_of (codes "batch") rows) DEFAULT_BATCH options.batch
 
 -- the name of the subcommand of a job
 abbrev pub name_of : Job → Text
 name_of (Count file options) = codes "count"
+name_of (Replay file script options) = codes "replay"
 
--- the job is what the words say: clap takes them, and finds the subcommand with its file and
+-- the job is what the words say: clap takes them, and finds the subcommand with its files and
 -- options
 pub record IsJobOf (words : List Text) (job : Job) : Type 0 where
   pub rows : List Row
   pub taken : fault_of keycount_app words ≡ []
   pub subcommand : subcommand_of keycount_app words ≡ Some (name_of job, rows)
-  pub found : HasCount rows job
+  pub found : HasJob rows job
 
 -- clap refuses the words by one of these kinds, and help is told as help, another fault as bad
 -- words

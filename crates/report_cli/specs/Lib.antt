@@ -5,5 +5,7 @@ pub mod Devices
 pub mod Faults
 pub mod KeyFile
 pub mod Private
+pub mod ReplayReport
+pub mod ReplayRows
 pub mod Reports
 pub mod Rows

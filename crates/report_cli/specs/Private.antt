@@ -3,6 +3,7 @@ pub mod Devices
 pub mod KeyFile
 pub mod KeyList
 pub mod Records
+pub mod Replay
 pub mod Reports
 pub mod Rows
 pub mod Tally

@@ -1,11 +1,11 @@
-//! The command line of keycount: a subcommand, its options and its file.
+//! The command line of keycount: a subcommand, its options and its files.
 
-ghost use Rattle.std.specs.Prelude.{◌≡◌, ◌-◌, ◌^◌, false, IfOk, IfErr, map, codes};
+ghost use Rattle.std.specs.Prelude.{◌≡◌, ◌≤◌, ◌-◌, ◌^◌, false, IfOk, IfErr, IsSome, Some, map, codes};
 ghost use Rattle.clap.specs.Words.{app_of, fault_of, first_of, found_of, kind_of, rows_of, rule_of};
-ghost use Rattle.clap.specs.declared.builder.command.Command.TheViews.{out-Command};
-ghost use Rattle.report_cli.specs.CommandLine.{HasCount, IsJobOf, IsNumber, IsRefusal};
-ghost use Rattle.report_cli.specs.Private.CommandLine.{ReadsNumber, TakesCount, Tells};
-ghost use Rattle.report_cli.specs.CommandLine.{count_app, flag, keycount_app, number_option, path};
+ghost use Rattle.clap.specs.Simple.{App};
+ghost use Rattle.report_cli.specs.CommandLine.{HasJob, HasOptions, IsJobOf, IsNumber, IsRefusal, name_of};
+ghost use Rattle.report_cli.specs.Private.CommandLine.{IsCommand, ReadsNumber, TakesCount, TakesOptions, TakesReplay, Tells};
+ghost use Rattle.report_cli.specs.CommandLine.{count_app, flag, keycount_app, number_option, path, replay_app, with_options};
 
 use clap::error::ErrorKind;
 use clap::{Arg, ArgAction, ArgMatches, Command, Error, value_parser};
@@ -29,7 +29,16 @@ pub struct Options {
 #[derive(Clone, Copy, Debug, PartialEq, Eq)]
 pub enum Job<'a> {
     /// Counts the keys of a file.
-    Count { file: &'a str, options: Options },
+    Count {
+        file: &'a str,
+        options: Options,
+    },
+    /// Replays a script over the keys of a file.
+    Replay {
+        file: &'a str,
+        script: &'a str,
+        options: Options,
+    },
 }
 
 /// Why the words name no job.
@@ -59,16 +68,27 @@ const PARTITIONS_HELP: &str =
 /// What the help says of the option for the column.
 const COLUMN_HELP: &str = "Which column has the key, 1 to 65535 [default: 1]";
 
+/// What the help says of the option for the batch.
+const BATCH_HELP: &str = "The most records of one poll, 1 to 1000000 [default: 500]";
+
+/// A path that has to be given.
+fn path<'a>(alloc: Global, name: &'a str, shown: &'a str, help: &'a str) -> Arg<'a>
+    ensures rule { rule_of result ≡ path name.now }
+    ensures local { result.global ≡ false }
+{
+    Arg::new(alloc, name)
+        .value_name(shown)
+        .help(help)
+        .required(true)
+        .action(ArgAction::Set)
+}
+
 /// The file that is read.
 fn file_path<'a>(alloc: Global) -> Arg<'a>
     ensures rule { rule_of result ≡ path (codes "file") }
     ensures local { result.global ≡ false }
 {
-    Arg::new(alloc, "file")
-        .value_name("FILE")
-        .help("The CSV file to read")
-        .required(true)
-        .action(ArgAction::Set)
+    path(alloc, "file", "FILE", "The CSV file to read")
 }
 
 /// An option that takes a number from 1 to this.
@@ -95,18 +115,38 @@ fn header_flag<'a>(alloc: Global) -> Arg<'a>
         .action(ArgAction::SetTrue)
 }
 
-/// The subcommand `count`.
-fn count_command<'a>(alloc: Global) -> Result<Command<'a>, AllocError>
-    ensures app { IfOk result (λ c. app_of c ≡ count_app) }
-    ensures local { IfOk result (λ c. (out-Command c).has_globals ≡ false) }
+/// A command with the options of both subcommands.
+fn with_options<'a>(alloc: Global, command: Command<'a>) -> Result<Command<'a>, AllocError>
+    ensures { (app : App) → IsCommand app command.entry
+        → IfOk result (IsCommand (with_options app)) }
 {
-    Command::new(alloc, "count")
-        .about("Counts how often each key occurs in a CSV file")
-        .after_help("Example: keycount count --header --column 3 oui.csv")
-        .arg(file_path(alloc))?
+    command
         .arg(number_option(alloc, "partitions", PARTITIONS_HELP, MOST_PARTITIONS))?
         .arg(number_option(alloc, "column", COLUMN_HELP, LAST_COLUMN))?
         .arg(header_flag(alloc))
+}
+
+/// The subcommand `count`.
+fn count_command<'a>(alloc: Global) -> Result<Command<'a>, AllocError>
+    ensures { IfOk result (IsCommand count_app) }
+{
+    let command = Command::new(alloc, "count")
+        .about("Counts how often each key occurs in a CSV file")
+        .after_help("Example: keycount count --header --column 3 oui.csv")
+        .arg(file_path(alloc))?;
+    with_options(alloc, command)
+}
+
+/// The subcommand `replay`.
+fn replay_command<'a>(alloc: Global) -> Result<Command<'a>, AllocError>
+    ensures { IfOk result (IsCommand replay_app) }
+{
+    let command = Command::new(alloc, "replay")
+        .about("Replays a script of members over the keys of a CSV file")
+        .after_help("Example: keycount replay --header --column 3 oui.csv script.txt")
+        .arg(file_path(alloc))?
+        .arg(path(alloc, "script", "SCRIPT", "The script to replay"))?;
+    with_options(alloc, command)?.arg(number_option(alloc, "batch", BATCH_HELP, MOST_BATCH))
 }
 
 /// The program and its subcommands.
@@ -114,13 +154,26 @@ fn keycount_command<'a>(alloc: Global) -> Result<Command<'a>, AllocError>
     ensures { IfOk result (λ c. app_of c ≡ keycount_app) }
 {
     let count = count_command(alloc)?;
+    let replay = replay_command(alloc)?;
     Command::new(alloc, "keycount")
         .bin_name("keycount")?
         .about("Counts the keys of a CSV file")
         .after_help("Example: keycount count --partitions 8 oui.csv")
         .no_binary_name(true)
         .subcommand_required(true)
-        .subcommand(count)
+        .subcommand(count)?
+        .subcommand(replay)
+}
+
+/// The text that an argument gives, which clap has asked for.
+fn text_of<'a>(given: &ArgMatches<'a>, id: &str) -> &'a str
+    requires { IsSome (first_of id.now (rows_of (found_of given.now))) }
+    ensures { first_of id.now (rows_of (found_of given.now)) ≡ Some result.now }
+{
+    let Some(text) = given.get_str(id) else {
+        unreachable!();
+    };
+    text
 }
 
 /// The number that an option gives, which clap has tested.
@@ -137,21 +190,46 @@ fn number_of(given: &ArgMatches, id: &str, default: u32) -> u32
     number
 }
 
-/// The job of `count`, from what clap found after it.
-fn count_job<'a>(given: &ArgMatches<'a>) -> Job<'a>
-    requires { TakesCount (rows_of (found_of given.now)) }
-    ensures { HasCount (rows_of (found_of given.now)) result }
+/// The options of both subcommands, from what clap found, with this batch.
+fn options_of(given: &ArgMatches, batch: u32) -> Options
+    requires tested { TakesOptions (rows_of (found_of given.now)) }
+    requires batch { (1 ≤ batch) × (batch ≤ MOST_BATCH) }
+    ensures options { HasOptions (rows_of (found_of given.now)) result }
+    ensures batch { result.batch ≡ batch }
 {
-    let Some(file) = given.get_str("file") else {
-        unreachable!();
-    };
-    let options = Options {
+    Options {
         partitions: number_of(given, "partitions", 4),
         column: number_of(given, "column", 1),
         header: given.get_flag("header"),
-        batch: DEFAULT_BATCH,
-    };
+        batch,
+    }
+}
+
+/// The job of `count`, from what clap found after it.
+fn count_job<'a>(given: &ArgMatches<'a>) -> Job<'a>
+    requires { TakesCount (rows_of (found_of given.now)) }
+    ensures name { name_of result ≡ codes "count" }
+    ensures job { HasJob (rows_of (found_of given.now)) result }
+{
+    let file = text_of(given, "file");
+    let options = options_of(given, DEFAULT_BATCH);
     Job::Count { file, options }
+}
+
+/// The job of `replay`, from what clap found after it.
+fn replay_job<'a>(given: &ArgMatches<'a>) -> Job<'a>
+    requires { TakesReplay (rows_of (found_of given.now)) }
+    ensures name { name_of result ≡ codes "replay" }
+    ensures job { HasJob (rows_of (found_of given.now)) result }
+{
+    let file = text_of(given, "file");
+    let script = text_of(given, "script");
+    let options = options_of(given, number_of(given, "batch", DEFAULT_BATCH));
+    Job::Replay {
+        file,
+        script,
+        options,
+    }
 }
 
 /// What is answered to an error of clap's.
@@ -187,6 +265,7 @@ pub fn read_words<'a>(alloc: Global, words: &'a [&'a str]) -> Result<Job<'a>, Us
     };
     match name {
         "count" => Ok(count_job(given)),
+        "replay" => Ok(replay_job(given)),
         _ => unreachable!(),
     }
 }

@@ -13,7 +13,7 @@ use partition_log::LogRead;
 use std::alloc::Global;
 
 /// Writes the row of a key and its count.
-fn write_count(writer: &mut Writer<Vec<u8>>, key: &[u8], count: u64) -> Result<(), Memory>
+pub fn write_count(writer: &mut Writer<Vec<u8>>, key: &[u8], count: u64) -> Result<(), Memory>
     ensures { OnOk result ((text : List ℕ) → HasText writer.old text
         → HasText writer.new (text ++ count_row key.now count)) }
 {

@@ -8,6 +8,8 @@ mod devices;
 mod faults;
 mod key_file;
 mod key_list;
+mod replay;
+mod replay_rows;
 mod rows;
 mod tally;
 
@@ -15,3 +17,4 @@ pub use command_line::{Job, Options, Usage, read_words};
 pub use count::count_text;
 pub use devices::{DeviceFailed, FromRead, FromWrite, Sink, Source};
 pub use faults::{fault_line, status};
+pub use replay::replay_text;

@@ -1,5 +1,5 @@
 use super::*;
-use std::test::Fail;
+use std::process::Abort;
 
 const PLAIN: Options = Options {
     partitions: 4,
@@ -77,18 +77,108 @@ fn options_stand_round_the_path(rt: HostRuntime) {
         ),
     ];
     for (i, (words, path, wanted)) in cases.into_iter().enumerate() {
-        let answer = read_words(rt.alloc(), words);
-        assert!(rt; answer.is_ok(), "case {i}");
-        if let Ok(Job::Count { file, options }) = answer {
-            assert_eq!(rt; file, path, "case {i}");
-            assert_eq!(rt; options, wanted, "case {i}");
+        match read_words(rt.alloc(), words) {
+            Ok(Job::Count { file, options }) => {
+                assert_eq!(rt; file, path, "case {i}");
+                assert_eq!(rt; options, wanted, "case {i}");
+            }
+            _ => assert!(rt; false, "case {i}"),
+        }
+    }
+}
+
+/// The options of a replay, column 1 and no header.
+fn replayed(partitions: u32, batch: u32) -> Options {
+    Options {
+        partitions,
+        column: 1,
+        header: false,
+        batch,
+    }
+}
+
+#[test]
+fn a_replay_has_two_paths_and_a_batch(rt: HostRuntime) {
+    let full = Options {
+        partitions: 1,
+        column: 2,
+        header: true,
+        batch: 1_000_000,
+    };
+    let cases: [(&[&str], (&str, &str), Options); 8] = [
+        (&["replay", "f", "s"], ("f", "s"), PLAIN),
+        (&["replay", "-", "-"], ("-", "-"), PLAIN),
+        (
+            &["replay", "f", "s", "--batch", "1"],
+            ("f", "s"),
+            replayed(4, 1),
+        ),
+        (
+            &["replay", "f", "--batch=500", "s"],
+            ("f", "s"),
+            replayed(4, 500),
+        ),
+        (
+            &["replay", "--partitions", "7", "f", "s"],
+            ("f", "s"),
+            replayed(7, 500),
+        ),
+        (
+            &["replay", "--column=65535", "f", "--", "--header"],
+            ("f", "--header"),
+            Options {
+                partitions: 4,
+                column: 65535,
+                header: false,
+                batch: 500,
+            },
+        ),
+        (
+            &["replay", "--header", "f", "s"],
+            ("f", "s"),
+            Options {
+                partitions: 4,
+                column: 1,
+                header: true,
+                batch: 500,
+            },
+        ),
+        (
+            &[
+                "replay",
+                "--batch",
+                "1000000",
+                "f",
+                "--header",
+                "--column",
+                "2",
+                "s",
+                "--partitions=1",
+            ],
+            ("f", "s"),
+            full,
+        ),
+    ];
+    for (i, (words, paths, wanted)) in cases.into_iter().enumerate() {
+        match read_words(rt.alloc(), words) {
+            Ok(
+                Job::Replay {
+                    file,
+                    script,
+                    options,
+                },
+            ) => {
+                assert!(rt; file == paths.0 && script == paths.1, "case {i}");
+                assert_eq!(rt; options, wanted, "case {i}");
+            }
+            _ => assert!(rt; false, "case {i}"),
         }
     }
 }
 
 #[test]
 fn bad_words_are_refused(rt: HostRuntime) {
-    let cases: [&[&str]; 20] = [
+    let cases: [&[&str]; 29] = [
         &[],
         &["count"],
         &["count", "f", "g"],
@@ -107,7 +197,16 @@ fn bad_words_are_refused(rt: HostRuntime) {
         &["count", "f", "--other"],
         &["--header", "count", "f"],
         &["--partitions", "4", "count", "f"],
-        &["replay", "f", "s"],
+        &["replay"],
+        &["replay", "f"],
+        &["replay", "f", "s", "t"],
+        &["replay", "f", "s", "--batch", "0"],
+        &["replay", "f", "s", "--batch", "1000001"],
+        &["replay", "f", "s", "--batch", "-1"],
+        &["replay", "f", "s", "--batch"],
+        &["replay", "f", "s", "--batch", "1", "--batch", "1"],
+        &["replay", "f", "s", "--partitions", "4097"],
+        &["replay", "f", "--script", "s"],
         &["f"],
     ];
     for (i, words) in cases.into_iter().enumerate() {
@@ -119,7 +218,7 @@ fn bad_words_are_refused(rt: HostRuntime) {
 
 #[test]
 fn help_has_an_example(rt: HostRuntime) {
-    let cases: [(&[&str], &str); 4] = [
+    let cases: [(&[&str], &str); 6] = [
         (
             &["--help"],
             "Example: keycount count --partitions 8 oui.csv",
@@ -133,6 +232,11 @@ fn help_has_an_example(rt: HostRuntime) {
             &["help", "count"],
             "Example: keycount count --header --column 3 oui.csv",
         ),
+        (
+            &["replay", "--help"],
+            "Example: keycount replay --header --column 3 oui.csv script.txt",
+        ),
+        (&["--help"], "replay"),
     ];
     for (words, wanted) in cases {
         let answer = read_words(rt.alloc(), words);
@@ -144,8 +248,16 @@ fn help_has_an_example(rt: HostRuntime) {
     }
 }
 
+/// Asserts that these words ask for this help.
+fn assert_help(rt: &impl Abort, alloc: Global, words: &[&str], wanted: &str) {
+    match read_words(alloc, words) {
+        Err(Usage::Help(text)) => assert!(rt; text.as_str() == wanted, "{text}"),
+        _ => assert!(rt; false, "no help"),
+    }
+}
+
 #[test]
-fn help_lists_the_arguments(rt: HostRuntime) -> Result<(), Fail> {
+fn help_lists_the_arguments(rt: HostRuntime) {
     let wanted = "Counts how often each key occurs in a CSV file
 
 Usage: keycount count [OPTIONS] <FILE>
@@ -161,10 +273,27 @@ Options:
 
 Example: keycount count --header --column 3 oui.csv
 ";
-    if let Err(Usage::Help(text)) = read_words(rt.alloc(), &["count", "--help"]) {
-        assert!(rt; text.as_str() == wanted, "{text}");
-    } else {
-        assert!(rt; false, "no help");
-    }
-    Ok(())
+    assert_help(&rt, rt.alloc(), &["count", "--help"], wanted);
+}
+
+#[test]
+fn help_of_a_replay_lists_the_arguments(rt: HostRuntime) {
+    let wanted = "Replays a script of members over the keys of a CSV file
+
+Usage: keycount replay [OPTIONS] <FILE> <SCRIPT>
+
+Arguments:
+  <FILE>    The CSV file to read
+  <SCRIPT>  The script to replay
+
+Options:
+      --partitions <N>  How many partitions the keys are spread over, 1 to 4096 [default: 4]
+      --column <N>      Which column has the key, 1 to 65535 [default: 1]
+      --header          Passes over the first record
+      --batch <N>       The most records of one poll, 1 to 1000000 [default: 500]
+  -h, --help            Print help
+
+Example: keycount replay --header --column 3 oui.csv script.txt
+";
+    assert_help(&rt, rt.alloc(), &["replay", "--help"], wanted);
 }

@@ -1,7 +1,7 @@
 use Rattle.std.proofs.Common.{◌≡◌, ◌∙◌, ap, ap₂, codes}
 use Rattle.std.proofs.lemmas.Result.{IfOk-weaker}
 use Rattle.clap.specs.Simple.{App, app_of, app_of_fields, new_app, with_subcommand}
-use Rattle.report_cli.specs.CommandLine.{count_app, keycount_top}
+use Rattle.report_cli.specs.CommandLine.{keycount_top}
 use Rattle.report_cli.proofs.Entered.{described, top_settings}
 use Rattle.report_cli.proofs.command_line.keycount_command.Goals as goal
 
@@ -9,6 +9,8 @@ pub returns : goal.returns
 returns c =
     let texts = described c.in_ok-bin_name.field-0 c.about.result c.after_help.result _ _ c.about.ensures c.after_help.ensures in
     let start : app_of c.after_help.result ≡ new_app (codes "keycount") = ap app_of_fields texts ∙ ap app_of_fields c.in_ok-bin_name.ensures.0 ∙ c.new.ensures.app in
-    let count_is : app_of c.in_ok-count.count ≡ count_app = c.in_ok-count.ensures.app in
     let top_is : app_of c.subcommand_required.result ≡ keycount_top = top_settings _ _ _ start c.no_binary_name.ensures c.subcommand_required.ensures in
-    IfOk-weaker c.subcommand.result _ _ (λ r h. h.shape c.in_ok-count.ensures.local ∙ ap₂ with_subcommand top_is (ap (λ (a : App). a.top) count_is)) c.subcommand.ensures
+    let count_is = ap (λ (a : App). a.top) c.in_ok-count.ensures.read_as in
+    let replay_is = ap (λ (a : App). a.top) c.in_ok-replay.ensures.read_as in
+    let one = c.in_ok-subcommand.ensures.shape c.in_ok-count.ensures.local ∙ ap₂ with_subcommand top_is count_is in
+    IfOk-weaker c.subcommand-2.result _ _ (λ r h. h.shape c.in_ok-replay.ensures.local ∙ ap₂ with_subcommand one replay_is) c.subcommand-2.ensures

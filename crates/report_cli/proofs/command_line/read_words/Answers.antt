@@ -5,8 +5,8 @@ use Rattle.clap.specs.Faults.{fault_of, is_simple_and_free}
 use Rattle.clap.specs.Words.{found_of, rows_of}
 use Rattle.clap.specs.Walk.{Row, Text}
 use Rattle.report_cli.specs.CommandLine.{keycount_app}
-use Rattle.report_cli.specs.Private.CommandLine.{TakesCount}
-use Rattle.report_cli.proofs.Entered.{job_name, keycount_free, matches_are, none_told, told, told_rows}
+use Rattle.report_cli.specs.Private.CommandLine.{TakesCount, TakesReplay}
+use Rattle.report_cli.proofs.Entered.{keycount_free, matches_are, none_told, takes_count, takes_neither, takes_replay, told, told_rows}
 use Rattle.report_cli.proofs.command_line.read_words.Goals as goal
 
 pub returns-in-Err-clause-usage : goal.returns-in-Err-clause-usage
@@ -20,33 +20,55 @@ pub unreachable-requires : goal.unreachable-requires
 unreachable-requires c =
     let words = map (λ (w : Bor Text). w.now) c.args.words.now in
     let found = c.in-Ok-try_get_matches_from.ensures in
-    let count = matches_are c.in-Ok.command words _ c.in-Ok.ensures found.matches found.kinds in
-    none_told _ _ count.entered c.in_default-subcommand.ensures.rows
+    let job = matches_are c.in-Ok.command words _ c.in-Ok.ensures found.matches found.kinds in
+    none_told _ _ _ job.entered c.in_default-subcommand.ensures.rows
 
 pub count_job-requires : goal.count_job-requires
 count_job-requires c =
     let words = map (λ (w : Bor Text). w.now) c.args.words.now in
     let found = c.in-Ok-try_get_matches_from.ensures in
-    let count = matches_are c.in-Ok.command words _ c.in-Ok.ensures found.matches found.kinds in
-    subst TakesCount (told_rows _ _ _ _ count.entered c.in-Some.ensures.name c.in-Some.ensures.rows).1 count.tested
+    let job = matches_are c.in-Ok.command words _ c.in-Ok.ensures found.matches found.kinds in
+    let met = told_rows _ _ _ _ _ job.entered c.in-Some.ensures.name c.in-Some.ensures.rows in
+    subst TakesCount met.1 (takes_count _ _ job.tested (met.0 ∙ c.in-count.is))
+
+pub replay_job-requires : goal.replay_job-requires
+replay_job-requires c =
+    let words = map (λ (w : Bor Text). w.now) c.args.words.now in
+    let found = c.in-Ok-try_get_matches_from.ensures in
+    let job = matches_are c.in-Ok.command words _ c.in-Ok.ensures found.matches found.kinds in
+    let met = told_rows _ _ _ _ _ job.entered c.in-Some.ensures.name c.in-Some.ensures.rows in
+    subst TakesReplay met.1 (takes_replay _ _ job.tested (met.0 ∙ c.in-replay.is))
 
 pub unreachable-requires-in_default-name : goal.unreachable-requires-in_default-name
 unreachable-requires-in_default-name c =
     let words = map (λ (w : Bor Text). w.now) c.args.words.now in
     let found = c.in-Ok-try_get_matches_from.ensures in
-    let count = matches_are c.in-Ok.command words _ c.in-Ok.ensures found.matches found.kinds in
-    c.in_default-name.not-count (told_rows _ _ _ _ count.entered c.in-Some.ensures.name c.in-Some.ensures.rows).0
+    let job = matches_are c.in-Ok.command words _ c.in-Ok.ensures found.matches found.kinds in
+    let met = told_rows _ _ _ _ _ job.entered c.in-Some.ensures.name c.in-Some.ensures.rows in
+    takes_neither _ _ job.tested (λ e. c.in_default-name.not-count (sym met.0 ∙ e)) (λ e. c.in_default-name.not-replay (sym met.0 ∙ e))
 
-pub returns-clause-job : goal.returns-clause-job
-returns-clause-job c =
+pub returns-in-count-clause-job : goal.returns-in-count-clause-job
+returns-in-count-clause-job c =
     let words = map (λ (w : Bor Text). w.now) c.args.words.now in
     let found = c.in-Ok-try_get_matches_from.ensures in
-    let count = matches_are c.in-Ok.command words _ c.in-Ok.ensures found.matches found.kinds in
-    let same = (told_rows _ _ _ _ count.entered c.in-Some.ensures.name c.in-Some.ensures.rows).1 in
-    let rows = rows_of (found_of c.in-Some.given.now) in
+    let job = matches_are c.in-Ok.command words _ c.in-Ok.ensures found.matches found.kinds in
+    let met = told_rows _ _ _ _ _ job.entered c.in-Some.ensures.name c.in-Some.ensures.rows in
     record {
-      rows = rows;
-      taken = count.taken;
-      subcommand = count.subcommand ∙ ap₂ (λ (n : Text) (xs : List Row). Some (n, xs)) (sym (job_name rows c.count_job.result c.count_job.ensures)) same;
-      found = c.count_job.ensures;
+      rows = rows_of (found_of c.in-Some.given.now);
+      taken = job.taken;
+      subcommand = job.subcommand ∙ ap₂ (λ (n : Text) (xs : List Row). Some (n, xs)) (met.0 ∙ c.in-count.is ∙ sym c.count_job.ensures.name) met.1;
+      found = c.count_job.ensures.job;
+    }
+
+pub returns-in-replay-clause-job : goal.returns-in-replay-clause-job
+returns-in-replay-clause-job c =
+    let words = map (λ (w : Bor Text). w.now) c.args.words.now in
+    let found = c.in-Ok-try_get_matches_from.ensures in
+    let job = matches_are c.in-Ok.command words _ c.in-Ok.ensures found.matches found.kinds in
+    let met = told_rows _ _ _ _ _ job.entered c.in-Some.ensures.name c.in-Some.ensures.rows in
+    record {
+      rows = rows_of (found_of c.in-Some.given.now);
+      taken = job.taken;
+      subcommand = job.subcommand ∙ ap₂ (λ (n : Text) (xs : List Row). Some (n, xs)) (met.0 ∙ c.in-replay.is ∙ sym c.replay_job.ensures.name) met.1;
+      found = c.replay_job.ensures.job;
     }
