@@ -1,0 +1,96 @@
+"""Replays: no other program does this, so they stand in a table of their own, beside a count of the same file."""
+
+from __future__ import annotations
+
+import csv
+from collections import Counter
+from dataclasses import dataclass
+from pathlib import Path
+from typing import Iterable, Sequence
+
+from harness import measure
+from harness.tables import MB, Result
+
+HEAD = ("replay", "runs", "median s", "min..max s", "CPU s", "peak MB", "time/count")
+
+
+class Wrong(Exception):
+    """A replay printed what it should not."""
+
+
+@dataclass(frozen=True)
+class Replay:
+    """A file, a script and the number of partitions, and what has to come out: how many records are committed and
+    appended, and among how many members the partitions are spread."""
+
+    name: str
+    file: Path
+    script: Path
+    partitions: int
+    records: int
+    members: int
+
+    def pipeline(self, program: Path) -> measure.Pipeline:
+        """The replay."""
+        words = ["replay", str(self.file), str(self.script), "--partitions", str(self.partitions)]
+        return [[str(program), *words]]
+
+    def count(self, program: Path) -> measure.Pipeline:
+        """A count of the same file, over as many partitions."""
+        return [[str(program), "count", str(self.file), "--partitions", str(self.partitions)]]
+
+    def check(self, output: Path) -> None:
+        """Refuses an output with another total, with an owner too few, or with an unbalanced assignment."""
+        owners: Counter[str] = Counter()
+        last: list[str] = []
+        with output.open(newline="", encoding="latin-1") as rows:
+            for last in csv.reader(rows):
+                if last[0] == "owner":
+                    owners[last[2]] += 1
+        if last != ["total", str(self.records), str(self.records)]:
+            raise Wrong(f"{self.name} ends with {','.join(last)}")
+        if len(owners) != self.members or max(owners.values()) - min(owners.values()) > 1 or "" in owners:
+            raise Wrong(f"{self.name} spreads its partitions over {len(owners)} members, or not evenly")
+
+
+def written(path: Path, lines: Iterable[str]) -> Path:
+    """A file of these lines."""
+    path.write_text("".join(f"{line}\n" for line in lines), encoding="ascii")
+    return path
+
+
+def joins(folder: Path, members: int) -> Replay:
+    """Members that join one after the other, each with the whole rebalance, over the most partitions there are."""
+    lines = (line for number in range(members) for line in (f"join m{number}", "settle"))
+    script = written(folder / f"joins-{members}", lines)
+    name = f"{members} joins, each settled, 4096 partitions"
+    return Replay(name, written(folder / "no-records", []), script, 4096, 0, members)
+
+
+def drains(folder: Path, file: Path, records: int) -> Replay:
+    """Sixteen members, all read and committed; then a loss, a join, and all that is left."""
+    lines = [*(f"join m{number}" for number in range(16)), "drain", "lose m3", "join m16", "drain"]
+    name = f"{records:,} records, 16 joins, drain, a loss, a join, drain, 64 partitions"
+    return Replay(name, file, written(folder / "drains", lines), 64, records, 16)
+
+
+def row(name: str, result: Result, count: Result) -> Sequence[str]:
+    """The row of a replay."""
+    walls = [run.wall for run in result.runs]
+    spread = f"{min(walls):.3f}..{max(walls):.3f}"
+    return [
+        name, str(len(walls)), f"{result.wall:.3f}", spread, f"{result.cpu:.3f}", f"{result.peak / MB:.1f}",
+        f"{result.wall / count.wall:.2f}",
+    ]
+
+
+def measured(program: Path, replay: Replay, scratch: Path, runs: int, limit: float) -> Sequence[str]:
+    """The row of a replay that was run in turn with the count of its file, after a run that is checked."""
+    output = scratch / "replayed"
+    measure.run(replay.pipeline(program), output, limit)
+    replay.check(output)
+    result, count = Result(replay.name), Result("count")
+    for _ in range(runs):
+        result.runs.append(measure.run(replay.pipeline(program), measure.NOWHERE, limit))
+        count.runs.append(measure.run(replay.count(program), measure.NOWHERE, limit))
+    return row(replay.name, result, count)
