@@ -1,6 +1,11 @@
+pub mod Flags
 pub mod Indices
 pub mod Listed
+pub mod Pairs
 pub mod RowLaws
 pub mod Seen
 pub mod Sets
+pub mod Walked
 pub mod Walks
+pub mod WordBits
+pub mod Words

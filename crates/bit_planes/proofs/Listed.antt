@@ -6,8 +6,9 @@ use Rattle.std.proofs.lemmas.Bool.{cases_lt}
 use Rattle.std.proofs.lemmas.Bool.Decides.{nat_tests}
 use Rattle.std.proofs.lemmas.List.{drop-append-le, drop_all}
 use Rattle.bit_planes.specs.Private.Lists.{list_where}
-use Rattle.bit_planes.specs.PartitionSet.{PartitionSet, partitions_of, is_in, any_below, one, how_many, rank, elements}
-use Rattle.bit_planes.proofs.Sets.{in_below, past, rank_is, rank_in, how_many-none, how_many-rises, any_below-none}
+use Rattle.bit_planes.specs.Private.ElementsFrom.{IsLowestElement}
+use Rattle.bit_planes.specs.PartitionSet.{PartitionSet, partitions_of, is_in, one, how_many, rank, elements}
+use Rattle.bit_planes.proofs.Sets.{in_below, past, rank_is, rank_in, rank_out, rank_past, how_many-rises}
 
 one_listed : (x : Bool) (n : ℕ) → length (if x then n ∷ [] else []) ≡ one x
 one_listed true n = refl
@@ -62,16 +63,31 @@ elements-end s r e =
     let len = length-list_where (partitions_of s) (is_in s) in
     drop_all r (list_where (partitions_of s) (is_in s)) (omega (arith, e, rank_is s (partitions_of s)))
 
+-- no element is between two numbers
+rank_between : (s : PartitionSet) (from q : ℕ) → from ≤ q → ((n : ℕ) → from ≤ n → n < q → is_in s n ≡ false) → rank s q ≡ rank s from
+rank_between s from zero le none = let e : from ≡ 0 = omega arith in rw e refl
+rank_between s from (suc q) le none = elim (cases_lt from (suc q)) [
+  | inl lt ↦
+      let next : suc q ≡ q + 1 = omega arith in
+      rw next (rank_out s q (none q (omega arith) (omega arith)) ∙ rank_between s from q (omega arith) (λ n below above. none n below (omega arith)))
+  | inr ge ↦ let e : from ≡ suc q = omega arith in rw e refl
+]
+
+-- the elements from a number on, by the lowest of them
+pub elements-next : (s : PartitionSet) (from q : ℕ) → IsLowestElement s from q → drop (rank s from) (elements s) ≡ q ∷ drop (rank s (q + 1)) (elements s)
+elements-next s from q low = ap (λ r. drop r (elements s)) (sym (rank_between s from q low.not_below low.none)) ∙ elements-at s q low.member
+
+-- from a number on there is none
+pub elements-over : (s : PartitionSet) (from : ℕ) → ((q : ℕ) → from ≤ q → is_in s q ≡ false) → drop (rank s from) (elements s) ≡ []
+elements-over s from none = elements-end s (rank s from) (elim (cases_lt from (partitions_of s)) [
+  | inl lt ↦ sym (rank_between s from (partitions_of s) (omega arith) (λ n le below. none n le))
+  | inr le ↦ rank_past s from le ∙ sym (rank_past s (partitions_of s) (omega arith))
+])
+
 -- as many as there are
 pub length-elements : (s : PartitionSet) → length (elements s) ≡ rank s (partitions_of s)
 unfolding elements
 length-elements s = length-list_where (partitions_of s) (is_in s) ∙ sym (rank_is s (partitions_of s))
-
--- of a set with no element all are left, from wherever one looks
-pub elements-none : (s : PartitionSet) (q : ℕ) → q ≤ partitions_of s → any_below (partitions_of s) (is_in s) ≡ false → drop (rank s q) (elements s) ≡ elements s
-elements-none s q le none =
-    let zero_rank : rank s q ≡ 0 = rank_is s q ∙ how_many-none q (is_in s) (λ k lt. any_below-none (partitions_of s) (is_in s) none k (omega arith)) in
-    rw zero_rank refl
 
 -- ---- whether a number is listed
 or_none : (x : Bool) → (x || false) ≡ x

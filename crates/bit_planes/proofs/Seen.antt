@@ -1,213 +1,255 @@
--- A plane's flags, seen as a set.
-use Rattle.std.proofs.Common.{ℕ, ◌≡◌, ◌≢◌, ◌+◌, ◌-◌, ◌<◌, ◌≤◌, ◌==◌, Bool, true, false, ◌||◌, ◌&&◌, not, List, length, take, get_or, replicate, refl, ap, sym, subst, ◌∙◌, arith, inl, inr}
-use Rattle.std.specs.Prelude.{MatchBool, slice_set, nat_lt}
-use Rattle.std.proofs.lemmas.Bool.{cases_lt, cases_eq}
+-- A plane's words, seen as a set.
+use Rattle.std.proofs.Common.{ℕ, zero, suc, ◌≡◌, ◌+◌, ◌-◌, ◌*◌, ◌/◌, ◌%◌, ◌<◌, ◌≤◌, ◌==◌, Bool, true, false, ◌||◌, ◌&&◌, not, List, ◌++◌, length, take, drop, replicate, refl, ap, sym, ◌∙◌, arith, inl, inr}
+use Rattle.std.specs.Prelude.{nat_lt, IsTrue, ◌↔◌, IfSome, MatchOption, Option, Some, None}
+use Rattle.std.proofs.lemmas.Bool.{cases_lt, lt-ltb, le-ltb}
 use Rattle.std.proofs.lemmas.Bool.Decides.{nat_tests}
-use Rattle.std.proofs.lemmas.List.{get_or-take, length-take-le, get_or-set_other, get_or-set_same, get_or-replicate, length-set, length-replicate}
-use Rattle.bit_planes.specs.PartitionSet.{PartitionSet, partitions_of, is_in, set_where, rank, union, minus, lowest, full_set, empty_set, with_one, without_one}
-use Rattle.bit_planes.proofs.Sets.{partitions_where, in_where, rank_is, rank_in, rank_out, in_without, partitions_without, same_set}
+use Rattle.std.proofs.lemmas.List.{get_or-take, get_or-drop, get_or-append_right, get_or_append_left, get_or-replicate, length-take-le, length-replicate}
+use Rattle.bit_planes.specs.Private.Bits.{is_bit, bit_of, AreClearFrom, IsLowestFrom}
+use Rattle.bit_planes.specs.Private.ElementsFrom.{IsLowestElement}
+use Rattle.bit_planes.specs.PartitionSet.{PartitionSet, partitions_of, is_in, set_where, any_below, how_many, rank, size, union, minus, lowest, full_set, empty_set, with_one, without_one, is_same}
+use Rattle.bit_planes.proofs.Sets.{partitions_where, in_where, in_below, past, same_set, size_is, rank_is, how_many-same, how_many-stops, same_says, same_self, in_without, partitions_without}
+use Rattle.bit_planes.proofs.WordBits.{no_bit}
+use Rattle.bit_planes.proofs.Words.{marked_at, none_past}
 
--- the flags below p
-abbrev pub seen : ℕ → List Bool → PartitionSet
-seen p flags = record { flags = take p flags }
+-- the numbers below p that are marked
+abbrev pub seen : ℕ → List ℕ → PartitionSet
+seen p words = set_where p (bit_of words)
 
-pub seen_below : (p : ℕ) (flags : List Bool) → p ≤ length flags → partitions_of (seen p flags) ≡ p
-unfolding partitions_of
-seen_below p flags le = length-take-le p flags le
+pub seen_below : (p : ℕ) (words : List ℕ) → partitions_of (seen p words) ≡ p
+seen_below p words = partitions_where p (bit_of words)
 
-pub seen_flag : (p : ℕ) (flags : List Bool) (q : ℕ) → q < p → is_in (seen p flags) q ≡ get_or flags q false
-unfolding is_in
-seen_flag p flags q lt = get_or-take p flags q false lt
+pub below_is : (p : ℕ) (words : List ℕ) (s : PartitionSet) → seen p words ≡ s → partitions_of s ≡ p
+below_is p words s e = sym (ap partitions_of e) ∙ seen_below p words
 
--- how many partitions there are, and the flags of what is seen
-pub below_is : (p : ℕ) (flags : List Bool) (s : PartitionSet) → p ≤ 4096 → length flags ≡ 4096 → seen p flags ≡ s → partitions_of s ≡ p
-below_is p flags s few len e = sym (ap partitions_of e) ∙ seen_below p flags (omega arith)
+-- words whose marks below p are as f says
+pub seen_where : (p : ℕ) (words : List ℕ) (f : ℕ → Bool) → ((q : ℕ) → q < p → bit_of words q ≡ f q) → seen p words ≡ set_where p f
+seen_where p words f marks =
+    let e = seen_below p words in
+    same_set (seen p words) (set_where p f) (e ∙ sym (partitions_where p f)) (λ q lt. in_where p (bit_of words) q (omega arith) ∙ (marks q (omega arith) ∙ sym (in_where p f q (omega arith))))
 
-pub flag_is : (p : ℕ) (flags : List Bool) (s : PartitionSet) (q : ℕ) → q < p → seen p flags ≡ s → get_or flags q false ≡ is_in s q
-flag_is p flags s q lt e = sym (seen_flag p flags q lt) ∙ ap (λ t. is_in t q) e
+-- each mark, where none is past p
+pub marks_are : (p : ℕ) (words : List ℕ) (s : PartitionSet) → AreClearFrom words p → seen p words ≡ s → (q : ℕ) → bit_of words q ≡ is_in s q
+marks_are p words s clear view q = elim (cases_lt q p) [
+  | inl lt ↦ sym (in_where p (bit_of words) q lt) ∙ ap (λ t. is_in t q) view
+  | inr le ↦ let below = below_is p words s view in clear q le ∙ sym (past s q (omega arith))
+]
 
--- flags that are marked as a test says below p are seen as the set of it
-pub seen_where : (p : ℕ) (flags : List Bool) (f : ℕ → Bool) → p ≤ 4096 → length flags ≡ 4096 → ((q : ℕ) → q < p → get_or flags q false ≡ f q) → seen p flags ≡ set_where p f
-seen_where p flags f few len marked =
-    let e = seen_below p flags (omega arith) in
-    same_set (seen p flags) (set_where p f) (e ∙ sym (partitions_where p f)) (λ q lt. seen_flag p flags q (omega arith) ∙ marked q (omega arith) ∙ sym (in_where p f q (omega arith)))
+-- a plane, of whose words n are used
+pub record IsShown (p n : ℕ) (words : List ℕ) (s : PartitionSet) : Type 0 where
+  pub view : seen p words ≡ s
+  pub clear : AreClearFrom words p
+  pub long : length words ≡ 64
+  pub few : p ≤ 4096
+  pub enough : p ≤ 64 * n
+  pub used : 64 * n < p + 64
 
--- ---- flags that a loop marks as a test says, as far as n, and that are from there on as they were
-pub record AreMarked (old : List Bool) (f : ℕ → Bool) (n : ℕ) (flags : List Bool) : Type 0 where
-  pub len : length flags ≡ 4096
-  pub done : (q : ℕ) → q < n → get_or flags q false ≡ f q
-  pub left : (q : ℕ) → n ≤ q → get_or flags q false ≡ get_or old q false
+front_at : (n : ℕ) (words : List ℕ) (q : ℕ) → n ≤ length words → q < 64 * n → bit_of (take n words) q ≡ bit_of words q
+front_at n words q le lt =
+    let i : ℕ = q / 64 in
+    let k : ℕ = q % 64 in
+    marked_at (take n words) q i k (omega arith) (omega arith) ∙ rw (get_or-take n words i 0 (omega arith)) (sym (marked_at words q i k (omega arith) (omega arith)))
 
-pub marked_none : (old : List Bool) (f : ℕ → Bool) → length old ≡ 4096 → AreMarked old f 0 old
-marked_none old f len = record { len = len; done = λ q lt. absurd (omega arith); left = λ q le. refl }
+pub long_front : (p n : ℕ) (words : List ℕ) (s : PartitionSet) → IsShown p n words s → length (take n words) ≡ n
+long_front p n words s shown =
+    let long = shown.long in
+    let few = shown.few in
+    let used = shown.used in
+    length-take-le n words (omega arith)
 
-pub marked_one : (old : List Bool) (f : ℕ → Bool) (n : ℕ) (flags : List Bool) (x : Bool) → n < 4096 → x ≡ f n → AreMarked old f n flags → AreMarked old f (n + 1) (slice_set flags n x)
-marked_one old f n flags x lt e m =
-    let len = m.len in
-    record {
-      len = length-set flags n x ∙ len;
-      done = λ q below. elim (cases_lt q n) [
-        | inl before ↦ let other : q ≢ n = omega arith in get_or-set_other flags n q x false other ∙ m.done q before
-        | inr here ↦ let same : q ≡ n = omega arith in rw same (get_or-set_same flags n x false (omega arith) ∙ e)
-      ];
-      left = λ q le. let other : q ≢ n = omega arith in get_or-set_other flags n q x false other ∙ m.left q (omega arith);
-    }
+-- each mark in the words that are used
+pub shown_front : (p n : ℕ) (words : List ℕ) (s : PartitionSet) → IsShown p n words s → (q : ℕ) → bit_of (take n words) q ≡ is_in s q
+shown_front p n words s shown q =
+    let long = shown.long in
+    let few = shown.few in
+    let used = shown.used in
+    let enough = shown.enough in
+    let below = below_is p words s shown.view in
+    elim (cases_lt q (64 * n)) [
+      | inl lt ↦ front_at n words q (omega arith) lt ∙ marks_are p words s shown.clear shown.view q
+      | inr le ↦ none_past (take n words) q (omega (arith, long_front p n words s shown)) ∙ sym (past s q (omega arith))
+    ]
 
--- a flag that is as the test says already
-pub marked_kept : (old : List Bool) (f : ℕ → Bool) (n : ℕ) (flags : List Bool) → get_or flags n false ≡ f n → AreMarked old f n flags → AreMarked old f (n + 1) flags
-marked_kept old f n flags e m = record {
-  len = m.len;
-  done = λ q below. elim (cases_lt q n) [
-    | inl before ↦ m.done q before
-    | inr here ↦ let same : q ≡ n = omega arith in rw same e
-  ];
-  left = λ q le. m.left q (omega arith);
-}
+-- ---- other words in place of those that are used
+spliced_below : (n : ℕ) (xs words : List ℕ) (q : ℕ) → length xs ≡ n → q < 64 * n → bit_of (xs ++ drop n words) q ≡ bit_of xs q
+spliced_below n xs words q len lt =
+    let i : ℕ = q / 64 in
+    let k : ℕ = q % 64 in
+    marked_at (xs ++ drop n words) q i k (omega arith) (omega arith) ∙ rw (get_or_append_left xs (drop n words) 0 i (omega arith)) (sym (marked_at xs q i k (omega arith) (omega arith)))
 
-pub marked_all : (old : List Bool) (f : ℕ → Bool) (p n : ℕ) (flags : List Bool) → p ≤ 4096 → p ≤ n → AreMarked old f n flags → seen p flags ≡ set_where p f
-marked_all old f p n flags few le m = seen_where p flags f few m.len (λ q lt. m.done q (omega arith))
+spliced_past : (n : ℕ) (xs words : List ℕ) (q : ℕ) → length xs ≡ n → 64 * n ≤ q → bit_of (xs ++ drop n words) q ≡ bit_of words q
+spliced_past n xs words q len le =
+    let i : ℕ = q / 64 in
+    let k : ℕ = q % 64 in
+    let same : n + (i - n) ≡ i = omega arith in
+    marked_at (xs ++ drop n words) q i k (omega arith) (omega arith)
+    ∙ rw (get_or-append_right xs (drop n words) n i 0 len (omega arith), get_or-drop n words (i - n) 0, same) (sym (marked_at words q i k (omega arith) (omega arith)))
 
-pub marked_clear : (old : List Bool) (f : ℕ → Bool) (n : ℕ) (flags : List Bool) → ((q : ℕ) → n ≤ q → q < 4096 → get_or old q false ≡ false) → AreMarked old f n flags → (q : ℕ) → n ≤ q → q < 4096 → get_or flags q false ≡ false
-marked_clear old f n flags clear m q le lt = m.left q le ∙ clear q le lt
+pub spliced_seen : (p n : ℕ) (words : List ℕ) (s : PartitionSet) (xs : List ℕ) (f : ℕ → Bool) → IsShown p n words s → length xs ≡ length (take n words) → ((q : ℕ) → bit_of xs q ≡ f q) → seen p (xs ++ drop n words) ≡ set_where (partitions_of s) f
+spliced_seen p n words s xs f shown len marks =
+    let enough = shown.enough in
+    let below = below_is p words s shown.view in
+    seen_where p (xs ++ drop n words) f (λ q lt. spliced_below n xs words q (len ∙ long_front p n words s shown) (omega arith) ∙ marks q) ∙ ap (λ k. set_where k f) (sym below)
 
--- no flag
-pub none_at : (q : ℕ) → q < 4096 → get_or (replicate 4096 false) q false ≡ false
-none_at q lt = get_or-replicate 4096 q false false lt
+pub spliced_clear : (p n : ℕ) (words : List ℕ) (s : PartitionSet) (xs : List ℕ) (f : ℕ → Bool) → IsShown p n words s → length xs ≡ length (take n words) → ((q : ℕ) → bit_of xs q ≡ f q) → ((q : ℕ) → is_in s q ≡ false → p ≤ q → f q ≡ false) → AreClearFrom (xs ++ drop n words) p
+spliced_clear p n words s xs f shown len marks none q le =
+    let below = below_is p words s shown.view in
+    elim (cases_lt q (64 * n)) [
+      | inl lt ↦ spliced_below n xs words q (len ∙ long_front p n words s shown) lt ∙ (marks q ∙ none q (past s q (omega arith)) le)
+      | inr past_n ↦ spliced_past n xs words q (len ∙ long_front p n words s shown) past_n ∙ shown.clear q le
+    ]
 
--- ---- what a loop has marked below P, as the set that it makes
-pub seen_union : (p n : ℕ) (old flags : List Bool) (s t : PartitionSet) → p ≤ 4096 → partitions_of s ≡ p → p ≤ n → AreMarked old (λ q. is_in s q || is_in t q) n flags → seen p flags ≡ union s t
+pub seen_union : (p n : ℕ) (words : List ℕ) (s t : PartitionSet) (xs : List ℕ) → IsShown p n words s → length xs ≡ length (take n words) → ((q : ℕ) → bit_of xs q ≡ (is_in s q || is_in t q)) → seen p (xs ++ drop n words) ≡ union s t
 unfolding union
-seen_union p n old flags s t few below le m = marked_all old _ p n flags few le m ∙ ap (λ k. set_where k (λ q. is_in s q || is_in t q)) (sym below)
+seen_union p n words s t xs shown len marks = spliced_seen p n words s xs (λ q. is_in s q || is_in t q) shown len marks
 
-pub seen_minus : (p n : ℕ) (old flags : List Bool) (s t : PartitionSet) → p ≤ 4096 → partitions_of s ≡ p → p ≤ n → AreMarked old (λ q. is_in s q && not (is_in t q)) n flags → seen p flags ≡ minus s t
+pub seen_minus : (p n : ℕ) (words : List ℕ) (s t : PartitionSet) (xs : List ℕ) → IsShown p n words s → length xs ≡ length (take n words) → ((q : ℕ) → bit_of xs q ≡ (is_in s q && not (is_in t q))) → seen p (xs ++ drop n words) ≡ minus s t
 unfolding minus
-seen_minus p n old flags s t few below le m = marked_all old _ p n flags few le m ∙ ap (λ k. set_where k (λ q. is_in s q && not (is_in t q))) (sym below)
+seen_minus p n words s t xs shown len marks = spliced_seen p n words s xs (λ q. is_in s q && not (is_in t q)) shown len marks
 
-pub seen_lowest : (p n : ℕ) (old flags : List Bool) (k : ℕ) (s : PartitionSet) → p ≤ 4096 → partitions_of s ≡ p → p ≤ n → AreMarked old (λ q. is_in s q && nat_lt (rank s q) k) n flags → seen p flags ≡ lowest k s
+pub seen_lowest : (p n k : ℕ) (words : List ℕ) (s : PartitionSet) (xs : List ℕ) → IsShown p n words s → length xs ≡ length (take n words) → ((q : ℕ) → bit_of xs q ≡ (is_in s q && nat_lt (rank s q) k)) → seen p (xs ++ drop n words) ≡ lowest k s
 unfolding lowest
-seen_lowest p n old flags k s few below le m = marked_all old _ p n flags few le m ∙ ap (λ j. set_where j (λ q. is_in s q && nat_lt (rank s q) k)) (sym below)
+seen_lowest p n k words s xs shown len marks = spliced_seen p n words s xs (λ q. is_in s q && nat_lt (rank s q) k) shown len marks
 
-pub seen_full : (p n : ℕ) (old flags : List Bool) → p ≤ 4096 → p ≤ n → AreMarked old (λ q. true) n flags → seen p flags ≡ full_set p
-unfolding full_set
-seen_full p n old flags few le m = marked_all old _ p n flags few le m
+neither : (x y : Bool) → x ≡ false → y ≡ false → (x || y) ≡ false
+neither true y e h = absurd (cc e)
+neither false y e h = h
 
-pub seen_empty : (p : ℕ) → p ≤ 4096 → seen p (replicate 4096 false) ≡ empty_set p
+pub not_first : (x y : Bool) → x ≡ false → (x && y) ≡ false
+not_first true y e = absurd (cc e)
+not_first false y e = refl
+
+pub union_clear : (p n : ℕ) (words : List ℕ) (s t : PartitionSet) (xs : List ℕ) → partitions_of s ≡ partitions_of t → IsShown p n words s → length xs ≡ length (take n words) → ((q : ℕ) → bit_of xs q ≡ (is_in s q || is_in t q)) → AreClearFrom (xs ++ drop n words) p
+union_clear p n words s t xs same shown len marks =
+    let below = below_is p words s shown.view in
+    spliced_clear p n words s xs (λ q. is_in s q || is_in t q) shown len marks (λ q none le. neither (is_in s q) (is_in t q) none (past t q (omega arith)))
+
+-- marks of s alone
+pub part_clear : (p n : ℕ) (words : List ℕ) (s : PartitionSet) (xs : List ℕ) (f : ℕ → Bool) → IsShown p n words s → length xs ≡ length (take n words) → ((q : ℕ) → bit_of xs q ≡ (is_in s q && f q)) → AreClearFrom (xs ++ drop n words) p
+part_clear p n words s xs f shown len marks = spliced_clear p n words s xs (λ q. is_in s q && f q) shown len marks (λ q none le. not_first (is_in s q) (f q) none)
+
+-- the rank in the words that are used
+pub rank_shown : (p n : ℕ) (words : List ℕ) (s : PartitionSet) → IsShown p n words s → (q : ℕ) → how_many q (bit_of (take n words)) ≡ rank s q
+rank_shown p n words s shown q = how_many-same q (bit_of (take n words)) (is_in s) (λ k lt. shown_front p n words s shown k) ∙ sym (rank_is s q)
+
+-- ---- no marks, and all
+pub unmarked : (n q : ℕ) → bit_of (replicate n 0) q ≡ false
+unmarked n q = elim (cases_lt (q / 64) n) [
+  | inl lt ↦ marked_at (replicate n 0) q (q / 64) (q % 64) (omega arith) (omega arith) ∙ (ap (λ w. is_bit w (q % 64)) (get_or-replicate n (q / 64) 0 0 lt) ∙ no_bit (q % 64))
+  | inr le ↦ none_past (replicate n 0) q (omega (arith, length-replicate {A = ℕ} n 0))
+]
+
+pub seen_empty : (p n : ℕ) → seen p (replicate n 0) ≡ empty_set p
 unfolding empty_set
-seen_empty p few = seen_where p (replicate 4096 false) _ few (length-replicate 4096 false) (λ q lt. none_at q (omega arith))
+seen_empty p n = seen_where p (replicate n 0) (λ q. false) (λ q lt. unmarked n q)
 
-here : (q : ℕ) → (q == q) ≡ true
-here q = grind (arith, nat_tests)
+pub seen_full : (p : ℕ) (words : List ℕ) → ((q : ℕ) → q < p → bit_of words q ≡ nat_lt q p) → seen p words ≡ full_set p
+unfolding full_set
+seen_full p words marks = seen_where p words (λ q. true) (λ q lt. marks q lt ∙ lt-ltb q p lt)
 
-elsewhere : (q n : ℕ) → q ≢ n → (q == n) ≡ false
-elsewhere q n ne = grind (arith, nat_tests)
+pub full_clear : (p : ℕ) (words : List ℕ) → length words ≡ 64 → ((q : ℕ) → q < 4096 → bit_of words q ≡ nat_lt q p) → AreClearFrom words p
+full_clear p words len marks q le = elim (cases_lt q 4096) [
+  | inl lt ↦ marks q lt ∙ le-ltb q p le
+  | inr past_all ↦ none_past words q (omega arith)
+]
 
-put_true : (x y : Bool) → y ≡ true → true ≡ (x || y)
-put_true true y e = refl
-put_true false y e = sym e
-
-put_false : (x y : Bool) → y ≡ true → false ≡ (x && not y)
-put_false true y e = rw e refl
-put_false false y e = refl
-
-or_other : (x y : Bool) → y ≡ false → x ≡ (x || y)
-or_other true y e = refl
-or_other false y e = sym e
-
-and_other : (x y : Bool) → y ≡ false → x ≡ (x && not y)
-and_other true y e = rw e refl
-and_other false y e = refl
-
--- one flag set, or cleared
-pub seen_with : (p : ℕ) (flags : List Bool) (s : PartitionSet) (n : ℕ) → p ≤ 4096 → length flags ≡ 4096 → seen p flags ≡ s → n < p → seen p (slice_set flags n true) ≡ with_one s n
+-- ---- one number more, or less
+pub seen_with : (p : ℕ) (words old : List ℕ) (s : PartitionSet) (n : ℕ) → seen p old ≡ s → ((q : ℕ) → bit_of old q ≡ is_in s q) → ((q : ℕ) → bit_of words q ≡ (bit_of old q || (q == n))) → seen p words ≡ with_one s n
 unfolding with_one
-seen_with p flags s n few len e lt =
-    let below = below_is p flags s few len e in
-    let f : ℕ → Bool = λ q. is_in s q || (q == n) in
-    seen_where p (slice_set flags n true) f few (length-set flags n true ∙ len) (λ q within. elim (cases_eq q n) [
-      | inl same ↦ rw same (get_or-set_same flags n true false (omega arith) ∙ put_true (is_in s n) (n == n) (here n))
-      | inr other ↦ get_or-set_other flags n q true false other ∙ flag_is p flags s q within e ∙ or_other (is_in s q) (q == n) (elsewhere q n other)
-    ]) ∙ ap (λ k. set_where k f) (sym below)
+seen_with p words old s n view marks with = seen_where p words (λ q. is_in s q || (q == n)) (λ q lt. with q ∙ ap (λ b. b || (q == n)) (marks q)) ∙ ap (λ k. set_where k (λ q. is_in s q || (q == n))) (sym (below_is p old s view))
 
-pub seen_without : (p : ℕ) (flags : List Bool) (s : PartitionSet) (n : ℕ) → p ≤ 4096 → length flags ≡ 4096 → seen p flags ≡ s → n < p → seen p (slice_set flags n false) ≡ without_one s n
+pub seen_without : (p : ℕ) (words old : List ℕ) (s : PartitionSet) (n : ℕ) → seen p old ≡ s → ((q : ℕ) → bit_of old q ≡ is_in s q) → ((q : ℕ) → bit_of words q ≡ (bit_of old q && not (q == n))) → seen p words ≡ without_one s n
 unfolding without_one
-seen_without p flags s n few len e lt =
-    let below = below_is p flags s few len e in
-    let f : ℕ → Bool = λ q. is_in s q && not (q == n) in
-    seen_where p (slice_set flags n false) f few (length-set flags n false ∙ len) (λ q within. elim (cases_eq q n) [
-      | inl same ↦ rw same (get_or-set_same flags n false false (omega arith) ∙ put_false (is_in s n) (n == n) (here n))
-      | inr other ↦ get_or-set_other flags n q false false other ∙ flag_is p flags s q within e ∙ and_other (is_in s q) (q == n) (elsewhere q n other)
-    ]) ∙ ap (λ k. set_where k f) (sym below)
+seen_without p words old s n view marks with = seen_where p words (λ q. is_in s q && not (q == n)) (λ q lt. with q ∙ ap (λ b. b && not (q == n)) (marks q)) ∙ ap (λ k. set_where k (λ q. is_in s q && not (q == n))) (sym (below_is p old s view))
+
+other_id : (q n : ℕ) → n < q → (q == n) ≡ false
+other_id q n lt = grind (arith, nat_tests)
+
+pub with_clear : (p : ℕ) (words old : List ℕ) (n : ℕ) → n < p → AreClearFrom old p → ((q : ℕ) → bit_of words q ≡ (bit_of old q || (q == n))) → AreClearFrom words p
+with_clear p words old n lt clear with q le = with q ∙ neither (bit_of old q) (q == n) (clear q le) (other_id q n (omega arith))
+
+pub without_clear : (p : ℕ) (words old : List ℕ) (n : ℕ) → AreClearFrom old p → ((q : ℕ) → bit_of words q ≡ (bit_of old q && not (q == n))) → AreClearFrom words p
+without_clear p words old n clear with q le = with q ∙ not_first (bit_of old q) (not (q == n)) (clear q le)
 
 -- a number that is not in the set is taken out of it
 pub without_past : (s : PartitionSet) (n : ℕ) → partitions_of s ≤ n → s ≡ without_one s n
-without_past s n le = same_set s (without_one s n) (sym (partitions_without s n)) (λ q lt. let other : q ≢ n = omega arith in and_other (is_in s q) (q == n) (elsewhere q n other) ∙ sym (in_without s n q))
+without_past s n le = same_set s (without_one s n) (sym (partitions_without s n)) (λ q lt. stays (is_in s q) (q == n) (less_id q n (omega arith)) ∙ sym (in_without s n q))
+  where
+    stays : (x y : Bool) → y ≡ false → x ≡ (x && not y)
+    stays true y e = rw e refl
+    stays false y e = refl
 
--- ---- the lowest elements, kept as far as n with so many left
-pub record AreTrimmed (old : List Bool) (s : PartitionSet) (k n : ℕ) (flags : List Bool) (left : ℕ) : Type 0 where
-  pub marked : AreMarked old (λ q. is_in s q && nat_lt (rank s q) k) n flags
-  pub counted : left ≡ k - rank s n
+    less_id : (q n : ℕ) → q < n → (q == n) ≡ false
+    less_id q n lt = grind (arith, nat_tests)
 
-pub trimmed_none : (old : List Bool) (s : PartitionSet) (k : ℕ) → length old ≡ 4096 → AreTrimmed old s k 0 old k
-trimmed_none old s k len = record { marked = marked_none old _ len; counted = omega (arith, rank_is s 0) }
+-- ---- what holds of some number
+any_below-same : (n : ℕ) (f g : ℕ → Bool) → ((q : ℕ) → f q ≡ g q) → any_below n f ≡ any_below n g
+any_below-same zero f g same = refl
+any_below-same (suc n) f g same = rw (any_below-same n f g same, same n) refl
 
-keeps_in : (x : Bool) (r k left : ℕ) → x ≡ true → left ≡ k - r → nat_lt 0 left ≡ (x && nat_lt r k)
-keeps_in true r k left e l = grind (arith, nat_tests)
-keeps_in false r k left e l = absurd (grind (arith, e))
+any_below-stops : (p n : ℕ) (f : ℕ → Bool) → p ≤ n → ((q : ℕ) → p ≤ q → f q ≡ false) → any_below n f ≡ any_below p f
+any_below-stops p zero f le none = let e : p ≡ 0 = omega arith in rw e refl
+any_below-stops p (suc n) f le none = elim (cases_lt p (suc n)) [
+  | inl lt ↦ rw (none n (omega arith), any_below-stops p n f (omega arith) none) (or_none (any_below p f))
+  | inr ge ↦ let e : p ≡ suc n = omega arith in rw e refl
+]
+  where
+    or_none : (x : Bool) → (x || false) ≡ x
+    or_none true = refl
+    or_none false = refl
 
-pub trimmed_in : (old : List Bool) (s : PartitionSet) (k n : ℕ) (flags : List Bool) (left : ℕ) → n < 4096 → is_in s n ≡ true → AreTrimmed old s k n flags left → AreTrimmed old s k (n + 1) (slice_set flags n (nat_lt 0 left)) (left - 1)
-trimmed_in old s k n flags left lt e t = record {
-  marked = marked_one old _ n flags (nat_lt 0 left) lt (keeps_in (is_in s n) (rank s n) k left e t.counted) t.marked;
-  counted = omega (arith, t.counted, rank_in s n e);
+pub some_shown : (p n m : ℕ) (words : List ℕ) (s : PartitionSet) (f g : ℕ → Bool) → IsShown p n words s → m ≡ length (take n words) → ((q : ℕ) → f q ≡ g q) → ((q : ℕ) → is_in s q ≡ false → g q ≡ false) → any_below (64 * m) f ≡ any_below (partitions_of s) g
+some_shown p n m words s f g shown len same none =
+    let enough = shown.enough in
+    let below = below_is p words s shown.view in
+    any_below-same (64 * m) f g same ∙ any_below-stops (partitions_of s) (64 * m) g (omega (arith, len, long_front p n words s shown)) (λ q le. none q (past s q le))
+
+-- ---- counted
+pub count_shown : (p n : ℕ) (words : List ℕ) (s : PartitionSet) → IsShown p n words s → how_many (64 * length (take n words)) (bit_of (take n words)) ≡ size s
+count_shown p n words s shown =
+    let enough = shown.enough in
+    let below = below_is p words s shown.view in
+    let m : ℕ = 64 * length (take n words) in
+    how_many-same m (bit_of (take n words)) (is_in s) (λ q lt. shown_front p n words s shown q)
+    ∙ (how_many-stops (partitions_of s) m (is_in s) (past s) (omega (arith, long_front p n words s shown)) ∙ sym (size_is s))
+
+-- ---- the same set
+pub same_shown : (p n p' n' : ℕ) (words others : List ℕ) (s t : PartitionSet) (x : Bool) → IsShown p n words s → IsShown p' n' others t → partitions_of s ≡ partitions_of t
+    → IsTrue x ↔ ((q : ℕ) → bit_of (take n words) q ≡ bit_of (take n' others) q) → IsTrue x ↔ (s ≡ t)
+same_shown p n p' n' words others s t x mine theirs len told = (
+  λ h. same_set s t len (λ q lt. sym (shown_front p n words s mine q) ∙ (told.0 h q ∙ shown_front p' n' others t theirs q)),
+  λ e. told.1 (λ q. shown_front p n words s mine q ∙ (ap (λ u. is_in u q) e ∙ sym (shown_front p' n' others t theirs q))),
+)
+
+pub same_value : (s t : PartitionSet) (x : Bool) → IsTrue x ↔ (s ≡ t) → x ≡ is_same s t
+same_value s t true told = let e : s ≡ t = told.0 refl in sym (ap (is_same s) (sym e) ∙ same_self s)
+same_value s t false told = false_is (is_same s t) (λ h. told.1 (same_says s t h))
+  where
+    false_is : (x : Bool) → (x ≡ true → false ≡ true) → false ≡ x
+    false_is true h = h refl
+    false_is false h = refl
+
+-- ---- the lowest element from a number on
+pub clear_shown : (p n : ℕ) (words : List ℕ) (s : PartitionSet) (from : ℕ) → IsShown p n words s → AreClearFrom (take n words) from → (q : ℕ) → from ≤ q → is_in s q ≡ false
+clear_shown p n words s from shown clear q le = sym (shown_front p n words s shown q) ∙ clear q le
+
+pub lowest_shown : (p n : ℕ) (words : List ℕ) (s : PartitionSet) (from q : ℕ) → IsShown p n words s → IsLowestFrom (take n words) from q → IsLowestElement s from q
+lowest_shown p n words s from q shown low = record {
+  member = sym (shown_front p n words s shown q) ∙ low.set;
+  not_below = low.not_below;
+  none = λ k le lt. sym (shown_front p n words s shown k) ∙ low.clear k le lt;
 }
 
-leaves_out : (x b : Bool) → x ≡ false → false ≡ (x && b)
-leaves_out true b e = absurd (grind (arith, e))
-leaves_out false b e = refl
+pub found_shown : (p n : ℕ) (words : List ℕ) (s : PartitionSet) (from : ℕ) (found : Option ℕ) → IsShown p n words s → MatchOption found (AreClearFrom (take n words) from) (IsLowestFrom (take n words) from)
+    → MatchOption found ((q : ℕ) → from ≤ q → is_in s q ≡ false) (IsLowestElement s from)
+found_shown p n words s from None shown told = clear_shown p n words s from shown told
+found_shown p n words s from (Some q) shown told = lowest_shown p n words s from q shown told
 
-pub trimmed_out : (old : List Bool) (s : PartitionSet) (k n : ℕ) (flags : List Bool) (left : ℕ) → get_or flags n false ≡ false → is_in s n ≡ false → AreTrimmed old s k n flags left → AreTrimmed old s k (n + 1) flags left
-trimmed_out old s k n flags left at e t = record {
-  marked = marked_kept old _ n flags (at ∙ leaves_out (is_in s n) (nat_lt (rank s n) k) e) t.marked;
-  counted = omega (arith, t.counted, rank_out s n e);
-}
-
--- ---- a test of two memberships, as R tells it: a flag at each number, and an answer for all
-pub tested_at : (R : Bool → Bool → Bool → Type 0) (a b x a' b' x' : Bool) → a ≡ a' → b ≡ b' → x ≡ x' → R a b x → R a' b' x'
-tested_at R a b x a' b' x' e f g h = subst (λ v. R v b' x') e (subst (λ v. R a v x') f (subst (R a b) g h))
-
-pub tested_more : (R : Bool → Bool → Bool → Type 0) (s t : PartitionSet) (n : ℕ) (flags : List Bool) (a b x : Bool) → n < length flags → a ≡ is_in s n → b ≡ is_in t n → R a b x
-    → ((q : ℕ) → q < n → R (is_in s q) (is_in t q) (get_or flags q false)) → (q : ℕ) → q < n + 1 → R (is_in s q) (is_in t q) (get_or (slice_set flags n x) q false)
-tested_more R s t n flags a b x lt mine theirs told before q below = elim (cases_lt q n) [
-  | inl earlier ↦ let other : q ≢ n = omega arith in subst (R (is_in s q) (is_in t q)) (sym (get_or-set_other flags n q x false other)) (before q earlier)
-  | inr late ↦
-      let same : q ≡ n = omega arith in
-      rw same (tested_at R a b x (is_in s n) (is_in t n) (get_or (slice_set flags n x) n false) mine theirs (sym (get_or-set_same flags n x false lt)) told)
-]
-
-pub failed_more : (R : Bool → Bool → Bool → Type 0) (s t : PartitionSet) (n : ℕ) (a b x : Bool) → a ≡ is_in s n → b ≡ is_in t n → x ≡ false → R a b x
-    → ((q : ℕ) → q < n → R (is_in s q) (is_in t q) false) → (q : ℕ) → q < n + 1 → R (is_in s q) (is_in t q) false
-failed_more R s t n a b x mine theirs fails told before q below = elim (cases_lt q n) [
-  | inl earlier ↦ before q earlier
-  | inr late ↦ let same : q ≡ n = omega arith in rw same (tested_at R a b x (is_in s n) (is_in t n) false mine theirs fails told)
-]
-
--- whether a test has passed below n
-abbrev pub HasPassed : (Bool → Bool → Bool → Type 0) → PartitionSet → PartitionSet → ℕ → Bool → Type 0
-HasPassed R s t n passed = MatchBool passed ((q : ℕ) × (q < n) × R (is_in s q) (is_in t q) true) ((q : ℕ) → q < n → R (is_in s q) (is_in t q) false)
-
-pub passed_more : (R : Bool → Bool → Bool → Type 0) (s t : PartitionSet) (n : ℕ) (a b x passed : Bool) → a ≡ is_in s n → b ≡ is_in t n → R a b x → HasPassed R s t n passed → HasPassed R s t (n + 1) (passed || x)
-passed_more R s t n a b x true mine theirs told h = (h.0, omega (arith, h.1), h.2)
-passed_more R s t n a b true false mine theirs told h = (n, omega arith, tested_at R a b true (is_in s n) (is_in t n) true mine theirs refl told)
-passed_more R s t n a b false false mine theirs told h = failed_more R s t n a b false mine theirs refl told h
-
-pub passed_none : (R : Bool → Bool → Bool → Type 0) (s t : PartitionSet) → HasPassed R s t 0 false
-passed_none R s t q lt = absurd (omega (arith, lt))
-
-pub passed_whole : (R : Bool → Bool → Bool → Type 0) (s t : PartitionSet) (n : ℕ) (passed : Bool) → n ≡ partitions_of s → HasPassed R s t n passed → HasPassed R s t (partitions_of s) passed
-passed_whole R s t n passed e h = subst (λ k. HasPassed R s t k passed) e h
-
-pub tested_seen : (R : Bool → Bool → Bool → Type 0) (a b : Bool) (p : ℕ) (flags : List Bool) (q : ℕ) → q < p → R a b (get_or flags q false) → R a b (is_in (seen p flags) q)
-tested_seen R a b p flags q lt h = subst (R a b) (sym (seen_flag p flags q lt)) h
-
-pub more_left : (old flags : List Bool) (n : ℕ) (x : Bool) → ((q : ℕ) → n ≤ q → get_or flags q false ≡ get_or old q false)
-    → (q : ℕ) → n + 1 ≤ q → get_or (slice_set flags n x) q false ≡ get_or old q false
-more_left old flags n x left q le = let other : q ≢ n = omega arith in get_or-set_other flags n q x false other ∙ left q (omega arith)
+pub found_below : (p n : ℕ) (words : List ℕ) (s : PartitionSet) (from : ℕ) (found : Option ℕ) → IsShown p n words s → MatchOption found (AreClearFrom (take n words) from) (IsLowestFrom (take n words) from) → IfSome found (λ q. q < 4096)
+found_below p n words s from None shown told = tt
+found_below p n words s from (Some q) shown told = below (in_below s q (sym (shown_front p n words s shown q) ∙ told.set))
+  where
+    below : q < partitions_of s → q < 4096
+    below lt =
+        let is = below_is p words s shown.view in
+        let few = shown.few in
+        omega arith

@@ -157,7 +157,7 @@ how_many-rises m (suc n) f le = elim (cases_lt m (suc n)) [
   | inr ge ↦ let e : m ≡ suc n = omega arith in rw e (omega arith)
 ]
 
-how_many-stops : (p n : ℕ) (f : ℕ → Bool) → ((q : ℕ) → p ≤ q → f q ≡ false) → p ≤ n → how_many n f ≡ how_many p f
+pub how_many-stops : (p n : ℕ) (f : ℕ → Bool) → ((q : ℕ) → p ≤ q → f q ≡ false) → p ≤ n → how_many n f ≡ how_many p f
 how_many-stops p zero f none le = let e : p ≡ 0 = omega arith in rw e refl
 how_many-stops p (suc n) f none le = elim (cases_lt p (suc n)) [
   | inl lt ↦ let at = none n (omega arith) in rw at (omega (arith, how_many-stops p n f none (omega arith)))
@@ -275,7 +275,7 @@ pub lowest_splits : (n : ℕ) (s : PartitionSet) (q : ℕ) → one (is_in (lowes
 lowest_splits n s q = omega (arith, one_in_minus s (lowest n s) q (lowest_within n s q))
 
 -- where there are no more than n, the n lowest are all
-all_low : (x : Bool) (r n : ℕ) → (x ≡ true → r < n) → x ≡ (x && nat_lt r n)
+pub all_low : (x : Bool) (r n : ℕ) → (x ≡ true → r < n) → x ≡ (x && nat_lt r n)
 all_low true r n low = sym (lt-ltb r n (low refl))
 all_low false r n low = refl
 
@@ -436,7 +436,7 @@ union_told s t u len same told = same_set u (union s t) (same ∙ sym (partition
 pub minus_told : (s t u : PartitionSet) → partitions_of u ≡ partitions_of s → ((q : ℕ) → q < partitions_of s → is_in u q ≡ (is_in s q && not (is_in t q))) → u ≡ minus s t
 minus_told s t u same told = same_set u (minus s t) (same ∙ sym (partitions_minus s t)) (λ q lt. told q (omega (arith, lt, same)) ∙ sym (in_minus s t q))
 
-any_below-at : (n : ℕ) (f : ℕ → Bool) (q : ℕ) → q < n → f q ≡ true → any_below n f ≡ true
+pub any_below-at : (n : ℕ) (f : ℕ → Bool) (q : ℕ) → q < n → f q ≡ true → any_below n f ≡ true
 any_below-at n f q lt h = true_is (any_below n f) true (λ no e. let none = any_below-none n f no q lt in cc (none, h)) refl
 
 pub any_told : (f : Bool → Bool → Bool) (s t : PartitionSet) (b : Bool) (T F : Type 0) → MatchBool b T F

@@ -15,8 +15,6 @@ pub struct Elements<'a> {
     plane: &'a Plane,
     /// The elements below this have been given.
     from: u32,
-    /// How many partitions there are.
-    end: u32,
 }
 
 impl<'a> Model for Elements<'a> {
@@ -24,22 +22,19 @@ impl<'a> Model for Elements<'a> {
 
     ghost Value = { List ℕ };
 
-    ghost use Rattle.bit_planes.specs.Private.ElementsLeft.{elements_left, IsValidElements};
+    ghost use Rattle.bit_planes.specs.Private.ElementsLeft.{elements_left};
 
     ghost view = { elements_left };
-
-    ghost invariant = { IsValidElements };
 }
 
 impl<'a> Elements<'a> {
-    /// All elements of a set. Over an empty set it begins at its end, since `next` leaves early.
+    /// All elements of a set.
     pub(crate) fn new(plane: &'a Plane) -> Elements<'a>
         ensures value { result ≡ elements plane.now }
         ensures few { length result ≤ MOST_PARTITIONS }
     {
-        let end = plane.partitions();
-        let from = if plane.is_empty() { end } else { 0 };
-        Elements { plane, from, end }
+        prove!(plane.partitions() <= MOST_PARTITIONS);
+        Elements { plane, from: 0 }
     }
 }
 
@@ -51,13 +46,8 @@ impl<'a> Iterator for Elements<'a> {
     ghost remaining = { item_count (λ s. s) };
 
     fn next(&mut self) -> Option<u32> {
-        for q in self.from..self.end {
-            if self.plane.contains(q) {
-                self.from = q + 1;
-                return Some(q);
-            }
-        }
-        self.from = self.end;
-        None
+        let q = self.plane.lowest_from(self.from)?;
+        self.from = q + 1;
+        Some(q)
     }
 }

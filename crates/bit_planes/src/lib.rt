@@ -1,6 +1,7 @@
 //! Sets of partitions in place, and a set for each of some members.
 #![tactic(auto)]
 
+mod bits;
 mod elements;
 mod laws;
 mod plane;
@@ -11,5 +12,7 @@ pub use laws::{equal_by_look_up, equal_by_members};
 pub use plane::Plane;
 pub use rows::{Members, PlaneRows, Rows};
 
+#[cfg(test)]
+mod plain_plane;
 #[cfg(test)]
 mod tests;

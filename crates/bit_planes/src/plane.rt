@@ -1,17 +1,18 @@
 //! A set of partitions.
 
-ghost use Rattle.std.specs.Prelude.{◌≡◌, ◌<◌, ◌≤◌, ◌==◌, ◌&&◌, ◌||◌, ◌↔◌, ℕ, false, true, not, nat_lt, min, length, IsTrue, All};
+ghost use Rattle.std.specs.Prelude.{◌≡◌, ◌<◌, ◌≤◌, ◌==◌, ◌&&◌, ◌||◌, ◌↔◌, ℕ, false, true, not, nat_lt, min, length, IsTrue, IfSome, MatchOption, All};
 ghost use Rattle.std.specs.List.{list_any};
-ghost use Rattle.bit_planes.specs.Private.Tests.{IsCombined, TellsSomePass};
-ghost use Rattle.bit_planes.specs.PartitionSet.{partitions_of, is_in, any_below, rank, size, elements, empty_set, full_set, with_one, without_one, union, minus, lowest, meets, is_within, is_same};
+ghost use Rattle.bit_planes.specs.Private.ElementsFrom.{IsLowestElement};
+ghost use Rattle.bit_planes.specs.PartitionSet.{partitions_of, is_in, rank, size, elements, empty_set, full_set, with_one, without_one, union, minus, lowest, meets, is_within, is_same};
 
+use crate::bits::{self, WORD_BITS};
 use crate::elements::Elements;
 use lane_words::MOST_PARTITIONS;
 use std::fmt;
 use std::marker::Model;
 
-/// The most partitions, as a length.
-const MOST: usize = MOST_PARTITIONS as usize;
+/// How many words mark the most partitions.
+const WORDS: usize = (MOST_PARTITIONS / WORD_BITS) as usize;
 
 /// A set of partitions, of which there are 1 to 4096. It stands in place: no call on it takes
 /// memory.
@@ -19,8 +20,8 @@ const MOST: usize = MOST_PARTITIONS as usize;
 pub struct Plane {
     /// How many partitions there are.
     partitions: u32,
-    /// Whether each number is in the set: false from `partitions` on.
-    flags: [bool; MOST],
+    /// Each number of the set is marked by a bit. From `partitions` on no bit is set.
+    words: [u64; WORDS],
 }
 
 impl Model for Plane {
@@ -44,7 +45,7 @@ impl Plane {
     {
         Plane {
             partitions,
-            flags: [false; MOST],
+            words: [0; WORDS],
         }
     }
 
@@ -55,11 +56,9 @@ impl Plane {
         ensures elements { (q : ℕ) → is_in result q ≡ nat_lt q partitions }
         ensures partitions { partitions_of result ≡ partitions }
     {
-        let mut flags = [false; MOST];
-        for q in 0..partitions as usize {
-            flags[q] = true;
-        }
-        Plane { partitions, flags }
+        let mut words = [0; WORDS];
+        bits::fill_below(&mut words, partitions);
+        Plane { partitions, words }
     }
 
     /// The set of these of this many partitions, 1 to 4096.
@@ -83,7 +82,7 @@ impl Plane {
     {
         Plane {
             partitions: self.partitions,
-            flags: self.flags,
+            words: self.words,
         }
     }
 
@@ -102,7 +101,7 @@ impl Plane {
         ensures elements { (n : ℕ) → is_in self.new n ≡ (is_in self.old n || (n == q)) }
         ensures partitions { partitions_of self.new ≡ partitions_of self.old }
     {
-        self.flags[q as usize] = true;
+        bits::set(&mut self.words, q);
     }
 
     /// Takes a number out of the set. One that is not in it, as each that is no partition, leaves
@@ -113,7 +112,7 @@ impl Plane {
         ensures partitions { partitions_of self.new ≡ partitions_of self.old }
     {
         if q < self.partitions {
-            self.flags[q as usize] = false;
+            bits::clear(&mut self.words, q);
         }
     }
 
@@ -122,7 +121,7 @@ impl Plane {
         ensures value { result ≡ is_in self.now q }
         ensures below { IsTrue result → q < partitions_of self.now }
     {
-        q < self.partitions && self.flags[q as usize]
+        q < self.partitions && bits::is_set(&self.words, q)
     }
 
     /// What is in this set or in the other, which is of as many partitions.
@@ -132,7 +131,13 @@ impl Plane {
         ensures elements { (q : ℕ) → is_in result q ≡ (is_in self.now q || is_in other.now q) }
         ensures partitions { partitions_of result ≡ partitions_of self.now }
     {
-        self.combined(other, |mine, theirs| mine || theirs)
+        let used = bits::words_for(self.partitions);
+        let mut words = self.words;
+        bits::or_into(&mut words[..used], &other.words[..used]);
+        Plane {
+            partitions: self.partitions,
+            words,
+        }
     }
 
     /// What is in this set and not in the other, which is of as many partitions.
@@ -143,7 +148,13 @@ impl Plane {
             → is_in result q ≡ (is_in self.now q && not (is_in other.now q)) }
         ensures partitions { partitions_of result ≡ partitions_of self.now }
     {
-        self.combined(other, |mine, theirs| mine && !theirs)
+        let used = bits::words_for(self.partitions);
+        let mut words = self.words;
+        bits::and_not_into(&mut words[..used], &other.words[..used]);
+        Plane {
+            partitions: self.partitions,
+            words,
+        }
     }
 
     /// The `n` lowest elements, or all where there are no more.
@@ -154,23 +165,11 @@ impl Plane {
         ensures partitions { partitions_of result ≡ partitions_of self.now }
         ensures size { size result ≡ min n (size self.now) }
     {
-        if n == 0 {
-            return Plane::new(self.partitions);
-        }
-        if self.count() <= n {
-            return self.copy();
-        }
-        let mut flags = self.flags;
-        let mut left = n;
-        for q in 0..self.partitions as usize {
-            if flags[q] {
-                flags[q] = left > 0;
-                left = left.saturating_sub(1);
-            }
-        }
+        let mut words = self.words;
+        bits::keep_lowest(&mut words[..bits::words_for(self.partitions)], n);
         Plane {
             partitions: self.partitions,
-            flags,
+            words,
         }
     }
 
@@ -181,7 +180,8 @@ impl Plane {
         ensures elements { (result ≡ false)
             ↔ ((q : ℕ) → (is_in self.now q && is_in other.now q) ≡ false) }
     {
-        self.some_pass(other, |mine, theirs| mine && theirs)
+        let used = bits::words_for(self.partitions);
+        bits::any_and(&self.words[..used], &other.words[..used])
     }
 
     /// Whether each element is in the other set, which is of as many partitions.
@@ -191,7 +191,8 @@ impl Plane {
         ensures elements { IsTrue result
             ↔ ((q : ℕ) → is_in self.now q ≡ true → is_in other.now q ≡ true) }
     {
-        !self.some_pass(other, |mine, theirs| mine && !theirs)
+        let used = bits::words_for(self.partitions);
+        bits::is_within(&self.words[..used], &other.words[..used])
     }
 
     /// Whether the other, which is of as many partitions, is the same set.
@@ -200,7 +201,8 @@ impl Plane {
         ensures value { result ≡ is_same self.now other.now }
         ensures equal { IsTrue result ↔ (self.now ≡ other.now) }
     {
-        !self.some_pass(other, |mine, theirs| mine != theirs)
+        let used = bits::words_for(self.partitions);
+        bits::are_equal(&self.words[..used], &other.words[..used])
     }
 
     /// How many elements there are.
@@ -208,13 +210,7 @@ impl Plane {
         ensures value { result ≡ size self.now }
         ensures most { result ≤ partitions_of self.now }
     {
-        let mut count = 0;
-        for q in 0..self.partitions as usize {
-            if self.flags[q] {
-                count += 1;
-            }
-        }
-        count
+        bits::count(&self.words[..bits::words_for(self.partitions)])
     }
 
     /// The elements, in rising order.
@@ -225,46 +221,14 @@ impl Plane {
         Elements::new(self)
     }
 
-    /// Whether no number is in the set. All flags are looked at, as by `some_pass`.
-    pub(crate) fn is_empty(&self) -> bool
-        ensures { result ≡ not (any_below (partitions_of self.now) (is_in self.now)) }
+    /// The lowest element that is not below `from`, if there is one.
+    pub(crate) fn lowest_from(&self, from: u32) -> Option<u32>
+        ensures value { MatchOption result
+            ((q : ℕ) → from ≤ q → is_in self.now q ≡ false)
+            (IsLowestElement self.now from) }
+        ensures below { IfSome result (λ q. q < MOST_PARTITIONS) }
     {
-        let mut found = false;
-        for q in 0..self.partitions as usize {
-            found |= self.flags[q];
-        }
-        !found
-    }
-
-    /// The partitions of which a test holds: whether one is in this set, and whether in the other.
-    fn combined<F: Fn(bool, bool) -> bool>(&self, other: &Plane, test: F) -> Plane
-        requires callable { F.IsAlwaysCallable test }
-        requires partitions { partitions_of self.now ≡ partitions_of other.now }
-        ensures elements { IsCombined (F.post test) self.now other.now result }
-        ensures partitions { partitions_of result ≡ partitions_of self.now }
-    {
-        let mut flags = self.flags;
-        for q in 0..self.partitions as usize {
-            flags[q] = test(flags[q], other.flags[q]);
-        }
-        Plane {
-            partitions: self.partitions,
-            flags,
-        }
-    }
-
-    /// Whether a test holds of some partition: whether it is in this set, and whether in the other.
-    /// All are tested, since a loop that leaves early is not made into one over many at a time.
-    fn some_pass<F: Fn(bool, bool) -> bool>(&self, other: &Plane, test: F) -> bool
-        requires callable { F.IsAlwaysCallable test }
-        requires partitions { partitions_of self.now ≡ partitions_of other.now }
-        ensures { TellsSomePass (F.post test) self.now other.now result }
-    {
-        let mut passed = false;
-        for q in 0..self.partitions as usize {
-            passed |= test(self.flags[q], other.flags[q]);
-        }
-        passed
+        bits::lowest_from(&self.words[..bits::words_for(self.partitions)], from)
     }
 }
 

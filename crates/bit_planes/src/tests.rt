@@ -1,8 +1,13 @@
 //! Each call once on its happy path, at one partition, few, a number past a multiple of 64, and the
 //! most.
 
+ghost use Rattle.std.specs.Prelude.{◌≡◌, ◌≤◌};
+ghost use Rattle.bit_planes.specs.PartitionSet.{partitions_of};
+
 use super::*;
+use crate::plain_plane::PlainPlane;
 use lane_words::{MOST_MEMBERS, MOST_PARTITIONS};
+use std::process::Abort;
 use std::test::Fail;
 
 #[test]
@@ -103,6 +108,118 @@ fn keeps_the_most_rows(rt: HostRuntime) -> Result<(), Fail> {
     assert!(rt; rows.members().eq(0..MOST_MEMBERS as u32));
     for (member, set) in rows.iter() {
         assert!(rt; set.iter().eq([member]), "{member}");
+    }
+    Ok(())
+}
+
+/// How many partitions there are in the sets that are tried both ways: around one word, eight words
+/// and the most.
+const COUNTS: [u32; 9] = [1, 63, 64, 65, 511, 512, 513, 4095, 4096];
+
+/// How many kinds of sets are tried both ways.
+const KINDS: u32 = 6;
+
+/// Whether a number is in the set of this kind.
+fn is_of_kind(kind: u32, partitions: u32, q: u32) -> bool
+    requires { 1 ≤ partitions }
+{
+    match kind {
+        0 => q == partitions - 1,
+        1 => q == 0,
+        2 => q % 3 == 1,
+        3 => q / 64 % 2 == 0,
+        4 => true,
+        _ => false,
+    }
+}
+
+/// The set of a kind, as words and as truth values.
+fn both_ways(kind: u32, partitions: u32) -> (Plane, PlainPlane)
+    requires { (1 ≤ partitions) × (partitions ≤ MOST_PARTITIONS) }
+    ensures { (partitions_of result.0 ≡ partitions) × (partitions_of result.1 ≡ partitions) }
+{
+    let mut set = Plane::new(partitions);
+    let mut plain = PlainPlane::new(partitions);
+    for q in 0..partitions {
+        if is_of_kind(kind, partitions, q) {
+            set.insert(q);
+            plain.insert(q);
+        }
+    }
+    (set, plain)
+}
+
+/// Whether both have the same elements, by `contains` and by `iter`.
+fn are_alike(set: &Plane, plain: &PlainPlane) -> bool {
+    let mut elements = set.iter();
+    let mut alike = true;
+    for q in 0..set.partitions() + 1 {
+        let there = plain.contains(q);
+        alike &= set.contains(q) == there;
+        if there {
+            alike &= elements.next() == Some(q);
+        }
+    }
+    alike && elements.next().is_none()
+}
+
+#[test]
+fn each_call_beside_the_plain_program(rt: HostRuntime) -> Result<(), Fail> {
+    for partitions in COUNTS {
+        for kind in 0..KINDS {
+            let (set, plain) = both_ways(kind, partitions);
+            assert!(rt; are_alike(&set, &plain), "{kind} of {partitions}");
+            assert_eq!(rt; set.count(), plain.count(), "{kind} of {partitions}");
+            for n in [
+                0,
+                1,
+                63,
+                64,
+                65,
+                512,
+                set.count().saturating_sub(1),
+                partitions,
+            ] {
+                let (lowest, plainly) = (set.lowest(n), plain.lowest(n));
+                assert!(rt;
+                    are_alike(&lowest, &plainly),
+                    "{n} of {kind} of {partitions}"
+                );
+            }
+            for other in 0..KINDS {
+                check_two(
+                    &rt,
+                    both_ways(kind, partitions),
+                    both_ways(other, partitions),
+                );
+            }
+        }
+    }
+    Ok(())
+}
+
+/// Each call on two sets, as words and as truth values.
+fn check_two(rt: &impl Abort, one: (Plane, PlainPlane), other: (Plane, PlainPlane))
+    requires words { partitions_of one.0 ≡ partitions_of other.0 }
+    requires plain { partitions_of one.1 ≡ partitions_of other.1 }
+{
+    let (s, plain_s) = one;
+    let (t, plain_t) = other;
+    assert!(rt; are_alike(&s.union(&t), &plain_s.union(&plain_t)));
+    assert!(rt; are_alike(&s.minus(&t), &plain_s.minus(&plain_t)));
+    assert_eq!(rt; s.meets(&t), plain_s.meets(&plain_t));
+    assert_eq!(rt; s.within(&t), plain_s.within(&plain_t));
+    assert_eq!(rt; s.same(&t), plain_s.same(&plain_t));
+}
+
+#[test]
+fn full_sets_lose_one_element(rt: HostRuntime) -> Result<(), Fail> {
+    for partitions in COUNTS {
+        let (mut set, mut plain) = (Plane::full(partitions), PlainPlane::full(partitions));
+        assert!(rt; are_alike(&set, &plain), "{partitions}");
+        set.remove(partitions / 2);
+        plain.remove(partitions / 2);
+        assert!(rt; are_alike(&set, &plain.copy()), "{partitions}");
     }
     Ok(())
 }

@@ -1,12 +1,8 @@
 -- How the elements that are left of a set are seen as a list.
-use Rattle.std.specs.Prelude.{◌≡◌, ℕ, List, drop}
-use Rattle.bit_planes.specs.PartitionSet.{partitions_of, rank, elements}
+use Rattle.std.specs.Prelude.{ℕ, List, drop}
+use Rattle.bit_planes.specs.PartitionSet.{rank, elements}
 use Rattle.bit_planes.specs.declared.elements.Elements.TheInside.{Inside}
 
 -- the elements that are not below the next number
 abbrev pub elements_left : Inside → List ℕ
 elements_left a = drop (rank a.plane.now a.from) (elements a.plane.now)
-
--- the end is how many partitions there are
-abbrev pub IsValidElements : Inside → Type 0
-IsValidElements a = a.end ≡ partitions_of a.plane.now

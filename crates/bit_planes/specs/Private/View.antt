@@ -1,16 +1,16 @@
 -- How a plane is seen as a set.
-use Rattle.std.specs.Prelude.{◌≡◌, ℕ, ◌<◌, ◌≤◌, false, take, slice_index_or}
+use Rattle.std.specs.Prelude.{◌≤◌}
 use Rattle.lane_words.specs.declared.limits.TheConstants.{MOST_PARTITIONS}
-use Rattle.bit_planes.specs.PartitionSet.{PartitionSet}
+use Rattle.bit_planes.specs.PartitionSet.{PartitionSet, set_where}
+use Rattle.bit_planes.specs.Private.Bits.{bit_of, AreClearFrom}
 use Rattle.bit_planes.specs.declared.plane.Plane.TheInside.{Inside}
 
--- the flags of the partitions
+-- the partitions whose bit is set
 abbrev pub plane_view : Inside → PartitionSet
-plane_view a = record { flags = take a.partitions a.flags }
+plane_view a = set_where a.partitions (bit_of a.words)
 
 -- what a plane keeps
 pub record IsValidPlane (a : Inside) : Type 0 where
   pub some : 1 ≤ a.partitions
   pub few : a.partitions ≤ MOST_PARTITIONS
-  pub clear : (q : ℕ) → a.partitions ≤ q → q < MOST_PARTITIONS
-      → slice_index_or a.flags q false ≡ false
+  pub clear : AreClearFrom a.words a.partitions

@@ -1,32 +1,23 @@
-use Rattle.std.proofs.Common.{rules, suc, ◌<◌, ◌≡◌, ◌∙◌, ℕ, drop, length, ap, sym, refl, arith}
-use Rattle.bit_planes.specs.PartitionSet.{partitions_of, elements, rank}
-use Rattle.bit_planes.proofs.Listed.{elements-at, elements-end}
-use Rattle.bit_planes.proofs.Sets.{rank_out, rank_past}
+use Rattle.std.proofs.Common.{rules, suc, ◌<◌, ◌≡◌, ◌∙◌, ℕ, [], length, ap, sym, arith}
+use Rattle.bit_planes.proofs.Listed.{elements-next, elements-over}
 use Rattle.bit_planes.proofs.elements.ElementsIterator.next.Goals as goal
 
 gone : {m n : ℕ} → m ≡ suc n → n < m
 gone e = omega (arith, e)
 
-pub loop-q-init : goal.loop-q-init
-loop-q-init c = record { left = c.self.view_is; same_end = refl; end = c.self.invariant }
+pub overflow_add-self : goal.overflow_add-self
+overflow_add-self c = record { fits = omega (arith, c.in_ok-q.ensures.below) }
 
-pub returns-then-contains : goal.returns-then-contains
-returns-then-contains c =
-    let steps = sym c.loop-q.invariant.left ∙ elements-at _ c.loop-q.q (sym c.contains.ensures.value ∙ c.if-contains.true) in
-    let shorter = gone (ap length steps) in
-    record { steps = steps; goes = search rules }
-
-pub loop-q-preserved : goal.loop-q-preserved
-loop-q-preserved c = record {
-  left = ap (λ r. drop r (elements c.loop-q.self-inside.plane.now)) (rank_out _ c.loop-q.q (sym c.contains.ensures.value ∙ c.if-contains.false)) ∙ c.loop-q.invariant.left;
-  same_end = c.loop-q.invariant.same_end;
-  end = c.loop-q.invariant.end;
-}
+pub returns-in_err-q-clause-steps : goal.returns-in_err-q-clause-steps
+returns-in_err-q-clause-steps c =
+    let over : c.args.self.now ≡ [] = sym c.self.view_is ∙ elements-over c.self.inside.plane.now c.self.inside.from c.in_err-q.ensures.value in
+    rw c.from_residual.ensures (over, over)
 
 pub returns-clause-steps : goal.returns-clause-steps
-returns-clause-steps c =
-    let end = c.loop-q.invariant.end in
-    let same_end = c.loop-q.invariant.same_end in
-    let s = c.loop-q.self-inside.plane.now in
-    let past = rank_past s c.loop-q.q (omega (arith, c.loop-q-test.false)) ∙ sym (rank_past s (partitions_of s) (omega arith)) in
-    (sym c.loop-q.invariant.left ∙ elements-end s _ past, elements-end s _ (ap (rank s) end))
+returns-clause-steps c = sym c.self.view_is ∙ elements-next _ c.self.inside.from c.in_ok-q.q c.in_ok-q.ensures.value
+
+pub returns-clause-goes : goal.returns-clause-goes
+returns-clause-goes c =
+    let steps = returns-clause-steps c in
+    let shorter = gone (ap length steps) in
+    search rules

@@ -1,49 +1,24 @@
-use Rattle.std.proofs.Common.{rules, ◌≡◌, ◌∙◌, ◌<◌, false, get_or, ap, sym, arith}
-use Rattle.bit_planes.specs.PartitionSet.{empty_set, partitions_of, is_in, size}
-use Rattle.bit_planes.proofs.Seen.{below_is, flag_is, trimmed_none, trimmed_in, trimmed_out, seen_lowest}
-use Rattle.bit_planes.proofs.Sets.{in_lowest, lowest_all, lowest_none, partitions_lowest, size_lowest}
+use Rattle.std.proofs.Common.{ℕ, ◌≡◌, ◌∙◌, ◌&&◌, ap, refl}
+use Rattle.std.specs.Prelude.{nat_lt}
+use Rattle.bit_planes.specs.Private.Bits.{bit_of}
+use Rattle.bit_planes.specs.PartitionSet.{partitions_of, is_in, rank, size}
+use Rattle.bit_planes.proofs.Seen.{IsShown, shown_front, rank_shown, seen_lowest, part_clear}
+use Rattle.bit_planes.proofs.Sets.{in_lowest, partitions_lowest, size_lowest}
 use Rattle.bit_planes.proofs.plane.Plane.lowest.Goals as goal
-use Rattle.bit_planes.proofs.plane.Plane.lowest.Goals.{then-flags-q, else-flags-q}
 
-pub loop-q-init : goal.loop-q-init
-loop-q-init c = trimmed_none _ c.args.self.now c.args.n c.self.told
-
-pub loop-q-preserved : goal.loop-q-preserved
-loop-q-preserved c =
-    let q = c.loop-q.q in
-    let flag : get_or c.loop-q.flags q false ≡ is_in c.args.self.now q = c.loop-q.invariant.marked.left q (omega arith) ∙ flag_is _ _ _ q c.loop-q-test.true c.self.view_is in
-    let few : q < 4096 = omega (arith, c.loop-q-test.true, c.self.invariant.few) in
-    elim c.if-flags-q.branch [
-      | then-flags-q w ↦ rw (w.flags-is, w.left-is, w.saturating_sub-left.ensures) (trimmed_in _ _ _ q c.loop-q.flags c.loop-q.left few (sym flag ∙ w.if-flags-q.true) c.loop-q.invariant)
-      | else-flags-q w ↦ rw (w.flags-is, w.left-is) (trimmed_out _ _ _ q c.loop-q.flags c.loop-q.left w.if-flags-q.false (sym flag ∙ w.if-flags-q.false) c.loop-q.invariant)
-    ]
+pub invariant_of-result : goal.invariant_of-result
+invariant_of-result c =
+    let n = c.words_for.result in
+    let mine : IsShown c.self.inside.partitions n c.self.inside.words c.args.self.now = record { view = c.self.view_is; clear = c.self.invariant.clear; long = c.self.told; few = c.self.invariant.few; enough = c.words_for.ensures.enough; used = c.words_for.ensures.few } in
+    let marks : (q : ℕ) → bit_of c.keep_lowest.new.words q ≡ (is_in c.args.self.now q && nat_lt (rank c.args.self.now q) c.args.n) = λ q. c.keep_lowest.ensures.marks q ∙ rw (shown_front _ n _ _ mine q, rank_shown _ n _ _ mine q) refl in
+    record { some = c.self.invariant.some; few = c.self.invariant.few; clear = part_clear _ n _ c.args.self.now _ (λ q. nat_lt (rank c.args.self.now q) c.args.n) mine c.keep_lowest.ensures.length marks }
 
 pub returns : goal.returns
 returns c =
-    let p = below_is _ _ _ c.self.invariant.few c.self.told c.self.view_is in
-    let e = seen_lowest _ c.loop-q.q _ c.loop-q.flags c.args.n c.args.self.now c.self.invariant.few p c.loop-q-test.false c.loop-q.invariant.marked in
-    record {
-      value = e;
-      elements = λ q. ap (λ s. is_in s q) e ∙ in_lowest c.args.n c.args.self.now q;
-      partitions = ap partitions_of e ∙ partitions_lowest c.args.n c.args.self.now;
-      size = ap size e ∙ size_lowest c.args.n c.args.self.now;
-    }
-
-pub returns-then-count-n : goal.returns-then-count-n
-returns-then-count-n c =
-    let e = c.copy.ensures ∙ lowest_all c.args.n c.args.self.now (omega (arith, c.count.ensures.value, c.if-count-n.true)) in
-    record {
-      value = e;
-      elements = λ q. ap (λ s. is_in s q) e ∙ in_lowest c.args.n c.args.self.now q;
-      partitions = ap partitions_of e ∙ partitions_lowest c.args.n c.args.self.now;
-      size = ap size e ∙ size_lowest c.args.n c.args.self.now;
-    }
-
-pub returns-then-n-eq0 : goal.returns-then-n-eq0
-returns-then-n-eq0 c =
-    let p = below_is _ _ _ c.self.invariant.few c.self.told c.self.view_is in
-    let none : c.args.n ≡ 0 = search rules in
-    let e = c.new.ensures.value ∙ ap empty_set (sym p) ∙ sym (lowest_none c.args.n c.args.self.now none) in
+    let n = c.words_for.result in
+    let mine : IsShown c.self.inside.partitions n c.self.inside.words c.args.self.now = record { view = c.self.view_is; clear = c.self.invariant.clear; long = c.self.told; few = c.self.invariant.few; enough = c.words_for.ensures.enough; used = c.words_for.ensures.few } in
+    let marks : (q : ℕ) → bit_of c.keep_lowest.new.words q ≡ (is_in c.args.self.now q && nat_lt (rank c.args.self.now q) c.args.n) = λ q. c.keep_lowest.ensures.marks q ∙ rw (shown_front _ n _ _ mine q, rank_shown _ n _ _ mine q) refl in
+    let e = seen_lowest _ n c.args.n _ c.args.self.now _ mine c.keep_lowest.ensures.length marks in
     record {
       value = e;
       elements = λ q. ap (λ s. is_in s q) e ∙ in_lowest c.args.n c.args.self.now q;

@@ -1,12 +1,31 @@
-use Rattle.std.proofs.Common.{rules, ℕ, ◌≡◌, ◌<◌, ◌∙◌, ◌||◌, ap}
+use Rattle.std.proofs.Common.{ℕ, ◌≡◌, ◌∙◌, ◌||◌, ap, refl, arith}
+use Rattle.bit_planes.specs.Private.Bits.{bit_of}
 use Rattle.bit_planes.specs.PartitionSet.{partitions_of, is_in}
-use Rattle.bit_planes.proofs.Sets.{in_union, union_told}
+use Rattle.bit_planes.proofs.Seen.{IsShown, below_is, shown_front, seen_union, union_clear}
+use Rattle.bit_planes.proofs.Sets.{in_union, partitions_union}
 use Rattle.bit_planes.proofs.plane.Plane.union.Goals as goal
 
-pub returns-clause-value : goal.returns-clause-value
-returns-clause-value c =
-    let each : (q : ℕ) → q < partitions_of c.args.self.now → is_in c.combined.result q ≡ (is_in c.args.self.now q || is_in c.args.other.now q) = λ q lt. let told = c.combined.ensures.elements q lt in search rules in
-    union_told c.args.self.now c.args.other.now c.combined.result c.requires c.combined.ensures.partitions each
+pub invariant_of-result : goal.invariant_of-result
+invariant_of-result c =
+    let n = c.words_for-used.result in
+    let mine : IsShown c.self.inside.partitions n c.self.inside.words c.args.self.now = record { view = c.self.view_is; clear = c.self.invariant.clear; long = c.self.told; few = c.self.invariant.few; enough = c.words_for-used.ensures.enough; used = c.words_for-used.ensures.few } in
+    let p = below_is _ _ _ c.self.view_is in
+    let p2 = below_is _ _ _ c.other.view_is in
+    let theirs : IsShown c.other.inside.partitions n c.other.inside.words c.args.other.now = record { view = c.other.view_is; clear = c.other.invariant.clear; long = c.other.told; few = c.other.invariant.few; enough = omega (arith, p, p2, c.requires, mine.enough); used = omega (arith, p, p2, c.requires, mine.used) } in
+    let marks : (q : ℕ) → bit_of c.or_into.new.a q ≡ (is_in c.args.self.now q || is_in c.args.other.now q) = λ q. c.or_into.ensures.marks q ∙ rw (shown_front _ n _ _ mine q, shown_front _ n _ _ theirs q) refl in
+    record { some = c.self.invariant.some; few = c.self.invariant.few; clear = union_clear _ n _ c.args.self.now c.args.other.now _ c.requires mine c.or_into.ensures.length marks }
 
-pub returns-clause-elements : goal.returns-clause-elements
-returns-clause-elements c = λ q. ap (λ s. is_in s q) (returns-clause-value c) ∙ in_union c.args.self.now c.args.other.now q c.requires
+pub returns : goal.returns
+returns c =
+    let n = c.words_for-used.result in
+    let mine : IsShown c.self.inside.partitions n c.self.inside.words c.args.self.now = record { view = c.self.view_is; clear = c.self.invariant.clear; long = c.self.told; few = c.self.invariant.few; enough = c.words_for-used.ensures.enough; used = c.words_for-used.ensures.few } in
+    let p = below_is _ _ _ c.self.view_is in
+    let p2 = below_is _ _ _ c.other.view_is in
+    let theirs : IsShown c.other.inside.partitions n c.other.inside.words c.args.other.now = record { view = c.other.view_is; clear = c.other.invariant.clear; long = c.other.told; few = c.other.invariant.few; enough = omega (arith, p, p2, c.requires, mine.enough); used = omega (arith, p, p2, c.requires, mine.used) } in
+    let marks : (q : ℕ) → bit_of c.or_into.new.a q ≡ (is_in c.args.self.now q || is_in c.args.other.now q) = λ q. c.or_into.ensures.marks q ∙ rw (shown_front _ n _ _ mine q, shown_front _ n _ _ theirs q) refl in
+    let e = seen_union _ n _ c.args.self.now c.args.other.now _ mine c.or_into.ensures.length marks in
+    record {
+      value = e;
+      elements = λ q. ap (λ s. is_in s q) e ∙ in_union c.args.self.now c.args.other.now q c.requires;
+      partitions = ap partitions_of e ∙ partitions_union c.args.self.now c.args.other.now;
+    }

@@ -1,9 +1,17 @@
-use Rattle.std.proofs.Common.{rules, tests, ◌&&◌, not}
-use Rattle.bit_planes.proofs.Sets.{any_told, within_told, tells_within}
+use Rattle.std.proofs.Common.{◌∙◌, ◌&&◌, not, refl, arith}
+use Rattle.bit_planes.specs.PartitionSet.{is_in}
+use Rattle.bit_planes.proofs.Seen.{IsShown, below_is, shown_front, some_shown, not_first}
+use Rattle.bit_planes.proofs.Sets.{within_told, tells_within}
 use Rattle.bit_planes.proofs.plane.Plane.within.Goals as goal
 
 pub returns-clause-value : goal.returns-clause-value
-returns-clause-value c = within_told c.args.self.now c.args.other.now c.some_pass.result (any_told (λ x y. x && not y) c.args.self.now c.args.other.now c.some_pass.result _ _ c.some_pass.ensures (λ at. (at.0, at.1, let told = at.2 in search (rules, tests))) (λ none q lt. let told = none q lt in search (rules, tests)))
+returns-clause-value c =
+    let n = c.words_for-used.result in
+    let mine : IsShown c.self.inside.partitions n c.self.inside.words c.args.self.now = record { view = c.self.view_is; clear = c.self.invariant.clear; long = c.self.told; few = c.self.invariant.few; enough = c.words_for-used.ensures.enough; used = c.words_for-used.ensures.few } in
+    let p = below_is _ _ _ c.self.view_is in
+    let p2 = below_is _ _ _ c.other.view_is in
+    let theirs : IsShown c.other.inside.partitions n c.other.inside.words c.args.other.now = record { view = c.other.view_is; clear = c.other.invariant.clear; long = c.other.told; few = c.other.invariant.few; enough = omega (arith, p, p2, c.requires, mine.enough); used = omega (arith, p, p2, c.requires, mine.used) } in
+    c.is_within.ensures ∙ within_told c.args.self.now c.args.other.now _ (some_shown _ n _ _ c.args.self.now _ (λ q. is_in c.args.self.now q && not (is_in c.args.other.now q)) mine refl (λ q. rw (shown_front _ n _ _ mine q, shown_front _ n _ _ theirs q) refl) (λ q none. not_first (is_in c.args.self.now q) (not (is_in c.args.other.now q)) none))
 
 pub returns-clause-elements : goal.returns-clause-elements
-returns-clause-elements c = tells_within c.args.self.now c.args.other.now (not c.some_pass.result) (returns-clause-value c)
+returns-clause-elements c = tells_within c.args.self.now c.args.other.now c.is_within.result (returns-clause-value c)

@@ -1,0 +1,9 @@
+-- The elements of a set from a number on.
+use Rattle.std.specs.Prelude.{◌≡◌, ℕ, ◌<◌, ◌≤◌, true, false}
+use Rattle.bit_planes.specs.PartitionSet.{PartitionSet, is_in}
+
+-- q is the lowest element from a number on
+pub record IsLowestElement (s : PartitionSet) (from q : ℕ) : Type 0 where
+  pub member : is_in s q ≡ true
+  pub not_below : from ≤ q
+  pub none : (n : ℕ) → from ≤ n → n < q → is_in s n ≡ false

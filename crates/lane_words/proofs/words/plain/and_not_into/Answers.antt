@@ -1,0 +1,9 @@
+use Rattle.std.proofs.Common.{arith}
+use Rattle.lane_words.specs.Words.{and_not}
+use Rattle.lane_words.proofs.Kernels.{one_more}
+use Rattle.lane_words.proofs.words.plain.and_not_into.Goals as goal
+
+pub loop-i-preserved : goal.loop-i-preserved
+loop-i-preserved c =
+    let e = c.loop-i.invariant in
+    rw e (one_more and_not c.loop-i.i c.args.a.now c.args.b.now c.requires (omega arith))

@@ -1,0 +1,101 @@
+//! Slices of words, worked on eight words at a time: their bits, pair by pair.
+
+ghost use Rattle.std.specs.Prelude.{◌≡◌, ◌↔◌, ◌*◌, ◌<◌, ◌^◌, IsTrue, length, not, bit_and, bit_or, sum_by, count_ones};
+ghost use Rattle.std.specs.Simd.Lanes.{zip2};
+ghost use Rattle.lane_words.specs.Words.{and_not, any_set};
+
+mod plain;
+
+use std::simd::prelude::*;
+
+/// How many words are worked on at a time.
+const LANES: usize = 8;
+
+/// Clears in `a` the bits of `b`, which is as long.
+pub fn and_not_into(a: &mut [u64], b: &[u64])
+    requires { length a.old ≡ length b.now }
+    ensures { a.new ≡ zip2 and_not a.old b.now }
+{
+    let mut at = 0;
+    while at + LANES <= a.len() {
+        let left = u64x8::from_slice(&a[at..]);
+        let right = u64x8::from_slice(&b[at..]);
+        (left & !right).copy_to_slice(&mut a[at..]);
+        at += LANES;
+    }
+    plain::and_not_into(&mut a[at..], &b[at..]);
+}
+
+/// Sets in `a` the bits of `b`, which is as long.
+pub fn or_into(a: &mut [u64], b: &[u64])
+    requires { length a.old ≡ length b.now }
+    ensures { a.new ≡ zip2 bit_or a.old b.now }
+{
+    let mut at = 0;
+    while at + LANES <= a.len() {
+        let left = u64x8::from_slice(&a[at..]);
+        let right = u64x8::from_slice(&b[at..]);
+        (left | right).copy_to_slice(&mut a[at..]);
+        at += LANES;
+    }
+    plain::or_into(&mut a[at..], &b[at..]);
+}
+
+/// Whether some bit is set in both, which are as long. All words are looked at, since a search that
+/// leaves early is not made into one over eight at a time.
+pub fn any_and(a: &[u64], b: &[u64]) -> bool
+    requires { length a.now ≡ length b.now }
+    ensures { result ≡ any_set (zip2 bit_and a.now b.now) }
+{
+    let mut found = u64x8::splat(0);
+    let mut at = 0;
+    while at + LANES <= a.len() {
+        found |= u64x8::from_slice(&a[at..]) & u64x8::from_slice(&b[at..]);
+        at += LANES;
+    }
+    found.reduce_or() != 0 || plain::any_and(&a[at..], &b[at..])
+}
+
+/// Whether each bit of `a` is set in `b`, which is as long.
+pub fn is_within(a: &[u64], b: &[u64]) -> bool
+    requires { length a.now ≡ length b.now }
+    ensures { result ≡ not (any_set (zip2 and_not a.now b.now)) }
+{
+    let mut found = u64x8::splat(0);
+    let mut at = 0;
+    while at + LANES <= a.len() {
+        found |= u64x8::from_slice(&a[at..]) & !u64x8::from_slice(&b[at..]);
+        at += LANES;
+    }
+    found.reduce_or() == 0 && plain::is_within(&a[at..], &b[at..])
+}
+
+/// Whether both, which are as long, are equal.
+pub fn equal64(a: &[u64], b: &[u64]) -> bool
+    requires { length a.now ≡ length b.now }
+    ensures { IsTrue result ↔ (a.now ≡ b.now) }
+{
+    let mut found = u64x8::splat(0);
+    let mut at = 0;
+    while at + LANES <= a.len() {
+        found |= u64x8::from_slice(&a[at..]) ^ u64x8::from_slice(&b[at..]);
+        at += LANES;
+    }
+    found.reduce_or() == 0 && plain::equal64(&a[at..], &b[at..])
+}
+
+/// How many bits are set in all words, of which there are fewer than 2^58. The processor counts the
+/// bits of one word at a time, and has no way to count those of eight.
+pub fn count_ones(a: &[u64]) -> u64
+    requires { 64 * length a.now < 2 ^ 64 }
+    ensures { result ≡ sum_by count_ones a.now }
+{
+    let mut count = 0;
+    for word in a {
+        count += u64::from(word.count_ones());
+    }
+    count
+}
+
+#[cfg(test)]
+mod tests;

@@ -1,0 +1,89 @@
+//! The calls over eight words at a time beside those word by word, for lengths around one chunk and
+//! many, with the only difference in the last word.
+
+ghost use Rattle.std.specs.Prelude.{◌≡◌, length};
+
+use super::*;
+use std::alloc::{AllocError, Global};
+use std::process::Abort;
+use std::test::Fail;
+
+/// How many words are tried.
+const LENGTHS: [usize; 11] = [0, 1, 7, 8, 9, 15, 16, 17, 63, 64, 65];
+
+/// The bits that are tried in the last word.
+const LAST: [u64; 4] = [0, 1, 1 << 63, u64::MAX];
+
+/// Words that differ from one another, of which the lowest bit is clear.
+fn words(alloc: Global, len: usize) -> Result<Vec<u64>, AllocError> {
+    let mut words = Vec::with_capacity(alloc, len)?;
+    for i in 0..len as u64 {
+        words.push(i.wrapping_mul(0x9e37_79b9_7f4a_7c15) & !1)?;
+    }
+    Ok(words)
+}
+
+/// These words with other bits in the last one.
+fn with_last(alloc: Global, words: &[u64], last: u64) -> Result<Vec<u64>, AllocError> {
+    let mut changed = words.to_vec(alloc)?;
+    if let Some(word) = changed.last_mut() {
+        *word ^= last;
+    }
+    Ok(changed)
+}
+
+/// Each call on two lists of words beside its loop.
+fn check_two(rt: &impl Abort, alloc: Global, a: &[u64], b: &[u64]) -> Result<(), AllocError>
+    requires { length a.now ≡ length b.now }
+{
+    assert_eq!(rt; equal64(a, b), plain::equal64(a, b));
+    assert_eq!(rt; any_and(a, b), plain::any_and(a, b));
+    assert_eq!(rt; is_within(a, b), plain::is_within(a, b));
+    let (mut cleared, mut plainly_cleared) = (b.to_vec(alloc)?, b.to_vec(alloc)?);
+    and_not_into(&mut cleared, a);
+    plain::and_not_into(&mut plainly_cleared, a);
+    assert_eq!(rt; cleared, plainly_cleared);
+    let (mut joined, mut plainly_joined) = (b.to_vec(alloc)?, b.to_vec(alloc)?);
+    or_into(&mut joined, a);
+    plain::or_into(&mut plainly_joined, a);
+    assert_eq!(rt; joined, plainly_joined);
+    Ok(())
+}
+
+#[test]
+fn each_beside_its_loop(rt: HostRuntime) -> Result<(), Fail> {
+    for len in LENGTHS {
+        let a = words(rt.alloc(), len)?;
+        for last in LAST {
+            let b = with_last(rt.alloc(), &a, last)?;
+            assert!(rt; a.len() == b.len());
+            check_two(&rt, rt.alloc(), &a, &b)?;
+            assert_eq!(rt; equal64(&a, &b), last == 0 || len == 0, "{len}");
+        }
+    }
+    Ok(())
+}
+
+#[test]
+fn the_last_word_alone_differs(rt: HostRuntime) -> Result<(), Fail> {
+    for len in LENGTHS {
+        let none = vec![in rt.alloc(); 0; len]?;
+        let one = with_last(rt.alloc(), &none, 1)?;
+        assert!(rt; one.len() == none.len() && one.len() <= 65);
+        let some = len > 0;
+        assert_eq!(rt; any_and(&one, &one), some, "{len}");
+        assert!(rt; !any_and(&one, &none), "{len}");
+        assert_eq!(rt; is_within(&one, &none), !some, "{len}");
+        assert!(rt; is_within(&none, &one), "{len}");
+        assert_eq!(rt; count_ones(&one), u64::from(some), "{len}");
+        assert_eq!(rt; equal64(&one, &none), !some, "{len}");
+    }
+    Ok(())
+}
+
+#[test]
+fn bits_are_counted(rt: HostRuntime) -> Result<(), Fail> {
+    assert_eq!(rt; count_ones(&[u64::MAX; 65]), 65 * 64);
+    assert_eq!(rt; count_ones(&[5, 0, 1 << 63]), 3);
+    Ok(())
+}
