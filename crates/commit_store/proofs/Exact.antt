@@ -1,9 +1,7 @@
 -- A store stays exact.
 use Rattle.std.proofs.Common.{◌≡◌, ◌≢◌, ◌∙◌, ◌+◌, ◌-◌, ◌<◌, ◌≤◌, ℕ, zero, suc, Bool, true, false, List, [], ◌∷◌, ◌++◌, length, map, take, drop, replicate, cond, get_or, sym, ap, refl, arith, inl, inr, get_or-set_same, get_or-set_other, get_or-take, get_or-drop}
-use Rattle.std.specs.Prelude.{◌==◌}
 use Rattle.std.specs.Str.{bytes_eq}
 use Rattle.std.proofs.lemmas.Bool.{cases_eq, cases_lt}
-use Rattle.std.proofs.lemmas.Bool.Decides.{eqb_tells}
 use Rattle.std.proofs.lemmas.List.{get_or_past, length-append, length-map, map-append, take-append-le, take-map, take_all}
 use Rattle.std.proofs.lemmas.List.Sums.{sum_by-cons}
 use Rattle.keyed_table.specs.Counts as counts
@@ -115,12 +113,12 @@ commit-exact s l p from ids a placed stored many fits e =
     }
 
 -- nothing committed and nothing counted is exact over any logs
-pub nothing-exact : (s : Commits) (l : PartitionLogs) → ((p : ℕ) → committed_at s p ≡ 0) → s.counts ≡ [] → IsExact s l
+pub nothing-exact : (s : Commits) (l : PartitionLogs) → ((p : ℕ) → committed_at s p ≡ 0) → ((n : ℕ) → count_at s n ≡ 0) → IsExact s l
 nothing-exact s l none blank = record {
   within = λ p. omega (arith, none p);
-  counted = λ x. ap (λ (cs : List ℕ). get_or cs (id_of l.keys x) 0) blank
+  counted = λ x. blank (id_of l.keys x)
       ∙ sym (sum-same l.partitions (λ p. plain (take (committed_at s p) (keys_of_log l p)) x) (λ p. 0) (λ p lt. ap (λ n. plain (take n (keys_of_log l p)) x) (none p)) ∙ sum-zero l.partitions);
-  spare = λ n le. ap (λ (cs : List ℕ). get_or cs n 0) blank;
+  spare = λ n le. blank n;
 }
 
 one_at_0 : (cs : List ℕ) (n : ℕ) → get_or (cs ++ 0 ∷ []) n 0 ≡ get_or cs n 0

@@ -1,5 +1,5 @@
 -- Committed offsets and the counts of the records below them, which are taken together.
-use Rattle.std.specs.Prelude.{◌≡◌, ℕ, ◌+◌, ◌<◌, ◌≤◌, ◌^◌, ◌==◌, nat_lt, not, List, [], length, take, sum, if◌then◌else◌, slice_index_or, slice_range, slice_set, Result, Ok, Err}
+use Rattle.std.specs.Prelude.{◌≡◌, ℕ, ◌+◌, ◌<◌, ◌≤◌, ◌^◌, ◌==◌, nat_lt, not, List, length, take, sum, if◌then◌else◌, slice_index_or, slice_range, slice_set, Result, Ok, Err}
 use Rattle.std.specs.Str.{bytes_eq}
 use Rattle.lane_words.specs.declared.limits.TheConstants.{MOST_PARTITIONS}
 use Rattle.lane_words.specs.declared.Refusal.{Refusal}

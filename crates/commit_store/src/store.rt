@@ -43,11 +43,21 @@ impl Store {
         ensures counts { IfOk result (λ store. store.counts ≡ []) }
         ensures exact { IfOk result (λ store. (l : PartitionLogs) → IsExact store l) }
     {
+        Store::over(alloc, partitions, 0)
+    }
+
+    /// A store of this many partitions, with nothing committed and a counter at 0 for each of this
+    /// many key numbers. Refused for want of memory.
+    pub fn over(alloc: Global, partitions: u32, keys: u32) -> Result<Store, Memory>
+        requires { (1 ≤ partitions) × (partitions ≤ MOST_PARTITIONS) }
+        ensures partitions { IfOk result (λ store. length store.offsets ≡ partitions) }
+        ensures offsets { IfOk result (λ store. (p : ℕ) → committed_at store p ≡ 0) }
+        ensures counts { IfOk result (λ store. store.counts ≡ replicate keys 0) }
+        ensures exact { IfOk result (λ store. (l : PartitionLogs) → IsExact store l) }
+    {
         let committed = zeros(alloc, partitions as usize)?;
-        Ok(Store {
-            committed,
-            counts: Table::new(alloc),
-        })
+        let counts = Table::zeros(alloc, keys)?;
+        Ok(Store { committed, counts })
     }
 
     /// Makes room for at least one counter more. Refused, with all else as it was, for want of

@@ -55,3 +55,12 @@ fn makes_an_offset_for_each_of_as_many_partitions_as_there_may_be(
     assert_eq!(rt; store.counts().len(), 70_000);
     Ok(())
 }
+
+#[test]
+fn makes_a_counter_for_each_of_many_keys(rt: HostRuntime) -> Result<(), Fail> {
+    let store = Store::over(rt.alloc(), 3, 70_000)?;
+    assert_eq!(rt; store.offsets(), [0; 3].as_slice());
+    assert_eq!(rt; store.keys(), 70_000);
+    assert!(rt; store.counts().iter().all(|count| *count == 0));
+    Ok(())
+}

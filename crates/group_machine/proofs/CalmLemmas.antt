@@ -18,6 +18,7 @@ use Rattle.group_machine.specs.Good.{IsValidGroup}
 use Rattle.group_machine.specs.Passes.{has_to_rejoin, is_calm, synced_if_new, rejoined_if_due, turned, passed}
 use Rattle.group_machine.proofs.PresentLemmas.{Listed, listed_present, present_listed, all_of}
 use Rattle.group_machine.proofs.CompletionLemmas.{some_of}
+use Rattle.group_machine.proofs.GroupLemmas.{has_partitions}
 use Rattle.group_machine.proofs.StepLemmas.{synced_same, settled_synced, any_of_present, rejoining_fit}
 use Rattle.group_machine.proofs.OtherLemmas.{rejoining_at, rejoining_here, synced_at, sync_marks}
 use Rattle.group_machine.proofs.FinishLemmas.{two_rounds, complete_round, synced_round, rejoining_round}
@@ -45,7 +46,7 @@ abbrev pub EndsNext : GroupState → Type 0
 EndsNext g = is_settled (round g) ≡ true
 
 rounds_settle : (g : GroupState) (member : ℕ) → IsValidGroup g → is_present g member ≡ true → EndsNext (round g)
-rounds_settle g member valid here = two_rounds g valid.sized (any_of_present g member here) valid.fit valid.apart
+rounds_settle g member valid here = two_rounds g (has_partitions g valid.sized) (any_of_present g member here) valid.fit valid.apart
 
 due_ends : (g : GroupState) (member : ℕ) → IsValidGroup g → is_present g member ≡ true → EndsNext g → EndsNext (rejoined_if_due g member)
 due_ends g member valid here ends = due_by EndsNext g member valid (λ e. ends) (λ e. ap is_settled (rejoining_round g member) ∙ ends) (λ e. rounds_settle g member valid here)

@@ -1,9 +1,8 @@
 -- A cluster stays consistent.
-use Rattle.std.proofs.Common.{◌≡◌, ◌∙◌, ◌+◌, ◌<◌, ◌≤◌, ℕ, Bool, true, false, List, [], ◌∷◌, ◌++◌, length, sym, ap, refl, arith, inl, inr, length-append, subst}
+use Rattle.std.proofs.Common.{◌≡◌, ◌∙◌, ◌+◌, ◌<◌, ◌≤◌, ℕ, Bool, true, false, List, [], ◌∷◌, ◌++◌, length, sym, ap, refl, arith, inl, inr, length-append, replicate, subst}
 use Rattle.std.specs.Prelude.{Option, Some, None, Result, Ok, Err, OnOk, OnErr, if◌then◌else◌, ◌==◌, not}
 use Rattle.std.proofs.Math.ListN.{length-set}
 use Rattle.std.proofs.lemmas.Bool.Decides.{eqb_tells}
-use Rattle.lane_words.specs.declared.limits.TheConstants.{MOST_PARTITIONS}
 use Rattle.lane_words.specs.declared.Refusal.{Refusal}
 use Rattle.lane_words.specs.declared.Refusal.TheVariants as r
 use Rattle.bit_planes.specs.PartitionSet.{is_in, partitions_of}
@@ -18,7 +17,7 @@ use Rattle.group_machine.specs.Good.{AllFit, IsFit, IsValidGroup}
 use Rattle.group_machine.specs.Completion.{complete, completed, is_ready}
 use Rattle.group_machine.specs.Cluster.{IsValidLogs, AreLogsOf, ClusterState, CommitTerms, Commits, IsValidCluster, IsExact, Key, PartitionLogs, appended_to, fence, is_known, with_commit, with_group, with_record, without_room}
 use Rattle.group_machine.proofs.GroupLemmas.{granted_over}
-use Rattle.group_machine.proofs.StepLemmas.{opening_good}
+use Rattle.group_machine.proofs.StepLemmas.{length_replicate, opening_good}
 
 -- ---- steps of the group
 either : (b : Bool) (g h : GroupState) (p : ℕ) → g.partitions ≡ p → h.partitions ≡ p → (if b then g else h).partitions ≡ p
@@ -139,16 +138,20 @@ assigned_over g fit m = go (member_of g m) (λ x is. fit m x is)
     go (Some x) f = (f x refl).assigned_below
 
 -- ---- the beginning
-pub new-consistent : (p : ℕ) (g : GroupState) (l : PartitionLogs) (store : Commits) → 1 ≤ p → p ≤ MOST_PARTITIONS → g ≡ opening p → l.partitions ≡ p → AreLogsOf [] l → IsValidLogs l
-    → length store.offsets ≡ p → store.counts ≡ [] → IsExact store l → IsValidCluster (record { group = g; logs = l; store = without_room store })
-unfolding distinct
-new-consistent p g l store some few group parts none logs offsets counts exact =
-    let same : g.partitions ≡ p = ap (λ h. h.partitions) group in
+pub over-consistent : (g : GroupState) (l : PartitionLogs) (store : Commits) → g ≡ opening l.partitions → IsValidLogs l → length store.offsets ≡ l.partitions → store.counts ≡ replicate (length l.keys) 0 → IsExact store l
+    → IsValidCluster (record { group = g; logs = l; store = without_room store })
+over-consistent g l store group logs offsets counts exact =
+    let same : g.partitions ≡ l.partitions = ap (λ h. h.partitions) group in
     record {
-      good = subst IsValidGroup (sym group) (opening_good p some few);
+      good = subst IsValidGroup (sym group) (opening_good l.partitions logs.some_partitions logs.few_partitions);
       logs = logs;
       exact = record { within = exact.within; counted = exact.counted; spare = exact.spare };
-      logs_partitions = parts ∙ sym same;
+      logs_partitions = sym same;
       store_partitions = offsets ∙ sym same;
-      a_counter_each = ap length counts ∙ sym (ap length none.numbers);
+      a_counter_each = ap length counts ∙ length_replicate (length l.keys) 0;
     }
+
+-- logs of nothing have no keys
+pub no_counters : (l : PartitionLogs) → AreLogsOf [] l → replicate {A = ℕ} (length l.keys) 0 ≡ []
+unfolding distinct
+no_counters l none = ap (λ (ks : List Key). replicate {A = ℕ} (length ks) 0) none.numbers

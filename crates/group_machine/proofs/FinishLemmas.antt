@@ -1,7 +1,7 @@
 -- Where a rebalance ends.
-use Rattle.std.proofs.Common.{ℕ, ◌≡◌, ◌+◌, ◌==◌, Bool, true, false, ◌&&◌, ◌||◌, not, List, [], ◌∷◌, ◌++◌, Option, Some, None, Result, Ok, Err, map, refl, ap, sym, ◌∙◌, arith, cond}
+use Rattle.std.proofs.Common.{ℕ, ◌≡◌, ◌+◌, ◌==◌, Bool, true, false, ◌&&◌, ◌||◌, not, List, [], ◌∷◌, ◌++◌, Option, Some, None, Result, Ok, Err, map, refl, ap, sym, ◌∙◌, cond}
 use Rattle.std.proofs.lemmas.Bool.{false≢true}
-use Rattle.std.specs.Option.{option_map, option_map_or}
+use Rattle.std.specs.Option.{option_map_or}
 use Rattle.lane_words.specs.declared.Refusal.{Refusal}
 use Rattle.lane_words.specs.declared.Refusal.TheVariants as r
 use Rattle.bit_planes.specs.PartitionSet.{PartitionSet, partitions_of, is_in, is_within, is_same, union}
@@ -15,18 +15,18 @@ use Rattle.group_machine.specs.declared.group.Slot.{Slot}
 use Rattle.group_machine.specs.declared.group.Seat.{Seat}
 use Rattle.group_machine.specs.declared.group.Move.{Move}
 use Rattle.group_machine.specs.declared.group.Phase.TheVariants.{Stable}
-use Rattle.group_machine.specs.Slots.{only_of, seat_of, each_changed, one_changed, present}
+use Rattle.group_machine.specs.Slots.{seat_of, each_changed, one_changed, present}
 use Rattle.group_machine.specs.State.{GroupState, member_of, members, is_anybody, granted_rows, assigned_rows}
 use Rattle.group_machine.specs.Moves.{takers_in, moves_by, last_by, moves_to, last_after}
 use Rattle.group_machine.specs.Completion.{all_joined, is_ready, completed_seat, completed_with, complete, completed}
 use Rattle.group_machine.specs.Rounds.{is_stable, agrees, all_agree, is_settled, bare_seat, bare, yielded_seat, yielded, round, finish}
 use Rattle.group_machine.specs.Steps.{unless_over, rejoined_seat, rejoining, rejoined_by, rejoin_refusal, rejoin_answer, synced_seat, synced_by}
-use Rattle.group_machine.specs.Good.{IsSized, IsApart, AllFit, IsValidGroup}
+use Rattle.group_machine.specs.Good.{IsApart, AllFit, IsValidGroup}
 use Rattle.group_machine.proofs.SlotsLemmas.{seat_each, each_two, each_same, one_is_each, at_only}
-use Rattle.group_machine.proofs.PresentLemmas.{length_reseated, present_each, numbers_each, any_each, any_of, all_of, all_says}
+use Rattle.group_machine.proofs.PresentLemmas.{present_each, numbers_each, any_each, any_of, all_of, all_says}
 use Rattle.group_machine.proofs.Rows.{set_over}
 use Rattle.group_machine.proofs.Below.{next_kept, next_below, next_members, second_all, second_within, target_kept, target_below}
-use Rattle.group_machine.proofs.GroupLemmas.{assigned_owned, members_assigned}
+use Rattle.group_machine.proofs.GroupLemmas.{HasPartitions, has_partitions, assigned_owned, members_assigned}
 use Rattle.group_machine.proofs.CompletionLemmas.{seat_behind}
 use Rattle.group_machine.proofs.StepLemmas.{with_slots, only_same, any_synced, settled_synced, any_rejoining, rejoining_fit, rejoining_apart}
 
@@ -89,9 +89,9 @@ seat_assigned_is g next m y is =
     let b = seat_behind (completed_seat next m) (seat_of g.slots m) y (sym (seat_each (completed_seat next) g.slots m) ∙ is) in
     ap (λ x. x.assigned) b.2
 
-pub two_rounds : (g : GroupState) → IsSized g → is_anybody g ≡ true → AllFit g → IsApart g → is_settled (round (round g)) ≡ true
-two_rounds g sized any fit apart =
-    let owned : AreGranted (assigned_rows g) = assigned_owned g sized fit apart any in
+pub two_rounds : (g : GroupState) → HasPartitions g → is_anybody g ≡ true → AllFit g → IsApart g → is_settled (round (round g)) ≡ true
+two_rounds g has any fit apart =
+    let owned : AreGranted (assigned_rows g) = assigned_owned g has fit apart any in
     let w : SetRows = next_rows (assigned_rows g) in
     let one : assigned_rows (round g) ≡ w = round_assigned g owned (members_assigned g) in
     let all : next_rows w ≡ target_rows w = second_all (assigned_rows g) owned in
@@ -153,18 +153,18 @@ later a0 a1 s0 true s2 b0 b1 r1 r2 r3 x0 x1 y0 y2 e = rw (x0, x1, y0) e
 later a0 a1 s0 false s2 b0 b1 r1 r2 r3 x0 x1 y0 y2 e = rw (x0, x1, y0, y2) refl
 
 -- a completion changes nothing of where a rebalance ends
-pub completed_finish : (g : GroupState) → IsSized g → AllFit g → IsApart g → is_settled g ≡ false → finish (completed g) ≡ finish g
-completed_finish g sized fit apart unsettled = go (is_ready g) refl
+pub completed_finish : (g : GroupState) → HasPartitions g → AllFit g → IsApart g → is_settled g ≡ false → finish (completed g) ≡ finish g
+completed_finish g has fit apart unsettled = go (is_ready g) refl
   where
     go : (b : Bool) → is_ready g ≡ b → finish (cond b (complete g) g) ≡ finish g
     go false e = refl
     go true e =
         let h = both_true (is_anybody g) (all_joined g) e in
         ap finish (complete_round g fit h.1)
-        ∙ later (is_anybody g) (is_anybody (round g)) (is_settled g) (is_settled (round g)) (is_settled (round (round g))) (bare g) (bare (round g)) (round g) (round (round g)) (round (round (round g))) h.0 (any_round g ∙ h.0) unsettled (two_rounds g sized h.0 fit apart) (bare_round g)
+        ∙ later (is_anybody g) (is_anybody (round g)) (is_settled g) (is_settled (round g)) (is_settled (round (round g))) (bare g) (bare (round g)) (round g) (round (round g)) (round (round (round g))) h.0 (any_round g ∙ h.0) unsettled (two_rounds g has h.0 fit apart) (bare_round g)
 
 -- ---- a sync
-end_same : (a0 a1 s0 s0' s1 s1' : Bool) (b0 b0' r1 r1' r2 r2' : GroupState) → a1 ≡ a0 → s0' ≡ s0 → s1' ≡ s1 → b0' ≡ b0 → r1' ≡ r1 → r2' ≡ r2 → end_of a1 s0' s1' b0' r1' r2' ≡ end_of a0 s0 s1 b0 r1 r2
+pub end_same : (a0 a1 s0 s0' s1 s1' : Bool) (b0 b0' r1 r1' r2 r2' : GroupState) → a1 ≡ a0 → s0' ≡ s0 → s1' ≡ s1 → b0' ≡ b0 → r1' ≡ r1 → r2' ≡ r2 → end_of a1 s0' s1' b0' r1' r2' ≡ end_of a0 s0 s1 b0 r1 r2
 end_same a0 a1 s0 s0' s1 s1' b0 b0' r1 r1' r2 r2' a b c d e f = cc
 
 -- what forgets a member's change
@@ -223,16 +223,8 @@ rejoining_finish g member any un =
     let same : round (rejoining g member) ≡ round g = rejoining_round g member in
     same_end (is_anybody g) (is_anybody (rejoining g member)) (is_settled g) (is_settled (round g)) (is_settled (round (rejoining g member))) (bare g) (bare (rejoining g member)) (round g) (round (rejoining g member)) (round (round g)) (round (round (rejoining g member))) any (any_rejoining g member) un (ap is_settled same) same (ap round same)
 
-pub rejoining_sized : (g : GroupState) (member : ℕ) → IsSized g → IsSized (rejoining g member)
-rejoining_sized g member sized = record {
-  some_partitions = sized.some_partitions;
-  few_partitions = sized.few_partitions;
-  few_members = omega (arith, length_reseated (only_of member (option_map rejoined_seat)) g.slots, sized.few_members);
-  a_holder_each = sized.a_holder_each;
-}
-
 pub rejoin_finish : (g : GroupState) (member generation : ℕ) (claim : PartitionSet) → IsValidGroup g → rejoin_answer g member generation claim ≡ Ok tt → finish (rejoined_by g member) ≡ finish g
 rejoin_finish g member generation claim good ok =
     let a = accepted g member generation claim ok in
-    completed_finish (rejoining g member) (rejoining_sized g member good.sized) (rejoining_fit g member good.fit) (rejoining_apart g member good.fit good.apart) refl
+    completed_finish (rejoining g member) (has_partitions g good.sized) (rejoining_fit g member good.fit) (rejoining_apart g member good.fit good.apart) refl
     ∙ rejoining_finish g member (any_of g.slots member a.0 a.1) (unsettled_by g member a.0 a.1 a.2)

@@ -1,6 +1,7 @@
 -- A group's rows, and the look-up of one member.
-use Rattle.std.proofs.Common.{ℕ, suc, ◌≡◌, ◌<◌, true, List, [], ◌∷◌, Option, Some, None, length, map, slice_get, refl, ap, sym, ◌∙◌, subst, arith}
+use Rattle.std.proofs.Common.{ℕ, suc, ◌≡◌, ◌<◌, ◌≤◌, true, List, [], ◌∷◌, Option, Some, None, length, map, slice_get, refl, ap, sym, ◌∙◌, subst, arith}
 use Rattle.std.specs.Option.{option_map}
+use Rattle.lane_words.specs.declared.limits.TheConstants.{MOST_PARTITIONS}
 use Rattle.bit_planes.specs.PartitionSet.{PartitionSet, partitions_of, is_in}
 use Rattle.bit_planes.specs.SetRows as rows
 use Rattle.bit_planes.specs.SetRows.{SetRows, set_or_empty, set_of, sets_of, IsValidRows, AreOver}
@@ -59,10 +60,17 @@ granted_kept g sized fit = record {
   over = over_from g.partitions (λ x. x.granted) 1 g.slots (λ k x is. (fit (suc k) x is).granted_below);
 }
 
-pub assigned_kept : (g : GroupState) → IsSized g → AllFit g → IsValidRows (assigned_rows g)
-assigned_kept g sized fit = record {
-  some = sized.some_partitions;
-  few = sized.few_partitions;
+-- a group has 1 to the most partitions
+abbrev pub HasPartitions : GroupState → Type 0
+HasPartitions g = (1 ≤ g.partitions) × (g.partitions ≤ MOST_PARTITIONS)
+
+pub has_partitions : (g : GroupState) → IsSized g → HasPartitions g
+has_partitions g sized = (sized.some_partitions, sized.few_partitions)
+
+assigned_kept : (g : GroupState) → HasPartitions g → AllFit g → IsValidRows (assigned_rows g)
+assigned_kept g has fit = record {
+  some = has.0;
+  few = has.1;
   rising = rising 1 (rows.members (assigned_rows g)) (subst (RisesFrom 1) (sym (members_assigned g)) (members_rise g));
   over = over_from g.partitions (λ x. x.assigned) 1 g.slots (λ k x is. (fit (suc k) x is).assigned_below);
 }
@@ -93,9 +101,9 @@ granted_within p (Some x) fit q e = within_says x.assigned x.granted ((fit x ref
 pub assigned_in_granted : (g : GroupState) → AllFit g → (m q : ℕ) → is_in (assigned_of g m) q ≡ true → is_in (granted_of g m) q ≡ true
 assigned_in_granted g fit m q e = granted_within g.partitions (member_of g m) (λ x is. fit m x is) q e
 
-pub assigned_owned : (g : GroupState) → IsSized g → AllFit g → IsApart g → is_anybody g ≡ true → AreGranted (assigned_rows g)
-assigned_owned g sized fit apart any = record {
-  valid = assigned_kept g sized fit;
+pub assigned_owned : (g : GroupState) → HasPartitions g → AllFit g → IsApart g → is_anybody g ≡ true → AreGranted (assigned_rows g)
+assigned_owned g has fit apart any = record {
+  valid = assigned_kept g has fit;
   some = omega (arith, any_count g.slots any, length_map {B = ℕ × PartitionSet} (λ (m : ℕ × Seat). (m.0, m.1.assigned)) (present g.slots));
   apart = rows_apart (assigned_rows g) (subst (RisesFrom 1) (sym (members_assigned g)) (members_rise g)) (λ m n q e h.
       apart m n q (assigned_in_granted g fit m q (ap (λ s. is_in s q) (sym (set_assigned g m)) ∙ e)) (assigned_in_granted g fit n q (ap (λ s. is_in s q) (sym (set_assigned g n)) ∙ h)));

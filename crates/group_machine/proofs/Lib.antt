@@ -3,9 +3,11 @@ pub mod CalmLemmas
 pub mod ChangeLemmas
 pub mod ClusterLemmas
 pub mod CompletionLemmas
+pub mod EndLemmas
 pub mod FinishLemmas
 pub mod GroupLemmas
 pub mod MovesLemmas
+pub mod NameLemmas
 pub mod NearLemmas
 pub mod OtherLemmas
 pub mod PassLemmas
@@ -14,5 +16,6 @@ pub mod Rows
 pub mod SlotsLemmas
 pub mod StepLemmas
 pub mod TableLemmas
+pub mod TakenLemmas
 pub mod TakerLemmas
 pub mod WalkLemmas

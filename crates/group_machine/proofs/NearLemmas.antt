@@ -23,7 +23,7 @@ use Rattle.group_machine.proofs.SlotsLemmas.{seat_each}
 use Rattle.group_machine.proofs.PresentLemmas.{Listed, all_of}
 use Rattle.group_machine.proofs.Rows.{member_listed, set_over, sets_below}
 use Rattle.group_machine.proofs.Below.{next_in, next_kept, next_below, other_says, target_apart}
-use Rattle.group_machine.proofs.GroupLemmas.{members_assigned, set_assigned, assigned_owned}
+use Rattle.group_machine.proofs.GroupLemmas.{has_partitions, members_assigned, set_assigned, assigned_owned}
 use Rattle.group_machine.proofs.CompletionLemmas.{seat_behind}
 use Rattle.group_machine.proofs.FinishLemmas.{granted_yielded, union_within}
 
@@ -95,7 +95,7 @@ settled_round g owned keeps =
 pub stable_round : (g : GroupState) → IsValidGroup g → g.phase ≡ Stable → is_anybody g ≡ true → is_settled (round g) ≡ true
 stable_round g valid stable any =
     let r : SetRows = assigned_rows g in
-    let owned : AreGranted r = assigned_owned g valid.sized valid.fit valid.apart any in
+    let owned : AreGranted r = assigned_owned g (has_partitions g valid.sized) valid.fit valid.apart any in
     let near = valid.near stable in
     let balanced : IsBalanced g.partitions (map near.0 (rows.members r)) = subst (λ (ms : List ℕ). IsBalanced g.partitions (map near.0 ms)) (sym (members_assigned g)) near.1.balanced in
     let within : (m q : ℕ) → is_in (set_of r m) q ≡ true → is_in (near.0 m) q ≡ true = λ m q e. within_says (assigned_of g m) (near.0 m) (near.1.within m) q (ap (λ s. is_in s q) (sym (set_assigned g m)) ∙ e) in

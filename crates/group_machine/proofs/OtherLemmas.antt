@@ -109,7 +109,7 @@ seat_before [] s (suc k) ne = refl
 seat_before (t ∷ slots) s zero ne = refl
 seat_before (t ∷ slots) s (suc k) ne = seat_before slots s k (λ e. ne (ap (λ n. suc n) e))
 
-seat_last : (slots : List Slot) (s : Slot) → seat_in (slice_get (slots ++ s ∷ []) (length slots)) ≡ s.seat
+pub seat_last : (slots : List Slot) (s : Slot) → seat_in (slice_get (slots ++ s ∷ []) (length slots)) ≡ s.seat
 seat_last [] s = refl
 seat_last (t ∷ slots) s = seat_last slots s
 
@@ -117,7 +117,7 @@ seat_past : (slots : List Slot) → seat_in (slice_get slots (length slots)) ≡
 seat_past [] = refl
 seat_past (t ∷ slots) = seat_past slots
 
-joining_others : (g : GroupState) (name : List ℕ) (n : ℕ) → (n ≡ length g.slots + 1 → ⊥) → member_of (joining g name) n ≡ member_of g n
+pub joining_others : (g : GroupState) (name : List ℕ) (n : ℕ) → (n ≡ length g.slots + 1 → ⊥) → member_of (joining g name) n ≡ member_of g n
 joining_others g name zero ne = refl
 joining_others g name (suc k) ne = seat_before g.slots (newcomer g.partitions name) k (λ e. ne (omega (arith, e)))
 

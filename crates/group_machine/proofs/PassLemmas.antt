@@ -13,12 +13,13 @@ use Rattle.group_machine.specs.Good.{IsValidGroup}
 use Rattle.group_machine.specs.Passes.{has_to_rejoin, synced_if_new, rejoined_if_due, turned, turned_each, passed}
 use Rattle.group_machine.proofs.SlotsLemmas.{seat_each, one_is_each, at_only}
 use Rattle.group_machine.proofs.PresentLemmas.{Listed, listed_present, numbers_each, any_each, all_says}
+use Rattle.group_machine.proofs.GroupLemmas.{has_partitions}
 use Rattle.group_machine.proofs.StepLemmas.{any_synced, members_synced, synced_same, any_rejoining, any_of_present, sync_good, rejoin_good, rejoining_fit, rejoining_apart}
 use Rattle.group_machine.proofs.OtherLemmas.{some_on, rejoining_at}
-use Rattle.group_machine.proofs.FinishLemmas.{completed_finish, sync_finish, rejoining_finish, rejoining_sized}
+use Rattle.group_machine.proofs.FinishLemmas.{completed_finish, sync_finish, rejoining_finish}
 
 -- ---- one member's step leaves who is present
-completed_present : (g : GroupState) (n : ℕ) → is_present (completed g) n ≡ is_present g n
+pub completed_present : (g : GroupState) (n : ℕ) → is_present (completed g) n ≡ is_present g n
 completed_present g n = go (is_ready g)
   where
     go : (b : Bool) → is_present (cond b (complete g) g) n ≡ is_present g n
@@ -123,7 +124,7 @@ due_finish g member valid here = go (has_to_rejoin g member) refl
   where
     go : (b : Bool) → has_to_rejoin g member ≡ b → finish (cond b (rejoined_by g member) g) ≡ finish g
     go true e =
-        completed_finish (rejoining g member) (rejoining_sized g member valid.sized) (rejoining_fit g member valid.fit) (rejoining_apart g member valid.fit valid.apart) refl
+        completed_finish (rejoining g member) (has_partitions g valid.sized) (rejoining_fit g member valid.fit) (rejoining_apart g member valid.fit valid.apart) refl
         ∙ rejoining_finish g member (any_of_present g member here) (due_unsettled g member e)
     go false e = refl
 

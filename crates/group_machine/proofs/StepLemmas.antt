@@ -103,6 +103,16 @@ alone_joined g name none = all_of (λ x. x.joined) (joining g name).slots (λ m 
     go m x (inl is) = absurd (false≢true (sym none ∙ any_of g.slots m x is))
     go m x (inr is) = let same : new_seat g.partitions ≡ x = cc in ap (λ y. y.joined) (sym same)
 
+pub joining_fit : (g : GroupState) (name : List ℕ) → AllFit g → AllFit (joining g name)
+joining_fit g name fit m x is = go (member_more g.slots (newcomer g.partitions name) m x is)
+  where
+    go : (seat_of g.slots m ≡ Some x) ⊎ (Some (new_seat g.partitions) ≡ Some x) → IsFit g.partitions x
+    go (inl was) = fit m x was
+    go (inr new) = let same : new_seat g.partitions ≡ x = cc in subst (IsFit g.partitions) same (new_fit g.partitions)
+
+pub joining_apart : (g : GroupState) (name : List ℕ) → IsApart g → IsApart (joining g name)
+joining_apart g name apart m n q e h = apart m n q (joined_granted g name m q e) (joined_granted g name n q h)
+
 pub joining_changed : (g : GroupState) (name : List ℕ) → IsValidGroup g → length g.slots < MOST_MEMBERS → IsChanged (joining g name)
 joining_changed g name good room =
     let any : is_anybody (joining g name) ≡ true = any_more g.slots (newcomer g.partitions name) refl in
@@ -113,18 +123,14 @@ joining_changed g name good room =
         few_members = omega (arith, length-append g.slots (newcomer g.partitions name ∷ []), room);
         a_holder_each = good.sized.a_holder_each;
       };
-      apart = λ m n q e h. good.apart m n q (joined_granted g name m q e) (joined_granted g name n q h);
-      fit = λ m x is. fits m x (member_more g.slots (newcomer g.partitions name) m x is);
+      apart = joining_apart g name good.apart;
+      fit = joining_fit g name good.fit;
       held = λ m q e. good.held m q (joined_granted g name m q e);
       some = λ e. refl;
       gone = λ e. absurd (false≢true (sym e ∙ any));
       counted = λ e h. counts (is_anybody g) refl h;
     }
   where
-    fits : (m : ℕ) (x : Seat) → (seat_of g.slots m ≡ Some x) ⊎ (Some (new_seat g.partitions) ≡ Some x) → IsFit g.partitions x
-    fits m x (inl is) = good.fit m x is
-    fits m x (inr is) = let same : new_seat g.partitions ≡ x = cc in subst (IsFit g.partitions) same (new_fit g.partitions)
-
     counts : (b : Bool) → is_anybody g ≡ b → all_joined (joining g name) ≡ false → 0 < g.generation
     counts true e h = good.counted e
     counts false e h = absurd (false≢true (sym h ∙ alone_joined g name e))
@@ -185,11 +191,18 @@ left_granted : (p : ℕ) (b : Bool) (o : Option Seat) (q : ℕ) → is_in (seat_
 left_granted p true o q e = absurd (false≢true (sym (in_empty p q) ∙ e))
 left_granted p false o q e = e
 
+leaving_granted : (g : GroupState) (member m q : ℕ) → is_in (granted_of (leaving g member) m) q ≡ true → is_in (granted_of g m) q ≡ true
+leaving_granted g member m q e = left_granted g.partitions (m == member) (member_of g m) q (ap (λ o. is_in (seat_granted g.partitions o) q) (sym (seat_without g.slots member m)) ∙ e)
+
+pub leaving_fit : (g : GroupState) (member : ℕ) → AllFit g → AllFit (leaving g member)
+leaving_fit g member fit m x is = fit m x (left_seat (m == member) (member_of g m) x (sym (seat_without g.slots member m) ∙ is))
+
+pub leaving_apart : (g : GroupState) (member : ℕ) → IsApart g → IsApart (leaving g member)
+leaving_apart g member apart m n q e h = apart m n q (leaving_granted g member m q e) (leaving_granted g member n q h)
+
 pub leaving_changed : (g : GroupState) (member : ℕ) → IsValidGroup g → is_present g member ≡ true → IsChanged (leaving g member)
 leaving_changed g member good here =
     let any : is_anybody g ≡ true = any_of_present g member here in
-    let less : (m q : ℕ) → is_in (granted_of (leaving g member) m) q ≡ true → is_in (granted_of g m) q ≡ true =
-    λ m q e. left_granted g.partitions (m == member) (member_of g m) q (ap (λ o. is_in (seat_granted g.partitions o) q) (sym (seat_without g.slots member m)) ∙ e) in
     record {
       sized = record {
         some_partitions = good.sized.some_partitions;
@@ -197,9 +210,9 @@ leaving_changed g member good here =
         few_members = omega (arith, length_reseated (only_of member (λ before. None)) g.slots, good.sized.few_members);
         a_holder_each = good.sized.a_holder_each;
       };
-      apart = λ m n q e h. good.apart m n q (less m q e) (less n q h);
-      fit = λ m x is. good.fit m x (left_seat (m == member) (member_of g m) x (sym (seat_without g.slots member m) ∙ is));
-      held = λ m q e. good.held m q (less m q e);
+      apart = leaving_apart g member good.apart;
+      fit = leaving_fit g member good.fit;
+      held = λ m q e. good.held m q (leaving_granted g member m q e);
       some = λ e. rw e refl;
       gone = λ e. rw e refl;
       counted = λ e h. good.counted any;
@@ -282,7 +295,7 @@ nobody_at : (m : ℕ) → seat_of [] m ≡ None
 nobody_at zero = refl
 nobody_at (suc k) = refl
 
-length_replicate : {A : Type 0} (n : ℕ) (x : A) → length (replicate n x) ≡ n
+pub length_replicate : {A : Type 0} (n : ℕ) (x : A) → length (replicate n x) ≡ n
 length_replicate zero x = refl
 length_replicate (suc n) x = ap (λ k. suc k) (length_replicate n x)
 

@@ -1,6 +1,8 @@
 -- What contracts see of a group.
-use Rattle.std.specs.Prelude.{ℕ, zero, suc, Bool, false, List, [], Option, None, is_some, map, replicate, slice_index_or, slice_get}
+use Rattle.std.specs.Prelude.{◌≡◌, ℕ, ◌+◌, zero, suc, Bool, false, List, [], Option, Some, None, is_some, map, replicate, slice_index_or, slice_get}
+use Rattle.std.specs.List.{position}
 use Rattle.std.specs.Option.{option_map, option_map_or}
+use Rattle.std.specs.Str.{bytes_eq}
 use Rattle.bit_planes.specs.PartitionSet.{PartitionSet, empty_set}
 use Rattle.bit_planes.specs.SetRows.{SetRows}
 use Rattle.group_machine.specs.declared.group.Slot.{Slot}
@@ -98,3 +100,20 @@ name_at slots (suc k) = option_map (λ s. s.name) (slice_get slots k)
 -- the name of a member that was given a number, present or not
 abbrev pub name_of : GroupState → ℕ → Option (List ℕ)
 name_of g member = name_at g.slots member
+
+-- all names that were given, in the order of their numbers
+abbrev pub names : GroupState → List (List ℕ)
+names g = map (λ s. s.name) g.slots
+
+abbrev pub number_in : List Slot → List ℕ → Option ℕ
+number_in slots name = option_map (λ k. k + 1) (position (λ s. bytes_eq s.name name) slots)
+
+-- the number of the member that joined under a name, present or not; none where nobody did
+abbrev pub member_named : GroupState → List ℕ → Option ℕ
+member_named g name = number_in g.slots name
+
+-- a name has a number, and is the name of that number
+pub record HasNumber (g : GroupState) (name : List ℕ) : Type 0 where
+  pub index : ℕ
+  pub number : member_named g name ≡ Some (index + 1)
+  pub named : slice_get (names g) index ≡ Some name

@@ -1,9 +1,9 @@
 //! The cluster: members, logs, and what was committed of them.
 
-ghost use Rattle.std.specs.Prelude.{◌≡◌, ◌+◌, ◌≤◌, ℕ, [], Ok, Some, None, MatchOption, IfOk, IfSome, OnOk, OnErr, is_some, length};
+ghost use Rattle.std.specs.Prelude.{◌≡◌, ◌+◌, ◌≤◌, ℕ, [], Ok, Some, None, MatchOption, IfOk, IfSome, OnOk, OnErr, is_some, length, replicate};
 ghost use Rattle.lane_words.specs.Answers.{Answers};
 ghost use Rattle.partition_log.specs.Logs.{place_in};
-ghost use Rattle.group_machine.specs.State.{assigned_of, granted_of, is_joined, is_present, is_synced, member_of, members, name_of, opening, owner_of};
+ghost use Rattle.group_machine.specs.State.{assigned_of, granted_of, is_joined, is_present, is_synced, member_named, member_of, members, name_of, opening, owner_of};
 ghost use Rattle.group_machine.specs.Steps.{join_answer, joined_by, leave_answer, left_by, rejoin_answer, rejoined_by, synced_by};
 ghost use Rattle.group_machine.specs.Rounds.{is_settled};
 ghost use Rattle.group_machine.specs.Cluster.{AreLogsOf, ClusterState, GrowsBy, IsDue, IsValidCluster, append_answer, appended_to, cluster_commit_answer, cluster_sync_answer, committed_at, committed_by, fence, with_group, without_room};
@@ -58,9 +58,24 @@ impl Cluster {
         ensures offsets { IfOk result (λ cluster. (p : ℕ) → committed_at cluster.store p ≡ 0) }
         ensures valid { IfOk result IsValidCluster }
     {
-        let group = Group::new(alloc, partitions)?;
         let logs = Logs::new(rt, alloc, partitions)?;
-        let store = Store::new(alloc, partitions)?;
+        Cluster::over(alloc, logs)
+    }
+
+    /// A cluster over given logs, with nobody present, nothing committed, and a counter at 0 for
+    /// each key. Refused for want of memory.
+    pub fn over(alloc: Global, logs: Logs) -> Result<Cluster, Memory>
+        ensures group { IfOk result (λ cluster. cluster.group ≡ opening logs.partitions) }
+        ensures logs { IfOk result (λ cluster. cluster.logs ≡ logs) }
+        ensures counters { IfOk result (λ cluster.
+            cluster.store.counts ≡ replicate (length logs.keys) 0) }
+        ensures room { IfOk result (λ cluster. cluster.store.room ≡ 0) }
+        ensures offsets { IfOk result (λ cluster. (p : ℕ) → committed_at cluster.store p ≡ 0) }
+        ensures valid { IfOk result IsValidCluster }
+    {
+        let partitions = logs.partitions();
+        let group = Group::new(alloc, partitions)?;
+        let store = Store::over(alloc, partitions, logs.keys())?;
         Ok(Cluster {
             alloc,
             group,
@@ -266,6 +281,13 @@ impl Cluster {
             (λ name. name_of self.now.group member ≡ Some name.now) }
     {
         members::name_of(&self.group.slots, member)
+    }
+
+    /// The number of the member that joined under a name, present or not; none where nobody did.
+    pub fn member_named(&self, name: &Name) -> Option<u32>
+        ensures { result ≡ member_named self.now.group name.now }
+    {
+        members::number_named(&self.group.slots, name)
     }
 
     /// The numbers of the present members, in rising order.

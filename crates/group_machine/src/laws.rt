@@ -1,11 +1,11 @@
 //! Laws of the group, for the layers above.
 
-ghost use Rattle.std.specs.Prelude.{◌≡◌, ℕ, List, true, false, Ok, Some};
+ghost use Rattle.std.specs.Prelude.{◌≡◌, ◌≤◌, ◌+◌, ◌++◌, ◌∷◌, [], ℕ, List, true, false, Ok, Some, length, slice_get};
 ghost use Rattle.bit_planes.specs.PartitionSet.{PartitionSet};
-ghost use Rattle.group_machine.specs.State.{GroupState, is_anybody, is_present};
+ghost use Rattle.group_machine.specs.State.{GroupState, HasNumber, is_anybody, is_present, names};
 ghost use Rattle.group_machine.specs.Completion.{next_rows_of};
 ghost use Rattle.group_machine.specs.Moves.{takes, taker};
-ghost use Rattle.group_machine.specs.Rounds.{is_settled, round, finish};
+ghost use Rattle.group_machine.specs.Rounds.{bare, is_settled, round, finish};
 ghost use Rattle.group_machine.specs.Steps.{join_answer, joined_by, leave_answer, left_by, rejoined_by, synced_by};
 ghost use Rattle.group_machine.specs.Good.{IsSound, IsValidGroup};
 ghost use Rattle.group_machine.specs.Passes.{turned, passed, is_calm};
@@ -95,4 +95,51 @@ pub fn sync_leaves_others()
 /// A member that syncs, while it is present, has synced then, and all else of it is as it was.
 pub fn sync_marks_its_member()
     ensures { (g : GroupState) (member : ℕ) → LeavesSynced g (synced_by g member) member }
+{}
+
+/// A join of a group, and of the same group without its flags, end in the same place.
+pub fn a_join_ends_where_it_ends_without_flags()
+    ensures { (g : GroupState) (name : List ℕ) → IsValidGroup g
+        → finish (joined_by g name) ≡ finish (joined_by (bare g) name) }
+{}
+
+/// A leave, or a loss, of a group, and of the same group without its flags, end in the same place.
+pub fn a_leave_ends_where_it_ends_without_flags()
+    ensures { (g : GroupState) (member : ℕ) → IsValidGroup g
+        → finish (left_by g member) ≡ finish (left_by (bare g) member) }
+{}
+
+/// The end of a rebalance takes no generation away, and adds at most two.
+pub fn an_end_adds_at_most_two_generations()
+    ensures rises { (g : GroupState) → g.generation ≤ (finish g).generation }
+    ensures at_most { (g : GroupState) → (finish g).generation ≤ g.generation + 2 }
+{}
+
+/// The end of a rebalance leaves who is there, and all names.
+pub fn an_end_leaves_who_is_there()
+    ensures names { (g : GroupState) → names (finish g) ≡ names g }
+    ensures present { (g : GroupState) (m : ℕ) → is_present (finish g) m ≡ is_present g m }
+{}
+
+/// A join adds its name as the last, and leaves who is there; the next number is there too.
+pub fn a_join_adds_its_name()
+    ensures names { (g : GroupState) (name : List ℕ)
+        → names (joined_by g name) ≡ names g ++ name ∷ [] }
+    ensures present { (g : GroupState) (name : List ℕ) (m : ℕ) → is_present g m ≡ true
+        → is_present (joined_by g name) m ≡ true }
+    ensures newcomer { (g : GroupState) (name : List ℕ)
+        → is_present (joined_by g name) (length g.slots + 1) ≡ true }
+{}
+
+/// A leave, or a loss, leaves all names, and whether each other member is there.
+pub fn a_leave_takes_one_out()
+    ensures names { (g : GroupState) (member : ℕ) → names (left_by g member) ≡ names g }
+    ensures others { (g : GroupState) (member m : ℕ) → (m ≡ member → ⊥)
+        → is_present (left_by g member) m ≡ is_present g m }
+{}
+
+/// A name that was given has a number, and that number's name it is.
+pub fn a_name_has_its_number()
+    ensures { (g : GroupState) (name : List ℕ) (i : ℕ) → slice_get (names g) i ≡ Some name
+        → HasNumber g name }
 {}

@@ -5,7 +5,7 @@ use super::*;
 use bit_planes::Plane;
 use keyed_table::Partial;
 use lane_words::{MOST_MEMBERS, MOST_PARTITIONS, Memory, Refusal};
-use partition_log::LogRead;
+use partition_log::{LogRead, Logs};
 use std::alloc::Global;
 use std::process::Abort;
 use std::test::Fail;
@@ -212,5 +212,83 @@ fn a_cluster_at_its_limits(rt: HostRuntime) -> Result<(), Fail> {
     assert_eq!(rt; cluster.leave(512), Err(Refusal::UnknownMember));
     assert!(rt; cluster.phase() == Phase::Preparing && cluster.generation() == 2);
     assert!(rt; cluster.is_present(511) && !cluster.is_present(512));
+    Ok(())
+}
+
+/// Logs of five records of four keys, of which each has a place of its own for four partitions.
+fn five_records(rt: &HostRuntime) -> Result<Logs, Fail> {
+    let mut logs = Logs::new(rt, rt.alloc(), 4)?;
+    let keys: [&[u8]; 5] = [b"21", b"4", b"foobar", b"abc", b"21"];
+    for key in keys {
+        logs.append(key)?;
+    }
+    Ok(logs)
+}
+
+#[test]
+fn a_cluster_over_logs_has_nothing_committed(rt: HostRuntime) -> Result<(), Fail> {
+    let cluster = Cluster::over(rt.alloc(), five_records(&rt)?)?;
+    assert!(rt; cluster.phase() == Phase::Empty && cluster.generation() == 0);
+    assert!(rt; !cluster.is_present(1) && cluster.moves().is_empty());
+    assert_eq!(rt; cluster.store().offsets(), [0; 4].as_slice());
+    assert_eq!(rt; cluster.store().counts(), [0; 4].as_slice());
+    Ok(())
+}
+
+#[test]
+fn a_cluster_over_logs_keeps_them(rt: HostRuntime) -> Result<(), Fail> {
+    let mut cluster = Cluster::over(rt.alloc(), five_records(&rt)?)?;
+    assert_eq!(rt; cluster.join(name(&rt, b"A")), Ok(1));
+    assert_eq!(rt; leases(&mut cluster, 1, 1, &[0, 1, 2, 3]), Ok(true));
+    assert_eq!(rt;
+        commit(rt.alloc(), &mut cluster, (1, 1, 0, 0), &[0, 0]),
+        Ok(Ok(2))
+    );
+    assert_eq!(rt;
+        commit(rt.alloc(), &mut cluster, (1, 1, 2, 0), &[2]),
+        Ok(Ok(1))
+    );
+    assert_eq!(rt; cluster.store().offsets(), [2, 0, 1, 0].as_slice());
+    assert_eq!(rt; cluster.store().counts(), [2, 0, 1, 0].as_slice());
+    assert!(rt; five_records(&rt)?.seal().same(cluster.logs()));
+    Ok(())
+}
+
+/// Logs of this many records of four bytes, each of another key.
+fn many_records(rt: &HostRuntime, records: u32) -> Result<Logs, Fail> {
+    let mut logs = Logs::new(rt, rt.alloc(), MOST_PARTITIONS)?;
+    for i in 0..records {
+        logs.append(&i.to_le_bytes())?;
+    }
+    Ok(logs)
+}
+
+#[test]
+fn a_cluster_over_many_keys_counts_each(rt: HostRuntime) -> Result<(), Fail> {
+    let mut cluster = Cluster::over(rt.alloc(), many_records(&rt, 100_000)?)?;
+    assert!(rt; cluster.partitions() == MOST_PARTITIONS && cluster.logs().keys() == 100_000);
+    assert_eq!(rt; cluster.store().offsets().len(), 4096);
+    assert_eq!(rt; cluster.store().counts().len(), 100_000);
+    assert_eq!(rt; cluster.append(b"new").is_ok(), true);
+    assert_eq!(rt; cluster.store().counts().len(), 100_001);
+    Ok(())
+}
+
+#[test]
+fn a_name_tells_its_number(rt: HostRuntime) -> Result<(), Fail> {
+    let mut cluster = Cluster::new(&rt, rt.alloc(), 4)?;
+    assert_eq!(rt; cluster.member_named(&name(&rt, b"A")), None);
+    assert_eq!(rt; cluster.join(name(&rt, b"A")), Ok(1));
+    assert_eq!(rt; cluster.join(name(&rt, b"B")), Ok(2));
+    assert_eq!(rt; cluster.leave(1), Ok(()));
+    let numbers: [(&[u8], Option<u32>); 4] = [
+        (b"A", Some(1)),
+        (b"B", Some(2)),
+        (b"a", None),
+        (b"AB", None),
+    ];
+    for (text, number) in numbers {
+        assert_eq!(rt; cluster.member_named(&name(&rt, text)), number, "{text:?}");
+    }
     Ok(())
 }

@@ -1,6 +1,6 @@
 //! Counters by key number.
 
-ghost use Rattle.std.specs.Prelude.{◌≡◌, ◌≤◌, ◌<◌, ◌+◌, ◌-◌, ◌++◌, ◌∷◌, [], OnOk, length};
+ghost use Rattle.std.specs.Prelude.{◌≡◌, ◌≤◌, ◌<◌, ◌+◌, ◌-◌, ◌++◌, ◌∷◌, [], IfOk, OnOk, length, replicate};
 ghost use Rattle.keyed_table.specs.Counts.{Counters, HaveCounters, SumsFit, counter_of, raised};
 
 use crate::Partial;
@@ -33,6 +33,14 @@ impl Table {
         Table {
             counts: Vec::new(alloc),
         }
+    }
+
+    /// A counter at 0 for each of this many key numbers. Refused for want of memory.
+    pub fn zeros(alloc: Global, keys: u32) -> Result<Table, Memory>
+        ensures { IfOk result (λ table. table.counts ≡ replicate keys 0) }
+    {
+        let counts = vec![in alloc; 0; keys as usize]?;
+        Ok(Table { counts })
     }
 
     /// Makes room for at least one counter more. Refused, with the counters as they were, for want

@@ -57,6 +57,14 @@ fn a_table_has_a_counter_for_each_key(rt: HostRuntime) -> Result<(), Fail> {
 }
 
 #[test]
+fn a_table_of_zeros_has_as_many_counters_as_keys(rt: HostRuntime) -> Result<(), Fail> {
+    let table = Table::zeros(rt.alloc(), 70_000)?;
+    assert_eq!(rt; table.len(), 70_000);
+    assert!(rt; table.counts().iter().all(|count| *count == 0));
+    Ok(())
+}
+
+#[test]
 fn counts_a_list_of_many_numbers(rt: HostRuntime) -> Result<(), Fail> {
     let mut ids = Vec::new(rt.alloc());
     for i in 0..200_000_u32 {

@@ -1,6 +1,6 @@
 //! The keys of all logs, numbered in the order of their first appearance.
 
-ghost use Rattle.std.specs.Prelude.{◌≡◌, ◌<◌, ◌≤◌, [], IfOk, IfSome, IfNone, IsOk, OnErr, length, true, false};
+ghost use Rattle.std.specs.Prelude.{◌≡◌, ◌<◌, ◌≤◌, ◌↔◌, [], IfOk, IfSome, IfNone, IsOk, IsTrue, OnErr, length, true, false};
 ghost use Rattle.partition_log.specs.Private.Appends.{IsIdOf};
 ghost use Rattle.partition_log.specs.Keys.{IsWithoutRepeats, is_known, key_at, id_of, with_key};
 
@@ -62,6 +62,13 @@ impl KeyIds {
             copy.add(self.key(number))?;
         }
         Ok(copy)
+    }
+
+    /// Whether other keys are the same by the same numbers.
+    pub fn same(&self, other: &KeyIds) -> bool
+        ensures { IsTrue result ↔ (self.now ≡ other.now) }
+    {
+        self.set.as_slice() == other.set.as_slice()
     }
 
     /// How many keys there are.

@@ -1,7 +1,7 @@
 //! Append-only logs of keyed records.
 #![tactic(auto)]
 
-ghost use Rattle.std.specs.Prelude.{◌≡◌, ◌<◌, ◌≤◌, ◌++◌, ◌∷◌, [], Ok, Err, List, map, length, vec_items, vec_len, slice_set, slice_range, replicate, slice_index_or, IfOk, OnOk, OnErr, if◌then◌else◌};
+ghost use Rattle.std.specs.Prelude.{◌≡◌, ◌<◌, ◌≤◌, ◌↔◌, ◌++◌, ◌∷◌, [], Ok, Err, List, map, length, vec_items, vec_len, slice_set, slice_range, replicate, slice_index_or, IfOk, IsTrue, OnOk, OnErr, if◌then◌else◌};
 ghost use Rattle.lane_words.specs.Answers.{Answers};
 ghost use Rattle.lane_words.specs.declared.Refusal.TheVariants as refusal;
 ghost use Rattle.partitioner.specs.Place.{place_of};
@@ -177,6 +177,15 @@ impl Logs {
         SealedLogs { logs: self }
     }
 
+    /// Whether other logs are equal to these.
+    fn same(&self, other: &Logs) -> bool
+        ensures { IsTrue result ↔ (self.now ≡ other.now) }
+    {
+        self.partitions() == other.partitions()
+            && self.keys.same(&other.keys)
+            && same_logs(&self.logs, &other.logs)
+    }
+
     /// Equal logs, whose keys have a hasher of their own.
     fn copy(&self, rt: &impl RandomSource, alloc: Global) -> Result<Logs, Memory>
         ensures equal { IfOk result (λ logs. logs ≡ self.now) }
@@ -212,6 +221,13 @@ fn copy_logs(alloc: Global, logs: &Vec<Vec<u32>>) -> Result<Vec<Vec<u32>>, Memor
         copy.push(Vec::from_slice(alloc, log.as_slice())?)?;
     }
     Ok(copy)
+}
+
+/// Whether logs have the same numbers.
+fn same_logs(logs: &[Vec<u32>], others: &[Vec<u32>]) -> bool
+    ensures { IsTrue result ↔ (map vec_items logs.now ≡ map vec_items others.now) }
+{
+    logs == others
 }
 
 /// Appends the number of a key to its log, and answers the number's offset there. A new key is

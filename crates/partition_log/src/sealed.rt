@@ -1,6 +1,6 @@
 //! Logs to which nothing is appended any more.
 
-ghost use Rattle.std.specs.Prelude.{◌≡◌, IfOk};
+ghost use Rattle.std.specs.Prelude.{◌≡◌, ◌↔◌, IfOk, IsTrue};
 ghost use Rattle.partition_log.specs.Logs.{IsValidLogs, PartitionLogs};
 
 use crate::{LogRead, Logs};
@@ -57,5 +57,13 @@ impl SealedLogs {
         ensures valid { IfOk result IsValidLogs }
     {
         self.logs.copy(rt, alloc)
+    }
+    /// Whether other logs are equal to these: of as many partitions, with the same keys by the same
+    /// numbers, and in each log the same numbers in order. It takes no memory, and time in
+    /// proportion to the keys' bytes and the records.
+    pub fn same(&self, other: &Logs) -> bool
+        ensures { IsTrue result ↔ (self.now ≡ other.now) }
+    {
+        self.logs.same(other)
     }
 }

@@ -1,6 +1,8 @@
 //! Each call once with ample memory, over keys whose places for four partitions are known from
 //! outside.
 
+ghost use Rattle.std.specs.Prelude.{◌≤◌};
+
 use super::*;
 use std::test::Fail;
 
@@ -52,6 +54,40 @@ fn a_copy_of_sealed_logs_numbers_keys_as_they_do(rt: HostRuntime) -> Result<(), 
     Ok(())
 }
 
+/// Logs of as many partitions to which these keys of one byte were appended.
+fn logs_of(rt: &HostRuntime, partitions: u32, keys: &[u8]) -> Result<Logs, Fail>
+    requires { (1 ≤ partitions) × (partitions ≤ MOST_PARTITIONS) }
+{
+    let mut logs = Logs::new(rt, rt.alloc(), partitions)?;
+    for key in keys {
+        logs.append(&[*key])?;
+    }
+    Ok(logs)
+}
+
+/// Whether logs of these keys are the same, in as many partitions each.
+fn are_same(rt: &HostRuntime, keys: (u32, &[u8]), others: (u32, &[u8])) -> Result<bool, Fail>
+    requires keys { (1 ≤ keys.0) × (keys.0 ≤ MOST_PARTITIONS) }
+    requires others { (1 ≤ others.0) × (others.0 ≤ MOST_PARTITIONS) }
+{
+    let sealed = logs_of(rt, keys.0, keys.1)?.seal();
+    let logs = logs_of(rt, others.0, others.1)?;
+    Ok(sealed.same(&logs))
+}
+
+#[test]
+fn same_tells_logs_that_differ(rt: HostRuntime) -> Result<(), Fail> {
+    assert_eq!(rt; are_same(&rt, (1, b"aba"), (1, b"aba"))?, true);
+    // One record more, another key, the keys in another order, other records of the same keys, and
+    // other partitions.
+    assert_eq!(rt; are_same(&rt, (1, b"aba"), (1, b"abaa"))?, false);
+    assert_eq!(rt; are_same(&rt, (1, b"aba"), (1, b"aca"))?, false);
+    assert_eq!(rt; are_same(&rt, (1, b"aba"), (1, b"bab"))?, false);
+    assert_eq!(rt; are_same(&rt, (1, b"aba"), (1, b"abb"))?, false);
+    assert_eq!(rt; are_same(&rt, (1, b""), (2, b""))?, false);
+    Ok(())
+}
+
 #[test]
 fn takes_keys_up_to_the_longest(rt: HostRuntime) -> Result<(), Fail> {
     let mut logs = Logs::new(&rt, rt.alloc(), 1)?;
@@ -89,6 +125,20 @@ fn keys_are_numbered_as_by_the_plain_form(rt: HostRuntime) -> Result<(), Fail> {
     for number in 0..keys.count().min(plain.count()) {
         assert_eq!(rt; keys.key(number), plain.key(number));
     }
+    Ok(())
+}
+
+#[test]
+fn same_over_as_many_logs_as_there_may_be(rt: HostRuntime) -> Result<(), Fail> {
+    let mut logs = Logs::new(&rt, rt.alloc(), MOST_PARTITIONS)?;
+    for i in 0..10_000_u32 {
+        logs.append(&i.to_le_bytes())?;
+    }
+    let sealed = logs.seal();
+    let mut copy = sealed.copy(&rt, rt.alloc())?;
+    assert!(rt; sealed.same(&copy));
+    copy.append(&[0; 4])?;
+    assert!(rt; !sealed.same(&copy));
     Ok(())
 }
 

@@ -1,9 +1,10 @@
 //! Readers over slots.
 
-ghost use Rattle.std.specs.Prelude.{◌≡◌, ◌≤◌, length, Some, None, MatchOption};
+ghost use Rattle.std.specs.Prelude.{◌≡◌, ◌<◌, ◌≤◌, length, position, Some, None, IfSome, MatchOption};
+ghost use Rattle.std.specs.Str.{bytes_eq};
 ghost use Rattle.std.specs.Iterator.{YieldsFirst, item_count};
 ghost use Rattle.group_machine.specs.Slots.{members_in, owner_in};
-ghost use Rattle.group_machine.specs.State.{name_at};
+ghost use Rattle.group_machine.specs.State.{name_at, number_in};
 
 use super::Slot;
 use crate::Name;
@@ -84,4 +85,23 @@ pub fn name_of(slots: &[Slot], member: u32) -> Option<&Name>
     let index = member.checked_sub(1)?;
     let slot = slots.get(index as usize)?;
     Some(&slot.name)
+}
+
+/// The number of the member that joined under a name, present or not.
+pub fn number_named(slots: &[Slot], name: &Name) -> Option<u32>
+    requires { length slots.now ≤ MOST_MEMBERS }
+    ensures { result ≡ number_in slots.now name.now }
+{
+    let index = index_named(slots, name)?;
+    Some(index as u32 + 1)
+}
+
+/// Where the slot of the member that joined under a name stands.
+fn index_named(slots: &[Slot], name: &Name) -> Option<usize>
+    ensures value { result ≡ position (λ s. bytes_eq s.name name.now) slots.now }
+    ensures within { IfSome result (λ k. k < length slots.now) }
+{
+    slots
+        .iter()
+        .position(|slot| slot.name.text() == name.text())
 }

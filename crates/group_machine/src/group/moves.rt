@@ -2,7 +2,7 @@
 
 ghost use Rattle.std.specs.Prelude.{◌≡◌, ◌^◌, ◌+◌, ◌++◌, ◌<◌, ◌≤◌, ℕ, Some, None, true, length, slice_index_or, IfOk};
 ghost use Rattle.std.specs.Vec.{vec_len, vec_capacity};
-ghost use Rattle.bit_planes.specs.PartitionSet.{is_in};
+ghost use Rattle.bit_planes.specs.PartitionSet.{is_in, partitions_of};
 ghost use Rattle.bit_planes.specs.SetRows.{set_of};
 ghost use Rattle.group_machine.specs.Moves.{takers_in, moves_by, last_by};
 ghost use Rattle.group_machine.specs.Private.Walks.{taken_by};
@@ -36,15 +36,13 @@ pub fn takers_of(
 
 /// A member takes these partitions.
 fn take_added(takers: &mut [Option<u32>], member: u32, added: &Plane)
-    requires { length takers.old < 2 ^ 32 }
+    requires { partitions_of added.now ≡ length takers.old }
     ensures taken { (q : ℕ) → q < length takers.old
         → slice_index_or takers.new q None ≡ taken_by member added.now takers.old q }
     ensures long { length takers.new ≡ length takers.old }
 {
-    for q in 0..takers.len() {
-        if added.contains(q as u32) {
-            takers[q] = Some(member);
-        }
+    for q in added.iter() {
+        takers[q as usize] = Some(member);
     }
 }
 
