@@ -1,7 +1,7 @@
 -- How the answer to lines comes of the first one's and that of the rest.
 use Rattle.std.proofs.Common.{◌≡◌, refl, sym, ap, ◌∙◌, ℕ, ◌+◌, ◌⊎◌, inl, inr, Bool, true, false, cond, List, [], ◌∷◌, ◌++◌, map, length, ⊎_elim, arith, Option, Some, None, Result, Ok, Err, append_assoc, append-nil}
 use Rattle.std.specs.List.{cons_option, enumerate_from}
-use Rattle.std.specs.Option.{option_map_or, option_to_list}
+use Rattle.std.specs.Option.{option_map, option_map_or, option_to_list}
 use Rattle.std.specs.Result.{result_map_both}
 use Rattle.std.specs.Str.Lines.{strip_carriage_return}
 use Rattle.lane_words.specs.Answers.{Answers}
@@ -9,7 +9,8 @@ use Rattle.lane_words.specs.declared.Refusal.{Refusal}
 use Rattle.lane_words.specs.declared.Refusal.TheVariants as r
 use Rattle.script.specs.Grammar.{lines_from, split_lines}
 use Rattle.script.specs.Private.Answers.{line_answer}
-use Rattle.script.specs.Replay.{answer_of, is_bad, said}
+use Rattle.script.specs.Replay.{action_said, answer_of, is_bad, said}
+use Rattle.script.specs.declared.action.Action.{Action}
 use Rattle.script.specs.declared.replay.Line.{Line}
 
 -- lines that are read already, before an answer to the rest
@@ -21,11 +22,17 @@ pub after-after : (front more : List Line) (answer : Result (List Line) Refusal)
 after-after front more (Ok lines) = ap Ok (sym (append_assoc front more lines))
 after-after front more (Err e) = refl
 
-pub lines_from-first : (n : ℕ) (bytes text rest : List ℕ)
-    → split_lines bytes ≡ text ∷ split_lines rest
-    → lines_from n bytes ≡ (n, strip_carriage_return text) ∷ lines_from (n + 1) rest
-lines_from-first n bytes text rest e =
+-- the first line without its end, before those of the rest
+pub lines_from-first : (n : ℕ) (bytes text line rest : List ℕ)
+    → split_lines bytes ≡ text ∷ split_lines rest → line ≡ strip_carriage_return text
+    → lines_from n bytes ≡ (n, line) ∷ lines_from (n + 1) rest
+lines_from-first n bytes text line rest e stripped =
     ap (λ lines. enumerate_from n (map strip_carriage_return lines)) e
+    ∙ ap (λ line. (n, line) ∷ lines_from (n + 1) rest) (sym stripped)
+
+-- a line of this number that says this, if anything
+abbrev pub line_saying : ℕ → Option Action → Option Line
+line_saying n action = option_map (λ action. record { number = n; action = action }) action
 
 -- the answer to lines of which a bad one was found
 abbrev told : Option (ℕ × List ℕ) → List Line → Result (List Line) Refusal
@@ -37,33 +44,35 @@ abbrev answer_by : Bool → ℕ × List ℕ → Option Line → Option (ℕ × L
 answer_by bad line first found more =
     told (cond bad (Some line) found) (cons_option first more)
 
-read_first : (bad : Bool) (line : ℕ × List ℕ) (first : Option Line)
-    (found : Option (ℕ × List ℕ)) (more : List Line) (x : Option Line)
-    → cond bad (Err (r.BadLine line.0)) (Ok first) ≡ Ok x
-    → answer_by bad line first found more ≡ after (option_to_list x) (told found more)
-read_first true line first found more x e = absurd cc
+read_first : (bad : Bool) (line : ℕ × List ℕ) (action : Option Action)
+    (found : Option (ℕ × List ℕ)) (more : List Line) (x : Option Action)
+    → cond bad (Err (r.BadLine line.0)) (Ok action) ≡ Ok x
+    → answer_by bad line (line_saying line.0 action) found more
+    ≡ after (option_to_list (line_saying line.0 x)) (told found more)
+read_first true line action found more x e = absurd cc
 read_first false line None None more None e = refl
 read_first false line None (Some bad) more None e = refl
 read_first false line (Some said) found more None e = absurd cc
 read_first false line None found more (Some x) e = absurd cc
 read_first false line (Some said) None more (Some x) e =
-    let same : said ≡ x = cc in ap (λ line. Ok (line ∷ more)) same
+    let same : said ≡ x = cc in
+    ap (λ action. Ok (record { number = line.0; action = action } ∷ more)) same
 read_first false line (Some said) (Some bad) more (Some x) e = refl
 
-refused_first : (bad : Bool) (line : ℕ × List ℕ) (first : Option Line)
+refused_first : (bad : Bool) (line : ℕ × List ℕ) (action : Option Action) (first : Option Line)
     (found : Option (ℕ × List ℕ)) (more : List Line) (e : Refusal)
-    → cond bad (Err (r.BadLine line.0)) (Ok first) ≡ Err e
+    → cond bad (Err (r.BadLine line.0)) (Ok action) ≡ Err e
     → answer_by bad line first found more ≡ Err e
-refused_first true line first found more e h = cc
-refused_first false line first found more e h = absurd cc
+refused_first true line action first found more e h = cc
+refused_first false line action first found more e h = absurd cc
 
 -- a line that is read adds what it says
-pub answer_of-read : (n : ℕ) (text : List ℕ) (rest : List (ℕ × List ℕ)) (x : Option Line)
+pub answer_of-read : (n : ℕ) (text : List ℕ) (rest : List (ℕ × List ℕ)) (x : Option Action)
     → Answers (line_answer (n, text)) (Ok x)
-    → answer_of ((n, text) ∷ rest) ≡ after (option_to_list x) (answer_of rest)
-unfolding answer_of line_answer
+    → answer_of ((n, text) ∷ rest) ≡ after (option_to_list (line_saying n x)) (answer_of rest)
+unfolding answer_of line_answer said
 answer_of-read n text rest x (inl e) =
-    read_first (is_bad text) (n, text) (said (n, text)) _ _ x (sym e)
+    read_first (is_bad text) (n, text) (action_said text) _ _ x (sym e)
 answer_of-read n text rest x (inr e) = absurd cc
 
 -- one that is refused is the answer, unless memory was
@@ -72,44 +81,31 @@ pub answer_of-refused : (n : ℕ) (text : List ℕ) (rest : List (ℕ × List �
     → (answer_of ((n, text) ∷ rest) ≡ Err e) ⊎ (e ≡ r.Memory)
 unfolding answer_of line_answer
 answer_of-refused n text rest e (inl h) =
-    inl (refused_first (is_bad text) (n, text) (said (n, text)) _ _ e (sym h))
+    inl (refused_first (is_bad text) (n, text) (action_said text) (said (n, text)) _ _ e (sym h))
 answer_of-refused n text rest e (inr h) = inr cc
-
--- the first line of the bytes is this line, and the others are those of the rest
-pub record Cuts (bytes line rest : List ℕ) : Type 0 where
-  pub text : List ℕ
-  pub lines : split_lines bytes ≡ text ∷ split_lines rest
-  pub stripped : line ≡ strip_carriage_return text
-
-pub cuts : {bytes text line rest : List ℕ} → split_lines bytes ≡ text ∷ split_lines rest
-    → line ≡ strip_carriage_return text → Cuts bytes line rest
-cuts {bytes} {text} lines stripped = record { text = text; lines = lines; stripped = stripped }
-
-answer_of-cut : (n : ℕ) (bytes line rest : List ℕ) → Cuts bytes line rest
-    → answer_of ((n, line) ∷ lines_from (n + 1) rest) ≡ answer_of (lines_from n bytes)
-answer_of-cut n bytes line rest cut =
-    ap (λ line. answer_of ((n, line) ∷ lines_from (n + 1) rest)) cut.stripped
-    ∙ ap answer_of (sym (lines_from-first n bytes cut.text rest cut.lines))
 
 -- a line before the rest of the bytes
 pub read-more : (lines : List Line) (whole : Result (List Line) Refusal) (n : ℕ)
-    (bytes line rest : List ℕ) (x : Option Line) → Cuts bytes line rest
+    (bytes line rest : List ℕ) (x : Option Action)
+    → lines_from n bytes ≡ (n, line) ∷ lines_from (n + 1) rest
     → after lines (answer_of (lines_from n bytes)) ≡ whole
     → Answers (line_answer (n, line)) (Ok x)
-    → after (lines ++ option_to_list x) (answer_of (lines_from (n + 1) rest)) ≡ whole
-read-more lines whole n bytes line rest x cut before said =
-    let first = answer_of-read n line (lines_from (n + 1) rest) x said in
-    sym (after-after lines (option_to_list x) (answer_of (lines_from (n + 1) rest)))
-    ∙ ap (after lines) (sym first ∙ answer_of-cut n bytes line rest cut)
+    → after (lines ++ option_to_list (line_saying n x)) (answer_of (lines_from (n + 1) rest)) ≡ whole
+read-more lines whole n bytes line rest x first before said =
+    let more = option_to_list (line_saying n x) in
+    sym (after-after lines more (answer_of (lines_from (n + 1) rest)))
+    ∙ ap (after lines)
+    (sym (ap answer_of first ∙ answer_of-read n line (lines_from (n + 1) rest) x said))
     ∙ before
 
 pub read-refused : (lines : List Line) (whole : Result (List Line) Refusal) (n : ℕ)
-    (bytes line rest : List ℕ) (e : Refusal) → Cuts bytes line rest
+    (bytes line rest : List ℕ) (e : Refusal)
+    → lines_from n bytes ≡ (n, line) ∷ lines_from (n + 1) rest
     → after lines (answer_of (lines_from n bytes)) ≡ whole
     → Answers (line_answer (n, line)) (Err e) → Answers whole (Err e)
-read-refused lines whole n bytes line rest e cut before refused =
+read-refused lines whole n bytes line rest e first before refused =
     ⊎_elim
-    (λ first. inl (ap (after lines) (sym first ∙ answer_of-cut n bytes line rest cut) ∙ before))
+    (λ told. inl (ap (after lines) (sym (ap answer_of first ∙ told)) ∙ before))
     (λ memory. inr (ap Err memory))
     (answer_of-refused n line (lines_from (n + 1) rest) e refused)
 

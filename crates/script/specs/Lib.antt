@@ -1,4 +1,5 @@
 pub mod Forms
 pub mod Grammar
+pub mod Plan
 pub mod Private
 pub mod Replay

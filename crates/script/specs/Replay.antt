@@ -7,6 +7,7 @@ use Rattle.std.specs.Result.{result_map_both}
 use Rattle.lane_words.specs.declared.Refusal.{Refusal}
 use Rattle.lane_words.specs.declared.Refusal.TheVariants as r
 use Rattle.script.specs.Grammar.{action_of, lines_from}
+use Rattle.script.specs.declared.action.Action.{Action}
 use Rattle.script.specs.declared.limits.TheConstants.{LONGEST_LINE}
 use Rattle.script.specs.declared.replay.Line.{Line}
 
@@ -19,11 +20,14 @@ unfoldable pub is_bad : List ℕ → Bool
 is_bad line =
     nat_lt LONGEST_LINE (length line) || (not (is_silent line) && is_none (action_of line))
 
+-- what a line says, if it is not silent
+unfoldable pub action_said : List ℕ → Option Action
+action_said line = if is_silent line then None else action_of line
+
 -- what a line says, beside its number
 unfoldable pub said : ℕ × List ℕ → Option Line
 said (number, line) =
-    if is_silent line then None
-    else option_map (λ action. record { number = number; action = action }) (action_of line)
+    option_map (λ action. record { number = number; action = action }) (action_said line)
 
 -- the first bad line is told, and where none is bad, what the lines say
 unfoldable pub answer_of : List (ℕ × List ℕ) → Result (List Line) Refusal

@@ -1,9 +1,12 @@
-//! Laws of the grammar.
+//! Laws of the grammar and of plans.
 
-ghost use Rattle.std.specs.Prelude.{◌≡◌, ℕ, List, Some, IfSome};
+ghost use Rattle.std.specs.Prelude.{◌≡◌, ◌<◌, ◌*◌, ℕ, List, length, Some, IfSome};
+ghost use Rattle.lane_words.specs.declared.limits.TheConstants.{MOST_MEMBERS};
 ghost use Rattle.script.specs.Forms.{IsWritten};
 ghost use Rattle.script.specs.Grammar.{action_of};
+ghost use Rattle.script.specs.Plan.{IsPlan};
 ghost use Rattle.script.specs.declared.action.Action.{Action};
+ghost use Rattle.script.specs.declared.plan.Change.{Change};
 
 /// A line in a form of an action says this action.
 pub fn forms_are_read()
@@ -14,4 +17,10 @@ pub fn forms_are_read()
 /// What is read of a line is written in one of its forms: the grammar has no other lines.
 pub fn no_others_are_read()
     ensures { (line : List ℕ) → IfSome (action_of line) (λ action. IsWritten action line) }
+{}
+
+/// A plan has fewer lines than two for each member there may be: each line is a join, or a leave
+/// or loss of one who joined, and somebody is left.
+pub fn a_plan_is_short()
+    ensures { (lines : List Change) → IsPlan lines → length lines < 2 * MOST_MEMBERS }
 {}

@@ -1,13 +1,16 @@
-//! Scripts: what their lines say.
+//! Scripts: what their lines say, and the plans that they make.
 #![tactic(auto)]
 
 mod action;
 mod laws;
 mod limits;
+mod lines;
+mod plan;
 mod replay;
 mod words;
 
 pub use action::{Action, Key};
-pub use laws::{forms_are_read, no_others_are_read};
+pub use laws::{a_plan_is_short, forms_are_read, no_others_are_read};
 pub use limits::{LONGEST_LINE, MOST_DIGITS};
+pub use plan::{Change, Plan, read_plan};
 pub use replay::{Line, read_replay};

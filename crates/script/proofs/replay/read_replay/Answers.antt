@@ -1,40 +1,40 @@
 use Rattle.std.proofs.Common.{◌≡◌, ◌+◌, None, Some, append-nil, arith, inl, length}
 use Rattle.std.proofs.lemmas.Bool.Decides.{nat_tests}
 use Rattle.std.proofs.lemmas.Result.{err_from_is_err_and}
-use Rattle.script.proofs.Progress.{cuts, read-all, read-more, read-refused}
+use Rattle.script.proofs.Progress.{read-all, read-more, read-refused}
 use Rattle.script.specs.Replay.{read_answer}
 use Rattle.script.proofs.replay.read_replay.Goals as goal
 
-pub returns-in_err-line : goal.returns-in_err-line
-returns-in_err-line c =
+pub returns-in_err-action : goal.returns-in_err-action
+returns-in_err-action c =
     let p = err_from_is_err_and c.from_residual.result c.from_residual.ensures.1 in
     rw (p.1, p.2)
     (read-refused c.loop-rest.lines.items (read_answer c.args.bytes.now)
-    (c.loop-rest.number + 1) c.loop-rest.rest.now c.without_carriage_return.result.now
-    c.split_line.result.1.now _ (cuts c.split_line.ensures.lines c.without_carriage_return.ensures)
-    c.loop-rest.invariant.answer c.in_err-line.ensures)
+    (c.loop-rest.number + 1) c.loop-rest.rest.now c.first_line.result.0.now
+    c.first_line.result.1.now _ (c.first_line.ensures.lines (c.loop-rest.number + 1))
+    c.loop-rest.invariant.answer c.in_err-action.ensures)
 
 pub loop-rest-preserved-in_ok-push : goal.loop-rest-preserved-in_ok-push
 loop-rest-preserved-in_ok-push c =
-    let said = rw c.in-Some.is at c.in_ok-line.ensures in
+    let said = rw c.in-Some.is at c.in_ok-action.ensures in
     record {
       answer = rw c.in_ok-push.ensures.items
           (read-more c.loop-rest.lines.items (read_answer c.args.bytes.now)
-          (c.loop-rest.number + 1) c.loop-rest.rest.now c.without_carriage_return.result.now
-          c.split_line.result.1.now (Some c.in-Some.line)
-          (cuts c.split_line.ensures.lines c.without_carriage_return.ensures)
+          (c.loop-rest.number + 1) c.loop-rest.rest.now c.first_line.result.0.now
+          c.first_line.result.1.now (Some c.in-Some.action)
+          (c.first_line.ensures.lines (c.loop-rest.number + 1))
           c.loop-rest.invariant.answer said);
       few = omega arith;
     }
 
 pub loop-rest-preserved : goal.loop-rest-preserved
 loop-rest-preserved c =
-    let silent = rw c.in_default.is at c.in_ok-line.ensures in
+    let silent = rw c.in_default.is at c.in_ok-action.ensures in
     let more =
     read-more c.loop-rest.lines.items (read_answer c.args.bytes.now)
-    (c.loop-rest.number + 1) c.loop-rest.rest.now c.without_carriage_return.result.now
-    c.split_line.result.1.now None
-    (cuts c.split_line.ensures.lines c.without_carriage_return.ensures)
+    (c.loop-rest.number + 1) c.loop-rest.rest.now c.first_line.result.0.now
+    c.first_line.result.1.now None
+    (c.first_line.ensures.lines (c.loop-rest.number + 1))
     c.loop-rest.invariant.answer silent in
     record { answer = rw (append-nil c.loop-rest.lines.items) at more; few = omega arith }
 

@@ -1,0 +1,22 @@
+-- What the steps of reading a plan are answered.
+use Rattle.std.specs.Prelude.{ℕ, Bool, true, false, if◌then◌else◌, List, Option, Result, Ok, Err}
+use Rattle.std.specs.Option.{option_map_or}
+use Rattle.lane_words.specs.declared.Refusal.{Refusal}
+use Rattle.lane_words.specs.declared.Refusal.TheVariants as r
+use Rattle.script.specs.Plan.{change_said, is_no_plan_line}
+use Rattle.script.specs.declared.plan.Change.{Change}
+use Rattle.script.specs.declared.plan.Change.TheVariants.{Join, Leave, Lose}
+
+-- a line that no plan has is refused, and any other read
+unfoldable pub said_answer : ℕ × List ℕ → Result (Option Change) Refusal
+said_answer (number, line) =
+    if is_no_plan_line line then Err (r.BadLine number) else Ok (change_said line)
+
+-- what has a fault is refused for it
+abbrev pub taken : Option Refusal → Result (Unit {0}) Refusal
+taken fault = option_map_or Err fault (Ok tt)
+
+abbrev pub is_join : Change → Bool
+is_join (Join name) = true
+is_join (Leave name) = false
+is_join (Lose name) = false

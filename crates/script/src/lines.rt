@@ -1,0 +1,64 @@
+//! The lines of a script, which those of a replay and plans share.
+
+ghost use Rattle.std.specs.Prelude.{◌≡◌, ℕ, ◌+◌, ◌∷◌, ◌<◌, length};
+ghost use Rattle.std.specs.Str.Lines.{strip_carriage_return};
+ghost use Rattle.lane_words.specs.Answers.{Answers};
+ghost use Rattle.script.specs.Grammar.{lines_from, split_lines};
+ghost use Rattle.script.specs.Private.Answers.{line_answer};
+
+use crate::action::{self, Action};
+use crate::limits::LONGEST_LINE;
+use crate::words;
+use lane_words::Refusal;
+use std::alloc::Global;
+
+/// The first line without its end, and what follows it.
+pub fn first_line(bytes: &[u8]) -> (&[u8], &[u8])
+    requires { 0 < length bytes.now }
+    ensures lines { (n : ℕ)
+        → lines_from n bytes.now ≡ (n, result.0.now) ∷ lines_from (n + 1) result.1.now }
+    ensures shorter { length result.1.now < length bytes.now }
+{
+    let (line, rest) = split_line(bytes);
+    (without_carriage_return(line), rest)
+}
+
+/// The first line without its line feed, and what follows it.
+fn split_line(bytes: &[u8]) -> (&[u8], &[u8])
+    requires { 0 < length bytes.now }
+    ensures lines { split_lines bytes.now ≡ result.0.now ∷ split_lines result.1.now }
+    ensures shorter { length result.1.now < length bytes.now }
+{
+    match words::first_index(bytes, b'\n') {
+        Some(end) => (&bytes[..end], &bytes[end + 1..]),
+        None => (bytes, &[]),
+    }
+}
+
+/// A line without one carriage return at its end.
+fn without_carriage_return(line: &[u8]) -> &[u8]
+    ensures { result.now ≡ strip_carriage_return line.now }
+{
+    match line {
+        [text @ .., b'\r'] => text,
+        _ => line,
+    }
+}
+
+/// What the line of this number says, if it says something. A line that is not of the grammar is
+/// refused with `BadLine`.
+#[tactic(auto, unfolding(crate::specs::Private::Answers::line_answer, crate::specs::Replay::is_bad, crate::specs::Replay::action_said))]
+pub fn action_said(alloc: Global, number: u64, line: &[u8]) -> Result<Option<Action>, Refusal>
+    ensures { Answers (line_answer (number, line.now)) result }
+{
+    if line.len() > LONGEST_LINE {
+        return Err(Refusal::BadLine { line: number });
+    }
+    if line.is_empty() || line[0] == b'#' {
+        return Ok(None);
+    }
+    let Some(action) = action::action_of(alloc, line)? else {
+        return Err(Refusal::BadLine { line: number });
+    };
+    Ok(Some(action))
+}
