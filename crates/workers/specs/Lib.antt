@@ -1,0 +1,4 @@
+pub mod Plans
+pub mod Private
+pub mod Progress
+pub mod Runs
