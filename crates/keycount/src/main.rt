@@ -1,4 +1,5 @@
-//! `keycount`: counts the keys of a file of comma-separated records, or replays a script over them.
+//! `keycount`: counts the keys of a file of comma-separated records, replays a script over them, or
+//! runs a plan over them by a thread for each member.
 #![tactic(auto)]
 
 ghost use Rattle.report_cli.specs.Reports.{AreInRange};
@@ -6,7 +7,7 @@ ghost use Rattle.report_cli.specs.Reports.{AreInRange};
 use lane_words::Refusal;
 use report_cli::{
     FromRead, FromWrite, Job, Options, Usage, count_text, fault_line, read_words, replay_text,
-    status,
+    run_text, status,
 };
 use std::alloc::AllocError;
 use std::env;
@@ -14,7 +15,9 @@ use std::fs::File;
 use std::io::{ErrorKind, Read};
 use std::process::ExitCode;
 use std::random::RandomSource;
+use std::sync::Wait;
 use std::thread::Threads;
+use workers::{Gate, GateAnswer};
 
 /// Opens the file at this path.
 fn opened(rt: &HostRuntime, path: &str) -> Result<File, Refusal> {
@@ -75,6 +78,57 @@ fn replay_files<R: Threads + Sync + RandomSource>(
     }
 }
 
+/// Lets each worker commit whenever it wants.
+struct OpenGate;
+
+impl Gate for OpenGate {
+    fn ask(&self, _member: u32, _generation: u32) -> GateAnswer {
+        GateAnswer::Go
+    }
+}
+
+/// Runs a plan over the keys of a file, and prints the rows.
+fn run<R: Threads + Wait + RandomSource + Sync, F: Read + Drop, S: Read + Drop>(
+    rt: &HostRuntime,
+    threads: &R,
+    file: F,
+    script: S,
+    options: Options,
+) -> Result<(), Refusal>
+    requires { AreInRange options }
+{
+    let mut file = FromRead::new(file);
+    let mut script = FromRead::new(script);
+    let mut sink = FromWrite::new(rt.stdout());
+    run_text(
+        threads,
+        rt.alloc(),
+        &mut file,
+        &mut script,
+        options,
+        &OpenGate,
+        &mut sink,
+    )
+}
+
+/// Runs the plan at one path over the keys of the file at another. The paths are as of a replay.
+fn run_files<R: Threads + Wait + RandomSource + Sync>(
+    rt: &HostRuntime,
+    threads: &R,
+    file: &str,
+    script: &str,
+    options: Options,
+) -> Result<(), Refusal>
+    requires { AreInRange options }
+{
+    match (file, script) {
+        ("-", "-") => run(rt, threads, rt.stdin(), rt.stdin(), options),
+        ("-", _) => run(rt, threads, rt.stdin(), opened(rt, script)?, options),
+        (_, "-") => run(rt, threads, opened(rt, file)?, rt.stdin(), options),
+        _ => run(rt, threads, opened(rt, file)?, opened(rt, script)?, options),
+    }
+}
+
 /// Tells a fault on standard error, and gives its exit status.
 fn told(rt: &HostRuntime, fault: &Refusal) -> ExitCode {
     // Where standard error fails too, the status still tells.
@@ -91,7 +145,7 @@ fn ended(rt: &HostRuntime, answer: Result<(), Refusal>) -> ExitCode {
 }
 
 /// Does what the words say. The threads are the runtime's, which only `main` can lend.
-fn run<R: Threads + Sync + RandomSource>(
+fn act<R: Threads + Wait + RandomSource + Sync>(
     rt: &HostRuntime,
     threads: &R,
     words: &[&str],
@@ -105,6 +159,13 @@ fn run<R: Threads + Sync + RandomSource>(
                 options,
             },
         ) => ended(rt, replay_files(rt, threads, file, script, options)),
+        Ok(
+            Job::Run {
+                file,
+                script,
+                options,
+            },
+        ) => ended(rt, run_files(rt, threads, file, script, options)),
         Err(Usage::Help(text)) => {
             let _ = print!(rt; "{text}");
             ExitCode::SUCCESS
@@ -139,7 +200,7 @@ fn main(rt: HostRuntime) -> ExitCode {
         return told(&rt, &Refusal::Memory);
     };
     match texts_of(&rt, owned.as_slice()) {
-        Ok(words) => run(&rt, &rt, words.as_slice()),
+        Ok(words) => act(&rt, &rt, words.as_slice()),
         Err(_) => told(&rt, &Refusal::Memory),
     }
 }

@@ -33,7 +33,7 @@ use Rattle.clap.specs.declared.parser.matches.SubCommand.{SubCommand}
 use Rattle.clap.specs.declared.parser.matches.ArgMatches.TheViews.{out-SubCommand}
 use Rattle.clap.specs.declared.parser.matches.ValueSource.TheVariants.{CommandLine, DefaultValue}
 use Rattle.report_cli.specs.CommandLine.{IsFlag, IsNumber, IsRefusal, keycount_app, keycount_top, path}
-use Rattle.report_cli.specs.Private.CommandLine.{IsCommand, ReadsNumber, TakesCount, TakesOptions, TakesReplay, Tells}
+use Rattle.report_cli.specs.Private.CommandLine.{IsCommand, ReadsNumber, TakesCount, TakesOptions, TakesScript, Tells}
 use Rattle.report_cli.specs.declared.command_line.Usage.{Usage}
 use Rattle.report_cli.specs.declared.command_line.Usage.TheVariants.{Help, Bad, Memory}
 
@@ -421,8 +421,11 @@ count_shape = shape_at 0
 abbrev replay_shape : Shape
 replay_shape = shape_at 1
 
+abbrev run_shape : Shape
+run_shape = shape_at 2
+
 abbrev help_shape : Shape
-help_shape = shape_at 2
+help_shape = shape_at 3
 
 abbrev Named : Text → ℕ → Row → Type 0
 Named name most r = bytes_eq r.id name ≡ true → ReadsNumber (slice_get r.values 0) most
@@ -586,12 +589,15 @@ count_taken words e =
       options = options_pass rows all;
     }
 
-replay_taken : (words : List Text) → level_fault replay_shape [] nothing_held words false [] ≡ [] → TakesReplay (rows_after replay_shape.rules [] words)
-replay_taken words e =
-    let parts = level_parts replay_shape [] words false [] e in
-    let rows = rows_after replay_shape.rules [] words in
-    let all = level_keeps RowPasses replay_shape replay_keeps words false [] replay_defaults e in
-    let given = paths_given rows parts.2 in
+-- of a subcommand whose arguments are those of `replay`
+script_taken : (s : Shape) → Each (Keeps RowPasses s) s.rules → Each (KeepsDefault RowPasses s) s.rules
+    → ((rows : List Row) → check_fault s rows false ≡ [] → (is_given (codes "file") rows ≡ true) × (is_given (codes "script") rows ≡ true))
+    → (words : List Text) → level_fault s [] nothing_held words false [] ≡ [] → TakesScript (rows_after s.rules [] words)
+script_taken s keeps defaults paths words e =
+    let parts = level_parts s [] words false [] e in
+    let rows = rows_after s.rules [] words in
+    let all = level_keeps RowPasses s keeps words false [] defaults e in
+    let given = paths rows parts.2 in
     record {
       file = path_passes (codes "file") rows all given.0;
       script = path_passes (codes "script") rows all given.1;
@@ -599,9 +605,15 @@ replay_taken words e =
       batch = number_passes (codes "batch") 1000000 rows all (λ r passes. passes.3);
     }
 
+replay_taken : (words : List Text) → level_fault replay_shape [] nothing_held words false [] ≡ [] → TakesScript (rows_after replay_shape.rules [] words)
+replay_taken = script_taken replay_shape replay_keeps replay_defaults paths_given
+
+run_taken : (words : List Text) → level_fault run_shape [] nothing_held words false [] ≡ [] → TakesScript (rows_after run_shape.rules [] words)
+run_taken = script_taken run_shape replay_keeps replay_defaults paths_given
+
 -- what clap has tested of the words after the subcommand of this name
 abbrev Takes : Text → List Row → Type 0
-Takes name rows = ((name ≡ codes "count") × TakesCount rows) ⊎ ((name ≡ codes "replay") × TakesReplay rows)
+Takes name rows = ((name ≡ codes "count") × TakesCount rows) ⊎ (((name ≡ codes "replay") × TakesScript rows) ⊎ ((name ≡ codes "run") × TakesScript rows))
 
 -- ---- the program
 
@@ -617,22 +629,24 @@ not_named_help t e = go (bytes_eq (codes "help") t) refl
         let is : codes "help" ≡ t = (bytes_eq-Decides (codes "help") t).0 same in
         absurd (true≢false (ap (λ u. bytes_eq u (codes "help")) is ∙ e))
 
--- where clap does not refuse what is below it, a walk that stopped at a subcommand other than `help` stopped at `count` or at `replay`
+-- where clap does not refuse what is below it, a walk that stopped at a subcommand other than `help` stopped at that of a job
 job_entered : (stop : Option (Text × List Text)) → StopsElsewhere stop → is_some (entered keycount_built stop) ≡ true → entered_fault keycount_built stop ≡ []
     → (name : Text) × (rows : List Row) × (entered keycount_built stop ≡ Some (name, rows)) × Takes name rows
 job_entered None help some e = absurd (true≢false (sym some))
-job_entered (Some p) help some e = go (answers_to p.0 (label_of count_shape)) (answers_to p.0 (label_of replay_shape)) (answers_to p.0 (label_of help_shape)) (not_named_help p.0 help) some e
+job_entered (Some p) help some e =
+    go (answers_to p.0 (label_of count_shape)) (answers_to p.0 (label_of replay_shape)) (answers_to p.0 (label_of run_shape)) (answers_to p.0 (label_of help_shape)) (not_named_help p.0 help) some e
   where
-    found : (b d h : Bool) → Option Shape
-    found b d h = cond b (Some count_shape) (cond d (Some replay_shape) (cond h (Some help_shape) None))
+    found : (b d r h : Bool) → Option Shape
+    found b d r h = cond b (Some count_shape) (cond d (Some replay_shape) (cond r (Some run_shape) (cond h (Some help_shape) None)))
 
-    go : (b d h : Bool) → h ≡ false → is_some (option_map (λ s. rows_at s p.1) (found b d h)) ≡ true
-        → option_map_or (λ s. level_fault s [] nothing_held p.1 false []) (found b d h) [] ≡ []
-        → (name : Text) × (rows : List Row) × (option_map (λ s. rows_at s p.1) (found b d h) ≡ Some (name, rows)) × Takes name rows
-    go true d h other_no given e = (codes "count", rows_after count_shape.rules [] p.1, refl, inl (refl, count_taken p.1 e))
-    go false true h other_no given e = (codes "replay", rows_after replay_shape.rules [] p.1, refl, inr (refl, replay_taken p.1 e))
-    go false false true other_no given e = absurd (true≢false other_no)
-    go false false false other_no given e = absurd (true≢false (sym given))
+    go : (b d r h : Bool) → h ≡ false → is_some (option_map (λ s. rows_at s p.1) (found b d r h)) ≡ true
+        → option_map_or (λ s. level_fault s [] nothing_held p.1 false []) (found b d r h) [] ≡ []
+        → (name : Text) × (rows : List Row) × (option_map (λ s. rows_at s p.1) (found b d r h) ≡ Some (name, rows)) × Takes name rows
+    go true d r h other_no given e = (codes "count", rows_after count_shape.rules [] p.1, refl, inl (refl, count_taken p.1 e))
+    go false true r h other_no given e = (codes "replay", rows_after replay_shape.rules [] p.1, refl, inr (inl (refl, replay_taken p.1 e)))
+    go false false true h other_no given e = (codes "run", rows_after run_shape.rules [] p.1, refl, inr (inr (refl, run_taken p.1 e)))
+    go false false false true other_no given e = absurd (true≢false other_no)
+    go false false false false other_no given e = absurd (true≢false (sym given))
 
 -- the last check of the program asks for a subcommand
 subcommand_given : (rows : List Row) (has : Bool) → check_fault keycount_built.top rows has ≡ [] → has ≡ true
@@ -695,17 +709,28 @@ none_told (Some b) wanted rows e h = cc
 
 -- ---- which job was named
 
-apart : codes "count" ≡ codes "replay" → ⊥
-apart e = true≢false (ap (λ t. bytes_eq t (codes "count")) e)
+count_is_no_replay : codes "count" ≡ codes "replay" → ⊥
+count_is_no_replay e = true≢false (ap (λ t. bytes_eq t (codes "count")) e)
+
+count_is_no_run : codes "count" ≡ codes "run" → ⊥
+count_is_no_run e = true≢false (ap (λ t. bytes_eq t (codes "count")) e)
 
 pub takes_count : (name : Text) (rows : List Row) → Takes name rows → name ≡ codes "count" → TakesCount rows
 takes_count name rows (inl takes) is = takes.1
-takes_count name rows (inr takes) is = absurd (apart (sym is ∙ takes.0))
+takes_count name rows (inr (inl takes)) is = absurd (count_is_no_replay (sym is ∙ takes.0))
+takes_count name rows (inr (inr takes)) is = absurd (count_is_no_run (sym is ∙ takes.0))
 
-pub takes_replay : (name : Text) (rows : List Row) → Takes name rows → name ≡ codes "replay" → TakesReplay rows
-takes_replay name rows (inl takes) is = absurd (apart (sym takes.0 ∙ is))
-takes_replay name rows (inr takes) is = takes.1
+pub takes_replay : (name : Text) (rows : List Row) → Takes name rows → name ≡ codes "replay" → TakesScript rows
+takes_replay name rows (inl takes) is = absurd (count_is_no_replay (sym takes.0 ∙ is))
+takes_replay name rows (inr (inl takes)) is = takes.1
+takes_replay name rows (inr (inr takes)) is = takes.1
 
-pub takes_neither : (name : Text) (rows : List Row) → Takes name rows → (name ≡ codes "count" → ⊥) → (name ≡ codes "replay" → ⊥) → ⊥
-takes_neither name rows (inl takes) no_count no_replay = no_count takes.0
-takes_neither name rows (inr takes) no_count no_replay = no_replay takes.0
+pub takes_run : (name : Text) (rows : List Row) → Takes name rows → name ≡ codes "run" → TakesScript rows
+takes_run name rows (inl takes) is = absurd (count_is_no_run (sym takes.0 ∙ is))
+takes_run name rows (inr (inl takes)) is = takes.1
+takes_run name rows (inr (inr takes)) is = takes.1
+
+pub takes_none : (name : Text) (rows : List Row) → Takes name rows → (name ≡ codes "count" → ⊥) → (name ≡ codes "replay" → ⊥) → (name ≡ codes "run" → ⊥) → ⊥
+takes_none name rows (inl takes) no_count no_replay no_run = no_count takes.0
+takes_none name rows (inr (inl takes)) no_count no_replay no_run = no_replay takes.0
+takes_none name rows (inr (inr takes)) no_count no_replay no_run = no_run takes.0

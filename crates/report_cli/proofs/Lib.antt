@@ -9,6 +9,7 @@ pub mod Loaded
 pub mod Named
 pub mod Opening
 pub mod Progress
+pub mod Ran
 pub mod Replayed
 pub mod Steps
 pub mod Told

@@ -12,7 +12,7 @@ use Rattle.clap.specs.declared.builder.value_parser.ValueParser.TheVariants as p
 use Rattle.clap.specs.declared.error.kind.ErrorKind.TheVariants as kind
 use Rattle.report_cli.specs.declared.command_line.Options.{Options}
 use Rattle.report_cli.specs.declared.command_line.Job.{Job}
-use Rattle.report_cli.specs.declared.command_line.Job.TheVariants.{Count, Replay}
+use Rattle.report_cli.specs.declared.command_line.Job.TheVariants.{Count, Replay, Run}
 use Rattle.report_cli.specs.declared.command_line.Usage.{Usage}
 use Rattle.report_cli.specs.declared.command_line.Usage.TheVariants.{Help, Bad, Memory}
 use Rattle.report_cli.specs.declared.command_line.TheConstants.{LAST_COLUMN, DEFAULT_BATCH, MOST_BATCH}
@@ -35,7 +35,7 @@ flag name = record (new_rule name) { long = Some name; action = Some action.SetT
 abbrev pub path : Text → Rule
 path name = record (new_rule name) { value_names = 1; required = true; action = Some action.Set }
 
--- a command with the options of both subcommands
+-- a command with the options of all subcommands
 abbrev pub with_options : App → App
 with_options app =
     let partitions = with_rule app (number_option (codes "partitions") MOST_PARTITIONS) in
@@ -46,12 +46,20 @@ with_options app =
 abbrev pub count_app : App
 count_app = with_options (with_rule (new_app (codes "count")) (path (codes "file")))
 
--- the subcommand `replay`
-abbrev pub replay_app : App
-replay_app =
-    let file = with_rule (new_app (codes "replay")) (path (codes "file")) in
+-- a command that reads a file and a script, with the options of all subcommands and a batch
+abbrev pub with_script : App → App
+with_script app =
+    let file = with_rule app (path (codes "file")) in
     let script = with_rule file (path (codes "script")) in
     with_rule (with_options script) (number_option (codes "batch") MOST_BATCH)
+
+-- the subcommand `replay`
+abbrev pub replay_app : App
+replay_app = with_script (new_app (codes "replay"))
+
+-- the subcommand `run`
+abbrev pub run_app : App
+run_app = with_script (new_app (codes "run"))
 
 -- the program without its subcommands, of which it wants one
 abbrev pub keycount_top : App
@@ -61,7 +69,9 @@ keycount_top =
 
 -- the program
 abbrev pub keycount_app : App
-keycount_app = with_subcommand (with_subcommand keycount_top count_app.top) replay_app.top
+keycount_app =
+    let count = with_subcommand keycount_top count_app.top in
+    with_subcommand (with_subcommand count replay_app.top) run_app.top
 
 -- n is the number that a text reads as, or the default where there is none
 abbrev pub IsNumber : Option Text → ℕ → ℕ → Type 0
@@ -74,26 +84,32 @@ IsFlag None given = given ≡ false
 IsFlag (Some text) given =
     (text ≡ codes "true" → given ≡ true) × (text ≡ codes "false" → given ≡ false)
 
--- the options of both subcommands are those that clap found, and each number is in its range
+-- the options of all subcommands are those that clap found, and each number is in its range
 pub record HasOptions (rows : List Row) (options : Options) : Type 0 where
   pub partitions : IsNumber (first_of (codes "partitions") rows) 4 options.partitions
   pub column : IsNumber (first_of (codes "column") rows) 1 options.column
   pub header : IsFlag (one_of (codes "header") rows) options.header
   pub in_range : AreInRange options
 
+-- the paths, the options and the batch of a job with a script are those that clap found
+pub record HasScript (rows : List Row) (file script : Text) (options : Options) : Type 0 where
+  pub file_is : first_of (codes "file") rows ≡ Some file
+  pub script_is : first_of (codes "script") rows ≡ Some script
+  pub options_are : HasOptions rows options
+  pub batch : IsNumber (first_of (codes "batch") rows) DEFAULT_BATCH options.batch
+
 -- the job has the files and the options that clap found; the batch of a count is the default
 abbrev pub HasJob : List Row → Job → Type 0
 HasJob rows (Count file options) = (first_of (codes "file") rows ≡ Some file.now)
     × HasOptions rows options × (options.batch ≡ DEFAULT_BATCH)
-HasJob rows (Replay file script options) = (first_of (codes "file") rows ≡ Some file.now)
-    × (first_of (codes "script") rows ≡ Some script.now)
-    × HasOptions rows options
-    × IsNumber (first_of (codes "batch") rows) DEFAULT_BATCH options.batch
+HasJob rows (Replay file script options) = HasScript rows file.now script.now options
+HasJob rows (Run file script options) = HasScript rows file.now script.now options
 
 -- the name of the subcommand of a job
 abbrev pub name_of : Job → Text
 name_of (Count file options) = codes "count"
 name_of (Replay file script options) = codes "replay"
+name_of (Run file script options) = codes "run"
 
 -- the job is what the words say: clap takes them, and finds the subcommand with its files and
 -- options

@@ -10,6 +10,7 @@ use Rattle.report_cli.specs.declared.command_line.Options.{Options}
 use Rattle.report_cli.specs.Rows.{total_row}
 use Rattle.report_cli.specs.CountRows.{count_rows}
 use Rattle.report_cli.specs.KeyFile.{keys_of}
+use Rattle.report_cli.specs.Reports.{report_of_read}
 
 -- the plain count of each key, in the order of first appearance
 unfoldable pub counts_of : List Key → List ℕ
@@ -48,13 +49,8 @@ fault_or (Some fault) text = Err fault
 abbrev pub report_of_keys : ℕ → List Key → Result (List ℕ) Refusal
 report_of_keys partitions keys = fault_or (first_fault partitions [] keys) (plain_text keys)
 
--- what a count of the keys of a file writes, or the fault of the file
-abbrev pub report_after : ℕ → Result (List Key) Refusal → Result (List ℕ) Refusal
-report_after partitions (Ok keys) = report_of_keys partitions keys
-report_after partitions (Err fault) = Err fault
-
 -- what a count of a file writes, or the fault that it tells: the first bad record, and only then
 -- the first key that can't be appended
 abbrev pub report_of_count : Options → List ℕ → Result (List ℕ) Refusal
 report_of_count options file =
-    report_after options.partitions (keys_of options.column options.header file)
+    report_of_read (report_of_keys options.partitions) (keys_of options.column options.header file)

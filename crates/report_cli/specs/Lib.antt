@@ -9,3 +9,4 @@ pub mod ReplayReport
 pub mod ReplayRows
 pub mod Reports
 pub mod Rows
+pub mod RunReport

@@ -6,4 +6,5 @@ pub mod Records
 pub mod Replay
 pub mod Reports
 pub mod Rows
+pub mod Runs
 pub mod Tally

@@ -1,5 +1,5 @@
 -- The report of a replay: a text, or a fault.
-use Rattle.std.specs.Prelude.{◌≡◌, ◌⊎◌, ⊤, ℕ, suc, ◌+◌, List, [], ◌∷◌, ◌++◌, length, drop, replicate, fold, if◌then◌else◌, Result, Ok, Err}
+use Rattle.std.specs.Prelude.{ℕ, suc, List, [], ◌∷◌, ◌++◌, length, drop, replicate, fold, if◌then◌else◌, Result, Ok, Err}
 use Rattle.std.specs.Option.{option_map_or}
 use Rattle.std.specs.Str.{bytes_eq}
 use Rattle.lane_words.specs.Refusal.{code_of}
@@ -21,6 +21,7 @@ use Rattle.report_cli.specs.declared.command_line.Options.{Options}
 use Rattle.report_cli.specs.CountReport.{first_fault}
 use Rattle.report_cli.specs.KeyFile.{keys_of}
 use Rattle.report_cli.specs.ReplayRows.{closing_rows, move_rows, refused_row}
+use Rattle.report_cli.specs.Reports.{report_of_read}
 
 -- ---- the world before the first line
 -- nothing has happened
@@ -126,32 +127,9 @@ report_of_lines options keys lines =
     option_map_or Err (first_fault options.partitions [] keys)
     (text_of_lines options.batch (loaded (opening_world options.partitions) keys) lines)
 
-abbrev pub report_with_script : Options → List Key → Result (List Line) Refusal
-    → Result (List ℕ) Refusal
-report_with_script options keys (Ok lines) = report_of_lines options keys lines
-report_with_script options keys (Err fault) = Err fault
-
-abbrev pub report_with_keys : Options → Result (List Key) Refusal → List ℕ
-    → Result (List ℕ) Refusal
-report_with_keys options (Ok keys) script = report_with_script options keys (read_answer script)
-report_with_keys options (Err fault) script = Err fault
-
 -- what a replay of a script over a file writes, or the fault that it tells: the first bad record,
 -- then the first bad line, then the first key that can't be appended, then that of a line
 abbrev pub report_of_replay : Options → List ℕ → List ℕ → Result (List ℕ) Refusal
 report_of_replay options file script =
-    report_with_keys options (keys_of options.column options.header file) script
-
--- ---- which device failed
--- how many reads of a file and of a script have failed by the answer: one of either, where a read
--- failed, and none else
-abbrev pub CountsReads : {T : Type 0} → ℕ → ℕ → ℕ → ℕ → Result T Refusal → Type 0
-CountsReads file file2 script script2 (Err r.ReadFailed) =
-    ((file2 ≡ file + 1) × (script2 ≡ script)) ⊎ ((file2 ≡ file) × (script2 ≡ script + 1))
-CountsReads file file2 script script2 result = (file2 ≡ file) × (script2 ≡ script)
-
--- refused for this fault, but for a read that failed and want of memory
-abbrev pub IsRefusedFor : {T : Type 0} → Refusal → Result T Refusal → Type 0
-IsRefusedFor fault (Err r.ReadFailed) = ⊤
-IsRefusedFor fault (Err r.Memory) = ⊤
-IsRefusedFor fault result = result ≡ Err fault
+    report_of_read (λ keys. report_of_read (report_of_lines options keys) (read_answer script))
+    (keys_of options.column options.header file)

@@ -1,4 +1,4 @@
--- The text of the rows of a replay.
+-- The text of the rows of a replay and of a run.
 use Rattle.std.specs.Prelude.{ℕ, zero, suc, ◌==◌, List, [], ◌∷◌, ◌++◌, Option, Some, None, codes, decimal, length, unwrap_or, if◌then◌else◌}
 use Rattle.csv.specs.Writing.{row_text}
 use Rattle.lane_words.specs.Sums.{sum_below}
@@ -81,8 +81,8 @@ committed_total s = sum_below s.group.partitions (committed_at s.store)
 abbrev pub appended_total : ClusterState → ℕ
 appended_total s = sum_below s.group.partitions (end_of s.logs)
 
--- the rows after the last line of a script: who owns each partition, how far it is committed, the
--- counts of the committed keys, and the totals
+-- the rows after the last line of a script or of a plan: who owns each partition, how far it is
+-- committed, the counts of the committed keys, and the totals
 abbrev pub closing_rows : ClusterState → List ℕ
 closing_rows s =
     owner_rows s.group ++ offset_rows s ++ committed_count_rows s.logs.keys s.store.counts

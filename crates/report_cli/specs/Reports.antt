@@ -1,5 +1,5 @@
 -- What a report of any kind says of the bytes that it reads and writes.
-use Rattle.std.specs.Prelude.{◌≡◌, ◌≤◌, ℕ, List, Option, Result, Ok, Err}
+use Rattle.std.specs.Prelude.{◌≡◌, ◌≤◌, ◌⊎◌, ◌+◌, ⊤, ℕ, List, Option, Result, Ok, Err}
 use Rattle.std.specs.Io.KnownBytes.{Appends, Keeps}
 use Rattle.lane_words.specs.declared.Refusal.{Refusal}
 use Rattle.lane_words.specs.declared.limits.TheConstants.{MOST_PARTITIONS}
@@ -8,6 +8,13 @@ use Rattle.report_cli.specs.declared.command_line.Options.{Options}
 use Rattle.report_cli.specs.declared.command_line.TheConstants.{LAST_COLUMN, MOST_BATCH}
 use Rattle.report_cli.specs.Devices.{AppendsBeginning}
 
+-- the report of what was read, or the fault of the reading
+abbrev pub report_of_read : {T : Type 0} → (T → Result (List ℕ) Refusal) → Result T Refusal
+    → Result (List ℕ) Refusal
+report_of_read report (Ok read) = report read
+report_of_read report (Err fault) = Err fault
+
+-- ---- what is written
 -- what an answer says of the bytes that were written, where this is the report: all of its text, a
 -- beginning of it where a write failed, or nothing, and then the fault is the report's, but for a
 -- read that failed and want of memory
@@ -26,6 +33,7 @@ WritesAtEndAlone old new (Ok _) = Unit {0}
 WritesAtEndAlone old new (Err r.WriteFailed) = Unit {0}
 WritesAtEndAlone old new (Err fault) = Keeps old new
 
+-- ---- which device failed
 -- how many reads have failed by the answer
 abbrev pub failed_reads : {T : Type 0} → Result T Refusal → ℕ
 failed_reads (Err r.ReadFailed) = 1
@@ -36,6 +44,20 @@ abbrev pub failed_writes : Result (Unit {0}) Refusal → ℕ
 failed_writes (Err r.WriteFailed) = 1
 failed_writes _ = 0
 
+-- how many reads of a file and of a script have failed by the answer: one of either, where a read
+-- failed, and none else
+abbrev pub CountsReads : {T : Type 0} → ℕ → ℕ → ℕ → ℕ → Result T Refusal → Type 0
+CountsReads file file2 script script2 (Err r.ReadFailed) =
+    ((file2 ≡ file + 1) × (script2 ≡ script)) ⊎ ((file2 ≡ file) × (script2 ≡ script + 1))
+CountsReads file file2 script script2 result = (file2 ≡ file) × (script2 ≡ script)
+
+-- refused for this fault, but for a read that failed and want of memory
+abbrev pub IsRefusedFor : {T : Type 0} → Refusal → Result T Refusal → Type 0
+IsRefusedFor fault (Err r.ReadFailed) = ⊤
+IsRefusedFor fault (Err r.Memory) = ⊤
+IsRefusedFor fault result = result ≡ Err fault
+
+-- ---- the options
 -- the options lie in their ranges
 pub record AreInRange (options : Options) : Type 0 where
   pub partitions : (1 ≤ options.partitions) × (options.partitions ≤ MOST_PARTITIONS)

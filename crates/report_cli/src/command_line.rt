@@ -3,9 +3,9 @@
 ghost use Rattle.std.specs.Prelude.{◌≡◌, ◌≤◌, ◌-◌, ◌^◌, false, IfOk, IfErr, IsSome, Some, map, codes};
 ghost use Rattle.clap.specs.Words.{app_of, fault_of, first_of, found_of, kind_of, rows_of, rule_of};
 ghost use Rattle.clap.specs.Simple.{App};
-ghost use Rattle.report_cli.specs.CommandLine.{HasJob, HasOptions, IsJobOf, IsNumber, IsRefusal, name_of};
-ghost use Rattle.report_cli.specs.Private.CommandLine.{IsCommand, ReadsNumber, TakesCount, TakesOptions, TakesReplay, Tells};
-ghost use Rattle.report_cli.specs.CommandLine.{count_app, flag, keycount_app, number_option, path, replay_app, with_options};
+ghost use Rattle.report_cli.specs.CommandLine.{HasJob, HasOptions, HasScript, IsJobOf, IsNumber, IsRefusal, name_of};
+ghost use Rattle.report_cli.specs.Private.CommandLine.{IsCommand, ReadsNumber, TakesCount, TakesOptions, TakesScript, Tells};
+ghost use Rattle.report_cli.specs.CommandLine.{count_app, flag, keycount_app, number_option, path, replay_app, run_app, with_options, with_script};
 
 use clap::error::ErrorKind;
 use clap::{Arg, ArgAction, ArgMatches, Command, Error, value_parser};
@@ -35,6 +35,12 @@ pub enum Job<'a> {
     },
     /// Replays a script over the keys of a file.
     Replay {
+        file: &'a str,
+        script: &'a str,
+        options: Options,
+    },
+    /// Runs a plan over the keys of a file, by a thread for each member.
+    Run {
         file: &'a str,
         script: &'a str,
         options: Options,
@@ -115,7 +121,7 @@ fn header_flag<'a>(alloc: Global) -> Arg<'a>
         .action(ArgAction::SetTrue)
 }
 
-/// A command with the options of both subcommands.
+/// A command with the options of all subcommands.
 fn with_options<'a>(alloc: Global, command: Command<'a>) -> Result<Command<'a>, AllocError>
     ensures { (app : App) → IsCommand app command.entry
         → IfOk result (IsCommand (with_options app)) }
@@ -137,16 +143,39 @@ fn count_command<'a>(alloc: Global) -> Result<Command<'a>, AllocError>
     with_options(alloc, command)
 }
 
+/// A command that reads a file and a script, with the options of all subcommands and a batch.
+fn with_script<'a>(
+    alloc: Global,
+    command: Command<'a>,
+    help: &'a str,
+) -> Result<Command<'a>, AllocError>
+    ensures { (app : App) → IsCommand app command.entry
+        → IfOk result (IsCommand (with_script app)) }
+{
+    let command = command
+        .arg(file_path(alloc))?
+        .arg(path(alloc, "script", "SCRIPT", help))?;
+    with_options(alloc, command)?.arg(number_option(alloc, "batch", BATCH_HELP, MOST_BATCH))
+}
+
 /// The subcommand `replay`.
 fn replay_command<'a>(alloc: Global) -> Result<Command<'a>, AllocError>
     ensures { IfOk result (IsCommand replay_app) }
 {
     let command = Command::new(alloc, "replay")
         .about("Replays a script of members over the keys of a CSV file")
-        .after_help("Example: keycount replay --header --column 3 oui.csv script.txt")
-        .arg(file_path(alloc))?
-        .arg(path(alloc, "script", "SCRIPT", "The script to replay"))?;
-    with_options(alloc, command)?.arg(number_option(alloc, "batch", BATCH_HELP, MOST_BATCH))
+        .after_help("Example: keycount replay --header --column 3 oui.csv script.txt");
+    with_script(alloc, command, "The script to replay")
+}
+
+/// The subcommand `run`.
+fn run_command<'a>(alloc: Global) -> Result<Command<'a>, AllocError>
+    ensures { IfOk result (IsCommand run_app) }
+{
+    let command = Command::new(alloc, "run")
+        .about("Runs a plan of members over the keys of a CSV file, a thread for each member")
+        .after_help("Example: keycount run --header --column 3 oui.csv plan.txt");
+    with_script(alloc, command, "The plan: who joins, leaves and is lost")
 }
 
 /// The program and its subcommands.
@@ -155,6 +184,7 @@ fn keycount_command<'a>(alloc: Global) -> Result<Command<'a>, AllocError>
 {
     let count = count_command(alloc)?;
     let replay = replay_command(alloc)?;
+    let run = run_command(alloc)?;
     Command::new(alloc, "keycount")
         .bin_name("keycount")?
         .about("Counts the keys of a CSV file")
@@ -162,7 +192,8 @@ fn keycount_command<'a>(alloc: Global) -> Result<Command<'a>, AllocError>
         .no_binary_name(true)
         .subcommand_required(true)
         .subcommand(count)?
-        .subcommand(replay)
+        .subcommand(replay)?
+        .subcommand(run)
 }
 
 /// The text that an argument gives, which clap has asked for.
@@ -190,7 +221,7 @@ fn number_of(given: &ArgMatches, id: &str, default: u32) -> u32
     number
 }
 
-/// The options of both subcommands, from what clap found, with this batch.
+/// The options of all subcommands, from what clap found, with this batch.
 fn options_of(given: &ArgMatches, batch: u32) -> Options
     requires tested { TakesOptions (rows_of (found_of given.now)) }
     requires batch { (1 ≤ batch) × (batch ≤ MOST_BATCH) }
@@ -216,16 +247,39 @@ fn count_job<'a>(given: &ArgMatches<'a>) -> Job<'a>
     Job::Count { file, options }
 }
 
-/// The job of `replay`, from what clap found after it.
-fn replay_job<'a>(given: &ArgMatches<'a>) -> Job<'a>
-    requires { TakesReplay (rows_of (found_of given.now)) }
-    ensures name { name_of result ≡ codes "replay" }
-    ensures job { HasJob (rows_of (found_of given.now)) result }
+/// The paths and the options of a job with a script, from what clap found.
+fn scripted<'a>(given: &ArgMatches<'a>) -> (&'a str, &'a str, Options)
+    requires { TakesScript (rows_of (found_of given.now)) }
+    ensures { HasScript (rows_of (found_of given.now)) result.0.now result.1.now result.2 }
 {
     let file = text_of(given, "file");
     let script = text_of(given, "script");
     let options = options_of(given, number_of(given, "batch", DEFAULT_BATCH));
+    (file, script, options)
+}
+
+/// The job of `replay`, from what clap found after it.
+fn replay_job<'a>(given: &ArgMatches<'a>) -> Job<'a>
+    requires { TakesScript (rows_of (found_of given.now)) }
+    ensures name { name_of result ≡ codes "replay" }
+    ensures job { HasJob (rows_of (found_of given.now)) result }
+{
+    let (file, script, options) = scripted(given);
     Job::Replay {
+        file,
+        script,
+        options,
+    }
+}
+
+/// The job of `run`, from what clap found after it.
+fn run_job<'a>(given: &ArgMatches<'a>) -> Job<'a>
+    requires { TakesScript (rows_of (found_of given.now)) }
+    ensures name { name_of result ≡ codes "run" }
+    ensures job { HasJob (rows_of (found_of given.now)) result }
+{
+    let (file, script, options) = scripted(given);
+    Job::Run {
         file,
         script,
         options,
@@ -266,6 +320,7 @@ pub fn read_words<'a>(alloc: Global, words: &'a [&'a str]) -> Result<Job<'a>, Us
     match name {
         "count" => Ok(count_job(given)),
         "replay" => Ok(replay_job(given)),
+        "run" => Ok(run_job(given)),
         _ => unreachable!(),
     }
 }

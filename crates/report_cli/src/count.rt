@@ -3,14 +3,14 @@
 ghost use Rattle.std.specs.Prelude.{◌≡◌, ◌≤◌, ◌<◌, ◌+◌, ◌-◌, ◌^◌, ◌⊎◌, Err, Ok, IfOk, IfErr, IfSome};
 ghost use Rattle.lane_words.specs.declared.Refusal.TheVariants as refusal;
 ghost use Rattle.report_cli.specs.CountReport.{report_of_count, report_of_keys};
-ghost use Rattle.report_cli.specs.Private.Reports.{IsNoWrite, IsToldFirst};
+ghost use Rattle.report_cli.specs.Private.Reports.{IsFaultOf, IsNoWrite};
 ghost use Rattle.report_cli.specs.Private.Tally.{IsKeyFault};
 ghost use Rattle.report_cli.specs.Reports.{AreInRange, WritesAtEndAlone, WritesReport, failed_reads, failed_writes};
 
 use crate::command_line::Options;
 use crate::count_rows::count_rows_text;
-use crate::devices::{Sink, Source, read_all, write_all};
-use crate::key_file::read_keys;
+use crate::devices::{Sink, Source, write_all};
+use crate::key_file::file_keys;
 use crate::key_list::KeyList;
 use crate::tally::{counts_in, logs_of};
 use lane_words::{MOST_PARTITIONS, Refusal};
@@ -51,13 +51,11 @@ fn file_report<S: Source>(
     ensures text { IfOk result (λ text. IfSome (S.left file.old)
         (λ bytes. report_of_count options bytes ≡ Ok text.items)) }
     ensures refused { IfErr result (λ e. IfSome (S.left file.old)
-        (λ bytes. IsToldFirst (report_of_count options bytes) e)) }
+        (λ bytes. IsFaultOf (report_of_count options bytes) e)) }
     ensures kind { IfErr result IsNoWrite }
     ensures reads { S.failures file.new ≡ S.failures file.old + failed_reads result }
 {
-    let bytes = read_all(alloc, file)?;
-    let keys = read_keys(alloc, bytes.as_slice(), options.column, options.header)?;
-    drop(bytes);
+    let keys = file_keys(alloc, file, options)?;
     plain_report(rt, alloc, keys, options.partitions)
 }
 

@@ -1,13 +1,17 @@
 //! The keys of a file of comma-separated records.
 
-ghost use Rattle.std.specs.Prelude.{◌≡◌, ◌≤◌, ◌+◌, ◌<◌, ◌^◌, ◌⊎◌, ◌∷◌, ◌-◌, Some, None, [], ℕ, List, Ok, Err, IfOk, IfErr, OnOk, length, Bool};
+ghost use Rattle.std.specs.Prelude.{◌≡◌, ◌≤◌, ◌+◌, ◌<◌, ◌^◌, ◌⊎◌, ◌∷◌, ◌-◌, Some, None, [], ℕ, List, Ok, Err, IfOk, IfErr, IfSome, OnOk, length, Bool};
 ghost use Rattle.csv.specs.Reading.{default_config, records, strip_bom};
 ghost use Rattle.csv.specs.Records.{field_at, fields_of};
 ghost use Rattle.report_cli.specs.KeyFile.{keys_of};
 ghost use Rattle.report_cli.specs.Private.KeyFile.{IsFaultAt, IsFileFault, TakesKey};
 ghost use Rattle.report_cli.specs.Private.Records.{ReadsRecords, TakesNext, records_left};
+ghost use Rattle.report_cli.specs.Private.Reports.{IsFaultOf, IsNoStop, IsNoWrite};
+ghost use Rattle.report_cli.specs.Reports.{AreInRange, failed_reads};
 ghost use Rattle.lane_words.specs.declared.Refusal.TheVariants as refusal;
 
+use crate::command_line::Options;
+use crate::devices::{Source, read_all};
 use crate::key_list::KeyList;
 use csv::{ByteRecord, Reader, ReaderBuilder};
 use lane_words::{Memory, Refusal};
@@ -75,7 +79,7 @@ fn add_key(
 /// record, and is dropped before its column is looked at. A record of another length than the first
 /// is refused with `BadCsv`, whatever its columns, one that lacks the column with `NoSuchColumn`,
 /// and only a refused growth with `Memory`.
-pub fn read_keys(alloc: Global, file: &[u8], column: u32, header: bool) -> Result<KeyList, Refusal>
+fn read_keys(alloc: Global, file: &[u8], column: u32, header: bool) -> Result<KeyList, Refusal>
     requires { 1 ≤ column }
     ensures keys { IfOk result (λ keys. keys_of column header file.now ≡ Ok keys) }
     ensures kind { IfErr result IsFileFault }
@@ -105,6 +109,26 @@ pub fn read_keys(alloc: Global, file: &[u8], column: u32, header: bool) -> Resul
         add_key(&mut keys, &row, column, width, nth)?;
     }
     unreachable!()
+}
+
+/// The keys of a file that is read to its end.
+pub fn file_keys<S: Source>(
+    alloc: Global,
+    file: &mut S,
+    options: Options,
+) -> Result<KeyList, Refusal>
+    requires source { S.failures file.old < 2 ^ 64 - 1 }
+    requires options { AreInRange options }
+    ensures keys { IfOk result (λ keys. IfSome (S.left file.old)
+        (λ bytes. keys_of options.column options.header bytes ≡ Ok keys)) }
+    ensures refused { IfErr result (λ e. IfSome (S.left file.old)
+        (λ bytes. IsFaultOf (keys_of options.column options.header bytes) e)) }
+    ensures kind { IfErr result IsNoWrite }
+    ensures unstopped { IfErr result IsNoStop }
+    ensures reads { S.failures file.new ≡ S.failures file.old + failed_reads result }
+{
+    let bytes = read_all(alloc, file)?;
+    read_keys(alloc, bytes.as_slice(), options.column, options.header)
 }
 
 #[cfg(test)]

@@ -11,6 +11,7 @@ mod key_list;
 mod replay;
 mod replay_rows;
 mod rows;
+mod run;
 mod tally;
 
 pub use command_line::{Job, Options, Usage, read_words};
@@ -18,3 +19,4 @@ pub use count::count_text;
 pub use devices::{DeviceFailed, FromRead, FromWrite, Sink, Source};
 pub use faults::{fault_line, status};
 pub use replay::replay_text;
+pub use run::run_text;

@@ -3,10 +3,9 @@
 ghost use Rattle.std.specs.Prelude.{◌≡◌, ◌≤◌, ◌<◌, ◌+◌, ◌-◌, ◌^◌, ◌⊎◌, Err, Ok, IfOk, IfErr, IfSome};
 ghost use Rattle.lane_words.specs.declared.Refusal.TheVariants as refusal;
 ghost use Rattle.report_cli.specs.KeyFile.{keys_of};
-ghost use Rattle.report_cli.specs.Private.Replay.{IsFaultOf, IsNoDeviceFault};
-ghost use Rattle.report_cli.specs.Private.Reports.{IsNoWrite};
-ghost use Rattle.report_cli.specs.ReplayReport.{CountsReads, IsRefusedFor, report_of_lines, report_of_replay};
-ghost use Rattle.report_cli.specs.Reports.{AreInRange, WritesAtEndAlone, WritesReport, failed_reads, failed_writes};
+ghost use Rattle.report_cli.specs.Private.Reports.{IsFaultOf, IsNoDeviceFault, IsNoWrite};
+ghost use Rattle.report_cli.specs.ReplayReport.{report_of_lines, report_of_replay};
+ghost use Rattle.report_cli.specs.Reports.{AreInRange, CountsReads, IsRefusedFor, WritesAtEndAlone, WritesReport, failed_reads, failed_writes};
 ghost use Rattle.script.specs.Replay.{read_answer};
 
 mod lines;
@@ -14,7 +13,7 @@ mod loading;
 
 use crate::command_line::Options;
 use crate::devices::{Sink, Source, read_all, write_all};
-use crate::key_file::read_keys;
+use crate::key_file::file_keys;
 use crate::key_list::KeyList;
 use lane_words::Refusal;
 use lines::text_of_lines;
@@ -23,21 +22,6 @@ use script::{Line, read_replay};
 use std::alloc::Global;
 use std::random::RandomSource;
 use std::thread::Threads;
-
-/// The keys of a file.
-fn file_keys<S: Source>(alloc: Global, file: &mut S, options: Options) -> Result<KeyList, Refusal>
-    requires source { S.failures file.old < 2 ^ 64 - 1 }
-    requires options { AreInRange options }
-    ensures keys { IfOk result (λ keys. IfSome (S.left file.old)
-        (λ bytes. keys_of options.column options.header bytes ≡ Ok keys)) }
-    ensures refused { IfErr result (λ e. IfSome (S.left file.old)
-        (λ bytes. IsFaultOf (keys_of options.column options.header bytes) e)) }
-    ensures kind { IfErr result IsNoWrite }
-    ensures reads { S.failures file.new ≡ S.failures file.old + failed_reads result }
-{
-    let bytes = read_all(alloc, file)?;
-    read_keys(alloc, bytes.as_slice(), options.column, options.header)
-}
 
 /// The lines of a script.
 fn script_lines<S: Source>(alloc: Global, script: &mut S) -> Result<Vec<Line>, Refusal>

@@ -1,4 +1,4 @@
-//! The rows of a replay, as text.
+//! The rows of a replay and of a run, as text.
 
 ghost use Rattle.std.specs.Prelude.{◌≡◌, ◌++◌, ◌<◌, ℕ, List, OnOk, drop, length};
 ghost use Rattle.lane_words.specs.Refusal.{code_of};
@@ -194,7 +194,7 @@ fn appended_total(cluster: &Cluster) -> u64
     total
 }
 
-/// Writes the rows after the last line of a script.
+/// Writes the rows after the last line of a script or of a plan.
 pub fn write_closing(writer: &mut Writer<Vec<u8>>, cluster: &Cluster) -> Result<(), Memory>
     ensures { OnOk result ((text : List ℕ) → HasText writer.old text
         → HasText writer.new (text ++ closing_rows cluster.now)) }

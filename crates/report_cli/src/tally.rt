@@ -22,6 +22,7 @@ pub fn logs_of(
 ) -> Result<Logs, Refusal>
     requires { (1 ≤ partitions) × (partitions ≤ MOST_PARTITIONS) }
     ensures logs { IfOk result (AreLogsOf keys.now) }
+    ensures partitions { IfOk result (λ logs. logs.partitions ≡ partitions) }
     ensures valid { IfOk result IsValidLogs }
     ensures accepted { OnOk result (first_fault partitions [] keys.now ≡ None) }
     ensures kind { IfErr result IsKeyFault }

@@ -17,7 +17,7 @@ abbrev pub ReadsNumber : Option Text → ℕ → Type 0
 ReadsNumber None most = ⊤
 ReadsNumber (Some text) most = IsSignedIn (pos 1) (pos most) text
 
--- what clap has tested of the options of both subcommands
+-- what clap has tested of the options of all subcommands
 pub record TakesOptions (rows : List Row) : Type 0 where
   pub partitions : ReadsNumber (first_of (codes "partitions") rows) MOST_PARTITIONS
   pub column : ReadsNumber (first_of (codes "column") rows) LAST_COLUMN
@@ -27,8 +27,8 @@ pub record TakesCount (rows : List Row) : Type 0 where
   pub file : IsSome (first_of (codes "file") rows)
   pub options : TakesOptions rows
 
--- what clap has tested of the words after `replay`
-pub record TakesReplay (rows : List Row) : Type 0 where
+-- what clap has tested of the words after `replay` or `run`
+pub record TakesScript (rows : List Row) : Type 0 where
   pub file : IsSome (first_of (codes "file") rows)
   pub script : IsSome (first_of (codes "script") rows)
   pub options : TakesOptions rows

@@ -32,16 +32,3 @@ pub record GoesOn (outcome : LineOutcome) (answer : Result (Unit {0}) Refusal) (
 -- a text was to be written after this one, and was
 abbrev pub WritesText : Result (List ℕ) Refusal → List ℕ → (List ℕ → Type 0) → Type 0
 WritesText expected text Written = (more : List ℕ) × (expected ≡ Ok more) × Written (text ++ more)
-
--- a fault of what was read, or want of memory: no device has failed
-abbrev pub IsNoDeviceFault : Refusal → Type 0
-IsNoDeviceFault r.ReadFailed = ⊥
-IsNoDeviceFault r.WriteFailed = ⊥
-IsNoDeviceFault fault = ⊤
-
--- a fault that ends a read: that of what was read, a read that failed, or want of memory
-abbrev pub IsFaultOf : {T : Type 0} → Result T Refusal → Refusal → Type 0
-IsFaultOf expected r.ReadFailed = ⊤
-IsFaultOf expected r.Memory = ⊤
-IsFaultOf expected r.WriteFailed = ⊥
-IsFaultOf expected fault = expected ≡ Err fault

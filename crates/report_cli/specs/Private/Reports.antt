@@ -1,17 +1,28 @@
 -- What a report is refused for before it writes.
-use Rattle.std.specs.Prelude.{◌≡◌, ℕ, List, Result, Err, ⊤}
+use Rattle.std.specs.Prelude.{◌≡◌, Result, Err, ⊤}
 use Rattle.lane_words.specs.declared.Refusal.{Refusal}
 use Rattle.lane_words.specs.declared.Refusal.TheVariants as r
-
--- a fault that is told before anything is written: the report's, a read that failed, or want of
--- memory
-abbrev pub IsToldFirst : Result (List ℕ) Refusal → Refusal → Type 0
-IsToldFirst report r.ReadFailed = ⊤
-IsToldFirst report r.Memory = ⊤
-IsToldFirst report r.WriteFailed = ⊥
-IsToldFirst report fault = report ≡ Err fault
 
 -- no write has failed
 abbrev pub IsNoWrite : Refusal → Type 0
 IsNoWrite r.WriteFailed = ⊥
 IsNoWrite fault = ⊤
+
+-- no run was stopped, and none differed from what it was given
+abbrev pub IsNoStop : Refusal → Type 0
+IsNoStop r.GateLimit = ⊥
+IsNoStop r.Differs = ⊥
+IsNoStop fault = ⊤
+
+-- a fault of what was read, or want of memory: no device has failed
+abbrev pub IsNoDeviceFault : Refusal → Type 0
+IsNoDeviceFault r.ReadFailed = ⊥
+IsNoDeviceFault r.WriteFailed = ⊥
+IsNoDeviceFault fault = ⊤
+
+-- a fault that ends a read: that of what was read, a read that failed, or want of memory
+abbrev pub IsFaultOf : {T : Type 0} → Result T Refusal → Refusal → Type 0
+IsFaultOf expected r.ReadFailed = ⊤
+IsFaultOf expected r.Memory = ⊤
+IsFaultOf expected r.WriteFailed = ⊥
+IsFaultOf expected fault = expected ≡ Err fault

@@ -87,7 +87,7 @@ fn options_stand_round_the_path(rt: HostRuntime) {
     }
 }
 
-/// The options of a replay, column 1 and no header.
+/// Options of a replay or of a run, column 1 and no header.
 fn replayed(partitions: u32, batch: u32) -> Options {
     Options {
         partitions,
@@ -177,8 +177,37 @@ fn a_replay_has_two_paths_and_a_batch(rt: HostRuntime) {
 }
 
 #[test]
+fn a_run_has_two_paths_and_a_batch(rt: HostRuntime) {
+    let cases: [(&[&str], (&str, &str), Options); 4] = [
+        (&["run", "f", "p"], ("f", "p"), PLAIN),
+        (&["run", "-", "-"], ("-", "-"), PLAIN),
+        (&["run", "f", "--batch=1", "p"], ("f", "p"), replayed(4, 1)),
+        (
+            &["run", "--partitions", "64", "f", "p", "--batch", "1000000"],
+            ("f", "p"),
+            replayed(64, 1_000_000),
+        ),
+    ];
+    for (i, (words, paths, wanted)) in cases.into_iter().enumerate() {
+        match read_words(rt.alloc(), words) {
+            Ok(
+                Job::Run {
+                    file,
+                    script,
+                    options,
+                },
+            ) => {
+                assert!(rt; file == paths.0 && script == paths.1, "case {i}");
+                assert_eq!(rt; options, wanted, "case {i}");
+            }
+            _ => assert!(rt; false, "case {i}"),
+        }
+    }
+}
+
+#[test]
 fn bad_words_are_refused(rt: HostRuntime) {
-    let cases: [&[&str]; 29] = [
+    let cases: [&[&str]; 33] = [
         &[],
         &["count"],
         &["count", "f", "g"],
@@ -207,6 +236,10 @@ fn bad_words_are_refused(rt: HostRuntime) {
         &["replay", "f", "s", "--batch", "1", "--batch", "1"],
         &["replay", "f", "s", "--partitions", "4097"],
         &["replay", "f", "--script", "s"],
+        &["run", "f"],
+        &["run", "f", "p", "q"],
+        &["run", "f", "p", "--batch", "0"],
+        &["run", "f", "p", "--members", "2"],
         &["f"],
     ];
     for (i, words) in cases.into_iter().enumerate() {
@@ -218,7 +251,7 @@ fn bad_words_are_refused(rt: HostRuntime) {
 
 #[test]
 fn help_has_an_example(rt: HostRuntime) {
-    let cases: [(&[&str], &str); 6] = [
+    let cases: [(&[&str], &str); 7] = [
         (
             &["--help"],
             "Example: keycount count --partitions 8 oui.csv",
@@ -237,6 +270,10 @@ fn help_has_an_example(rt: HostRuntime) {
             "Example: keycount replay --header --column 3 oui.csv script.txt",
         ),
         (&["--help"], "replay"),
+        (
+            &["run", "-h"],
+            "Example: keycount run --header --column 3 oui.csv plan.txt",
+        ),
     ];
     for (words, wanted) in cases {
         let answer = read_words(rt.alloc(), words);
@@ -296,4 +333,26 @@ Options:
 Example: keycount replay --header --column 3 oui.csv script.txt
 ";
     assert_help(&rt, rt.alloc(), &["replay", "--help"], wanted);
+}
+
+#[test]
+fn help_of_a_run_lists_the_arguments(rt: HostRuntime) {
+    let wanted = "Runs a plan of members over the keys of a CSV file, a thread for each member
+
+Usage: keycount run [OPTIONS] <FILE> <SCRIPT>
+
+Arguments:
+  <FILE>    The CSV file to read
+  <SCRIPT>  The plan: who joins, leaves and is lost
+
+Options:
+      --partitions <N>  How many partitions the keys are spread over, 1 to 4096 [default: 4]
+      --column <N>      Which column has the key, 1 to 65535 [default: 1]
+      --header          Passes over the first record
+      --batch <N>       The most records of one poll, 1 to 1000000 [default: 500]
+  -h, --help            Print help
+
+Example: keycount run --header --column 3 oui.csv plan.txt
+";
+    assert_help(&rt, rt.alloc(), &["run", "--help"], wanted);
 }

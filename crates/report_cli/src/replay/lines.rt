@@ -2,7 +2,8 @@
 
 ghost use Rattle.std.specs.Prelude.{◌≡◌, ◌≢◌, ◌≤◌, ◌⊎◌, ◌++◌, ℕ, List, Ok, Err, IfOk, IfErr, OnOk};
 ghost use Rattle.lane_words.specs.declared.Refusal.TheVariants as refusal;
-ghost use Rattle.report_cli.specs.Private.Replay.{ComesOrMemory, GoesOn, IsEvent, IsNoDeviceFault, IsOver, WritesText};
+ghost use Rattle.report_cli.specs.Private.Replay.{ComesOrMemory, GoesOn, IsEvent, IsOver, WritesText};
+ghost use Rattle.report_cli.specs.Private.Reports.{IsNoDeviceFault};
 ghost use Rattle.report_cli.specs.Private.Rows.{HasText};
 ghost use Rattle.report_cli.specs.ReplayReport.{number_named, outcome_of_event, outcome_of_line, rows_of_answer, rows_of_line, text_of_lines};
 ghost use Rattle.world.specs.Courses.{outcome_of};

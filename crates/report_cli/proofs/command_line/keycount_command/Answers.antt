@@ -12,5 +12,7 @@ returns c =
     let top_is : app_of c.subcommand_required.result ≡ keycount_top = top_settings _ _ _ start c.no_binary_name.ensures c.subcommand_required.ensures in
     let count_is = ap (λ (a : App). a.top) c.in_ok-count.ensures.read_as in
     let replay_is = ap (λ (a : App). a.top) c.in_ok-replay.ensures.read_as in
+    let run_is = ap (λ (a : App). a.top) c.in_ok-run.ensures.read_as in
     let one = c.in_ok-subcommand.ensures.shape c.in_ok-count.ensures.local ∙ ap₂ with_subcommand top_is count_is in
-    IfOk-weaker c.subcommand-2.result _ _ (λ r h. h.shape c.in_ok-replay.ensures.local ∙ ap₂ with_subcommand one replay_is) c.subcommand-2.ensures
+    let two = c.in_ok-subcommand-2.ensures.shape c.in_ok-replay.ensures.local ∙ ap₂ with_subcommand one replay_is in
+    IfOk-weaker c.subcommand-3.result _ _ (λ r h. h.shape c.in_ok-run.ensures.local ∙ ap₂ with_subcommand two run_is) c.subcommand-3.ensures

@@ -5,8 +5,8 @@ use Rattle.clap.specs.Faults.{fault_of, is_simple_and_free}
 use Rattle.clap.specs.Words.{found_of, rows_of}
 use Rattle.clap.specs.Walk.{Row, Text}
 use Rattle.report_cli.specs.CommandLine.{keycount_app}
-use Rattle.report_cli.specs.Private.CommandLine.{TakesCount, TakesReplay}
-use Rattle.report_cli.proofs.Entered.{keycount_free, matches_are, none_told, takes_count, takes_neither, takes_replay, told, told_rows}
+use Rattle.report_cli.specs.Private.CommandLine.{TakesCount, TakesScript}
+use Rattle.report_cli.proofs.Entered.{keycount_free, matches_are, none_told, takes_count, takes_none, takes_replay, takes_run, told, told_rows}
 use Rattle.report_cli.proofs.command_line.read_words.Goals as goal
 
 pub returns-in-Err-clause-usage : goal.returns-in-Err-clause-usage
@@ -37,7 +37,15 @@ replay_job-requires c =
     let found = c.in-Ok-try_get_matches_from.ensures in
     let job = matches_are c.in-Ok.command words _ c.in-Ok.ensures found.matches found.kinds in
     let met = told_rows _ _ _ _ _ job.entered c.in-Some.ensures.name c.in-Some.ensures.rows in
-    subst TakesReplay met.1 (takes_replay _ _ job.tested (met.0 ∙ c.in-replay.is))
+    subst TakesScript met.1 (takes_replay _ _ job.tested (met.0 ∙ c.in-replay.is))
+
+pub run_job-requires : goal.run_job-requires
+run_job-requires c =
+    let words = map (λ (w : Bor Text). w.now) c.args.words.now in
+    let found = c.in-Ok-try_get_matches_from.ensures in
+    let job = matches_are c.in-Ok.command words _ c.in-Ok.ensures found.matches found.kinds in
+    let met = told_rows _ _ _ _ _ job.entered c.in-Some.ensures.name c.in-Some.ensures.rows in
+    subst TakesScript met.1 (takes_run _ _ job.tested (met.0 ∙ c.in-run.is))
 
 pub unreachable-requires-in_default-name : goal.unreachable-requires-in_default-name
 unreachable-requires-in_default-name c =
@@ -45,7 +53,7 @@ unreachable-requires-in_default-name c =
     let found = c.in-Ok-try_get_matches_from.ensures in
     let job = matches_are c.in-Ok.command words _ c.in-Ok.ensures found.matches found.kinds in
     let met = told_rows _ _ _ _ _ job.entered c.in-Some.ensures.name c.in-Some.ensures.rows in
-    takes_neither _ _ job.tested (λ e. c.in_default-name.not-count (sym met.0 ∙ e)) (λ e. c.in_default-name.not-replay (sym met.0 ∙ e))
+    takes_none _ _ job.tested (λ e. c.in_default-name.not-count (sym met.0 ∙ e)) (λ e. c.in_default-name.not-replay (sym met.0 ∙ e)) (λ e. c.in_default-name.not-run (sym met.0 ∙ e))
 
 pub returns-in-count-clause-job : goal.returns-in-count-clause-job
 returns-in-count-clause-job c =
@@ -71,4 +79,17 @@ returns-in-replay-clause-job c =
       taken = job.taken;
       subcommand = job.subcommand ∙ ap₂ (λ (n : Text) (xs : List Row). Some (n, xs)) (met.0 ∙ c.in-replay.is ∙ sym c.replay_job.ensures.name) met.1;
       found = c.replay_job.ensures.job;
+    }
+
+pub returns-in-run-clause-job : goal.returns-in-run-clause-job
+returns-in-run-clause-job c =
+    let words = map (λ (w : Bor Text). w.now) c.args.words.now in
+    let found = c.in-Ok-try_get_matches_from.ensures in
+    let job = matches_are c.in-Ok.command words _ c.in-Ok.ensures found.matches found.kinds in
+    let met = told_rows _ _ _ _ _ job.entered c.in-Some.ensures.name c.in-Some.ensures.rows in
+    record {
+      rows = rows_of (found_of c.in-Some.given.now);
+      taken = job.taken;
+      subcommand = job.subcommand ∙ ap₂ (λ (n : Text) (xs : List Row). Some (n, xs)) (met.0 ∙ c.in-run.is ∙ sym c.run_job.ensures.name) met.1;
+      found = c.run_job.ensures.job;
     }

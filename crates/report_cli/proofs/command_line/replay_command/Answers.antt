@@ -1,22 +1,16 @@
 use Rattle.std.proofs.Common.{◌∙◌, ap, codes}
-use Rattle.std.proofs.lemmas.Result.{IfOk-weaker}
 use Rattle.clap.specs.Simple.{app_of_fields, new_app}
 use Rattle.clap.specs.declared.builder.command.Command.{Command}
 use Rattle.clap.specs.declared.builder.command.Command.TheOpen.{Command-F}
-use Rattle.report_cli.specs.declared.command_line.TheConstants.{MOST_BATCH}
-use Rattle.report_cli.specs.CommandLine.{number_option, path}
 use Rattle.report_cli.specs.Private.CommandLine.{IsCommand}
-use Rattle.report_cli.proofs.Entered.{added, described}
+use Rattle.report_cli.proofs.Entered.{described}
 use Rattle.report_cli.proofs.command_line.replay_command.Goals as goal
 
 pub returns : goal.returns
 returns c =
-    let texts = described c.new.result c.about.result c.after_help.result _ _ c.about.ensures c.after_help.ensures in
-    let start : IsCommand (new_app (codes "replay")) c.after_help.result = record {
+    let texts = described c.new.result c.about.result c.after_help-command.result _ _ c.about.ensures c.after_help-command.ensures in
+    let start : IsCommand (new_app (codes "replay")) c.after_help-command.result = record {
       read_as = ap app_of_fields texts ∙ c.new.ensures.app;
       local = ap (λ (f : Command-F Command). f.has_globals) texts ∙ c.new.ensures.local;
     } in
-    let file = added _ _ _ _ (path (codes "file")) c.in_ok-arg.ensures start c.file_path.ensures.rule c.file_path.ensures.local in
-    let script = added _ _ _ _ (path (codes "script")) c.in_ok-command.ensures file c.path.ensures.rule c.path.ensures.local in
-    let options = c.in_ok-with_options.ensures _ script in
-    IfOk-weaker c.arg-3.result _ _ (λ r h. added _ r _ _ (number_option (codes "batch") MOST_BATCH) h options c.number_option.ensures.rule c.number_option.ensures.local) c.arg-3.ensures
+    c.with_script.ensures _ start
