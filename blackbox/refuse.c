@@ -1,9 +1,13 @@
-/* Refuses one call of the program that it is loaded into: of malloc and realloc, of read, or of write to standard output.
+/* Refuses one call of the program that it is loaded into: of malloc and realloc, of read, of write to standard output, or of
+   a start of a thread.
    REFUSE is the kind of call, REFUSE_NTH its number, counted from 1; the file REFUSE_MARK is made when it is refused.
    With REFUSE_SHORT each read and write moves one byte at the most. */
 #define _GNU_SOURCE
+#include <dlfcn.h>
 #include <errno.h>
 #include <fcntl.h>
+#include <pthread.h>
+#include <stdatomic.h>
 #include <stdlib.h>
 #include <string.h>
 #include <sys/syscall.h>
@@ -12,7 +16,7 @@
 extern void *__libc_malloc(size_t);
 extern void *__libc_realloc(void *, size_t);
 
-static long count;
+static atomic_long count;
 
 static int refuses(const char *kind) {
     const char *wanted = getenv("REFUSE"), *nth = getenv("REFUSE_NTH"), *mark = getenv("REFUSE_MARK");
@@ -60,4 +64,11 @@ ssize_t write(int fd, const void *buf, size_t size) {
 
 ssize_t __write(int fd, const void *buf, size_t size) {
     return write(fd, buf, size);
+}
+
+int pthread_create(pthread_t *thread, const pthread_attr_t *attributes, void *(*start)(void *), void *argument) {
+    int (*create)(pthread_t *, const pthread_attr_t *, void *(*)(void *), void *) = dlsym(RTLD_NEXT, "pthread_create");
+    if (refuses("thread"))
+        return EAGAIN;
+    return create(thread, attributes, start, argument);
 }

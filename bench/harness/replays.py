@@ -1,4 +1,4 @@
-"""Replays: no other program does this, so they stand in a table of their own, beside a count of the same file."""
+"""Replays and runs: no other program does this, so they stand in tables of their own, beside a count of the same file."""
 
 from __future__ import annotations
 
@@ -11,18 +11,19 @@ from typing import Iterable, Sequence
 from harness import measure
 from harness.tables import MB, Result
 
-HEAD = ("replay", "runs", "median s", "min..max s", "CPU s", "peak MB", "time/count")
+HEAD = ("runs", "median s", "min..max s", "CPU s", "peak MB", "time/count")
 
 
 class Wrong(Exception):
-    """A replay printed what it should not."""
+    """A replay or a run printed what it should not."""
 
 
 @dataclass(frozen=True)
-class Replay:
-    """A file, a script and the number of partitions, and what has to come out: how many records are committed and
-    appended, and among how many members the partitions are spread."""
+class Job:
+    """A subcommand, a file, a script and the number of partitions, and what has to come out: how many records are
+    committed and appended, and among how many members the partitions are spread."""
 
+    command: str
     name: str
     file: Path
     script: Path
@@ -31,8 +32,8 @@ class Replay:
     members: int
 
     def pipeline(self, program: Path) -> measure.Pipeline:
-        """The replay."""
-        words = ["replay", str(self.file), str(self.script), "--partitions", str(self.partitions)]
+        """The replay or the run."""
+        words = [self.command, str(self.file), str(self.script), "--partitions", str(self.partitions)]
         return [[str(program), *words]]
 
     def count(self, program: Path) -> measure.Pipeline:
@@ -59,23 +60,30 @@ def written(path: Path, lines: Iterable[str]) -> Path:
     return path
 
 
-def joins(folder: Path, members: int) -> Replay:
+def joins(folder: Path, members: int) -> Job:
     """Members that join one after the other, each with the whole rebalance, over the most partitions there are."""
     lines = (line for number in range(members) for line in (f"join m{number}", "settle"))
     script = written(folder / f"joins-{members}", lines)
     name = f"{members} joins, each settled, 4096 partitions"
-    return Replay(name, written(folder / "no-records", []), script, 4096, 0, members)
+    return Job("replay", name, written(folder / "no-records", []), script, 4096, 0, members)
 
 
-def drains(folder: Path, file: Path, records: int) -> Replay:
+def drains(folder: Path, file: Path, records: int) -> Job:
     """Sixteen members, all read and committed; then a loss, a join, and all that is left."""
     lines = [*(f"join m{number}" for number in range(16)), "drain", "lose m3", "join m16", "drain"]
     name = f"{records:,} records, 16 joins, drain, a loss, a join, drain, 64 partitions"
-    return Replay(name, file, written(folder / "drains", lines), 64, records, 16)
+    return Job("replay", name, file, written(folder / "drains", lines), 64, records, 16)
+
+
+def members(folder: Path, file: Path, records: int, count: int) -> Job:
+    """A run in which so many members join, each a thread, and read all."""
+    plan = written(folder / f"members-{count}", (f"join m{number}" for number in range(count)))
+    name = f"{records:,} records, {count} member{'s' if count > 1 else ''}, 64 partitions"
+    return Job("run", name, file, plan, 64, records, count)
 
 
 def row(name: str, result: Result, count: Result) -> Sequence[str]:
-    """The row of a replay."""
+    """The row of a replay or of a run."""
     walls = [run.wall for run in result.runs]
     spread = f"{min(walls):.3f}..{max(walls):.3f}"
     return [
@@ -84,13 +92,13 @@ def row(name: str, result: Result, count: Result) -> Sequence[str]:
     ]
 
 
-def measured(program: Path, replay: Replay, scratch: Path, runs: int, limit: float) -> Sequence[str]:
-    """The row of a replay that was run in turn with the count of its file, after a run that is checked."""
-    output = scratch / "replayed"
-    measure.run(replay.pipeline(program), output, limit)
-    replay.check(output)
-    result, count = Result(replay.name), Result("count")
+def measured(program: Path, job: Job, scratch: Path, runs: int, limit: float) -> Sequence[str]:
+    """The row of a job that was run in turn with the count of its file, after a run that is checked."""
+    output = scratch / "printed"
+    measure.run(job.pipeline(program), output, limit)
+    job.check(output)
+    result, count = Result(job.name), Result("count")
     for _ in range(runs):
-        result.runs.append(measure.run(replay.pipeline(program), measure.NOWHERE, limit))
-        count.runs.append(measure.run(replay.count(program), measure.NOWHERE, limit))
-    return row(replay.name, result, count)
+        result.runs.append(measure.run(job.pipeline(program), measure.NOWHERE, limit))
+        count.runs.append(measure.run(job.count(program), measure.NOWHERE, limit))
+    return row(job.name, result, count)
