@@ -1,5 +1,5 @@
 -- A loop over words, pair by pair: its step over eight, its step over one, and the call for the rest.
-use Rattle.std.proofs.Common.{ℕ, ◌≡◌, ◌+◌, ◌-◌, ◌%◌, ◌<◌, ◌≤◌, ◌==◌, Bool, true, false, not, ◌||◌, List, [], ◌∷◌, ◌++◌, length, drop, take, refl, arith, zero, suc, ap, sym, ◌∙◌, get_or, map, bit_and, bit_or, bit_xor, length-drop, append-nil, inl, inr}
+use Rattle.std.proofs.Common.{ℕ, ◌≡◌, ◌+◌, ◌-◌, ◌%◌, ◌^◌, ◌<◌, ◌≤◌, ◌==◌, Bool, true, false, not, ◌||◌, List, [], ◌∷◌, ◌++◌, length, drop, take, refl, arith, zero, suc, ap, sym, ◌∙◌, get_or, map, bit_and, bit_or, bit_xor, length-drop, append-nil, inl, inr}
 use Rattle.std.proofs.Math.ListN.{set}
 use Rattle.std.specs.Prelude.{IsTrue, ◌↔◌}
 use Rattle.std.specs.Int.{bit_at}
@@ -240,3 +240,36 @@ equal_is a b false len e = (λ h. absurd (cc h), λ h. let self : any_set (zip2 
 pub equal_told : (a b : List ℕ) (x : Bool) → length a ≡ length b → IsTrue x ↔ (a ≡ b) → x ≡ not (any_set (zip2 bit_xor a b))
 equal_told a b true len h = let same : a ≡ b = h.0 refl in ap not (sym (equal_self a) ∙ ap (λ ys. any_set (zip2 bit_xor a ys)) same)
 equal_told a b false len h = ap not (sym (unlike (any_set (zip2 bit_xor a b)) (λ none. h.1 (equal_by a b len none))))
+
+-- ---- sums that fit
+-- each pair adds up to a word
+abbrev pub Fit : List ℕ → List ℕ → Type 0
+Fit a b = (i : ℕ) → get_or a i 0 + get_or b i 0 < 2 ^ 64
+
+get_or-take-le : (n : ℕ) (xs : List ℕ) (i : ℕ) → get_or (take n xs) i 0 ≤ get_or xs i 0
+get_or-take-le zero xs i = omega arith
+get_or-take-le (suc n) [] i = omega arith
+get_or-take-le (suc n) (x ∷ xs) zero = omega arith
+get_or-take-le (suc n) (x ∷ xs) (suc i) = get_or-take-le n xs i
+
+-- the words from at on are as before
+pub rest_fits : (n m at : ℕ) (old b : List ℕ) → length old ≡ length b → at ≤ length old → Fit old b → Fit (take n (drop at (done (λ x y. x + y) at old b))) (take m (drop at b))
+rest_fits n m zero old b len le fit i = omega (arith, get_or-take-le n old i, get_or-take-le m b i, fit i)
+rest_fits n m (suc at) [] b len le fit i = absurd (omega arith)
+rest_fits n m (suc at) (x ∷ old) [] len le fit i = absurd (omega arith)
+rest_fits n m (suc at) (x ∷ old) (y ∷ b) len le fit i = rest_fits n m at old b (omega arith) (omega arith) (λ j. fit (suc j)) i
+
+-- a sum in the lanes
+zip2_fits : (a b : List ℕ) → Fit a b → zip2 (λ x y. (x + y) % 18446744073709551616) a b ≡ zip2 (λ x y. x + y) a b
+zip2_fits [] b fit = refl
+zip2_fits (x ∷ a) [] fit = refl
+zip2_fits (x ∷ a) (y ∷ b) fit =
+    let here : (x + y) % 18446744073709551616 ≡ x + y = omega (arith, fit 0) in
+    rw (here, zip2_fits a b (λ i. fit (suc i))) refl
+
+-- n sums more, in lanes
+pub sums_more : (n at : ℕ) (old b : List ℕ) → length old ≡ length b → at + n ≤ length old → Fit old b → put_chunk at (done (λ x y. x + y) at old b) (zip2 (λ x y. (x + y) % 18446744073709551616) (chunk at n (done (λ x y. x + y) at old b)) (chunk at n b)) ≡ done (λ x y. x + y) (at + n) old b
+sums_more n at old b len le fit =
+    let within : at ≤ length old = omega arith in
+    ap (λ sums. put_chunk at (done (λ x y. x + y) at old b) sums) (zip2_fits (chunk at n (done (λ x y. x + y) at old b)) (chunk at n b) (rest_fits n n at old b len within fit))
+    ∙ words_more (λ x y. x + y) n at old b len le

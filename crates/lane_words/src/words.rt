@@ -1,6 +1,6 @@
 //! Slices of words, worked on eight words at a time: their bits, pair by pair.
 
-ghost use Rattle.std.specs.Prelude.{◌≡◌, ◌↔◌, ◌*◌, ◌<◌, ◌^◌, IsTrue, length, not, bit_and, bit_or, sum_by, count_ones};
+ghost use Rattle.std.specs.Prelude.{◌≡◌, ◌↔◌, ◌+◌, ◌*◌, ◌<◌, ◌^◌, ℕ, IsTrue, length, not, bit_and, bit_or, slice_index_or, sum_by, count_ones};
 ghost use Rattle.std.specs.Simd.Lanes.{zip2};
 ghost use Rattle.lane_words.specs.Words.{and_not, any_set};
 
@@ -82,6 +82,36 @@ pub fn equal64(a: &[u64], b: &[u64]) -> bool
         at += LANES;
     }
     found.reduce_or() == 0 && plain::equal64(&a[at..], &b[at..])
+}
+
+/// Whether both, which are as long, are equal.
+pub fn equal32(a: &[u32], b: &[u32]) -> bool
+    requires { length a.now ≡ length b.now }
+    ensures { IsTrue result ↔ (a.now ≡ b.now) }
+{
+    let mut found = u32x8::splat(0);
+    let mut at = 0;
+    while at + LANES <= a.len() {
+        found |= u32x8::from_slice(&a[at..]) ^ u32x8::from_slice(&b[at..]);
+        at += LANES;
+    }
+    found.reduce_or() == 0 && plain::equal32(&a[at..], &b[at..])
+}
+
+/// Adds to each number of `a` the one of `b`, which is as long. Each sum has to fit.
+pub fn add_into(a: &mut [u64], b: &[u64])
+    requires length { length a.old ≡ length b.now }
+    requires fit { (i : ℕ) → slice_index_or a.old i 0 + slice_index_or b.now i 0 < 2 ^ 64 }
+    ensures { a.new ≡ zip2 (λ x y. x + y) a.old b.now }
+{
+    let mut at = 0;
+    while at + LANES <= a.len() {
+        let left = u64x8::from_slice(&a[at..]);
+        let right = u64x8::from_slice(&b[at..]);
+        (left + right).copy_to_slice(&mut a[at..]);
+        at += LANES;
+    }
+    plain::add_into(&mut a[at..], &b[at..]);
 }
 
 /// How many bits are set in all words, of which there are fewer than 2^58. The processor counts the

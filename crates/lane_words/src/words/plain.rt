@@ -1,7 +1,7 @@
 //! The same word by word, as the definitions say: for the words after the last eight, and beside
 //! which the tests run the calls over eight at a time.
 
-ghost use Rattle.std.specs.Prelude.{◌≡◌, ◌↔◌, IsTrue, length, not, bit_and, bit_or};
+ghost use Rattle.std.specs.Prelude.{◌≡◌, ◌↔◌, ◌+◌, ◌<◌, ◌^◌, ℕ, IsTrue, length, not, bit_and, bit_or, slice_index_or};
 ghost use Rattle.std.specs.Simd.Lanes.{zip2};
 ghost use Rattle.lane_words.specs.Words.{and_not, any_set};
 
@@ -59,4 +59,27 @@ pub fn equal64(a: &[u64], b: &[u64]) -> bool
         found |= a[i] ^ b[i];
     }
     found == 0
+}
+
+/// Whether both, which are as long, are equal.
+pub fn equal32(a: &[u32], b: &[u32]) -> bool
+    requires { length a.now ≡ length b.now }
+    ensures { IsTrue result ↔ (a.now ≡ b.now) }
+{
+    let mut found = 0;
+    for i in 0..a.len() {
+        found |= a[i] ^ b[i];
+    }
+    found == 0
+}
+
+/// Adds to each number of `a` the one of `b`, which is as long. Each sum has to fit.
+pub fn add_into(a: &mut [u64], b: &[u64])
+    requires length { length a.old ≡ length b.now }
+    requires fit { (i : ℕ) → slice_index_or a.old i 0 + slice_index_or b.now i 0 < 2 ^ 64 }
+    ensures { a.new ≡ zip2 (λ x y. x + y) a.old b.now }
+{
+    for i in 0..a.len() {
+        a[i] += b[i];
+    }
 }

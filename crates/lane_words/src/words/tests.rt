@@ -1,7 +1,7 @@
 //! The calls over eight words at a time beside those word by word, for lengths around one chunk and
 //! many, with the only difference in the last word.
 
-ghost use Rattle.std.specs.Prelude.{◌≡◌, length};
+ghost use Rattle.std.specs.Prelude.{◌≡◌, ◌+◌, ◌<◌, ◌^◌, ℕ, IsTrue, length, slice_index_or};
 
 use super::*;
 use std::alloc::{AllocError, Global};
@@ -60,6 +60,77 @@ fn each_beside_its_loop(rt: HostRuntime) -> Result<(), Fail> {
             check_two(&rt, rt.alloc(), &a, &b)?;
             assert_eq!(rt; equal64(&a, &b), last == 0 || len == 0, "{len}");
         }
+    }
+    Ok(())
+}
+
+#[test]
+fn equal32_beside_its_loop(rt: HostRuntime) -> Result<(), Fail> {
+    for len in LENGTHS {
+        let a = vec![in rt.alloc(); 0x9e37_79b9; len]?;
+        for last in [0, 1, 1 << 31, u32::MAX] {
+            let mut b = a.to_vec(rt.alloc())?;
+            if let Some(word) = b.last_mut() {
+                *word ^= last;
+            }
+            assert!(rt; a.len() == b.len());
+            let same = equal32(&a, &b);
+            assert_eq!(rt; same, plain::equal32(&a, &b), "{len}");
+            assert_eq!(rt; same, last == 0 || len == 0, "{len}");
+        }
+    }
+    Ok(())
+}
+
+/// Whether each pair of numbers, of which there are as many in both, adds up to one that fits.
+fn is_fit(a: &[u64], b: &[u64]) -> bool
+    requires { length a.now ≡ length b.now }
+    ensures { IsTrue result → (i : ℕ) → slice_index_or a.now i 0 + slice_index_or b.now i 0 < 2 ^ 64 }
+{
+    for i in 0..a.len() {
+        if a[i].checked_add(b[i]).is_none() {
+            return false;
+        }
+    }
+    true
+}
+
+/// Sums beside those of the loop.
+fn check_sums(rt: &impl Abort, alloc: Global, a: &[u64], b: &[u64]) -> Result<(), AllocError>
+    requires length { length a.now ≡ length b.now }
+    requires fit { (i : ℕ) → slice_index_or a.now i 0 + slice_index_or b.now i 0 < 2 ^ 64 }
+{
+    let (mut sums, mut plain_sums) = (a.to_vec(alloc)?, a.to_vec(alloc)?);
+    add_into(&mut sums, b);
+    plain::add_into(&mut plain_sums, b);
+    assert_eq!(rt; sums, plain_sums);
+    Ok(())
+}
+
+#[test]
+fn add_into_beside_its_loop(rt: HostRuntime) -> Result<(), Fail> {
+    for len in LENGTHS {
+        let mut a = words(rt.alloc(), len)?;
+        for word in &mut a {
+            *word >>= 1;
+        }
+        for last in [0, 1, u64::MAX >> 1] {
+            let b = with_last(rt.alloc(), &a, last)?;
+            assert!(rt; a.len() == b.len() && is_fit(&a, &b));
+            check_sums(&rt, rt.alloc(), &a, &b)?;
+        }
+    }
+    Ok(())
+}
+
+#[test]
+fn sums_of_the_last_alone(rt: HostRuntime) -> Result<(), Fail> {
+    for len in LENGTHS {
+        let mut sums = vec![in rt.alloc(); 0; len]?;
+        let one = with_last(rt.alloc(), &sums, u64::MAX)?;
+        assert!(rt; sums.len() == one.len() && is_fit(&sums, &one));
+        add_into(&mut sums, &one);
+        assert!(rt; sums == one, "{len}");
     }
     Ok(())
 }
