@@ -4,7 +4,7 @@ ghost use Rattle.std.specs.Prelude.{◌≡◌, ℕ, ◌≤◌, ◌<◌, ◌+◌,
 ghost use Rattle.commit_store.specs.Commits.{IsValidLogs, Commits, Fits, IsExact, PartitionLogs, commit_answer, committed_at, count_at, log_at, offset_answer, with_commit};
 
 use keyed_table::{Partial, Table};
-use lane_words::{MOST_PARTITIONS, Memory, Refusal};
+use lane_words::{MOST_PARTITIONS, Memory, Refusal, equal32};
 use partition_log::LogRead;
 use std::alloc::Global;
 use std::marker::Model;
@@ -188,7 +188,7 @@ fn next_offset<L: LogRead>(
     if end > logs.len(p) as u64 {
         return Err(Refusal::PastEnd);
     }
-    if logs.ids(p, from, end as u32) != ids {
+    if !equal32(logs.ids(p, from, end as u32), ids) {
         return Err(Refusal::WrongRecords);
     }
     Ok(end as u32)

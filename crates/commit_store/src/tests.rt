@@ -2,8 +2,11 @@
 
 use super::*;
 use keyed_table::Partial;
-use lane_words::{MOST_PARTITIONS, Refusal};
+use lane_words::{MOST_PARTITIONS, Memory, Refusal};
 use partition_log::{LogRead, Logs};
+use std::alloc::Global;
+use std::process::Abort;
+use std::random::RandomSource;
 use std::test::Fail;
 
 #[test]
@@ -38,6 +41,54 @@ fn a_commit_is_taken_exactly_where_it_fits(rt: HostRuntime) -> Result<(), Fail> 
     assert_eq!(rt; store.committed(0), 2);
     assert_eq!(rt; store.committed(3), 0);
     assert_eq!(rt; store.count(0), 2);
+    Ok(())
+}
+
+/// A log of this many records of one key.
+fn one_key(
+    rt: &(impl Abort + RandomSource),
+    alloc: Global,
+    records: usize,
+) -> Result<Logs, Memory> {
+    let mut logs = Logs::new(rt, alloc, 1)?;
+    for _ in 0..records {
+        assert!(rt; logs.append(b"21").is_ok());
+    }
+    Ok(logs)
+}
+
+/// A commit of these key numbers at the start of the log, and the two counters after it.
+fn committed(
+    rt: &impl Abort,
+    alloc: Global,
+    logs: &Logs,
+    ids: Vec<u32>,
+) -> Result<(Result<u32, Refusal>, u64, u64), Memory> {
+    let mut store = Store::over(alloc, 1, 2)?;
+    let partial = Partial::of(alloc, ids)?;
+    assert!(rt; logs.partitions() == 1 && logs.keys() <= 2);
+    let answer = store.commit(logs, 0, 0, &partial);
+    assert!(rt; store.keys() == 2);
+    Ok((answer, store.count(0), store.count(1)))
+}
+
+#[test]
+fn the_last_of_the_records_alone_differs(rt: HostRuntime) -> Result<(), Fail> {
+    for len in [17, 1000] {
+        let logs = one_key(&rt, rt.alloc(), len)?;
+        let ids = vec![in rt.alloc(); 0; len]?;
+        let mut other = ids.to_vec(rt.alloc())?;
+        if let Some(last) = other.last_mut() {
+            *last = 1;
+        }
+        let refused = (Err(Refusal::WrongRecords), 0, 0);
+        assert!(rt;
+            committed(&rt, rt.alloc(), &logs, other)? == refused,
+            "{len}"
+        );
+        let taken = (Ok(len as u32), len as u64, 0);
+        assert!(rt; committed(&rt, rt.alloc(), &logs, ids)? == taken, "{len}");
+    }
     Ok(())
 }
 
