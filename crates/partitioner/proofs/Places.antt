@@ -1,6 +1,5 @@
 -- Places lie among the partitions.
-use Rattle.std.proofs.Common.{ℕ, ◌<◌, ◌≤◌, ◌%◌, ◌^◌, List, arith}
-use Rattle.murmur_lanes.specs.Murmur.{hash_of}
+use Rattle.std.proofs.Common.{ℕ, ◌<◌, ◌≤◌, List, arith}
 use Rattle.partitioner.specs.Place.{place_of}
 
 pub place_of-below : (partitions : ℕ) (key : List ℕ) → 1 ≤ partitions → place_of partitions key < partitions

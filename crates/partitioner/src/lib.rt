@@ -1,14 +1,25 @@
 //! Which partition a record of a key goes to.
 #![tactic(auto)]
 
-ghost use Rattle.std.specs.Prelude.{◌≡◌, ◌≤◌, ◌<◌, map, IfOk};
+ghost use Rattle.std.specs.Prelude.{◌≡◌, ◌≤◌, ◌<◌, ◌^◌, ◌%◌, ℕ, List, length, map, slice_index_or, IfOk};
+ghost use Rattle.std.specs.Borrow.{Bor};
 ghost use Rattle.partitioner.specs.Place.{place_of};
+ghost use Rattle.partitioner.specs.Private.Groups.{AreKnown, AreOfLength, AreWaitingFrom, joined_row};
 
 use lane_words::{MOST_PARTITIONS, Memory};
-use murmur_lanes::murmur2;
+use murmur_lanes::{murmur2, murmur2_x8};
 use std::alloc::Global;
 use std::marker::Model;
 use std::thread::Threads;
+
+/// How many keys are hashed side by side.
+const LANES: usize = 8;
+
+/// Keys of fewer bytes are hashed side by side with others of their length; a longer one is alone.
+const GROUPED: usize = 65;
+
+/// What stands in for the place of a key that has none yet.
+const UNPLACED: u32 = u32::MAX;
 
 /// How many partitions there are, from 1 to 4096.
 #[derive(Clone, Copy, Debug, PartialEq, Eq)]
@@ -54,7 +65,15 @@ impl Partitions {
         ensures place { result ≡ place_of self.now key.now }
         ensures within { result < self.now }
     {
-        murmur2(key) % (1 << 31) % self.count
+        self.place_of_hash(murmur2(key))
+    }
+
+    /// The partition of a key of this hash.
+    fn place_of_hash(&self, hash: u32) -> u32
+        ensures place { result ≡ (hash % 2 ^ 31) % self.now }
+        ensures within { result < self.now }
+    {
+        hash % (1 << 31) % self.count
     }
 
     /// The partition of each of some keys, in their order. Refused for want of memory alone.
@@ -66,9 +85,105 @@ impl Partitions {
     ) -> Result<Vec<u32>, Memory>
         ensures { IfOk result (λ places. places.items ≡ map (λ key. place_of self.now key.now) keys.now) }
     {
-        Ok(keys.iter().map(|key| self.place(key)).collect(alloc)?)
+        let mut places = vec![in alloc; UNPLACED; keys.len()]?;
+        self.place_eights(keys, &mut places);
+        self.place_rest(keys, &mut places);
+        Ok(places)
+    }
+
+    /// Places keys of which eight have one length, and leaves the others without a place.
+    fn place_eights(&self, keys: &[&[u8]], places: &mut [u32])
+        requires length { length places.old ≡ length keys.now }
+        requires known { AreKnown self.now keys.now places.old }
+        ensures length { length places.new ≡ length keys.now }
+        ensures known { AreKnown self.now keys.now places.new }
+    {
+        let mut rows = [[0; LANES]; GROUPED];
+        let mut counts = [0; GROUPED];
+        for i in 0..keys.len() {
+            if keys[i].len() < GROUPED {
+                self.wait(i, keys, &mut rows, &mut counts, places);
+            }
+        }
+    }
+
+    /// Lets a key wait with those of its length, and places these when they are eight.
+    fn wait(
+        &self,
+        i: usize,
+        keys: &[&[u8]],
+        rows: &mut [[usize; LANES]; GROUPED],
+        counts: &mut [usize; GROUPED],
+        places: &mut [u32],
+    )
+        requires index { i < length keys.now }
+        requires grouped { (d : Bor (List ℕ)) → length (slice_index_or keys.now i d).now < 65 }
+        requires waiting { AreWaitingFrom keys.now 0 rows.old counts.old }
+        requires length { length places.old ≡ length keys.now }
+        requires known { AreKnown self.now keys.now places.old }
+        ensures waiting { AreWaitingFrom keys.now 0 rows.new counts.new }
+        ensures length { length places.new ≡ length keys.now }
+        ensures known { AreKnown self.now keys.now places.new }
+    {
+        let len = keys[i].len();
+        let count = counts[len];
+        rows[len] = joined(rows[len], count, i);
+        if count < LANES - 1 {
+            counts[len] = count + 1;
+        } else {
+            self.place_eight(len, rows[len], keys, places);
+            counts[len] = 0;
+        }
+    }
+
+    /// Places eight keys of one length.
+    #[tactic(auto, using(crate::proofs::Groups::lane_within))]
+    fn place_eight(&self, len: usize, row: [usize; LANES], keys: &[&[u8]], places: &mut [u32])
+        requires row { AreOfLength keys.now len row }
+        requires length { length places.old ≡ length keys.now }
+        requires known { AreKnown self.now keys.now places.old }
+        ensures length { length places.new ≡ length keys.now }
+        ensures known { AreKnown self.now keys.now places.new }
+    {
+        let [a, b, c, d, e, f, g, h] = row;
+        let hashes = murmur2_x8([
+            keys[a], keys[b], keys[c], keys[d], keys[e], keys[f], keys[g], keys[h],
+        ]);
+        for lane in 0..LANES {
+            places[row[lane]] = self.place_of_hash(hashes[lane]);
+        }
+    }
+
+    /// Places the keys that have no place yet, one by one.
+    fn place_rest(&self, keys: &[&[u8]], places: &mut [u32])
+        requires length { length places.old ≡ length keys.now }
+        requires known { AreKnown self.now keys.now places.old }
+        ensures { places.new ≡ map (λ key. place_of self.now key.now) keys.now }
+    {
+        for i in 0..keys.len() {
+            if places[i] == UNPLACED {
+                places[i] = self.place(keys[i]);
+            }
+        }
     }
 }
 
+/// The row after one more index. One that begins is filled with it, so that all eight are of keys of
+/// one length from then on.
+fn joined(row: [usize; LANES], count: usize, i: usize) -> [usize; LANES]
+    requires { count < 8 }
+    ensures { result ≡ joined_row row count i }
+{
+    if count == 0 {
+        [i; LANES]
+    } else {
+        let mut joined = row;
+        joined[count] = i;
+        joined
+    }
+}
+
+#[cfg(test)]
+mod plain;
 #[cfg(test)]
 mod tests;

@@ -1,5 +1,7 @@
 //! Places from outside: a table computed by the rules alone.
 
+ghost use Rattle.std.specs.Prelude.{◌<◌};
+
 use super::*;
 use std::test::Fail;
 
@@ -31,5 +33,56 @@ fn places_all_in_their_order(rt: HostRuntime) -> Result<(), Fail> {
         places.as_slice(),
         [0, 2, 0, 2, 1, 0, 2, 0, 2, 0].as_slice()
     );
+    Ok(())
+}
+
+/// Bytes of which keys are windows, those from 0x80 among them.
+fn bytes_of_keys() -> [u8; 300] {
+    let mut bytes = [0; 300];
+    for i in 0..bytes.len() {
+        bytes[i] = 0x80 ^ (i * 37 % 251) as u8;
+    }
+    bytes
+}
+
+/// One of their windows.
+fn window(bytes: &[u8; 300], start: usize, len: usize) -> &[u8]
+    requires start { start < 200 }
+    requires len { len < 100 }
+{
+    &bytes[start..start + len]
+}
+
+#[test]
+fn eights_and_one_by_one_of_one_length(rt: HostRuntime) -> Result<(), Fail> {
+    let bytes = bytes_of_keys();
+    let partitions = Partitions::new(4096);
+    for len in 0..10 {
+        for count in [0, 1, 7, 8, 9, 17] {
+            let mut keys: Vec<&[u8]> = Vec::new(rt.alloc());
+            for i in 0..count {
+                keys.push(window(&bytes, i % 200, len))?;
+            }
+            let places = partitions.place_all(&rt, rt.alloc(), &keys)?;
+            let plain = plain::place_all(partitions, rt.alloc(), &keys)?;
+            assert_eq!(rt; places, plain, "{count} keys of {len} bytes");
+        }
+    }
+    Ok(())
+}
+
+#[test]
+fn eights_and_one_by_one_of_mixed_lengths(rt: HostRuntime) -> Result<(), Fail> {
+    let bytes = bytes_of_keys();
+    let partitions = Partitions::new(4096);
+    for count in [2047, 2048, 2049, 10_000] {
+        let mut keys: Vec<&[u8]> = Vec::new(rt.alloc());
+        for i in 0..count {
+            keys.push(window(&bytes, i % 199, i / 3 % 70))?;
+        }
+        let places = partitions.place_all(&rt, rt.alloc(), &keys)?;
+        let plain = plain::place_all(partitions, rt.alloc(), &keys)?;
+        assert_eq!(rt; places, plain, "{count} keys");
+    }
     Ok(())
 }

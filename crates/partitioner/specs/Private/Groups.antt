@@ -1,0 +1,41 @@
+-- Keys that wait to be hashed with others of their length, and places that are known so far.
+use Rattle.std.specs.Prelude.{ℕ, zero, suc, ◌≡◌, ◌≢◌, ◌<◌, ◌^◌, ◌-◌, List, [], length, ◌∷◌, replicate}
+use Rattle.std.specs.Prelude.{slice_set, slice_index_or as get_or}
+use Rattle.std.specs.Simd.Lanes.{Each1, Each2}
+use Rattle.std.specs.Borrow.{Bor}
+use Rattle.partitioner.specs.Place.{place_of}
+
+-- what stands where there is no key
+abbrev pub no_key : Bor (List ℕ)
+no_key = record { ref_ptr = (0, 0); now = [] }
+
+-- a place that is not known to be missing is the one expected
+abbrev pub IsKnown : ℕ → ℕ → Type 0
+IsKnown place expected = place ≢ 2 ^ 32 - 1 → place ≡ expected
+
+-- each place is its key's, or missing
+unfoldable pub AreKnown : ℕ → List (Bor (List ℕ)) → List ℕ → Type 0
+AreKnown partitions keys places = Each2 (λ key place. IsKnown place (place_of partitions key.now)) keys places
+
+-- an index of a key of this length
+abbrev pub IsOfLength : List (Bor (List ℕ)) → ℕ → ℕ → Type 0
+IsOfLength keys len i = (i < length keys) × (length (get_or keys i no_key).now ≡ len)
+
+-- each index is that of a key of this length
+unfoldable pub AreOfLength : List (Bor (List ℕ)) → ℕ → List ℕ → Type 0
+AreOfLength keys len row = Each1 (λ i. IsOfLength keys len i) row
+
+-- fewer than eight keys of this length wait
+abbrev pub IsWaiting : List (Bor (List ℕ)) → ℕ → List ℕ → ℕ → Type 0
+IsWaiting keys len row count = (length row ≡ 8) × (count < 8) × (0 < count → AreOfLength keys len row)
+
+-- fewer than eight keys of each length from this one on wait
+unfoldable pub AreWaitingFrom : List (Bor (List ℕ)) → ℕ → List (List ℕ) → List ℕ → Type 0
+AreWaitingFrom keys len [] counts = Unit {0}
+AreWaitingFrom keys len (row ∷ rows) [] = Unit {0}
+AreWaitingFrom keys len (row ∷ rows) (count ∷ counts) = IsWaiting keys len row count × AreWaitingFrom keys (suc len) rows counts
+
+-- the row after one more index
+abbrev pub joined_row : List ℕ → ℕ → ℕ → List ℕ
+joined_row row zero i = replicate 8 i
+joined_row row (suc count) i = slice_set row (suc count) i
