@@ -254,3 +254,15 @@ fn spreads_the_most_partitions(rt: HostRuntime) -> Result<(), Fail> {
     assert!(rt; given == even);
     Ok(())
 }
+
+#[test]
+fn spreads_what_one_owned_over_three(rt: HostRuntime) -> Result<(), Fail> {
+    // 4096 are 1366 and twice 1365: the owner keeps its first 1366, and the others take runs.
+    let owners = vec![in rt.alloc(); 1; MOST_PARTITIONS as usize]?;
+    let mut expected = vec![in rt.alloc(); 3; MOST_PARTITIONS as usize]?;
+    for q in 0..2731 {
+        expected[q] = if q < 1366 { 1 } else { 2 };
+    }
+    check_row(&rt, rt.alloc(), &[1, 2, 3], &owners, &expected, 1366)?;
+    Ok(())
+}
