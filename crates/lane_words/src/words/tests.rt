@@ -85,7 +85,8 @@ fn equal32_beside_its_loop(rt: HostRuntime) -> Result<(), Fail> {
 /// Whether each pair of numbers, of which there are as many in both, adds up to one that fits.
 fn is_fit(a: &[u64], b: &[u64]) -> bool
     requires { length a.now ≡ length b.now }
-    ensures { IsTrue result → (i : ℕ) → slice_index_or a.now i 0 + slice_index_or b.now i 0 < 2 ^ 64 }
+    ensures { IsTrue result
+        → (i : ℕ) → slice_index_or a.now i 0 + slice_index_or b.now i 0 < 2 ^ 64 }
 {
     for i in 0..a.len() {
         if a[i].checked_add(b[i]).is_none() {
