@@ -131,15 +131,15 @@ impl Partitions {
         if count < LANES - 1 {
             counts[len] = count + 1;
         } else {
-            self.place_eight(len, rows[len], keys, places);
+            self.place_eight(rows[len], keys, places);
             counts[len] = 0;
         }
     }
 
     /// Places eight keys of one length.
     #[tactic(auto, using(crate::proofs::Groups::lane_within))]
-    fn place_eight(&self, len: usize, row: [usize; LANES], keys: &[&[u8]], places: &mut [u32])
-        requires row { AreOfLength keys.now len row }
+    fn place_eight(&self, row: [usize; LANES], keys: &[&[u8]], places: &mut [u32])
+        requires row { (len : ℕ) × AreOfLength keys.now len row }
         requires length { length places.old ≡ length keys.now }
         requires known { AreKnown self.now keys.now places.old }
         ensures length { length places.new ≡ length keys.now }

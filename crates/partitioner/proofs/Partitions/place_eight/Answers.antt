@@ -4,7 +4,7 @@ use Rattle.partitioner.proofs.Groups.{known_set, lane_place, row_of_one_length}
 use Rattle.partitioner.proofs.Partitions.place_eight.Goals as goal
 
 pub murmur2_x8-hashes-requires : goal.murmur2_x8-hashes-requires
-murmur2_x8-hashes-requires c = row_of_one_length c.args.keys.now c.args.len c.args.row (omega arith) c.requires.row
+murmur2_x8-hashes-requires c = row_of_one_length c.args.keys.now c.requires.row.0 c.args.row (omega arith) c.requires.row.1
 
 pub loop-lane-preserved : goal.loop-lane-preserved
 loop-lane-preserved c = record {

@@ -12,7 +12,7 @@ pub place_eight-requires-clause-row : goal.place_eight-requires-clause-row
 place_eight-requires-clause-row c =
     let below = c.requires.grouped no_key in
     let w = waiting_at c.args.keys.now (length (get_or c.args.keys.now c.args.i no_key).now) c.args.rows.now c.args.counts.now c.requires.waiting (omega arith) (omega arith) in
-    rw (read_row c.args.rows.now (length (get_or c.args.keys.now c.args.i no_key).now) c.joined.result (omega arith)) (rw c.joined.ensures (joined_of_length c.args.keys.now (length (get_or c.args.keys.now c.args.i no_key).now) (get_or c.args.rows.now (length (get_or c.args.keys.now c.args.i no_key).now) []) (get_or c.args.counts.now (length (get_or c.args.keys.now c.args.i no_key).now) 0) c.args.i w (c.requires.index, refl)))
+    ((length (get_or c.args.keys.now c.args.i no_key).now), rw (read_row c.args.rows.now (length (get_or c.args.keys.now c.args.i no_key).now) c.joined.result (omega arith)) (rw c.joined.ensures (joined_of_length c.args.keys.now (length (get_or c.args.keys.now c.args.i no_key).now) (get_or c.args.rows.now (length (get_or c.args.keys.now c.args.i no_key).now) []) (get_or c.args.counts.now (length (get_or c.args.keys.now c.args.i no_key).now) 0) c.args.i w (c.requires.index, refl))))
 
 pub returns-then-count-clause-waiting : goal.returns-then-count-clause-waiting
 returns-then-count-clause-waiting c =
