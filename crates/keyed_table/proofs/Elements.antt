@@ -1,8 +1,12 @@
--- Numbers that are in a list.
-use Rattle.std.proofs.Common.{◌≡◌, ◌∙◌, ◌+◌, ◌<◌, ◌≤◌, ℕ, suc, List, [], ◌∷◌, length, cond, get_or, sym, ap, refl, arith, inl, inr}
+-- Numbers that are in a list, and how often.
+use Rattle.std.proofs.Common.{◌≡◌, ◌∙◌, ◌+◌, ◌<◌, ◌≤◌, ℕ, suc, List, [], ◌∷◌, length, cond, get_or, sym, ap, refl, arith, inl, inr, ◌++◌, take}
 use Rattle.std.specs.Prelude.{◌==◌}
 use Rattle.std.proofs.lemmas.Bool.Decides.{eqb_tells}
+use Rattle.std.proofs.lemmas.Grind.{common_steps}
+use Rattle.std.proofs.lemmas.List.{take_more}
+use Rattle.std.proofs.lemmas.List.Sorted.{sum_by-IsPermutation}
 use Rattle.std.proofs.lemmas.List.Sums.{sum_by-cons}
+use Rattle.std.specs.List.Sorted.{IsPermutation}
 use Rattle.keyed_table.specs.Counts.{plain}
 
 -- a number that is in a list stands somewhere
@@ -24,3 +28,16 @@ none-past (id ∷ ids) bound x below le =
       | inl t ↦ absurd (omega (arith, t.1, below 0 (omega arith), le))
       | inr f ↦ sum_by-cons (λ y. cond (x == y) 1 0) id ids ∙ ap (λ b. cond b 1 0 + plain ids x) f.0 ∙ omega (arith, none-past ids bound x (λ i lt. below (suc i) (omega (arith, lt))) le)
     ]
+
+-- one number more
+pub plain-push : (ids : List ℕ) (y x : ℕ) → plain (ids ++ y ∷ []) x ≡ plain ids x + cond (x == y) 1 0
+plain-push [] y x = grind (arith, common_steps)
+plain-push (i ∷ ids) y x = let ih = plain-push ids y x in grind (arith, common_steps)
+
+-- the next number of a list, counted
+pub plain-next : (ids : List ℕ) (n x : ℕ) → n < length ids → plain (take (n + 1) ids) x ≡ plain (take n ids) x + cond (x == get_or ids n 0) 1 0
+plain-next ids n x lt = ap (λ ys. plain ys x) (take_more ids n 0 lt) ∙ plain-push (take n ids) (get_or ids n 0) x
+
+-- the order of a list doesn't matter to its counts
+pub plain-order : (ids sorted : List ℕ) (x : ℕ) → IsPermutation ids sorted → plain sorted x ≡ plain ids x
+plain-order ids sorted x h = sum_by-IsPermutation (λ y. cond (x == y) 1 0) ids sorted h

@@ -1,3 +1,6 @@
+pub mod Added
 pub mod Elements
+pub mod Entries
 pub mod Raised
 pub mod Runs
+pub mod Touched

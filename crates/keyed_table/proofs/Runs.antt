@@ -1,27 +1,17 @@
--- Counts of a list whose numbers rise, run by run of equal numbers.
+-- Counts of a list whose numbers rise, run by run of equal numbers, as the plain program makes them.
 use Rattle.std.proofs.Common.{◌≡◌, ◌≢◌, ◌∙◌, ◌+◌, ◌-◌, ◌<◌, ◌≤◌, ℕ, zero, suc, true, false, List, [], ◌∷◌, ◌++◌, length, take, get_or-take, cond, get_or, sym, ap, refl, arith, Option, Some, None, inl, inr}
 use Rattle.std.specs.Prelude.{◌==◌}
 use Rattle.std.specs.Map.{update}
 use Rattle.std.specs.Option.{unwrap_or}
 use Rattle.std.specs.Ordering.{eq_by_cmp, nat_cmp}
-use Rattle.std.specs.List.Sorted.{IsNonDecreasing, IsPermutation}
+use Rattle.std.specs.List.Sorted.{IsNonDecreasing}
 use Rattle.std.proofs.lemmas.Bool.{cases_lt}
 use Rattle.std.proofs.lemmas.Bool.Decides.{eqb_tells, nat_tests}
-use Rattle.std.proofs.lemmas.Grind.{common_steps}
-use Rattle.std.proofs.lemmas.List.{length-take, take_all, take_more}
-use Rattle.std.proofs.lemmas.List.Sorted.{sum_by-IsPermutation}
+use Rattle.std.proofs.lemmas.List.{length-take, take_all}
 use Rattle.std.proofs.lemmas.List.Sums.{fold-append}
-use Rattle.keyed_table.specs.Private.Partial.{counted, value_in}
+use Rattle.keyed_table.specs.Private.PlainPartial.{counted, value_in}
 use Rattle.keyed_table.specs.Counts.{plain}
-use Rattle.keyed_table.proofs.Elements.{none-past}
-
-pub plain-push : (ids : List ℕ) (y x : ℕ) → plain (ids ++ y ∷ []) x ≡ plain ids x + cond (x == y) 1 0
-plain-push [] y x = grind (arith, common_steps)
-plain-push (i ∷ ids) y x = let ih = plain-push ids y x in grind (arith, common_steps)
-
--- the next number of a list, counted
-pub plain-next : (ids : List ℕ) (n x : ℕ) → n < length ids → plain (take (n + 1) ids) x ≡ plain (take n ids) x + cond (x == get_or ids n 0) 1 0
-plain-next ids n x lt = ap (λ ys. plain ys x) (take_more ids n 0 lt) ∙ plain-push (take n ids) (get_or ids n 0) x
+use Rattle.keyed_table.proofs.Elements.{none-past, plain-next}
 
 -- a run of n equal numbers
 pub run-same : (ids : List ℕ) (start n v : ℕ) → start + n ≤ length ids → ((j : ℕ) → start ≤ j → j < start + n → get_or ids j 0 ≡ v) → plain (take (start + n) ids) v ≡ plain (take start ids) v + n
@@ -57,10 +47,6 @@ counted-some (suc n) lt = refl
 pub count-of-counted : (n : ℕ) → unwrap_or (counted n) 0 ≡ n
 count-of-counted zero = refl
 count-of-counted (suc n) = refl
-
--- the order of a list doesn't matter to its counts
-pub plain-order : (ids sorted : List ℕ) (x : ℕ) → IsPermutation ids sorted → plain sorted x ≡ plain ids x
-plain-order ids sorted x h = sum_by-IsPermutation (λ y. cond (x == y) 1 0) ids sorted h
 
 pub of-counted : (n m : ℕ) → Some m ≡ counted n → m ≡ n
 of-counted zero m e = absurd (cc e)

@@ -1,1 +1,3 @@
-pub mod Partial
+pub mod Blocks
+pub mod PlainPartial
+pub mod Table

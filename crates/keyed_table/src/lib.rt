@@ -1,11 +1,14 @@
 //! Counts of key numbers: of one list, and the counters to which such counts are added.
 #![tactic(auto)]
 
+mod blocks;
 mod partial;
 mod table;
 
 pub use partial::Partial;
 pub use table::Table;
 
+#[cfg(test)]
+mod plain_partial;
 #[cfg(test)]
 mod tests;

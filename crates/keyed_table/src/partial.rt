@@ -1,37 +1,35 @@
 //! A list of key numbers and its counts.
 
-ghost use Rattle.std.specs.Prelude.{◌≡◌, ◌≢◌, ◌+◌, ◌<◌, ◌^◌, ℕ, Some, IfOk, OnOk, true, false, length, slice_index};
-ghost use Rattle.std.specs.BTreeMap.{IsFromIterResult};
-ghost use Rattle.std.specs.List.Sorted.{IsNonDecreasing};
-ghost use Rattle.std.specs.Ordering.{nat_cmp};
-ghost use Rattle.keyed_table.specs.Private.Partial.{IsValidPartial, counted, value_in};
-ghost use Rattle.keyed_table.specs.Counts.{plain};
+ghost use Rattle.std.specs.Prelude.{◌≡◌, ◌<◌, ◌≤◌, ◌%◌, IfOk, length};
+ghost use Rattle.keyed_table.specs.Counts.{HaveCounters, SumsFit, plain, raised};
+ghost use Rattle.keyed_table.specs.Private.Blocks.{AreNeighbours, DoRise};
 
-use lane_words::Memory;
-use std::alloc::{AllocError, Global};
-use std::collections::BTreeMap;
+use crate::blocks::{BLOCK, Blocks};
+use lane_words::{Memory, add_into};
+use std::alloc::Global;
 use std::marker::Model;
 
-/// A list of key numbers, and beside it how often each number is in it, in an ordered map.
+/// A list of key numbers, and beside it how often each number is in it, in blocks of eight.
 ///
 /// The counts are always those of the list, whatever the list.
 #[derive(Debug, Drop)]
 pub struct Partial {
     /// The list, in its own order.
     ids: Vec<u32>,
-    /// How often each number is in it; a number that is not in it has no entry.
-    counts: BTreeMap<u32, u64>,
+    /// The blocks that it touches.
+    blocks: Blocks,
 }
 
 impl Model for Partial {
     ghost use Rattle.std.specs.Prelude.{List, ℕ};
-    ghost use Rattle.keyed_table.specs.Private.Partial.{IsValidPartial};
+    ghost use Rattle.keyed_table.specs.Private.Blocks.{AreBlocksOf};
 
     ghost Value = { List ℕ };
 
     ghost view = { λ p. p.ids.items };
 
-    ghost invariant = { λ p. IsValidPartial p.ids.items p.counts };
+    ghost invariant = { λ p.
+        AreBlocksOf p.ids.items p.blocks.numbers.items p.blocks.counts.items };
 }
 
 impl Partial {
@@ -41,8 +39,8 @@ impl Partial {
     {
         let mut sorted = Vec::from_slice(alloc, ids.as_slice())?;
         sorted.sort_unstable();
-        let counts = counts_of(alloc, sorted.as_slice())?;
-        Ok(Partial { ids, counts })
+        let blocks = Blocks::of(alloc, sorted.as_slice())?;
+        Ok(Partial { ids, blocks })
     }
 
     /// The list.
@@ -56,60 +54,45 @@ impl Partial {
     pub fn get(&self, id: u32) -> u64
         ensures { result ≡ plain self.now id }
     {
-        match self.counts.get(&id) {
-            Some(n) => *n,
-            None => 0,
+        match self.blocks.numbers.binary_search(&(id / BLOCK as u32)) {
+            Ok(at) => self.blocks.counts[BLOCK * at + id as usize % BLOCK],
+            Err(_) => 0,
         }
     }
 
-    /// The counts, by number.
-    pub(crate) fn counts(&self) -> &BTreeMap<u32, u64>
-        ensures { IsValidPartial self.now result.now }
+    /// Adds to each counter how often its number is in the list. The counters, each at the index of
+    /// its key number, stand in whole blocks.
+    pub(crate) fn add_to(&self, cells: &mut [u64])
+        requires whole { length cells.old % 8 ≡ 0 }
+        requires numbers { HaveCounters cells.old self.now }
+        requires fit { SumsFit cells.old self.now }
+        ensures { cells.new ≡ raised cells.old self.now }
     {
-        &self.counts
-    }
-}
-
-/// How often each number is in a list whose numbers rise.
-fn counts_of(alloc: Global, ids: &[u32]) -> Result<BTreeMap<u32, u64>, Memory>
-    requires { IsNonDecreasing ids.now }
-    ensures { IfOk result (IsValidPartial ids.now) }
-{
-    let runs = runs_of(alloc, ids)?;
-    Ok(map_of(alloc, runs)?)
-}
-
-/// Each number of a list whose numbers rise, with how often it is there: equal numbers stand side
-/// by side.
-fn runs_of(alloc: Global, ids: &[u32]) -> Result<Vec<(u32, u64)>, Memory>
-    requires { IsNonDecreasing ids.now }
-    ensures { IfOk result (λ runs. (x : ℕ) → value_in runs.items x ≡ counted (plain ids.now x)) }
-{
-    let mut runs = Vec::new(alloc);
-    let mut start = 0;
-    for at in 0..ids.len() {
-        if ends_run(ids, at) {
-            runs.push((ids[at], (at + 1 - start) as u64))?;
-            start = at + 1;
+        let numbers = self.blocks.numbers.as_slice();
+        let counts = self.blocks.counts.as_slice();
+        let mut start = 0;
+        while start < numbers.len() {
+            let end = run_end(numbers, start);
+            let from = BLOCK * numbers[start] as usize;
+            let to = from + BLOCK * (end - start);
+            add_into(&mut cells[from..to], &counts[BLOCK * start..BLOCK * end]);
+            start = end;
         }
     }
-    Ok(runs)
 }
 
-/// A map of pairs that are in the order of their keys, built whole.
-fn map_of(alloc: Global, pairs: Vec<(u32, u64)>) -> Result<BTreeMap<u32, u64>, AllocError>
-    ensures { IfOk result (IsFromIterResult nat_cmp pairs.items) }
+/// Where the neighbouring blocks end that begin at an index.
+fn run_end(numbers: &[u32], start: usize) -> usize
+    requires rise { DoRise numbers.now }
+    requires start { start < length numbers.now }
+    ensures after { start < result }
+    ensures within { result ≤ length numbers.now }
+    ensures neighbours { AreNeighbours numbers.now start result }
 {
-    pairs.into_iter().collect(alloc)
-}
-
-/// Whether the number after this one is another, or there is none.
-fn ends_run(ids: &[u32], at: usize) -> bool
-    requires { at < length ids.now }
-    ensures goes_on { result ≡ false → (at + 1 < length ids.now)
-        × (slice_index ids.now (at + 1) ≡ slice_index ids.now at) }
-    ensures ends { result ≡ true → at + 1 < length ids.now
-        → slice_index ids.now (at + 1) ≢ slice_index ids.now at }
-{
-    at + 1 == ids.len() || ids[at + 1] != ids[at]
+    for end in start + 1..numbers.len() {
+        if (numbers[end] - numbers[start]) as usize != end - start {
+            return end;
+        }
+    }
+    numbers.len()
 }

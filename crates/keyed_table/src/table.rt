@@ -4,25 +4,32 @@ ghost use Rattle.std.specs.Prelude.{◌≡◌, ◌≤◌, ◌<◌, ◌+◌, ◌-
 ghost use Rattle.keyed_table.specs.Counts.{Counters, HaveCounters, SumsFit, counter_of, raised};
 
 use crate::Partial;
+use crate::blocks::BLOCK;
 use lane_words::Memory;
 use std::alloc::Global;
 use std::marker::Model;
 
 /// A counter for each key number, from 0 on.
+///
+/// Counters stand in whole blocks of eight. Those past the last key are at 0: they are the room for
+/// more keys.
 #[derive(Debug, Drop)]
 pub struct Table {
-    /// The counters, each at the index of its key number.
-    counts: Vec<u64>,
+    /// How many keys there are.
+    keys: usize,
+    /// The counters, each at the index of its key number, and those past the keys.
+    cells: Vec<u64>,
 }
 
 impl Model for Table {
-    ghost use Rattle.std.specs.Prelude.{◌-◌, vec_capacity, vec_len};
     ghost use Rattle.keyed_table.specs.Counts.{Counters};
+    ghost use Rattle.keyed_table.specs.Private.Table.{IsValidTable, table_view};
 
     ghost Value = { Counters };
 
-    ghost view = { λ t. record
-        { counts = t.counts.items; room = vec_capacity t.counts - vec_len t.counts } };
+    ghost view = { λ t. table_view t.keys t.cells.items };
+
+    ghost invariant = { λ t. IsValidTable t.keys t.cells.items };
 }
 
 impl Table {
@@ -31,7 +38,8 @@ impl Table {
         ensures { result.counts ≡ [] }
     {
         Table {
-            counts: Vec::new(alloc),
+            keys: 0,
+            cells: Vec::new(alloc),
         }
     }
 
@@ -39,8 +47,9 @@ impl Table {
     pub fn zeros(alloc: Global, keys: u32) -> Result<Table, Memory>
         ensures { IfOk result (λ table. table.counts ≡ replicate keys 0) }
     {
-        let counts = vec![in alloc; 0; keys as usize]?;
-        Ok(Table { counts })
+        let keys = keys as usize;
+        let cells = vec![in alloc; 0; BLOCK * keys.div_ceil(BLOCK)]?;
+        Ok(Table { keys, cells })
     }
 
     /// Makes room for at least one counter more. Refused, with the counters as they were, for want
@@ -50,7 +59,9 @@ impl Table {
         ensures room { OnOk result (1 ≤ self.new.room) }
         ensures room_stays { self.old.room ≤ self.new.room }
     {
-        self.counts.reserve(1)?;
+        if self.keys == self.cells.len() {
+            self.cells.extend_from_slice(&[0; BLOCK])?;
+        }
         Ok(())
     }
 
@@ -60,7 +71,7 @@ impl Table {
         requires { 1 ≤ self.old.room }
         ensures { self.new ≡ record { counts = self.old.counts ++ 0 ∷ []; room = self.old.room - 1 } }
     {
-        self.counts.push_reserved(0);
+        self.keys += 1;
     }
 
     /// Adds how often each number is in the list of a partial count to its counter. It takes no
@@ -71,14 +82,14 @@ impl Table {
         ensures { self.new ≡ record
             { counts = raised self.old.counts partial.now; room = self.old.room } }
     {
-        raise(&mut self.counts, partial);
+        partial.add_to(&mut self.cells);
     }
 
     /// How many counters there are.
     pub fn len(&self) -> usize
         ensures { result ≡ length self.now.counts }
     {
-        self.counts.len()
+        self.keys
     }
 
     /// The counter of a key number.
@@ -86,24 +97,13 @@ impl Table {
         requires { id < length self.now.counts }
         ensures { result ≡ counter_of self.now.counts id }
     {
-        self.counts[id as usize]
+        self.cells[id as usize]
     }
 
     /// All counters, in the order of their key numbers.
     pub fn counts(&self) -> &[u64]
         ensures { result.now ≡ self.now.counts }
     {
-        self.counts.as_slice()
-    }
-}
-
-/// Adds to each counter how often its number is in the list of a partial count.
-fn raise(counts: &mut [u64], partial: &Partial)
-    requires numbers { HaveCounters counts.old partial.now }
-    requires fit { SumsFit counts.old partial.now }
-    ensures { counts.new ≡ raised counts.old partial.now }
-{
-    for (id, n) in partial.counts() {
-        counts[*id as usize] += *n;
+        &self.cells[..self.keys]
     }
 }

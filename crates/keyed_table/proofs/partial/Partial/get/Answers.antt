@@ -1,21 +1,12 @@
-use Rattle.std.proofs.Common.{◌≡◌, ◌∙◌, rules, Some, None}
-use Rattle.std.specs.BTreeMap.{get}
-use Rattle.std.specs.Ordering.{nat_cmp}
-use Rattle.keyed_table.specs.Private.Partial.{counted}
-use Rattle.keyed_table.specs.Counts.{plain}
-use Rattle.keyed_table.proofs.Runs.{none-counted, of-counted}
+use Rattle.std.proofs.Common.{◌/◌}
+use Rattle.std.proofs.lemmas.List.Sorted.{searched}
+use Rattle.keyed_table.proofs.Touched.{none-counted, not-falling}
 use Rattle.keyed_table.proofs.partial.Partial.get.Goals as goal
 
-pub returns-in-Some : goal.returns-in-Some
-returns-in-Some c =
-    let valid : get nat_cmp c.self.inside.counts c.args.id ≡ counted (plain c.self.inside.ids.items c.args.id) = c.self.invariant.0 c.args.id in
-    let found : Some c.in-Some.n.now ≡ get nat_cmp c.self.inside.counts c.args.id = search rules in
-    let seen : c.in-Some.n.now ≡ plain c.self.inside.ids.items c.args.id = of-counted _ _ (found ∙ valid) in
-    search rules
-
-pub returns-in-None : goal.returns-in-None
-returns-in-None c =
-    let valid : get nat_cmp c.self.inside.counts c.args.id ≡ counted (plain c.self.inside.ids.items c.args.id) = c.self.invariant.0 c.args.id in
-    let found : None ≡ get nat_cmp c.self.inside.counts c.args.id = search rules in
-    let seen : 0 ≡ plain c.self.inside.ids.items c.args.id = none-counted _ (found ∙ valid) in
-    search rules
+pub returns-in-Err : goal.returns-in-Err
+returns-in-Err c =
+    let blocks = c.self.inside.blocks in
+    let h = c.self.invariant.have in
+    let found = searched blocks.numbers.items (c.args.id / 8) c.binary_search.result (rw c.deref.ensures.value at c.binary_search.ensures.position) (not-falling blocks.numbers.items h.rise) in
+    let none = rw c.in-Err.is at found in
+    rw (← c.self.view_is) (none-counted c.self.inside.ids.items blocks.numbers.items blocks.counts.items c.in-Err.field-0 c.args.id h none.1 none.2)

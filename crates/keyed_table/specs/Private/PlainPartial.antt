@@ -1,4 +1,4 @@
--- The map that a list of key numbers is counted in.
+-- The map that the plain program counts a list of key numbers in.
 use Rattle.std.specs.Prelude.{◌≡◌, ℕ, zero, suc, List, Option, Some, None}
 use Rattle.std.specs.BTreeMap.{BTreeMap, IsOrdered, get}
 use Rattle.std.specs.Map.{update_all}
@@ -19,5 +19,5 @@ abbrev pub HasCountsOf : List ℕ → BTreeMap ℕ ℕ → Type 0
 HasCountsOf ids counts = (x : ℕ) → get nat_cmp counts x ≡ counted (plain ids x)
 
 -- the same, of a map whose numbers rise
-abbrev pub IsValidPartial : List ℕ → BTreeMap ℕ ℕ → Type 0
-IsValidPartial ids counts = HasCountsOf ids counts × IsOrdered nat_cmp counts
+abbrev pub IsValidPlainPartial : List ℕ → BTreeMap ℕ ℕ → Type 0
+IsValidPlainPartial ids counts = HasCountsOf ids counts × IsOrdered nat_cmp counts

@@ -1,6 +1,6 @@
 use Rattle.std.proofs.Common.{◌≡◌, ◌∙◌, ap, sym, refl, rules}
-use Rattle.keyed_table.proofs.Raised.{raised-is, says-counts, takes-counts, with_entries}
-use Rattle.keyed_table.proofs.table.raise.Goals as goal
+use Rattle.keyed_table.proofs.Entries.{raised-is, says-counts, takes-counts, with_entries}
+use Rattle.keyed_table.proofs.plain_partial.raise.Goals as goal
 
 pub loop-id-init : goal.loop-id-init
 loop-id-init c =

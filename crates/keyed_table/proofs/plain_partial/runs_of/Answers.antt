@@ -1,7 +1,7 @@
 use Rattle.std.proofs.Common.{◌≡◌, ◌-◌, ◌+◌, ◌∷◌, ◌++◌, [], ℕ, List, get_or, rules, arith, subst, sym}
 use Rattle.keyed_table.proofs.Runs.{AreListed, all-listed, run-grows, run-listed}
-use Rattle.keyed_table.proofs.partial.runs_of.Goals as goal
-use Rattle.keyed_table.proofs.partial.runs_of.Goals.{then-ends_run+in_ok-push, else-ends_run}
+use Rattle.keyed_table.proofs.plain_partial.runs_of.Goals as goal
+use Rattle.keyed_table.proofs.plain_partial.runs_of.Goals.{then-ends_run+in_ok-push, else-ends_run}
 
 pub loop-at-preserved : goal.loop-at-preserved
 loop-at-preserved c =

@@ -1,6 +1,6 @@
 use Rattle.std.proofs.Common.{◌≡◌}
-use Rattle.keyed_table.proofs.Raised.{CanTake, with_entries}
-use Rattle.keyed_table.proofs.table.raise.Given as goal
+use Rattle.keyed_table.proofs.Entries.{CanTake, with_entries}
+use Rattle.keyed_table.proofs.plain_partial.raise.Given as goal
 
 abbrev pub invariant-loop-id : goal.invariant-loop-id
 invariant-loop-id l = record {
