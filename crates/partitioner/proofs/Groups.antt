@@ -3,12 +3,21 @@ use Rattle.std.proofs.Common.{ℕ, ◌≡◌, ◌≢◌, ◌+◌, ◌<◌, ◌�
 use Rattle.std.proofs.Math.ListN.{length-set}
 use Rattle.murmur_lanes.specs.Murmur.{AreOfOneLength, hash_of}
 use Rattle.partitioner.specs.Place.{place_of}
-use Rattle.partitioner.specs.Private.Groups.{AreKnown, AreOfLength, AreWaitingFrom, IsOfLength, IsWaiting, joined_row, no_key}
+use Rattle.partitioner.specs.Private.Groups.{AreKnown, AreOfLength, AreUnplaced, AreWaitingFrom, IsOfLength, IsWaiting, joined_row, no_key}
 
-pub known_start : (partitions : ℕ) (keys : List (Bor (List ℕ))) → AreKnown partitions keys (replicate (length keys) 4294967295)
+-- keys without places
+pub known_unplaced : (partitions : ℕ) (keys : List (Bor (List ℕ))) (places : List ℕ) → AreUnplaced places → AreKnown partitions keys places
 unfolding AreKnown
-known_start partitions [] = tt
-known_start partitions (key ∷ keys) = ((λ missing. absurd (missing refl)), known_start partitions keys)
+known_unplaced partitions [] places none = tt
+known_unplaced partitions (key ∷ keys) [] none = tt
+known_unplaced partitions (key ∷ keys) (p ∷ places) none = ((λ missing. absurd (missing (none 0 (omega arith)))), known_unplaced partitions keys places (λ k lt. none (suc k) (omega arith)))
+
+-- places that are those of the keys, index by index
+pub placed_by_index : (partitions : ℕ) (keys : List (Bor (List ℕ))) (places : List ℕ) → length places ≡ length keys → ((i : ℕ) → i < length keys → get_or places i 0 ≡ place_of partitions (get_or keys i no_key).now) → places ≡ map (λ key. place_of partitions key.now) keys
+placed_by_index partitions [] [] e each = refl
+placed_by_index partitions [] (p ∷ places) e each = absurd (omega arith)
+placed_by_index partitions (key ∷ keys) [] e each = absurd (omega arith)
+placed_by_index partitions (key ∷ keys) (p ∷ places) e each = rw (each 0 (omega arith), placed_by_index partitions keys places (omega arith) (λ i lt. each (suc i) (omega arith))) refl
 
 -- one place more
 pub known_set : (partitions : ℕ) (keys : List (Bor (List ℕ))) (places : List ℕ) (i place : ℕ) → AreKnown partitions keys places → place ≡ place_of partitions (get_or keys i no_key).now → AreKnown partitions keys (slice_set places i place)

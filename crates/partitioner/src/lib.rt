@@ -1,13 +1,14 @@
 //! Which partition a record of a key goes to.
 #![tactic(auto)]
 
-ghost use Rattle.std.specs.Prelude.{◌≡◌, ◌≤◌, ◌<◌, ◌^◌, ◌%◌, ℕ, List, length, map, slice_index_or, IfOk};
+ghost use Rattle.std.specs.Prelude.{◌≡◌, ◌≤◌, ◌<◌, ◌+◌, ◌^◌, ◌%◌, ℕ, List, length, map, slice_index_or, IfOk};
 ghost use Rattle.std.specs.Borrow.{Bor};
 ghost use Rattle.partitioner.specs.Place.{place_of};
-ghost use Rattle.partitioner.specs.Private.Groups.{AreKnown, AreOfLength, AreWaitingFrom, joined_row};
+ghost use Rattle.partitioner.specs.Private.Groups.{AreKnown, AreOfLength, ArePlacedFrom, AreUnplaced, AreWaitingFrom, joined_row};
 
 use lane_words::{MOST_PARTITIONS, Memory};
 use murmur_lanes::{murmur2, murmur2_x8};
+use rayon::prelude::*;
 use std::alloc::Global;
 use std::marker::Model;
 use std::thread::Threads;
@@ -17,6 +18,9 @@ const LANES: usize = 8;
 
 /// Keys of fewer bytes are hashed side by side with others of their length; a longer one is alone.
 const GROUPED: usize = 65;
+
+/// How many keys are placed in one piece of work: fewer would not be worth a thread.
+const PIECE: usize = 4096;
 
 /// What stands in for the place of a key that has none yet.
 const UNPLACED: u32 = u32::MAX;
@@ -77,18 +81,50 @@ impl Partitions {
     }
 
     /// The partition of each of some keys, in their order. Refused for want of memory alone.
+    ///
+    /// Pieces of 4,096 keys are placed side by side, on two threads a processor at most. Up to one
+    /// piece no thread is started, and where one can't be, its pieces are placed without it.
     pub fn place_all<R: Threads + Sync>(
         &self,
-        _rt: &R,
+        rt: &R,
         alloc: Global,
         keys: &[&[u8]],
     ) -> Result<Vec<u32>, Memory>
         ensures { IfOk result (λ places. places.items ≡ map (λ key. place_of self.now key.now) keys.now) }
     {
         let mut places = vec![in alloc; UNPLACED; keys.len()]?;
-        self.place_eights(keys, &mut places);
-        self.place_rest(keys, &mut places);
+        self.place_pieces(rt, keys, &mut places);
         Ok(places)
+    }
+
+    /// Places the keys, of which none has a place yet, by pieces.
+    fn place_pieces<R: Threads + Sync>(&self, rt: &R, keys: &[&[u8]], places: &mut [u32])
+        requires length { length places.old ≡ length keys.now }
+        requires unplaced { AreUnplaced places.old }
+        ensures { places.new ≡ map (λ key. place_of self.now key.now) keys.now }
+    {
+        let partitions = *self;
+        par_chunks_mut_for_each(
+            rt,
+            places,
+            PIECE,
+            |from: usize, piece: &mut [u32]|
+                requires { (from + length piece.now ≤ length keys.now) × AreUnplaced piece.now }
+                ensures { ArePlacedFrom partitions keys.entry.now from (length piece.entry.now)
+                    piece.exit.now }
+            { partitions.place_piece(keys, from, piece) },
+        );
+    }
+
+    /// Places the keys from this index on, as many as there are places.
+    fn place_piece(&self, keys: &[&[u8]], from: usize, places: &mut [u32])
+        requires range { from + length places.old ≤ length keys.now }
+        requires unplaced { AreUnplaced places.old }
+        ensures { ArePlacedFrom self.now keys.now from (length places.old) places.new }
+    {
+        let keys = &keys[from..from + places.len()];
+        self.place_eights(keys, places);
+        self.place_rest(keys, places);
     }
 
     /// Places keys of which eight have one length, and leaves the others without a place.

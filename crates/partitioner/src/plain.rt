@@ -1,7 +1,7 @@
-//! The places of keys one by one, as the definition says: beside it the tests run the call that
-//! hashes eight at a time.
+//! The places of keys one by one, as the definition says, and all in one piece, eight at a time:
+//! beside them the tests run the call that places pieces side by side.
 
-use crate::Partitions;
+use crate::{Partitions, UNPLACED};
 use lane_words::Memory;
 use std::alloc::Global;
 
@@ -12,4 +12,15 @@ pub fn place_all(
     keys: &[&[u8]],
 ) -> Result<Vec<u32>, Memory> {
     Ok(keys.iter().map(|key| partitions.place(key)).collect(alloc)?)
+}
+
+/// The same, in one piece.
+pub fn place_in_one_piece(
+    partitions: Partitions,
+    alloc: Global,
+    keys: &[&[u8]],
+) -> Result<Vec<u32>, Memory> {
+    let mut places = vec![in alloc; UNPLACED; keys.len()]?;
+    partitions.place_piece(keys, 0, &mut places);
+    Ok(places)
 }

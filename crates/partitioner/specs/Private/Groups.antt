@@ -1,6 +1,6 @@
 -- Keys that wait to be hashed with others of their length, and places that are known so far.
-use Rattle.std.specs.Prelude.{ℕ, zero, suc, ◌≡◌, ◌≢◌, ◌<◌, ◌^◌, ◌-◌, List, [], length, ◌∷◌, replicate}
-use Rattle.std.specs.Prelude.{slice_set, slice_index_or as get_or}
+use Rattle.std.specs.Prelude.{ℕ, zero, suc, ◌≡◌, ◌≢◌, ◌<◌, ◌+◌, ◌^◌, ◌-◌, List, [], length, ◌∷◌, replicate}
+use Rattle.std.specs.Prelude.{slice_index, slice_set, slice_index_or as get_or}
 use Rattle.std.specs.Simd.Lanes.{Each1, Each2}
 use Rattle.std.specs.Borrow.{Bor}
 use Rattle.partitioner.specs.Place.{place_of}
@@ -12,6 +12,15 @@ no_key = record { ref_ptr = (0, 0); now = [] }
 -- a place that is not known to be missing is the one expected
 abbrev pub IsKnown : ℕ → ℕ → Type 0
 IsKnown place expected = place ≢ 2 ^ 32 - 1 → place ≡ expected
+
+-- no key has a place
+abbrev pub AreUnplaced : List ℕ → Type 0
+AreUnplaced places = (k : ℕ) → k < length places → slice_index places k ≡ 2 ^ 32 - 1
+
+-- the places of so many keys from this index on
+abbrev pub ArePlacedFrom : ℕ → List (Bor (List ℕ)) → ℕ → ℕ → List ℕ → Type 0
+ArePlacedFrom partitions keys from count places = (k : ℕ) (d : Bor (List ℕ)) → k < count
+    → slice_index places k ≡ place_of partitions (get_or keys (from + k) d).now
 
 -- each place is its key's, or missing
 unfoldable pub AreKnown : ℕ → List (Bor (List ℕ)) → List ℕ → Type 0
