@@ -1,3 +1,4 @@
+pub mod Appends
 pub mod Keys
 pub mod Logs
 pub mod Private

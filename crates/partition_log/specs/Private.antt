@@ -1,2 +1,4 @@
 pub mod Appends
+pub mod Filled
+pub mod Sharded
 pub mod StoredKey

@@ -1,38 +1,42 @@
 //! The keys of all logs, numbered in the order of their first appearance.
 
-ghost use Rattle.std.specs.Prelude.{◌≡◌, ◌<◌, ◌≤◌, ◌↔◌, [], IfOk, IfSome, IfNone, IsOk, IsTrue, OnErr, length, true, false};
+ghost use Rattle.std.specs.Prelude.{◌≡◌, ◌<◌, ◌≤◌, ◌↔◌, [], IfOk, IfSome, IfNone, IsOk, IsTrue, OnErr, length, map, true, false};
 ghost use Rattle.partition_log.specs.Private.Appends.{IsIdOf};
-ghost use Rattle.partition_log.specs.Keys.{IsWithoutRepeats, is_known, key_at, id_of, with_key};
+ghost use Rattle.partition_log.specs.Keys.{IsWithoutRepeats, distinct, is_known, key_at, id_of, with_key};
+ghost use Rattle.partition_log.specs.Appends.{lent};
 
-use crate::stored_key::{LONGEST_INLINE, StoredKey};
-use indexmap::IndexSet;
+use crate::key_table::KeyTable;
+use crate::shards::Shards;
+use crate::stored_key::LONGEST_INLINE;
 use lane_words::{MOST_RECORDS, Memory};
 use std::alloc::Global;
 use std::hash::RandomState;
 use std::marker::Model;
-use std::mem;
 use std::random::RandomSource;
+use std::thread::Threads;
 
 /// Keys by their numbers. The hasher is drawn anew for each, since strangers choose the keys.
 #[derive(Debug, Drop)]
 pub struct KeyIds {
     /// Where the keys are stored.
     alloc: Global,
-    /// The keys, each at the index of its number.
-    set: IndexSet<StoredKey, RandomState>,
-    /// What a long key is looked up by: it keeps its memory from one look-up to the next.
-    query: Vec<u8>,
+    /// What the keys are hashed by.
+    hasher: RandomState,
+    /// The keys that were numbered side by side: the first ones, or none.
+    shards: Shards,
+    /// The keys after them, by their numbers from there on.
+    table: KeyTable,
 }
 
 impl Model for KeyIds {
-    ghost use Rattle.std.specs.Prelude.{List, ℕ, length, ◌≤◌};
+    ghost use Rattle.std.specs.Prelude.{List, ℕ, length, ◌≤◌, ◌+◌, ◌++◌};
     ghost use Rattle.lane_words.specs.declared.limits.TheConstants.{MOST_RECORDS};
 
     ghost Value = { List (List ℕ) };
 
-    ghost view = { λ k. k.set.keys };
+    ghost view = { λ k. k.shards ++ k.table };
 
-    ghost invariant = { λ k. length k.set.keys ≤ MOST_RECORDS };
+    ghost invariant = { λ k. length k.shards + length k.table ≤ MOST_RECORDS };
 }
 
 impl KeyIds {
@@ -45,8 +49,9 @@ impl KeyIds {
         };
         Ok(KeyIds {
             alloc,
-            set: IndexSet::with_hasher(alloc, hasher),
-            query: Vec::new(alloc),
+            hasher,
+            shards: Shards::none(alloc),
+            table: KeyTable::new(alloc, hasher),
         })
     }
 
@@ -57,25 +62,57 @@ impl KeyIds {
         ensures { IfOk result (λ copy. copy ≡ self.now) }
     {
         let mut copy = KeyIds::new(rt, self.alloc)?;
-        copy.set.reserve(self.set.len())?;
+        copy.table.reserve(self.count() as usize)?;
         for number in 0..self.count() {
             copy.add(self.key(number))?;
         }
         Ok(copy)
     }
 
+    /// These keys without repeats, in the order of their first appearance, and the key number of
+    /// each of them as they stand there. Refused for want of memory.
+    pub fn number_all<R: Threads + Sync>(
+        &self,
+        rt: &R,
+        keys: &[&[u8]],
+    ) -> Result<(Shards, Vec<u32>), Memory>
+        requires { length keys.now ≤ MOST_RECORDS }
+        ensures keys { IfOk result (λ r. r.0 ≡ distinct (lent keys.now)) }
+        ensures numbers { IfOk result (λ r. r.1.items
+            ≡ map (id_of (distinct (lent keys.now))) (lent keys.now)) }
+    {
+        Shards::of(rt, self.alloc, self.hasher, keys)
+    }
+
+    /// Begins with these keys, where there is none.
+    pub fn begin_with(&mut self, shards: Shards)
+        requires none { self.old ≡ [] }
+        requires few { length shards ≤ MOST_RECORDS }
+        ensures { self.new ≡ shards }
+    {
+        self.shards = shards;
+    }
+
     /// Whether other keys are the same by the same numbers.
     pub fn same(&self, other: &KeyIds) -> bool
         ensures { IsTrue result ↔ (self.now ≡ other.now) }
     {
-        self.set.as_slice() == other.set.as_slice()
+        if self.count() != other.count() {
+            return false;
+        }
+        for number in 0..self.count() {
+            if self.key(number) != other.key(number) {
+                return false;
+            }
+        }
+        true
     }
 
     /// How many keys there are.
     pub fn count(&self) -> u32
         ensures { result ≡ length self.now }
     {
-        self.set.len() as u32
+        self.shards.count() + self.table.count()
     }
 
     /// The key of a number.
@@ -83,7 +120,12 @@ impl KeyIds {
         requires { number < length self.now }
         ensures { result.now ≡ key_at self.now number }
     {
-        self.set.as_slice()[number as usize].as_slice()
+        let first = self.shards.count();
+        if number < first {
+            self.shards.key(number)
+        } else {
+            self.table.key(number - first)
+        }
     }
 
     /// The number of a key, where it is known. It takes memory only for a long key, where none as
@@ -94,15 +136,13 @@ impl KeyIds {
         ensures short { length key.now ≤ LONGEST_INLINE → IsOk result }
         ensures same { self.new ≡ self.old }
     {
-        if key.len() <= LONGEST_INLINE {
-            return Ok(find_in(&self.set, &StoredKey::short(key)));
+        if let Some(number) = self.shards.find(key)? {
+            return Ok(Some(number));
         }
-        let query = long_query(self.alloc, &mut self.query, key)?;
-        let found = find_in(&self.set, &query);
-        if let Some(text) = query.into_text() {
-            self.query = text;
-        }
-        Ok(found)
+        let Some(number) = self.table.find(key)? else {
+            return Ok(None);
+        };
+        Ok(Some(self.shards.count() + number))
     }
 
     /// Numbers a new key, whose bytes are stored once.
@@ -113,44 +153,7 @@ impl KeyIds {
             × (self.new ≡ with_key self.old key.now)) }
         ensures err { OnErr result (self.new ≡ self.old) }
     {
-        let stored = stored_key(self.alloc, key)?;
-        let (number, _) = self.set.insert_full(stored)?;
-        Ok(number as u32)
+        let number = self.table.add(key)?;
+        Ok(self.shards.count() + number)
     }
-}
-
-/// The number of a key of a set, where it is there.
-fn find_in(set: &IndexSet<StoredKey, RandomState>, key: &StoredKey) -> Option<u32>
-    requires { length set.now.keys ≤ MOST_RECORDS }
-    ensures known { IfSome result (IsIdOf set.now.keys key.now) }
-    ensures fresh { IfNone result (is_known set.now.keys key.now ≡ false) }
-{
-    let Some(number) = set.get_index_of(key) else {
-        return None;
-    };
-    Some(number as u32)
-}
-
-/// A long key to look up, in the memory of the last one.
-fn long_query(alloc: Global, last: &mut Vec<u8>, key: &[u8]) -> Result<StoredKey, Memory>
-    ensures { IfOk result (λ query. query ≡ key.now) }
-{
-    let mut text = mem::replace(last, Vec::new(alloc));
-    text.clear();
-    if text.extend_from_slice(key).is_err() {
-        *last = text;
-        return Err(Memory);
-    }
-    Ok(StoredKey::long(text))
-}
-
-/// A key to keep.
-fn stored_key(alloc: Global, key: &[u8]) -> Result<StoredKey, Memory>
-    ensures { IfOk result (λ stored. stored ≡ key.now) }
-{
-    if key.len() <= LONGEST_INLINE {
-        return Ok(StoredKey::short(key));
-    }
-    let text = Vec::from_slice(alloc, key)?;
-    Ok(StoredKey::long(text))
 }

@@ -9,11 +9,16 @@ ghost use Rattle.partition_log.specs.Keys.{Key, key_at, with_key};
 ghost use Rattle.partition_log.specs.Private.Appends.{log_answer, with_id, with_id_at};
 ghost use Rattle.partition_log.specs.Logs.{append_answer, with_record, log_at, place_in, IsValidLogs, AreLogsOf, PartitionLogs};
 
+mod appends;
+mod filling;
+mod key_table;
 mod keys;
 mod laws;
+mod numbering;
 #[cfg(test)]
 mod plain_keys;
 mod sealed;
+mod shards;
 mod stored_key;
 
 use keys::KeyIds;

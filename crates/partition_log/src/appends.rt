@@ -1,0 +1,126 @@
+//! Appends of several keys at once.
+
+ghost use Rattle.std.specs.Prelude.{◌≡◌, ◌<◌, length, map, IfErr, IfOk, IsTrue, OnErr, OnOk};
+ghost use Rattle.partition_log.specs.Appends.{AreAppended, AreStoppedAfter, GrowByKeys, lent};
+ghost use Rattle.partition_log.specs.Logs.{IsValidLogs, place_in};
+ghost use Rattle.partition_log.specs.Private.Filled.{AreShort, CanGoSideBySide};
+
+use crate::Logs;
+use crate::filling::filled_logs;
+use lane_words::{LONGEST_KEY, MOST_RECORDS, Memory, Refusal};
+use std::thread::Threads;
+
+/// Fewer keys than these are appended one after the other, by the thread that has them.
+const SIDE_BY_SIDE: usize = 4096;
+
+impl Logs {
+    /// The partition of each of some keys, in their order. Refused for want of memory alone, and
+    /// not where there are no keys.
+    fn places_of<R: Threads + Sync>(&self, rt: &R, keys: &[&[u8]]) -> Result<Vec<u32>, Memory>
+        ensures places { IfOk result (λ places. places.items
+            ≡ map (λ key. place_in self.now key.now) keys.now) }
+        ensures refused { OnErr result (0 < length keys.now) }
+        ensures valid { IsValidLogs self.now }
+    {
+        let alloc = *self.logs.allocator();
+        if keys.is_empty() {
+            return Ok(Vec::new(alloc));
+        }
+        self.partitions.place_all(rt, alloc, keys)
+    }
+
+    /// Appends records of these keys in order, until one is refused. Where one is, it answers how
+    /// many were appended before it, and why it was refused.
+    ///
+    /// A key is refused as by `append`. The places of all keys are computed first, side by side, in
+    /// four bytes a key: want of memory for them is told as the first key's.
+    pub fn append_all<R: Threads + Sync>(
+        &mut self,
+        rt: &R,
+        keys: &[&[u8]],
+    ) -> Result<(), (u64, Refusal)>
+        ensures ok { IfOk result (λ _. AreAppended self.old (lent keys.now) self.new) }
+        ensures err { IfErr result (λ stop.
+            AreStoppedAfter stop.0 stop.1 self.old (lent keys.now) self.new) }
+        ensures valid { IsValidLogs self.new }
+        ensures history { OnOk result (GrowByKeys (lent keys.now) self.old self.new) }
+    {
+        let Ok(places) = self.places_of(rt, keys) else {
+            return Err((0, Refusal::Memory));
+        };
+        if self.goes_side_by_side(keys) {
+            let Ok(()) = self.append_side_by_side(rt, keys, &places) else {
+                return Err((0, Refusal::Memory));
+            };
+            return Ok(());
+        }
+        self.append_in_turn(keys, &places)
+    }
+
+    /// Whether these keys are appended side by side: they are many, none is too long, and no limit
+    /// is met, since there is no record yet.
+    fn goes_side_by_side(&self, keys: &[&[u8]]) -> bool
+        ensures { IsTrue result → CanGoSideBySide self.now (lent keys.now) }
+    {
+        self.keys.count() == 0
+            && keys.len() >= SIDE_BY_SIDE
+            && keys.len() <= MOST_RECORDS as usize
+            && are_short(keys)
+    }
+
+    /// Appends records of these keys in order, all of them or none. Refused for want of memory, with
+    /// everything as it was.
+    fn append_side_by_side<R: Threads + Sync>(
+        &mut self,
+        rt: &R,
+        keys: &[&[u8]],
+        places: &[u32],
+    ) -> Result<(), Memory>
+        requires places { places.now ≡ map (λ key. place_in self.old key.now) keys.now }
+        requires fits { CanGoSideBySide self.old (lent keys.now) }
+        ensures ok { OnOk result (AreAppended self.old (lent keys.now) self.new) }
+        ensures err { OnErr result (self.new ≡ self.old) }
+        ensures valid { IsValidLogs self.new }
+        ensures history { OnOk result (GrowByKeys (lent keys.now) self.old self.new) }
+    {
+        let alloc = *self.logs.allocator();
+        let (shards, ids) = self.keys.number_all(rt, keys)?;
+        let logs = filled_logs(alloc, self.partitions.count() as usize, places, &ids)?;
+        self.keys.begin_with(shards);
+        self.logs = logs;
+        Ok(())
+    }
+
+    /// Appends records of these keys, whose places are known, one after the other.
+    fn append_in_turn(&mut self, keys: &[&[u8]], places: &[u32]) -> Result<(), (u64, Refusal)>
+        requires places { places.now ≡ map (λ key. place_in self.old key.now) keys.now }
+        requires valid { IsValidLogs self.old }
+        ensures ok { IfOk result (λ _. AreAppended self.old (lent keys.now) self.new) }
+        ensures err { IfErr result (λ stop.
+            AreStoppedAfter stop.0 stop.1 self.old (lent keys.now) self.new) }
+        ensures valid { IsValidLogs self.new }
+        ensures history { OnOk result (GrowByKeys (lent keys.now) self.old self.new) }
+    {
+        for i in 0..keys.len() {
+            if let Err(why) = self.append_at(places[i], keys[i]) {
+                return Err((i as u64, why));
+            }
+        }
+        Ok(())
+    }
+}
+
+/// Whether none of these keys is too long.
+fn are_short(keys: &[&[u8]]) -> bool
+    ensures { IsTrue result → AreShort (lent keys.now) }
+{
+    for i in 0..keys.len() {
+        if keys[i].len() > LONGEST_KEY {
+            return false;
+        }
+    }
+    true
+}
+
+#[cfg(test)]
+mod tests;

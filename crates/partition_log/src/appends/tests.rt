@@ -1,0 +1,97 @@
+//! Keys appended at once, beside the same keys appended one by one.
+
+ghost use Rattle.std.specs.Prelude.{◌<◌};
+
+use crate::Logs;
+use lane_words::{LONGEST_KEY, Refusal};
+use std::alloc::Global;
+use std::random::RandomSource;
+use std::test::Fail;
+use std::thread::Threads;
+
+/// How appends of several keys are answered.
+type Answer = Result<(), (u64, Refusal)>;
+
+/// Logs to which these keys were appended at once.
+fn at_once<R: RandomSource + Threads + Sync>(
+    rt: &R,
+    alloc: Global,
+    keys: &[&[u8]],
+) -> Result<(Logs, Answer), Fail> {
+    let mut logs = Logs::new(rt, alloc, 4)?;
+    let answer = logs.append_all(rt, keys);
+    Ok((logs, answer))
+}
+
+/// Logs to which these keys were appended one by one.
+fn one_by_one<R: RandomSource>(
+    rt: &R,
+    alloc: Global,
+    keys: &[&[u8]],
+) -> Result<(Logs, Answer), Fail> {
+    let mut logs = Logs::new(rt, alloc, 4)?;
+    for i in 0..keys.len() {
+        if let Err(why) = logs.append(keys[i]) {
+            return Ok((logs, Err((i as u64, why))));
+        }
+    }
+    Ok((logs, Ok(())))
+}
+
+/// Whether both give the same logs and this answer.
+fn are_alike<R: RandomSource + Threads + Sync>(
+    rt: &R,
+    alloc: Global,
+    keys: &[&[u8]],
+    answer: Answer,
+) -> Result<bool, Fail> {
+    let (logs, told) = at_once(rt, alloc, keys)?;
+    let (plain, plainly_told) = one_by_one(rt, alloc, keys)?;
+    Ok(told == answer && plainly_told == answer && logs.same(&plain))
+}
+
+#[test]
+fn few_keys_at_once(rt: HostRuntime) -> Result<(), Fail> {
+    let repeats: [&[u8]; 7] = [b"21", b"4", b"21", b"", b"foobar", b"21", b""];
+    for count in 0..=7 {
+        let alike = are_alike(&rt, rt.alloc(), &repeats[..count], Ok(()))?;
+        assert!(rt; alike, "{count} keys");
+    }
+    Ok(())
+}
+
+#[test]
+fn appends_at_once_stop_at_a_key_that_is_refused(rt: HostRuntime) -> Result<(), Fail> {
+    let bytes = vec![in rt.alloc(); 0xff_u8; LONGEST_KEY + 1]?;
+    let long = bytes.as_slice();
+    let refused = Err((2, Refusal::KeyTooLong));
+    let keys: [&[u8]; 4] = [b"21", b"4", long, b"21"];
+    assert!(rt; are_alike(&rt, rt.alloc(), &keys, refused)?);
+    let last: [&[u8]; 3] = [b"21", b"21", long];
+    assert!(rt; are_alike(&rt, rt.alloc(), &last, refused)?);
+    let first: [&[u8]; 2] = [long, b"21"];
+    assert!(rt; are_alike(&rt, rt.alloc(), &first, Err((0, Refusal::KeyTooLong)))?);
+    Ok(())
+}
+
+/// A window of some bytes, by its number: of up to 40 bytes, and often one that was there before.
+fn window(bytes: &[u8; 1000], number: usize) -> &[u8]
+    requires { number < 10000 }
+{
+    let start = number * 7 % 900;
+    &bytes[start..start + number / 3 % 41]
+}
+
+#[test]
+fn many_keys_at_once(rt: HostRuntime) -> Result<(), Fail> {
+    let mut bytes = [0_u8; 1000];
+    for i in 0..bytes.len() {
+        bytes[i] = (i * i % 251) as u8;
+    }
+    let mut keys: Vec<&[u8]> = Vec::new(rt.alloc());
+    for number in 0..10_000 {
+        keys.push(window(&bytes, number))?;
+    }
+    assert!(rt; are_alike(&rt, rt.alloc(), &keys, Ok(()))?);
+    Ok(())
+}

@@ -1,0 +1,55 @@
+//! Logs that are filled from nothing.
+
+ghost use Rattle.std.specs.Prelude.{◌≡◌, ◌<◌, [], All, IfOk, length, map, replicate, vec_items, vec_len};
+ghost use Rattle.partition_log.specs.Private.Filled.{filled};
+
+use lane_words::Memory;
+use std::alloc::Global;
+
+/// Logs of the records of these key numbers, in order, each in the log of its place. Refused for
+/// want of memory.
+pub fn filled_logs(
+    alloc: Global,
+    partitions: usize,
+    places: &[u32],
+    ids: &[u32],
+) -> Result<Vec<Vec<u32>>, Memory>
+    requires as_many { length ids.now ≡ length places.now }
+    requires places { All (λ p. p < partitions) places.now }
+    ensures { IfOk result (λ logs. map vec_items logs.items
+        ≡ filled (replicate partitions []) places.now ids.now) }
+{
+    let mut logs = roomy_logs(alloc, partitions, places)?;
+    for i in 0..places.len() {
+        let log = &mut logs[places[i] as usize];
+        log.push(ids[i])?;
+    }
+    Ok(logs)
+}
+
+/// Empty logs, each with room for the records of its place.
+fn roomy_logs(alloc: Global, partitions: usize, places: &[u32]) -> Result<Vec<Vec<u32>>, Memory>
+    requires { All (λ p. p < partitions) places.now }
+    ensures { IfOk result (λ logs. map vec_items logs.items ≡ replicate partitions []) }
+{
+    let counts = counts_of(alloc, partitions, places)?;
+    let mut logs = Vec::with_capacity(alloc, partitions)?;
+    for p in 0..partitions {
+        logs.push(Vec::with_capacity(alloc, counts[p])?)?;
+    }
+    Ok(logs)
+}
+
+/// How many records each place has.
+fn counts_of(alloc: Global, partitions: usize, places: &[u32]) -> Result<Vec<usize>, Memory>
+    requires { All (λ p. p < partitions) places.now }
+    ensures { IfOk result (λ counts. vec_len counts ≡ partitions) }
+{
+    let mut counts = vec![in alloc; 0_usize; partitions]?;
+    for i in 0..places.len() {
+        let p = places[i] as usize;
+        // They only say how much memory is taken.
+        counts[p] = counts[p].saturating_add(1);
+    }
+    Ok(counts)
+}

@@ -1,0 +1,318 @@
+//! Keys that are numbered shard by shard, side by side.
+
+ghost use Rattle.std.specs.Prelude.{◌≡◌, ◌≤◌, ◌<◌, ◌+◌, ℕ, [], List, IfOk, OnOk, length, map, replicate, slice_index_or, slice_set, vec_items, vec_len};
+ghost use Rattle.partition_log.specs.Keys.{Key, distinct, id_of};
+ghost use Rattle.partition_log.specs.Private.Sharded.{AreGlobal, AreLocals, AreNumberedIn, AreOrdered, AreReadFrom, AreReadable, AreSplit, AreTables, is_first, shard_of, with_first, with_first_at};
+ghost use Rattle.partition_log.specs.Appends.{lent};
+
+use crate::key_table::KeyTable;
+use crate::shards::{KeyAt, SHARDS};
+use lane_words::{MOST_RECORDS, Memory};
+use partitioner::Partitions;
+use std::alloc::Global;
+use std::hash::RandomState;
+use std::thread;
+use std::thread::Threads;
+
+/// In how many pieces the key numbers of all records are read.
+const PIECES: usize = 8;
+
+/// Keys that are numbered.
+#[derive(Drop)]
+pub struct NumberedKeys {
+    /// Of each shard its keys.
+    pub tables: Vec<KeyTable>,
+    /// Of each shard the key numbers of its keys.
+    pub ids: Vec<Vec<u32>>,
+    /// Where each key stands.
+    pub order: Vec<KeyAt>,
+    /// The key number of each record, in order.
+    pub numbers: Vec<u32>,
+}
+
+/// Numbers keys in the order of their first appearance.
+pub fn number_keys<R: Threads + Sync>(
+    rt: &R,
+    alloc: Global,
+    hasher: RandomState,
+    keys: &[&[u8]],
+) -> Result<NumberedKeys, Memory>
+    requires { length keys.now ≤ MOST_RECORDS }
+    ensures tables { IfOk result (λ n. AreTables SHARDS (lent keys.now) n.tables.items) }
+    ensures ids_each { IfOk result (λ n. vec_len n.ids ≡ SHARDS) }
+    ensures ids { IfOk result (λ n.
+        AreGlobal shard_of (lent keys.now) (map vec_items n.ids.items)) }
+    ensures order { IfOk result (λ n. AreOrdered shard_of (lent keys.now)
+        (distinct (lent keys.now)) SHARDS n.order.items) }
+    ensures numbers { IfOk result (λ n. n.numbers.items
+        ≡ map (id_of (distinct (lent keys.now))) (lent keys.now)) }
+{
+    let shards = Partitions::new(SHARDS).place_all(rt, alloc, keys)?;
+    let (tables, locals) = split(rt, alloc, hasher, keys, &shards)?;
+    let (ids, order) = walk(alloc, keys, &shards, &locals)?;
+    let numbers = key_numbers(rt, alloc, keys, &shards, &locals, &ids)?;
+    Ok(NumberedKeys {
+        tables,
+        ids,
+        order,
+        numbers,
+    })
+}
+
+/// The keys of each shard, and of each record the number of its key in its shard.
+fn split<R: Threads + Sync>(
+    rt: &R,
+    alloc: Global,
+    hasher: RandomState,
+    keys: &[&[u8]],
+    shards: &[u32],
+) -> Result<(Vec<KeyTable>, Vec<u32>), Memory>
+    requires few { length keys.now ≤ MOST_RECORDS }
+    requires as_many { length shards.now ≡ length keys.now }
+    requires shards { shards.now ≡ map shard_of (lent keys.now) }
+    ensures tables { IfOk result (λ r. AreTables SHARDS (lent keys.now) r.0.items) }
+    ensures locals { IfOk result (λ r.
+        AreSplit shard_of (lent keys.now) shards.now r.1.items) }
+{
+    let found = number_shards(rt, alloc, hasher, keys, shards)?;
+    let (tables, locals) = tables_of(alloc, keys, found)?;
+    let locals = locals_in_order(alloc, keys, shards, &locals)?;
+    Ok((tables, locals))
+}
+
+/// A shard, numbered.
+#[derive(Drop)]
+pub struct NumberedShard {
+    /// Its keys, by their numbers in the shard.
+    table: KeyTable,
+    /// Of each of its records, in order, the number of its key in the shard.
+    locals: Vec<u32>,
+}
+
+/// Numbers the records of one shard, where `shards` has the shard of each record.
+fn number_shard(
+    alloc: Global,
+    hasher: RandomState,
+    keys: &[&[u8]],
+    shards: &[u32],
+    shard: u32,
+) -> Result<NumberedShard, Memory>
+    requires few { length keys.now ≤ MOST_RECORDS }
+    requires as_many { length shards.now ≡ length keys.now }
+    requires shards { shards.now ≡ map shard_of (lent keys.now) }
+    ensures { IfOk result (λ n. AreNumberedIn shard (lent keys.now) n.table n.locals.items) }
+{
+    let mut table = KeyTable::new(alloc, hasher);
+    let mut locals = Vec::new(alloc);
+    for i in 0..keys.len() {
+        if shards[i] == shard {
+            locals.push(table.number(keys[i])?)?;
+        }
+    }
+    Ok(NumberedShard { table, locals })
+}
+
+/// Numbers the records of each shard, each in a thread of its own.
+fn number_shards<R: Threads + Sync>(
+    rt: &R,
+    alloc: Global,
+    hasher: RandomState,
+    keys: &[&[u8]],
+    shards: &[u32],
+) -> Result<Vec<Result<NumberedShard, Memory>>, Memory>
+    requires few { length keys.now ≤ MOST_RECORDS }
+    requires as_many { length shards.now ≡ length keys.now }
+    requires shards { shards.now ≡ map shard_of (lent keys.now) }
+    ensures len { IfOk result (λ found. vec_len found ≡ SHARDS) }
+    ensures found { IfOk result (λ found. (s : ℕ) (d : _) → s < SHARDS
+        → IfOk (slice_index_or found.items s d)
+        (λ n. AreNumberedIn s (lent keys.now) n.table n.locals.items)) }
+{
+    let numbered = thread::map_indices(
+        rt,
+        alloc,
+        SHARDS as usize,
+        &|s| number_shard(alloc, hasher, keys, shards, s as u32),
+    )?;
+    Ok(numbered)
+}
+
+/// The keys of each shard, and the numbers in it of its records.
+fn tables_of(
+    alloc: Global,
+    keys: &[&[u8]],
+    found: Vec<Result<NumberedShard, Memory>>,
+) -> Result<(Vec<KeyTable>, Vec<Vec<u32>>), Memory>
+    requires found { (s : ℕ) (d : _) → s < vec_len found → IfOk (slice_index_or found.items s d)
+        (λ n. AreNumberedIn s (lent keys.now) n.table n.locals.items) }
+    ensures tables { IfOk result (λ r. AreTables (vec_len found) (lent keys.now) r.0.items) }
+    ensures locals { IfOk result (λ r.
+        AreLocals (vec_len found) (lent keys.now) (map vec_items r.1.items)) }
+{
+    let mut tables = Vec::with_capacity(alloc, found.len())?;
+    let mut locals = Vec::with_capacity(alloc, found.len())?;
+    for shard in found {
+        let shard = shard?;
+        tables.push(shard.table)?;
+        locals.push(shard.locals)?;
+    }
+    Ok((tables, locals))
+}
+
+/// Of each record, in order, the number of its key in its shard, from those of each shard.
+fn locals_in_order(
+    alloc: Global,
+    keys: &[&[u8]],
+    shards: &[u32],
+    locals: &[Vec<u32>],
+) -> Result<Vec<u32>, Memory>
+    requires as_many { length shards.now ≡ length keys.now }
+    requires shards { shards.now ≡ map shard_of (lent keys.now) }
+    requires locals { AreLocals SHARDS (lent keys.now) (map vec_items locals.now) }
+    ensures { IfOk result (λ ordered. AreSplit shard_of (lent keys.now) shards.now ordered.items) }
+{
+    let mut ordered = Vec::with_capacity(alloc, keys.len())?;
+    let mut met = [0; SHARDS as usize];
+    for i in 0..keys.len() {
+        let shard = shards[i] as usize;
+        ordered.push(locals[shard][met[shard]])?;
+        met[shard] += 1;
+    }
+    Ok(ordered)
+}
+
+/// Takes one more record of a shard: where it is the first of its key, the key gets the next number.
+fn number_record(
+    ids: &mut Vec<Vec<u32>>,
+    order: &mut Vec<KeyAt>,
+    shard: u32,
+    local: u32,
+) -> Result<(), Memory>
+    requires shard { shard < vec_len ids.old }
+    requires room { vec_len order.old < MOST_RECORDS }
+    ensures ids { let old = slice_index_or (map vec_items ids.old.items) shard [] in
+        OnOk result (map vec_items ids.new.items ≡ slice_set (map vec_items ids.old.items) shard
+        (with_first old local (vec_len order.old))) }
+    ensures order { let old = slice_index_or (map vec_items ids.old.items) shard [] in
+        OnOk result (order.new.items ≡ with_first_at order.old.items old shard local) }
+{
+    let next = order.len() as u32;
+    let of_shard = &mut ids[shard as usize];
+    if push_first(of_shard, local, next)? {
+        order.push(KeyAt {
+            shard,
+            number: local,
+        })?;
+    }
+    Ok(())
+}
+
+/// Takes one more record of this shard, and answers whether it is the first of its key.
+fn push_first(ids: &mut Vec<u32>, local: u32, next: u32) -> Result<bool, Memory>
+    ensures first { IfOk result (λ first. first ≡ is_first ids.old.items local) }
+    ensures ids { OnOk result (ids.new.items ≡ with_first ids.old.items local next) }
+{
+    let first = local as usize == ids.len();
+    if first {
+        ids.push(next)?;
+    }
+    Ok(first)
+}
+
+/// The key numbers of each shard, and where each key stands.
+fn walk(
+    alloc: Global,
+    keys: &[&[u8]],
+    shards: &[u32],
+    locals: &[u32],
+) -> Result<(Vec<Vec<u32>>, Vec<KeyAt>), Memory>
+    requires few { length keys.now ≤ MOST_RECORDS }
+    requires shards { length shards.now ≡ length keys.now }
+    requires locals { length locals.now ≡ length keys.now }
+    requires split { AreSplit shard_of (lent keys.now) shards.now locals.now }
+    ensures len { IfOk result (λ w. vec_len w.0 ≡ SHARDS) }
+    ensures ids { IfOk result (λ w. AreGlobal shard_of (lent keys.now) (map vec_items w.0.items)) }
+    ensures order { IfOk result (λ w. AreOrdered shard_of (lent keys.now)
+        (distinct (lent keys.now)) SHARDS w.1.items) }
+{
+    let mut ids = no_ids(alloc)?;
+    let mut order = Vec::new(alloc);
+    for i in 0..keys.len() {
+        number_record(&mut ids, &mut order, shards[i], locals[i])?;
+    }
+    Ok((ids, order))
+}
+
+/// No key numbers, of each shard.
+fn no_ids(alloc: Global) -> Result<Vec<Vec<u32>>, Memory>
+    ensures { IfOk result (λ ids. map vec_items ids.items ≡ replicate SHARDS []) }
+{
+    let mut ids = Vec::with_capacity(alloc, SHARDS as usize)?;
+    for _ in 0..SHARDS {
+        ids.push(Vec::new(alloc))?;
+    }
+    Ok(ids)
+}
+
+/// The key number of each record.
+fn key_numbers<R: Threads + Sync>(
+    rt: &R,
+    alloc: Global,
+    keys: &[&[u8]],
+    shards: &[u32],
+    locals: &[u32],
+    ids: &[Vec<u32>],
+) -> Result<Vec<u32>, Memory>
+    requires { AreReadable (lent keys.now) shards.now locals.now (map vec_items ids.now) }
+    ensures { IfOk result (λ numbers. numbers.items
+        ≡ map (id_of (distinct (lent keys.now))) (lent keys.now)) }
+{
+    let mut numbers = vec![in alloc; 0; keys.len()]?;
+    read_pieces(rt, keys, shards, locals, ids, &mut numbers);
+    Ok(numbers)
+}
+
+/// The key numbers of the records, by pieces side by side.
+fn read_pieces<R: Threads + Sync>(
+    rt: &R,
+    keys: &[&[u8]],
+    shards: &[u32],
+    locals: &[u32],
+    ids: &[Vec<u32>],
+    numbers: &mut [u32],
+)
+    requires length { length numbers.old ≡ length keys.now }
+    requires readable { AreReadable (lent keys.now) shards.now locals.now (map vec_items ids.now) }
+    ensures { numbers.new ≡ map (id_of (distinct (lent keys.now))) (lent keys.now) }
+{
+    thread::for_each_chunk_mut(
+        rt,
+        numbers,
+        keys.len() / PIECES + 1,
+        &|from: usize, piece: &mut [u32]|
+            requires { (from + length piece.now ≤ length keys.now)
+                × AreReadable (lent keys.now) shards.now locals.now (map vec_items ids.now) }
+            ensures { AreReadFrom (lent keys.entry.now) from (length piece.entry.now)
+                piece.exit.now }
+        { read_numbers(from, keys, shards, locals, ids, piece) },
+    );
+}
+
+/// The key numbers of the records from this index on, as many as these are.
+fn read_numbers(
+    from: usize,
+    keys: &[&[u8]],
+    shards: &[u32],
+    locals: &[u32],
+    ids: &[Vec<u32>],
+    numbers: &mut [u32],
+)
+    requires range { from + length numbers.old ≤ length keys.now }
+    requires readable { AreReadable (lent keys.now) shards.now locals.now (map vec_items ids.now) }
+    ensures { AreReadFrom (lent keys.now) from (length numbers.old) numbers.new }
+{
+    for k in 0..numbers.len() {
+        let i = from + k;
+        numbers[k] = ids[shards[i] as usize][locals[i] as usize];
+    }
+}

@@ -1,0 +1,142 @@
+//! Keys that were numbered side by side, in shards by their hash.
+
+ghost use Rattle.std.specs.Prelude.{◌≡◌, ◌<◌, ◌≤◌, [], IfOk, IfSome, IfNone, IsOk, length, map, slice_index_or, vec_items, vec_len, true, false};
+ghost use Rattle.partition_log.specs.Private.Appends.{IsIdOf};
+ghost use Rattle.partition_log.specs.Private.Sharded.{AreShards, key_there};
+ghost use Rattle.partition_log.specs.Appends.{lent};
+ghost use Rattle.partition_log.specs.Keys.{distinct, id_of, is_known, key_at};
+
+use crate::key_table::KeyTable;
+use crate::numbering::number_keys;
+use crate::stored_key::LONGEST_INLINE;
+use lane_words::{MOST_RECORDS, Memory};
+use partitioner::Partitions;
+use std::alloc::Global;
+use std::hash::RandomState;
+use std::marker::Model;
+use std::thread::Threads;
+
+/// How many shards there are.
+pub const SHARDS: u32 = 8;
+
+/// Where a key stands.
+#[derive(Clone, Copy, Debug)]
+pub struct KeyAt {
+    /// Its shard.
+    pub shard: u32,
+    /// Its number in the shard.
+    pub number: u32,
+}
+
+/// Keys by their numbers, to which none is added. The shard of a key is the place that it has among
+/// as many partitions: each is a table with numbers of its own.
+#[derive(Debug, Drop)]
+pub struct Shards {
+    /// Of each shard its keys.
+    tables: Vec<KeyTable>,
+    /// Of each shard the key numbers of its keys, by their numbers in the shard.
+    ids: Vec<Vec<u32>>,
+    /// Where each key stands.
+    order: Vec<KeyAt>,
+}
+
+impl Model for Shards {
+    ghost use Rattle.std.specs.Prelude.{List, ℕ, map, vec_items};
+    ghost use Rattle.partition_log.specs.Private.Sharded.{AreShards, key_there};
+
+    ghost Value = { List (List ℕ) };
+
+    ghost view = { λ k. map (key_there k.tables.items) k.order.items };
+
+    ghost invariant = { λ k. AreShards (map (key_there k.tables.items) k.order.items)
+        k.tables.items (map vec_items k.ids.items) k.order.items };
+}
+
+impl Shards {
+    /// No keys.
+    pub fn none(alloc: Global) -> Shards
+        ensures { result ≡ [] }
+    {
+        Shards {
+            tables: Vec::new(alloc),
+            ids: Vec::new(alloc),
+            order: Vec::new(alloc),
+        }
+    }
+
+    /// These keys without repeats, in the order of their first appearance, and the key number of
+    /// each of them as they stand there. Refused for want of memory.
+    ///
+    /// The keys of each shard are numbered in a thread of its own; where one can't be started, they
+    /// are numbered without it.
+    pub fn of<R: Threads + Sync>(
+        rt: &R,
+        alloc: Global,
+        hasher: RandomState,
+        keys: &[&[u8]],
+    ) -> Result<(Shards, Vec<u32>), Memory>
+        requires { length keys.now ≤ MOST_RECORDS }
+        ensures keys { IfOk result (λ r. r.0 ≡ distinct (lent keys.now)) }
+        ensures numbers { IfOk result (λ r. r.1.items
+            ≡ map (id_of (distinct (lent keys.now))) (lent keys.now)) }
+    {
+        let numbered = number_keys(rt, alloc, hasher, keys)?;
+        let shards = Shards {
+            tables: numbered.tables,
+            ids: numbered.ids,
+            order: numbered.order,
+        };
+        Ok((shards, numbered.numbers))
+    }
+
+    /// How many keys there are.
+    pub fn count(&self) -> u32
+        ensures { result ≡ length self.now }
+    {
+        self.order.len() as u32
+    }
+
+    /// The key of a number.
+    pub fn key(&self, number: u32) -> &[u8]
+        requires { number < length self.now }
+        ensures { result.now ≡ key_at self.now number }
+    {
+        let at = self.order[number as usize];
+        self.tables[at.shard as usize].key(at.number)
+    }
+
+    /// The number of a key, where it is known. It takes memory only for a long key, where none as
+    /// long was sought before.
+    pub fn find(&mut self, key: &[u8]) -> Result<Option<u32>, Memory>
+        ensures known { IfOk result (λ found. IfSome found (IsIdOf self.old key.now)) }
+        ensures fresh { IfOk result (λ found. IfNone found (is_known self.old key.now ≡ false)) }
+        ensures short { length key.now ≤ LONGEST_INLINE → IsOk result }
+        ensures same { self.new ≡ self.old }
+    {
+        if self.order.is_empty() {
+            return Ok(None);
+        }
+        let shard = Partitions::new(SHARDS).place(key) as usize;
+        let Some(local) = find_in_shard(&mut self.tables, shard, key)? else {
+            return Ok(None);
+        };
+        Ok(Some(self.ids[shard][local as usize]))
+    }
+}
+
+/// The number of a key in this shard, where it is known.
+fn find_in_shard(
+    tables: &mut Vec<KeyTable>,
+    shard: usize,
+    key: &[u8],
+) -> Result<Option<u32>, Memory>
+    requires { shard < vec_len tables.old }
+    ensures known { IfOk result (λ found. IfSome found
+        (IsIdOf (slice_index_or tables.old.items shard []) key.now)) }
+    ensures fresh { IfOk result (λ found. IfNone found
+        (is_known (slice_index_or tables.old.items shard []) key.now ≡ false)) }
+    ensures short { length key.now ≤ LONGEST_INLINE → IsOk result }
+    ensures same { tables.new.items ≡ tables.old.items }
+{
+    tables[shard].find(key)
+}
