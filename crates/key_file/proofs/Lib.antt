@@ -1,0 +1,11 @@
+pub mod Cutting
+pub mod Ends
+pub mod Faults
+pub mod Joined
+pub mod Keys
+pub mod Listed
+pub mod Pieces
+pub mod Progress
+pub mod Short
+pub mod Stands
+pub mod Walk

@@ -1,0 +1,4 @@
+pub mod KeyFile
+pub mod Pieces
+pub mod Private
+pub mod Stand

@@ -1,0 +1,6 @@
+pub mod Cuts
+pub mod FileKeys
+pub mod Join
+pub mod KeyFile
+pub mod KeyList
+pub mod Records

@@ -1,0 +1,141 @@
+//! The keys of a file, whose pieces are read side by side.
+
+ghost use Rattle.std.specs.Prelude.{◌≡◌, ◌≤◌, ◌<◌, ◌⊎◌, ◌∷◌, ◌++◌, Ok, Err, [], ℕ, IfOk, IfErr, List, length, take, slice_index, slice_index_or, slice_range, vec_len};
+ghost use Rattle.key_file.specs.KeyFile.{IsFileFault, keys_of};
+ghost use Rattle.key_file.specs.Private.Cuts.{AreCuts};
+ghost use Rattle.key_file.specs.Private.FileKeys.{all_keys};
+ghost use Rattle.key_file.specs.Private.Join.{AnswerPieces};
+ghost use Rattle.lane_words.specs.declared.Refusal.TheVariants as refusal;
+
+use crate::cuts::cuts_of;
+use crate::file_keys::FileKeys;
+use crate::join::{join_keys, keys_at, piece_between};
+use crate::key_list::KeyList;
+use crate::piece::first_width;
+use crate::whole::read_keys;
+use lane_words::Refusal;
+use std::alloc::Global;
+use std::thread;
+use std::thread::Threads;
+
+/// How many bytes a piece has at least, so that it is worth the start of a thread.
+const LEAST_PIECE: usize = 1 << 20;
+
+/// How many pieces a file of this length is read in: one for each processor, unless a piece is then
+/// too short. Where it can't be told how many processors there are, it is one piece.
+fn pieces_for(rt: &impl Threads, len: usize) -> usize
+    ensures some { 1 ≤ result }
+    ensures alone { len < LEAST_PIECE → result ≡ 1 }
+{
+    let processors = match thread::available_parallelism(rt) {
+        Ok(count) => count.get(),
+        Err(_) => 1,
+    };
+    processors.min(len / LEAST_PIECE).max(1)
+}
+
+/// The keys of a file, in one list.
+fn read_whole(
+    alloc: Global,
+    file: &[u8],
+    column: u32,
+    header: bool,
+) -> Result<Vec<KeyList>, Refusal>
+    requires { 1 ≤ column }
+    ensures keys { IfOk result
+        (λ lists. keys_of column header file.now ≡ Ok (all_keys lists.items)) }
+    ensures fault { IfErr result
+        (λ e. (e ≡ refusal.Memory) ⊎ (keys_of column header file.now ≡ Err e)) }
+{
+    let keys = read_keys(alloc, file, column, header)?;
+    let mut lists = Vec::new(alloc);
+    let Ok(()) = lists.push(keys) else {
+        return Err(Refusal::Memory);
+    };
+    Ok(lists)
+}
+
+/// The answers of all pieces.
+fn found_apart<R: Threads + Sync>(
+    rt: &R,
+    alloc: Global,
+    file: &[u8],
+    cuts: &[usize],
+    column: u32,
+    header: bool,
+    width: usize,
+) -> Result<Vec<Result<KeyList, Refusal>>, Refusal>
+    requires column { 1 ≤ column }
+    requires cuts { AreCuts file.now 0 cuts.now (length file.now) }
+    ensures len { IfOk result (λ found. length found.items ≡ length cuts.now) }
+    ensures found { IfOk result
+        (λ found. AnswerPieces column header width file.now cuts.now found.items) }
+    ensures memory { IfErr result (λ e. e ≡ refusal.Memory) }
+{
+    let Ok(found) = thread::map_indices(
+        rt,
+        alloc,
+        cuts.len(),
+        &|i| { keys_at(alloc, file, cuts, i, column, header, width) },
+    ) else {
+        return Err(Refusal::Memory);
+    };
+    Ok(found)
+}
+
+/// The keys of a file in lists that follow one another. The file is read in up to `pieces` pieces.
+fn lists_apart<R: Threads + Sync>(
+    rt: &R,
+    alloc: Global,
+    file: &[u8],
+    column: u32,
+    header: bool,
+    pieces: usize,
+) -> Result<Vec<KeyList>, Refusal>
+    requires { 1 ≤ column }
+    ensures keys { IfOk result
+        (λ lists. keys_of column header file.now ≡ Ok (all_keys lists.items)) }
+    ensures fault { IfErr result
+        (λ e. (e ≡ refusal.Memory) ⊎ (keys_of column header file.now ≡ Err e)) }
+{
+    let Ok(cuts) = cuts_of(alloc, file, pieces) else {
+        return Err(Refusal::Memory);
+    };
+    let cuts = cuts.as_slice();
+    let first = piece_between(file, 0, cuts[0]);
+    let Ok(width) = first_width(alloc, first) else {
+        return Err(Refusal::Memory);
+    };
+    let Some(width) = width else {
+        return read_whole(alloc, file, column, header);
+    };
+    let found = found_apart(rt, alloc, file, cuts, column, header, width)?;
+    join_keys(alloc, file, cuts, column, header, width, found)
+}
+
+/// The keys of a file of comma-separated records, as `read_keys` has them.
+///
+/// The file is cut into pieces, as many as there are processors, of at least 1 MiB each, and each
+/// is read in a thread of its own. A piece for which no thread can be started is read without one,
+/// and a file of a single piece is read without any. Where its beginning of a piece's length has no
+/// record, the file is read in one piece.
+pub fn read_keys_apart<R: Threads + Sync>(
+    rt: &R,
+    alloc: Global,
+    file: &[u8],
+    column: u32,
+    header: bool,
+) -> Result<FileKeys, Refusal>
+    requires { 1 ≤ column }
+    ensures keys { IfOk result (λ keys. keys_of column header file.now ≡ Ok keys) }
+    ensures kind { IfErr result IsFileFault }
+    ensures fault { IfErr result
+        (λ e. (e ≡ refusal.Memory) ⊎ (keys_of column header file.now ≡ Err e)) }
+{
+    let pieces = pieces_for(rt, file.len());
+    let lists = lists_apart(rt, alloc, file, column, header, pieces)?;
+    Ok(FileKeys::of(lists))
+}
+
+#[cfg(test)]
+mod tests;

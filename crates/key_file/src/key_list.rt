@@ -1,0 +1,112 @@
+//! A list of keys in one buffer.
+
+ghost use Rattle.std.specs.Prelude.{◌≡◌, ◌<◌, ◌^◌, ◌∷◌, ◌++◌, [], ℕ, List, Some, OnOk, OnErr, length, map, slice_get, slice_index, slice_range, ◌≤◌};
+ghost use Rattle.key_file.specs.Private.KeyList.{IsValidKeyList, keys_between};
+
+use lane_words::Memory;
+use std::alloc::Global;
+use std::marker::Model;
+
+/// A list of keys, which are any bytes: the bytes of all keys in one buffer, and where each key
+/// ends.
+///
+/// So a key takes its bytes and one word, and no allocation of its own.
+#[derive(Debug, Drop)]
+pub struct KeyList {
+    /// The bytes of all keys, one after another.
+    text: Vec<u8>,
+    /// Where each key ends in the text.
+    ends: Vec<usize>,
+}
+
+impl Model for KeyList {
+    ghost use Rattle.std.specs.Prelude.{ℕ, List, length};
+    ghost use Rattle.key_file.specs.Private.KeyList.{IsValidKeyList, keys_between};
+
+    ghost Value = { List (List ℕ) };
+
+    ghost view = { λ s. keys_between 0 s.ends.items s.text.items };
+
+    ghost invariant = { λ s. IsValidKeyList 0 s.ends.items (length s.text.items) };
+}
+
+/// Where the key of number i starts: where the one before it ends.
+fn start_of(ends: &[usize], i: usize) -> usize
+    requires { i < length ends.now }
+    ensures { result ≡ slice_index (0 ∷ ends.now) i }
+{
+    if i == 0 { 0 } else { ends[i - 1] }
+}
+
+/// A part of a text.
+fn part_of(text: &[u8], start: usize, end: usize) -> &[u8]
+    requires { (start ≤ end) × (end ≤ length text.now) }
+    ensures { result.now ≡ slice_range text.now start end }
+{
+    &text[start..end]
+}
+
+/// The key of number i of a text with these ends.
+fn key_within<'a>(text: &'a [u8], ends: &[usize], i: usize) -> &'a [u8]
+    requires number { i < length ends.now }
+    requires ends { IsValidKeyList 0 ends.now (length text.now) }
+    ensures { slice_get (keys_between 0 ends.now text.now) i ≡ Some result.now }
+{
+    part_of(text, start_of(ends, i), ends[i])
+}
+
+impl KeyList {
+    /// No keys.
+    pub fn new(alloc: Global) -> KeyList
+        ensures { result ≡ [] }
+    {
+        KeyList {
+            text: Vec::new(alloc),
+            ends: Vec::new(alloc),
+        }
+    }
+
+    /// How many keys there are.
+    pub fn len(&self) -> usize
+        ensures { result ≡ length self.now }
+    {
+        self.ends.len()
+    }
+
+    /// Adds a key at the end. Where memory is refused, the list stays as it was. There are always
+    /// fewer than 2^63 keys, since each has its end in memory.
+    pub fn push(&mut self, key: &[u8]) -> Result<(), Memory>
+        ensures ok { OnOk result (self.new ≡ self.old ++ key.now ∷ []) }
+        ensures err { OnErr result (self.new ≡ self.old) }
+        ensures few { OnOk result (length self.new < 2 ^ 63) }
+    {
+        let start = self.text.len();
+        if self.text.extend_from_slice(key).is_err() {
+            return Err(Memory);
+        }
+        if self.ends.push(self.text.len()).is_err() {
+            self.text.truncate(start);
+            return Err(Memory);
+        }
+        Ok(())
+    }
+
+    /// The key of number i, counted from 0.
+    pub fn get(&self, i: usize) -> &[u8]
+        requires { i < length self.now }
+        ensures { slice_get self.now i ≡ Some result.now }
+    {
+        key_within(self.text.as_slice(), self.ends.as_slice(), i)
+    }
+
+    /// Adds the bytes of each key to slices. Where memory is refused, some of them may be added.
+    pub(crate) fn add_slices<'a>(&'a self, slices: &mut Vec<&'a [u8]>) -> Result<(), Memory>
+        ensures { OnOk result (map (λ key. key.now) slices.new.items
+            ≡ map (λ key. key.now) slices.old.items ++ self.now) }
+    {
+        for i in 0..self.len() {
+            slices.push(self.get(i))?;
+        }
+        Ok(())
+    }
+}

@@ -1,0 +1,54 @@
+//! The keys of one piece of a file.
+
+ghost use Rattle.std.specs.Prelude.{◌≡◌, ◌≤◌, ◌<◌, ◌⊎◌, ◌∷◌, Ok, Err, [], IfOk, IfErr, List, length, MatchOption};
+ghost use Rattle.key_file.specs.KeyFile.{IsFileFault, Record};
+ghost use Rattle.key_file.specs.Pieces.{file_records, piece_keys};
+ghost use Rattle.key_file.specs.Private.Join.{IsWidthOf};
+ghost use Rattle.lane_words.specs.declared.Refusal.TheVariants as refusal;
+
+use crate::key_list::KeyList;
+use crate::records::{next_record, records_of};
+use crate::whole::add_key;
+use csv::ByteRecord;
+use lane_words::{Memory, Refusal};
+use std::alloc::Global;
+
+/// How many fields the first record of a file has, if it has a record.
+pub fn first_width(alloc: Global, file: &[u8]) -> Result<Option<usize>, Memory>
+    ensures { IfOk result (λ found. MatchOption found (file_records file.now ≡ [])
+        (λ width. IsWidthOf width (file_records file.now))) }
+{
+    let mut reader = records_of(alloc, file);
+    let mut row = ByteRecord::new(alloc);
+    let found = next_record(&mut reader, &mut row)?;
+    if found { Ok(Some(row.len())) } else { Ok(None) }
+}
+
+/// The keys of one piece of a file, whose records have to be `width` fields long. Of a fault the
+/// number counts from the piece's own first record.
+pub fn keys_of_piece(
+    alloc: Global,
+    piece: &[u8],
+    column: u32,
+    width: usize,
+) -> Result<KeyList, Refusal>
+    requires { 1 ≤ column }
+    ensures keys { IfOk result (λ keys. piece_keys column width piece.now ≡ Ok keys) }
+    ensures kind { IfErr result IsFileFault }
+    ensures fault { IfErr result
+        (λ e. (e ≡ refusal.Memory) ⊎ (piece_keys column width piece.now ≡ Err e)) }
+{
+    let mut keys = KeyList::new(alloc);
+    let mut reader = records_of(alloc, piece);
+    let mut row = ByteRecord::new(alloc);
+    for nth in 1..u64::MAX {
+        let Ok(found) = next_record(&mut reader, &mut row) else {
+            return Err(Refusal::Memory);
+        };
+        if !found {
+            return Ok(keys);
+        }
+        add_key(&mut keys, &row, column, width, nth)?;
+    }
+    unreachable!()
+}

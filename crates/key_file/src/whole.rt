@@ -1,0 +1,85 @@
+//! The keys of a file that is read in one piece.
+
+ghost use Rattle.std.specs.Prelude.{◌≡◌, ◌≤◌, ◌+◌, ◌<◌, ◌^◌, ◌⊎◌, ◌∷◌, ◌-◌, Some, None, [], ℕ, List, Ok, Err, IfOk, IfErr, OnOk, length, Bool};
+ghost use Rattle.csv.specs.Reading.{default_config, records, strip_bom};
+ghost use Rattle.csv.specs.Records.{field_at, fields_of};
+ghost use Rattle.key_file.specs.KeyFile.{IsFileFault, keys_of};
+ghost use Rattle.key_file.specs.Private.KeyFile.{IsFaultAt, TakesKey};
+ghost use Rattle.key_file.specs.Private.Records.{ReadsRecords, TakesNext, records_left};
+ghost use Rattle.lane_words.specs.declared.Refusal.TheVariants as refusal;
+
+use crate::key_list::KeyList;
+use crate::records::{next_record, records_of};
+use csv::ByteRecord;
+use lane_words::Refusal;
+use std::alloc::Global;
+
+/// Adds the key of record number nth, which has to be as long as the first.
+pub fn add_key(
+    keys: &mut KeyList,
+    row: &ByteRecord,
+    column: u32,
+    width: usize,
+    nth: u64,
+) -> Result<(), Refusal>
+    requires { 1 ≤ column }
+    ensures few { OnOk result (length keys.new < 2 ^ 63) }
+    ensures added { OnOk result (length keys.new ≡ length keys.old + 1) }
+    ensures key { OnOk result (TakesKey column width nth keys.old keys.new (fields_of row.now)) }
+    ensures kind { IfErr result IsFileFault }
+    ensures fault { IfErr result
+        (λ e. (e ≡ refusal.Memory) ⊎ IsFaultAt column width nth (fields_of row.now) e) }
+{
+    if row.len() != width {
+        return Err(Refusal::BadCsv { nth });
+    }
+    let Some(field) = row.get(column as usize - 1) else {
+        return Err(Refusal::NoSuchColumn { nth });
+    };
+    if keys.push(field).is_err() {
+        return Err(Refusal::Memory);
+    }
+    Ok(())
+}
+
+/// The keys of a file of comma-separated records: of each record the field in this column, in the
+/// order of the records.
+///
+/// Columns are counted from 1, and so are records, a header among them. The header is the first
+/// record, and is dropped before its column is looked at. A record of another length than the first
+/// is refused with `BadCsv`, whatever its columns, one that lacks the column with `NoSuchColumn`,
+/// and only a refused growth with `Memory`.
+pub fn read_keys(alloc: Global, file: &[u8], column: u32, header: bool) -> Result<KeyList, Refusal>
+    requires { 1 ≤ column }
+    ensures keys { IfOk result (λ keys. keys_of column header file.now ≡ Ok keys) }
+    ensures kind { IfErr result IsFileFault }
+    ensures fault { IfErr result
+        (λ e. (e ≡ refusal.Memory) ⊎ (keys_of column header file.now ≡ Err e)) }
+{
+    let mut keys = KeyList::new(alloc);
+    let mut reader = records_of(alloc, file);
+    let mut row = ByteRecord::new(alloc);
+    let Ok(found) = next_record(&mut reader, &mut row) else {
+        return Err(Refusal::Memory);
+    };
+    if !found {
+        return Ok(keys);
+    }
+    let width = row.len();
+    if !header {
+        add_key(&mut keys, &row, column, width, 1)?;
+    }
+    for nth in 2..u64::MAX {
+        let Ok(found) = next_record(&mut reader, &mut row) else {
+            return Err(Refusal::Memory);
+        };
+        if !found {
+            return Ok(keys);
+        }
+        add_key(&mut keys, &row, column, width, nth)?;
+    }
+    unreachable!()
+}
+
+#[cfg(test)]
+mod tests;
