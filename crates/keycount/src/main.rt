@@ -6,8 +6,8 @@ ghost use Rattle.report_cli.specs.Reports.{AreInRange};
 
 use lane_words::Refusal;
 use report_cli::{
-    FromRead, FromWrite, Job, Options, Usage, count_text, fault_line, read_words, replay_text,
-    run_text, status,
+    FromRead, FromWrite, Job, Options, Usage, count_text, fault_line, read_words,
+    reads_input_twice, replay_text, run_text, status,
 };
 use std::alloc::AllocError;
 use std::env;
@@ -19,6 +19,9 @@ use std::sync::Wait;
 use std::thread::Threads;
 use workers::{Gate, GateAnswer};
 
+/// What is told where FILE and SCRIPT are both `-`.
+const TWICE: &str = "error: only one of FILE and SCRIPT can be standard input\n";
+
 /// Opens the file at this path.
 fn opened(rt: &HostRuntime, path: &str) -> Result<File, Refusal> {
     let Ok(file) = File::open(rt, path) else {
@@ -27,13 +30,33 @@ fn opened(rt: &HostRuntime, path: &str) -> Result<File, Refusal> {
     Ok(file)
 }
 
-/// Counts the keys of the file at this path, and prints the rows.
-fn count_file(rt: &HostRuntime, path: &str, options: Options) -> Result<(), Refusal>
+/// Counts the keys of a file, and prints the rows.
+fn count<R: Threads + Sync + RandomSource, F: Read + Drop>(
+    rt: &HostRuntime,
+    threads: &R,
+    file: F,
+    options: Options,
+) -> Result<(), Refusal>
     requires { AreInRange options }
 {
-    let mut source = FromRead::new(opened(rt, path)?);
+    let mut source = FromRead::new(file);
     let mut sink = FromWrite::new(rt.stdout());
-    count_text(rt, rt.alloc(), &mut source, options, &mut sink)
+    count_text(threads, rt.alloc(), &mut source, options, &mut sink)
+}
+
+/// Counts the keys of the file at this path. The path `-` is standard input.
+fn count_file<R: Threads + Sync + RandomSource>(
+    rt: &HostRuntime,
+    threads: &R,
+    path: &str,
+    options: Options,
+) -> Result<(), Refusal>
+    requires { AreInRange options }
+{
+    match path {
+        "-" => count(rt, threads, rt.stdin(), options),
+        _ => count(rt, threads, opened(rt, path)?, options),
+    }
 }
 
 /// Replays a script over the keys of a file, and prints the rows.
@@ -60,7 +83,7 @@ fn replay<R: Threads + Sync + RandomSource, F: Read + Drop, S: Read + Drop>(
 }
 
 /// Replays the script at one path over the keys of the file at another. Both are opened before
-/// either is read. The path `-` is standard input; where both are, the file takes all of it.
+/// either is read. The path `-` is standard input, of one of the two.
 fn replay_files<R: Threads + Sync + RandomSource>(
     rt: &HostRuntime,
     threads: &R,
@@ -71,7 +94,6 @@ fn replay_files<R: Threads + Sync + RandomSource>(
     requires { AreInRange options }
 {
     match (file, script) {
-        ("-", "-") => replay(rt, threads, rt.stdin(), rt.stdin(), options),
         ("-", _) => replay(rt, threads, rt.stdin(), opened(rt, script)?, options),
         (_, "-") => replay(rt, threads, opened(rt, file)?, rt.stdin(), options),
         _ => replay(rt, threads, opened(rt, file)?, opened(rt, script)?, options),
@@ -122,7 +144,6 @@ fn run_files<R: Threads + Wait + RandomSource + Sync>(
     requires { AreInRange options }
 {
     match (file, script) {
-        ("-", "-") => run(rt, threads, rt.stdin(), rt.stdin(), options),
         ("-", _) => run(rt, threads, rt.stdin(), opened(rt, script)?, options),
         (_, "-") => run(rt, threads, opened(rt, file)?, rt.stdin(), options),
         _ => run(rt, threads, opened(rt, file)?, opened(rt, script)?, options),
@@ -144,6 +165,12 @@ fn ended(rt: &HostRuntime, answer: Result<(), Refusal>) -> ExitCode {
     }
 }
 
+/// Tells on standard error what is wrong with the words.
+fn refused_words(rt: &HostRuntime, text: &str) -> ExitCode {
+    let _ = eprint!(rt; "{text}");
+    ExitCode::from(2)
+}
+
 /// Does what the words say. The threads are the runtime's, which only `main` can lend.
 fn act<R: Threads + Wait + RandomSource + Sync>(
     rt: &HostRuntime,
@@ -151,7 +178,8 @@ fn act<R: Threads + Wait + RandomSource + Sync>(
     words: &[&str],
 ) -> ExitCode {
     match read_words(rt.alloc(), words) {
-        Ok(Job::Count { file, options }) => ended(rt, count_file(rt, file, options)),
+        Ok(job) if reads_input_twice(&job) => refused_words(rt, TWICE),
+        Ok(Job::Count { file, options }) => ended(rt, count_file(rt, threads, file, options)),
         Ok(
             Job::Replay {
                 file,
@@ -170,10 +198,7 @@ fn act<R: Threads + Wait + RandomSource + Sync>(
             let _ = print!(rt; "{text}");
             ExitCode::SUCCESS
         }
-        Err(Usage::Bad(text)) => {
-            let _ = eprint!(rt; "{text}");
-            ExitCode::from(2)
-        }
+        Err(Usage::Bad(text)) => refused_words(rt, text.as_str()),
         Err(Usage::Memory) => told(rt, &Refusal::Memory),
     }
 }
@@ -192,8 +217,7 @@ fn main(rt: HostRuntime) -> ExitCode {
         Ok(args) => args,
         Err(error) if error.kind() == ErrorKind::OutOfMemory => return told(&rt, &Refusal::Memory),
         Err(_) => {
-            let _ = eprintln!(&rt; "error: a word of the command line is not UTF-8 text");
-            return ExitCode::from(2);
+            return refused_words(&rt, "error: a word of the command line is not UTF-8 text\n");
         }
     };
     let Ok(owned): Result<Vec<String>, _> = args.skip(1).collect(rt.alloc()) else {

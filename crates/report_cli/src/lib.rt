@@ -1,22 +1,11 @@
 //! What `keycount` reads and writes: words to a job, and bytes of a file to bytes of rows.
 #![tactic(auto)]
 
-mod command_line;
-mod count;
-mod count_rows;
-mod devices;
-mod faults;
-mod key_file;
-mod key_list;
-mod replay;
-mod replay_rows;
-mod rows;
-mod run;
-mod tally;
+mod input;
 
 pub use command_line::{Job, Options, Usage, read_words};
-pub use count::count_text;
-pub use devices::{DeviceFailed, FromRead, FromWrite, Sink, Source};
-pub use faults::{fault_line, status};
-pub use replay::replay_text;
-pub use run::run_text;
+pub use count_report::count_text;
+pub use devices::{DeviceFailed, FromRead, FromWrite, Sink, Source, fault_line, status};
+pub use input::{is_standard_input, reads_input_twice};
+pub use replay_report::replay_text;
+pub use run_report::run_text;

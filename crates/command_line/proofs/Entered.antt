@@ -1,0 +1,746 @@
+-- The subcommand that clap entered, and what clap has tested of it.
+use Rattle.std.proofs.Common.{◌≡◌, ◌∙◌, ◌≤◌, ◌++◌, ◌&&◌, ◌||◌, not, cond, refl, ap, ap₂, sym, subst, arith, zero, suc, ℕ, List, [], ◌∷◌, length, drop, Option, Some, None, is_some, IsSome, Bool, true, false, true≢false, codes, inl, inr}
+use Rattle.std.specs.Prelude.{⊤, ◌⊎◌, unwrap_or, option_and_then, option_map, encode_utf8, slice_get, find, fold, Box, pos}
+use Rattle.std.specs.Box.{box_value}
+use Rattle.std.specs.Option.{option_map_or}
+use Rattle.std.specs.Str.{bytes_eq, chars}
+use Rattle.std.specs.Str.Parse.{IsNumeral, digits_value, starts_with_minus, without_leading_plus}
+use Rattle.std.proofs.lemmas.Int.{ints}
+use Rattle.std.proofs.lemmas.Slice.Eq.{bytes_eq-Decides}
+use Rattle.clap.proofs.OnLiterals.{clap_on_literals}
+use Rattle.clap.proofs.ValueTestLemmas.{accepts-Accepts}
+use Rattle.clap.specs.Lexer.{long_of, short_of}
+use Rattle.clap.specs.Facts.{explicit_source, parser_of_value}
+use Rattle.clap.specs.Values.{IsSignedIn, kind_of}
+use Rattle.clap.specs.declared.error.Error.{Error}
+use Rattle.clap.specs.ValueTests.{accepts}
+use Rattle.clap.specs.Kinds.{HasKind, IsAmong, Kinds, check_kinds, or_else}
+use Rattle.clap.specs.Faults.{bundle_fault, bundle_step_fault, check_fault, defaults_fault, entered_fault, fault_of, flag_word_fault, flags_fault, is_simple_and_free, level_fault, long_fault, option_fault, other_fault, positional_fault, react_fault, set_fault, settle_fault, short_fault, step_fault, stray_fault, use_fault, walk_fault, word_fault}
+use Rattle.clap.specs.Built.{AddsArg}
+use Rattle.clap.specs.Matches.{found_of}
+use Rattle.clap.specs.declared.parser.matches.ArgMatches.{ArgMatches}
+use Rattle.clap.specs.Simple.{App, HasMatchesOf, subcommand_rows_of, Shape, app_of, app_of_fields, built, entered, is_simple, label_of, matches_of, names_of, rows_at, new_app, subcommand_of, subcommand_rows, with_rule}
+use Rattle.clap.specs.Takes.{is_given}
+use Rattle.clap.specs.Walk.{Held, Names, Outcome, Row, Rule, Step, Text, Waiting, Walk, done, waits, plain, refused, idle, option, positional, next, trailing, subcommand, value, after_flag, after_step, arg_by_id, arg_by_index, arg_by_long, arg_by_short, at_row, attached_value, bundle_met, bundle_step, default_rows, first_of, flag_met, has_row, is_pending, long_met, long_or_other, more_values, nothing_held, option_met, option_word, plain_word, reacted, reading_by, rows_after, rows_of, rule_of, settled, settled_rows, bundle, short_met, short_or_plain, answers_to, subcommand_met, subcommand_or_other, takes_several, takes_values, to_positional, used, used_by_id, walk, walk_from, walked, walked_from, with_default, with_values, without, word_met}
+use Rattle.clap.specs.declared.builder.arg.Arg.{Arg}
+use Rattle.clap.specs.declared.builder.command.Command.{Command}
+use Rattle.clap.specs.declared.builder.command.Command.TheOpen.{Command-F}
+use Rattle.clap.specs.declared.builder.command.Command.TheViews.{out-Command}
+use Rattle.clap.specs.declared.builder.value_parser.ValueParser.TheVariants as parser
+use Rattle.clap.specs.declared.error.kind.ErrorKind.{ErrorKind}
+use Rattle.clap.specs.declared.error.kind.ErrorKind.TheVariants as kind
+use Rattle.clap.specs.declared.parser.matches.SubCommand.{SubCommand}
+use Rattle.clap.specs.declared.parser.matches.ArgMatches.TheViews.{out-SubCommand}
+use Rattle.clap.specs.declared.parser.matches.ValueSource.TheVariants.{CommandLine, DefaultValue}
+use Rattle.command_line.specs.CommandLine.{IsFlag, IsNumber, IsRefusal, keycount_app, keycount_top, path}
+use Rattle.command_line.specs.Private.CommandLine.{IsCommand, ReadsNumber, TakesCount, TakesOptions, TakesScript, Tells}
+use Rattle.command_line.specs.declared.words.Usage.{Usage}
+use Rattle.command_line.specs.declared.words.Usage.TheVariants.{Help, Bad, Memory}
+
+pub keycount_simple : is_simple keycount_app ≡ true
+unfolding clap_on_literals
+keycount_simple = refl
+
+pub keycount_free : is_simple_and_free keycount_app ≡ true
+unfolding clap_on_literals
+keycount_free = refl
+
+-- ---- building the commands
+
+-- help texts change nothing that a parse reads
+pub described : (c0 c1 c2 : Command) (x y : _) → out-Command c1 ≡ record (out-Command c0) { about = x } → out-Command c2 ≡ record (out-Command c1) { after_help = y }
+    → out-Command c2 ≡ record (out-Command c0) { about = x; after_help = y }
+described c0 c1 c2 x y h k = k ∙ ap (λ (f : Command-F Command). record f { after_help = y }) h
+
+-- a command with one more argument, which is not global
+pub added : (old new : Command) (a : Arg) (app : App) (rule : Rule) → AddsArg old a new → IsCommand app old → rule_of a ≡ rule → a.global ≡ false → IsCommand (with_rule app rule) new
+added old new a app rule adds is rule_is local = record {
+  read_as = adds.shape local ∙ ap₂ with_rule is.read_as rule_is;
+  local = adds.globals ∙ ap₂ (λ x y. x || y) is.local local;
+}
+
+-- the settings of the top command
+pub top_settings : (c0 c1 c2 c3 : Command) (version : _) → app_of c0 ≡ new_app (codes "keycount")
+    → out-Command c1 ≡ record (out-Command c0) { no_binary_name = true }
+    → out-Command c2 ≡ record (out-Command c1) { subcommand_required = true }
+    → out-Command c3 ≡ record (out-Command c2) { version = Some version }
+    → app_of c3 ≡ keycount_top
+top_settings c0 c1 c2 c3 version h k l m =
+    let set = l ∙ ap (λ (f : Command-F Command). record f { subcommand_required = true }) k in
+    ap app_of_fields (m ∙ ap (λ (f : Command-F Command). record f { version = Some version }) set)
+    ∙ ap (λ (a : App). record a { top = record a.top { no_binary_name = true; subcommand_required = true; has_version = true } }) h
+
+-- ---- what the getters tell
+
+-- a flag, from what its getter tells
+pub flag_is : (o : Option Text) (given : Bool) → (o ≡ None → given ≡ false) → (o ≡ Some (codes "true") → given ≡ true) → (o ≡ Some (codes "false") → given ≡ false) → IsFlag o given
+flag_is None given n y z = n refl
+flag_is (Some t) given n y z = (λ e. y (ap Some e), λ e. z (ap Some e))
+
+-- a text that clap's parser of positive numbers takes has a plus at most, and digits of a number in the range
+pub unsigned_of : (most : ℕ) (t : Text) → IsSignedIn (pos 1) (pos most) t
+    → IsNumeral 10 (without_leading_plus t) × (1 ≤ digits_value 10 (without_leading_plus t)) × (digits_value 10 (without_leading_plus t) ≤ most)
+unsigned_of most t passed = go (starts_with_minus t) refl
+  where
+    go : (b : Bool) → starts_with_minus t ≡ b → IsNumeral 10 (without_leading_plus t) × (1 ≤ digits_value 10 (without_leading_plus t)) × (digits_value 10 (without_leading_plus t) ≤ most)
+    go true minus =
+        let low_ok = rw minus at passed.2 in
+        absurd (omega (arith, ints))
+    go false minus =
+        let numeral = rw minus at passed.0 in
+        let low_ok = rw minus at passed.2 in
+        let high_ok = rw minus at passed.3 in
+        (numeral, omega (arith, ints), omega (arith, ints))
+
+-- a number that clap has tested lies in its range, as the default does
+pub number_in : (o : Option Text) (default most n : ℕ) → (1 ≤ default) × (default ≤ most) → ReadsNumber o most → IsNumber o default n → (1 ≤ n) × (n ≤ most)
+number_in None default most n fits reads is = rw is fits
+number_in (Some t) default most n fits reads is =
+    let number = unsigned_of most t reads in
+    rw is.1 (number.1, number.2)
+
+-- ---- lists of rows and rules
+
+abbrev Each : {X : Type 0} → (X → Type 0) → List X → Type 0
+Each P [] = ⊤
+Each P (x ∷ xs) = P x × Each P xs
+
+found_is : {X : Type 0} (P : X → Type 0) (p : X → Bool) (xs : List X) (x : X) → Each P xs → find p xs ≡ Some x → P x × (p x ≡ true)
+found_is P p [] x all e = let no : ⊥ = cc in absurd no
+found_is P p (y ∷ ys) x all e = go (p y) refl e (found_is P p ys x all.1)
+  where
+    go : (b : Bool) → p y ≡ b → cond b (Some y) (find p ys) ≡ Some x → (find p ys ≡ Some x → P x × (p x ≡ true)) → P x × (p x ≡ true)
+    go true t h more =
+        let same : y ≡ x = cc in
+        subst (λ z. P z × (p z ≡ true)) same (all.0, t)
+    go false t h more = more h
+
+none_of : (a b : Kinds) → or_else a b ≡ [] → (a ≡ []) × (b ≡ [])
+none_of [] b e = (refl, e)
+none_of (k ∷ ks) b e = let no : ⊥ = cc in absurd no
+
+some_kind : (k : ErrorKind) (ks : Kinds) → k ∷ ks ≡ [] → ⊥
+some_kind k ks e = cc
+
+-- no row has the id, so that a new one goes to the end
+joined : (P : Row → Type 0) (id : Text) (change : Row → List Row) (missing rows : List Row) → has_row id rows ≡ false → Each P rows → Each P missing → Each P (at_row id change missing rows)
+joined P id change missing [] e all more = more
+joined P id change missing (r ∷ rs) e all more = go (bytes_eq r.id id) e (λ f. joined P id change missing rs f all.1 more)
+  where
+    go : (b : Bool) → (b || has_row id rs) ≡ false → (has_row id rs ≡ false → Each P (at_row id change missing rs)) → Each P (cond b (change r ++ rs) (r ∷ at_row id change missing rs))
+    go true e rest = absurd (true≢false e)
+    go false e rest = (all.0, rest e)
+
+without_none : (id : Text) (rows : List Row) → has_row id rows ≡ false → without id rows ≡ rows
+without_none id [] e = refl
+without_none id (r ∷ rs) e = go (bytes_eq r.id id) e (without_none id rs)
+  where
+    go : (b : Bool) → (b || has_row id rs) ≡ false → (has_row id rs ≡ false → without id rs ≡ rs) → cond b ([] ++ rs) (r ∷ without id rs) ≡ r ∷ rs
+    go true e rest = absurd (true≢false e)
+    go false e rest = ap (λ xs. r ∷ xs) (rest e)
+
+-- a use of an argument that may not be repeated, with its first value tested, adds one row
+set_use : (P : Row → Type 0) (a : Rule) (v : Text) (vs : List Text) (rows : List Row) → set_fault false a (v ∷ vs) rows ≡ []
+    → (accepts a.ignore_case (parser_of_value a.parser) v ≡ true → P (record { id = a.id; values = v ∷ vs; count = None; source = Some CommandLine; reading = reading_by a }))
+    → Each P rows → Each P (with_values a.id (reading_by a) CommandLine (v ∷ vs) (without a.id rows))
+set_use P a v vs rows e row all =
+    let parts = none_of _ _ e in
+    let fresh : has_row a.id rows ≡ false = no_repeat (has_row a.id rows) parts.0 in
+    let tested = none_of _ _ parts.1 in
+    let same = without_none a.id rows fresh in
+    subst (λ (xs : List Row). Each P (with_values a.id (reading_by a) CommandLine (v ∷ vs) xs)) (sym same)
+    (joined P a.id (more_values CommandLine (v ∷ vs)) _ rows fresh all (row (passed _ (accepts a.ignore_case (parser_of_value a.parser) v) tested.0), tt))
+  where
+    no_repeat : (b : Bool) → cond (b && true) (kind.ArgumentConflict ∷ []) [] ≡ [] → b ≡ false
+    no_repeat true e = absurd (some_kind _ _ e)
+    no_repeat false e = refl
+
+    passed : (k : ErrorKind) (b : Bool) → cond b [] (k ∷ []) ≡ [] → b ≡ true
+    passed k true e = refl
+    passed k false e = absurd (some_kind _ _ e)
+
+-- the steps of a level that clap does not refuse: the walk, the subcommand below it, and the last check
+level_parts : (s : Shape) (names : Names) (words : List Text) (has : Bool) (below : Kinds) → level_fault s names nothing_held words has below ≡ []
+    → (walk_fault s names (walk_from nothing_held) words ≡ []) × (below ≡ []) × (check_fault s (rows_after s.rules names words) has ≡ [])
+level_parts s names words has below e =
+    let end = (walk s.rules names nothing_held words).held in
+    let walk_ok = none_of (walk_fault s names (walk_from nothing_held) words) _ e in
+    let below_ok = none_of below _ walk_ok.1 in
+    let settle_ok = none_of (settle_fault s.rules s.args_override_self end) _ below_ok.1 in
+    let default_ok = none_of (defaults_fault (settled s.rules end).rows s.rules) _ settle_ok.1 in
+    (walk_ok.0, below_ok.0, default_ok.1)
+
+-- ---- a walk that clap does not refuse keeps what each use keeps
+
+module _ (P : Row → Type 0) (s : Shape) where
+  abbrev Keeps : Rule → Type 0
+  Keeps a = (values : List Text) (rows : List Row) → use_fault s.args_override_self a values rows ≡ [] → Each P rows → Each P (used a values rows)
+
+  abbrev KeepsIf : Option Rule → Type 0
+  KeepsIf o = (a : Rule) → o ≡ Some a → Keeps a
+
+  abbrev KeepsDefault : Rule → Type 0
+  KeepsDefault a = (rows : List Row) → Each P rows → Each P (with_default rows a)
+
+  defaults_keep : (cs : List Rule) (rows : List Row) → Each KeepsDefault cs → Each P rows → Each P (fold with_default rows cs)
+  defaults_keep [] rows k r = r
+  defaults_keep (a ∷ rest) rows k r = defaults_keep rest (with_default rows a) k.1 (k.0 rows r)
+
+  by_rule : (o : Option Rule) (values : List Text) (rows : List Row) → KeepsIf o
+      → option_map_or (λ a. use_fault s.args_override_self a values rows) o [] ≡ [] → Each P rows → Each P (used_by_id o values rows)
+  by_rule None values rows k e r = r
+  by_rule (Some a) values rows k e r = k a refl values rows e r
+
+  module _ (rules : Each Keeps s.rules) where
+    settles : (o : Option (Text × List Text)) (rows : List Row)
+        → option_map_or (λ p. option_map_or (λ a. use_fault s.args_override_self a p.1 rows) (arg_by_id s.rules p.0) []) o [] ≡ [] → Each P rows → Each P (settled_rows s.rules o rows)
+    settles None rows e r = r
+    settles (Some p) rows e r = by_rule (arg_by_id s.rules p.0) p.1 rows (λ a is. (found_is Keeps _ s.rules a rules is).0) e r
+
+    reacts : (a : Rule) → Keeps a → (values : List Text) (h : Held) → react_fault s.rules s.args_override_self a values h ≡ [] → Each P h.rows → Each P (reacted s.rules a values h).rows
+    reacts a k values h e r =
+        let parts = none_of _ _ e in
+        k values (settled s.rules h).rows parts.1 (settles h.pending h.rows parts.0 r)
+
+    option_keeps : (a : Rule) → Keeps a → (v : Option Text) (h : Held) → option_fault s.rules s.args_override_self a v h ≡ [] → Each P h.rows → Each P (option_met s.rules a v h).0.rows
+    option_keeps a k (Some v) h e r = reacts a k (v ∷ []) h e r
+    option_keeps a k None h e r = settles h.pending h.rows e r
+
+    flag_keeps : (a : Rule) → Keeps a → (v : Option Text) (h : Held) → cond (is_some v) (kind.TooManyValues ∷ []) (react_fault s.rules s.args_override_self a [] h) ≡ []
+        → Each P h.rows → Each P (flag_met s.rules a v h).0.rows
+    flag_keeps a k (Some v) h e r = r
+    flag_keeps a k None h e r = reacts a k [] h e r
+
+    long_keeps : (o : Option Rule) → KeepsIf o → (v : Option Text) (h : Held) → long_fault s.rules s.args_override_self o v h ≡ [] → Each P h.rows → Each P (long_met s.rules o v h).0.rows
+    long_keeps None k v h e r = absurd (some_kind _ _ e)
+    long_keeps (Some a) k v h e r = go (takes_values a) e
+      where
+        go : (b : Bool) → cond b (option_fault s.rules s.args_override_self a v h) (cond (is_some v) (kind.TooManyValues ∷ []) (react_fault s.rules s.args_override_self a [] h)) ≡ []
+            → Each P (cond b (option_met s.rules a v h) (flag_met s.rules a v h)).0.rows
+        go true e = option_keeps a (k a refl) v h e r
+        go false e = flag_keeps a (k a refl) v h e r
+
+    short_keeps : (o : Option Rule) → KeepsIf o → (rest : Text) (h : Held) (met : Held → Held × Outcome) (fault : Held → Kinds)
+        → ((g : Held) → fault g ≡ [] → Each P g.rows → Each P (met g).0.rows)
+        → short_fault s.rules s.args_override_self o rest h fault ≡ [] → Each P h.rows → Each P (short_met s.rules o rest h met).0.rows
+    short_keeps None k rest h met fault more e r = absurd (some_kind _ _ e)
+    short_keeps (Some a) k rest h met fault more e r = go (takes_values a) e
+      where
+        go : (b : Bool) → cond b (option_fault s.rules s.args_override_self a (attached_value rest) h)
+            (or_else (react_fault s.rules s.args_override_self a [] h) (fault (reacted s.rules a [] h))) ≡ []
+            → Each P (cond b (option_met s.rules a (attached_value rest) h) (met (reacted s.rules a [] h))).0.rows
+        go true e = option_keeps a (k a refl) (attached_value rest) h e r
+        go false e =
+            let parts = none_of _ _ e in
+            more (reacted s.rules a [] h) parts.1 (reacts a (k a refl) [] h parts.0 r)
+
+    bundle_keeps : (n : ℕ) (flags : Text) (skip : ℕ) (so_far : Outcome) (h : Held) → flags_fault s.rules s.args_override_self n flags skip h ≡ [] → Each P h.rows
+        → Each P (bundle_met s.rules n flags skip so_far h).0.rows
+    unfolding bundle_met flags_fault
+    bundle_keeps zero flags skip so_far h e r = r
+    bundle_keeps (suc n) flags skip so_far h e r = go (slice_get (chars flags) 0) skip e (bundle_keeps n)
+      where
+        go : (x : Option ℕ) (skip : ℕ) → bundle_step_fault s.rules s.args_override_self x flags skip h (flags_fault s.rules s.args_override_self n) ≡ []
+            → ((flags : Text) (skip : ℕ) (so_far : Outcome) (h : Held) → flags_fault s.rules s.args_override_self n flags skip h ≡ [] → Each P h.rows
+            → Each P (bundle_met s.rules n flags skip so_far h).0.rows)
+            → Each P (bundle_step s.rules x flags skip so_far h (bundle_met s.rules n)).0.rows
+        go None skip e more = r
+        go (Some x) zero e more =
+            let rest = drop (length (encode_utf8 x)) flags in
+            short_keeps (arg_by_short s.rules x) (λ a is. (found_is Keeps _ s.rules a rules is).0) rest h (bundle_met s.rules n rest 0 done)
+            (flags_fault s.rules s.args_override_self n rest 0) (λ g f q. more rest 0 done g f q) e r
+        go (Some x) (suc k) e more = more (drop (length (encode_utf8 x)) flags) k so_far h e r
+
+    plain_keeps : (w : Waiting) (word : Text) (h : Held) → Each P h.rows → Each P (plain_word s.rules w word h).0.rows
+    plain_keeps idle word h r = r
+    plain_keeps positional word h r = r
+    plain_keeps (option id) word h r = go (arg_by_id s.rules id)
+      where
+        go : (o : Option Rule) → Each P (option_word o id word h).0.rows
+        go None = r
+        go (Some a) = r
+
+    flag_rows : (o : Outcome) (w : Waiting) (word : Text) (h : Held) → Each P h.rows → Each P (after_flag s.rules w word h o).0.rows
+    flag_rows done w word h r = r
+    flag_rows (waits id) w word h r = r
+    flag_rows plain w word h r = plain_keeps w word h r
+    flag_rows refused w word h r = plain_keeps w word h r
+
+    other_keeps : (o : Option (Text × Option Text)) (w : Waiting) (word : Text) (h : Held) → flag_word_fault s.rules s.args_override_self o word h ≡ [] → Each P h.rows
+        → Each P (long_or_other s.rules w word o h).0.rows
+    other_keeps (Some p) w word h e r =
+        flag_rows (long_met s.rules (arg_by_long s.rules p.0) p.1 h).1 w word _ (long_keeps (arg_by_long s.rules p.0) (λ a is. (found_is Keeps _ s.rules a rules is).0) p.1 h e r)
+    other_keeps None w word h e r = go (short_of word) e
+      where
+        go : (o : Option Text) → option_map_or (λ flags. bundle_fault s.rules s.args_override_self flags h) o [] ≡ [] → Each P (short_or_plain s.rules w word o h).0.rows
+        go None e = plain_keeps w word h r
+        go (Some flags) e =
+            flag_rows (bundle s.rules flags h).1 w word _ (bundle_keeps (length flags) flags h.skip plain (record h { skip = 0 }) e r)
+
+    named_keeps : (o : Option Text) (w : Waiting) (position : ℕ) (word : Text) (h : Held) → other_fault s o word h ≡ [] → Each P h.rows
+        → Each P (subcommand_or_other s.rules o w position word h).0.rows
+    named_keeps (Some name) w position word h e r = r
+    named_keeps None w position word h e r = go (bytes_eq word (45 ∷ 45 ∷ [])) e
+      where
+        go : (b : Bool) → cond b [] (flag_word_fault s.rules s.args_override_self (long_of word) word h) ≡ []
+            → Each P (cond b (h, trailing position) (long_or_other s.rules w word (long_of word) h)).0.rows
+        go true e = r
+        go false e = other_keeps (long_of word) w word h e r
+
+    word_keeps : (is_trailing : Bool) (names : Names) (w : Waiting) (position : ℕ) (word : Text) (h : Held) → word_fault s names is_trailing w word h ≡ [] → Each P h.rows
+        → Each P (word_met s.rules names is_trailing w position word h).0.rows
+    word_keeps true names w position word h e r = r
+    word_keeps false names w position word h e r = named_keeps (subcommand_met names w word) w position word h e r
+
+    positional_keeps : (o : Option Rule) (w : Walk) (word : Text) (h : Held) → option_map_or (λ a. positional_fault s.rules s.args_override_self a h) o (stray_fault s) ≡ [] → Each P h.rows
+        → Each P (to_positional s.rules o word w h).held.rows
+    positional_keeps None w word h e r = r
+    positional_keeps (Some a) w word h e r = go (is_pending a h.pending && takes_several a) e
+      where
+        go : (b : Bool) → cond b [] (settle_fault s.rules s.args_override_self h) ≡ [] → Each P (cond b h (settled s.rules h)).rows
+        go true e = r
+        go false e = settles h.pending h.rows e r
+
+    step_keeps : (step : Step) (w : Walk) (word : Text) (h : Held) → step_fault s w.position h step ≡ [] → Each P h.rows → Each P (after_step s.rules word w h step).held.rows
+    step_keeps (next waiting) w word h e r = r
+    step_keeps (trailing position) w word h e r = r
+    step_keeps (subcommand name) w word h e r = r
+    step_keeps value w word h e r = positional_keeps (arg_by_index s.rules w.position) w word h e r
+
+    turn_keeps : (names : Names) (o : Option (Text × List Text)) (w : Walk) (word : Text)
+        → cond (is_some o) [] (or_else (word_fault s names w.is_trailing w.waiting word w.held)
+        (step_fault s w.position (word_met s.rules names w.is_trailing w.waiting w.position word w.held).0 (word_met s.rules names w.is_trailing w.waiting w.position word w.held).1)) ≡ []
+        → Each P w.held.rows → Each P (walked_from s.rules names o w word).held.rows
+    turn_keeps names (Some p) w word e r = r
+    turn_keeps names None w word e r =
+        let parts = none_of _ _ e in
+        step_keeps _ w word _ parts.1 (word_keeps w.is_trailing names w.waiting w.position word w.held parts.0 r)
+
+    walk_keeps : (names : Names) (words : List Text) (w : Walk) → walk_fault s names w words ≡ [] → Each P w.held.rows → Each P (fold (walked s.rules names) w words).held.rows
+    unfolding walk_fault walked
+    walk_keeps names [] w e r = r
+    walk_keeps names (word ∷ rest) w e r =
+        let parts = none_of _ _ e in
+        walk_keeps names rest (walked s.rules names w word) parts.1 (turn_keeps names w.stopped w word parts.0 r)
+
+    -- the rows at the end of a level that clap does not refuse
+    level_keeps : (words : List Text) (has : Bool) (below : Kinds) → Each KeepsDefault s.rules → level_fault s [] nothing_held words has below ≡ [] → Each P (rows_after s.rules [] words)
+    level_keeps words has below defaults e =
+        let walk_ok = none_of _ _ e in
+        let below_ok = none_of below _ walk_ok.1 in
+        let settle_ok = none_of _ _ below_ok.1 in
+        let end = (walk s.rules [] nothing_held words).held in
+        defaults_keep s.rules _ defaults (settles end.pending end.rows settle_ok.0 (walk_keeps [] words (walk_from nothing_held) walk_ok.0 tt))
+
+-- ---- where the walk of the program stops
+
+module _ (s : Shape) (names : Names) (helps : not s.disable_help_subcommand ≡ true) where
+  -- the walk did not stop at `help`
+  abbrev NotHelp : Option (Text × List Text) → Type 0
+  NotHelp None = ⊤
+  NotHelp (Some p) = bytes_eq p.0 (codes "help") ≡ false
+
+  abbrev NotToHelp : Step → Type 0
+  NotToHelp (next waiting) = ⊤
+  NotToHelp (trailing position) = ⊤
+  NotToHelp (subcommand name) = bytes_eq name (codes "help") ≡ false
+  NotToHelp value = ⊤
+
+  plain_step : (w : Waiting) (word : Text) (h : Held) → NotToHelp (plain_word s.rules w word h).1
+  plain_step idle word h = tt
+  plain_step positional word h = tt
+  plain_step (option id) word h = tt
+
+  flag_step : (o : Outcome) (w : Waiting) (word : Text) (h : Held) → NotToHelp (after_flag s.rules w word h o).1
+  flag_step done w word h = tt
+  flag_step (waits id) w word h = tt
+  flag_step plain w word h = plain_step w word h
+  flag_step refused w word h = plain_step w word h
+
+  other_step : (o : Option (Text × Option Text)) (w : Waiting) (word : Text) (h : Held) → NotToHelp (long_or_other s.rules w word o h).1
+  other_step (Some p) w word h = flag_step (long_met s.rules (arg_by_long s.rules p.0) p.1 h).1 w word _
+  other_step None w word h = go (short_of word)
+    where
+      go : (o : Option Text) → NotToHelp (short_or_plain s.rules w word o h).1
+      go None = plain_step w word h
+      go (Some flags) = flag_step (bundle s.rules flags h).1 w word _
+
+  named_step : (o : Option Text) (w : Waiting) (position : ℕ) (word : Text) (h : Held) → other_fault s o word h ≡ [] → NotToHelp (subcommand_or_other s.rules o w position word h).1
+  named_step (Some name) w position word h e = go (bytes_eq name (codes "help")) (not s.disable_help_subcommand) helps e
+    where
+      go : (b d : Bool) → d ≡ true → cond (b && d) (kind.DisplayHelp ∷ kind.InvalidSubcommand ∷ []) [] ≡ [] → b ≡ false
+      go true true t e = absurd (some_kind _ _ e)
+      go true false t e = absurd (true≢false (sym t))
+      go false d t e = refl
+  named_step None w position word h e = go (bytes_eq word (45 ∷ 45 ∷ []))
+    where
+      go : (b : Bool) → NotToHelp (cond b (h, trailing position) (long_or_other s.rules w word (long_of word) h)).1
+      go true = tt
+      go false = other_step (long_of word) w word h
+
+  word_step : (is_trailing : Bool) (w : Waiting) (position : ℕ) (word : Text) (h : Held) → word_fault s names is_trailing w word h ≡ [] → NotToHelp (word_met s.rules names is_trailing w position word h).1
+  word_step true w position word h e = tt
+  word_step false w position word h e = named_step (subcommand_met names w word) w position word h e
+
+  after_stop : (step : Step) (w : Walk) (word : Text) (h : Held) → NotHelp w.stopped → NotToHelp step → NotHelp (after_step s.rules word w h step).stopped
+  after_stop (next waiting) w word h r t = r
+  after_stop (trailing position) w word h r t = r
+  after_stop (subcommand name) w word h r t = t
+  after_stop value w word h r t = go (arg_by_index s.rules w.position)
+    where
+      go : (o : Option Rule) → NotHelp (to_positional s.rules o word w h).stopped
+      go None = r
+      go (Some a) = tt
+
+  turn_stop : (o : Option (Text × List Text)) (w : Walk) (word : Text)
+      → cond (is_some o) [] (or_else (word_fault s names w.is_trailing w.waiting word w.held)
+      (step_fault s w.position (word_met s.rules names w.is_trailing w.waiting w.position word w.held).0 (word_met s.rules names w.is_trailing w.waiting w.position word w.held).1)) ≡ []
+      → w.stopped ≡ o → NotHelp o → NotHelp (walked_from s.rules names o w word).stopped
+  turn_stop (Some p) w word e is r = r
+  turn_stop None w word e is r =
+      let parts = none_of _ _ e in
+      after_stop _ w word _ (subst NotHelp (sym is) tt) (word_step w.is_trailing w.waiting w.position word w.held parts.0)
+
+  walk_stop : (words : List Text) (w : Walk) → walk_fault s names w words ≡ [] → NotHelp w.stopped → NotHelp (fold (walked s.rules names) w words).stopped
+  unfolding walk_fault walked
+  walk_stop [] w e r = r
+  walk_stop (word ∷ rest) w e r =
+      let parts = none_of _ _ e in
+      walk_stop rest (walked s.rules names w word) parts.1 (turn_stop w.stopped w word parts.0 refl r)
+
+-- ---- what clap has tested of the subcommands
+
+abbrev keycount_built : App
+keycount_built = built keycount_app
+
+-- the shape of a subcommand, as clap builds it
+abbrev shape_at : ℕ → Shape
+shape_at k = unwrap_or (slice_get keycount_built.subs k) keycount_top.top
+
+abbrev count_shape : Shape
+count_shape = shape_at 0
+
+abbrev replay_shape : Shape
+replay_shape = shape_at 1
+
+abbrev run_shape : Shape
+run_shape = shape_at 2
+
+abbrev help_shape : Shape
+help_shape = shape_at 3
+
+abbrev Named : Text → ℕ → Row → Type 0
+Named name most r = bytes_eq r.id name ≡ true → ReadsNumber (slice_get r.values 0) most
+
+-- the row has a value, which is a number in the range where it is a number's row
+abbrev RowPasses : Row → Type 0
+RowPasses r = IsSome (slice_get r.values 0) × Named (codes "partitions") 4096 r × Named (codes "column") 65535 r × Named (codes "batch") 1000000 r
+
+abbrev count_rule : ℕ → Rule
+count_rule k = unwrap_or (slice_get count_shape.rules k) (path (codes "file"))
+
+abbrev replay_rule : ℕ → Rule
+replay_rule k = unwrap_or (slice_get replay_shape.rules k) (path (codes "file"))
+
+other : {A : Type 0} → false ≡ true → A
+other e = absurd (true≢false (sym e))
+
+-- a use of a rule keeps what each row has
+abbrev KeepsRows : Rule → Type 0
+KeepsRows = Keeps RowPasses count_shape
+
+file_keeps : KeepsRows (count_rule 0)
+file_keeps [] rows e r = absurd (some_kind _ _ e)
+file_keeps (v ∷ vs) rows e r = set_use RowPasses (count_rule 0) v vs rows (none_of _ _ e).1 (λ ok. (refl, (λ f. other f), (λ f. other f), (λ f. other f))) r
+
+script_keeps : KeepsRows (replay_rule 1)
+script_keeps [] rows e r = absurd (some_kind _ _ e)
+script_keeps (v ∷ vs) rows e r = set_use RowPasses (replay_rule 1) v vs rows (none_of _ _ e).1 (λ ok. (refl, (λ f. other f), (λ f. other f), (λ f. other f))) r
+
+partitions_keeps : KeepsRows (count_rule 1)
+partitions_keeps [] rows e r = absurd (some_kind _ _ e)
+partitions_keeps (v ∷ vs) rows e r =
+    set_use RowPasses (count_rule 1) v vs rows (none_of _ _ e).1 (λ ok. (refl, (λ _. accepts-Accepts false (parser.Signed (pos 1) (pos 4096)) v ok), (λ f. other f), (λ f. other f))) r
+
+column_keeps : KeepsRows (count_rule 2)
+column_keeps [] rows e r = absurd (some_kind _ _ e)
+column_keeps (v ∷ vs) rows e r =
+    set_use RowPasses (count_rule 2) v vs rows (none_of _ _ e).1 (λ ok. (refl, (λ f. other f), (λ _. accepts-Accepts false (parser.Signed (pos 1) (pos 65535)) v ok), (λ f. other f))) r
+
+header_keeps : KeepsRows (count_rule 3)
+header_keeps [] rows e r = set_use RowPasses (count_rule 3) (codes "true") [] rows e (λ ok. (refl, (λ f. other f), (λ f. other f), (λ f. other f))) r
+header_keeps (v ∷ vs) rows e r = set_use RowPasses (count_rule 3) v vs rows (none_of _ _ e).1 (λ ok. (refl, (λ f. other f), (λ f. other f), (λ f. other f))) r
+
+batch_keeps : KeepsRows (replay_rule 5)
+batch_keeps [] rows e r = absurd (some_kind _ _ e)
+batch_keeps (v ∷ vs) rows e r =
+    set_use RowPasses (replay_rule 5) v vs rows (none_of _ _ e).1 (λ ok. (refl, (λ f. other f), (λ f. other f), (λ _. accepts-Accepts false (parser.Signed (pos 1) (pos 1000000)) v ok))) r
+
+help_keeps : KeepsRows (count_rule 4)
+help_keeps values rows e r = absurd (some_kind _ _ (none_of _ _ e).1)
+
+-- a default adds nothing to rows that pass but rows that pass
+abbrev DefaultKeepsRows : Rule → Type 0
+DefaultKeepsRows = KeepsDefault RowPasses count_shape
+
+no_default : (b : Bool) (rows : List Row) → Each RowPasses rows → Each RowPasses (cond b rows rows)
+no_default true rows r = r
+no_default false rows r = r
+
+header_default : DefaultKeepsRows (count_rule 3)
+header_default rows r = go (has_row (codes "header") rows) refl
+  where
+    go : (b : Bool) → has_row (codes "header") rows ≡ b → Each RowPasses (cond b rows (default_rows (codes "header") (reading_by (count_rule 3)) (codes "false" ∷ []) rows))
+    go true e = r
+    go false e = joined RowPasses (codes "header") (more_values DefaultValue (codes "false" ∷ [])) (record { id = codes "header"; values = codes "false" ∷ []; count = None; source = Some DefaultValue; reading = reading_by (count_rule 3) } ∷ []) rows e r ((refl, (λ f. other f), (λ f. other f), (λ f. other f)), tt)
+
+count_keeps : Each (Keeps RowPasses count_shape) count_shape.rules
+count_keeps = (file_keeps, (partitions_keeps, (column_keeps, (header_keeps, (help_keeps, tt)))))
+
+replay_keeps : Each (Keeps RowPasses replay_shape) replay_shape.rules
+replay_keeps = (file_keeps, (script_keeps, (partitions_keeps, (column_keeps, (header_keeps, (batch_keeps, (help_keeps, tt)))))))
+
+count_defaults : Each (KeepsDefault RowPasses count_shape) count_shape.rules
+count_defaults = (
+  (λ rows r. no_default (has_row (codes "file") rows) rows r),
+  (
+    (λ rows r. no_default (has_row (codes "partitions") rows) rows r),
+    (
+      (λ rows r. no_default (has_row (codes "column") rows) rows r),
+      (header_default, ((λ rows r. no_default (has_row (codes "help") rows) rows r), tt)),
+    ),
+  ),
+)
+
+replay_defaults : Each (KeepsDefault RowPasses replay_shape) replay_shape.rules
+replay_defaults = (
+  (λ rows r. no_default (has_row (codes "file") rows) rows r),
+  (
+    (λ rows r. no_default (has_row (codes "script") rows) rows r),
+    (
+      (λ rows r. no_default (has_row (codes "partitions") rows) rows r),
+      (
+        (λ rows r. no_default (has_row (codes "column") rows) rows r),
+        (
+          header_default,
+          (
+            (λ rows r. no_default (has_row (codes "batch") rows) rows r),
+            ((λ rows r. no_default (has_row (codes "help") rows) rows r), tt),
+          ),
+        ),
+      ),
+    ),
+  ),
+)
+
+-- the first value of an id
+first_passes : (name : Text) (rows : List Row) → Each RowPasses rows → IsSome (find (λ r. bytes_eq r.id name) rows) → IsSome (first_of name rows)
+first_passes name rows all some = go (find (λ r. bytes_eq r.id name) rows) (λ r e. found_is RowPasses _ rows r all e) some
+  where
+    go : (o : Option Row) → ((r : Row) → o ≡ Some r → RowPasses r × (bytes_eq r.id name ≡ true)) → IsSome o → IsSome (option_and_then (λ r. slice_get r.values 0) o)
+    go None at e = absurd (true≢false (sym e))
+    go (Some r) at e = (at r refl).0.0
+
+number_passes : (name : Text) (most : ℕ) (rows : List Row) → Each RowPasses rows → ((r : Row) → RowPasses r → Named name most r) → ReadsNumber (first_of name rows) most
+number_passes name most rows all pick = go (find (λ r. bytes_eq r.id name) rows) (λ r e. found_is RowPasses _ rows r all e)
+  where
+    go : (o : Option Row) → ((r : Row) → o ≡ Some r → RowPasses r × (bytes_eq r.id name ≡ true)) → ReadsNumber (option_and_then (λ r. slice_get r.values 0) o) most
+    go None at = tt
+    go (Some r) at = pick r (at r refl).0 (at r refl).1
+
+-- an argument that was given has a row
+given_some : (name : Text) (rows : List Row) → is_given name rows ≡ true → IsSome (find (λ r. bytes_eq r.id name) rows)
+given_some name rows e = go (find (λ r. bytes_eq r.id name) rows) e
+  where
+    go : (o : Option Row) → option_map_or (λ r. explicit_source r.source) o false ≡ true → IsSome o
+    go None e = absurd (true≢false (sym e))
+    go (Some r) e = refl
+
+-- the last check of the level asks for each path
+file_given : (rows : List Row) → check_fault count_shape rows false ≡ [] → is_given (codes "file") rows ≡ true
+file_given rows e = go (is_given (codes "file") rows) e
+  where
+    go : (b : Bool) → check_kinds false false (not b || false) ≡ [] → b ≡ true
+    go true e = refl
+    go false e = absurd (some_kind _ _ e)
+
+paths_given : (rows : List Row) → check_fault replay_shape rows false ≡ [] → (is_given (codes "file") rows ≡ true) × (is_given (codes "script") rows ≡ true)
+paths_given rows e = go (is_given (codes "file") rows) (is_given (codes "script") rows) e
+  where
+    go : (b d : Bool) → check_kinds false false (not b || (not d || false)) ≡ [] → (b ≡ true) × (d ≡ true)
+    go true true e = (refl, refl)
+    go true false e = absurd (some_kind _ _ e)
+    go false d e = absurd (some_kind _ _ e)
+
+path_passes : (name : Text) (rows : List Row) → Each RowPasses rows → is_given name rows ≡ true → IsSome (first_of name rows)
+path_passes name rows all given = first_passes name rows all (given_some name rows given)
+
+options_pass : (rows : List Row) → Each RowPasses rows → TakesOptions rows
+options_pass rows all = record {
+  partitions = number_passes (codes "partitions") 4096 rows all (λ r passes. passes.1);
+  column = number_passes (codes "column") 65535 rows all (λ r passes. passes.2);
+}
+
+count_taken : (words : List Text) → level_fault count_shape [] nothing_held words false [] ≡ [] → TakesCount (rows_after count_shape.rules [] words)
+count_taken words e =
+    let parts = level_parts count_shape [] words false [] e in
+    let rows = rows_after count_shape.rules [] words in
+    let all = level_keeps RowPasses count_shape count_keeps words false [] count_defaults e in
+    record {
+      file = path_passes (codes "file") rows all (file_given rows parts.2);
+      options = options_pass rows all;
+    }
+
+-- of a subcommand whose arguments are those of `replay`
+script_taken : (s : Shape) → Each (Keeps RowPasses s) s.rules → Each (KeepsDefault RowPasses s) s.rules
+    → ((rows : List Row) → check_fault s rows false ≡ [] → (is_given (codes "file") rows ≡ true) × (is_given (codes "script") rows ≡ true))
+    → (words : List Text) → level_fault s [] nothing_held words false [] ≡ [] → TakesScript (rows_after s.rules [] words)
+script_taken s keeps defaults paths words e =
+    let parts = level_parts s [] words false [] e in
+    let rows = rows_after s.rules [] words in
+    let all = level_keeps RowPasses s keeps words false [] defaults e in
+    let given = paths rows parts.2 in
+    record {
+      file = path_passes (codes "file") rows all given.0;
+      script = path_passes (codes "script") rows all given.1;
+      options = options_pass rows all;
+      batch = number_passes (codes "batch") 1000000 rows all (λ r passes. passes.3);
+    }
+
+replay_taken : (words : List Text) → level_fault replay_shape [] nothing_held words false [] ≡ [] → TakesScript (rows_after replay_shape.rules [] words)
+replay_taken = script_taken replay_shape replay_keeps replay_defaults paths_given
+
+run_taken : (words : List Text) → level_fault run_shape [] nothing_held words false [] ≡ [] → TakesScript (rows_after run_shape.rules [] words)
+run_taken = script_taken run_shape replay_keeps replay_defaults paths_given
+
+-- what clap has tested of the words after the subcommand of this name
+abbrev Takes : Text → List Row → Type 0
+Takes name rows = ((name ≡ codes "count") × TakesCount rows) ⊎ (((name ≡ codes "replay") × TakesScript rows) ⊎ ((name ≡ codes "run") × TakesScript rows))
+
+-- ---- the program
+
+abbrev StopsElsewhere : Option (Text × List Text) → Type 0
+StopsElsewhere = NotHelp keycount_built.top (names_of keycount_built) refl
+
+not_named_help : (t : Text) → bytes_eq t (codes "help") ≡ false → answers_to t (codes "help", []) ≡ false
+not_named_help t e = go (bytes_eq (codes "help") t) refl
+  where
+    go : (b : Bool) → bytes_eq (codes "help") t ≡ b → (b || false) ≡ false
+    go false same = refl
+    go true same =
+        let is : codes "help" ≡ t = (bytes_eq-Decides (codes "help") t).0 same in
+        absurd (true≢false (ap (λ u. bytes_eq u (codes "help")) is ∙ e))
+
+-- where clap does not refuse what is below it, a walk that stopped at a subcommand other than `help` stopped at that of a job
+job_entered : (stop : Option (Text × List Text)) → StopsElsewhere stop → is_some (entered keycount_built stop) ≡ true → entered_fault keycount_built stop ≡ []
+    → (name : Text) × (rows : List Row) × (entered keycount_built stop ≡ Some (name, rows)) × Takes name rows
+job_entered None help some e = absurd (true≢false (sym some))
+job_entered (Some p) help some e =
+    go (answers_to p.0 (label_of count_shape)) (answers_to p.0 (label_of replay_shape)) (answers_to p.0 (label_of run_shape)) (answers_to p.0 (label_of help_shape)) (not_named_help p.0 help) some e
+  where
+    found : (b d r h : Bool) → Option Shape
+    found b d r h = cond b (Some count_shape) (cond d (Some replay_shape) (cond r (Some run_shape) (cond h (Some help_shape) None)))
+
+    go : (b d r h : Bool) → h ≡ false → is_some (option_map (λ s. rows_at s p.1) (found b d r h)) ≡ true
+        → option_map_or (λ s. level_fault s [] nothing_held p.1 false []) (found b d r h) [] ≡ []
+        → (name : Text) × (rows : List Row) × (option_map (λ s. rows_at s p.1) (found b d r h) ≡ Some (name, rows)) × Takes name rows
+    go true d r h other_no given e = (codes "count", rows_after count_shape.rules [] p.1, refl, inl (refl, count_taken p.1 e))
+    go false true r h other_no given e = (codes "replay", rows_after replay_shape.rules [] p.1, refl, inr (inl (refl, replay_taken p.1 e)))
+    go false false true h other_no given e = (codes "run", rows_after run_shape.rules [] p.1, refl, inr (inr (refl, run_taken p.1 e)))
+    go false false false true other_no given e = absurd (true≢false other_no)
+    go false false false false other_no given e = absurd (true≢false (sym given))
+
+-- the last check of the program asks for a subcommand
+subcommand_given : (rows : List Row) (has : Bool) → check_fault keycount_built.top rows has ≡ [] → has ≡ true
+subcommand_given rows true e = refl
+subcommand_given rows false e = absurd (some_kind _ _ e)
+
+-- words that clap takes name a job, with what its arguments want
+pub taken_job : (words : List Text) → fault_of keycount_app words ≡ [] → (name : Text) × (rows : List Row) × (subcommand_of keycount_app words ≡ Some (name, rows)) × Takes name rows
+taken_job words e =
+    let stop = (walk keycount_built.top.rules (names_of keycount_built) nothing_held words).stopped in
+    let parts = level_parts keycount_built.top (names_of keycount_built) words (is_some (entered keycount_built stop)) (entered_fault keycount_built stop) e in
+    let elsewhere = walk_stop keycount_built.top (names_of keycount_built) refl words (walk_from nothing_held) parts.0 tt in
+    job_entered stop elsewhere (subcommand_given (matches_of keycount_app words) _ parts.2) parts.1
+
+-- the answer to an error of clap's
+pub told : (usage : Usage) (e : Error) (old kinds : Kinds) → old ≡ kinds → Tells usage (kind_of e) → HasKind old e → IsRefusal kinds usage
+told (Help text) e old kinds same tells (inl memory) =
+    elim tells [
+      | inl help ↦
+          let no : ⊥ = cc in
+          absurd no
+      | inr version ↦
+          let no : ⊥ = cc in
+          absurd no
+    ]
+told (Help text) e old kinds same tells (inr among) = (kind_of e, subst (λ ks. IsAmong (kind_of e) ks) same among, tells)
+told (Bad text) e old kinds same tells (inl memory) = absurd (tells.2 memory)
+told (Bad text) e old kinds same tells (inr among) = (kind_of e, subst (λ ks. IsAmong (kind_of e) ks) same among, tells.0, tells.1)
+told Memory e old kinds same tells has = tt
+
+-- the matches of words that clap takes: the subcommand of a job, with what its arguments want
+pub record MatchesJob (words : List Text) (m : ArgMatches) : Type 0 where
+  pub taken : fault_of keycount_app words ≡ []
+  pub name : Text
+  pub rows : List Row
+  pub subcommand : subcommand_of keycount_app words ≡ Some (name, rows)
+  pub entered : subcommand_rows_of m ≡ Some (name, rows)
+  pub tested : Takes name rows
+
+pub matches_are : (command : Command) (words : List Text) (m : ArgMatches) → app_of command ≡ keycount_app → HasMatchesOf (app_of command) words m
+    → (is_simple_and_free (app_of command) ≡ true → fault_of (app_of command) words ≡ []) → MatchesJob words m
+matches_are command words m app found faults =
+    let taken : fault_of keycount_app words ≡ [] = ap (λ a. fault_of a words) (sym app) ∙ faults (ap is_simple_and_free app ∙ keycount_free) in
+    let job = taken_job words taken in
+    record {
+      taken = taken;
+      name = job.0;
+      rows = job.1;
+      subcommand = job.2;
+      entered = (found (ap is_simple app ∙ keycount_simple)).1 ∙ ap (λ a. subcommand_of a words) app ∙ job.2;
+      tested = job.3;
+    }
+
+-- the name and the rows that two getters tell are those of the matches
+pub told_rows : {Z : Type 0} (o : Option (Box SubCommand Z)) (wanted name : Text) (rows told_by : List Row) → subcommand_rows o ≡ Some (wanted, rows)
+    → Some name ≡ option_map (λ b. (out-SubCommand (box_value b)).name.now) o → Some told_by ≡ option_map (λ p. p.1) (subcommand_rows o)
+    → (wanted ≡ name) × (rows ≡ told_by)
+told_rows None wanted name rows told_by e h k = let no : ⊥ = cc in absurd no
+told_rows (Some b) wanted name rows told_by e h k =
+    let pair : ◌≡◌ {A = Text × List Row} ((out-SubCommand (box_value b)).name.now, rows_of (found_of (out-SubCommand (box_value b)).matches)) (wanted, rows) = cc in
+    let named = ap (λ (p : Text × List Row). p.0) pair in
+    let held = ap (λ (p : Text × List Row). p.1) pair in
+    (cc, cc)
+
+pub none_told : {Z : Type 0} (o : Option (Box SubCommand Z)) (wanted : Text) (rows : List Row) → subcommand_rows o ≡ Some (wanted, rows) → None ≡ option_map (λ p. p.1) (subcommand_rows o) → ⊥
+none_told None wanted rows e h = cc
+none_told (Some b) wanted rows e h = cc
+
+-- ---- which job was named
+
+count_is_no_replay : codes "count" ≡ codes "replay" → ⊥
+count_is_no_replay e = true≢false (ap (λ t. bytes_eq t (codes "count")) e)
+
+count_is_no_run : codes "count" ≡ codes "run" → ⊥
+count_is_no_run e = true≢false (ap (λ t. bytes_eq t (codes "count")) e)
+
+pub takes_count : (name : Text) (rows : List Row) → Takes name rows → name ≡ codes "count" → TakesCount rows
+takes_count name rows (inl takes) is = takes.1
+takes_count name rows (inr (inl takes)) is = absurd (count_is_no_replay (sym is ∙ takes.0))
+takes_count name rows (inr (inr takes)) is = absurd (count_is_no_run (sym is ∙ takes.0))
+
+pub takes_replay : (name : Text) (rows : List Row) → Takes name rows → name ≡ codes "replay" → TakesScript rows
+takes_replay name rows (inl takes) is = absurd (count_is_no_replay (sym takes.0 ∙ is))
+takes_replay name rows (inr (inl takes)) is = takes.1
+takes_replay name rows (inr (inr takes)) is = takes.1
+
+pub takes_run : (name : Text) (rows : List Row) → Takes name rows → name ≡ codes "run" → TakesScript rows
+takes_run name rows (inl takes) is = absurd (count_is_no_run (sym takes.0 ∙ is))
+takes_run name rows (inr (inl takes)) is = takes.1
+takes_run name rows (inr (inr takes)) is = takes.1
+
+pub takes_none : (name : Text) (rows : List Row) → Takes name rows → (name ≡ codes "count" → ⊥) → (name ≡ codes "replay" → ⊥) → (name ≡ codes "run" → ⊥) → ⊥
+takes_none name rows (inl takes) no_count no_replay no_run = no_count takes.0
+takes_none name rows (inr (inl takes)) no_count no_replay no_run = no_replay takes.0
+takes_none name rows (inr (inr takes)) no_count no_replay no_run = no_run takes.0

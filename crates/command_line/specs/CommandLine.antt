@@ -1,0 +1,134 @@
+-- The command line of keycount, as clap describes one.
+use Rattle.std.specs.Prelude.{◌≡◌, ◌⊎◌, ℕ, List, [], Option, Some, None, Ok, true, false, codes, Bool, ⊤, ◌≢◌, pos}
+use Rattle.std.specs.Str.Parse.{ParsesUnsigned}
+use Rattle.clap.specs.Simple.{App, new_app, new_rule, with_rule, with_subcommand, subcommand_of}
+use Rattle.clap.specs.Walk.{Row, Rule, Text, first_of, one_of}
+use Rattle.clap.specs.Kinds.{IsAmong, Kinds}
+use Rattle.clap.specs.Faults.{fault_of}
+use Rattle.clap.specs.declared.error.kind.ErrorKind.{ErrorKind}
+use Rattle.lane_words.specs.declared.limits.TheConstants.{MOST_PARTITIONS}
+use Rattle.clap.specs.declared.builder.action.ArgAction.TheVariants as action
+use Rattle.clap.specs.declared.builder.value_parser.ValueParser.TheVariants as parser
+use Rattle.clap.specs.declared.error.kind.ErrorKind.TheVariants as kind
+use Rattle.command_line.specs.declared.options.Options.{Options}
+use Rattle.command_line.specs.declared.words.Job.{Job}
+use Rattle.command_line.specs.declared.words.Job.TheVariants.{Count, Replay, Run}
+use Rattle.command_line.specs.declared.words.Usage.{Usage}
+use Rattle.command_line.specs.declared.words.Usage.TheVariants.{Help, Bad, Memory}
+use Rattle.command_line.specs.declared.options.TheConstants.{LAST_COLUMN, DEFAULT_BATCH, MOST_BATCH}
+use Rattle.command_line.specs.Options.{AreInRange}
+
+-- an option that takes a number from 1 to this
+abbrev pub number_option : Text → ℕ → Rule
+number_option name most = record (new_rule name) {
+  long = Some name;
+  value_names = 1;
+  parser = Some (parser.Signed (pos 1) (pos most));
+  action = Some action.Set;
+}
+
+-- a flag
+abbrev pub flag : Text → Rule
+flag name = record (new_rule name) { long = Some name; action = Some action.SetTrue }
+
+-- a path that has to be given
+abbrev pub path : Text → Rule
+path name = record (new_rule name) { value_names = 1; required = true; action = Some action.Set }
+
+-- a command with the options of all subcommands
+abbrev pub with_options : App → App
+with_options app =
+    let partitions = with_rule app (number_option (codes "partitions") MOST_PARTITIONS) in
+    let column = with_rule partitions (number_option (codes "column") LAST_COLUMN) in
+    with_rule column (flag (codes "header"))
+
+-- the subcommand `count`
+abbrev pub count_app : App
+count_app = with_options (with_rule (new_app (codes "count")) (path (codes "file")))
+
+-- a command that reads a file and a script, with the options of all subcommands and a batch
+abbrev pub with_script : App → App
+with_script app =
+    let file = with_rule app (path (codes "file")) in
+    let script = with_rule file (path (codes "script")) in
+    with_rule (with_options script) (number_option (codes "batch") MOST_BATCH)
+
+-- the subcommand `replay`
+abbrev pub replay_app : App
+replay_app = with_script (new_app (codes "replay"))
+
+-- the subcommand `run`
+abbrev pub run_app : App
+run_app = with_script (new_app (codes "run"))
+
+-- the program without its subcommands, of which it wants one; it tells its version
+abbrev pub keycount_top : App
+keycount_top =
+    let top = new_app (codes "keycount") in
+    record top {
+      top = record top.top { no_binary_name = true; subcommand_required = true; has_version = true };
+    }
+
+-- the program
+abbrev pub keycount_app : App
+keycount_app =
+    let count = with_subcommand keycount_top count_app.top in
+    with_subcommand (with_subcommand count replay_app.top) run_app.top
+
+-- n is the number that a text reads as, or the default where there is none
+abbrev pub IsNumber : Option Text → ℕ → ℕ → Type 0
+IsNumber None default n = n ≡ default
+IsNumber (Some text) default n = ParsesUnsigned {E = ℕ} 32 10 text (Ok n)
+
+-- a flag is as clap finds it
+abbrev pub IsFlag : Option Text → Bool → Type 0
+IsFlag None given = given ≡ false
+IsFlag (Some text) given =
+    (text ≡ codes "true" → given ≡ true) × (text ≡ codes "false" → given ≡ false)
+
+-- the options of all subcommands are those that clap found, and each number is in its range
+pub record HasOptions (rows : List Row) (options : Options) : Type 0 where
+  pub partitions : IsNumber (first_of (codes "partitions") rows) 4 options.partitions
+  pub column : IsNumber (first_of (codes "column") rows) 1 options.column
+  pub header : IsFlag (one_of (codes "header") rows) options.header
+  pub in_range : AreInRange options
+
+-- the paths, the options and the batch of a job with a script are those that clap found
+pub record HasScript (rows : List Row) (file script : Text) (options : Options) : Type 0 where
+  pub file_is : first_of (codes "file") rows ≡ Some file
+  pub script_is : first_of (codes "script") rows ≡ Some script
+  pub options_are : HasOptions rows options
+  pub batch : IsNumber (first_of (codes "batch") rows) DEFAULT_BATCH options.batch
+
+-- the job has the files and the options that clap found; the batch of a count is the default
+abbrev pub HasJob : List Row → Job → Type 0
+HasJob rows (Count file options) = (first_of (codes "file") rows ≡ Some file.now)
+    × HasOptions rows options × (options.batch ≡ DEFAULT_BATCH)
+HasJob rows (Replay file script options) = HasScript rows file.now script.now options
+HasJob rows (Run file script options) = HasScript rows file.now script.now options
+
+-- the name of the subcommand of a job
+abbrev pub name_of : Job → Text
+name_of (Count file options) = codes "count"
+name_of (Replay file script options) = codes "replay"
+name_of (Run file script options) = codes "run"
+
+-- the job is what the words say: clap takes them, and finds the subcommand with its files and
+-- options
+pub record IsJobOf (words : List Text) (job : Job) : Type 0 where
+  pub rows : List Row
+  pub taken : fault_of keycount_app words ≡ []
+  pub subcommand : subcommand_of keycount_app words ≡ Some (name_of job, rows)
+  pub found : HasJob rows job
+
+-- what the words may ask for in place of a job: help, or the version
+abbrev pub IsRequest : ErrorKind → Type 0
+IsRequest k = (k ≡ kind.DisplayHelp) ⊎ (k ≡ kind.DisplayVersion)
+
+-- clap refuses the words by one of these kinds; help and the version are told as help, another
+-- fault as bad words
+abbrev pub IsRefusal : Kinds → Usage → Type 0
+IsRefusal kinds (Help text) = (k : ErrorKind) × IsAmong k kinds × IsRequest k
+IsRefusal kinds (Bad text) =
+    (k : ErrorKind) × IsAmong k kinds × (k ≢ kind.DisplayHelp) × (k ≢ kind.DisplayVersion)
+IsRefusal kinds Memory = ⊤

@@ -1,0 +1,49 @@
+-- What clap has tested of the words, and how its errors are told.
+use Rattle.std.specs.Prelude.{◌≡◌, ℕ, List, Option, Some, None, codes, false, ⊤, ◌≢◌, IsSome, pos}
+use Rattle.clap.specs.Simple.{App, app_of}
+use Rattle.clap.specs.Values.{IsSignedIn}
+use Rattle.clap.specs.Walk.{Row, Text, first_of}
+use Rattle.clap.specs.declared.builder.command.Command.{Command}
+use Rattle.clap.specs.declared.builder.command.Command.TheViews.{out-Command}
+use Rattle.clap.specs.declared.error.kind.ErrorKind.{ErrorKind}
+use Rattle.lane_words.specs.declared.limits.TheConstants.{MOST_PARTITIONS}
+use Rattle.clap.specs.declared.error.kind.ErrorKind.TheVariants as kind
+use Rattle.command_line.specs.CommandLine.{IsRequest}
+use Rattle.command_line.specs.declared.words.Usage.{Usage}
+use Rattle.command_line.specs.declared.words.Usage.TheVariants.{Help, Bad, Memory}
+use Rattle.command_line.specs.declared.options.TheConstants.{LAST_COLUMN, MOST_BATCH}
+
+-- a text, if there is one, is a number from 1 to this
+abbrev pub ReadsNumber : Option Text → ℕ → Type 0
+ReadsNumber None most = ⊤
+ReadsNumber (Some text) most = IsSignedIn (pos 1) (pos most) text
+
+-- what clap has tested of the options of all subcommands
+pub record TakesOptions (rows : List Row) : Type 0 where
+  pub partitions : ReadsNumber (first_of (codes "partitions") rows) MOST_PARTITIONS
+  pub column : ReadsNumber (first_of (codes "column") rows) LAST_COLUMN
+
+-- what clap has tested of the words after `count`
+pub record TakesCount (rows : List Row) : Type 0 where
+  pub file : IsSome (first_of (codes "file") rows)
+  pub options : TakesOptions rows
+
+-- what clap has tested of the words after `replay` or `run`
+pub record TakesScript (rows : List Row) : Type 0 where
+  pub file : IsSome (first_of (codes "file") rows)
+  pub script : IsSome (first_of (codes "script") rows)
+  pub options : TakesOptions rows
+  pub batch : ReadsNumber (first_of (codes "batch") rows) MOST_BATCH
+
+-- a command is read as this one, and has no global argument
+pub record IsCommand (app : App) (c : Command) : Type 0 where
+  pub read_as : app_of c ≡ app
+  pub local : (out-Command c).has_globals ≡ false
+
+-- the answer to an error of clap's: help and the version are told as help, another fault as bad
+-- words
+abbrev pub Tells : Usage → ErrorKind → Type 0
+Tells (Help text) k = IsRequest k
+Tells (Bad text) k =
+    (k ≢ kind.DisplayHelp) × (k ≢ kind.DisplayVersion) × (k ≢ kind.OutOfMemory)
+Tells Memory k = ⊤

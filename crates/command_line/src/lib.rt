@@ -1,0 +1,9 @@
+//! The command line of keycount: words to a job.
+#![tactic(auto)]
+
+mod help;
+mod options;
+mod words;
+
+pub use options::Options;
+pub use words::{Job, Usage, read_words};

@@ -1,0 +1,77 @@
+-- Counts of logs by key number, log by log.
+use Rattle.std.proofs.Common.{◌≡◌, ◌∙◌, ◌+◌, ◌-◌, ◌<◌, ◌≤◌, ◌*◌, ◌^◌, ℕ, zero, suc, List, [], length, map, get_or, sym, ap, arith, inl, inr, suc-mul}
+use Rattle.std.specs.Prelude.{◌==◌}
+use Rattle.std.proofs.lemmas.Bool.{cases_lt}
+use Rattle.std.proofs.lemmas.List.{get_or-map, get_or_default, get_or_past, length-map, same_lists}
+use Rattle.std.proofs.lemmas.List.Sums.{count_by-le-length}
+use Rattle.std.proofs.lemmas.Nat.{mul-le}
+use Rattle.keyed_table.specs.Counts as table
+use Rattle.keyed_table.proofs.Elements.{stands-somewhere}
+use Rattle.keyed_table.proofs.Raised.{counter-raised, length-raised}
+use Rattle.partition_log.specs.Keys.{Key, distinct, key_at, plain}
+use Rattle.partition_log.specs.Logs.{IsValidLogs, AreLogsOf, PartitionLogs, keys_of_log, log_at, sum_below}
+use Rattle.partition_log.proofs.Numbered.{by_number, number-back}
+use Rattle.partition_log.proofs.Parted.{in_one_log, sum-same}
+use Rattle.count_report.specs.CountReport.{counts_of}
+use Rattle.count_report.specs.Tally.{AreCountsByNumber}
+
+-- how often a key number is in the logs below p
+abbrev pub so_far : PartitionLogs → ℕ → ℕ → ℕ
+so_far l p n = sum_below p (λ q. table.plain (log_at l q) n)
+
+-- counters of the logs below p
+pub record AreCountsBelow (l : PartitionLogs) (p : ℕ) (counts : List ℕ) : Type 0 where
+  pub one_each : length counts ≡ length l.keys
+  pub counted : (n : ℕ) → n < length l.keys → get_or counts n 0 ≡ so_far l p n
+
+-- the logs below p have at most so many records
+most-so-far : (l : PartitionLogs) (p n : ℕ) → IsValidLogs l → so_far l p n ≤ p * (2 ^ 32 - 1)
+most-so-far l zero n a = omega arith
+most-so-far l (suc p) n a =
+    let step : suc p * (2 ^ 32 - 1) ≡ p * (2 ^ 32 - 1) + (2 ^ 32 - 1) = suc-mul p (2 ^ 32 - 1) in
+    omega (arith, step, most-so-far l p n a, a.few_records p, count_by-le-length (λ y. n == y) (log_at l p))
+
+-- each number in a log has a counter
+pub in-counters : (l : PartitionLogs) (p : ℕ) (counts : List ℕ) → IsValidLogs l → AreCountsBelow l p counts → table.HaveCounters counts (log_at l p)
+in-counters l p counts a h x more =
+    let there = stands-somewhere (log_at l p) x more in
+    omega (arith, there.2, (a.entries p there.0 there.1).numbered, h.one_each)
+
+pub in-range : (l : PartitionLogs) (p : ℕ) (counts : List ℕ) → IsValidLogs l → AreCountsBelow l p counts → p < l.partitions → table.SumsFit counts (log_at l p)
+in-range l p counts a h lt x =
+    let some = count_by-le-length (λ y. x == y) (log_at l p) in
+    elim (cases_lt x (length l.keys)) [
+      | inl known ↦
+          let most : p * (2 ^ 32 - 1) ≤ 4096 * (2 ^ 32 - 1) = mul-le p (2 ^ 32 - 1) 4096 (2 ^ 32 - 1) (omega (arith, lt, a.few_partitions)) (omega arith) in
+          omega (arith, h.counted x known, most-so-far l p x a, most, some, a.few_records p)
+      | inr past ↦ omega (arith, get_or_past counts x 0 (omega (arith, h.one_each, past)), some, a.few_records p)
+    ]
+
+-- one log more
+pub next-log : (l : PartitionLogs) (p : ℕ) (counts : List ℕ) → AreCountsBelow l p counts → AreCountsBelow l (p + 1) (table.raised counts (log_at l p))
+unfolding table.raised
+next-log l p counts h = record {
+  one_each = length-raised 0 counts (log_at l p) ∙ h.one_each;
+  counted = λ n lt.
+      let next : p + 1 ≡ suc p = omega arith in
+      let from : 0 + n ≡ n = omega arith in
+      counter-raised 0 counts (log_at l p) n (omega (arith, lt, h.one_each)) ∙ ap (λ m. get_or counts n 0 + table.plain (log_at l p) m) from ∙ ap (λ m. m + table.plain (log_at l p) n) (h.counted n lt) ∙ ap (λ q. so_far l q n) (sym next);
+}
+
+-- all logs
+pub all-logs : (l : PartitionLogs) (p : ℕ) (counts : List ℕ) → IsValidLogs l → p ≡ l.partitions → AreCountsBelow l p counts → AreCountsByNumber l counts
+all-logs l p counts a e h = record {
+  one_each = h.one_each;
+  counted = λ n lt. h.counted n lt ∙ ap (λ q. so_far l q n) e ∙ sum-same l.partitions (λ q. table.plain (log_at l q) n) (λ q. plain (keys_of_log l q) (key_at l.keys n))
+      (λ q below. ap (table.plain (log_at l q)) (sym (number-back l.keys n a.without_repeats lt)) ∙ sym (by_number l.keys (log_at l q) (key_at l.keys n) a.without_repeats (λ i within. (a.entries q i within).numbered)));
+}
+
+-- in the logs of some keys the counts are those of the keys
+pub counts-are : (keys : List Key) (l : PartitionLogs) (counts : List ℕ) → IsValidLogs l → AreLogsOf keys l → AreCountsByNumber l counts → counts ≡ counts_of keys
+unfolding counts_of
+counts-are keys l counts a h c =
+    let long : length counts ≡ length (map (plain keys) (distinct keys)) = c.one_each ∙ ap length h.numbers ∙ sym (length-map (distinct keys) (plain keys)) in
+    same_lists counts (map (plain keys) (distinct keys)) long (λ n d lt.
+    let numbered : n < length l.keys = omega (arith, lt, c.one_each) in
+    let listed : n < length (distinct keys) = omega (arith, numbered, ap length h.numbers) in
+    get_or_default counts n d 0 lt ∙ c.counted n numbered ∙ in_one_log keys l (key_at l.keys n) a h ∙ ap (λ ks. plain keys (key_at ks n)) h.numbers ∙ sym (get_or-map (plain keys) (distinct keys) n [] d listed))

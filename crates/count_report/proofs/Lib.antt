@@ -1,0 +1,4 @@
+pub mod Appended
+pub mod Counted
+pub mod Faulted
+pub mod Told

@@ -1,0 +1,3 @@
+pub mod CountReport
+pub mod Reports
+pub mod Tally

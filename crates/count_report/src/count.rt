@@ -1,0 +1,94 @@
+//! The report of a plain count, from the bytes of a file to the bytes of its rows.
+
+ghost use Rattle.std.specs.Prelude.{◌≡◌, ◌≤◌, ◌<◌, ◌+◌, ◌-◌, ◌^◌, ◌⊎◌, Err, Ok, IfOk, IfErr, IfSome};
+ghost use Rattle.lane_words.specs.declared.Refusal.TheVariants as refusal;
+ghost use Rattle.count_report.specs.CountReport.{report_of_count, report_of_keys};
+ghost use Rattle.count_report.specs.Reports.{AreInRange, IsFaultOf, IsNoWrite, WritesAtEndAlone, WritesReport, failed_reads, failed_writes};
+ghost use Rattle.count_report.specs.Tally.{IsKeyFault};
+
+use crate::reading::file_keys;
+use crate::tally::{counts_in, logs_of};
+use command_line::Options;
+use devices::{Sink, Source, write_all};
+use key_file::FileKeys;
+use lane_words::{MOST_PARTITIONS, Refusal};
+use report_rows::count_rows::count_rows_text;
+use std::alloc::Global;
+use std::random::RandomSource;
+use std::thread::Threads;
+
+/// The text of the plain count of some keys.
+fn plain_report<R: Threads + Sync + RandomSource>(
+    rt: &R,
+    alloc: Global,
+    keys: FileKeys,
+    partitions: u32,
+) -> Result<Vec<u8>, Refusal>
+    requires { (1 ≤ partitions) × (partitions ≤ MOST_PARTITIONS) }
+    ensures text { IfOk result (λ text. report_of_keys partitions keys ≡ Ok text.items) }
+    ensures kind { IfErr result IsKeyFault }
+    ensures refused { IfErr result
+        (λ e. (e ≡ refusal.Memory) ⊎ (report_of_keys partitions keys ≡ Err e)) }
+{
+    let logs = logs_of(rt, alloc, &keys, partitions)?;
+    let total = keys.len() as u64;
+    // The logs have a copy of each key that the text needs.
+    drop(keys);
+    let counts = counts_in(alloc, &logs)?;
+    let text = count_rows_text(alloc, &logs, counts.counts(), total, total)?;
+    Ok(text)
+}
+
+/// The text of the plain count of a file's keys.
+fn file_report<R: Threads + Sync + RandomSource, S: Source>(
+    rt: &R,
+    alloc: Global,
+    file: &mut S,
+    options: Options,
+) -> Result<Vec<u8>, Refusal>
+    requires source { S.failures file.old < 2 ^ 64 - 1 }
+    requires options { AreInRange options }
+    ensures text { IfOk result (λ text. IfSome (S.left file.old)
+        (λ bytes. report_of_count options bytes ≡ Ok text.items)) }
+    ensures refused { IfErr result (λ e. IfSome (S.left file.old)
+        (λ bytes. IsFaultOf (report_of_count options bytes) e)) }
+    ensures kind { IfErr result IsNoWrite }
+    ensures reads { S.failures file.new ≡ S.failures file.old + failed_reads result }
+{
+    let keys = file_keys(rt, alloc, file, options)?;
+    plain_report(rt, alloc, keys, options.partitions)
+}
+
+/// Counts how often each key occurs in a file of comma-separated records, and writes a row for each
+/// key, in the order of first appearance, and a row of the totals.
+///
+/// The file is read whole, its records are checked, and the text is made whole before the first
+/// write. So after any answer but `Ok` and `WriteFailed` nothing was written, and after
+/// `WriteFailed` a beginning of the text.
+///
+/// Refused: a read that failed (`ReadFailed`); the first record of another length than the first
+/// one (`BadCsv`) or without the column (`NoSuchColumn`); only where there is none, the first key
+/// that can't be appended (`KeyTooLong`, `LogFull`); a write that failed; want of memory, or of the
+/// random bytes for a hasher (`Memory`).
+pub fn count_text<R: Threads + Sync + RandomSource, S: Source, K: Sink>(
+    rt: &R,
+    alloc: Global,
+    file: &mut S,
+    options: Options,
+    out: &mut K,
+) -> Result<(), Refusal>
+    requires source { S.failures file.old < 2 ^ 64 - 1 }
+    requires sink { K.failures out.old < 2 ^ 64 - 1 }
+    requires options { AreInRange options }
+    ensures report { IfSome (S.left file.old) (λ bytes. WritesReport (report_of_count options bytes)
+        (K.written out.old) (K.written out.new) result) }
+    ensures nothing_before { WritesAtEndAlone (K.written out.old) (K.written out.new) result }
+    ensures reads { S.failures file.new ≡ S.failures file.old + failed_reads result }
+    ensures writes { K.failures out.new ≡ K.failures out.old + failed_writes result }
+{
+    let text = file_report(rt, alloc, file, options)?;
+    write_all(out, text.as_slice())
+}
+
+#[cfg(test)]
+mod tests;

@@ -1,0 +1,11 @@
+//! The report of a count, and what the other reports share with it: the keys of a file, and their
+//! logs.
+#![tactic(auto)]
+
+mod count;
+mod reading;
+mod tally;
+
+pub use count::count_text;
+pub use reading::file_keys;
+pub use tally::logs_of;

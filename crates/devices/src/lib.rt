@@ -1,0 +1,11 @@
+//! Where bytes come from and go to, and how a fault is told.
+#![tactic(auto)]
+
+mod device;
+mod faults;
+
+pub use device::{DeviceFailed, FromRead, FromWrite, Sink, Source, read_all, write_all};
+pub use faults::{fault_line, status};
+
+#[cfg(test)]
+mod tests;

@@ -1,0 +1,5 @@
+pub mod LineFaults
+pub mod Lines
+pub mod Loaded
+pub mod Named
+pub mod Opening

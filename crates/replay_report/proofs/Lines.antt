@@ -1,0 +1,87 @@
+-- The text of lines, line by line.
+use Rattle.std.proofs.Common.{◌≡◌, ◌≢◌, ◌∙◌, ◌+◌, ◌<◌, ◌≤◌, ℕ, suc, List, [], ◌∷◌, ◌++◌, Ok, Err, Result, add-one, append_assoc, drop, drop-cons, get_or, inl, inr, length, sym, ap, refl, subst}
+use Rattle.std.specs.Prelude.{◌⊎◌}
+use Rattle.std.proofs.lemmas.List.{drop_all}
+use Rattle.lane_words.specs.declared.Refusal.{Refusal}
+use Rattle.lane_words.specs.declared.Refusal.TheVariants as r
+use Rattle.script.specs.declared.replay.Line.{Line}
+use Rattle.world.specs.World.{WorldState}
+use Rattle.replay_report.specs.ReplayReport.{LineOutcome, outcome_of_line, rows_of_answer, rows_of_line, text_before, text_of_lines, unless_over}
+use Rattle.group_machine.specs.Cluster.{ClusterState}
+use Rattle.replay_rows.specs.ReplayRows.{closing_rows, move_rows}
+use Rattle.replay_report.specs.Private.Replay.{GoesOn, IsOver, WritesText}
+
+goes_on : (answer : Result (Unit {0}) Refusal) (text : Result (List ℕ) Refusal) → answer ≢ Err r.GenerationsOver → unless_over answer text ≡ text
+goes_on (Err r.GenerationsOver) text h = absurd (h refl)
+goes_on answer text h = refl
+
+-- no line is left
+pub text_of_lines-nil : (batch : ℕ) (w : WorldState) → text_of_lines batch w [] ≡ Ok (closing_rows w.cluster)
+unfolding text_of_lines
+text_of_lines-nil batch w = refl
+
+-- a line that goes on
+pub text_of_lines-next : (batch : ℕ) (w : WorldState) (line : Line) (lines : List Line) → (outcome_of_line batch w line.action).answer ≢ Err r.GenerationsOver
+    → text_of_lines batch w (line ∷ lines) ≡ text_before (rows_of_line line.number w (outcome_of_line batch w line.action)) (text_of_lines batch (outcome_of_line batch w line.action).after lines)
+unfolding text_of_lines
+text_of_lines-next batch w line lines h = goes_on _ _ h
+
+-- a line that ends all
+pub text_of_lines-over : (batch : ℕ) (w : WorldState) (line : Line) (lines : List Line) → (outcome_of_line batch w line.action).answer ≡ Err r.GenerationsOver → text_of_lines batch w (line ∷ lines) ≡ Err r.GenerationsOver
+unfolding text_of_lines
+text_of_lines-over batch w line lines h = rw h refl
+
+pub text_before-both : (a b : List ℕ) (text : Result (List ℕ) Refusal) → text_before a (text_before b text) ≡ text_before (a ++ b) text
+text_before-both a b (Ok rest) = ap Ok (sym (append_assoc a b rest))
+text_before-both a b (Err fault) = refl
+
+pub fault_before : (a : List ℕ) (text : Result (List ℕ) Refusal) (fault : Refusal) → text ≡ Err fault → text_before a text ≡ Err fault
+fault_before a text fault h = rw h refl
+
+-- a whole text that was written
+pub written : (Written : List ℕ → Type 0) (text now more : List ℕ) (expected : Result (List ℕ) Refusal) → text_before now (Ok more) ≡ text_before text expected → Written (now ++ more) → WritesText expected text Written
+written Written text now more (Ok rest) e h = let same : now ++ more ≡ text ++ rest = cc e in (rest, refl, subst Written same h)
+written Written text now more (Err fault) e h = absurd (cc e)
+
+-- ---- one line
+-- the moves and the refusal that were written are the rows of the line
+pub rows_written : (Written : List ℕ → Type 0) (text rows : List ℕ) (line from : ℕ) (w w2 : WorldState) (s : ClusterState) (outcome : LineOutcome) (answer : Result (Unit {0}) Refusal) → GoesOn outcome answer w2 → s ≡ w2.cluster
+    → from ≡ length w.cluster.group.moves → rows ≡ rows_of_answer line answer → Written ((text ++ move_rows s.group (drop from s.group.moves)) ++ rows) → Written (text ++ rows_of_line line w outcome)
+unfolding rows_of_line
+rows_written Written text rows line from w w2 s outcome answer goes s_is from_is rows_is h =
+    let after : s ≡ outcome.after.cluster = s_is ∙ ap (λ (x : WorldState). x.cluster) goes.after_is in
+    let told : rows ≡ rows_of_answer line outcome.answer = rows_is ∙ ap (rows_of_answer line) goes.answer_is in
+    subst Written (append_assoc text (move_rows s.group (drop from s.group.moves)) rows
+    ∙ ap (λ (x : ClusterState). text ++ (move_rows x.group (drop from x.group.moves) ++ rows)) after
+    ∙ ap (λ n. text ++ (move_rows outcome.after.cluster.group (drop n outcome.after.cluster.group.moves) ++ rows)) from_is
+    ∙ ap (λ rs. text ++ (move_rows outcome.after.cluster.group (drop (length w.cluster.group.moves) outcome.after.cluster.group.moves) ++ rs)) told) h
+
+-- ---- a line of many
+next_line : (lines : List Line) (i : ℕ) (line : Line) → i < length lines → line ≡ get_or lines i line → drop i lines ≡ line ∷ drop (i + 1) lines
+next_line lines i line lt is = drop-cons lines i line lt ∙ ap (λ x. x ∷ drop (suc i) lines) (sym is) ∙ rw add-one refl
+
+-- the rows of the next line stand before the text of the rest
+pub lines_step : (batch : ℕ) (w w2 : WorldState) (lines : List Line) (i : ℕ) (line : Line) → i < length lines → line ≡ get_or lines i line → (outcome_of_line batch w line.action).answer ≢ Err r.GenerationsOver
+    → w2 ≡ (outcome_of_line batch w line.action).after
+    → text_of_lines batch w (drop i lines) ≡ text_before (rows_of_line line.number w (outcome_of_line batch w line.action)) (text_of_lines batch w2 (drop (i + 1) lines))
+lines_step batch w w2 lines i line lt is goes after =
+    ap (text_of_lines batch w) (next_line lines i line lt is) ∙ text_of_lines-next batch w line (drop (i + 1) lines) goes
+    ∙ ap (λ x. text_before (rows_of_line line.number w (outcome_of_line batch w line.action)) (text_of_lines batch x (drop (i + 1) lines))) (sym after)
+
+-- the text so far with the text of the lines that are left, after one more line
+pub text_step : (now rows : List ℕ) (left before after : Result (List ℕ) Refusal) → before ≡ text_before rows after → text_before now before ≡ left → text_before (now ++ rows) after ≡ left
+text_step now rows left before after step h = sym (text_before-both now rows after) ∙ ap (text_before now) (sym step) ∙ h
+
+-- the fault of the next line is that of all lines
+pub lines_fault : (batch : ℕ) (w : WorldState) (lines : List Line) (i : ℕ) (line : Line) (whole : Result (List ℕ) Refusal) (e : Refusal) → i < length lines → line ≡ get_or lines i line
+    → ((x : Refusal) → text_of_lines batch w (drop i lines) ≡ Err x → whole ≡ Err x) → (e ≡ r.Memory) ⊎ IsOver e (outcome_of_line batch w line.action).answer → (e ≡ r.Memory) ⊎ (whole ≡ Err e)
+lines_fault batch w lines i line whole e lt is told (inl m) = inl m
+lines_fault batch w lines i line whole e lt is told (inr over) =
+    inr (told e (ap (text_of_lines batch w) (next_line lines i line lt is) ∙ text_of_lines-over batch w line (drop (i + 1) lines) over.1 ∙ ap Err (sym over.0)))
+
+-- no line is left
+pub lines_end : (batch : ℕ) (w : WorldState) (s : ClusterState) (lines : List Line) (i : ℕ) (now text : List ℕ) (whole : Result (List ℕ) Refusal) (Written : List ℕ → Type 0) → length lines ≤ i → s ≡ w.cluster
+    → text_before now (text_of_lines batch w (drop i lines)) ≡ text_before text whole → Written (now ++ closing_rows s) → WritesText whole text Written
+lines_end batch w s lines i now text whole Written h s_is e done =
+    let last : text_of_lines batch w (drop i lines) ≡ Ok (closing_rows s) = ap (text_of_lines batch w) (drop_all i lines h) ∙ text_of_lines-nil batch w ∙ ap (λ (x : ClusterState). Ok (closing_rows x)) (sym s_is) in
+    written Written text now (closing_rows s) whole (ap (text_before now) (sym last) ∙ e) done

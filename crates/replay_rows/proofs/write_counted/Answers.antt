@@ -1,0 +1,5 @@
+use Rattle.replay_rows.proofs.Replayed.{counted_is}
+use Rattle.replay_rows.proofs.write_counted.Goals as goal
+
+pub returns : goal.returns
+returns c = rw (counted_is c.args.key.now c.args.count c.if-count-eq0.false) c.write_count.ensures

@@ -1,0 +1,89 @@
+-- The text of the rows of a replay and of a run.
+use Rattle.std.specs.Prelude.{ℕ, zero, suc, ◌==◌, List, [], ◌∷◌, ◌++◌, Option, Some, None, codes, decimal, length, unwrap_or, if◌then◌else◌}
+use Rattle.csv.specs.Writing.{row_text}
+use Rattle.lane_words.specs.Sums.{sum_below}
+use Rattle.partition_log.specs.Logs.{PartitionLogs, log_at}
+use Rattle.commit_store.specs.Commits.{committed_at}
+use Rattle.group_machine.specs.declared.group.Move.{Move}
+use Rattle.group_machine.specs.State.{GroupState, name_of, owner_of}
+use Rattle.group_machine.specs.Cluster.{ClusterState}
+use Rattle.report_rows.specs.Rows.{row_writer, total_row}
+use Rattle.report_rows.specs.CountRows.{count_row}
+
+-- the name of a member, and nothing where there is none
+abbrev pub name_or_empty : GroupState → Option ℕ → List ℕ
+name_or_empty g None = []
+name_or_empty g (Some member) = unwrap_or (name_of g member) []
+
+-- the row of a move: the generation that was completed, the partition, and the names of the member
+-- that was last granted it, which is empty at first, and of the one that has it now
+unfoldable pub move_row : GroupState → Move → List ℕ
+move_row g move =
+    row_text row_writer
+    (codes "move" ∷ decimal move.generation ∷ decimal move.partition ∷ name_or_empty g move.last
+    ∷ name_or_empty g (Some move.holder) ∷ [])
+
+-- the rows of moves, in their order
+unfoldable pub move_rows : GroupState → List Move → List ℕ
+move_rows g [] = []
+move_rows g (move ∷ moves) = move_row g move ++ move_rows g moves
+
+-- the row of a line of a script that was refused: its number, and the number of the refusal
+unfoldable pub refused_row : ℕ → ℕ → List ℕ
+refused_row line code = row_text row_writer (codes "refused" ∷ decimal line ∷ decimal code ∷ [])
+
+-- the rows of the numbers below n, in rising order
+abbrev pub rows_below : ℕ → (ℕ → List ℕ) → List ℕ
+rows_below zero row = []
+rows_below (suc n) row = rows_below n row ++ row n
+
+-- the row of a partition and the present member that is granted it, which is empty where there is
+-- none
+unfoldable pub owner_row : GroupState → ℕ → List ℕ
+owner_row g p =
+    row_text row_writer
+    (codes "owner" ∷ decimal p ∷ name_or_empty g (owner_of g p) ∷ [])
+
+-- the row of each partition and its owner
+abbrev pub owner_rows : GroupState → List ℕ
+owner_rows g = rows_below g.partitions (owner_row g)
+
+-- the row of a partition, its committed offset and the end of its log
+unfoldable pub offset_row : ℕ → ℕ → ℕ → List ℕ
+offset_row p committed end =
+    row_text row_writer (codes "offset" ∷ decimal p ∷ decimal committed ∷ decimal end ∷ [])
+
+-- the end of the log of a partition, which is the number of its records
+abbrev pub end_of : PartitionLogs → ℕ → ℕ
+end_of l p = length (log_at l p)
+
+-- the row of each partition, its committed offset and the end of its log
+abbrev pub offset_rows : ClusterState → List ℕ
+offset_rows s =
+    rows_below s.group.partitions (λ p. offset_row p (committed_at s.store p) (end_of s.logs p))
+
+-- the row of a key that was counted, and nothing where its count is 0
+abbrev pub counted_row : List ℕ → ℕ → List ℕ
+counted_row key n = if n == 0 then [] else count_row key n
+
+-- the rows of the keys that were counted with their counts, in the order of the keys
+unfoldable pub committed_count_rows : List (List ℕ) → List ℕ → List ℕ
+committed_count_rows [] counts = []
+committed_count_rows (key ∷ keys) [] = []
+committed_count_rows (key ∷ keys) (n ∷ counts) =
+    counted_row key n ++ committed_count_rows keys counts
+
+-- how many records are committed: the sum of the committed offsets
+abbrev pub committed_total : ClusterState → ℕ
+committed_total s = sum_below s.group.partitions (committed_at s.store)
+
+-- how many records were appended: the sum of the logs' lengths
+abbrev pub appended_total : ClusterState → ℕ
+appended_total s = sum_below s.group.partitions (end_of s.logs)
+
+-- the rows after the last line of a script or of a plan: who owns each partition, how far it is
+-- committed, the counts of the committed keys, and the totals
+abbrev pub closing_rows : ClusterState → List ℕ
+closing_rows s =
+    owner_rows s.group ++ offset_rows s ++ committed_count_rows s.logs.keys s.store.counts
+    ++ total_row (committed_total s) (appended_total s)

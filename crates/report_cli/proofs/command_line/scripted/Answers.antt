@@ -1,6 +1,0 @@
-use Rattle.std.proofs.Common.{arith}
-use Rattle.report_cli.proofs.Entered.{number_in}
-use Rattle.report_cli.proofs.command_line.scripted.Goals as goal
-
-pub options_of-options-requires-clause-batch : goal.options_of-options-requires-clause-batch
-options_of-options-requires-clause-batch c = number_in _ 500 1000000 _ (omega arith, omega arith) c.requires.batch c.number_of.ensures

@@ -1,6 +1,0 @@
-use Rattle.report_cli.specs.CountRows.{count_row}
-use Rattle.report_cli.proofs.count_rows.write_count.Goals as goal
-
-pub returns : goal.returns
-unfolding count_row
-returns c = rw (c.as_bytes.ensures.value, c.format.ensures.text) at c.write_row.ensures

@@ -1,7 +1,0 @@
-use Rattle.report_cli.proofs.Opening.{opening_is}
-use Rattle.report_cli.proofs.replay.loading.opened.Goals as goal
-
-pub returns-clause-opening : goal.returns-clause-opening
-returns-clause-opening g c =
-    let new = c.in_ok-world.ensures in
-    opening_is c.args.partitions c.in_ok-world.world new.opening new.offsets new.valid new.opening.room

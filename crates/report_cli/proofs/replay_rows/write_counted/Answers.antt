@@ -1,5 +1,0 @@
-use Rattle.report_cli.proofs.Replayed.{counted_is}
-use Rattle.report_cli.proofs.replay_rows.write_counted.Goals as goal
-
-pub returns : goal.returns
-returns c = rw (counted_is c.args.key.now c.args.count c.if-count-eq0.false) c.write_count.ensures

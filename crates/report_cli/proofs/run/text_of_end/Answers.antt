@@ -1,8 +1,0 @@
-use Rattle.std.proofs.Common.{[]}
-use Rattle.report_cli.proofs.run.text_of_end.Goals as goal
-
-pub returns : goal.returns
-returns c =
-    let moves = c.in_ok-write_moves.ensures [] c.new_writer-writer.ensures in
-    let whole = c.in_ok-write_closing.ensures _ moves in
-    c.text_of.ensures _ whole

@@ -1,5 +1,0 @@
-use Rattle.report_cli.proofs.Counted.{AreCountsBelow}
-use Rattle.report_cli.proofs.tally.counts_in.Given as goal
-
-abbrev pub invariant-loop-p : goal.invariant-loop-p
-invariant-loop-p g l = AreCountsBelow (g.L.LogRead.contents l.logs) l.p l.table.counts

@@ -1,0 +1,26 @@
+//! Which of a job's files are standard input.
+
+ghost use Rattle.std.specs.Prelude.{◌≡◌, ◌↔◌, IsTrue, codes};
+ghost use Rattle.report_cli.specs.Input.{ReadsInputTwice};
+
+use command_line::Job;
+
+/// Whether a path stands for standard input, which is `-`.
+pub fn is_standard_input(path: &str) -> bool
+    ensures { IsTrue result ↔ (path.now ≡ codes "-") }
+{
+    path == "-"
+}
+
+/// Whether a job would read standard input twice, for its file and for its script. It can be read
+/// once alone.
+pub fn reads_input_twice(job: &Job) -> bool
+    ensures { IsTrue result ↔ ReadsInputTwice job.now }
+{
+    match job {
+        Job::Count { .. } => false,
+        Job::Replay { file, script, .. } | Job::Run { file, script, .. } => {
+            is_standard_input(file) && is_standard_input(script)
+        }
+    }
+}

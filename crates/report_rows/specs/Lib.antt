@@ -1,0 +1,2 @@
+pub mod CountRows
+pub mod Rows

@@ -1,0 +1,23 @@
+-- The text of rows that reports share.
+use Rattle.std.specs.Prelude.{◌≡◌, ℕ, List, [], ◌∷◌, Some, true, false, Vec, codes, decimal}
+use Rattle.std.specs.Global.{Global}
+use Rattle.csv.specs.Writing.{default_writer, fields_written, has_written, row_text, text_written, with_flexible, writer_setup}
+use Rattle.csv.specs.declared.writer.Writer.{Writer}
+use Rattle.csv.specs.declared.writer.WriterBuilder.{WriterBuilder}
+
+-- the default dialect of csv's writer, with rows of any length: a field that needs quotes has them
+-- (RFC 4180), and a row ends with a line feed
+abbrev pub row_writer : WriterBuilder
+row_writer = with_flexible default_writer true
+
+-- the row of the totals: how many keys were committed, and how many were appended
+unfoldable pub total_row : ℕ → ℕ → List ℕ
+total_row committed appended =
+    row_text row_writer (codes "total" ∷ decimal committed ∷ decimal appended ∷ [])
+
+-- a writer into memory that stands between two rows and has written this text
+pub record HasText (w : Writer (Vec ℕ Global)) (text : List ℕ) : Type 0 where
+  pub setup : writer_setup w ≡ row_writer
+  pub begun : fields_written w ≡ 0
+  pub clean : has_written w ≡ false
+  pub shown : text_written (λ v. Some v.items) w ≡ Some text

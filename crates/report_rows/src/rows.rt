@@ -1,0 +1,61 @@
+//! Rows as text: the writer that reports share, and the row of the totals.
+
+ghost use Rattle.std.specs.Prelude.{◌≡◌, ◌++◌, [], ℕ, List, IfOk, OnOk, map};
+ghost use Rattle.csv.specs.Writing.{row_text};
+ghost use Rattle.report_rows.specs.Rows.{HasText, row_writer, total_row};
+
+use csv::{Writer, WriterBuilder};
+use itoa::Buffer;
+use lane_words::Memory;
+use std::alloc::Global;
+
+/// A writer of rows that has written nothing yet.
+pub fn new_writer(alloc: Global) -> Writer<Vec<u8>>
+    ensures { HasText result [] }
+{
+    WriterBuilder::new()
+        .flexible(true)
+        .from_writer(Vec::new(alloc))
+}
+
+/// Writes a row. A writer into memory that takes rows of any length fails for want of memory alone.
+pub fn write_row(writer: &mut Writer<Vec<u8>>, fields: &[&[u8]]) -> Result<(), Memory>
+    ensures { OnOk result ((text : List ℕ) → HasText writer.old text
+        → HasText writer.new (text ++ row_text row_writer (map (λ f. f.now) fields.now))) }
+{
+    if writer.write_fields(fields).is_err() {
+        return Err(Memory);
+    }
+    Ok(())
+}
+
+/// Writes the row of the totals.
+pub fn write_total(
+    writer: &mut Writer<Vec<u8>>,
+    committed: u64,
+    appended: u64,
+) -> Result<(), Memory>
+    ensures { OnOk result ((text : List ℕ) → HasText writer.old text
+        → HasText writer.new (text ++ total_row committed appended)) }
+{
+    let (mut first, mut second) = (Buffer::new(), Buffer::new());
+    write_row(
+        writer,
+        &[
+            b"total",
+            first.format(committed).as_bytes(),
+            second.format(appended).as_bytes(),
+        ],
+    )
+}
+
+/// The text that a writer has written. Its last bytes go into memory only here, so that this can be
+/// refused too.
+pub fn text_of(writer: Writer<Vec<u8>>) -> Result<Vec<u8>, Memory>
+    ensures { (text : List ℕ) → HasText writer text → IfOk result (λ all. all.items ≡ text) }
+{
+    let Ok(text) = writer.into_inner() else {
+        return Err(Memory);
+    };
+    Ok(text)
+}

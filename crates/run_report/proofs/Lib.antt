@@ -1,0 +1,2 @@
+pub mod PlanFaults
+pub mod Ran
