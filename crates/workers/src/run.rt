@@ -132,7 +132,10 @@ fn work<R: Wait, G: Gate>(rt: &R, desk: &Desk<'_, G>, member: u32) {
             Ok(Turn::Worked) => {}
             Ok(Turn::Idle(seen)) => desk.rest(rt, seen),
             Ok(Turn::Over) => break,
-            Err(fault) => desk.stop(rt, fault),
+            Err(fault) => {
+                desk.stop(rt, fault);
+                break;
+            }
         }
     }
 }
