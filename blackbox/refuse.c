@@ -1,12 +1,14 @@
-/* Refuses one call of the program that it is loaded into: of malloc and realloc, of read, of write to standard output, or of
-   a start of a thread.
-   REFUSE is the kind of call, REFUSE_NTH its number, counted from 1; the file REFUSE_MARK is made when it is refused.
+/* Refuses one call of the program that it is loaded into: of malloc and realloc, of read, of write to standard output, of an
+   opening of a file, of getentropy, or of a start of a thread.
+   REFUSE is the kind of call, REFUSE_NTH its number, counted from 1; the file REFUSE_MARK is made when it is refused. With
+   REFUSE_LASTS every later call of the kind is refused too.
    With REFUSE_SHORT each read and write moves one byte at the most. */
 #define _GNU_SOURCE
 #include <dlfcn.h>
 #include <errno.h>
 #include <fcntl.h>
 #include <pthread.h>
+#include <stdarg.h>
 #include <stdatomic.h>
 #include <stdlib.h>
 #include <string.h>
@@ -20,7 +22,10 @@ static atomic_long count;
 
 static int refuses(const char *kind) {
     const char *wanted = getenv("REFUSE"), *nth = getenv("REFUSE_NTH"), *mark = getenv("REFUSE_MARK");
-    if (!wanted || !nth || !mark || strcmp(wanted, kind) != 0 || ++count != atol(nth))
+    if (!wanted || !nth || !mark || strcmp(wanted, kind) != 0)
+        return 0;
+    long now = ++count, first = atol(nth);
+    if (now < first || (now > first && !getenv("REFUSE_LASTS")))
         return 0;
     syscall(SYS_close, syscall(SYS_openat, AT_FDCWD, mark, O_CREAT | O_WRONLY, 0600));
     return 1;
@@ -46,8 +51,29 @@ void *realloc(void *old, size_t size) {
     return __libc_realloc(old, size);
 }
 
+/* The files in which the system tells how many processors there are: nobody's input, and not refused. */
+static int is_systems(const char *path) {
+    return strncmp(path, "/sys/", 5) == 0 || strncmp(path, "/proc/", 6) == 0;
+}
+
+/* Which descriptors are of such files. */
+enum { DESCRIPTORS = 1024 };
+static atomic_char of_system[DESCRIPTORS];
+
+static int open_unless_refused(int folder, const char *path, int flags, int mode) {
+    if (!is_systems(path) && refuses("open")) {
+        errno = EACCES;
+        return -1;
+    }
+    int fd = syscall(SYS_openat, folder, path, flags, mode);
+    if (fd >= 0 && fd < DESCRIPTORS)
+        of_system[fd] = is_systems(path);
+    return fd;
+}
+
 ssize_t read(int fd, void *buf, size_t size) {
-    if (refuses("read")) {
+    int counts = fd < 0 || fd >= DESCRIPTORS || !of_system[fd];
+    if (counts && refuses("read")) {
         errno = EIO;
         return -1;
     }
@@ -64,6 +90,30 @@ ssize_t write(int fd, const void *buf, size_t size) {
 
 ssize_t __write(int fd, const void *buf, size_t size) {
     return write(fd, buf, size);
+}
+
+int open(const char *path, int flags, ...) {
+    va_list rest;
+    va_start(rest, flags);
+    int mode = flags & O_CREAT ? va_arg(rest, int) : 0;
+    va_end(rest);
+    return open_unless_refused(AT_FDCWD, path, flags, mode);
+}
+
+int openat(int folder, const char *path, int flags, ...) {
+    va_list rest;
+    va_start(rest, flags);
+    int mode = flags & O_CREAT ? va_arg(rest, int) : 0;
+    va_end(rest);
+    return open_unless_refused(folder, path, flags, mode);
+}
+
+int getentropy(void *buf, size_t size) {
+    if (refuses("random")) {
+        errno = ENOSYS;
+        return -1;
+    }
+    return syscall(SYS_getrandom, buf, size, 0) == (long)size ? 0 : -1;
 }
 
 int pthread_create(pthread_t *thread, const pthread_attr_t *attributes, void *(*start)(void *), void *argument) {

@@ -1,0 +1,143 @@
+"""Calls of the system that are refused in turn: the first of a kind, then the second, until a run makes no such call any
+more. Growths (malloc and realloc), reads, writes, starts of threads, openings of files and random bytes are refused, over
+several files, scripts and plans: once that call alone, and once every later one of its kind too. And devices that move one
+byte a call, which change nothing.
+
+What may come is the kind's fault, with nothing written (after a refused write: a beginning of the text), or, of a growth
+alone, the very outcome that comes with nothing refused: the C library may do without the memory that it asked for."""
+import os
+import subprocess
+import tempfile
+from pathlib import Path
+from typing import Iterator, NamedTuple
+
+from .program import FOLDER, Cases, Outcome, run
+
+FAULTS = {"malloc": b"fault 90\n", "thread": b"fault 90\n", "random": b"fault 90\n", "open": b"fault 25\n",
+          "read": b"fault 25\n", "write": b"fault 26\n"}
+FIVE = b"21\n4\nfoobar\nabc\n21\n"
+FIVE_COUNTS = b"count,21,2\ncount,4,1\ncount,foobar,1\ncount,abc,1\ntotal,5,5\n"
+FOUR_MOVES = b"move,1,0,,A\nmove,1,1,,A\nmove,1,2,,A\nmove,1,3,,A\n"
+# Quoted fields with commas, line feeds and double quotes; a header; keys of 22 and 23 bytes, and the longest; many keys.
+QUOTED = (b'number,"the\nkey"\n1,"a,b"\n"2","say ""so"""\n3,"two\nlines"\n4,plain\n5,"a,b"\n6,\n')
+QUOTED_COUNTS = b'count,"a,b",2\ncount,"say ""so""",1\ncount,"two\nlines",1\ncount,plain,1\ncount,,1\ntotal,6,6\n'
+LONG_KEYS = [b"k" * 22, b"k" * 23, b"k" * 65_535, b"k" * 22, b"k" * 65_535]
+MANY_KEYS = [b"%d" % n for n in range(1500)] + [b"a key of its own memory %d" % n for n in range(150)]
+SCRIPT = (b"join A\r\n# a comment\njoin B\nsettle\nappend 21\nappend " + b"long" * 60 + b"\npoll A 0 2\nsend A 0\ndeliver 1\n"
+          b"poll B 2 5\nsend B 2\nunanswered 2\njoin C\nrejoin A\nlose B\nsync C\nleave A\nsettle\ndrain\ndeliver 1\n")
+
+
+class Subject(NamedTuple):
+    """A run whose calls are refused in turn."""
+
+    name: str
+    words: str
+    files: dict[str, bytes]
+    # How it ends where none is; where this is None, that is what a run shows, which the rows hold to what it should be.
+    outcome: Outcome | None = None
+    # The kinds of calls that it does not come to.
+    without: frozenset[str] = frozenset({"thread"})
+
+
+def lines_of(keys: list[bytes]) -> bytes:
+    return b"".join(key + b"\n" for key in keys)
+
+
+def counts_of(keys: list[bytes]) -> bytes:
+    rows = b"".join(b"count,%s,%d\n" % (key, keys.count(key)) for key in dict.fromkeys(keys))
+    return rows + b"total,%d,%d\n" % (len(keys), len(keys))
+
+
+def done(stdout: bytes) -> Outcome:
+    return Outcome(stdout, b"", 0)
+
+
+SUBJECTS = [
+    Subject("a count", "count f", {"f": FIVE}, done(FIVE_COUNTS)),
+    Subject("a count of quoted fields", "count f --header --column 2", {"f": QUOTED}, done(QUOTED_COUNTS)),
+    Subject("a count of long keys", "count f --partitions 4096", {"f": lines_of(LONG_KEYS)}, done(counts_of(LONG_KEYS))),
+    Subject("a count of many keys", "count f", {"f": lines_of(MANY_KEYS)}, done(counts_of(MANY_KEYS))),
+    Subject("a count of a bad record", "count f --header --column 2", {"f": QUOTED + b"7,8,9\n"},
+            Outcome(b"", b"fault 24 at record 8\n", 1), frozenset({"thread", "write", "random"})),
+    Subject("a replay of a join", "replay f s", {"f": FIVE, "s": b"join A\n"},
+            done(FOUR_MOVES + b"owner,0,A\nowner,1,A\nowner,2,A\nowner,3,A\n"
+                 b"offset,0,0,2\noffset,1,0,1\noffset,2,0,1\noffset,3,0,1\ntotal,0,5\n")),
+    Subject("a replay of a drain", "replay f s", {"f": FIVE, "s": b"join A\nsettle\njoin B\ndrain\nappend 21\n"},
+            done(FOUR_MOVES + b"move,3,2,A,B\nmove,3,3,A,B\nowner,0,A\nowner,1,A\nowner,2,B\nowner,3,B\n"
+                 b"offset,0,2,3\noffset,1,1,1\noffset,2,1,1\noffset,3,1,1\n"
+                 b"count,21,2\ncount,4,1\ncount,foobar,1\ncount,abc,1\ntotal,5,6\n")),
+    Subject("a replay of each line over quoted fields", "replay f s --header --column 2", {"f": QUOTED, "s": SCRIPT}),
+    Subject("a replay over long keys", "replay f s --batch 1", {"f": lines_of(LONG_KEYS), "s": b"join A\njoin B\ndrain\n"}),
+    Subject("a replay over many keys", "replay f s", {"f": lines_of(MANY_KEYS), "s": b"join A\njoin B\ndrain\n"}),
+    Subject("a replay of a bad line", "replay f s", {"f": FIVE, "s": b"join A\njion B\n"},
+            Outcome(b"", b"fault 22 at line 2\n", 1), frozenset({"thread", "write", "random"})),
+    Subject("a run", "run f s", {"f": FIVE, "s": b"join A\njoin B\nleave A\n"},
+            done(FOUR_MOVES + b"move,3,2,A,B\nmove,3,3,A,B\nmove,4,0,A,B\nmove,4,1,A,B\n"
+                 b"owner,0,B\nowner,1,B\nowner,2,B\nowner,3,B\n"
+                 b"offset,0,2,2\noffset,1,1,1\noffset,2,1,1\noffset,3,1,1\n" + FIVE_COUNTS), frozenset()),
+    Subject("a run over quoted fields", "run f s --header --column 2 --batch 1",
+            {"f": QUOTED, "s": b"# a plan\njoin A\njoin B\nlose A\njoin C\n"}, None, frozenset()),
+    Subject("a run over long keys", "run f s", {"f": lines_of(LONG_KEYS), "s": b"join A\njoin B\n"}, None, frozenset()),
+]
+
+
+def is_right(wanted: Outcome, kind: str, ended: Outcome) -> bool:
+    """Whether a run may end so in which a call of this kind was refused."""
+    if ended == wanted:
+        return kind == "malloc"
+    written = wanted.stdout.startswith(ended.stdout) if kind == "write" else ended.stdout == b""
+    return written and (ended.stderr, ended.status) == (FAULTS[kind], 3)
+
+
+class Sweep:
+    """A subject in its folder, with the library that refuses its calls."""
+
+    def __init__(self, subject: Subject, library: Path, folder: Path) -> None:
+        self.subject, self.library, self.folder = subject, library, folder
+        self.words = [word.encode() for word in subject.words.split()]
+        self.refused: dict[str, int] = {}
+        for name, text in subject.files.items():
+            (folder / name).write_bytes(text)
+        shown = run(self.words, folder)
+        self.wanted = subject.outcome or shown
+        self.is_well = shown == self.wanted and (subject.outcome is not None or shown.status == 0 and shown.stdout != b"")
+
+    def run(self, **environment: str) -> Outcome:
+        return run(self.words, self.folder, dict(os.environ, LD_PRELOAD=str(self.library), **environment))
+
+    def faults(self, kind: str, **lasting: str) -> Iterator[str]:
+        """Refuses the first call of this kind, then the second, until a run makes no such call any more."""
+        mark = self.folder / "mark"
+        if not self.is_well:
+            yield "it does not end well where nothing is refused"
+        for nth in range(1, 20_000):
+            ended = self.run(REFUSE=kind, REFUSE_NTH=str(nth), REFUSE_MARK=str(mark), **lasting)
+            if not mark.exists():
+                self.refused[kind] = nth - 1
+                if ended != self.wanted or (nth == 1) != (kind in self.subject.without):
+                    yield f"with nothing refused (call {nth}) it ends with {ended}"
+                return
+            mark.unlink()
+            if not is_right(self.wanted, kind, ended):
+                yield f"with call {nth} refused it ends with {ended}"
+
+    def short_faults(self) -> Iterator[str]:
+        """Devices that move one byte a call change nothing."""
+        ended = self.run(REFUSE_SHORT="1")
+        if ended != self.wanted:
+            yield f"it ends with {ended}"
+
+
+def cases() -> Cases:
+    with tempfile.TemporaryDirectory() as room:
+        library = Path(room) / "refuse.so"
+        subprocess.run(["cc", "-shared", "-fPIC", "-O1", "-o", str(library), str(FOLDER / "refuse.c")], check=True)
+        for subject in SUBJECTS:
+            folder = Path(tempfile.mkdtemp(dir=room))
+            sweep = Sweep(subject, library, folder)
+            for kind in FAULTS:
+                yield f"{subject.name}, each {kind} refused in turn", sweep.faults(kind)
+                yield f"{subject.name}, each {kind} and all after it", sweep.faults(kind, REFUSE_LASTS="1")
+            yield f"{subject.name}, one byte a call", sweep.short_faults()
+            told = ", ".join(f"{kind} {times}" for kind, times in sweep.refused.items())
+            print(f"refused in turn of {subject.name}: {told}", flush=True)

@@ -1,0 +1,65 @@
+"""Runs of one plan by threads, again and again; a device that takes nothing, and a reader that goes away."""
+import os
+import signal
+import subprocess
+import tempfile
+from pathlib import Path
+from typing import Iterator
+
+from .program import Cases, Outcome, program, run
+
+# A plan of joins, leaves and losses, and records of which many have the same key.
+PLAN = [*(f"join m{n}" for n in range(8)), "leave m2", "lose m5", "join m8", "lose m0", "leave m7", "join m9", "join m10"]
+RECORDS = b"".join(b"key-%d\n" % (n * n % 1999) for n in range(20_000))
+RUNS = 300
+
+
+def full_device_faults() -> Iterator[str]:
+    """Nothing fits on /dev/full: the write fails."""
+    with tempfile.TemporaryDirectory() as folder, open("/dev/full", "wb") as full:
+        (Path(folder) / "f").write_bytes(b"21\n4\n")
+        done = run([b"count", b"f"], folder, stdout=full.fileno())
+    if done != Outcome(b"", b"fault 26\n", 3):
+        yield f"it ends with {done}"
+
+
+def gone_reader_faults(is_ignored: bool) -> Iterator[str]:
+    """A reader that takes one byte of a long text and goes away, as head does. Where the signal of that is ignored, the
+    write fails; else the signal may end the program, without a word."""
+    with tempfile.TemporaryDirectory() as folder:
+        (Path(folder) / "f").write_bytes(b"".join(b"%d\n" % n for n in range(200_000)))
+        with subprocess.Popen([os.fsencode(program()), b"count", b"f"], cwd=folder, stdout=subprocess.PIPE,
+                              stderr=subprocess.PIPE, restore_signals=not is_ignored) as started:
+            assert started.stdout and started.stderr
+            first = started.stdout.read(1)
+            started.stdout.close()
+            told, status = started.stderr.read(), started.wait(120)
+    ends = {(b"fault 26\n", 3)} | (set() if is_ignored else {(b"", -signal.SIGPIPE)})
+    if first != b"c" or (told, status) not in ends:
+        yield f"it begins with {first!r}, tells {told!r} and ends with status {status}"
+
+
+def many_runs_faults() -> Iterator[str]:
+    """However the threads fall, a run prints what a replay does that settles after each line and drains at the end, and that
+    ends with what a count prints."""
+    with tempfile.TemporaryDirectory() as folder:
+        files = {"records": RECORDS, "plan": "".join(f"{line}\n" for line in PLAN).encode(),
+                 "script": "".join(f"{line}\nsettle\n" for line in PLAN).encode() + b"drain\n"}
+        for name, text in files.items():
+            (Path(folder) / name).write_bytes(text)
+        wanted = run([b"replay", b"records", b"script", b"--partitions", b"64"], folder)
+        count = run([b"count", b"records", b"--partitions", b"64"], folder)
+        if wanted.status != 0 or not wanted.stdout.endswith(count.stdout):
+            yield f"a replay of the plan ends with {wanted.stderr!r} and not with the rows of a count"
+        for nth in range(RUNS):
+            batch = (b"1", b"7", b"500")[nth % 3]
+            done = run([b"run", b"records", b"plan", b"--partitions", b"64", b"--batch", batch], folder)
+            if done != wanted:
+                yield f"run {nth} with batch {batch!r} ends with {done.status}, {done.stderr!r}, {len(done.stdout)} bytes"
+
+
+def cases() -> Cases:
+    yield "a full output device", full_device_faults()
+    yield "a reader that goes away", gone_reader_faults(False)
+    yield "a reader that goes away, where the signal is ignored", gone_reader_faults(True)
+    yield f"{RUNS} runs of a plan", many_runs_faults()

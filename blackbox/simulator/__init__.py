@@ -1,0 +1,1 @@
+"""What blackbox/simulate is made of."""

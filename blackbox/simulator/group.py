@@ -1,0 +1,177 @@
+"""The laws of a group: what joins, departures and moves have to be among themselves."""
+
+from __future__ import annotations
+
+from collections import Counter
+from typing import NamedTuple, Sequence
+
+NOBODY = b""
+MOST_MEMBERS = 512
+
+
+class Broken(Exception):
+    """A law that an output broke."""
+
+
+def require(holds: bool, law: str, *details: object) -> None:
+    """Tells a law that is broken."""
+    if not holds:
+        raise Broken(law.format(*details))
+
+
+class Move(NamedTuple):
+    """A printed move."""
+
+    partition: int
+    last: bytes
+    holder: bytes
+
+
+def is_balanced(sizes: Sequence[int]) -> bool:
+    """Whether no two sizes differ by more than one."""
+    return max(sizes) - min(sizes) <= 1
+
+
+def most_kept(sizes: Sequence[int], partitions: int) -> int:
+    """How many partitions a balanced assignment can leave with their owners, who own so many each: of each owner an even
+    share, and one more of as many owners as partitions are over."""
+    share, over = divmod(partitions, len(sizes))
+    return sum(min(size, share) for size in sizes) + min(over, sum(size > share for size in sizes))
+
+
+def dealt(members: list[bytes], owned: dict[bytes, list[int]], partitions: int) -> dict[int, bytes]:
+    """Who has each partition where the rules of ties decide: the first heavy members have one more, and then the first
+    others; each keeps its lowest partitions; and the rest, in order, fills the gaps in order of members."""
+    share, over = divmod(partitions, len(members))
+    by_need = sorted(members, key=lambda name: len(owned[name]) <= share)
+    quota = {name: share + (nth < over) for nth, name in enumerate(by_need)}
+    holder = {partition: name for name in members for partition in owned[name][:quota[name]]}
+    gaps = [name for name in members for _ in range(quota[name] - len(owned[name]))]
+    free = [partition for partition in range(partitions) if partition not in holder]
+    return {**holder, **dict(zip(free, gaps))}
+
+
+class Group:
+    """Who is present, and who holds what as the moves tell it."""
+
+    def __init__(self, partitions: int) -> None:
+        self.partitions = partitions
+        self.generation = 0
+        self.names: set[bytes] = set()
+        # In the order of their joins.
+        self.present: list[bytes] = []
+        self.joined: set[bytes] = set()
+        self.synced: set[bytes] = set()
+        self.preparing = False
+        # Who was last granted each partition, since which generation, and which were given up since the last completion.
+        self.holder = [NOBODY] * partitions
+        self.since = [0] * partitions
+        self.released: set[int] = set()
+        # What each has to give up.
+        self.excess: dict[bytes, list[int]] = {}
+        # Of the completions since the last join or departure: how many, their moves, and the least that they need.
+        self.changed = True
+        self.rounds = self.moved = self.least = 0
+
+    def owned(self) -> dict[bytes, list[int]]:
+        """What each present member is granted, in order."""
+        owned: dict[bytes, list[int]] = {name: [] for name in self.present}
+        for partition, holder in enumerate(self.holder):
+            if holder in owned and partition not in self.released:
+                owned[holder].append(partition)
+        return owned
+
+    def owner(self, partition: int) -> bytes:
+        """Who is granted a partition."""
+        holder = self.holder[partition]
+        return holder if holder in self.present and partition not in self.released else NOBODY
+
+    def completes(self) -> bool:
+        """Whether the next completion is due."""
+        return bool(self.present) and self.joined.issuperset(self.present)
+
+    def join(self, name: bytes) -> None:
+        self.names.add(name)
+        self.present.append(name)
+        self.joined.add(name)
+        self.preparing = self.changed = True
+
+    def part(self, name: bytes) -> None:
+        self.present.remove(name)
+        self.joined.discard(name)
+        self.synced.discard(name)
+        self.excess.pop(name, None)
+        self.preparing = bool(self.present)
+        self.changed = True
+
+    def rejoin(self, name: bytes) -> None:
+        self.joined.add(name)
+        self.preparing = True
+        self.released.update(self.excess.pop(name, []))
+
+    def check_moves(self, moves: list[Move]) -> None:
+        """The laws of the moves of one completion: each partition once, in order; from who had it, who is gone or has
+        given it up, to one who is present."""
+        numbers = [move.partition for move in moves]
+        require(numbers == sorted(set(numbers)), "generation {} moves partitions twice or out of order", self.generation)
+        for partition, last, holder in moves:
+            at = f"generation {self.generation}, partition {partition}"
+            require(0 <= partition < self.partitions, "{}: there is no such partition", at)
+            require(last == self.holder[partition], "{}: moved from {}, but {} had it", at, last, self.holder[partition])
+            require(holder in self.present, "{}: moved to {}, who is not present", at, holder)
+            if last in self.present:
+                require(partition in self.released, "{}: it has two owners, since {} did not give it up", at, last)
+                require(self.since[partition] + 2 <= self.generation, "{}: moved again at once", at)
+
+    def check_owners(self, moves: list[Move], owned: dict[bytes, list[int]]) -> None:
+        """After a completion each partition has an owner who is present. Whoever was given one has no more than a balanced
+        share, and was the one to get it by the rules of ties; what others are to have by them, they are to give up."""
+        share = -(-self.partitions // len(self.present))
+        target = dealt(self.present, owned, self.partitions)
+        after = self.owned()
+        for partition, _, holder in moves:
+            require(len(after[holder]) <= share, "generation {}: {} is given too much", self.generation, holder)
+            require(target[partition] == holder, "generation {}: partition {} is moved to {}, and is to be {}'s",
+                    self.generation, partition, holder, target[partition])
+        missing = set(range(self.partitions)).difference(*after.values())
+        require(not missing, "generation {}: nobody has the partitions {}", self.generation, missing)
+        self.excess = {name: [partition for partition in after[name] if target[partition] != name] for name in self.present}
+
+    def check_stickiness(self, moves: int, kept: list[int]) -> None:
+        """From the first completion after a join or a departure to the end of the rebalance as few partitions move as a
+        balanced assignment allows, and two completions bring it there."""
+        if self.changed:
+            self.rounds = self.moved = 0
+            self.least = self.partitions - most_kept(kept, self.partitions)
+            self.changed = False
+        self.rounds += 1
+        self.moved += moves
+        balanced = is_balanced([len(partitions) for partitions in self.owned().values()])
+        require(balanced == (not any(self.excess.values())), "generation {}: balance {}, and to give up {}",
+                self.generation, balanced, self.excess)
+        if balanced:
+            require(self.moved == self.least, "generation {}: {} moves, where {} are enough",
+                    self.generation, self.moved, self.least)
+        else:
+            require(self.rounds < 2, "generation {}: two completions do not balance", self.generation)
+            require(self.moved < self.least, "generation {}: {} moves, and not balanced", self.generation, self.moved)
+
+    def complete(self, moves: list[Move]) -> None:
+        """The next completion, with these moves."""
+        self.generation += 1
+        self.check_moves(moves)
+        owned = self.owned()
+        for partition, _, holder in moves:
+            self.holder[partition], self.since[partition] = holder, self.generation
+            self.released.discard(partition)
+        self.check_owners(moves, owned)
+        self.check_stickiness(len(moves), [len(partitions) for partitions in owned.values()])
+        self.preparing = False
+        self.joined.clear()
+        self.synced.clear()
+
+    def check_settled(self) -> None:
+        """A settled group is balanced."""
+        sizes = Counter(self.holder)
+        require(is_balanced([sizes[name] for name in self.present]), "generation {}: settled, and not balanced",
+                self.generation)

@@ -1,0 +1,355 @@
+"""The laws of a replay: what its printed text has to be, by its script and its records alone."""
+
+from __future__ import annotations
+
+from collections import Counter
+from dataclasses import dataclass
+
+from simulator.group import MOST_MEMBERS, Group, Move, require
+from simulator.records import Options, place, read, row
+from simulator.scripts import lines_of
+
+TAKEN = 0
+HISTORY = (b"move", b"refused")
+
+
+@dataclass(frozen=True)
+class Commit:
+    """A commit of the mail."""
+
+    member: bytes
+    generation: int
+    partition: int
+    start: int
+    records: int
+
+
+class Logs:
+    """The appended records, by partition, and the keys in order of first appearance."""
+
+    def __init__(self, partitions: int, keys: list[bytes]) -> None:
+        self.partitions: list[list[bytes]] = [[] for _ in range(partitions)]
+        self.keys: dict[bytes, None] = {}
+        for key in keys:
+            self.append(key)
+
+    def append(self, key: bytes) -> None:
+        self.partitions[place(key, len(self.partitions))].append(key)
+        self.keys.setdefault(key)
+
+    def end(self, partition: int) -> int:
+        return len(self.partitions[partition])
+
+    def counts(self, committed: list[int]) -> list[bytes]:
+        """The rows of what lies below the committed offsets, each record taken once."""
+        counts = Counter(key for log, offset in zip(self.partitions, committed) for key in log[:offset])
+        return [row(b"count", key, b"%d" % counts[key]) for key in self.keys if counts[key]]
+
+
+class Ledger:
+    """What the lines of a script and the printed rows tell so far, and which answer each line has to have by it."""
+
+    def __init__(self, options: Options, keys: list[bytes]) -> None:
+        self.batch = options.batch or 500
+        self.logs = Logs(options.partitions, keys)
+        self.group = Group(options.partitions)
+        # Of each who ever joined: the generation of its last lease, and by partition its base and position.
+        self.leased: dict[bytes, int] = {}
+        self.held: dict[bytes, dict[int, list[int]]] = {}
+        # Those who know that they are no members any more.
+        self.out: set[bytes] = set()
+        self.committed = [0] * options.partitions
+        self.mail: list[Commit] = []
+        # The commits of the mail that were taken, and the rows that are not looked at yet, the next one last.
+        self.accepted: set[int] = set()
+        self.history: list[list[bytes]] = []
+
+    # Rows
+
+    def follow(self, script: bytes, history: list[list[bytes]]) -> None:
+        """Goes through the lines with the moves and refusals that were printed for them."""
+        self.history = history[::-1]
+        for number, line in lines_of(script):
+            verb, arguments = parts_of(line)
+            code = self.take_refusal(number)
+            wanted = getattr(self, f"answer_to_{verb}")(*arguments)
+            require(code == wanted, "line {}, {}, is answered by {}, and not by {}", number, line, code, wanted)
+            after = getattr(self, f"after_{verb}" if code == TAKEN else f"after_refused_{verb}", None)
+            if after and code == TAKEN:
+                after(*arguments)
+            elif after:
+                after(code, *arguments)
+        require(not self.history, "no line makes the row {}", self.history[-1:])
+
+    def take_refusal(self, line: int) -> int:
+        """The code of this line's refusal, or 0."""
+        if self.history and self.history[-1][:2] == [b"refused", b"%d" % line]:
+            fields = self.history.pop()
+            require(len(fields) == 3 and fields[2].isdigit() and int(fields[2]) > 0, "line {}: the row {}", line, fields)
+            return int(fields[2])
+        return TAKEN
+
+    def take_moves(self) -> list[Move]:
+        """The moves of the next generation, which are the next rows."""
+        moves = []
+        head = [b"move", b"%d" % (self.group.generation + 1)]
+        while self.history and self.history[-1][:2] == head:
+            fields = self.history.pop()[2:]
+            require(len(fields) == 3 and fields[0].isdigit(), "a move of {}", fields)
+            moves.append(Move(int(fields[0]), fields[1], fields[2]))
+        return moves
+
+    # The group
+
+    def complete_if_due(self) -> None:
+        if self.group.completes():
+            self.group.complete(self.take_moves())
+
+    def lease(self, name: bytes) -> None:
+        """A sync: what a member was granted and does not hold it holds from the committed offset on."""
+        self.group.synced.add(name)
+        self.leased[name] = self.group.generation
+        for partition, holder in enumerate(self.group.holder):
+            if holder == name:
+                self.held[name].setdefault(partition, [self.committed[partition]] * 2)
+
+    def give_up(self, name: bytes) -> None:
+        """A rejoin: the member drops what it has to give up."""
+        for partition in self.group.excess.get(name, []):
+            self.held[name].pop(partition, None)
+        self.group.rejoin(name)
+
+    def answer_to_stranger(self, name: bytes) -> int:
+        """The answer to a name that is not present: whoever was a member is told once, and then knows it."""
+        return 16 if name in self.out else 1
+
+    def answer_to_join(self, name: bytes) -> int:
+        if name in self.group.names:
+            return 8
+        return 9 if len(self.group.names) == MOST_MEMBERS else TAKEN
+
+    def after_join(self, name: bytes) -> None:
+        self.group.join(name)
+        self.held[name], self.leased[name] = {}, 0
+        self.complete_if_due()
+
+    def answer_to_leave(self, name: bytes) -> int:
+        return TAKEN if name in self.group.present else self.answer_to_stranger(name)
+
+    def after_leave(self, name: bytes) -> None:
+        self.out.add(name)
+        self.after_lose(name)
+
+    def answer_to_lose(self, name: bytes) -> int:
+        return TAKEN if name in self.group.present else 1
+
+    def after_lose(self, name: bytes) -> None:
+        self.group.part(name)
+        self.complete_if_due()
+
+    def answer_to_sync(self, name: bytes) -> int:
+        if name not in self.group.present:
+            return self.answer_to_stranger(name)
+        return 3 if name in self.group.joined else TAKEN
+
+    def after_sync(self, name: bytes) -> None:
+        self.lease(name)
+
+    def answer_to_rejoin(self, name: bytes) -> int:
+        group = self.group
+        if name not in group.present:
+            return self.answer_to_stranger(name)
+        if name not in group.synced:
+            return 2
+        if name in group.joined:
+            return 7
+        return TAKEN if group.preparing or group.excess[name] else 4
+
+    def after_rejoin(self, name: bytes) -> None:
+        self.give_up(name)
+        self.complete_if_due()
+
+    def after_refused_sync(self, code: int, name: bytes) -> None:
+        if code == 1 and name in self.group.names:
+            self.out.add(name)
+
+    after_refused_rejoin = after_refused_leave = after_refused_sync
+
+    def answer_to_settle(self) -> int:
+        return TAKEN if self.group.present else 19
+
+    def after_settle(self) -> None:
+        """A completion where the group prepares, and one more where somebody has something to give up then."""
+        if self.group.preparing:
+            self.all_take_turns()
+        if any(self.group.excess.values()):
+            self.all_take_turns()
+        for name in self.group.present:
+            self.lease(name)
+        self.group.check_settled()
+
+    def all_take_turns(self) -> None:
+        """All who have not joined sync, commit what is pending of what they give up, and rejoin."""
+        for name in self.group.present:
+            if name not in self.group.joined:
+                self.lease(name)
+                for partition in self.group.excess.get(name, []):
+                    self.commit_pending(name, partition)
+                self.give_up(name)
+        self.complete_if_due()
+
+    # Commits
+
+    def answer_to_holder(self, name: bytes, partition: int) -> int:
+        """The answer of a consumer that is asked for a partition."""
+        if name not in self.group.names:
+            return 1
+        if name in self.out:
+            return 16
+        return TAKEN if partition in self.held[name] else 15
+
+    def answer_to_poll(self, name: bytes, partition: int, _records: int) -> int:
+        return self.answer_to_holder(name, partition)
+
+    def after_poll(self, name: bytes, partition: int, records: int) -> None:
+        span = self.held[name][partition]
+        span[1] = min(self.logs.end(partition), span[1] + records)
+
+    def answer_to_send(self, name: bytes, partition: int) -> int:
+        answer = self.answer_to_holder(name, partition)
+        if answer == TAKEN and len(set(self.held[name][partition])) == 1:
+            return 14
+        return answer
+
+    def after_send(self, name: bytes, partition: int) -> None:
+        base, position = self.held[name][partition]
+        self.mail.append(Commit(name, self.leased[name], partition, base, position - base))
+
+    def answer_to_commit(self, commit: Commit) -> int:
+        """The answer of the cluster to a commit."""
+        if commit.member not in self.group.present:
+            return 1
+        if commit.generation != self.group.generation:
+            return 2
+        if self.group.owner(commit.partition) != commit.member:
+            return 10
+        return TAKEN if commit.start == self.committed[commit.partition] else 11
+
+    def answer_to_deliver(self, number: int) -> int:
+        return self.answer_to_commit(self.mail[number - 1]) if 0 < number <= len(self.mail) else 17
+
+    def take(self, number: int) -> None:
+        """A commit is taken, which is once at most."""
+        commit = self.mail[number - 1]
+        require(number not in self.accepted, "commit {} is taken twice", number)
+        self.accepted.add(number)
+        self.committed[commit.partition] = commit.start + commit.records
+
+    def learn(self, commit: Commit) -> None:
+        """The consumer of a commit is told the committed offset."""
+        span = self.held[commit.member].get(commit.partition)
+        if span:
+            span[0] = self.committed[commit.partition]
+            span[1] = max(span)
+
+    def after_deliver(self, number: int) -> None:
+        self.take(number)
+        self.learn(self.mail[number - 1])
+
+    def after_refused_deliver(self, code: int, number: int) -> None:
+        if code == 1:
+            self.out.add(self.mail[number - 1].member)
+        if code == 11:
+            self.learn(self.mail[number - 1])
+
+    def answer_to_unanswered(self, number: int) -> int:
+        return TAKEN if 0 < number <= len(self.mail) else 17
+
+    def after_unanswered(self, number: int) -> None:
+        if self.answer_to_deliver(number) == TAKEN:
+            self.take(number)
+
+    def commit_pending(self, name: bytes, partition: int) -> None:
+        """What is pending is sent and delivered, and once more where the consumer was behind."""
+        span = self.held[name].get(partition, [0, 0])
+        while span[0] < span[1]:
+            self.after_send(name, partition)
+            if span[0] == self.committed[partition]:
+                self.take(len(self.mail))
+            self.learn(self.mail[-1])
+
+    def answer_to_drain(self) -> int:
+        return self.answer_to_settle()
+
+    def after_drain(self) -> None:
+        self.after_settle()
+        for name in self.group.present:
+            for partition, span in sorted(self.held[name].items()):
+                while span[0] != self.logs.end(partition):
+                    self.after_poll(name, partition, self.batch)
+                    self.commit_once(name, partition)
+        ends = [self.logs.end(partition) for partition in range(self.group.partitions)]
+        require(self.committed == ends, "a drain commits to {}, and not to {}", self.committed, ends)
+
+    def commit_once(self, name: bytes, partition: int) -> None:
+        """What a drain sends and delivers after a poll."""
+        span = self.held[name][partition]
+        if span[0] < span[1]:
+            self.after_send(name, partition)
+            if span[0] == self.committed[partition]:
+                self.take(len(self.mail))
+            self.learn(self.mail[-1])
+
+    def answer_to_append(self, _key: bytes) -> int:
+        return TAKEN
+
+    def after_append(self, key: bytes) -> None:
+        self.logs.append(key)
+
+    # The end
+
+    def check_end(self, rows: list[list[bytes]]) -> None:
+        """The laws of the closing rows: the owners are those of the moves, the offsets those of the commits, and the counts
+        those of the records below the offsets."""
+        owners = [row(b"owner", b"%d" % partition, self.group.owner(partition)) for partition in range(len(self.committed))]
+        ends = [b"%d" % self.logs.end(partition) for partition in range(len(self.committed))]
+        offsets = [row(b"offset", b"%d" % partition, b"%d" % offset, ends[partition])
+                   for partition, offset in enumerate(self.committed)]
+        total = [row(b"total", b"%d" % sum(self.committed), b"%d" % sum(map(int, ends)))]
+        wanted = [*owners, *offsets, *self.logs.counts(self.committed), *total]
+        told = [row(*fields) for fields in rows]
+        wrong = [pair for pair in zip(told, wanted) if pair[0] != pair[1]]
+        require(told == wanted, "{} closing rows, where there have to be {}; the first difference: {}",
+                len(told), len(wanted), wrong[:1])
+
+
+def parts_of(line: bytes) -> tuple[str, list[bytes | int]]:
+    """The first word of a line, and what follows it: a key, or a name and numbers, or numbers."""
+    verb, _, rest = line.partition(b" ")
+    if verb == b"append":
+        return verb.decode(), [rest]
+    words = rest.split(b" ") if rest else []
+    names = 0 if verb in (b"deliver", b"unanswered") else 1
+    return verb.decode(), [*words[:names], *map(int, words[names:])]
+
+
+def rows_of(text: bytes) -> list[list[bytes]]:
+    """The rows of a text, which has to be written as the program writes."""
+    rows = read(text)
+    require(b"".join(row(*fields) for fields in rows) == text, "rows are not written by the dialect")
+    return rows
+
+
+def check_replay(options: Options, keys: list[bytes], script: bytes, text: bytes) -> None:
+    """Every law of a replay's text."""
+    rows = rows_of(text)
+    start = next((at for at, fields in enumerate(rows) if fields[0] not in HISTORY), len(rows))
+    ledger = Ledger(options, keys)
+    ledger.follow(script, rows[:start])
+    ledger.check_end(rows[start:])
+
+
+def count_text(keys: list[bytes]) -> bytes:
+    """What a count prints: the numbers of a Counter in order of first appearance."""
+    rows = [row(b"count", key, b"%d" % number) for key, number in Counter(keys).items()]
+    return b"".join(rows) + row(b"total", b"%d" % len(keys), b"%d" % len(keys))

@@ -1,0 +1,247 @@
+"""Random scripts and plans, and lines that are none."""
+
+from __future__ import annotations
+
+from random import Random
+from typing import Iterator
+
+from simulator.records import Options, place
+
+NAMES = b"A B C D x-1 y_2 Zz m0 m1 m2 0 - _ member-of-thirty-two-letters-abc".split()
+LONGEST_LINE = 256
+
+# Lines that are none, in a script and in a plan.
+BAD = [
+    b"jion A", b"JOIN A", b"join", b"join ", b"join  A", b" join A", b"join A ", b"join\tA", b"join A B", b"join A\r\r",
+    b" ", b"join \x80", b"join A.b", b"join A,b", b"join " + b"n" * 33, b"\x00", b"\xef\xbb\xbfjoin A", b"leave",
+    b"lose A B", b"poll A 0", b"poll A 0 ", b"poll A 0 1 1", b"poll A 0 4294967296", b"poll A 4294967296 0",
+    b"poll A -1 1", b"poll A +1 1", b"poll A 0x1 1", b"poll A  0 1", b"poll 0 1", b"send A", b"send A 0 1",
+    b"send A 00000000000", b"deliver", b"deliver 1 ", b"deliver 00000000001", b"deliver 9999999999", b"unanswered",
+    b"unanswered A", b"append", b"Append x", b"settle ", b"settle now", b"drain 5", b"drains", b"append " + b"k" * 250,
+    b"#" * 257, b"sync", b"rejoin A 1", b"-", b",",
+]
+BAD_IN_PLAN = [b"settle", b"drain", b"sync A", b"rejoin A", b"append x", b"append ", b"poll A 0 1", b"send A 0",
+               b"deliver 1", b"unanswered 1", b"leave nobody-of-this-name", b"lose nobody-of-this-name"]
+
+
+class Author:
+    """Writes lines, with a guess of who is present and how many commits were sent."""
+
+    def __init__(self, rng: Random, options: Options, keys: list[bytes]) -> None:
+        self.rng = rng
+        self.options = options
+        self.keys = [key for key in keys if b"\n" not in key and len(key) < 249] or [b"k"]
+        self.lines: list[bytes] = []
+        self.unused = list(NAMES) + [b"n%d" % number for number in range(40)]
+        self.present: list[bytes] = []
+        self.gone: list[bytes] = []
+        self.sent = 0
+
+    def say(self, *words: object) -> None:
+        """Writes a line of these words."""
+        self.lines.append(b" ".join(word if isinstance(word, bytes) else b"%d" % word for word in words))
+
+    def somebody(self) -> bytes:
+        """A name, mostly one of a member that is present."""
+        groups = [group for group in (self.present * 8, self.gone, self.unused[:1]) if group]
+        return self.rng.choice([name for group in groups for name in group])
+
+    def partition(self) -> int:
+        """A partition, most times one with records, and seldom one past the last."""
+        if self.rng.random() < 0.7:
+            return place(self.rng.choice(self.keys), self.options.partitions)
+        return self.rng.randrange(self.options.partitions + (self.rng.random() < 0.05))
+
+    def readers(self) -> list[bytes]:
+        """Somebody, or all who are present, of whom one is the owner."""
+        everybody = 0 < len(self.present) < 5 and self.rng.random() < 0.5
+        return list(self.present) if everybody else [self.somebody()]
+
+    def join(self) -> None:
+        if self.unused:
+            self.present.append(self.unused.pop(0))
+            self.say(b"join", self.present[-1])
+
+    def join_again(self) -> None:
+        self.say(b"join", self.somebody())
+
+    def part(self) -> None:
+        name = self.somebody()
+        self.say(self.rng.choice((b"leave", b"lose")), name)
+        if name in self.present:
+            self.present.remove(name)
+            self.gone.append(name)
+
+    def part_one_of_many(self) -> None:
+        if len(self.present) > 1:
+            self.part()
+        else:
+            self.join()
+
+    def read(self) -> None:
+        """A partition is polled, and most times what is pending is sent; that commit may arrive, and more be read before."""
+        names, partition = self.readers(), self.partition()
+        self.poll(names, partition)
+        if self.rng.random() < 0.85:
+            self.send(names, partition)
+        if self.rng.random() < 0.2:
+            self.poll(names, partition)
+        if self.rng.random() < 0.7:
+            self.say(self.rng.choice((b"deliver", b"deliver", b"unanswered")), self.sent)
+        if self.rng.random() < 0.2:
+            self.send(names, partition)
+
+    def poll(self, names: list[bytes], partition: int) -> None:
+        for name in names:
+            self.say(b"poll", name, partition, self.rng.choice((1, 1, 2, 3, 500, 0)))
+
+    def send(self, names: list[bytes], partition: int) -> None:
+        """Each of these sends, of whom one is the owner at most."""
+        for name in names:
+            self.say(b"send", name, partition)
+        self.sent += 1
+
+    def deliver_all(self) -> None:
+        """The last commits that there may be are delivered."""
+        for number in range(max(1, self.sent - 8), self.sent + 1):
+            self.say(b"deliver", number)
+
+    def lose_with_mail(self) -> None:
+        """A member is lost whose commit arrives then, by which it may learn of its loss."""
+        if len(self.present) > 1:
+            name, partition = self.rng.choice(self.present), self.partition()
+            self.poll([name], partition)
+            self.send([name], partition)
+            self.say(b"lose", name)
+            self.present.remove(name)
+            self.gone.append(name)
+            self.deliver_all()
+            self.poll([name], partition)
+            self.say(self.rng.choice((b"sync", b"rejoin", b"leave")), name)
+
+    def give_up_with_mail(self) -> None:
+        """Members read and send, and one gives up what it has to before the commits arrive."""
+        self.join()
+        for name in list(self.present):
+            self.say(b"sync", name)
+            self.say(b"rejoin", name)
+        partitions = {self.partition() for _ in range(3)}
+        for name in self.present:
+            self.say(b"sync", name)
+            for partition in partitions:
+                self.poll([name], partition)
+        for partition in partitions:
+            self.send(self.present, partition)
+        self.say(b"rejoin", self.rng.choice(self.present))
+        self.deliver_all()
+
+    def deliver_late(self) -> None:
+        self.say(self.rng.choice((b"deliver", b"deliver", b"unanswered")), self.rng.randint(0, self.sent + 3))
+
+    def send_again(self) -> None:
+        self.send(self.readers(), self.partition())
+
+    def append(self) -> None:
+        self.lines.append(b"append " + self.rng.choice(self.keys))
+
+    def settle(self) -> None:
+        self.say(b"settle")
+
+    def drain(self) -> None:
+        self.say(b"drain")
+        self.sent += self.rng.randint(0, self.options.partitions)
+
+    def sync(self) -> None:
+        self.say(b"sync", self.somebody())
+
+    def rejoin(self) -> None:
+        self.say(b"rejoin", self.somebody())
+
+    def rejoin_all(self) -> None:
+        """All who are present rejoin, and sync before or after."""
+        verbs = self.rng.choice(([b"rejoin"], [b"sync", b"rejoin"], [b"rejoin", b"sync"]))
+        for verb in verbs:
+            for name in list(self.present):
+                self.say(verb, name)
+
+    def say_nothing(self) -> None:
+        self.lines.append(self.rng.choice((b"", b"# nothing", b"#" * LONGEST_LINE, b"#join A")))
+
+
+CALM = {"join": 6, "part_one_of_many": 4, "read": 12, "deliver_late": 5, "append": 6, "settle": 12, "drain": 3,
+        "say_nothing": 1, "join_again": 0.5, "send_again": 2, "lose_with_mail": 1}
+WILD = {**CALM, "part": 3, "sync": 8, "rejoin": 8, "rejoin_all": 6, "settle": 5, "drain": 2, "give_up_with_mail": 2}
+
+
+def ended(rng: Random, lines: list[bytes]) -> bytes:
+    """The text of lines. A line that ends with a carriage return gets one more, since one is dropped."""
+    carriage = rng.random() < 0.1
+    text = b"".join(line + (b"\r\n" if carriage or line.endswith(b"\r") else b"\n") for line in lines)
+    return text[:-1] if rng.random() < 0.1 else text
+
+
+def random_script(rng: Random, options: Options, keys: list[bytes], wild: bool) -> bytes:
+    """A script; every second one ends with a drain."""
+    author = Author(rng, options, keys)
+    weights = WILD if wild else CALM
+    author.join()
+    author.settle()
+    if rng.random() < 0.1:
+        author.lines.clear()
+    for act in rng.choices(list(weights), list(weights.values()), k=rng.choice((0, 3, 10, 25, 60))):
+        getattr(author, act)()
+    if rng.random() < 0.5:
+        author.drain()
+    return ended(rng, author.lines)
+
+
+def random_plan(rng: Random) -> bytes:
+    """A plan that somebody is always left of."""
+    present, lines = [], []
+    for number in range(rng.choice((1, 2, 4, 9, 14))):
+        if len(present) > 1 and rng.random() < 0.4:
+            name = present.pop(rng.randrange(len(present)))
+            lines.append(rng.choice((b"leave ", b"lose ")) + name)
+        else:
+            present.append(b"m%d" % number)
+            lines.append(b"join " + present[-1])
+        lines += [b"# nothing"] * (rng.random() < 0.05)
+    return ended(rng, lines)
+
+
+def lines_of(script: bytes) -> Iterator[tuple[int, bytes]]:
+    """The lines of a script that say something, with their numbers."""
+    for number, line in enumerate(script.split(b"\n"), 1):
+        line = line.removesuffix(b"\r")
+        if line and not line.startswith(b"#"):
+            yield number, line
+
+
+def settled_after_each(plan: bytes) -> bytes:
+    """The script that does what a plan says, settles after each of its lines, and drains."""
+    return b"".join(line + b"\nsettle\n" for _, line in lines_of(plan)) + b"drain\n"
+
+
+def spoiled(rng: Random, script: bytes, bad: list[bytes]) -> tuple[bytes, int]:
+    """A script with a bad line in it, and mostly another one after it, and the number of the first."""
+    lines = script.removesuffix(b"\n").split(b"\n") if script else []
+    at = rng.randint(0, len(lines))
+    lines.insert(at, rng.choice(bad))
+    if rng.random() < 0.7:
+        lines.insert(rng.randint(at + 1, len(lines)), rng.choice(bad))
+    return b"\n".join(lines) + b"\n", at + 1
+
+
+def forsaken_plan(rng: Random) -> tuple[bytes, bytes]:
+    """A plan in which nobody is left after some line, or that says nothing, and what is told of it."""
+    if rng.random() < 0.2:
+        return rng.choice((b"", b"\n\n", b"# nothing\r\n", b"\r")), b"fault 27 at line 0\n"
+    names = [b"m%d" % number for number in range(rng.randint(1, 4))]
+    lines = [b"join " + name for name in names]
+    rng.shuffle(names)
+    lines += [rng.choice((b"leave ", b"lose ")) + name for name in names]
+    for _ in range(rng.randint(0, 2)):
+        lines.insert(rng.randint(0, len(lines) - 1), b"# nothing")
+    end = len(lines)
+    lines += [b"join again", rng.choice(BAD)] * rng.randint(0, 1)
+    return b"\n".join(lines) + b"\n", b"fault 27 at line %d\n" % end

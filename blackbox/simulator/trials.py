@@ -1,0 +1,157 @@
+"""The trials: what is run, and what its output has to be."""
+
+from __future__ import annotations
+
+from dataclasses import dataclass
+from random import Random
+from typing import Callable
+
+from simulator import records, scripts
+from simulator.group import require
+from simulator.laws import check_replay, count_text
+from simulator.programs import Outcome
+from simulator.records import Options
+
+
+def check_fault(fault: bytes, outcome: Outcome) -> None:
+    """A fault is told alone, with its status."""
+    require(outcome == Outcome(b"", fault, 1), "it ends with {}, and not with {} alone", outcome, fault)
+
+
+def check_done(outcome: Outcome) -> None:
+    """Nothing is told but the text."""
+    require((outcome.stderr, outcome.status) == (b"", 0), "it ends with {}, {}", outcome.status, outcome.stderr[:200])
+
+
+@dataclass(frozen=True)
+class Trial:
+    """Files, runs of the program over them, and the check of their outcomes, which tells what is broken."""
+
+    kind: str
+    files: dict[str, bytes]
+    runs: list[list[bytes]]
+    check: Callable[[list[Outcome]], None]
+
+
+@dataclass(frozen=True)
+class Input:
+    """A file of records, with the options, and what is read in it: the first bad record or the keys."""
+
+    options: Options
+    pool: list[bytes]
+    text: bytes
+    bad_record: bytes
+    keys: list[bytes]
+
+    def long_key(self) -> bytes:
+        """The fault of a key that is too long, where there is one."""
+        return b"fault 20\n" if any(len(key) > records.LONGEST_KEY for key in self.keys) else b""
+
+
+def random_input(rng: Random, batch: bool, good: bool) -> Input:
+    """A file with its options; one whose records are good, where that is asked."""
+    while True:
+        options = records.random_options(rng, batch)
+        pool = records.random_keys(rng)
+        text = records.random_file(rng, options, pool)
+        read = records.read(text)
+        bad_record = records.record_fault(read, options)
+        found = Input(options, pool, text, bad_record, [] if bad_record else records.keys_of(read, options))
+        if not good or not (bad_record or found.long_key()):
+            return found
+
+
+def count_trial(rng: Random) -> Trial:
+    """A count has the records of Python's csv and the numbers of a Counter, or the fault of the first bad record."""
+    source = random_input(rng, batch=False, good=False)
+
+    def check(outcomes: list[Outcome]) -> None:
+        fault = source.bad_record or source.long_key()
+        if fault:
+            check_fault(fault, outcomes[0])
+        else:
+            check_done(outcomes[0])
+            require(outcomes[0].stdout == count_text(source.keys), "the counts differ: {}", outcomes[0].stdout[:300])
+
+    return Trial("count", {"file": source.text}, [[b"count", b"file", *source.options.words()]], check)
+
+
+def replay_trial(rng: Random, wild: bool) -> Trial:
+    """A replay keeps the laws, and after a last drain it ends with what a count prints."""
+    source = random_input(rng, batch=True, good=True)
+    script = scripts.random_script(rng, source.options, source.pool, wild)
+    lines = [line for _, line in scripts.lines_of(script)]
+
+    def check(outcomes: list[Outcome]) -> None:
+        check_done(outcomes[0])
+        check_replay(source.options, source.keys, script, outcomes[0].stdout)
+        refused = b"\nrefused,%d," % last_line(script) in b"\n" + outcomes[0].stdout
+        if lines[-1:] == [b"drain"] and not refused:
+            keys = source.keys + [line[7:] for line in lines if line.startswith(b"append ")]
+            require(outcomes[0].stdout.endswith(b"\n" + count_text(keys)), "after a drain the counts differ")
+
+    runs = [[b"replay", b"file", b"script", *source.options.words()]]
+    return Trial("wild replay" if wild else "replay", {"file": source.text, "script": script}, runs, check)
+
+
+def last_line(script: bytes) -> int:
+    """The number of the last line that says something."""
+    return max((number for number, _ in scripts.lines_of(script)), default=0)
+
+
+def run_trial(rng: Random) -> Trial:
+    """A run prints what a replay of its plan does that settles after each line and drains at the end."""
+    source = random_input(rng, batch=True, good=True)
+    plan = scripts.random_plan(rng)
+    script = scripts.settled_after_each(plan)
+
+    def check(outcomes: list[Outcome]) -> None:
+        check_done(outcomes[0])
+        check_done(outcomes[1])
+        check_replay(source.options, source.keys, script, outcomes[1].stdout)
+        require(outcomes[1].stdout.endswith(b"\n" + count_text(source.keys)), "the counts of the replay differ")
+        require(outcomes[0].stdout == outcomes[1].stdout, "the run differs from the replay: {}", outcomes[0].stdout[:300])
+
+    words = source.options.words()
+    runs = [[b"run", b"file", b"plan", *words], [b"replay", b"file", b"script", *words]]
+    return Trial("run", {"file": source.text, "plan": plan, "script": script}, runs, check)
+
+
+def faulty_lines(rng: Random, command: bytes, options: Options, pool: list[bytes]) -> tuple[bytes, bytes]:
+    """A script or a plan with a fault, and what is told of it."""
+    if command == b"replay":
+        script = scripts.random_script(rng, options, pool, wild=True)
+        spoiled, line = scripts.spoiled(rng, script, scripts.BAD)
+    elif rng.random() < 0.3:
+        return scripts.forsaken_plan(rng)
+    else:
+        spoiled, line = scripts.spoiled(rng, scripts.random_plan(rng), scripts.BAD + scripts.BAD_IN_PLAN)
+    return spoiled, b"fault 22 at line %d\n" % line
+
+
+def fault_trial(rng: Random) -> Trial:
+    """The first fault is told, alone: of the records, then of the lines, then of the keys."""
+    command = rng.choice((b"replay", b"run"))
+    source = random_input(rng, batch=True, good=False)
+    script, fault = faulty_lines(rng, command, source.options, source.pool)
+
+    def check(outcomes: list[Outcome]) -> None:
+        check_fault(source.bad_record or fault, outcomes[0])
+
+    runs = [[command, b"file", b"script", *source.options.words()]]
+    return Trial(f"fault of a {command.decode()}", {"file": source.text, "script": script}, runs, check)
+
+
+KINDS: list[tuple[int, Callable[[Random], Trial]]] = [
+    (20, count_trial),
+    (25, lambda rng: replay_trial(rng, wild=False)),
+    (25, lambda rng: replay_trial(rng, wild=True)),
+    (15, run_trial),
+    (15, fault_trial),
+]
+
+
+def trial_of(seed: str, index: int) -> Trial:
+    """The trial of a seed and an index, always the same."""
+    rng = Random(f"{seed}/{index}")
+    return rng.choices([make for _, make in KINDS], [weight for weight, _ in KINDS])[0](rng)
