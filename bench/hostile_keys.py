@@ -1,0 +1,130 @@
+#!/usr/bin/env python3
+"""Writes different keys that share one murmur2 hash, or others of the same length that share one partition.
+
+    bench/hostile_keys.py COUNT [--blocks N] [--others PARTITIONS]
+
+The keys go to standard output, one to a line, each of N blocks of 8 bytes, 1 where it is not named. No two are equal, none
+has a byte that a record needs quotes for, and each is hashed again as the definition says.
+
+Murmur2 has no secret, and each of its steps can be undone: from any state the first word of a block can be what one likes,
+and there is one second word by which the block ends in a wanted state. So a block has 2^32 forms that end alike. In a key
+each block but the last is one of two forms, and the last brings it to its hash."""
+
+from __future__ import annotations
+
+import argparse
+import sys
+from itertools import islice, product
+from pathlib import Path
+from random import Random
+from typing import Iterator
+
+sys.dont_write_bytecode = True
+sys.path.insert(0, str(Path(__file__).resolve().parent.parent / "blackbox"))
+
+from simulator.records import MIX, WORD, murmur2
+
+SEED = 1729
+BLOCK = 8
+LETTERS = b"abcdefghijklmnopqrstuvwxyzABCDEFGHIJKLMNOPQRSTUVWXYZ0123456789"
+# A hash without its highest bit, which is what places are told by.
+LOW = 0x7FFFFFFF
+START = 0x9747B28C
+INVERSE = pow(MIX, -1, 1 << 32)
+# What a field of a record is quoted for, and what ends one.
+SPECIAL = frozenset(b',"\r\n')
+# The hash that the keys share: the one of the record that the first test of the hash names.
+SHARED = murmur2(b"21")
+
+
+def mixed(word: int) -> int:
+    """What a word of a key adds to the state."""
+    word = word * MIX & WORD
+    return (word ^ word >> 24) * MIX & WORD
+
+
+def unmixed(value: int) -> int:
+    """The word that adds this."""
+    value = value * INVERSE & WORD
+    return (value ^ value >> 24) * INVERSE & WORD
+
+
+def unfinished(value: int) -> int:
+    """The state after the last word of a key that has this hash."""
+    value ^= value >> 15 ^ value >> 30
+    value = value * INVERSE & WORD
+    return value ^ value >> 13 ^ value >> 26
+
+
+def block_to(state: int, first: int, wanted: int) -> bytes:
+    """The block that begins with this word and leads from a state to the wanted one."""
+    middle = (state * MIX & WORD) ^ mixed(first)
+    second = unmixed((middle * MIX & WORD) ^ wanted)
+    return first.to_bytes(4, "little") + second.to_bytes(4, "little")
+
+
+def words() -> Iterator[int]:
+    """All words of four letters or digits, each once."""
+    for letters in product(LETTERS, repeat=4):
+        yield int.from_bytes(bytes(letters), "little")
+
+
+def is_plain(block: bytes) -> bool:
+    """Whether a block has no byte that needs care."""
+    return not SPECIAL.intersection(block)
+
+
+def beginnings(rng: Random, blocks: int) -> Iterator[tuple[bytes, int]]:
+    """All that the first blocks can be, each of two forms, with the state that they leave, again and again."""
+    state = START ^ (blocks + 1) * BLOCK
+    forms = []
+    for _ in range(blocks):
+        wanted = rng.getrandbits(32)
+        forms.append(list(islice((block for word in words() if is_plain(block := block_to(state, word, wanted))), 2)))
+        state = wanted
+    while True:
+        for choice in product(*forms):
+            yield b"".join(choice), state
+
+
+def keys(rng: Random, blocks: int, partitions: int) -> Iterator[bytes]:
+    """Keys of one hash, or, where partitions are named, of any hash whose partition is that of the shared one. The word
+    that the last block begins with is another for each."""
+    part = (SHARED & LOW) % partitions if partitions else 0
+    for word, (beginning, state) in zip(words(), beginnings(rng, blocks - 1)):
+        value = SHARED
+        if partitions:
+            value = rng.randrange((LOW - part) // partitions) * partitions + part | rng.getrandbits(1) << 31
+        block = block_to(state, word, unfinished(value))
+        if is_plain(block):
+            yield beginning + block
+
+
+def checked(key: bytes, partitions: int) -> bytes:
+    """A key, once the plain hash says of it what it should."""
+    value = murmur2(key)
+    if value != SHARED if not partitions else (value & LOW) % partitions != (SHARED & LOW) % partitions:
+        raise SystemExit(f"{key!r} has the hash {value:#x}")
+    return key
+
+
+def write(path: Path, count: int, blocks: int, partitions: int) -> None:
+    """Writes keys to a file."""
+    made = keys(Random(SEED), blocks, partitions)
+    with path.open("wb") as out:
+        for _ in range(count):
+            out.write(checked(next(made), partitions) + b"\n")
+
+
+def main() -> None:
+    parser = argparse.ArgumentParser(prog="bench/hostile_keys.py", description=__doc__,
+                                     formatter_class=argparse.RawDescriptionHelpFormatter)
+    parser.add_argument("count", type=int, metavar="COUNT")
+    parser.add_argument("--blocks", type=int, default=1, metavar="N")
+    parser.add_argument("--others", type=int, default=0, metavar="PARTITIONS")
+    options = parser.parse_args()
+    write(Path("/dev/stdout"), options.count, options.blocks, options.others)
+
+
+if __name__ == "__main__":
+    main()
