@@ -55,9 +55,11 @@ impl<'a> Reader<'a> {
             && begins_within(self.logs, lease)
     }
 
-    /// Reads a partition on by at most so many records, where it is held.
-    pub fn poll(&mut self, p: u32, records: u32) {
-        let _ = self.consumer.poll(self.logs, p, records);
+    /// Reads a partition on by so many polls of at most so many records, where it is held.
+    pub fn read_on(&mut self, p: u32, polls: u32, records: u32) {
+        for _ in 0..polls {
+            let _ = self.consumer.poll(self.logs, p, records);
+        }
     }
 
     /// The commit of what is pending of a partition, where anything is.

@@ -46,6 +46,23 @@ impl Outcome {
 /// How often a thread looks whether the lock is free before it sleeps: some 20 microseconds.
 const LOOKS: u32 = 400;
 
+/// The most polls whose records are committed together.
+const MOST_POLLS: u32 = 32;
+
+/// From so many records on a commit takes no further poll.
+const ENOUGH_RECORDS: u32 = 16_384;
+
+/// How many polls of at most so many records are committed together: one for batches of one record,
+/// which are committed one by one, and more for larger ones.
+///
+/// A commit writes a counter once, however many of its records have that key; and counters that
+/// another member wrote last are what members wait for.
+fn polls_together(batch: u32) -> u32
+    requires { 1 ≤ batch }
+{
+    batch.min(MOST_POLLS).min(ENOUGH_RECORDS / batch).max(1)
+}
+
 /// What the threads of a run share.
 #[derive(Drop)]
 struct Desk<'a, G> {
@@ -57,14 +74,16 @@ struct Desk<'a, G> {
     gate: &'a G,
     /// The most records of one poll.
     batch: u32,
+    /// How many polls are committed together.
+    polls: u32,
 }
 
 /// Carries a plan out by one thread for each of its members, until its last line is applied, its
 /// last rebalance has ended and the end of each log is committed.
 ///
 /// The members share the cluster, a copy of the logs in it, under one lock, and read the given logs
-/// without it. Each polls at most `batch` records of a partition at a time, at least 1, and asks
-/// the gate before each commit. However the threads fall, the owners, the moves, the generation and
+/// without it. Each polls at most `batch` records of a partition at a time, at least 1, commits what
+/// some polls brought together, and asks the gate before each commit. However the threads fall, the owners, the moves, the generation and
 /// the counts are those of the plan.
 ///
 /// Refused: want of memory, or of a thread (`Memory`); the gate said stop (`GateLimit`); what was
@@ -92,6 +111,7 @@ pub fn run_cluster<R: Threads + Wait + RandomSource + Sync, G: Gate + Sync>(
         logs,
         gate,
         batch,
+        polls: polls_together(batch),
     };
     start_all(rt, &desk, plan.members());
     match shared.into_inner().outcome(logs, plan) {
@@ -221,7 +241,7 @@ impl<'a, G: Gate> Desk<'a, G> {
     fn read<R: Wait>(&self, rt: &R, reader: &mut Reader<'_>) -> Result<bool, Fault> {
         let mut is_any_read = false;
         for p in reader.claim().iter() {
-            reader.poll(p, self.batch);
+            reader.read_on(p, self.polls, self.batch);
             is_any_read |= self.commit_pending(rt, reader, p)?;
         }
         Ok(is_any_read)
