@@ -1,5 +1,5 @@
 -- Numbers that are in a list, and how often.
-use Rattle.std.proofs.Common.{◌≡◌, ◌∙◌, ◌+◌, ◌<◌, ◌≤◌, ℕ, suc, List, [], ◌∷◌, length, cond, get_or, sym, ap, refl, arith, inl, inr, ◌++◌, take}
+use Rattle.std.proofs.Common.{◌≡◌, ◌≢◌, ◌∙◌, ◌+◌, ◌<◌, ◌≤◌, ℕ, suc, true, false, List, [], ◌∷◌, length, cond, get_or, sym, ap, refl, arith, inl, inr, ◌++◌, take}
 use Rattle.std.specs.Prelude.{◌==◌}
 use Rattle.std.proofs.lemmas.Bool.Decides.{eqb_tells}
 use Rattle.std.proofs.lemmas.Grind.{common_steps}
@@ -37,6 +37,25 @@ plain-push (i ∷ ids) y x = let ih = plain-push ids y x in grind (arith, common
 -- the next number of a list, counted
 pub plain-next : (ids : List ℕ) (n x : ℕ) → n < length ids → plain (take (n + 1) ids) x ≡ plain (take n ids) x + cond (x == get_or ids n 0) 1 0
 plain-next ids n x lt = ap (λ ys. plain ys x) (take_more ids n 0 lt) ∙ plain-push (take n ids) (get_or ids n 0) x
+
+is_self : (x : ℕ) → (x == x) ≡ true
+is_self x = elim (eqb_tells x x) [
+  | inl t ↦ t.0
+  | inr f ↦ absurd (f.1 refl)
+]
+
+is_other : (x y : ℕ) → x ≢ y → (x == y) ≡ false
+is_other x y ne = elim (eqb_tells x y) [
+  | inl t ↦ absurd (ne t.1)
+  | inr f ↦ f.0
+]
+
+-- the next number is there once more, and every other as often as before
+pub plain-next-own : (ids : List ℕ) (n : ℕ) → n < length ids → plain (take (n + 1) ids) (get_or ids n 0) ≡ plain (take n ids) (get_or ids n 0) + 1
+plain-next-own ids n lt = plain-next ids n (get_or ids n 0) lt ∙ ap (λ b. plain (take n ids) (get_or ids n 0) + cond b 1 0) (is_self (get_or ids n 0))
+
+pub plain-next-other : (ids : List ℕ) (n : ℕ) → n < length ids → (x : ℕ) → x ≢ get_or ids n 0 → plain (take (n + 1) ids) x ≡ plain (take n ids) x
+plain-next-other ids n lt x ne = plain-next ids n x lt ∙ ap (λ b. plain (take n ids) x + cond b 1 0) (is_other x (get_or ids n 0) ne) ∙ omega arith
 
 -- the order of a list doesn't matter to its counts
 pub plain-order : (ids sorted : List ℕ) (x : ℕ) → IsPermutation ids sorted → plain sorted x ≡ plain ids x

@@ -3,4 +3,5 @@ pub mod Elements
 pub mod Entries
 pub mod Raised
 pub mod Runs
+pub mod Tallied
 pub mod Touched

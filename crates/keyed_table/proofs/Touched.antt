@@ -8,7 +8,7 @@ use Rattle.std.proofs.lemmas.List.Sums.{count_by-le-length}
 use Rattle.std.proofs.lemmas.List.{get_or-append_right, get_or-replicate, get_or_append_left, get_or_push, length-replicate, length-take, length_push}
 use Rattle.keyed_table.specs.Counts.{plain}
 use Rattle.keyed_table.specs.Private.Blocks.{AreBlocksOf, AreBlocksUpTo, DoRise, EndsBy, HaveCounts}
-use Rattle.keyed_table.proofs.Elements.{plain-next, stands-somewhere}
+use Rattle.keyed_table.proofs.Elements.{plain-next, plain-next-other, plain-next-own, stands-somewhere}
 
 -- the numbers before an index of a list that rises are in no block past the one of the number there
 pub ends-by : (ids : List ℕ) (at : ℕ) → IsNonDecreasing ids → at < length ids → EndsBy (take at ids) (get_or ids at 0 / 8)
@@ -92,18 +92,6 @@ up-to-new b ids blocks counts h ends new =
       last = let e : length more - 1 ≡ length blocks = omega (arith, size) in rw e own;
     }
 
-is_self : (x : ℕ) → (x == x) ≡ true
-is_self x = elim (eqb_tells x x) [
-  | inl t ↦ t.0
-  | inr f ↦ absurd (f.1 refl)
-]
-
-is_other : (x y : ℕ) → x ≢ y → (x == y) ≡ false
-is_other x y ne = elim (eqb_tells x y) [
-  | inl t ↦ absurd (ne t.1)
-  | inr f ↦ f.0
-]
-
 -- the next number of a list is counted in the last block, which is its own
 pub counted-more : (ids blocks counts : List ℕ) (at i : ℕ) → at < length ids → AreBlocksUpTo (get_or ids at 0 / 8) (take at ids) blocks counts → i ≡ length counts - 8 + get_or ids at 0 % 8
     → AreBlocksOf (take (at + 1) ids) blocks (set counts i (get_or counts i 0 + 1))
@@ -116,8 +104,8 @@ counted-more ids blocks counts at i lt h place =
     let index : i ≡ 8 * m + id % 8 = omega (arith, place, whole, some) in
     let within : i < length counts = omega (arith, index, whole, some, in_block) in
     let next : (x : ℕ) → plain (take (at + 1) ids) x ≡ plain (take at ids) x + cond (x == id) 1 0 = λ x. plain-next ids at x lt in
-    let own : plain (take (at + 1) ids) id ≡ plain (take at ids) id + 1 = next id ∙ ap (λ b. plain (take at ids) id + cond b 1 0) (is_self id) in
-    let other : (x : ℕ) → x ≢ id → plain (take (at + 1) ids) x ≡ plain (take at ids) x = λ x ne. next x ∙ ap (λ b. plain (take at ids) x + cond b 1 0) (is_other x id ne) ∙ omega arith in
+    let own : plain (take (at + 1) ids) id ≡ plain (take at ids) id + 1 = plain-next-own ids at lt in
+    let other : (x : ℕ) → x ≢ id → plain (take (at + 1) ids) x ≡ plain (take at ids) x = plain-next-other ids at lt in
     let of_last : (j : ℕ) → j < length blocks → get_or blocks j 0 ≡ id / 8 → j ≡ m = λ j lt' same. elim (cases_lt j m) [
       | inl before ↦ absurd (omega (arith, h.have.rise j m before (omega (arith, some)), h.last, same))
       | inr past ↦ omega (arith, past, lt')

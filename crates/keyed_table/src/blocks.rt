@@ -1,8 +1,8 @@
 //! Blocks of eight key numbers, and how often a list has each of their numbers.
 
-ghost use Rattle.std.specs.Prelude.{◌≡◌, ◌≢◌, ◌+◌, ◌-◌, ◌*◌, ◌<◌, ◌^◌, ℕ, List, IfOk, OnOk, false, true, length, take, slice_index_or};
+ghost use Rattle.std.specs.Prelude.{◌≡◌, ◌≢◌, ◌+◌, ◌-◌, ◌*◌, ◌<◌, ◌≤◌, ◌^◌, ℕ, List, IfOk, OnOk, false, true, length, take, slice_index_or};
 ghost use Rattle.std.specs.List.Sorted.{IsNonDecreasing};
-ghost use Rattle.keyed_table.specs.Private.Blocks.{AreBlocksOf, AreBlocksUpTo, EndsBy};
+ghost use Rattle.keyed_table.specs.Private.Blocks.{AreBlocksBelow, AreBlocksOf, AreBlocksUpTo, AreTallies, AreWithin, EndsBy};
 
 use lane_words::Memory;
 use std::alloc::Global;
@@ -22,8 +22,67 @@ pub struct Blocks {
 }
 
 impl Blocks {
-    /// The blocks of a list whose numbers rise.
+    /// The blocks of a list. One that is no shorter than the key numbers up to its largest are many
+    /// is counted by a counter for each of them, and any other in the order of its numbers.
     pub fn of(alloc: Global, ids: &[u32]) -> Result<Blocks, Memory>
+        ensures { IfOk result (λ blocks.
+            AreBlocksOf ids.now blocks.numbers.items blocks.counts.items) }
+    {
+        let bound = bound_of(ids);
+        if BLOCK * bound <= ids.len() {
+            return Blocks::of_tallies(alloc, ids, bound);
+        }
+        Blocks::of_any(alloc, ids)
+    }
+
+    /// The blocks of a list, by way of a sorted copy.
+    fn of_any(alloc: Global, ids: &[u32]) -> Result<Blocks, Memory>
+        ensures { IfOk result (λ blocks.
+            AreBlocksOf ids.now blocks.numbers.items blocks.counts.items) }
+    {
+        let mut sorted = Vec::from_slice(alloc, ids)?;
+        sorted.sort_unstable();
+        Blocks::of_rising(alloc, sorted.as_slice())
+    }
+
+    /// The blocks of a list whose numbers are in the first so many blocks.
+    fn of_tallies(alloc: Global, ids: &[u32], bound: usize) -> Result<Blocks, Memory>
+        requires within { AreWithin bound ids.now }
+        requires fit { 8 * bound ≤ 2 ^ 32 }
+        ensures { IfOk result (λ blocks.
+            AreBlocksOf ids.now blocks.numbers.items blocks.counts.items) }
+    {
+        let tallies = tallies_of(alloc, ids, bound)?;
+        let mut blocks = Blocks {
+            numbers: Vec::new(alloc),
+            counts: Vec::new(alloc),
+        };
+        for block in 0..bound {
+            blocks.take(tallies.as_slice(), block)?;
+        }
+        Ok(blocks)
+    }
+
+    /// Takes over a block of counters that begin at 0, where it has any but zeros.
+    fn take(&mut self, tallies: &[u64], block: usize) -> Result<(), Memory>
+        requires within { 8 * block + 8 ≤ length tallies.now }
+        requires number { block < 2 ^ 32 }
+        ensures { OnOk result ((ids : List ℕ)
+            → AreTallies ids tallies.now
+            → AreBlocksBelow block ids self.old.numbers.items self.old.counts.items
+            → AreBlocksBelow (block + 1) ids self.new.numbers.items self.new.counts.items) }
+    {
+        let counts = &tallies[BLOCK * block..BLOCK * block + BLOCK];
+        if are_zeros(counts) {
+            return Ok(());
+        }
+        self.numbers.push(block as u32)?;
+        self.counts.extend_from_slice(counts)?;
+        Ok(())
+    }
+
+    /// The blocks of a list whose numbers rise.
+    fn of_rising(alloc: Global, ids: &[u32]) -> Result<Blocks, Memory>
         requires { IsNonDecreasing ids.now }
         ensures { IfOk result (λ blocks.
             AreBlocksOf ids.now blocks.numbers.items blocks.counts.items) }
@@ -80,6 +139,46 @@ fn most_blocks(ids: &[u32]) -> usize
         Some(last) => ids.len().min(*last as usize / BLOCK + 1),
         None => 0,
     }
+}
+
+/// How many blocks there are up to the one of the largest number of a list.
+fn bound_of(ids: &[u32]) -> usize
+    ensures within { AreWithin result ids.now }
+    ensures fit { 8 * result ≤ 2 ^ 32 }
+{
+    let mut bound = 0;
+    for id in ids {
+        bound = bound.max(*id as usize / BLOCK + 1);
+    }
+    bound
+}
+
+/// How often each number of the first so many blocks is in a list that has no other.
+fn tallies_of(alloc: Global, ids: &[u32], blocks: usize) -> Result<Vec<u64>, Memory>
+    requires within { AreWithin blocks ids.now }
+    requires fit { 8 * blocks ≤ 2 ^ 32 }
+    ensures counts { IfOk result (λ tallies. AreTallies ids.now tallies.items) }
+    ensures len { IfOk result (λ tallies. length tallies.items ≡ 8 * blocks) }
+{
+    let mut tallies = vec![in alloc; 0; BLOCK * blocks]?;
+    for id in ids {
+        tallies[*id as usize] += 1;
+    }
+    Ok(tallies)
+}
+
+/// Whether some counters stand at 0.
+fn are_zeros(counts: &[u64]) -> bool
+    ensures yes { result ≡ true → (i : ℕ) → slice_index_or counts.now i 0 ≡ 0 }
+    ensures no { result ≡ false → (i : ℕ) × (i < length counts.now)
+        × (0 < slice_index_or counts.now i 0) }
+{
+    for count in counts {
+        if *count != 0 {
+            return false;
+        }
+    }
+    true
 }
 
 /// Whether this is the last of some numbers.

@@ -37,9 +37,7 @@ impl Partial {
     pub fn of(alloc: Global, ids: Vec<u32>) -> Result<Partial, Memory>
         ensures { IfOk result (λ partial. partial ≡ ids.items) }
     {
-        let mut sorted = Vec::from_slice(alloc, ids.as_slice())?;
-        sorted.sort_unstable();
-        let blocks = Blocks::of(alloc, sorted.as_slice())?;
+        let blocks = Blocks::of(alloc, ids.as_slice())?;
         Ok(Partial { ids, blocks })
     }
 

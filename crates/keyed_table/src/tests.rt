@@ -68,19 +68,28 @@ fn a_table_of_zeros_has_as_many_counters_as_keys(rt: HostRuntime) -> Result<(), 
     Ok(())
 }
 
-#[test]
-fn counts_a_list_of_many_numbers(rt: HostRuntime) -> Result<(), Fail> {
-    let mut ids = Vec::new(rt.alloc());
+/// Checks a count of 200,000 numbers so far apart, the first 60,000 of them three times and 10,000
+/// twice.
+fn check_many(rt: &impl Abort, alloc: Global, apart: u32) -> Result<(), Memory> {
+    let mut ids = Vec::new(alloc);
     for i in 0..200_000_u32 {
-        // Each number below 70,000 two or three times.
-        ids.push(i % 70_000)?;
+        ids.push((i % 70_000).saturating_mul(apart))?;
     }
-    let counted = Partial::of(rt.alloc(), ids)?;
+    let counted = Partial::of(alloc, ids)?;
     assert_eq!(rt; counted.ids().len(), 200_000);
-    let expected = [(0, 3), (59_999, 3), (60_000, 2), (69_999, 2), (70_000, 0)];
-    for (id, n) in expected {
+    let expected: [(u32, u64); 5] = [(0, 3), (59_999, 3), (60_000, 2), (69_999, 2), (70_000, 0)];
+    for (number, n) in expected {
+        let id = number.saturating_mul(apart);
         assert_eq!(rt; counted.get(id), n, "{id}");
     }
+    Ok(())
+}
+
+#[test]
+fn counts_a_list_of_many_numbers(rt: HostRuntime) -> Result<(), Fail> {
+    // As many as the counters up to the largest, and far fewer.
+    check_many(&rt, rt.alloc(), 1)?;
+    check_many(&rt, rt.alloc(), 9)?;
     Ok(())
 }
 

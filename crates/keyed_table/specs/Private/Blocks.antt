@@ -36,3 +36,20 @@ EndsBy ids b = (x : ℕ) → 0 < plain ids x → x / 8 ≤ b
 -- from index start to end the blocks are neighbours
 abbrev pub AreNeighbours : List ℕ → ℕ → ℕ → Type 0
 AreNeighbours blocks start end = (i : ℕ) → start + i < end → slice_index_or blocks (start + i) 0 ≡ slice_index_or blocks start 0 + i
+
+-- each number of a list is in one of the first so many blocks
+abbrev pub AreWithin : ℕ → List ℕ → Type 0
+AreWithin bound ids = (i : ℕ) → i < length ids → slice_index_or ids i 0 < 8 * bound
+
+-- counters from number 0 on have the plain counts of a list, in which there is no other number
+abbrev pub AreTallies : List ℕ → List ℕ → Type 0
+AreTallies ids tallies = (x : ℕ) → slice_index_or tallies x 0 ≡ plain ids x
+
+-- the blocks of a list as far as they are below block b
+pub record AreBlocksBelow (b : ℕ) (ids blocks counts : List ℕ) : Type 0 where
+  pub whole : length counts ≡ 8 * length blocks
+  pub rise : DoRise blocks
+  pub below : (j : ℕ) → j < length blocks → slice_index_or blocks j 0 < b
+  pub counted : (j k : ℕ) → j < length blocks → k < 8 → slice_index_or counts (8 * j + k) 0 ≡ plain ids (8 * slice_index_or blocks j 0 + k)
+  pub touched : (j : ℕ) → j < length blocks → IsTouched ids (slice_index_or blocks j 0)
+  pub others : (x : ℕ) → x / 8 < b → ((j : ℕ) → j < length blocks → slice_index_or blocks j 0 ≢ x / 8) → plain ids x ≡ 0
