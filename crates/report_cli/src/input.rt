@@ -6,7 +6,7 @@ ghost use Rattle.report_cli.specs.Input.{ReadsInputTwice};
 use command_line::Job;
 
 /// Whether a path stands for standard input, which is `-`.
-pub fn is_standard_input(path: &str) -> bool
+fn is_standard_input(path: &str) -> bool
     ensures { IsTrue result ↔ (path.now ≡ codes "-") }
 {
     path == "-"

@@ -6,6 +6,6 @@ mod input;
 pub use command_line::{Job, Options, Usage, read_words};
 pub use count_report::count_text;
 pub use devices::{DeviceFailed, FromRead, FromWrite, Sink, Source, fault_line, status};
-pub use input::{is_standard_input, reads_input_twice};
+pub use input::reads_input_twice;
 pub use replay_report::replay_text;
 pub use run_report::run_text;
