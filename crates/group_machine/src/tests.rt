@@ -15,6 +15,34 @@ fn is(set: &Plane, list: &[u32]) -> bool {
     set.count() as usize == list.len() && list.iter().all(|q| set.contains(*q))
 }
 
+// The calls, without what their contracts say: a test of many calls would else be proved over what
+// all of them say.
+
+fn join(cluster: &mut Cluster, name: Name) -> Result<u32, Refusal> {
+    cluster.join(name)
+}
+
+fn rejoin(
+    cluster: &mut Cluster,
+    member: u32,
+    generation: u32,
+    claim: &Plane,
+) -> Result<(), Refusal> {
+    cluster.rejoin(member, generation, claim)
+}
+
+fn leave(cluster: &mut Cluster, member: u32) -> Result<(), Refusal> {
+    cluster.leave(member)
+}
+
+fn lose(cluster: &mut Cluster, member: u32) -> Result<(), Refusal> {
+    cluster.lose(member)
+}
+
+fn append(cluster: &mut Cluster, key: &[u8]) -> Result<(u32, u32), Refusal> {
+    cluster.append(key)
+}
+
 /// Whether a member is present with these sets.
 fn has(cluster: &Cluster, member: u32, granted: &[u32], assigned: &[u32]) -> bool {
     match (cluster.granted(member), cluster.assigned(member)) {
@@ -57,6 +85,11 @@ fn leases(
     Ok(of_member && is(lease.assigned(), list))
 }
 
+/// Whether a partition has so many records.
+fn is_length(cluster: &Cluster, p: u32, records: u32) -> bool {
+    p < cluster.partitions() && cluster.logs().len(p) == records
+}
+
 /// What a cluster answers a commit of these terms.
 fn commit(
     alloc: Global,
@@ -73,19 +106,22 @@ fn commit(
 #[test]
 fn a_partition_moves_once_it_is_revoked(rt: HostRuntime) -> Result<(), Fail> {
     let mut cluster = Cluster::new(&rt, rt.alloc(), 4)?;
-    assert_eq!(rt; cluster.join(name(&rt, b"A")), Ok(1));
-    assert_eq!(rt; cluster.join(name(&rt, b"B")), Ok(2));
+    assert_eq!(rt; join(&mut cluster, name(&rt, b"A")), Ok(1));
+    assert_eq!(rt; join(&mut cluster, name(&rt, b"B")), Ok(2));
     assert!(rt; cluster.phase() == Phase::Preparing && cluster.generation() == 1);
     assert!(rt; cluster.is_joined(2) && !cluster.is_joined(1) && !cluster.is_synced(1));
     assert_eq!(rt; leases(&mut cluster, 1, 1, &[0, 1, 2, 3]), Ok(true));
     assert!(rt; cluster.is_synced(1));
-    assert_eq!(rt; cluster.rejoin(1, 1, &Plane::of(4, &[0, 1, 2, 3])), Ok(()));
+    assert_eq!(rt;
+        rejoin(&mut cluster, 1, 1, &Plane::of(4, &[0, 1, 2, 3])),
+        Ok(())
+    );
     assert!(rt; cluster.generation() == 2 && !cluster.is_settled());
     assert!(rt; has(&cluster, 1, &[0, 1, 2, 3], &[0, 1]) && has(&cluster, 2, &[], &[]));
     assert_eq!(rt; leases(&mut cluster, 1, 2, &[0, 1]), Ok(true));
-    assert_eq!(rt; cluster.rejoin(1, 2, &Plane::of(4, &[0, 1])), Ok(()));
+    assert_eq!(rt; rejoin(&mut cluster, 1, 2, &Plane::of(4, &[0, 1])), Ok(()));
     assert_eq!(rt; leases(&mut cluster, 2, 2, &[]), Ok(true));
-    assert_eq!(rt; cluster.rejoin(2, 2, &Plane::of(4, &[])), Ok(()));
+    assert_eq!(rt; rejoin(&mut cluster, 2, 2, &Plane::of(4, &[])), Ok(()));
     assert!(rt; cluster.generation() == 3 && cluster.is_settled());
     let last = cluster
         .moves()
@@ -104,17 +140,17 @@ fn a_partition_moves_once_it_is_revoked(rt: HostRuntime) -> Result<(), Fail> {
 #[test]
 fn commits_are_fenced_and_taken_once(rt: HostRuntime) -> Result<(), Fail> {
     let mut cluster = Cluster::new(&rt, rt.alloc(), 4)?;
-    assert_eq!(rt; cluster.append(b"21"), Ok((0, 0)));
-    assert_eq!(rt; cluster.append(b"21"), Ok((0, 1)));
-    assert_eq!(rt; cluster.join(name(&rt, b"A")), Ok(1));
+    assert_eq!(rt; append(&mut cluster, b"21"), Ok((0, 0)));
+    assert_eq!(rt; append(&mut cluster, b"21"), Ok((0, 1)));
+    assert_eq!(rt; join(&mut cluster, name(&rt, b"A")), Ok(1));
     assert_eq!(rt;
-        cluster.rejoin(1, 1, &Plane::of(4, &[])),
+        rejoin(&mut cluster, 1, 1, &Plane::of(4, &[])),
         Err(Refusal::SyncFirst)
     );
     assert_eq!(rt; leases(&mut cluster, 1, 1, &[0, 1, 2, 3]), Ok(true));
-    assert_eq!(rt; cluster.join(name(&rt, b"B")), Ok(2));
+    assert_eq!(rt; join(&mut cluster, name(&rt, b"B")), Ok(2));
     assert_eq!(rt;
-        cluster.rejoin(1, 1, &Plane::of(4, &[0, 1])),
+        rejoin(&mut cluster, 1, 1, &Plane::of(4, &[0, 1])),
         Err(Refusal::ClaimDiffers)
     );
     let commits: [((u32, u32, u32, u32), &[u32], Result<u32, Refusal>); 9] = [
@@ -143,21 +179,20 @@ fn commits_are_fenced_and_taken_once(rt: HostRuntime) -> Result<(), Fail> {
             "{terms:?} {ids:?}"
         );
     }
-    assert!(rt; cluster.partitions() == 4);
-    assert_eq!(rt; cluster.store().committed(0), 2);
-    assert_eq!(rt; cluster.logs().len(0), 2);
+    assert_eq!(rt; cluster.store().offsets(), [2, 0, 0, 0].as_slice());
+    assert!(rt; is_length(&cluster, 0, 2));
     Ok(())
 }
 
 #[test]
 fn a_lost_member_is_fenced_off(rt: HostRuntime) -> Result<(), Fail> {
     let mut cluster = Cluster::new(&rt, rt.alloc(), 4)?;
-    assert_eq!(rt; cluster.append(b"21"), Ok((0, 0)));
-    assert_eq!(rt; cluster.join(name(&rt, b"A")), Ok(1));
-    assert_eq!(rt; cluster.join(name(&rt, b"B")), Ok(2));
-    assert_eq!(rt; cluster.join(name(&rt, b"B")), Err(Refusal::NameUsed));
-    assert_eq!(rt; cluster.lose(1), Ok(()));
-    assert_eq!(rt; cluster.leave(1), Err(Refusal::UnknownMember));
+    assert_eq!(rt; append(&mut cluster, b"21"), Ok((0, 0)));
+    assert_eq!(rt; join(&mut cluster, name(&rt, b"A")), Ok(1));
+    assert_eq!(rt; join(&mut cluster, name(&rt, b"B")), Ok(2));
+    assert_eq!(rt; join(&mut cluster, name(&rt, b"B")), Err(Refusal::NameUsed));
+    assert_eq!(rt; lose(&mut cluster, 1), Ok(()));
+    assert_eq!(rt; leave(&mut cluster, 1), Err(Refusal::UnknownMember));
     assert!(rt; !cluster.is_present(1) && cluster.is_present(2) && cluster.is_settled());
     assert_eq!(rt;
         commit(rt.alloc(), &mut cluster, (1, 1, 0, 0), &[0])?,
@@ -192,13 +227,16 @@ fn names_are_of_letters_digits_and_two_marks(rt: HostRuntime) {
 fn a_cluster_at_its_limits(rt: HostRuntime) -> Result<(), Fail> {
     let mut cluster = Cluster::new(&rt, rt.alloc(), MOST_PARTITIONS)?;
     for member in 1..MOST_MEMBERS as u32 + 1 {
-        assert_eq!(rt; cluster.join(numbered(&rt, member)), Ok(member));
+        assert_eq!(rt; join(&mut cluster, numbered(&rt, member)), Ok(member));
     }
     assert_eq!(rt;
-        cluster.join(name(&rt, b"late")),
+        join(&mut cluster, name(&rt, b"late")),
         Err(Refusal::TooManyMembers)
     );
-    assert_eq!(rt; cluster.join(numbered(&rt, 7)), Err(Refusal::NameUsed));
+    assert_eq!(rt;
+        join(&mut cluster, numbered(&rt, 7)),
+        Err(Refusal::NameUsed)
+    );
     assert_eq!(rt; sync_and_rejoin(&mut cluster, 1), Ok(MOST_PARTITIONS));
     assert!(rt; cluster.generation() == 2 && cluster.moves().len() == MOST_PARTITIONS as usize);
     assert!(rt;
@@ -208,8 +246,8 @@ fn a_cluster_at_its_limits(rt: HostRuntime) -> Result<(), Fail> {
     );
     assert_eq!(rt; sync_and_rejoin(&mut cluster, 1), Ok(8));
     assert_eq!(rt; sync_and_rejoin(&mut cluster, 512), Ok(0));
-    assert_eq!(rt; cluster.leave(512), Ok(()));
-    assert_eq!(rt; cluster.leave(512), Err(Refusal::UnknownMember));
+    assert_eq!(rt; leave(&mut cluster, 512), Ok(()));
+    assert_eq!(rt; leave(&mut cluster, 512), Err(Refusal::UnknownMember));
     assert!(rt; cluster.phase() == Phase::Preparing && cluster.generation() == 2);
     assert!(rt; cluster.is_present(511) && !cluster.is_present(512));
     Ok(())
@@ -238,7 +276,7 @@ fn a_cluster_over_logs_has_nothing_committed(rt: HostRuntime) -> Result<(), Fail
 #[test]
 fn a_cluster_over_logs_keeps_them(rt: HostRuntime) -> Result<(), Fail> {
     let mut cluster = Cluster::over(rt.alloc(), five_records(&rt)?)?;
-    assert_eq!(rt; cluster.join(name(&rt, b"A")), Ok(1));
+    assert_eq!(rt; join(&mut cluster, name(&rt, b"A")), Ok(1));
     assert_eq!(rt; leases(&mut cluster, 1, 1, &[0, 1, 2, 3]), Ok(true));
     assert_eq!(rt;
         commit(rt.alloc(), &mut cluster, (1, 1, 0, 0), &[0, 0]),
@@ -269,7 +307,7 @@ fn a_cluster_over_many_keys_counts_each(rt: HostRuntime) -> Result<(), Fail> {
     assert!(rt; cluster.partitions() == MOST_PARTITIONS && cluster.logs().keys() == 100_000);
     assert_eq!(rt; cluster.store().offsets().len(), 4096);
     assert_eq!(rt; cluster.store().counts().len(), 100_000);
-    assert_eq!(rt; cluster.append(b"new").is_ok(), true);
+    assert_eq!(rt; append(&mut cluster, b"new").is_ok(), true);
     assert_eq!(rt; cluster.store().counts().len(), 100_001);
     Ok(())
 }
@@ -278,9 +316,9 @@ fn a_cluster_over_many_keys_counts_each(rt: HostRuntime) -> Result<(), Fail> {
 fn a_name_tells_its_number(rt: HostRuntime) -> Result<(), Fail> {
     let mut cluster = Cluster::new(&rt, rt.alloc(), 4)?;
     assert_eq!(rt; cluster.member_named(&name(&rt, b"A")), None);
-    assert_eq!(rt; cluster.join(name(&rt, b"A")), Ok(1));
-    assert_eq!(rt; cluster.join(name(&rt, b"B")), Ok(2));
-    assert_eq!(rt; cluster.leave(1), Ok(()));
+    assert_eq!(rt; join(&mut cluster, name(&rt, b"A")), Ok(1));
+    assert_eq!(rt; join(&mut cluster, name(&rt, b"B")), Ok(2));
+    assert_eq!(rt; leave(&mut cluster, 1), Ok(()));
     let numbers: [(&[u8], Option<u32>); 4] = [
         (b"A", Some(1)),
         (b"B", Some(2)),

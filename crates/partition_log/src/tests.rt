@@ -6,6 +6,28 @@ ghost use Rattle.std.specs.Prelude.{◌≤◌};
 use super::*;
 use std::test::Fail;
 
+// The calls, without what their contracts say: a test of many calls would else be proved over what
+// all of them say.
+
+fn append(logs: &mut Logs, key: &[u8]) -> Result<(u32, u32), Refusal> {
+    logs.append(key)
+}
+
+/// Whether a key number is that of a key.
+fn is_key<L: LogRead>(logs: &L, number: u32, key: &[u8]) -> bool {
+    number < logs.keys() && logs.key(number) == key
+}
+
+/// Whether a log has so many records.
+fn is_length<L: LogRead>(logs: &L, p: u32, records: u32) -> bool {
+    p < logs.partitions() && logs.len(p) == records
+}
+
+/// Whether a log has records of these key numbers.
+fn are_ids<L: LogRead>(logs: &L, p: u32, ids: &[u32]) -> bool {
+    p < logs.partitions() && logs.ids(p, 0, logs.len(p)) == ids
+}
+
 #[test]
 fn appends_in_order_of_place(rt: HostRuntime) -> Result<(), Fail> {
     let mut logs = Logs::new(&rt, rt.alloc(), 4)?;
@@ -19,16 +41,13 @@ fn appends_in_order_of_place(rt: HostRuntime) -> Result<(), Fail> {
     ];
     for (key, place, offset) in steps {
         assert_eq!(rt; logs.place_of(key), place, "{key:?}");
-        assert_eq!(rt; logs.append(key), Ok((place, offset)), "{key:?}");
+        assert_eq!(rt; append(&mut logs, key), Ok((place, offset)), "{key:?}");
     }
     assert_eq!(rt; logs.keys(), 4);
-    assert_eq!(rt; logs.key(0), b"21".as_slice());
-    assert_eq!(rt; logs.key(3), b"abc".as_slice());
+    assert!(rt; is_key(&logs, 0, b"21") && is_key(&logs, 3, b"abc"));
     let ids: [(u32, &[u32]); 4] = [(0, &[0, 0]), (1, &[1]), (2, &[2]), (3, &[3])];
     for (p, numbers) in ids {
-        assert!(rt; p < logs.partitions());
-        assert_eq!(rt; logs.len(p) as usize, numbers.len());
-        assert_eq!(rt; logs.ids(p, 0, logs.len(p)), numbers);
+        assert!(rt; are_ids(&logs, p, numbers), "{p}");
     }
     Ok(())
 }
@@ -38,19 +57,16 @@ fn a_copy_of_sealed_logs_numbers_keys_as_they_do(rt: HostRuntime) -> Result<(), 
     let mut logs = Logs::new(&rt, rt.alloc(), 4)?;
     let keys: [&[u8]; 3] = [b"21", b"a key of more than 22 bytes", b"21"];
     for key in keys {
-        logs.append(key)?;
+        append(&mut logs, key)?;
     }
     let sealed = logs.seal();
     let mut copy = sealed.copy(&rt, rt.alloc())?;
-    assert_eq!(rt; copy.append(b"21"), Ok((0, 2)));
-    assert!(rt; sealed.partitions() == 4);
-    assert!(rt; copy.partitions() == 4);
-    assert!(rt; sealed.len(0) == 2);
-    assert!(rt; copy.len(0) == 3);
-    assert!(rt; sealed.keys() == 2);
-    assert!(rt; copy.keys() == 2);
-    assert_eq!(rt; sealed.key(1), copy.key(1));
-    assert_eq!(rt; sealed.ids(0, 0, 2), [0, 0].as_slice());
+    assert_eq!(rt; append(&mut copy, b"21"), Ok((0, 2)));
+    assert!(rt; sealed.partitions() == 4 && copy.partitions() == 4);
+    assert!(rt; is_length(&sealed, 0, 2) && is_length(&copy, 0, 3));
+    assert!(rt; sealed.keys() == 2 && copy.keys() == 2);
+    assert!(rt; is_key(&sealed, 1, keys[1]) && is_key(&copy, 1, keys[1]));
+    assert!(rt; are_ids(&sealed, 0, &[0, 0]));
     Ok(())
 }
 
@@ -60,7 +76,7 @@ fn logs_of(rt: &HostRuntime, partitions: u32, keys: &[u8]) -> Result<Logs, Fail>
 {
     let mut logs = Logs::new(rt, rt.alloc(), partitions)?;
     for key in keys {
-        logs.append(&[*key])?;
+        append(&mut logs, &[*key])?;
     }
     Ok(logs)
 }
@@ -92,11 +108,11 @@ fn same_tells_logs_that_differ(rt: HostRuntime) -> Result<(), Fail> {
 fn takes_keys_up_to_the_longest(rt: HostRuntime) -> Result<(), Fail> {
     let mut logs = Logs::new(&rt, rt.alloc(), 1)?;
     let bytes = vec![in rt.alloc(); 0xff_u8; LONGEST_KEY + 1]?;
-    assert_eq!(rt; logs.append(&bytes[..LONGEST_KEY]), Ok((0, 0)));
-    assert_eq!(rt; logs.append(&bytes), Err(Refusal::KeyTooLong));
-    assert_eq!(rt; logs.append(b""), Ok((0, 1)));
+    assert_eq!(rt; append(&mut logs, &bytes[..LONGEST_KEY]), Ok((0, 0)));
+    assert_eq!(rt; append(&mut logs, &bytes), Err(Refusal::KeyTooLong));
+    assert_eq!(rt; append(&mut logs, b""), Ok((0, 1)));
     assert_eq!(rt; logs.keys(), 2);
-    assert_eq!(rt; logs.key(0).len(), LONGEST_KEY);
+    assert!(rt; is_key(&logs, 0, &bytes[..LONGEST_KEY]) && is_key(&logs, 1, b""));
     Ok(())
 }
 
@@ -132,12 +148,12 @@ fn keys_are_numbered_as_by_the_plain_form(rt: HostRuntime) -> Result<(), Fail> {
 fn same_over_as_many_logs_as_there_may_be(rt: HostRuntime) -> Result<(), Fail> {
     let mut logs = Logs::new(&rt, rt.alloc(), MOST_PARTITIONS)?;
     for i in 0..10_000_u32 {
-        logs.append(&i.to_le_bytes())?;
+        append(&mut logs, &i.to_le_bytes())?;
     }
     let sealed = logs.seal();
     let mut copy = sealed.copy(&rt, rt.alloc())?;
     assert!(rt; sealed.same(&copy));
-    copy.append(&[0; 4])?;
+    append(&mut copy, &[0; 4])?;
     assert!(rt; !sealed.same(&copy));
     Ok(())
 }
@@ -146,31 +162,43 @@ fn same_over_as_many_logs_as_there_may_be(rt: HostRuntime) -> Result<(), Fail> {
 fn makes_as_many_logs_as_there_may_be(rt: HostRuntime) -> Result<(), Fail> {
     let logs = Logs::new(&rt, rt.alloc(), MOST_PARTITIONS)?;
     assert!(rt; logs.partitions() == MOST_PARTITIONS);
-    for p in 0..logs.partitions() {
-        assert_eq!(rt; logs.len(p), 0);
-    }
+    assert!(rt; (0..MOST_PARTITIONS).all(|p| is_length(&logs, p, 0)));
     Ok(())
+}
+
+/// How many records a log has, where there is one.
+fn length<L: LogRead>(logs: &L, p: u32) -> u32 {
+    if p < logs.partitions() {
+        logs.len(p)
+    } else {
+        0
+    }
+}
+
+/// Whether a short key is appended, and then a long one of the same number at its place.
+fn takes_two(logs: &mut Logs, number: u32) -> bool {
+    let mut long = [0_u8; 30];
+    long[..4].copy_from_slice(&number.to_le_bytes());
+    let place = logs.place_of(&long);
+    let short = append(logs, &number.to_le_bytes());
+    let at = append(logs, &long);
+    short.is_ok() && at.is_ok_and(|at| at.0 == place)
 }
 
 #[test]
 fn takes_and_copies_more_records_and_keys_than_16_bits_number(rt: HostRuntime) -> Result<(), Fail> {
     let mut logs = Logs::new(&rt, rt.alloc(), 2)?;
     for i in 0..70_000_u32 {
-        // A short key each, and then a long one of the same number.
-        let mut long = [0_u8; 30];
-        long[..4].copy_from_slice(&i.to_le_bytes());
-        let place = logs.place_of(&long);
-        assert_eq!(rt; logs.append(&i.to_le_bytes()).is_ok(), true);
-        assert_eq!(rt; logs.append(&long).map(|at| at.0), Ok(place));
+        assert!(rt; takes_two(&mut logs, i));
     }
-    assert_eq!(rt; logs.append(&[0; 4]).is_ok(), true);
+    assert_eq!(rt; append(&mut logs, &[0; 4]).is_ok(), true);
     assert_eq!(rt; logs.keys(), 140_000);
     let sealed = logs.seal();
     let copy = sealed.copy(&rt, rt.alloc())?;
-    assert_eq!(rt; copy.keys(), 140_000);
-    assert!(rt; copy.partitions() == 2);
-    assert_eq!(rt; u64::from(copy.len(0)) + u64::from(copy.len(1)), 140_001);
-    assert!(rt; copy.len(0) > 65_536 && copy.len(1) > 65_536);
-    assert_eq!(rt; copy.key(139_998), 69_999_u32.to_le_bytes().as_slice());
+    assert!(rt; copy.keys() == 140_000 && copy.partitions() == 2);
+    let (first, second) = (length(&copy, 0), length(&copy, 1));
+    assert_eq!(rt; u64::from(first) + u64::from(second), 140_001);
+    assert!(rt; first > 65_536 && second > 65_536);
+    assert!(rt; is_key(&copy, 139_998, &69_999_u32.to_le_bytes()));
     Ok(())
 }

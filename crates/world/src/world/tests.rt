@@ -16,10 +16,35 @@ fn name(rt: &impl Abort, text: &[u8]) -> Name {
     Name::new(text).expect(rt, "a name")
 }
 
+// The calls, without what their contracts say: a test of many calls would else be proved over what
+// all of them say.
+
+fn step(world: &mut World, event: Event) -> Reply {
+    world.step(event)
+}
+
+fn settle(world: &mut World) -> Result<(), Refusal> {
+    world.settle()
+}
+
+fn drain(world: &mut World, batch: u32) -> Result<(), Refusal>
+    requires { 0 < batch }
+{
+    world.drain(batch)
+}
+
+fn load<R: Threads + Sync>(
+    rt: &R,
+    world: &mut World,
+    keys: &[&[u8]],
+) -> Result<(), (u64, Refusal)> {
+    world.load(rt, keys)
+}
+
 /// A world of four partitions with the five records.
 fn loaded<R: Abort + RandomSource + Threads + Sync>(rt: &R, alloc: Global) -> Result<World, Fail> {
     let mut world = World::new(rt, alloc, 4)?;
-    assert_eq!(rt; world.load(rt, &FIVE), Ok(()));
+    assert_eq!(rt; load(rt, &mut world, &FIVE), Ok(()));
     Ok(world)
 }
 
@@ -32,7 +57,7 @@ fn replies_are<R: Abort + RandomSource + Threads + Sync>(
 ) -> Result<World, Fail> {
     let mut world = loaded(rt, alloc)?;
     for (event, reply) in events.iter().zip(expected) {
-        assert_eq!(rt; world.step(*event), *reply);
+        assert_eq!(rt; step(&mut world, *event), *reply);
     }
     let mut other = loaded(rt, alloc)?;
     let replies = other.run(events)?;
@@ -184,12 +209,12 @@ fn reads_and_sends_at_real_sizes(rt: HostRuntime) -> Result<(), Fail> {
     let keys: Vec<&[u8]> = vec![in rt.alloc(); b"21".as_slice(); 100_000]?;
     let a = name(&rt, b"A");
     let mut world = World::new(&rt, rt.alloc(), 4096)?;
-    assert_eq!(rt; world.load(&rt, keys.as_slice()), Ok(()));
-    let Reply::Appended(partition, 100_000) = world.step(Event::Append(b"21")) else {
+    assert_eq!(rt; load(&rt, &mut world, keys.as_slice()), Ok(()));
+    let Reply::Appended(partition, 100_000) = step(&mut world, Event::Append(b"21")) else {
         return Err("not appended".into());
     };
-    assert_eq!(rt; world.step(Event::Join(&a)), Reply::Joined(1));
-    assert_eq!(rt; world.step(Event::Sync(1)), Reply::Leased(1));
+    assert_eq!(rt; step(&mut world, Event::Join(&a)), Reply::Joined(1));
+    assert_eq!(rt; step(&mut world, Event::Sync(1)), Reply::Leased(1));
     let poll = Event::Poll {
         member: 1,
         partition,
@@ -199,9 +224,12 @@ fn reads_and_sends_at_real_sizes(rt: HostRuntime) -> Result<(), Fail> {
         member: 1,
         partition,
     };
-    assert_eq!(rt; world.step(poll), Reply::Polled(100_001));
-    assert_eq!(rt; world.step(send), Reply::Sent(1));
-    assert_eq!(rt; world.step(Event::Deliver(1)), Reply::Committed(100_001));
+    assert_eq!(rt; step(&mut world, poll), Reply::Polled(100_001));
+    assert_eq!(rt; step(&mut world, send), Reply::Sent(1));
+    assert_eq!(rt;
+        step(&mut world, Event::Deliver(1)),
+        Reply::Committed(100_001)
+    );
     let events = vec![in rt.alloc(); Event::Append(b"4"); 70_000]?;
     let replies = world.run(events.as_slice())?;
     assert_eq!(rt; replies.len(), 70_000);
@@ -214,7 +242,7 @@ fn a_load_stops_at_the_first_key_that_is_refused(rt: HostRuntime) -> Result<(), 
     let long = vec![in rt.alloc(); 0u8; 65_536]?;
     let keys: [&[u8]; 4] = [b"21", b"4", long.as_slice(), b"abc"];
     let mut world = World::new(&rt, rt.alloc(), 4)?;
-    assert_eq!(rt; world.load(&rt, &keys), Err((2, Refusal::KeyTooLong)));
+    assert_eq!(rt; load(&rt, &mut world, &keys), Err((2, Refusal::KeyTooLong)));
     assert_eq!(rt; world.cluster().logs().keys(), 2);
     assert!(rt; world.consumer(1).is_none());
     Ok(())
@@ -224,15 +252,15 @@ fn a_load_stops_at_the_first_key_that_is_refused(rt: HostRuntime) -> Result<(), 
 fn a_member_that_leaves_or_rejoins_is_told(rt: HostRuntime) -> Result<(), Fail> {
     let (a, b) = (name(&rt, b"A"), name(&rt, b"B"));
     let mut world = loaded(&rt, rt.alloc())?;
-    assert_eq!(rt; world.step(Event::Join(&a)), Reply::Joined(1));
-    assert_eq!(rt; world.step(Event::Sync(1)), Reply::Leased(1));
-    assert_eq!(rt; world.step(Event::Join(&b)), Reply::Joined(2));
-    assert_eq!(rt; world.step(Event::Rejoin(1)), Reply::Rejoined);
-    assert_eq!(rt; world.step(Event::Leave(2)), Reply::Left);
+    assert_eq!(rt; step(&mut world, Event::Join(&a)), Reply::Joined(1));
+    assert_eq!(rt; step(&mut world, Event::Sync(1)), Reply::Leased(1));
+    assert_eq!(rt; step(&mut world, Event::Join(&b)), Reply::Joined(2));
+    assert_eq!(rt; step(&mut world, Event::Rejoin(1)), Reply::Rejoined);
+    assert_eq!(rt; step(&mut world, Event::Leave(2)), Reply::Left);
     let out = Reply::Refused(Refusal::OutOfGroup);
-    assert_eq!(rt; world.step(Event::Leave(2)), out);
+    assert_eq!(rt; step(&mut world, Event::Leave(2)), out);
     let unknown = Reply::Refused(Refusal::UnknownMember);
-    assert_eq!(rt; world.step(Event::Sync(3)), unknown);
+    assert_eq!(rt; step(&mut world, Event::Sync(3)), unknown);
     assert!(rt; world.cluster().generation() == 2 && world.cluster().phase() == Phase::Preparing);
     Ok(())
 }
@@ -249,9 +277,9 @@ fn all_is_drained(rt: &impl Abort, world: &World) {
 fn a_drain_commits_all(rt: HostRuntime) -> Result<(), Fail> {
     let a = name(&rt, b"A");
     let mut world = loaded(&rt, rt.alloc())?;
-    assert_eq!(rt; world.drain(500), Err(Refusal::NobodyPresent));
-    assert_eq!(rt; world.step(Event::Join(&a)), Reply::Joined(1));
-    assert_eq!(rt; world.drain(500), Ok(()));
+    assert_eq!(rt; drain(&mut world, 500), Err(Refusal::NobodyPresent));
+    assert_eq!(rt; step(&mut world, Event::Join(&a)), Reply::Joined(1));
+    assert_eq!(rt; drain(&mut world, 500), Ok(()));
     all_is_drained(&rt, &world);
     Ok(())
 }
@@ -260,8 +288,8 @@ fn a_drain_commits_all(rt: HostRuntime) -> Result<(), Fail> {
 fn a_drain_goes_on_from_what_is_pending(rt: HostRuntime) -> Result<(), Fail> {
     let (a, b) = (name(&rt, b"A"), name(&rt, b"B"));
     let mut world = loaded(&rt, rt.alloc())?;
-    assert_eq!(rt; world.step(Event::Join(&a)), Reply::Joined(1));
-    assert_eq!(rt; world.settle(), Ok(()));
+    assert_eq!(rt; step(&mut world, Event::Join(&a)), Reply::Joined(1));
+    assert_eq!(rt; settle(&mut world), Ok(()));
     let third = Event::Poll {
         member: 1,
         partition: 2,
@@ -271,12 +299,12 @@ fn a_drain_goes_on_from_what_is_pending(rt: HostRuntime) -> Result<(), Fail> {
         member: 1,
         partition: 2,
     };
-    assert_eq!(rt; world.step(POLL), Reply::Polled(2));
-    assert_eq!(rt; world.step(SEND), Reply::Sent(1));
-    assert_eq!(rt; world.step(third), Reply::Polled(1));
-    assert_eq!(rt; world.step(send_third), Reply::Sent(2));
-    assert_eq!(rt; world.step(Event::Join(&b)), Reply::Joined(2));
-    assert_eq!(rt; world.drain(1), Ok(()));
+    assert_eq!(rt; step(&mut world, POLL), Reply::Polled(2));
+    assert_eq!(rt; step(&mut world, SEND), Reply::Sent(1));
+    assert_eq!(rt; step(&mut world, third), Reply::Polled(1));
+    assert_eq!(rt; step(&mut world, send_third), Reply::Sent(2));
+    assert_eq!(rt; step(&mut world, Event::Join(&b)), Reply::Joined(2));
+    assert_eq!(rt; drain(&mut world, 1), Ok(()));
     all_is_drained(&rt, &world);
     Ok(())
 }
@@ -474,7 +502,7 @@ fn a_long_schedule_keeps_the_world_good(rt: HostRuntime) -> Result<(), Fail> {
     for _ in 0..10_000 {
         let sent = u32::try_from(world.mail().len()).unwrap_or(0);
         let (kind, event) = chosen_event(&mut chosen, sent, &names, &keys);
-        if let Reply::Refused(_) = world.step(event) {
+        if let Reply::Refused(_) = step(&mut world, event) {
             refused[kind] = refused[kind].saturating_add(1);
         } else {
             accepted[kind] = accepted[kind].saturating_add(1);
