@@ -63,11 +63,10 @@ fn lose(cluster: &mut Cluster, member: u32) -> Result<(), Refusal> {
 
 /// The five records that most rows are over.
 fn load(cluster: &mut Cluster) -> Result<(), Refusal> {
-    cluster.append(b"21")?;
-    cluster.append(b"4")?;
-    cluster.append(b"foobar")?;
-    cluster.append(b"abc")?;
-    cluster.append(b"21")?;
+    let keys: [&[u8]; 5] = [b"21", b"4", b"foobar", b"abc", b"21"];
+    for key in keys {
+        cluster.append(key)?;
+    }
     Ok(())
 }
 
