@@ -55,11 +55,20 @@ impl<'a> Reader<'a> {
             && begins_within(self.logs, lease)
     }
 
-    /// Reads a partition on by so many polls of at most so many records, where it is held.
-    pub fn read_on(&mut self, p: u32, polls: u32, records: u32) {
+    /// Reads a partition on by so many polls of at most so many records, where it is held, and
+    /// answers how many there were.
+    pub fn read_on(&mut self, p: u32, polls: u32, records: u32) -> u32 {
+        let mut read = 0_u32;
         for _ in 0..polls {
-            let _ = self.consumer.poll(self.logs, p, records);
+            read = read.saturating_add(self.poll(p, records));
         }
+        read
+    }
+
+    /// Reads a partition on by at most so many records, where it is held, and answers how many
+    /// there were.
+    fn poll(&mut self, p: u32, records: u32) -> u32 {
+        self.consumer.poll(self.logs, p, records).unwrap_or(0)
     }
 
     /// The commit of what is pending of a partition, where anything is.

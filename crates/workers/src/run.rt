@@ -49,7 +49,7 @@ const LOOKS: u32 = 400;
 /// The most polls whose records are committed together.
 const MOST_POLLS: u32 = 32;
 
-/// From so many records on a commit takes no further poll.
+/// From so many records on a commit takes no further poll, and a turn reads no further partition.
 const ENOUGH_RECORDS: u32 = 16_384;
 
 /// How many polls of at most so many records are committed together: one for batches of one record,
@@ -83,8 +83,8 @@ struct Desk<'a, G> {
 ///
 /// The members share the cluster, a copy of the logs in it, under one lock, and read the given logs
 /// without it. Each polls at most `batch` records of a partition at a time, at least 1, commits what
-/// some polls brought together, and asks the gate before each commit. However the threads fall, the owners, the moves, the generation and
-/// the counts are those of the plan.
+/// some polls brought together, and asks the gate before each commit. However the threads fall, the
+/// owners, the moves, the generation and the counts are those of the plan.
 ///
 /// Refused: want of memory, or of a thread (`Memory`); the gate said stop (`GateLimit`); what was
 /// run differs from what was given (`Differs`).
@@ -236,13 +236,17 @@ impl<'a, G: Gate> Desk<'a, G> {
         Ok(())
     }
 
-    /// Reads each partition on that a member is to keep, and commits what was read. Tells whether
-    /// anything was.
+    /// Reads partitions on that a member is to keep, one after the other, and commits what was read,
+    /// until that is enough for a turn: others may wait for the next one, to rebalance. Tells
+    /// whether anything was read.
     fn read<R: Wait>(&self, rt: &R, reader: &mut Reader<'_>) -> Result<bool, Fault> {
-        let mut is_any_read = false;
+        let (mut is_any_read, mut read) = (false, 0_u32);
         for p in reader.claim().iter() {
-            reader.read_on(p, self.polls, self.batch);
+            read = read.saturating_add(reader.read_on(p, self.polls, self.batch));
             is_any_read |= self.commit_pending(rt, reader, p)?;
+            if read >= ENOUGH_RECORDS {
+                break;
+            }
         }
         Ok(is_any_read)
     }
