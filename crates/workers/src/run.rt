@@ -43,14 +43,15 @@ impl Outcome {
     }
 }
 
-/// How often a thread looks whether the lock is free before it sleeps: some 20 microseconds.
-const LOOKS: u32 = 400;
+/// How often a thread looks whether the lock is free before it sleeps: for longer than a commit of
+/// enough records takes, since to be put to sleep and woken takes longer than that.
+const LOOKS: u32 = 4000;
 
 /// The most polls whose records are committed together.
 const MOST_POLLS: u32 = 32;
 
 /// From so many records on a commit takes no further poll, and a turn reads no further partition.
-const ENOUGH_RECORDS: u32 = 16_384;
+const ENOUGH_RECORDS: u32 = 16_000;
 
 /// How many polls of at most so many records are committed together: one for batches of one record,
 /// which are committed one by one, and more for larger ones.
@@ -286,8 +287,8 @@ impl<'a, G: Gate> Desk<'a, G> {
         }
     }
 
-    /// What is shared. Each call of it takes some microseconds at most, which is less than a thread
-    /// takes to be put to sleep and woken, so whoever finds it taken looks again for a while.
+    /// What is shared. Each call of it takes less than a thread takes to be put to sleep and woken, so
+    /// whoever finds it taken looks again for a while.
     fn lock<R: Wait>(&self, rt: &R) -> MutexGuard<'_, Planned> {
         for _ in 0..LOOKS {
             if let Some(planned) = self.planned.try_lock() {
