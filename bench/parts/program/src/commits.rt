@@ -1,0 +1,206 @@
+//! Commits of 500 records whose keys are drawn by rank, of a log of one partition.
+
+use crate::draws::Draws;
+use crate::plain_partial::PlainPartial;
+use crate::told::tell;
+use anyhow::{Result, ensure};
+use commit_store::Store;
+use keyed_table::Partial;
+use lane_words::{Memory, Refusal};
+use partition_log::{LogRead, Logs};
+use std::alloc::Global;
+use std::time::{Duration, Instant};
+
+/// How many records a commit has.
+const BATCH: u32 = 500;
+
+/// How many different commits there are: their counts lie in the second cache, as after they were
+/// made.
+const BATCHES: u32 = 16;
+
+/// How often each is committed in one repetition.
+const ROUNDS: u32 = 60;
+
+/// How many records come first, by which keys are numbered as in a long file.
+const BEFORE: u32 = 1_000_000;
+
+/// Times the making of counts, and commits, by both bodies.
+pub fn run(rt: &HostRuntime, repetitions: u32, keys: u32) -> Result<()> {
+    ensure!(keys != 0, "no keys");
+    let alloc = rt.alloc();
+    let mut logs = Logs::new(rt, alloc, 1)?;
+    fill(&mut logs, keys)?;
+    let before = Partial::of(alloc, ids_at(alloc, &logs, 0, BEFORE)?)?;
+    for _ in 0..repetitions {
+        let start = Instant::now(rt)?;
+        let partials = partials_of(alloc, &logs)?;
+        tell(rt, "counts lanes", start.elapsed(rt)?)?;
+        let start = Instant::now(rt)?;
+        let plains = plains_of(alloc, &logs)?;
+        tell(rt, "counts plain", start.elapsed(rt)?)?;
+
+        let mut store = Store::over(alloc, 1, logs.keys())?;
+        commit(&mut store, &logs, 0, &before)?;
+        tell(
+            rt,
+            "commits lanes",
+            time_commits(rt, &mut store, &logs, &partials)?,
+        )?;
+        let mut plain = PlainStore::over(alloc, logs.keys())?;
+        plain.commit(
+            &logs,
+            0,
+            &PlainPartial::of(alloc, ids_at(alloc, &logs, 0, BEFORE)?)?,
+        )?;
+        tell(
+            rt,
+            "commits plain",
+            time_plain_commits(rt, &mut plain, &logs, &plains)?,
+        )?;
+        ensure!(
+            store.counts() == plain.counts.as_slice(),
+            "the bodies differ"
+        );
+    }
+    Ok(())
+}
+
+/// The records before the commits, and then those of the commits, in each round the same.
+fn fill(logs: &mut Logs, keys: u32) -> Result<(), Refusal> {
+    let mut draws = Draws::new();
+    for _ in 0..BEFORE {
+        logs.append(&draws.rank(keys).to_le_bytes())?;
+    }
+    for _ in 0..ROUNDS {
+        let mut draws = Draws::new();
+        for _ in 0..BATCHES * BATCH {
+            logs.append(&draws.rank(keys).to_le_bytes())?;
+        }
+    }
+    Ok(())
+}
+
+/// The key numbers of the records from one offset to another.
+fn ids_at(alloc: Global, logs: &Logs, from: u32, to: u32) -> Result<Vec<u32>, Memory> {
+    if from <= to && 0 < logs.partitions() && to <= logs.len(0) {
+        Ok(Vec::from_slice(alloc, logs.ids(0, from, to))?)
+    } else {
+        Ok(Vec::new(alloc))
+    }
+}
+
+/// The key numbers of one of the different commits.
+fn batch(alloc: Global, logs: &Logs, nth: u32) -> Result<Vec<u32>, Memory> {
+    let from = BEFORE + nth % BATCHES * BATCH;
+    ids_at(alloc, logs, from, from + BATCH)
+}
+
+/// The counts of the different commits.
+fn partials_of(alloc: Global, logs: &Logs) -> Result<Vec<Partial>, Memory> {
+    let mut partials = Vec::new(alloc);
+    for nth in 0..BATCHES {
+        partials.push(Partial::of(alloc, batch(alloc, logs, nth)?)?)?;
+    }
+    Ok(partials)
+}
+
+/// The same, by the plain program.
+fn plains_of(alloc: Global, logs: &Logs) -> Result<Vec<PlainPartial>, Memory> {
+    let mut plains = Vec::new(alloc);
+    for nth in 0..BATCHES {
+        plains.push(PlainPartial::of(alloc, batch(alloc, logs, nth)?)?)?;
+    }
+    Ok(plains)
+}
+
+/// Commits what the counts are of.
+fn commit(store: &mut Store, logs: &Logs, from: u32, partial: &Partial) -> Result<u32, Refusal> {
+    if store.partitions() == 0 || logs.partitions() == 0 || store.keys() < logs.keys() as usize {
+        return Err(Refusal::NotHeld);
+    }
+    store.commit(logs, 0, from, partial)
+}
+
+/// How long the commits of all rounds take.
+fn time_commits(
+    rt: &HostRuntime,
+    store: &mut Store,
+    logs: &Logs,
+    partials: &[Partial],
+) -> Result<Duration> {
+    let start = Instant::now(rt)?;
+    let mut from = BEFORE;
+    for _ in 0..ROUNDS {
+        for partial in partials {
+            from = commit(store, logs, from, partial)?;
+        }
+    }
+    Ok(start.elapsed(rt)?)
+}
+
+/// The same, by the plain program.
+fn time_plain_commits(
+    rt: &HostRuntime,
+    store: &mut PlainStore,
+    logs: &Logs,
+    plains: &[PlainPartial],
+) -> Result<Duration> {
+    let start = Instant::now(rt)?;
+    let mut from = BEFORE;
+    for _ in 0..ROUNDS {
+        for plain in plains {
+            from = store.commit(logs, from, plain)?;
+        }
+    }
+    Ok(start.elapsed(rt)?)
+}
+
+/// A store of one partition, in which key numbers are compared one by one, and counts come from an
+/// ordered map.
+#[derive(Drop)]
+struct PlainStore {
+    /// The committed offset.
+    committed: u32,
+    /// The counters, by key number.
+    counts: Vec<u64>,
+}
+
+impl PlainStore {
+    /// A store with nothing committed.
+    fn over(alloc: Global, keys: u32) -> Result<PlainStore, Memory> {
+        let counts = vec![in alloc; 0; keys as usize]?;
+        Ok(PlainStore {
+            committed: 0,
+            counts,
+        })
+    }
+
+    /// Commits what the counts are of.
+    fn commit(&mut self, logs: &Logs, from: u32, plain: &PlainPartial) -> Result<u32, Refusal> {
+        if logs.partitions() == 0 || self.counts.len() < logs.keys() as usize {
+            return Err(Refusal::NotHeld);
+        }
+        let end = self.next_offset(logs, from, plain.ids.as_slice())?;
+        plain.add_to(&mut self.counts);
+        self.committed = end;
+        Ok(end)
+    }
+
+    /// The offset past the records of a commit, or why it is refused.
+    fn next_offset(&self, logs: &Logs, from: u32, ids: &[u32]) -> Result<u32, Refusal> {
+        if ids.is_empty() {
+            return Err(Refusal::EmptyCommit);
+        }
+        if from != self.committed {
+            return Err(Refusal::NotHeld);
+        }
+        let end = from as u64 + ids.len() as u64;
+        if logs.partitions() == 0 || end > logs.len(0) as u64 {
+            return Err(Refusal::PastEnd);
+        }
+        if logs.ids(0, from, end as u32) != ids {
+            return Err(Refusal::WrongRecords);
+        }
+        Ok(end as u32)
+    }
+}
