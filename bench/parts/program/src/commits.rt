@@ -9,7 +9,7 @@ use keyed_table::Partial;
 use lane_words::{Memory, Refusal};
 use partition_log::{LogRead, Logs};
 use std::alloc::Global;
-use std::time::{Duration, Instant};
+use std::time::Instant;
 
 /// How many records a commit has.
 const BATCH: u32 = 500;
@@ -27,42 +27,47 @@ const BEFORE: u32 = 1_000_000;
 /// Times the making of counts, and commits, by both bodies.
 pub fn run(rt: &HostRuntime, repetitions: u32, keys: u32) -> Result<()> {
     ensure!(keys != 0, "no keys");
-    let alloc = rt.alloc();
-    let mut logs = Logs::new(rt, alloc, 1)?;
+    let mut logs = Logs::new(rt, rt.alloc(), 1)?;
     fill(&mut logs, keys)?;
-    let before = Partial::of(alloc, ids_at(alloc, &logs, 0, BEFORE)?)?;
     for _ in 0..repetitions {
-        let start = Instant::now(rt)?;
-        let partials = partials_of(alloc, &logs)?;
-        tell(rt, "counts lanes", start.elapsed(rt)?)?;
-        let start = Instant::now(rt)?;
-        let plains = plains_of(alloc, &logs)?;
-        tell(rt, "counts plain", start.elapsed(rt)?)?;
-
-        let mut store = Store::over(alloc, 1, logs.keys())?;
-        commit(&mut store, &logs, 0, &before)?;
-        tell(
-            rt,
-            "commits lanes",
-            time_commits(rt, &mut store, &logs, &partials)?,
-        )?;
-        let mut plain = PlainStore::over(alloc, logs.keys())?;
-        plain.commit(
-            &logs,
-            0,
-            &PlainPartial::of(alloc, ids_at(alloc, &logs, 0, BEFORE)?)?,
-        )?;
-        tell(
-            rt,
-            "commits plain",
-            time_plain_commits(rt, &mut plain, &logs, &plains)?,
-        )?;
+        let store = time_store(rt, &logs)?;
+        let plain = time_plain_store(rt, &logs)?;
         ensure!(
             store.counts() == plain.counts.as_slice(),
             "the bodies differ"
         );
     }
     Ok(())
+}
+
+/// Counts and commits, as they are.
+fn time_store(rt: &HostRuntime, logs: &Logs) -> Result<Store> {
+    let alloc = rt.alloc();
+    let start = Instant::now(rt)?;
+    let partials = partials_of(alloc, logs)?;
+    tell(rt, "counts lanes", start.elapsed(rt)?)?;
+    let before = Partial::of(alloc, ids_at(alloc, logs, 0, BEFORE)?)?;
+    let mut store = Store::over(alloc, 1, logs.keys())?;
+    commit(&mut store, logs, 0, &before)?;
+    let start = Instant::now(rt)?;
+    commit_all(&mut store, logs, &partials)?;
+    tell(rt, "commits lanes", start.elapsed(rt)?)?;
+    Ok(store)
+}
+
+/// The same, by the plain program.
+fn time_plain_store(rt: &HostRuntime, logs: &Logs) -> Result<PlainStore> {
+    let alloc = rt.alloc();
+    let start = Instant::now(rt)?;
+    let partials = plain_partials_of(alloc, logs)?;
+    tell(rt, "counts plain", start.elapsed(rt)?)?;
+    let before = PlainPartial::of(alloc, ids_at(alloc, logs, 0, BEFORE)?)?;
+    let mut store = PlainStore::over(alloc, logs.keys())?;
+    store.commit(logs, 0, &before)?;
+    let start = Instant::now(rt)?;
+    plain_commit_all(&mut store, logs, &partials)?;
+    tell(rt, "commits plain", start.elapsed(rt)?)?;
+    Ok(store)
 }
 
 /// The records before the commits, and then those of the commits, in each round the same.
@@ -105,12 +110,12 @@ fn partials_of(alloc: Global, logs: &Logs) -> Result<Vec<Partial>, Memory> {
 }
 
 /// The same, by the plain program.
-fn plains_of(alloc: Global, logs: &Logs) -> Result<Vec<PlainPartial>, Memory> {
-    let mut plains = Vec::new(alloc);
+fn plain_partials_of(alloc: Global, logs: &Logs) -> Result<Vec<PlainPartial>, Memory> {
+    let mut partials = Vec::new(alloc);
     for nth in 0..BATCHES {
-        plains.push(PlainPartial::of(alloc, batch(alloc, logs, nth)?)?)?;
+        partials.push(PlainPartial::of(alloc, batch(alloc, logs, nth)?)?)?;
     }
-    Ok(plains)
+    Ok(partials)
 }
 
 /// Commits what the counts are of.
@@ -121,38 +126,30 @@ fn commit(store: &mut Store, logs: &Logs, from: u32, partial: &Partial) -> Resul
     store.commit(logs, 0, from, partial)
 }
 
-/// How long the commits of all rounds take.
-fn time_commits(
-    rt: &HostRuntime,
-    store: &mut Store,
-    logs: &Logs,
-    partials: &[Partial],
-) -> Result<Duration> {
-    let start = Instant::now(rt)?;
+/// Commits all rounds.
+fn commit_all(store: &mut Store, logs: &Logs, partials: &[Partial]) -> Result<(), Refusal> {
     let mut from = BEFORE;
     for _ in 0..ROUNDS {
         for partial in partials {
             from = commit(store, logs, from, partial)?;
         }
     }
-    Ok(start.elapsed(rt)?)
+    Ok(())
 }
 
 /// The same, by the plain program.
-fn time_plain_commits(
-    rt: &HostRuntime,
+fn plain_commit_all(
     store: &mut PlainStore,
     logs: &Logs,
-    plains: &[PlainPartial],
-) -> Result<Duration> {
-    let start = Instant::now(rt)?;
+    partials: &[PlainPartial],
+) -> Result<(), Refusal> {
     let mut from = BEFORE;
     for _ in 0..ROUNDS {
-        for plain in plains {
-            from = store.commit(logs, from, plain)?;
+        for partial in partials {
+            from = store.commit(logs, from, partial)?;
         }
     }
-    Ok(start.elapsed(rt)?)
+    Ok(())
 }
 
 /// A store of one partition, in which key numbers are compared one by one, and counts come from an
@@ -176,12 +173,12 @@ impl PlainStore {
     }
 
     /// Commits what the counts are of.
-    fn commit(&mut self, logs: &Logs, from: u32, plain: &PlainPartial) -> Result<u32, Refusal> {
+    fn commit(&mut self, logs: &Logs, from: u32, partial: &PlainPartial) -> Result<u32, Refusal> {
         if logs.partitions() == 0 || self.counts.len() < logs.keys() as usize {
             return Err(Refusal::NotHeld);
         }
-        let end = self.next_offset(logs, from, plain.ids.as_slice())?;
-        plain.add_to(&mut self.counts);
+        let end = self.next_offset(logs, from, partial.ids.as_slice())?;
+        partial.add_to(&mut self.counts);
         self.committed = end;
         Ok(end)
     }
