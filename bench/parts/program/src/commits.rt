@@ -42,32 +42,52 @@ pub fn run(rt: &HostRuntime, repetitions: u32, keys: u32) -> Result<()> {
 
 /// Counts and commits, as they are.
 fn time_store(rt: &HostRuntime, logs: &Logs) -> Result<Store> {
-    let alloc = rt.alloc();
-    let start = Instant::now(rt)?;
-    let partials = partials_of(alloc, logs)?;
-    tell(rt, "counts lanes", start.elapsed(rt)?)?;
-    let before = Partial::of(alloc, ids_at(alloc, logs, 0, BEFORE)?)?;
-    let mut store = Store::over(alloc, 1, logs.keys())?;
-    commit(&mut store, logs, 0, &before)?;
-    let start = Instant::now(rt)?;
-    commit_all(&mut store, logs, &partials)?;
-    tell(rt, "commits lanes", start.elapsed(rt)?)?;
+    let mut store = Store::over(rt.alloc(), 1, logs.keys())?;
+    time_batches(rt, &mut store, logs)?;
     Ok(store)
+}
+
+/// The same, in a store with nothing committed.
+fn time_batches(rt: &HostRuntime, store: &mut Store, logs: &Logs) -> Result<()> {
+    commit_first(rt.alloc(), store, logs)?;
+    let start = Instant::now(rt)?;
+    let partials = partials_of(rt.alloc(), logs)?;
+    let counted = Instant::now(rt)?;
+    commit_all(store, logs, &partials)?;
+    tell(rt, "commits lanes", counted.elapsed(rt)?)?;
+    tell(rt, "counts lanes", counted.duration_since(start))
+}
+
+/// Commits the records before.
+fn commit_first(alloc: Global, store: &mut Store, logs: &Logs) -> Result<(), Refusal> {
+    let before = Partial::of(alloc, ids_at(alloc, logs, 0, BEFORE)?)?;
+    commit(store, logs, 0, &before)?;
+    Ok(())
 }
 
 /// The same, by the plain program.
 fn time_plain_store(rt: &HostRuntime, logs: &Logs) -> Result<PlainStore> {
-    let alloc = rt.alloc();
-    let start = Instant::now(rt)?;
-    let partials = plain_partials_of(alloc, logs)?;
-    tell(rt, "counts plain", start.elapsed(rt)?)?;
-    let before = PlainPartial::of(alloc, ids_at(alloc, logs, 0, BEFORE)?)?;
-    let mut store = PlainStore::over(alloc, logs.keys())?;
-    store.commit(logs, 0, &before)?;
-    let start = Instant::now(rt)?;
-    plain_commit_all(&mut store, logs, &partials)?;
-    tell(rt, "commits plain", start.elapsed(rt)?)?;
+    let mut store = PlainStore::over(rt.alloc(), logs.keys())?;
+    time_plain_batches(rt, &mut store, logs)?;
     Ok(store)
+}
+
+/// The same, in a store with nothing committed.
+fn time_plain_batches(rt: &HostRuntime, store: &mut PlainStore, logs: &Logs) -> Result<()> {
+    plain_commit_first(rt.alloc(), store, logs)?;
+    let start = Instant::now(rt)?;
+    let partials = plain_partials_of(rt.alloc(), logs)?;
+    let counted = Instant::now(rt)?;
+    plain_commit_all(store, logs, &partials)?;
+    tell(rt, "commits plain", counted.elapsed(rt)?)?;
+    tell(rt, "counts plain", counted.duration_since(start))
+}
+
+/// Commits the records before.
+fn plain_commit_first(alloc: Global, store: &mut PlainStore, logs: &Logs) -> Result<(), Refusal> {
+    let before = PlainPartial::of(alloc, ids_at(alloc, logs, 0, BEFORE)?)?;
+    store.commit(logs, 0, &before)?;
+    Ok(())
 }
 
 /// The records before the commits, and then those of the commits, in each round the same.

@@ -21,25 +21,48 @@ pub fn run(rt: &HostRuntime, repetitions: u32, partitions: u32) -> Result<()> {
         "1 to 4096 partitions"
     );
     for _ in 0..repetitions {
-        let mut logs = Logs::new(rt, rt.alloc(), partitions)?;
-        let start = Instant::now(rt)?;
-        append_all(&mut logs)?;
-        let store = count(rt.alloc(), &logs)?;
-        tell(rt, "lanes", start.elapsed(rt)?)?;
-        drop(logs);
-
-        let mut logs = Logs::new(rt, rt.alloc(), partitions)?;
-        let mut counts = Vec::new(rt.alloc());
-        let start = Instant::now(rt)?;
-        append_and_count_all(&mut logs, &mut counts)?;
-        tell(rt, "plain", start.elapsed(rt)?)?;
+        let store = time_counts(rt, partitions)?;
+        let counts = time_plain_counts(rt, partitions)?;
         ensure!(store.counts() == counts.as_slice(), "the bodies differ");
-
-        let start = Instant::now(rt)?;
-        count(rt.alloc(), &logs)?;
-        tell(rt, "counts alone", start.elapsed(rt)?)?;
     }
     Ok(())
+}
+
+/// Appends all records, and counts them by partial counts.
+fn time_counts(rt: &HostRuntime, partitions: u32) -> Result<Store>
+    requires { (1 ≤ partitions) × (partitions ≤ MOST_PARTITIONS) }
+{
+    let mut logs = Logs::new(rt, rt.alloc(), partitions)?;
+    append_and_count(rt, &mut logs)
+}
+
+/// The same, in logs with no records.
+fn append_and_count(rt: &HostRuntime, logs: &mut Logs) -> Result<Store> {
+    let start = Instant::now(rt)?;
+    append_all(logs)?;
+    let appended = Instant::now(rt)?;
+    let store = count(rt.alloc(), logs)?;
+    let counted = Instant::now(rt)?;
+    tell(rt, "lanes", counted.duration_since(start))?;
+    tell(rt, "counts alone", counted.duration_since(appended))?;
+    Ok(store)
+}
+
+/// Appends all records, and counts each at once.
+fn time_plain_counts(rt: &HostRuntime, partitions: u32) -> Result<Vec<u64>>
+    requires { (1 ≤ partitions) × (partitions ≤ MOST_PARTITIONS) }
+{
+    let mut logs = Logs::new(rt, rt.alloc(), partitions)?;
+    append_and_count_plainly(rt, &mut logs)
+}
+
+/// The same, in logs with no records.
+fn append_and_count_plainly(rt: &HostRuntime, logs: &mut Logs) -> Result<Vec<u64>> {
+    let mut counts = Vec::new(rt.alloc());
+    let start = Instant::now(rt)?;
+    append_and_count_all(logs, &mut counts)?;
+    tell(rt, "plain", start.elapsed(rt)?)?;
+    Ok(counts)
 }
 
 /// The key of a record.
