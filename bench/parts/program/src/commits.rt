@@ -92,12 +92,12 @@ fn plain_commit_first(alloc: Global, store: &mut PlainStore, logs: &Logs) -> Res
 
 /// The records before the commits, and then those of the commits, in each round the same.
 fn fill(logs: &mut Logs, keys: u32) -> Result<(), Refusal> {
-    let mut draws = Draws::new();
+    let mut draws = Draws::new(1);
     for _ in 0..BEFORE {
         logs.append(&draws.rank(keys).to_le_bytes())?;
     }
     for _ in 0..ROUNDS {
-        let mut draws = Draws::new();
+        let mut draws = Draws::new(2);
         for _ in 0..BATCHES * BATCH {
             logs.append(&draws.rank(keys).to_le_bytes())?;
         }

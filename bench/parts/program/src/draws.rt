@@ -7,9 +7,9 @@ pub struct Draws {
 }
 
 impl Draws {
-    /// Draws from the beginning.
-    pub fn new() -> Draws {
-        Draws { state: 1 }
+    /// Draws of their own for each seed.
+    pub fn new(seed: u64) -> Draws {
+        Draws { state: seed }
     }
 
     /// The next number, of 31 bits.

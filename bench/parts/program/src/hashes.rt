@@ -34,7 +34,7 @@ pub fn run(rt: &HostRuntime, repetitions: u32, len: u32) -> Result<()> {
 
 /// This many bytes.
 fn drawn(alloc: Global, len: usize) -> Result<Vec<u8>, AllocError> {
-    let mut draws = Draws::new();
+    let mut draws = Draws::new(1);
     let mut bytes = Vec::with_capacity(alloc, len)?;
     for _ in 0..len {
         bytes.push((draws.next() & 0xff) as u8)?;
