@@ -2,6 +2,9 @@
    opening of a file, of getentropy, or of a start of a thread.
    REFUSE is the kind of call, REFUSE_NTH its number, counted from 1; the file REFUSE_MARK is made when it is refused. With
    REFUSE_LASTS every later call of the kind is refused too.
+   With REFUSE_BETWEEN only calls between two marks are counted and refused: a line that begins with '>', and the line '<',
+   each written to standard output by one write. The first mark goes into REFUSE_MARK with each call that is refused after it.
+   With the word "once" there, none is refused any more after the second mark.
    With REFUSE_SHORT each read and write moves one byte at the most. */
 #define _GNU_SOURCE
 #include <dlfcn.h>
@@ -20,15 +23,43 @@ extern void *__libc_realloc(void *, size_t);
 
 static atomic_long count;
 
+/* Whether a call is being made between two marks, and whether one in which something was refused is over. */
+static atomic_int is_between, is_over;
+/* Whether something was refused. */
+static atomic_int has_refused;
+/* The first mark of those that were written last. */
+static char first_mark[256];
+static size_t first_mark_size;
+
 static int refuses(const char *kind) {
     const char *wanted = getenv("REFUSE"), *nth = getenv("REFUSE_NTH"), *mark = getenv("REFUSE_MARK");
     if (!wanted || !nth || !mark || strcmp(wanted, kind) != 0)
         return 0;
+    if (getenv("REFUSE_BETWEEN") && (!is_between || is_over))
+        return 0;
     long now = ++count, first = atol(nth);
     if (now < first || (now > first && !getenv("REFUSE_LASTS")))
         return 0;
-    syscall(SYS_close, syscall(SYS_openat, AT_FDCWD, mark, O_CREAT | O_WRONLY, 0600));
+    has_refused = 1;
+    int fd = syscall(SYS_openat, AT_FDCWD, mark, O_CREAT | O_WRONLY | O_APPEND, 0600);
+    syscall(SYS_write, fd, first_mark, first_mark_size);
+    syscall(SYS_close, fd);
     return 1;
+}
+
+/* Looks whether what goes to standard output is a mark. */
+static void notice(const char *text, size_t size) {
+    const char *between = getenv("REFUSE_BETWEEN");
+    if (!between || size == 0)
+        return;
+    if (text[0] == '>') {
+        first_mark_size = size < sizeof first_mark ? size : sizeof first_mark;
+        memcpy(first_mark, text, first_mark_size);
+        is_between = 1;
+    } else if (size == 2 && memcmp(text, "<\n", 2) == 0) {
+        is_between = 0;
+        is_over = has_refused && strcmp(between, "once") == 0;
+    }
 }
 
 static size_t moved(size_t wanted) {
@@ -85,6 +116,8 @@ ssize_t write(int fd, const void *buf, size_t size) {
         errno = ENOSPC;
         return -1;
     }
+    if (fd == STDOUT_FILENO)
+        notice(buf, size);
     return syscall(SYS_write, fd, buf, moved(size));
 }
 

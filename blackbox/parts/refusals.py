@@ -1,7 +1,7 @@
 """Calls of the system that are refused in turn: the first of a kind, then the second, until a run makes no such call any
 more. Growths (malloc and realloc), reads, writes, starts of threads, openings of files and random bytes are refused, over
 several files, scripts and plans: once that call alone, and once every later one of its kind too. And devices that move one
-byte a call, which change nothing.
+byte a call, which change nothing; of short runs each of these calls is refused in turn too.
 
 What may come is the kind's fault, with nothing written (after a refused write: a beginning of the text), or, of a growth
 alone, the very outcome that comes with nothing refused: the C library may do without the memory that it asked for."""
@@ -15,6 +15,8 @@ from .program import FOLDER, Cases, Outcome, run
 
 FAULTS = {"malloc": b"fault 90\n", "thread": b"fault 90\n", "random": b"fault 90\n", "open": b"fault 25\n",
           "read": b"fault 25\n", "write": b"fault 26\n"}
+# The most bytes of a run of which each is read and written by a call that is refused in turn.
+MOST_BYTES = 1_000
 FIVE = b"21\n4\nfoobar\nabc\n21\n"
 FIVE_COUNTS = b"count,21,2\ncount,4,1\ncount,foobar,1\ncount,abc,1\ntotal,5,5\n"
 FOUR_MOVES = b"move,1,0,,A\nmove,1,1,,A\nmove,1,2,,A\nmove,1,3,,A\n"
@@ -105,21 +107,26 @@ class Sweep:
     def run(self, **environment: str) -> Outcome:
         return run(self.words, self.folder, dict(os.environ, LD_PRELOAD=str(self.library), **environment))
 
-    def faults(self, kind: str, **lasting: str) -> Iterator[str]:
+    def faults(self, kind: str, **how: str) -> Iterator[str]:
         """Refuses the first call of this kind, then the second, until a run makes no such call any more."""
         mark = self.folder / "mark"
         if not self.is_well:
             yield "it does not end well where nothing is refused"
         for nth in range(1, 20_000):
-            ended = self.run(REFUSE=kind, REFUSE_NTH=str(nth), REFUSE_MARK=str(mark), **lasting)
+            ended = self.run(REFUSE=kind, REFUSE_NTH=str(nth), REFUSE_MARK=str(mark), **how)
             if not mark.exists():
-                self.refused[kind] = nth - 1
+                self.refused[f"short {kind}" if "REFUSE_SHORT" in how else kind] = nth - 1
                 if ended != self.wanted or (nth == 1) != (kind in self.subject.without):
                     yield f"with nothing refused (call {nth}) it ends with {ended}"
                 return
             mark.unlink()
             if not is_right(self.wanted, kind, ended):
                 yield f"with call {nth} refused it ends with {ended}"
+
+    def is_short(self) -> bool:
+        """Whether it reads and writes so little that each byte's call can be refused in turn."""
+        read = sum(len(text) for text in self.subject.files.values())
+        return max(read, len(self.wanted.stdout)) <= MOST_BYTES
 
     def short_faults(self) -> Iterator[str]:
         """Devices that move one byte a call change nothing."""
@@ -139,5 +146,7 @@ def cases() -> Cases:
                 yield f"{subject.name}, each {kind} refused in turn", sweep.faults(kind)
                 yield f"{subject.name}, each {kind} and all after it", sweep.faults(kind, REFUSE_LASTS="1")
             yield f"{subject.name}, one byte a call", sweep.short_faults()
+            for kind in ("read", "write") if sweep.is_short() else ():
+                yield f"{subject.name}, one byte a call, each {kind} refused in turn", sweep.faults(kind, REFUSE_SHORT="1")
             told = ", ".join(f"{kind} {times}" for kind, times in sweep.refused.items())
             print(f"refused in turn of {subject.name}: {told}", flush=True)

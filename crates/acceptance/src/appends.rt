@@ -1,0 +1,67 @@
+//! Records that are appended to logs, and keys that are placed.
+
+use crate::stage::Stage;
+use crate::state;
+use anyhow::Result;
+use partition_log::Logs;
+use partitioner::Partitions;
+use std::io::Write;
+use std::random::RandomSource;
+use std::thread::Threads;
+
+/// How many keys two pieces of work have, and a few more.
+const MANY: usize = 5_000;
+
+/// New keys and known ones, one of them too long for a place in the table of keys itself, and so
+/// often the same that its log has to grow again.
+const KEYS: [&str; 15] = [
+    "21",
+    "4",
+    "foobar",
+    "abc",
+    "21",
+    "a key with memory of its own",
+    "a key with memory of its own",
+    "21",
+    "21",
+    "21",
+    "21",
+    "21",
+    "21",
+    "21",
+    "21",
+];
+
+/// Appends records one by one.
+pub fn tell_appends<R: RandomSource, W: Write>(rt: &R, stage: &mut Stage<W>) -> Result<()> {
+    let mut logs = Logs::new(rt, stage.alloc, 4)?;
+    for key in KEYS {
+        stage.call(format_args!("append {key}"), || logs.append(key.as_bytes()))?;
+    }
+    state::tell_logs(stage, &logs)
+}
+
+/// Places keys of two lengths.
+pub fn tell_places<R: Threads + Sync, W: Write>(rt: &R, stage: &mut Stage<W>) -> Result<()> {
+    let keys: [&[u8]; 10] = [
+        b"21", b"34", b"21", b"34", b"", b"21", b"34", b"21", b"34", b"21",
+    ];
+    let alloc = stage.alloc;
+    let partitions = Partitions::new(4);
+    stage.call("place_all", || Ok(partitions.place_all(rt, alloc, &keys)?))
+}
+
+/// Places the numbers from 0 on, which are more keys than one piece of work has.
+pub fn tell_pieces<R: Threads + Sync, W: Write>(rt: &R, stage: &mut Stage<W>) -> Result<()> {
+    let alloc = stage.alloc;
+    let mut texts = Vec::with_capacity(alloc, MANY)?;
+    for number in 0..MANY {
+        texts.push(format!(in alloc; "{number}")?)?;
+    }
+    let mut keys: Vec<&[u8]> = Vec::with_capacity(alloc, MANY)?;
+    for text in &texts {
+        keys.push(text.as_bytes())?;
+    }
+    let partitions = Partitions::new(4);
+    stage.call("place_all", || Ok(partitions.place_all(rt, alloc, &keys)?))
+}

@@ -1,0 +1,135 @@
+//! Calls on a cluster.
+
+use crate::stage::Stage;
+use crate::state;
+use anyhow::Result;
+use bit_planes::Plane;
+use group_machine::{Cluster, Commit, Name};
+use keyed_table::Partial;
+use lane_words::Refusal;
+use std::alloc::{AllocError, Global};
+use std::io::Write;
+use std::random::RandomSource;
+use world::Reply;
+
+/// How many partitions there are.
+const PARTITIONS: u32 = 4;
+
+/// A call on a cluster. What is replied to it is what a world would reply.
+#[derive(Clone, Copy, Debug)]
+pub enum Call<'a> {
+    Append(&'a str),
+    Join(&'a str),
+    Sync(u32),
+    /// A member, a generation, and what is claimed.
+    Rejoin(u32, u32, &'a [u32]),
+    Leave(u32),
+    Lose(u32),
+    /// A member, a generation, a partition, an offset, and the key numbers from there on.
+    Commit(u32, u32, u32, u32, &'a [u32]),
+}
+
+/// Members who are out of date or lost, and commits and claims that nobody may make.
+pub const ZOMBIES: [Call; 15] = [
+    Call::Append("21"),
+    Call::Append("21"),
+    Call::Join("A"),
+    Call::Sync(1),
+    Call::Join("B"),
+    Call::Commit(2, 1, 0, 0, &[0, 0]),
+    Call::Commit(1, 1, 0, 0, &[0, 1]),
+    Call::Rejoin(1, 1, &[0, 1]),
+    Call::Rejoin(1, 0, &[0, 1, 2, 3]),
+    Call::Rejoin(2, 1, &[]),
+    Call::Lose(1),
+    Call::Commit(1, 1, 0, 0, &[0, 0]),
+    Call::Commit(2, 1, 0, 0, &[0, 0]),
+    Call::Commit(2, 2, 0, 0, &[0, 0]),
+    Call::Commit(2, 2, 0, 0, &[0, 0]),
+];
+
+/// Two members who share partitions in two rounds, and a third who is left with all of them.
+pub const TWO_ROUNDS: [Call; 15] = [
+    Call::Append("abc"),
+    Call::Join("A"),
+    Call::Join("B"),
+    Call::Sync(1),
+    Call::Rejoin(1, 1, &[0, 1, 2, 3]),
+    Call::Sync(1),
+    Call::Rejoin(1, 2, &[0, 1]),
+    Call::Sync(2),
+    Call::Rejoin(2, 2, &[]),
+    Call::Leave(1),
+    Call::Sync(2),
+    Call::Rejoin(2, 3, &[2, 3]),
+    Call::Join("C"),
+    Call::Leave(2),
+    Call::Lose(3),
+];
+
+/// Makes the calls, and tells the cluster that comes of them.
+pub fn tell<R: RandomSource, W: Write>(rt: &R, stage: &mut Stage<W>, calls: &[Call]) -> Result<()> {
+    let mut cluster = Cluster::new(rt, stage.alloc, PARTITIONS)?;
+    for call in calls {
+        tell_call(stage, &mut cluster, *call)?;
+    }
+    state::tell_cluster(stage, &cluster)
+}
+
+/// Makes one call. What a commit hands over is made before.
+fn tell_call<W: Write>(stage: &mut Stage<W>, cluster: &mut Cluster, call: Call) -> Result<()> {
+    if let Call::Commit(member, generation, partition, from, ids) = call {
+        let partial = partial_of(stage.alloc, ids)?;
+        let commit = Commit::new(member, generation, partition, from, partial);
+        return stage.call(format_args!("{call:?}"), || {
+            Ok(Reply::Committed(cluster.commit(&commit)?))
+        });
+    }
+    stage.call(format_args!("{call:?}"), || replied(cluster, call))
+}
+
+/// Key numbers with their counts.
+fn partial_of(alloc: Global, ids: &[u32]) -> Result<Partial> {
+    Ok(Partial::of(alloc, Vec::from_slice(alloc, ids)?)?)
+}
+
+/// Makes a call other than a commit.
+fn replied(cluster: &mut Cluster, call: Call) -> Result<Reply, Refusal> {
+    match call {
+        Call::Append(key) => {
+            let (partition, offset) = cluster.append(key.as_bytes())?;
+            Ok(Reply::Appended(partition, offset))
+        }
+        Call::Join(text) => Ok(Reply::Joined(cluster.join(name(text)?)?)),
+        Call::Sync(member) => Ok(Reply::Leased(cluster.sync(member)?.generation())),
+        Call::Rejoin(member, generation, claim) => {
+            cluster.rejoin(member, generation, &set_of(claim))?;
+            Ok(Reply::Rejoined)
+        }
+        Call::Leave(member) => {
+            cluster.leave(member)?;
+            Ok(Reply::Left)
+        }
+        Call::Lose(member) => {
+            cluster.lose(member)?;
+            Ok(Reply::Lost)
+        }
+        Call::Commit(..) => Ok(Reply::Unanswered),
+    }
+}
+
+/// The name of this text. A text that is none is told as a line that is none would be.
+pub fn name(text: &str) -> Result<Name, Refusal> {
+    Name::new(text.as_bytes()).ok_or(Refusal::BadLine { line: 1 })
+}
+
+/// The set of these partitions.
+fn set_of(elements: &[u32]) -> Plane {
+    let mut set = Plane::new(PARTITIONS);
+    for q in elements {
+        if *q < PARTITIONS {
+            set.insert(*q);
+        }
+    }
+    set
+}

@@ -1,0 +1,92 @@
+//! What members are to own, and what is withheld from them.
+
+ghost use Rattle.std.specs.Prelude.{◌≡◌, IfOk};
+ghost use Rattle.bit_planes.specs.PartitionSet.{partitions_of};
+ghost use Rattle.bit_planes.specs.SetRows.{sets_of};
+ghost use Rattle.sticky_assignor.specs.Assigned.{HaveRows};
+ghost use Rattle.sticky_assignor.specs.Balanced.{AreApart};
+ghost use Rattle.acceptance.specs.Rows.{of_three, three_members};
+
+use crate::stage::Stage;
+use anyhow::Result;
+use bit_planes::{Plane, PlaneRows};
+use coop_rebalance::withhold;
+use lane_words::{Memory, Refusal};
+use std::alloc::Global;
+use std::fmt;
+use std::io::Write;
+use sticky_assignor::assign;
+
+/// How many partitions there are.
+const PARTITIONS: u32 = 5;
+
+/// Rows, told by their members and elements.
+#[derive(Drop)]
+struct Rows(PlaneRows);
+
+impl fmt::Debug for Rows {
+    fn fmt<W: fmt::Write>(&self, f: &mut fmt::Formatter<W>) -> fmt::Result {
+        for (member, row) in self.0.iter() {
+            write!(f, "{member}:")?;
+            for q in row.iter() {
+                write!(f, " {q}")?;
+            }
+            write!(f, ";")?;
+        }
+        Ok(())
+    }
+}
+
+/// Rows of members 1, 2 and 3.
+fn rows_of(alloc: Global, first: Plane, second: Plane, third: Plane) -> Result<PlaneRows, Memory>
+    requires first { partitions_of first ≡ PARTITIONS }
+    requires second { partitions_of second ≡ PARTITIONS }
+    requires third { partitions_of third ≡ PARTITIONS }
+    ensures partitions { IfOk result (λ rows. rows.partitions ≡ PARTITIONS) }
+    ensures value { IfOk result (λ rows. rows ≡ of_three first second third) }
+{
+    let mut rows = PlaneRows::new(alloc, PARTITIONS);
+    rows.put(1, first)?;
+    rows.put(2, second)?;
+    rows.put(3, third)?;
+    Ok(rows)
+}
+
+/// Rows of which the first member has all.
+fn all_of_the_first(alloc: Global) -> Result<PlaneRows, Memory>
+    ensures partitions { IfOk result (λ rows. rows.partitions ≡ PARTITIONS) }
+    ensures rows { IfOk result (λ rows. HaveRows rows three_members) }
+    ensures apart { IfOk result (λ rows. AreApart (sets_of rows three_members)) }
+{
+    rows_of(
+        alloc,
+        Plane::full(PARTITIONS),
+        Plane::new(PARTITIONS),
+        Plane::new(PARTITIONS),
+    )
+}
+
+/// What the members are to own where the first has all.
+fn assigned(alloc: Global) -> Result<Rows, Refusal> {
+    let owned = all_of_the_first(alloc)?;
+    Ok(Rows(assign(alloc, PARTITIONS, &[1, 2, 3], &owned)?))
+}
+
+/// What they may have of it at once.
+fn withheld(alloc: Global) -> Result<Rows, Refusal> {
+    let granted = all_of_the_first(alloc)?;
+    let target = rows_of(
+        alloc,
+        Plane::of(PARTITIONS, &[0, 1]),
+        Plane::of(PARTITIONS, &[2, 3]),
+        Plane::of(PARTITIONS, &[4]),
+    )?;
+    Ok(Rows(withhold(alloc, &target, &granted)?))
+}
+
+/// Assigns partitions, and withholds what the first member is to give up.
+pub fn tell<W: Write>(stage: &mut Stage<W>) -> Result<()> {
+    let alloc = stage.alloc;
+    stage.call("assign", || assigned(alloc))?;
+    stage.call("withhold", || withheld(alloc))
+}
