@@ -14,11 +14,11 @@ use Rattle.partition_log.proofs.numbering.walk.Goals as goal
 pub loop-i-init : goal.loop-i-init
 loop-i-init c =
     let all = lent c.args.keys.now in
-    let start : IsWalked shard_of all [] (map vec_items c.in_ok-ids.ids.items) 0 = subst (λ (ids : List (List ℕ)). IsWalked shard_of all [] ids 0) (sym c.in_ok-ids.ensures) (walked-none shard_of all SHARDS) in
+    let start : IsWalked (shard_of c.args.hasher) all [] (map vec_items c.in_ok-ids.ids.items) 0 = subst (λ (ids : List (List ℕ)). IsWalked (shard_of c.args.hasher) all [] ids 0) (sym c.in_ok-ids.ensures) (walked-none (shard_of c.args.hasher) all SHARDS) in
     let none : List ℕ = [] in record {
       len = sym (length-map c.in_ok-ids.ids.items vec_items) ∙ ap length c.in_ok-ids.ensures ∙ length-replicate SHARDS none;
       walked = rw c.new-order.ensures.items start;
-      ordered = rw c.new-order.ensures.items (ordered-none shard_of all SHARDS);
+      ordered = rw c.new-order.ensures.items (ordered-none (shard_of c.args.hasher) all SHARDS);
     }
 
 pub loop-i-preserved : goal.loop-i-preserved
@@ -36,7 +36,7 @@ loop-i-preserved c =
     let old = get_or ids shard [] in
     let lt : i < length shards = omega (arith, c.loop-i-test.true, c.requires.shards) in
     let i_in : i < length all = omega (arith, c.loop-i-test.true, lent-long keys) in
-    let within : shard < SHARDS = shard-below all shards i c.requires.split.placed i_in in
+    let within : shard < SHARDS = shard-below c.args.hasher all shards i c.requires.split.sharded i_in in
     let long : length ids ≡ SHARDS = length-map c.loop-i.ids.items vec_items ∙ inv.len in
     let below : shard < length ids = rw long within in
     let counted : vec_len c.loop-i.order ≡ length order = search rules in
@@ -46,23 +46,23 @@ loop-i-preserved c =
     let next : length c.number_record.new.order.items ≡ next_after old local (length order) = ap length stands ∙ next-ordered order old shard local in
     record {
       len = sym (length-map c.number_record.new.ids.items vec_items) ∙ ap length filled ∙ length-set ids shard (with_first old local (length order)) ∙ long;
-      walked = subst (λ (gs : List (List ℕ)). IsWalked shard_of all (take (i + 1) all) gs (length c.number_record.new.order.items)) (sym filled)
-          (subst (λ (n : ℕ). IsWalked shard_of all (take (i + 1) all) (slice_set ids shard (with_first old local (length order))) n) (sym next)
-          (walked-more shard_of all shards locals i ids (length order) c.requires.split lt below inv.walked));
-      ordered = subst (λ (o : List KeyAt). AreOrdered shard_of all (distinct (take (i + 1) all)) SHARDS o) (sym stands)
-          (ordered-more shard_of all shards locals i ids (length order) SHARDS order c.requires.split lt below within inv.walked inv.ordered);
+      walked = subst (λ (gs : List (List ℕ)). IsWalked (shard_of c.args.hasher) all (take (i + 1) all) gs (length c.number_record.new.order.items)) (sym filled)
+          (subst (λ (n : ℕ). IsWalked (shard_of c.args.hasher) all (take (i + 1) all) (slice_set ids shard (with_first old local (length order))) n) (sym next)
+          (walked-more (shard_of c.args.hasher) all shards locals i ids (length order) c.requires.split lt below inv.walked));
+      ordered = subst (λ (o : List KeyAt). AreOrdered (shard_of c.args.hasher) all (distinct (take (i + 1) all)) SHARDS o) (sym stands)
+          (ordered-more (shard_of c.args.hasher) all shards locals i ids (length order) SHARDS order c.requires.split lt below within inv.walked inv.ordered);
     }
 
 pub returns-clause-ids : goal.returns-clause-ids
 returns-clause-ids c =
     let done : length c.args.shards.now ≤ c.loop-i.i = omega (arith, c.loop-i-test.false, c.requires.shards) in
-    walked-all shard_of (lent c.args.keys.now) c.args.shards.now c.args.locals.now c.loop-i.i (map vec_items c.loop-i.ids.items) (length c.loop-i.order.items) c.requires.split done c.loop-i.invariant.walked
+    walked-all (shard_of c.args.hasher) (lent c.args.keys.now) c.args.shards.now c.args.locals.now c.loop-i.i (map vec_items c.loop-i.ids.items) (length c.loop-i.order.items) c.requires.split done c.loop-i.invariant.walked
 
 pub returns-clause-order : goal.returns-clause-order
 returns-clause-order c =
     let all = lent c.args.keys.now in
     let whole : take c.loop-i.i all ≡ all = take_all c.loop-i.i all (omega (arith, c.loop-i-test.false, lent-long c.args.keys.now)) in
-    subst (λ ks. AreOrdered shard_of all (distinct ks) SHARDS c.loop-i.order.items) whole c.loop-i.invariant.ordered
+    subst (λ ks. AreOrdered (shard_of c.args.hasher) all (distinct ks) SHARDS c.loop-i.order.items) whole c.loop-i.invariant.ordered
 
 pub number_record-requires-clause-room : goal.number_record-requires-clause-room
 number_record-requires-clause-room c =
@@ -73,4 +73,4 @@ pub number_record-requires-clause-shard : goal.number_record-requires-clause-sha
 number_record-requires-clause-shard c =
     let all = lent c.args.keys.now in
     let i_in : c.loop-i.i < length all = omega (arith, c.loop-i-test.true, lent-long c.args.keys.now) in
-    omega (arith, shard-below all c.args.shards.now c.loop-i.i c.requires.split.placed i_in, c.loop-i.invariant.len)
+    omega (arith, shard-below c.args.hasher all c.args.shards.now c.loop-i.i c.requires.split.sharded i_in, c.loop-i.invariant.len)

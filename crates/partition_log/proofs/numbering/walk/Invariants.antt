@@ -9,6 +9,6 @@ use Rattle.partition_log.proofs.numbering.walk.Given as goal
 abbrev pub invariant-loop-i : goal.invariant-loop-i
 invariant-loop-i l = record {
   len : length l.ids.items ≡ SHARDS;
-  walked : IsWalked shard_of (lent l.keys) (take l.i (lent l.keys)) (map vec_items l.ids.items) (length l.order.items);
-  ordered : AreOrdered shard_of (lent l.keys) (distinct (take l.i (lent l.keys))) SHARDS l.order.items;
+  walked : IsWalked (shard_of l.fn.hasher) (lent l.keys) (take l.i (lent l.keys)) (map vec_items l.ids.items) (length l.order.items);
+  ordered : AreOrdered (shard_of l.fn.hasher) (lent l.keys) (distinct (take l.i (lent l.keys))) SHARDS l.order.items;
 }
