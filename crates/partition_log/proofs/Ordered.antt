@@ -5,7 +5,7 @@ use Rattle.std.proofs.lemmas.Bool.{cases_Bool, eq-eqb, ne_eqb, both_ways}
 use Rattle.std.proofs.lemmas.List.{get_or-map, length-map, map-append, take-append-drop, drop_more, take_more}
 use Rattle.std.proofs.lemmas.List.Elements.{All-append, All-cons, All-nil}
 use Rattle.partition_log.specs.Keys.{Key, distinct, is_known, key_at, id_of}
-use Rattle.partition_log.specs.Private.Sharded.{AreGlobal, AreOrdered, AreSplit, is_first, next_after, of_shard, with_first_at}
+use Rattle.partition_log.specs.Private.Sharded.{AreOrdered, is_first, next_after, of_shard, with_first_at}
 use Rattle.partition_log.specs.declared.shards.KeyAt.{KeyAt}
 use Rattle.partition_log.proofs.Growth.{known}
 use Rattle.partition_log.proofs.Filtered.{filter-distinct, known-filter}
@@ -61,23 +61,19 @@ ordered-one shard all xs ys x ids next local count order is lt below at w h =
           rw test (ordered-new shard all xs ys x count local order is below at e h)
     ]
 
--- record i
-pub ordered-more : (shard : Key → ℕ) (keys : List Key) (shards locals : List ℕ) (i : ℕ) (ids : List (List ℕ)) (next count : ℕ) (order : List KeyAt) → AreSplit shard keys shards locals → i < length shards
-    → get_or shards i 0 < length ids → get_or shards i 0 < count → IsWalked shard keys (take i keys) ids next → AreOrdered shard keys (distinct (take i keys)) count order
-    → AreOrdered shard keys (distinct (take (i + 1) keys)) count (with_first_at order (get_or ids (get_or shards i 0) []) (get_or shards i 0) (get_or locals i 0))
-ordered-more shard keys shards locals i ids next count order split lt below within w h =
+-- record i, of shard s and with this number there
+pub ordered-more : (shard : Key → ℕ) (keys : List Key) (i s local : ℕ) (ids : List (List ℕ)) (next count : ℕ) (order : List KeyAt) → i < length keys → s ≡ shard (get_or keys i [])
+    → s < length ids → s < count → local ≡ id_of (distinct (of_shard shard s keys)) (get_or keys i []) → IsWalked shard keys (take i keys) ids next → AreOrdered shard keys (distinct (take i keys)) count order
+    → AreOrdered shard keys (distinct (take (i + 1) keys)) count (with_first_at order (get_or ids s []) s local)
+ordered-more shard keys i s local ids next count order lt at below within is w h =
     let x = get_or keys i [] in
-    let as_many : length shards ≡ length keys = ap length split.sharded ∙ length-map keys shard in
-    let i_in : i < length keys = omega (arith, lt, as_many) in
-    let s_is : get_or shards i 0 ≡ shard x = ap (λ ss. get_or ss i 0) split.sharded ∙ get_or-map shard keys i [] 0 i_in in
-    let local_is : get_or locals i 0 ≡ id_of (distinct (of_shard shard (shard x) keys)) x =
-    ap (λ ls. get_or ls i 0) split.numbered ∙ get_or-map (λ k. id_of (distinct (of_shard shard (shard k) keys)) k) keys i [] 0 i_in in
-    let seam : keys ≡ take i keys ++ x ∷ drop (i + 1) keys = sym (take-append-drop i keys) ∙ ap (λ ks. take i keys ++ ks) (drop_more keys i [] i_in) in
-    let below_x : shard x < length ids = subst (λ s. s < length ids) s_is below in
-    let within_x : shard x < count = subst (λ s. s < count) s_is within in
-    subst (λ s. AreOrdered shard keys (distinct (take (i + 1) keys)) count (with_first_at order (get_or ids s []) s (get_or locals i 0))) (sym s_is)
-    (subst (λ xs. AreOrdered shard keys (distinct xs) count (with_first_at order (get_or ids (shard x) []) (shard x) (get_or locals i 0))) (sym (take_more keys i [] i_in))
-    (ordered-one shard keys (take i keys) (drop (i + 1) keys) x ids next (get_or locals i 0) count order seam below_x within_x local_is w h))
+    let seam : keys ≡ take i keys ++ x ∷ drop (i + 1) keys = sym (take-append-drop i keys) ∙ ap (λ ks. take i keys ++ ks) (drop_more keys i [] lt) in
+    let below_x : shard x < length ids = subst (λ t. t < length ids) at below in
+    let within_x : shard x < count = subst (λ t. t < count) at within in
+    let is_x : local ≡ id_of (distinct (of_shard shard (shard x) keys)) x = is ∙ ap (λ t. id_of (distinct (of_shard shard t keys)) x) at in
+    subst (λ t. AreOrdered shard keys (distinct (take (i + 1) keys)) count (with_first_at order (get_or ids t []) t local)) (sym at)
+    (subst (λ xs. AreOrdered shard keys (distinct xs) count (with_first_at order (get_or ids (shard x) []) (shard x) local)) (sym (take_more keys i [] lt))
+    (ordered-one shard keys (take i keys) (drop (i + 1) keys) x ids next local count order seam below_x within_x is_x w h))
 
 -- as many keys stand somewhere as have numbers
 pub next-ordered : (order : List KeyAt) (ids : List ℕ) (s local : ℕ) → length (with_first_at order ids s local) ≡ next_after ids local (length order)
@@ -86,23 +82,3 @@ next-ordered order ids s local =
       | inl e ↦ rw e (length-append order ((record { shard = s; number = local }) ∷ []))
       | inr e ↦ rw e refl
     ]
-
--- a record's number in its shard is that of a key
-pub local-within : (shard : Key → ℕ) (keys : List Key) (shards locals : List ℕ) (ids : List (List ℕ)) (i : ℕ) → AreSplit shard keys shards locals → AreGlobal shard keys ids → i < length shards
-    → get_or shards i 0 < length ids → get_or locals i 0 < length (get_or ids (get_or shards i 0) [])
-local-within shard keys shards locals ids i split all lt below =
-    let x = get_or keys i [] in
-    let as_many : length shards ≡ length keys = ap length split.sharded ∙ length-map keys shard in
-    let i_in : i < length keys = omega (arith, lt, as_many) in
-    let s_is : get_or shards i 0 ≡ shard x = ap (λ ss. get_or ss i 0) split.sharded ∙ get_or-map shard keys i [] 0 i_in in
-    let local_is : get_or locals i 0 ≡ id_of (distinct (of_shard shard (shard x) keys)) x =
-    ap (λ ls. get_or ls i 0) split.numbered ∙ get_or-map (λ k. id_of (distinct (of_shard shard (shard k) keys)) k) keys i [] 0 i_in in
-    let seam : keys ≡ take i keys ++ x ∷ drop (i + 1) keys = sym (take-append-drop i keys) ∙ ap (λ ks. take i keys ++ ks) (drop_more keys i [] i_in) in
-    let goes : Key → Bool = λ k. shard k == shard x in
-    let own = distinct (of_shard shard (shard x) keys) in
-    let is_there : is_known own x ≡ true =
-    ap (λ ks. is_known ks x) (sym (filter-distinct goes keys)) ∙ known-filter goes x (eq-eqb (shard x) (shard x) refl) (distinct keys) ∙ ap (λ ks. is_known (distinct ks) x) seam
-    ∙ known-there (take i keys) (drop (i + 1) keys) x in
-    let row : get_or ids (get_or shards i 0) [] ≡ map (id_of (distinct keys)) own = ap (λ s. get_or ids s []) s_is ∙ all (shard x) (subst (λ s. s < length ids) s_is below) in
-    let long : length (get_or ids (get_or shards i 0) []) ≡ length own = ap length row ∙ length-map own (id_of (distinct keys)) in
-    omega (arith, (known own x is_there).0, local_is, long)

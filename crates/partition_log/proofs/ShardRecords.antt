@@ -9,7 +9,7 @@ use Rattle.std.proofs.lemmas.Bool.{cases_eq, eq-eqb, ne_eqb}
 use Rattle.std.proofs.lemmas.List.{append-nil, get_or-map, length-map, length-replicate, map-append, take-append-drop, drop_more, take_more, take_all, length-take}
 use Rattle.std.proofs.lemmas.List.Elements.{filter-append}
 use Rattle.partition_log.specs.Keys.{Key, distinct, id_of, with_key}
-use Rattle.partition_log.specs.Private.Sharded.{AreNumberedIn, of_shard, shard_of}
+use Rattle.partition_log.specs.Private.Sharded.{AreNumberedIn, ArePassed, of_shard, shard_of}
 use Rattle.partition_log.specs.Appends.{lent}
 use Rattle.partition_log.specs.declared.shards.TheConstants.{SHARDS}
 use Rattle.partition_log.proofs.Firsts.{number-there}
@@ -103,14 +103,8 @@ numbered-room shard s keys i table locals lt so =
     let xs = of_shard shard s (take i keys) in
     omega (arith, ap length so.keys_of, few-distinct xs, few-filtered (λ k. shard k == s) (take i keys), length-take i keys, lt)
 
--- the numbers of the first records in their shards, where so many of each shard have been met
-pub record ArePassed (shard : Key → ℕ) (count : ℕ) (keys : List Key) (i : ℕ) (met ordered : List ℕ) : Type 0 where
-  pub each : length met ≡ count
-  pub passed : (s : ℕ) → s < count → get_or met s 0 ≡ length (of_shard shard s (take i keys))
-  pub numbered : ordered ≡ map (λ k. id_of (distinct (of_shard shard (shard k) keys)) k) (take i keys)
-
-pub passed-none : (shard : Key → ℕ) (count : ℕ) (keys : List Key) → ArePassed shard count keys 0 (replicate count 0) []
-passed-none shard count keys = record { each = length-replicate count 0; passed = λ s lt. zero-at count s; numbered = refl }
+pub passed-none : (shard : Key → ℕ) (count : ℕ) (keys : List Key) → ArePassed shard count keys 0 (replicate count 0)
+passed-none shard count keys = record { each = length-replicate count 0; passed = λ s lt. zero-at count s }
   where
     zero-at : (n s : ℕ) → get_or {A = ℕ} (replicate n 0) s 0 ≡ 0
     zero-at zero s = refl
@@ -118,10 +112,10 @@ passed-none shard count keys = record { each = length-replicate count 0; passed 
     zero-at (suc n) (suc s) = zero-at n s
 
 -- the number of a record in its shard stands behind those of the records met before
-pub next-local : (shard : Key → ℕ) (count : ℕ) (keys : List Key) (i : ℕ) (met ordered locals : List ℕ) (s : ℕ) → i < length keys → s ≡ shard (get_or keys i []) → s < count
-    → locals ≡ map (id_of (distinct (of_shard shard s keys))) (of_shard shard s keys) → ArePassed shard count keys i met ordered
+pub next-local : (shard : Key → ℕ) (count : ℕ) (keys : List Key) (i : ℕ) (met locals : List ℕ) (s : ℕ) → i < length keys → s ≡ shard (get_or keys i []) → s < count
+    → locals ≡ map (id_of (distinct (of_shard shard s keys))) (of_shard shard s keys) → ArePassed shard count keys i met
     → (get_or met s 0 < length locals) × (get_or locals (get_or met s 0) 0 ≡ id_of (distinct (of_shard shard s keys)) (get_or keys i []))
-next-local shard count keys i met ordered locals s lt at below are so =
+next-local shard count keys i met locals s lt at below are so =
     let x = get_or keys i [] in
     let xs = of_shard shard s (take i keys) in
     let ys = of_shard shard s (drop (i + 1) keys) in
@@ -136,12 +130,10 @@ next-local shard count keys i met ordered locals s lt at below are so =
           ∙ ap f (ap (λ ks. get_or ks (get_or met s 0) []) parted ∙ ap (λ n. get_or (xs ++ x ∷ ys) n []) here ∙ get_or-append_seam xs x ys []),
     )
 
-pub passed-more : (shard : Key → ℕ) (count : ℕ) (keys : List Key) (i : ℕ) (met ordered : List ℕ) (s local : ℕ) → i < length keys → s ≡ shard (get_or keys i []) → s < count
-    → local ≡ id_of (distinct (of_shard shard s keys)) (get_or keys i []) → ArePassed shard count keys i met ordered
-    → ArePassed shard count keys (i + 1) (slice_set met s (get_or met s 0 + 1)) (ordered ++ local ∷ [])
-passed-more shard count keys i met ordered s local lt at below is so =
-    let x = get_or keys i [] in
-    let f : Key → ℕ = λ k. id_of (distinct (of_shard shard (shard k) keys)) k in record {
+pub passed-more : (shard : Key → ℕ) (count : ℕ) (keys : List Key) (i : ℕ) (met : List ℕ) (s : ℕ) → i < length keys → s ≡ shard (get_or keys i []) → s < count → ArePassed shard count keys i met
+    → ArePassed shard count keys (i + 1) (slice_set met s (get_or met s 0 + 1))
+passed-more shard count keys i met s lt at below so =
+    let x = get_or keys i [] in record {
       each = length-set met s (get_or met s 0 + 1) ∙ so.each;
       passed = λ t t_in. elim (cases_eq s t) [
         | inl same ↦
@@ -154,9 +146,12 @@ passed-more shard count keys i met ordered s local lt at below is so =
             let other = shard-other shard t keys i lt (λ e. ne (at ∙ e)) in
             get_or-set_other met s t (get_or met s 0 + 1) 0 (λ e. ne (sym e)) ∙ so.passed t t_in ∙ ap length (sym other)
       ];
-      numbered = ap (λ ns. ns ++ local ∷ []) so.numbered ∙ ap (λ n. map f (take i keys) ++ n ∷ []) (is ∙ ap (λ t. id_of (distinct (of_shard shard t keys)) x) at)
-          ∙ sym (ap (map f) (take_more keys i [] lt) ∙ map-append f (take i keys) (x ∷ []));
     }
+
+-- no more records of a shard are met than there are
+pub passed-few : (shard : Key → ℕ) (count : ℕ) (keys : List Key) (i : ℕ) (met : List ℕ) (s : ℕ) → s < count → i ≤ length keys → ArePassed shard count keys i met → get_or met s 0 ≤ i
+passed-few shard count keys i met s below le so =
+    omega (arith, so.passed s below, few-filtered (λ k. shard k == s) (take i keys), length-take i keys, le)
 
 -- the shard of record i
 pub shard-at : (shard : Key → ℕ) (keys : List Key) (shards : List ℕ) (i : ℕ) → shards ≡ map shard keys → i < length keys → get_or shards i 0 ≡ shard (get_or keys i [])

@@ -9,7 +9,7 @@ use Rattle.std.proofs.lemmas.List.Elements.{filter-append}
 use Rattle.std.proofs.lemmas.List.Sums.{fold-append}
 use Rattle.partition_log.specs.Keys.{Key, distinct, is_known, key_at, id_of, with_key}
 use Rattle.partition_log.specs.Private.Sharded.{of_shard}
-use Rattle.partition_log.specs.Private.Sharded.{AreGlobal, AreSplit, is_first, next_after, with_first}
+use Rattle.partition_log.specs.Private.Sharded.{AreGlobal, is_first, next_after, with_first}
 use Rattle.partition_log.proofs.Growth.{fresh, known}
 use Rattle.partition_log.proofs.Filtered.{filter-distinct, known-filter}
 use Rattle.partition_log.proofs.Firsts.{first_in_shard, known-there, length-first, number-there}
@@ -87,23 +87,18 @@ walked-one shard all xs ys x globals next local is lt at w =
           rw test (walked-new shard all xs ys x globals next is e lt w)
     ]
 
--- record i
-pub walked-more : (shard : Key → ℕ) (keys : List Key) (shards locals : List ℕ) (i : ℕ) (globals : List (List ℕ)) (next : ℕ) → AreSplit shard keys shards locals → i < length shards → get_or shards i 0 < length globals
-    → IsWalked shard keys (take i keys) globals next
-    → (let s = get_or shards i 0 in let old = get_or globals s [] in
-    IsWalked shard keys (take (i + 1) keys) (slice_set globals s (with_first old (get_or locals i 0) next)) (next_after old (get_or locals i 0) next))
-walked-more shard keys shards locals i globals next split lt below w =
+-- record i, of shard s and with this number there
+pub walked-more : (shard : Key → ℕ) (keys : List Key) (i s local : ℕ) (globals : List (List ℕ)) (next : ℕ) → i < length keys → s ≡ shard (get_or keys i []) → s < length globals
+    → local ≡ id_of (distinct (of_shard shard s keys)) (get_or keys i []) → IsWalked shard keys (take i keys) globals next
+    → (let old = get_or globals s [] in IsWalked shard keys (take (i + 1) keys) (slice_set globals s (with_first old local next)) (next_after old local next))
+walked-more shard keys i s local globals next lt at below is w =
     let x = get_or keys i [] in
-    let as_many : length shards ≡ length keys = ap length split.sharded ∙ length-map keys shard in
-    let i_in : i < length keys = omega (arith, lt, as_many) in
-    let s_is : get_or shards i 0 ≡ shard x = ap (λ ss. get_or ss i 0) split.sharded ∙ get_or-map shard keys i [] 0 i_in in
-    let local_is : get_or locals i 0 ≡ id_of (distinct (of_shard shard (shard x) keys)) x =
-    ap (λ ls. get_or ls i 0) split.numbered ∙ get_or-map (λ k. id_of (distinct (of_shard shard (shard k) keys)) k) keys i [] 0 i_in in
-    let seam : keys ≡ take i keys ++ x ∷ drop (i + 1) keys = sym (take-append-drop i keys) ∙ ap (λ ks. take i keys ++ ks) (drop_more keys i [] i_in) in
-    let below_x : shard x < length globals = subst (λ s. s < length globals) s_is below in
-    subst (λ s. IsWalked shard keys (take (i + 1) keys) (slice_set globals s (with_first (get_or globals s []) (get_or locals i 0) next)) (next_after (get_or globals s []) (get_or locals i 0) next)) (sym s_is)
-    (subst (λ xs. IsWalked shard keys xs (slice_set globals (shard x) (with_first (get_or globals (shard x) []) (get_or locals i 0) next)) (next_after (get_or globals (shard x) []) (get_or locals i 0) next))
-    (sym (take_more keys i [] i_in)) (walked-one shard keys (take i keys) (drop (i + 1) keys) x globals next (get_or locals i 0) seam below_x local_is w))
+    let seam : keys ≡ take i keys ++ x ∷ drop (i + 1) keys = sym (take-append-drop i keys) ∙ ap (λ ks. take i keys ++ ks) (drop_more keys i [] lt) in
+    let below_x : shard x < length globals = subst (λ t. t < length globals) at below in
+    let is_x : local ≡ id_of (distinct (of_shard shard (shard x) keys)) x = is ∙ ap (λ t. id_of (distinct (of_shard shard t keys)) x) at in
+    subst (λ t. IsWalked shard keys (take (i + 1) keys) (slice_set globals t (with_first (get_or globals t []) local next)) (next_after (get_or globals t []) local next)) (sym at)
+    (subst (λ xs. IsWalked shard keys xs (slice_set globals (shard x) (with_first (get_or globals (shard x) []) local next)) (next_after (get_or globals (shard x) []) local next))
+    (sym (take_more keys i [] lt)) (walked-one shard keys (take i keys) (drop (i + 1) keys) x globals next local seam below_x is_x w))
 
 -- before the first record
 pub walked-none : (shard : Key → ℕ) (keys : List Key) (n : ℕ) → IsWalked shard keys [] (replicate n []) 0
@@ -119,39 +114,31 @@ walked-none shard keys n = record {
     empty-at (suc n) (suc s) = empty-at n s
 
 -- after the last
-pub walked-all : (shard : Key → ℕ) (keys : List Key) (shards locals : List ℕ) (n : ℕ) (globals : List (List ℕ)) (next : ℕ) → AreSplit shard keys shards locals → length shards ≤ n
-    → IsWalked shard keys (take n keys) globals next → AreGlobal shard keys globals
-walked-all shard keys shards locals n globals next split le w = λ s lt.
-    let as_many : length shards ≡ length keys = ap length split.sharded ∙ length-map keys shard in
-    let whole : take n keys ≡ keys = take_all n keys (omega (arith, le, as_many)) in
+pub walked-all : (shard : Key → ℕ) (keys : List Key) (n : ℕ) (globals : List (List ℕ)) (next : ℕ) → length keys ≤ n → IsWalked shard keys (take n keys) globals next → AreGlobal shard keys globals
+walked-all shard keys n globals next le w = λ s lt.
+    let whole : take n keys ≡ keys = take_all n keys le in
     w.numbers s lt ∙ ap (λ ks. map (id_of (distinct keys)) (of_shard shard s (distinct ks))) whole ∙ ap (map (id_of (distinct keys))) (filter-distinct (λ k. shard k == s) keys)
 
--- the global number of record i
-pub of_record : (shard : Key → ℕ) (keys : List Key) (shards locals : List ℕ) (globals : List (List ℕ)) (i : ℕ) → AreSplit shard keys shards locals → AreGlobal shard keys globals
-    → i < length shards → get_or shards i 0 < length globals → get_or (get_or globals (get_or shards i 0) []) (get_or locals i 0) 0 ≡ id_of (distinct keys) (key_at keys i)
-of_record shard keys shards locals globals i split all lt below =
+-- the key of record i is known in its shard
+pub own-known : (shard : Key → ℕ) (keys : List Key) (i : ℕ) → i < length keys → is_known (distinct (of_shard shard (shard (get_or keys i [])) keys)) (get_or keys i []) ≡ true
+own-known shard keys i lt =
     let x = get_or keys i [] in
-    let as_many : length shards ≡ length keys = ap length split.sharded ∙ length-map keys shard in
-    let i_in : i < length keys = omega (arith, lt, as_many) in
-    let s_is : get_or shards i 0 ≡ shard x = ap (λ ss. get_or ss i 0) split.sharded ∙ get_or-map shard keys i [] 0 i_in in
-    let local_is : get_or locals i 0 ≡ id_of (distinct (of_shard shard (shard x) keys)) x =
-    ap (λ ls. get_or ls i 0) split.numbered ∙ get_or-map (λ k. id_of (distinct (of_shard shard (shard k) keys)) k) keys i [] 0 i_in in
-    let seam : keys ≡ take i keys ++ x ∷ drop (i + 1) keys = sym (take-append-drop i keys) ∙ ap (λ ks. take i keys ++ ks) (drop_more keys i [] i_in) in
+    let seam : keys ≡ take i keys ++ x ∷ drop (i + 1) keys = sym (take-append-drop i keys) ∙ ap (λ ks. take i keys ++ ks) (drop_more keys i [] lt) in
     let p : Key → Bool = λ k. shard k == shard x in
     let px : p x ≡ true = eq-eqb (shard x) (shard x) refl in
-    let own = distinct (of_shard shard (shard x) keys) in
-    let is_there : is_known own x ≡ true =
-    ap (λ ks. is_known ks x) (sym (filter-distinct p keys)) ∙ known-filter p x px (distinct keys) ∙ ap (λ ks. is_known (distinct ks) x) seam ∙ known-there (take i keys) (drop (i + 1) keys) x in
-    let there = known own x is_there in
-    ap (λ s. get_or (get_or globals s []) (get_or locals i 0) 0) s_is ∙ ap (λ l. get_or (get_or globals (shard x) []) l 0) local_is
-    ∙ ap (λ ns. get_or ns (id_of own x) 0) (all (shard x) (subst (λ s. s < length globals) s_is below))
-    ∙ get_or-map (id_of (distinct keys)) own (id_of own x) [] 0 there.0 ∙ ap (id_of (distinct keys)) there.1
+    ap (λ ks. is_known ks x) (sym (filter-distinct p keys)) ∙ known-filter p x px (distinct keys) ∙ ap (λ ks. is_known (distinct ks) x) seam ∙ known-there (take i keys) (drop (i + 1) keys) x
 
--- a new key is one of all keys
-pub room : (shard : Key → ℕ) (keys : List Key) (shards locals : List ℕ) (i : ℕ) (globals : List (List ℕ)) (next : ℕ) → AreSplit shard keys shards locals → i < length shards → get_or shards i 0 < length globals
-    → IsWalked shard keys (take i keys) globals next → is_first (get_or globals (get_or shards i 0) []) (get_or locals i 0) ≡ true → next < length (distinct keys)
-room shard keys shards locals i globals next split lt below w first =
-    let after = walked-more shard keys shards locals i globals next split lt below w in
-    let one_more : next_after (get_or globals (get_or shards i 0) []) (get_or locals i 0) next ≡ next + 1 = ap (λ b. if b then next + 1 else next) first in
-    let whole = ap (λ ks. length (distinct ks)) (take-append-drop (i + 1) keys) in
-    omega (arith, one_more, after.counted, length-first (take (i + 1) keys) (drop (i + 1) keys), whole)
+-- the number of record i in its shard is that of a key, and its key number stands there
+pub of_record : (shard : Key → ℕ) (keys : List Key) (i s local : ℕ) (globals : List (List ℕ)) → i < length keys → s ≡ shard (get_or keys i []) → s < length globals
+    → local ≡ id_of (distinct (of_shard shard s keys)) (get_or keys i []) → AreGlobal shard keys globals
+    → (local < length (get_or globals s [])) × (get_or (get_or globals s []) local 0 ≡ id_of (distinct keys) (key_at keys i))
+of_record shard keys i s local globals lt at below is all =
+    let x = get_or keys i [] in
+    let own = distinct (of_shard shard s keys) in
+    let is_there : is_known own x ≡ true = ap (λ t. is_known (distinct (of_shard shard t keys)) x) at ∙ own-known shard keys i lt in
+    let there = known own x is_there in
+    let row : get_or globals s [] ≡ map (id_of (distinct keys)) own = all s below in
+    let long : length (get_or globals s []) ≡ length own = ap length row ∙ length-map own (id_of (distinct keys)) in (
+      omega (arith, there.0, is, long),
+      ap (λ l. get_or (get_or globals s []) l 0) is ∙ ap (λ ns. get_or ns (id_of own x) 0) row ∙ get_or-map (id_of (distinct keys)) own (id_of own x) [] 0 there.0 ∙ ap (id_of (distinct keys)) there.1,
+    )

@@ -2,7 +2,7 @@
 
 ghost use Rattle.std.specs.Prelude.{◌≡◌, ◌≤◌, ◌<◌, ◌+◌, ℕ, [], List, IfOk, OnOk, length, map, replicate, slice_index_or, slice_set, vec_items, vec_len};
 ghost use Rattle.partition_log.specs.Keys.{Key, distinct, id_of};
-ghost use Rattle.partition_log.specs.Private.Sharded.{AreGlobal, AreLocals, AreNumberedIn, AreOrdered, AreFrom, AreReadable, AreSplit, AreTables, is_first, shard_of, with_first, with_first_at};
+ghost use Rattle.partition_log.specs.Private.Sharded.{AreFrom, AreGlobal, AreLocals, AreNumberedIn, AreOrdered, ArePassed, AreReadable, AreTables, is_first, shard_of, with_first, with_first_at};
 ghost use Rattle.partition_log.specs.Appends.{lent};
 
 use crate::key_table::KeyTable;
@@ -37,7 +37,8 @@ pub fn number_keys<R: Threads + Sync>(
     keys: &[&[u8]],
 ) -> Result<NumberedKeys, Memory>
     requires { length keys.now ≤ MOST_RECORDS }
-    ensures tables { IfOk result (λ n. AreTables (shard_of hasher) SHARDS (lent keys.now) n.tables.items) }
+    ensures tables { IfOk result (λ n.
+        AreTables (shard_of hasher) SHARDS (lent keys.now) n.tables.items) }
     ensures ids_each { IfOk result (λ n. vec_len n.ids ≡ SHARDS) }
     ensures ids { IfOk result (λ n.
         AreGlobal (shard_of hasher) (lent keys.now) (map vec_items n.ids.items)) }
@@ -47,7 +48,8 @@ pub fn number_keys<R: Threads + Sync>(
         ≡ map (id_of (distinct (lent keys.now))) (lent keys.now)) }
 {
     let shards = shards_of(rt, alloc, hasher, keys)?;
-    let (tables, locals) = split(rt, alloc, hasher, keys, &shards)?;
+    let found = number_shards(rt, alloc, hasher, keys, &shards)?;
+    let (tables, locals) = tables_of(alloc, hasher, keys, found)?;
     let (ids, order) = walk(alloc, hasher, keys, &shards, &locals)?;
     let numbers = key_numbers(rt, alloc, hasher, keys, &shards, &locals, &ids)?;
     Ok(NumberedKeys {
@@ -99,27 +101,6 @@ fn fill_piece(from: usize, hasher: RandomState, keys: &[&[u8]], shards: &mut [u8
     }
 }
 
-/// The keys of each shard, and of each record the number of its key in its shard.
-fn split<R: Threads + Sync>(
-    rt: &R,
-    alloc: Global,
-    hasher: RandomState,
-    keys: &[&[u8]],
-    shards: &[u8],
-) -> Result<(Vec<KeyTable>, Vec<u32>), Memory>
-    requires few { length keys.now ≤ MOST_RECORDS }
-    requires as_many { length shards.now ≡ length keys.now }
-    requires shards { shards.now ≡ map (shard_of hasher) (lent keys.now) }
-    ensures tables { IfOk result (λ r. AreTables (shard_of hasher) SHARDS (lent keys.now) r.0.items) }
-    ensures locals { IfOk result (λ r.
-        AreSplit (shard_of hasher) (lent keys.now) shards.now r.1.items) }
-{
-    let found = number_shards(rt, alloc, hasher, keys, shards)?;
-    let (tables, locals) = tables_of(alloc, hasher, keys, found)?;
-    let locals = locals_in_order(alloc, hasher, keys, shards, &locals)?;
-    Ok((tables, locals))
-}
-
 /// A shard, numbered.
 #[derive(Drop)]
 pub struct NumberedShard {
@@ -140,7 +121,8 @@ fn number_shard(
     requires few { length keys.now ≤ MOST_RECORDS }
     requires as_many { length shards.now ≡ length keys.now }
     requires shards { shards.now ≡ map (shard_of hasher) (lent keys.now) }
-    ensures { IfOk result (λ n. AreNumberedIn (shard_of hasher) shard (lent keys.now) n.table n.locals.items) }
+    ensures { IfOk result (λ n.
+        AreNumberedIn (shard_of hasher) shard (lent keys.now) n.table n.locals.items) }
 {
     let mut table = KeyTable::new(alloc, hasher);
     let mut locals = Vec::new(alloc);
@@ -186,7 +168,8 @@ fn tables_of(
 ) -> Result<(Vec<KeyTable>, Vec<Vec<u32>>), Memory>
     requires found { (s : ℕ) (d : _) → s < vec_len found → IfOk (slice_index_or found.items s d)
         (λ n. AreNumberedIn (shard_of hasher) s (lent keys.now) n.table n.locals.items) }
-    ensures tables { IfOk result (λ r. AreTables (shard_of hasher) (vec_len found) (lent keys.now) r.0.items) }
+    ensures tables { IfOk result (λ r.
+        AreTables (shard_of hasher) (vec_len found) (lent keys.now) r.0.items) }
     ensures locals { IfOk result (λ r.
         AreLocals (shard_of hasher) (vec_len found) (lent keys.now) (map vec_items r.1.items)) }
 {
@@ -198,29 +181,6 @@ fn tables_of(
         locals.push(shard.locals)?;
     }
     Ok((tables, locals))
-}
-
-/// Of each record, in order, the number of its key in its shard, from those of each shard.
-fn locals_in_order(
-    alloc: Global,
-    hasher: RandomState,
-    keys: &[&[u8]],
-    shards: &[u8],
-    locals: &[Vec<u32>],
-) -> Result<Vec<u32>, Memory>
-    requires as_many { length shards.now ≡ length keys.now }
-    requires shards { shards.now ≡ map (shard_of hasher) (lent keys.now) }
-    requires locals { AreLocals (shard_of hasher) SHARDS (lent keys.now) (map vec_items locals.now) }
-    ensures { IfOk result (λ ordered. AreSplit (shard_of hasher) (lent keys.now) shards.now ordered.items) }
-{
-    let mut ordered = Vec::with_capacity(alloc, keys.len())?;
-    let mut met = [0; SHARDS as usize];
-    for i in 0..keys.len() {
-        let shard = shards[i] as usize;
-        ordered.push(locals[shard][met[shard]])?;
-        met[shard] += 1;
-    }
-    Ok(ordered)
 }
 
 /// Takes one more record of a shard: where it is the first of its key, the key gets the next number.
@@ -267,21 +227,26 @@ fn walk(
     hasher: RandomState,
     keys: &[&[u8]],
     shards: &[u8],
-    locals: &[u32],
+    locals: &[Vec<u32>],
 ) -> Result<(Vec<Vec<u32>>, Vec<KeyAt>), Memory>
     requires few { length keys.now ≤ MOST_RECORDS }
-    requires shards { length shards.now ≡ length keys.now }
-    requires locals { length locals.now ≡ length keys.now }
-    requires split { AreSplit (shard_of hasher) (lent keys.now) shards.now locals.now }
+    requires as_many { length shards.now ≡ length keys.now }
+    requires shards { shards.now ≡ map (shard_of hasher) (lent keys.now) }
+    requires locals { AreLocals (shard_of hasher) SHARDS (lent keys.now) (map vec_items locals.now) }
     ensures len { IfOk result (λ w. vec_len w.0 ≡ SHARDS) }
-    ensures ids { IfOk result (λ w. AreGlobal (shard_of hasher) (lent keys.now) (map vec_items w.0.items)) }
+    ensures ids { IfOk result (λ w.
+        AreGlobal (shard_of hasher) (lent keys.now) (map vec_items w.0.items)) }
     ensures order { IfOk result (λ w. AreOrdered (shard_of hasher) (lent keys.now)
         (distinct (lent keys.now)) SHARDS w.1.items) }
 {
     let mut ids = no_ids(alloc)?;
     let mut order = Vec::new(alloc);
+    let mut met = [0; SHARDS as usize];
     for i in 0..keys.len() {
-        number_record(&mut ids, &mut order, shards[i], locals[i])?;
+        let shard = shards[i] as usize;
+        let local = locals[shard][met[shard]];
+        met[shard] += 1;
+        number_record(&mut ids, &mut order, shards[i], local)?;
     }
     Ok((ids, order))
 }
@@ -304,10 +269,11 @@ fn key_numbers<R: Threads + Sync>(
     hasher: RandomState,
     keys: &[&[u8]],
     shards: &[u8],
-    locals: &[u32],
+    locals: &[Vec<u32>],
     ids: &[Vec<u32>],
 ) -> Result<Vec<u32>, Memory>
-    requires { AreReadable (shard_of hasher) (lent keys.now) shards.now locals.now (map vec_items ids.now) }
+    requires { AreReadable (shard_of hasher) (lent keys.now) shards.now
+        (map vec_items locals.now) (map vec_items ids.now) }
     ensures { IfOk result (λ numbers. numbers.items
         ≡ map (id_of (distinct (lent keys.now))) (lent keys.now)) }
 {
@@ -322,12 +288,13 @@ fn read_pieces<R: Threads + Sync>(
     hasher: RandomState,
     keys: &[&[u8]],
     shards: &[u8],
-    locals: &[u32],
+    locals: &[Vec<u32>],
     ids: &[Vec<u32>],
     numbers: &mut [u32],
 )
     requires length { length numbers.old ≡ length keys.now }
-    requires readable { AreReadable (shard_of hasher) (lent keys.now) shards.now locals.now (map vec_items ids.now) }
+    requires readable { AreReadable (shard_of hasher) (lent keys.now) shards.now
+        (map vec_items locals.now) (map vec_items ids.now) }
     ensures { numbers.new ≡ map (id_of (distinct (lent keys.now))) (lent keys.now) }
 {
     thread::for_each_chunk_mut(
@@ -336,9 +303,10 @@ fn read_pieces<R: Threads + Sync>(
         keys.len() / PIECES + 1,
         &|from: usize, piece: &mut [u32]|
             requires { (from + length piece.now ≤ length keys.now)
-                × AreReadable (shard_of hasher) (lent keys.now) shards.now locals.now (map vec_items ids.now) }
-            ensures { AreFrom (id_of (distinct (lent keys.entry.now))) (lent keys.entry.now) from (length piece.entry.now)
-                piece.exit.now }
+                × AreReadable (shard_of hasher) (lent keys.now) shards.now
+                (map vec_items locals.now) (map vec_items ids.now) }
+            ensures { AreFrom (id_of (distinct (lent keys.entry.now))) (lent keys.entry.now) from
+                (length piece.entry.now) piece.exit.now }
         { read_numbers(from, hasher, keys, shards, locals, ids, piece) },
     );
 }
@@ -349,16 +317,39 @@ fn read_numbers(
     hasher: RandomState,
     keys: &[&[u8]],
     shards: &[u8],
-    locals: &[u32],
+    locals: &[Vec<u32>],
     ids: &[Vec<u32>],
     numbers: &mut [u32],
 )
     requires range { from + length numbers.old ≤ length keys.now }
-    requires readable { AreReadable (shard_of hasher) (lent keys.now) shards.now locals.now (map vec_items ids.now) }
-    ensures { AreFrom (id_of (distinct (lent keys.now))) (lent keys.now) from (length numbers.old) numbers.new }
+    requires readable { AreReadable (shard_of hasher) (lent keys.now) shards.now
+        (map vec_items locals.now) (map vec_items ids.now) }
+    ensures { AreFrom (id_of (distinct (lent keys.now))) (lent keys.now) from
+        (length numbers.old) numbers.new }
 {
+    let mut met = met_before(from, hasher, keys, shards);
     for k in 0..numbers.len() {
-        let i = from + k;
-        numbers[k] = ids[shards[i] as usize][locals[i] as usize];
+        let shard = shards[from + k] as usize;
+        let local = locals[shard][met[shard]];
+        met[shard] += 1;
+        numbers[k] = ids[shard][local as usize];
     }
+}
+
+/// How many records each shard has before this index.
+fn met_before(
+    from: usize,
+    hasher: RandomState,
+    keys: &[&[u8]],
+    shards: &[u8],
+) -> [usize; SHARDS as usize]
+    requires range { from ≤ length keys.now }
+    requires shards { shards.now ≡ map (shard_of hasher) (lent keys.now) }
+    ensures { ArePassed (shard_of hasher) SHARDS (lent keys.now) from result }
+{
+    let mut met = [0; SHARDS as usize];
+    for i in 0..from {
+        met[shards[i] as usize] += 1;
+    }
+    met
 }

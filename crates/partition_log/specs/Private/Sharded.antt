@@ -1,5 +1,5 @@
 -- Keys that are numbered shard by shard, and their key numbers.
-use Rattle.std.specs.Prelude.{◌≡◌, ◌<◌, ◌≤◌, ◌+◌, ◌==◌, ◌%◌, ℕ, List, [], ◌∷◌, ◌++◌, All, Bool, filter, length, map, if◌then◌else◌, slice_index_or}
+use Rattle.std.specs.Prelude.{◌≡◌, ◌<◌, ◌≤◌, ◌+◌, ◌==◌, ◌%◌, ℕ, List, [], ◌∷◌, ◌++◌, All, Bool, filter, length, map, if◌then◌else◌, slice_index_or, take}
 use Rattle.lane_words.specs.declared.limits.TheConstants.{MOST_RECORDS}
 use Rattle.std.specs.RandomState.{initial_hasher}
 use Rattle.std.specs.declared.hash.RandomState.{RandomState}
@@ -15,11 +15,6 @@ shard_of hasher key = finish (write (initial_hasher hasher) key) % SHARDS
 -- the keys of shard s, in order, where each key has such a shard
 abbrev pub of_shard : (Key → ℕ) → ℕ → List Key → List Key
 of_shard shard s keys = filter (λ k. shard k == s) keys
-
--- for each record, in order, the shard of its key and the key's number in that shard
-pub record AreSplit (shard : Key → ℕ) (keys : List Key) (shards locals : List ℕ) : Type 0 where
-  pub sharded : shards ≡ map shard keys
-  pub numbered : locals ≡ map (λ k. id_of (distinct (of_shard shard (shard k) keys)) k) keys
 
 -- for each shard the key numbers of its keys, by their numbers in the shard
 abbrev pub AreGlobal : (Key → ℕ) → List Key → List (List ℕ) → Type 0
@@ -61,9 +56,15 @@ pub record AreLocals (shard : Key → ℕ) (count : ℕ) (keys : List Key) (loca
 abbrev pub key_there : List (List Key) → KeyAt → Key
 key_there tables at = key_at (slice_index_or tables at.shard []) at.number
 
+-- so many records of each shard are among the first ones
+pub record ArePassed (shard : Key → ℕ) (count : ℕ) (keys : List Key) (i : ℕ) (met : List ℕ) : Type 0 where
+  pub each : length met ≡ count
+  pub passed : (s : ℕ) → s < count → slice_index_or met s 0 ≡ length (of_shard shard s (take i keys))
+
 -- the key numbers of records can be read from those of their shards
-pub record AreReadable (shard : Key → ℕ) (keys : List Key) (shards locals : List ℕ) (ids : List (List ℕ)) : Type 0 where
-  pub split : AreSplit shard keys shards locals
+pub record AreReadable (shard : Key → ℕ) (keys : List Key) (shards : List ℕ) (locals ids : List (List ℕ)) : Type 0 where
+  pub sharded : shards ≡ map shard keys
+  pub numbered : AreLocals shard SHARDS keys locals
   pub each : length ids ≡ SHARDS
   pub are : AreGlobal shard keys ids
 
