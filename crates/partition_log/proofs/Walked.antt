@@ -12,7 +12,7 @@ use Rattle.partition_log.specs.Private.Sharded.{of_shard}
 use Rattle.partition_log.specs.Private.Sharded.{AreGlobal, is_first, next_after, with_first}
 use Rattle.partition_log.proofs.Growth.{fresh, known}
 use Rattle.partition_log.proofs.Filtered.{filter-distinct, known-filter}
-use Rattle.partition_log.proofs.Firsts.{first_in_shard, known-there, length-first, number-there}
+use Rattle.partition_log.proofs.Firsts.{first_in_shard, known-there, number-there}
 
 -- what a walk over the records of xs, the first ones of all, has filled in
 pub record IsWalked (shard : Key → ℕ) (all xs : List Key) (globals : List (List ℕ)) (next : ℕ) : Type 0 where

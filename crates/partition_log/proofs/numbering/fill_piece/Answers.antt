@@ -1,4 +1,4 @@
-use Rattle.std.proofs.Common.{◌≡◌, ◌<◌, ◌+◌, ◌∙◌, [], Bor, List, ℕ, arith, ap, get_or, sym}
+use Rattle.std.proofs.Common.{◌≡◌, ◌+◌, ◌∙◌, [], Bor, List, ℕ, arith, ap, get_or, sym}
 use Rattle.partition_log.specs.Appends.{lent}
 use Rattle.partition_log.specs.Private.Sharded.{shard_of}
 use Rattle.partition_log.proofs.ReadBack.{from-more}
