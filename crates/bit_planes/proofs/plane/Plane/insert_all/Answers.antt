@@ -3,10 +3,10 @@ use Rattle.bit_planes.specs.Private.Bits.{bit_of}
 use Rattle.bit_planes.specs.PartitionSet.{partitions_of, is_in}
 use Rattle.bit_planes.proofs.Seen.{IsShown, below_is, shown_front, seen_union, union_clear}
 use Rattle.bit_planes.proofs.Sets.{in_union, partitions_union}
-use Rattle.bit_planes.proofs.plane.Plane.union.Goals as goal
+use Rattle.bit_planes.proofs.plane.Plane.insert_all.Goals as goal
 
-pub invariant_of-result : goal.invariant_of-result
-invariant_of-result c =
+pub invariant_of-self : goal.invariant_of-self
+invariant_of-self c =
     let n = c.words_for-used.result in
     let mine : IsShown c.self.inside.partitions n c.self.inside.words c.args.self.now = record { view = c.self.view_is; clear = c.self.invariant.clear; long = c.self.told; few = c.self.invariant.few; enough = c.words_for-used.ensures.enough; used = c.words_for-used.ensures.few } in
     let p = below_is _ _ _ c.self.view_is in
