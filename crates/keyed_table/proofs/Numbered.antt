@@ -1,9 +1,9 @@
 -- Counts number by number: they are made run by run of equal numbers, and added one by one.
-use Rattle.std.proofs.Common.{◌≡◌, ◌≢◌, ◌∙◌, ◌+◌, ◌-◌, ◌<◌, ◌≤◌, ◌^◌, ℕ, List, [], ◌∷◌, ◌++◌, length, take, get_or, set, sym, ap, refl, arith, inl, inr, get_or-take, get_or-set_same, get_or-set_other, length-set}
+use Rattle.std.proofs.Common.{◌≡◌, ◌≢◌, ◌∙◌, ◌+◌, ◌-◌, ◌<◌, ◌≤◌, ℕ, List, [], ◌∷◌, ◌++◌, length, take, get_or, set, sym, ap, refl, arith, inl, inr, get_or-take, get_or-set_same, get_or-set_other, length-set}
 use Rattle.std.specs.List.Sorted.{IsNonDecreasing}
 use Rattle.std.proofs.lemmas.Bool.{cases_lt, cases_eq}
 use Rattle.std.proofs.lemmas.List.{ext_get_or, get_or_append_left, get_or_push, length-take, length_push}
-use Rattle.keyed_table.specs.Counts.{HaveCounters, SumsFit, plain, raised, raised_from}
+use Rattle.keyed_table.specs.Counts.{HaveCounters, plain, raised, raised_from}
 use Rattle.keyed_table.specs.Private.ByNumber.{AreCountsOf}
 use Rattle.keyed_table.proofs.Elements.{stands-somewhere}
 use Rattle.keyed_table.proofs.Raised.{counter-raised, length-raised}
