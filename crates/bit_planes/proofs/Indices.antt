@@ -1,9 +1,11 @@
 -- What a search finds among rising members, and what is put there.
-use Rattle.std.proofs.Common.{ℕ, zero, suc, ◌≡◌, ◌≢◌, ◌<◌, ◌≤◌, ◌==◌, true, false, List, [], ◌∷◌, length, map, Some, None, Result, Ok, Err, IfOk, IfErr, get_or, set, refl, ap, sym, subst, ◌∙◌, arith, inl, inr}
-use Rattle.std.specs.List.{insert}
+use Rattle.std.proofs.Common.{ℕ, zero, suc, ◌≡◌, ◌≢◌, ◌<◌, ◌≤◌, ◌==◌, true, false, List, [], ◌∷◌, ◌++◌, ◌+◌, ◌-◌, length, map, Some, None, Result, Ok, Err, IfOk, IfErr, get_or, set, refl, ap, sym, subst, ◌∙◌, arith, inl, inr}
+use Rattle.std.specs.List.{insert, slice_get}
 use Rattle.std.specs.List.Sorted.{IsBinarySearchResult}
 use Rattle.std.specs.Ordering.{nat_cmp, ordering_index}
 use Rattle.std.proofs.lemmas.List.{length-map}
+use Rattle.std.proofs.lemmas.List.Edits.{insert_end}
+use Rattle.std.proofs.lemmas.Option.{slice_get-get_or}
 use Rattle.std.proofs.lemmas.List.Sorted.{searched}
 use Rattle.std.proofs.lemmas.Bool.{cases_lt, lt-ltb, le-ltb}
 use Rattle.std.proofs.lemmas.Bool.Decides.{nat_tests}
@@ -112,6 +114,27 @@ places rows m (Err i) rising h =
     let s = searched (map (λ row. row.0) rows) m (Err i) (by_member rows m (Err i) h) (never_falls (map (λ row. row.0) rows) rising) in
     (tt, record { within = omega (arith, s.0); before = s.1; after = λ j ge lt. s.2 j ge (omega (arith, lt)) })
 
+-- ---- a member above the last one
+above_last : (rows : Rows) (m i : ℕ) (last : ℕ × PartitionSet) → IsRising (map (λ row. row.0) rows) → i < length rows → length rows ≡ i + 1 → last ≡ get_or rows i (0, empty_set 0) → last.0 < m → IsGapFor rows m (length rows)
+above_last rows m i last rising lt end at above =
+    let long = length-map rows (λ (row : ℕ × PartitionSet). row.0) in
+    let there : get_or (map (λ row. row.0) rows) i 0 ≡ last.0 = member_or rows i (0, empty_set 0) ∙ ap (λ (row : ℕ × PartitionSet). row.0) (sym at) in
+    record {
+      within = omega arith;
+      before = λ j earlier. let rises = never_falls (map (λ row. row.0) rows) rising j i (omega arith) (omega arith) in omega (arith, rises, there, above);
+      after = λ j le less. absurd (omega arith);
+    }
+
+pub above_all : (rows : Rows) (m : ℕ) (last : ℕ × PartitionSet) → IsRising (map (λ row. row.0) rows) → Some last ≡ slice_get rows (length rows - 1) → last.0 < m → IsGapFor rows m (length rows)
+above_all [] m last rising is above = absurd (cc is)
+above_all (row ∷ rows) m last rising is above =
+    let i : ℕ = length (row ∷ rows) - 1 in
+    let at : slice_get (row ∷ rows) i ≡ Some (get_or (row ∷ rows) i (0, empty_set 0)) = slice_get-get_or (row ∷ rows) i (0, empty_set 0) (omega arith) in
+    above_last (row ∷ rows) m i last rising (omega arith) (omega arith) (some_is last (get_or (row ∷ rows) i (0, empty_set 0)) (is ∙ at)) above
+  where
+    some_is : (x y : ℕ × PartitionSet) → Some x ≡ Some y → x ≡ y
+    some_is x y e = cc e
+
 -- ---- what a put gives
 pub record IsPut (old new : SetRows) (m : ℕ) (s : PartitionSet) : Type 0 where
   pub value : new ≡ with_row old m s
@@ -143,3 +166,7 @@ puts_between inside old rows m i s seen valid below gap e =
 pub found_in : (inside old : SetRows) (m i : ℕ) (row : ℕ × PartitionSet) → inside ≡ old → IsValidRows inside → IsIndexOf old.rows m i → row ≡ get_or inside.rows i row → row_of old m ≡ Some row.1
 found_in inside old m i row seen valid index at =
     ap (λ (r : SetRows). row_of r m) (sym seen) ∙ found inside.rows m i row valid.rising (subst (λ (r : SetRows). IsIndexOf r.rows m i) (sym seen) index) ∙ ap (λ (r : ℕ × PartitionSet). Some r.1) (sym at)
+
+pub puts_last : (inside old : SetRows) (rows : Rows) (m : ℕ) (s : PartitionSet) → inside ≡ old → IsValidRows inside → partitions_of s ≡ old.partitions → IsGapFor old.rows m (length old.rows) → rows ≡ inside.rows ++ (m, s) ∷ [] → IsPut old (record inside { rows = rows }) m s
+puts_last inside old rows m s seen valid below gap e =
+    puts_between inside old rows m (length inside.rows) s seen valid below (subst (λ (r : SetRows). IsGapFor old.rows m (length r.rows)) (sym seen) gap) (e ∙ sym (insert_end inside.rows (m, s)))

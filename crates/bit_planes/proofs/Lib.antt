@@ -1,5 +1,6 @@
 pub mod Flags
 pub mod Indices
+pub mod Less
 pub mod Listed
 pub mod Pairs
 pub mod RowLaws

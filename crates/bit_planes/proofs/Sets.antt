@@ -218,6 +218,13 @@ lowest_step : (x : Bool) (r n : ℕ) → min n r + one (x && nat_lt r n) ≡ min
 lowest_step true r n = grind (arith, nat_tests)
 lowest_step false r n = let z : r + 0 ≡ r = omega arith in rw z (omega arith)
 
+-- how many are left of those of which f holds, where g holds of the n lowest of them
+pub how_many-lowest : (n t : ℕ) (f g : ℕ → Bool) → ((q : ℕ) → q < t → g q ≡ (f q && nat_lt (how_many q f) n)) → how_many t g ≡ min n (how_many t f)
+how_many-lowest n zero f g low = omega arith
+how_many-lowest n (suc t) f g low =
+    let before = how_many-lowest n t f g (λ q lt. low q (omega arith)) in
+    rw (before, low t (omega arith)) (lowest_step (f t) (how_many t f) n)
+
 pub rank_lowest : (n : ℕ) (s : PartitionSet) (q : ℕ) → rank (lowest n s) q ≡ min n (rank s q)
 rank_lowest n s zero = omega (arith, rank_is s 0, rank_is (lowest n s) 0)
 rank_lowest n s (suc q) =

@@ -1,5 +1,5 @@
 -- Walks over words, which have come to word i.
-use Rattle.std.proofs.Common.{ℕ, zero, suc, ◌≡◌, ◌≢◌, ◌+◌, ◌-◌, ◌*◌, ◌/◌, ◌^◌, ◌<◌, ◌≤◌, Bool, true, false, ◌&&◌, List, length, take, get_or, refl, ap, sym, ◌∙◌, arith, inl, inr}
+use Rattle.std.proofs.Common.{ℕ, zero, suc, ◌≡◌, ◌≢◌, ◌+◌, ◌-◌, ◌*◌, ◌/◌, ◌^◌, ◌<◌, ◌≤◌, Bool, true, false, ◌&&◌, List, length, take, get_or, min, refl, ap, sym, subst, ◌∙◌, arith, inl, inr}
 use Rattle.std.specs.Prelude.{nat_lt, count_ones, slice_set, sum_by}
 use Rattle.std.proofs.lemmas.Bool.{cases_lt}
 use Rattle.std.proofs.lemmas.Bool.Decides.{nat_tests}
@@ -7,7 +7,8 @@ use Rattle.std.proofs.lemmas.List.{get_or-set_other, get_or-set_same, length-set
 use Rattle.std.proofs.lemmas.List.Sums.{sum_by_more}
 use Rattle.bit_planes.specs.Private.Bits.{is_bit, bit_of, HasBitsBelow, HasLowestBits}
 use Rattle.bit_planes.specs.PartitionSet.{one, how_many}
-use Rattle.bit_planes.proofs.WordBits.{ones_are}
+use Rattle.bit_planes.proofs.Sets.{how_many-none, how_many-lowest}
+use Rattle.bit_planes.proofs.WordBits.{no_bit, ones_are}
 use Rattle.bit_planes.proofs.Words.{marked_at, marked_else, none_past}
 
 -- the marks below word i, and those in it
@@ -88,9 +89,40 @@ kept_more old n i left words w v ones lt e counted bits before =
       rest = λ j le. let other : j ≢ i = omega arith in get_or-set_other words i j v 0 other ∙ before.rest j (omega arith);
     }
 
+-- where what is kept of a word is counted
+pub kept_counted : (old : List ℕ) (n i left : ℕ) (words : List ℕ) (w v ones after : ℕ) → i < length words → w ≡ get_or words i 0 → ones ≡ how_many 64 (is_bit v) → after ≡ left - ones → HasLowestBits left w v → AreKept old n i left words → AreKept old n (i + 1) after (slice_set words i v)
+kept_counted old n i left words w v ones after lt e counted less bits before =
+    let fewer : how_many 64 (is_bit v) ≡ min left (how_many 64 (is_bit w)) = how_many-lowest left 64 (is_bit w) (is_bit v) bits in
+    let same : left - how_many 64 (is_bit w) ≡ after = omega arith in
+    subst (λ m. AreKept old n (i + 1) m (slice_set words i v)) same (kept_more old n i left words w v (how_many 64 (is_bit w)) lt e refl bits before)
+
 none_and : (x y : Bool) → x ≡ false → x ≡ (x && y)
 none_and true y e = absurd (cc e)
 none_and false y e = refl
+
+-- a word without marks is passed over
+pub kept_passed : (old : List ℕ) (n i left : ℕ) (words : List ℕ) → get_or words i 0 ≡ 0 → AreKept old n i left words → AreKept old n (i + 1) left words
+kept_passed old n i left words none before =
+    let left_is = before.counted in
+    let old_none : get_or old i 0 ≡ 0 = sym (before.rest i (omega arith)) ∙ none in
+    let whole : 64 * (i + 1) ≡ 64 * i + 64 = omega arith in
+    let no_marks : how_many 64 (is_bit (get_or old i 0)) ≡ 0 = how_many-none 64 (is_bit (get_or old i 0)) (λ k lt. ap (λ x. is_bit x k) old_none ∙ no_bit k) in
+    let more : how_many (64 * (i + 1)) (bit_of old) ≡ how_many (64 * i) (bit_of old) =
+    ap (λ m. how_many m (bit_of old)) whole ∙ (marks_split old i 64 (omega arith) ∙ omega (arith, no_marks)) in
+    record {
+      length_is = before.length_is;
+      counted = omega arith;
+      done = λ q below. elim (cases_lt q (64 * i)) [
+        | inl earlier ↦ before.done q earlier
+        | inr late ↦
+            let k : ℕ = q - 64 * i in
+            let at : q ≡ 64 * i + k = omega arith in
+            let mine : bit_of words q ≡ false = marked_at words q i k at (omega arith) ∙ (ap (λ x. is_bit x k) none ∙ no_bit k) in
+            let theirs : bit_of old q ≡ false = marked_at old q i k at (omega arith) ∙ (ap (λ x. is_bit x k) old_none ∙ no_bit k) in
+            mine ∙ (sym theirs ∙ none_and (bit_of old q) (nat_lt (how_many q (bit_of old)) n) theirs)
+      ];
+      rest = λ j le. before.rest j (omega arith);
+    }
 
 pub kept_all : (old : List ℕ) (n i left : ℕ) (words : List ℕ) → length words ≤ i → AreKept old n i left words → (q : ℕ) → bit_of words q ≡ (bit_of old q && nat_lt (how_many q (bit_of old)) n)
 kept_all old n i left words le all q =

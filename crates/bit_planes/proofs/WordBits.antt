@@ -258,6 +258,13 @@ pub lowest_all_bits : (w n : ℕ) → how_many 64 (is_bit w) ≤ n → HasLowest
 lowest_all_bits w n few k lt =
     all_low (is_bit w k) (how_many k (is_bit w)) n (λ at. omega (arith, few, how_many-rises (suc k) 64 (is_bit w) lt, one_more (is_bit w k) at))
 
+no_lower : (x : Bool) (r n : ℕ) → n ≡ 0 → false ≡ (x && nat_lt r n)
+no_lower true r n e = grind (arith, nat_tests)
+no_lower false r n e = refl
+
+pub lowest_no_bits : (w n : ℕ) → n ≡ 0 → HasLowestBits n w 0
+lowest_no_bits w n none k lt = no_bit k ∙ no_lower (is_bit w k) (how_many k (is_bit w)) n none
+
 -- ---- the bits below n
 pub bits_below_are : (n : ℕ) → n < 64 → HasBitsBelow n ((1 * 2 ^ n) % 2 ^ 64 - 1)
 bits_below_are n lt k below =

@@ -1,7 +1,7 @@
 -- A set of partitions for each of some members.
 use Rattle.std.specs.Prelude.{◌≡◌, ℕ, ◌<◌, ◌≤◌, ◌==◌, nat_lt, List, [], ◌∷◌, Option, Some, None, length, map, if◌then◌else◌, slice_index_or}
 use Rattle.lane_words.specs.declared.limits.TheConstants.{MOST_PARTITIONS}
-use Rattle.bit_planes.specs.PartitionSet.{PartitionSet, partitions_of, empty_set}
+use Rattle.bit_planes.specs.PartitionSet.{PartitionSet, partitions_of, empty_set, minus}
 
 -- sets of as many partitions, by the numbers of their members, which rise
 pub record SetRows : Type 0 where
@@ -34,6 +34,14 @@ put_row (row ∷ rows) m s =
 -- the rows with this set for this member, and the others as they were
 abbrev pub with_row : SetRows → ℕ → PartitionSet → SetRows
 with_row r m s = record r { rows = put_row r.rows m s }
+
+-- a row of this member without some partitions, and any other row as it was
+abbrev pub less_row : ℕ → PartitionSet → (ℕ × PartitionSet) → (ℕ × PartitionSet)
+less_row m s row = if row.0 == m then (row.0, minus row.1 s) else row
+
+-- the rows where this member's set is without some partitions
+abbrev pub with_less : SetRows → ℕ → PartitionSet → SetRows
+with_less r m s = record r { rows = map (less_row m s) r.rows }
 
 abbrev pub set_or_empty : ℕ → Option PartitionSet → PartitionSet
 set_or_empty partitions None = empty_set partitions

@@ -40,6 +40,9 @@ pub fn count_in(word: u64) -> u32
 pub fn lowest_bits(word: u64, n: u32) -> u64
     ensures { HasLowestBits n word result }
 {
+    if n == 0 {
+        return 0;
+    }
     if count_in(word) <= n {
         return word;
     }
@@ -96,9 +99,12 @@ pub fn keep_lowest(words: &mut [u64], n: u32)
 {
     let mut left = n;
     for i in 0..words.len() {
-        let word = words[i];
-        words[i] = lowest_bits(word, left);
-        left = left.saturating_sub(count_in(word));
+        // Most words of most sets have no marks: these stay, and nothing is counted.
+        if words[i] != 0 {
+            let kept = lowest_bits(words[i], left);
+            words[i] = kept;
+            left = left.saturating_sub(count_in(kept));
+        }
     }
 }
 

@@ -124,6 +124,29 @@ impl Plane {
         q < self.partitions && bits::is_set(&self.words, q)
     }
 
+    /// Puts what is in the other set, which is of as many partitions, into this one.
+    pub fn insert_all(&mut self, other: &Plane)
+        requires { partitions_of self.old ≡ partitions_of other.now }
+        ensures value { self.new ≡ union self.old other.now }
+        ensures elements { (q : ℕ) → is_in self.new q ≡ (is_in self.old q || is_in other.now q) }
+        ensures partitions { partitions_of self.new ≡ partitions_of self.old }
+    {
+        let used = bits::words_for(self.partitions);
+        bits::or_into(&mut self.words[..used], &other.words[..used]);
+    }
+
+    /// Takes what is in the other set, which is of as many partitions, out of this one.
+    pub fn remove_all(&mut self, other: &Plane)
+        requires { partitions_of self.old ≡ partitions_of other.now }
+        ensures value { self.new ≡ minus self.old other.now }
+        ensures elements { (q : ℕ)
+            → is_in self.new q ≡ (is_in self.old q && not (is_in other.now q)) }
+        ensures partitions { partitions_of self.new ≡ partitions_of self.old }
+    {
+        let used = bits::words_for(self.partitions);
+        bits::and_not_into(&mut self.words[..used], &other.words[..used]);
+    }
+
     /// What is in this set or in the other, which is of as many partitions.
     pub fn union(&self, other: &Plane) -> Plane
         requires { partitions_of self.now ≡ partitions_of other.now }
@@ -131,13 +154,9 @@ impl Plane {
         ensures elements { (q : ℕ) → is_in result q ≡ (is_in self.now q || is_in other.now q) }
         ensures partitions { partitions_of result ≡ partitions_of self.now }
     {
-        let used = bits::words_for(self.partitions);
-        let mut words = self.words;
-        bits::or_into(&mut words[..used], &other.words[..used]);
-        Plane {
-            partitions: self.partitions,
-            words,
-        }
+        let mut all = self.copy();
+        all.insert_all(other);
+        all
     }
 
     /// What is in this set and not in the other, which is of as many partitions.
@@ -148,13 +167,9 @@ impl Plane {
             → is_in result q ≡ (is_in self.now q && not (is_in other.now q)) }
         ensures partitions { partitions_of result ≡ partitions_of self.now }
     {
-        let used = bits::words_for(self.partitions);
-        let mut words = self.words;
-        bits::and_not_into(&mut words[..used], &other.words[..used]);
-        Plane {
-            partitions: self.partitions,
-            words,
-        }
+        let mut rest = self.copy();
+        rest.remove_all(other);
+        rest
     }
 
     /// The `n` lowest elements, or all where there are no more.

@@ -1,10 +1,11 @@
 //! A set for each of some members.
 
-ghost use Rattle.std.specs.Prelude.{◌≡◌, ◌≢◌, ◌<◌, ◌≤◌, ℕ, [], length, None, Some, MatchOption, IfSome, IfOk, IfErr, OnOk, OnErr};
+ghost use Rattle.std.specs.Prelude.{◌≡◌, ◌≢◌, ◌<◌, ◌≤◌, ℕ, [], length, None, Some, IsTrue, MatchOption, IfSome, IfOk, IfErr, OnOk, OnErr};
 ghost use Rattle.std.specs.Iterator.{YieldsFirst, YieldsFirstBy, item_count};
-ghost use Rattle.bit_planes.specs.PartitionSet.{partitions_of};
+ghost use Rattle.std.specs.Option.{option_map};
+ghost use Rattle.bit_planes.specs.PartitionSet.{partitions_of, minus};
 ghost use Rattle.bit_planes.specs.Private.Indices.{IsGapFor, IsIndexOf};
-ghost use Rattle.bit_planes.specs.SetRows.{SetRows, IsValidRows, no_rows, members, row_of, with_row};
+ghost use Rattle.bit_planes.specs.SetRows.{SetRows, IsValidRows, no_rows, members, row_of, with_less, with_row};
 
 use crate::plane::Plane;
 use lane_words::{MOST_PARTITIONS, Memory};
@@ -44,6 +45,19 @@ impl PlaneRows {
         }
     }
 
+    /// No rows yet, of sets of this many partitions, 1 to 4096, with room for this many rows. Refused
+    /// for want of memory alone.
+    pub fn with_room(alloc: Global, partitions: u32, rows: usize) -> Result<PlaneRows, Memory>
+        requires { (1 ≤ partitions) × (partitions ≤ MOST_PARTITIONS) }
+        ensures value { IfOk result (λ r. r ≡ no_rows partitions) }
+        ensures valid { IfOk result IsValidRows }
+    {
+        Ok(PlaneRows {
+            partitions,
+            rows: Vec::with_capacity(alloc, rows)?,
+        })
+    }
+
     /// How many partitions there are: the elements of each set are below it.
     pub fn partitions(&self) -> u32
         ensures value { result ≡ self.now.partitions }
@@ -64,12 +78,31 @@ impl PlaneRows {
         ensures partitions { self.new.partitions ≡ self.old.partitions }
         ensures valid { IsValidRows self.new }
     {
+        if self.is_above_all(member) {
+            return Ok(self.rows.push((member, plane))?);
+        }
         match self.search(member) {
             Ok(index) => {
                 self.rows[index] = (member, plane);
                 Ok(())
             }
             Err(index) => Ok(self.rows.insert(index, (member, plane))?),
+        }
+    }
+
+    /// Takes what is in a set, of as many partitions, out of a member's row, where it has one, and
+    /// leaves every other row. It takes no memory.
+    pub fn remove_from(&mut self, member: u32, plane: &Plane)
+        requires { partitions_of plane.now ≡ self.old.partitions }
+        ensures value { self.new ≡ with_less self.old member plane.now }
+        ensures this { row_of self.new member
+            ≡ option_map (λ row. minus row plane.now) (row_of self.old member) }
+        ensures others { (m : ℕ) → m ≢ member → row_of self.new m ≡ row_of self.old m }
+        ensures partitions { self.new.partitions ≡ self.old.partitions }
+        ensures valid { IsValidRows self.new }
+    {
+        if let Ok(index) = self.search(member) {
+            self.rows[index].1.remove_all(plane);
         }
     }
 
@@ -110,12 +143,45 @@ impl PlaneRows {
         self.rows.len()
     }
 
+    /// Whether a member's number is above all that have a row.
+    fn is_above_all(&self, member: u32) -> bool
+        ensures { IsTrue result → IsGapFor self.now.rows member (length self.now.rows) }
+    {
+        match self.rows.last() {
+            Some(last) => last.0 < member,
+            None => true,
+        }
+    }
+
     /// The index of a member's row, or the index where it would go.
     fn search(&self, member: u32) -> Result<usize, usize>
         ensures found { IfOk result (IsIndexOf self.now.rows member) }
         ensures absent { IfErr result (IsGapFor self.now.rows member) }
     {
+        if let Some(index) = self.usual_index(member) {
+            return Ok(index);
+        }
         self.rows.binary_search_by_key(&member, |row| row.0)
+    }
+
+    /// The index of a member's row, where it has one and no member is missing between it and the
+    /// first one or the last one.
+    fn usual_index(&self, member: u32) -> Option<usize>
+        ensures { IfSome result (IsIndexOf self.now.rows member) }
+    {
+        let first = self.rows.first()?.0;
+        let last = self.rows.last()?.0;
+        let ahead = member.checked_sub(first)? as usize;
+        if ahead < self.rows.len() && self.rows[ahead].0 == member {
+            return Some(ahead);
+        }
+        let behind = last.checked_sub(member)? as usize + 1;
+        let index = self.rows.len().checked_sub(behind)?;
+        if self.rows[index].0 == member {
+            Some(index)
+        } else {
+            None
+        }
     }
 }
 

@@ -1,12 +1,13 @@
 //! Each call once on its happy path, at one partition, few, a number past a multiple of 64, and the
 //! most.
 
-ghost use Rattle.std.specs.Prelude.{◌≡◌, ◌≤◌};
+ghost use Rattle.std.specs.Prelude.{◌≡◌, ◌≤◌, IfOk};
 ghost use Rattle.bit_planes.specs.PartitionSet.{partitions_of};
 
 use super::*;
 use crate::plain_plane::PlainPlane;
-use lane_words::{MOST_MEMBERS, MOST_PARTITIONS};
+use lane_words::{MOST_MEMBERS, MOST_PARTITIONS, Memory};
+use std::alloc::Global;
 use std::process::Abort;
 use std::test::Fail;
 
@@ -112,6 +113,52 @@ fn keeps_the_most_rows(rt: HostRuntime) -> Result<(), Fail> {
     Ok(())
 }
 
+/// Rows of those of the members 3 to 10 whose bit is set, each with the set of its own number, put
+/// in rising order or in falling order.
+fn rows_of(alloc: Global, bits: u32, rising: bool) -> Result<PlaneRows, Memory>
+    ensures { IfOk result (λ rows. rows.partitions ≡ 16) }
+{
+    let mut rows = PlaneRows::with_room(alloc, 16, 4)?;
+    for i in 0..8 {
+        let member = if rising { 3 + i } else { 10 - i };
+        if bits >> (member - 3) & 1 == 1 {
+            rows.put(member, Plane::of(16, &[member]))?;
+        }
+    }
+    Ok(rows)
+}
+
+#[test]
+fn finds_rows_beside_gaps(rt: HostRuntime) -> Result<(), Fail> {
+    for bits in 0..256 {
+        let mut rows = rows_of(rt.alloc(), bits, true)?;
+        let falling = rows_of(rt.alloc(), bits, false)?;
+        assert!(rt; rows.members().eq(falling.members()), "{bits}");
+        for member in 0..14 {
+            let there = 3 <= member && member < 11 && bits >> (member - 3) & 1 == 1;
+            let own = |set: &Plane| set.iter().eq([member]);
+            assert_eq!(rt;
+                rows.get(member).is_some_and(own),
+                there,
+                "{member} of {bits}"
+            );
+            assert_eq!(rt;
+                falling.get(member).is_some_and(own),
+                there,
+                "{member} of {bits}"
+            );
+            rows.remove_from(member, &Plane::of(16, &[1, member]));
+            assert_eq!(rt;
+                rows.get(member).is_some_and(|set| set.count() == 0),
+                there,
+                "{member} of {bits}"
+            );
+        }
+        assert_eq!(rt; rows.len(), bits.count_ones() as usize);
+    }
+    Ok(())
+}
+
 /// How many partitions there are in the sets that are tried both ways: around one word, eight words
 /// and the most.
 const COUNTS: [u32; 9] = [1, 63, 64, 65, 511, 512, 513, 4095, 4096];
@@ -207,6 +254,11 @@ fn check_two(rt: &impl Abort, one: (Plane, PlainPlane), other: (Plane, PlainPlan
     let (t, plain_t) = other;
     assert!(rt; are_alike(&s.union(&t), &plain_s.union(&plain_t)));
     assert!(rt; are_alike(&s.minus(&t), &plain_s.minus(&plain_t)));
+    let (mut all, mut rest) = (s.copy(), s.copy());
+    all.insert_all(&t);
+    rest.remove_all(&t);
+    assert!(rt; are_alike(&all, &plain_s.union(&plain_t)));
+    assert!(rt; are_alike(&rest, &plain_s.minus(&plain_t)));
     assert_eq!(rt; s.meets(&t), plain_s.meets(&plain_t));
     assert_eq!(rt; s.within(&t), plain_s.within(&plain_t));
     assert_eq!(rt; s.same(&t), plain_s.same(&plain_t));

@@ -61,12 +61,12 @@ own_or_not (row ∷ rows) p m q rising =
       | false ↦ λ e. omega (arith, own_or_not rows p m q (rising_rest row.0 names rising))
     ] refl
 
-tells_others : (o : ℕ) (x : Bool) → (nat_lt 1 (o + one x) || (nat_lt 0 (o + one x) && not x)) ≡ nat_lt 0 o
+tells_others : (o : ℕ) (x : Bool) → ((nat_lt 0 (o + one x) && not x) || nat_lt 1 (o + one x)) ≡ nat_lt 0 o
 tells_others o true = grind (arith, nat_tests)
 tells_others o false = grind (arith, nat_tests)
 
 -- with a row of its own
-pub others_beside : (some several own : PartitionSet) (r : SetRows) (m q : ℕ) → IsValidRows r → AreGrants some several r → find_row r.rows m ≡ Some own → (is_in several q || (is_in some q && not (is_in own q))) ≡ granted_to_other r.rows m q
+pub others_beside : (some several own : PartitionSet) (r : SetRows) (m q : ℕ) → IsValidRows r → AreGrants some several r → find_row r.rows m ≡ Some own → ((is_in some q && not (is_in own q)) || is_in several q) ≡ granted_to_other r.rows m q
 others_beside some several own r m q valid grants found =
     let own_is : one (is_in (set_or_empty r.partitions (find_row r.rows m)) q) ≡ one (is_in own q) = ap (λ o. one (is_in (set_or_empty r.partitions o) q)) found in
     let times : times_granted r.rows q ≡ times_to_others r.rows m q + one (is_in own q) = own_or_not r.rows r.partitions m q valid.rising ∙ ap (λ n. times_to_others r.rows m q + n) own_is in
@@ -113,6 +113,36 @@ grants_more p rows row some several below g =
       to_some = λ q. rw (in_union some fresh q some_len, in_minus row.1 some q, g.to_some q, times-last rows row q) (more_some (times_granted rows q) (is_in row.1 q));
       to_several = λ q. rw (in_union several (minus row.1 fresh) q several_len, in_minus row.1 fresh q, in_minus row.1 some q, g.to_several q, g.to_some q, times-last rows row q) (more_several (times_granted rows q) (is_in row.1 q));
     }
+
+more_some_all : (t : ℕ) (x : Bool) → (nat_lt 0 t || x) ≡ nat_lt 0 (t + one x)
+more_some_all t true = grind (arith, nat_tests)
+more_some_all t false = grind (arith, nat_tests)
+
+fresh_several : (t : ℕ) (x : Bool) → (x && nat_lt 0 t) ≡ false → nat_lt 1 t ≡ nat_lt 1 (t + one x)
+fresh_several t true e = grind (arith, nat_tests)
+fresh_several t false e = grind (arith, nat_tests)
+
+-- a row that meets what some are granted, and one that does not
+pub grants_again : (p : ℕ) (rows : Rows) (row : ℕ × PartitionSet) (some several : PartitionSet) → partitions_of row.1 ≡ p → AreGrants some several (record { partitions = p; rows = rows })
+    → AreGrants (union some row.1) (union several (minus row.1 (minus row.1 some))) (record { partitions = p; rows = rows ++ row ∷ [] })
+grants_again p rows row some several below g =
+    let fresh : PartitionSet = minus row.1 some in
+    let several_len : partitions_of several ≡ partitions_of (minus row.1 fresh) = g.several_below ∙ sym (partitions_minus row.1 fresh ∙ below) in
+    record {
+      some_below = partitions_union some row.1 ∙ g.some_below;
+      several_below = partitions_union several (minus row.1 fresh) ∙ g.several_below;
+      to_some = λ q. rw (in_union some row.1 q (g.some_below ∙ sym below), g.to_some q, times-last rows row q) (more_some_all (times_granted rows q) (is_in row.1 q));
+      to_several = λ q. rw (in_union several (minus row.1 fresh) q several_len, in_minus row.1 fresh q, in_minus row.1 some q, g.to_several q, g.to_some q, times-last rows row q) (more_several (times_granted rows q) (is_in row.1 q));
+    }
+
+pub grants_fresh : (p : ℕ) (rows : Rows) (row : ℕ × PartitionSet) (some several : PartitionSet) → partitions_of row.1 ≡ p → ((q : ℕ) → (is_in row.1 q && is_in some q) ≡ false) → AreGrants some several (record { partitions = p; rows = rows })
+    → AreGrants (union some row.1) several (record { partitions = p; rows = rows ++ row ∷ [] })
+grants_fresh p rows row some several below apart g = record {
+  some_below = partitions_union some row.1 ∙ g.some_below;
+  several_below = g.several_below;
+  to_some = λ q. rw (in_union some row.1 q (g.some_below ∙ sym below), g.to_some q, times-last rows row q) (more_some_all (times_granted rows q) (is_in row.1 q));
+  to_several = λ q. g.to_several q ∙ (fresh_several (times_granted rows q) (is_in row.1 q) (ap (λ b. is_in row.1 q && b) (sym (g.to_some q)) ∙ apart q) ∙ ap (λ n. nat_lt 1 n) (sym (times-last rows row q)));
+}
 
 -- all rows
 pub grants_all : (r : SetRows) (some several : PartitionSet) (i : ℕ) → i ≡ length r.rows → AreGrants some several (record { partitions = r.partitions; rows = take i r.rows }) → AreGrants some several r

@@ -1,5 +1,6 @@
 pub mod Final
 pub mod Granted
+pub mod InPlace
 pub mod Items
-pub mod WithheldRows
 pub mod Rounds
+pub mod WithheldRows

@@ -18,7 +18,7 @@ not_first : (x y : Bool) → x ≡ false → (x && y) ≡ false
 not_first true y h = absurd (cc h)
 not_first false y h = refl
 
-in_withheld_row : (granted : Rows) (row : ℕ × PartitionSet) (q : ℕ) → is_in (withheld_row granted row).1 q ≡ (is_in row.1 q && not (granted_to_other granted row.0 q))
+pub in_withheld_row : (granted : Rows) (row : ℕ × PartitionSet) (q : ℕ) → is_in (withheld_row granted row).1 q ≡ (is_in row.1 q && not (granted_to_other granted row.0 q))
 in_withheld_row granted row q =
     let f : ℕ → Bool = λ n. is_in row.1 n && not (granted_to_other granted row.0 n) in
     elim (cases_lt q (partitions_of row.1)) [

@@ -5,6 +5,7 @@ ghost use Rattle.std.specs.Prelude.{◌≡◌, length, IfOk};
 ghost use Rattle.bit_planes.specs.PartitionSet.{partitions_of};
 
 use super::*;
+use crate::withholding::has_plain_grants;
 use bit_planes::{Plane, PlaneRows};
 use lane_words::{MOST_MEMBERS, MOST_PARTITIONS, Memory};
 use std::alloc::Global;
@@ -22,6 +23,12 @@ fn moves_two_partitions(rt: HostRuntime) -> Result<(), Fail> {
     assert!(rt; rows.get(1).is_some_and(|row| row.iter().eq([0, 1])));
     assert!(rt; rows.get(2).is_some_and(|row| row.count() == 0));
     assert!(rt; !is_final(&granted, &rows) && is_final(&rows, &rows));
+    let mut in_place = PlaneRows::new(rt.alloc(), 4);
+    in_place.put(1, Plane::of(4, &[0, 1]))?;
+    in_place.put(2, Plane::of(4, &[2, 3]))?;
+    withhold_in_place(&mut in_place, &granted);
+    assert!(rt; is_final(&in_place, &rows));
+    assert!(rt; has_plain_grants(&target) && has_plain_grants(&granted));
     assert!(rt; withhold(rt.alloc(), &target, &rows).is_ok_and(|next| is_final(&next, &target)));
     Ok(())
 }
@@ -74,6 +81,7 @@ fn withholds_among_the_most(rt: HostRuntime) -> Result<(), Fail> {
         owners[q as usize] = (q + 1) % members + 1;
     }
     let granted = rows_by(rt.alloc(), &owners)?;
+    assert!(rt; has_plain_grants(&target) && has_plain_grants(&granted));
     let rows = withhold(rt.alloc(), &target, &granted)?;
     assert_eq!(rt; rows.len(), MOST_MEMBERS);
     for (member, row) in rows.iter() {
@@ -85,5 +93,31 @@ fn withholds_among_the_most(rt: HostRuntime) -> Result<(), Fail> {
     }
     assert!(rt; !is_final(&rows, &target) && !is_final(&target, &granted));
     assert!(rt; is_final(&target, &withhold(rt.alloc(), &target, &target)?));
+    Ok(())
+}
+
+#[test]
+fn collects_what_several_are_granted(rt: HostRuntime) -> Result<(), Fail> {
+    let mut granted = PlaneRows::new(rt.alloc(), 70);
+    granted.put(1, Plane::of(70, &[0, 1, 69]))?;
+    granted.put(2, Plane::of(70, &[1, 2, 69]))?;
+    granted.put(4, Plane::of(70, &[2, 3, 69]))?;
+    assert!(rt; has_plain_grants(&granted));
+    let mut target = PlaneRows::new(rt.alloc(), 70);
+    target.put(1, Plane::full(70))?;
+    target.put(3, Plane::full(70))?;
+    let rows = withhold(rt.alloc(), &target, &granted)?;
+    assert!(rt;
+        rows.get(1)
+            .is_some_and(|row| row.contains(0) && !row.contains(1))
+    );
+    assert!(rt;
+        rows.get(1)
+            .is_some_and(|row| row.count() == 66 && !row.contains(69))
+    );
+    assert!(rt;
+        rows.get(3)
+            .is_some_and(|row| row.count() == 65 && !row.contains(0))
+    );
     Ok(())
 }

@@ -1,6 +1,6 @@
 //! What members may be given at once, and what they have to give up first.
 
-ghost use Rattle.std.specs.Prelude.{◌≡◌, ◌&&◌, ◌↔◌, ℕ, not, IfOk, IsTrue};
+ghost use Rattle.std.specs.Prelude.{◌≡◌, ◌&&◌, ◌||◌, ◌↔◌, ℕ, not, IfOk, IsTrue};
 ghost use Rattle.bit_planes.specs.PartitionSet.{partitions_of, is_in, minus};
 ghost use Rattle.bit_planes.specs.SetRows.{HaveSameRows, IsValidRows, members};
 ghost use Rattle.coop_rebalance.specs.Private.Grants.{AreGrants};
@@ -25,12 +25,29 @@ pub fn withhold(alloc: Global, target: &PlaneRows, granted: &PlaneRows) -> Resul
     ensures valid { IfOk result IsValidRows }
 {
     let grants = Grants::of(granted);
-    let mut rows = PlaneRows::new(alloc, target.partitions());
+    let mut rows = PlaneRows::with_room(alloc, target.partitions(), target.len())?;
     for (member, row) in target.iter() {
-        let others = grants.of_others(granted, member);
-        rows.put(member, row.minus(&others))?;
+        let mut given = row.copy();
+        given.remove_all(&grants.of_others(granted, member));
+        rows.put(member, given)?;
     }
     Ok(rows)
+}
+
+/// The same in place, where what is granted is of the same members and of as many partitions. It
+/// takes no memory.
+pub fn withhold_in_place(rows: &mut PlaneRows, granted: &PlaneRows)
+    requires partitions { rows.old.partitions ≡ granted.now.partitions }
+    requires members { members rows.old ≡ members granted.now }
+    ensures value { rows.new ≡ withheld rows.old granted.now }
+    ensures elements { AreWithoutOthers rows.new rows.old granted.now }
+    ensures members { members rows.new ≡ members rows.old }
+    ensures partitions { rows.new.partitions ≡ rows.old.partitions }
+{
+    let grants = Grants::of(granted);
+    for (member, own) in granted.iter() {
+        rows.remove_from(member, &grants.beside(own));
+    }
 }
 
 /// What a member has to give up: what it is granted and not assigned, of as many partitions. It
@@ -101,9 +118,11 @@ impl Grants {
         let mut some = Plane::new(granted.partitions());
         let mut several = Plane::new(granted.partitions());
         for (_, row) in granted.iter() {
-            let fresh = row.minus(&some);
-            several = several.union(&row.minus(&fresh));
-            some = some.union(&fresh);
+            // In a group the rows are disjoint, so this is seldom so.
+            if row.meets(&some) {
+                several.insert_all(&row.minus(&row.minus(&some)));
+            }
+            some.insert_all(row);
         }
         Grants { some, several }
     }
@@ -115,8 +134,30 @@ impl Grants {
         ensures partitions { partitions_of result ≡ granted.now.partitions }
     {
         match granted.get(member) {
-            Some(own) => self.several.union(&self.some.minus(own)),
+            Some(own) => self.beside(own),
             None => self.some.copy(),
         }
     }
+
+    /// What members other than the one with this row are granted.
+    fn beside(&self, own: &Plane) -> Plane
+        requires some { partitions_of self.now.some ≡ partitions_of own.now }
+        requires several { partitions_of self.now.several ≡ partitions_of own.now }
+        ensures elements { (q : ℕ) → is_in result q
+            ≡ ((is_in self.now.some q && not (is_in own.now q)) || is_in self.now.several q) }
+        ensures partitions { partitions_of result ≡ partitions_of own.now }
+    {
+        let mut others = self.some.copy();
+        others.remove_all(own);
+        others.insert_all(&self.several);
+        others
+    }
+}
+
+/// Whether the plain program collects the same grants.
+#[cfg(test)]
+pub fn has_plain_grants(granted: &PlaneRows) -> bool {
+    let grants = Grants::of(granted);
+    let (some, several) = crate::plain_grants::grants_of(granted);
+    grants.some.same(&some) && grants.several.same(&several)
 }

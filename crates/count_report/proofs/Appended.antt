@@ -1,6 +1,6 @@
 -- Keys that were appended in bulk, and the first of them that can't be appended.
-use Rattle.std.proofs.Common.{◌≡◌, ◌∙◌, ◌<◌, ◌≤◌, ℕ, Bool, true, false, List, [], ◌∷◌, ◌++◌, length, get_or, take, drop, suc, append_assoc, drop-cons, sym, ap, refl, inl, inr, subst, arith}
-use Rattle.std.specs.Prelude.{◌⊎◌, if◌then◌else◌, nat_lt, Some, None, Err, Ok, Result, IsOk}
+use Rattle.std.proofs.Common.{◌≡◌, ◌∙◌, ◌≤◌, ℕ, Bool, true, false, List, [], ◌∷◌, ◌++◌, length, take, drop, suc, append_assoc, drop-cons, sym, ap, refl, inl, inr, subst, arith}
+use Rattle.std.specs.Prelude.{◌⊎◌, if◌then◌else◌, nat_lt, Some, None, Err, Ok, IsOk}
 use Rattle.std.proofs.lemmas.Bool.Decides.{nat_tests}
 use Rattle.std.proofs.lemmas.List.{append-nil, take-append-drop}
 use Rattle.lane_words.specs.declared.limits.TheConstants.{LONGEST_KEY}

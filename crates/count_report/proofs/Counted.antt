@@ -1,6 +1,6 @@
 -- Counts of logs by key number, log by log.
 use Rattle.std.proofs.Common.{◌≡◌, ◌∙◌, ◌+◌, ◌-◌, ◌<◌, ◌≤◌, ◌*◌, ◌^◌, ℕ, zero, suc, List, [], length, map, get_or, sym, ap, arith, inl, inr, suc-mul}
-use Rattle.std.specs.Prelude.{◌==◌}
+use Rattle.std.specs.Prelude.{◌==◌, IfOk, Result, Ok}
 use Rattle.std.proofs.lemmas.Bool.{cases_lt}
 use Rattle.std.proofs.lemmas.List.{get_or-map, get_or_default, get_or_past, length-map, same_lists}
 use Rattle.std.proofs.lemmas.List.Sums.{count_by-le-length}
@@ -9,20 +9,12 @@ use Rattle.keyed_table.specs.Counts as table
 use Rattle.keyed_table.proofs.Elements.{stands-somewhere}
 use Rattle.keyed_table.proofs.Raised.{counter-raised, length-raised}
 use Rattle.partition_log.specs.Keys.{Key, distinct, key_at, plain}
-use Rattle.partition_log.specs.Logs.{IsValidLogs, AreLogsOf, PartitionLogs, keys_of_log, log_at, sum_below}
+use Rattle.partition_log.specs.Logs.{IsValidLogs, AreLogsOf, PartitionLogs, keys_of_log, log_at}
 use Rattle.partition_log.proofs.Numbered.{by_number, number-back}
 use Rattle.partition_log.proofs.Parted.{in_one_log, sum-same}
 use Rattle.count_report.specs.CountReport.{counts_of}
+use Rattle.count_report.specs.Private.Counted.{AreCountsBelow, so_far}
 use Rattle.count_report.specs.Tally.{AreCountsByNumber}
-
--- how often a key number is in the logs below p
-abbrev pub so_far : PartitionLogs → ℕ → ℕ → ℕ
-so_far l p n = sum_below p (λ q. table.plain (log_at l q) n)
-
--- counters of the logs below p
-pub record AreCountsBelow (l : PartitionLogs) (p : ℕ) (counts : List ℕ) : Type 0 where
-  pub one_each : length counts ≡ length l.keys
-  pub counted : (n : ℕ) → n < length l.keys → get_or counts n 0 ≡ so_far l p n
 
 -- the logs below p have at most so many records
 most-so-far : (l : PartitionLogs) (p n : ℕ) → IsValidLogs l → so_far l p n ≤ p * (2 ^ 32 - 1)
@@ -57,6 +49,13 @@ next-log l p counts h = record {
       let from : 0 + n ≡ n = omega arith in
       counter-raised 0 counts (log_at l p) n (omega (arith, lt, h.one_each)) ∙ ap (λ m. get_or counts n 0 + table.plain (log_at l p) m) from ∙ ap (λ m. m + table.plain (log_at l p) n) (h.counted n lt) ∙ ap (λ q. so_far l q n) (sym next);
 }
+
+-- the list of a partial count that was made among others is its log
+pub counted-log : {E : Type 0} (l : PartitionLogs) (p i : ℕ) (made read : List (Result (List ℕ) E)) (answer : Result (List ℕ) E) (partial : List ℕ) → IfOk (get_or made i answer) (λ ids. ids ≡ log_at l p)
+    → read ≡ made → answer ≡ get_or read i answer → answer ≡ Ok partial → partial ≡ log_at l p
+counted-log l p i made read answer partial h same is ok =
+    let found : get_or made i answer ≡ Ok partial = ap (λ answers. get_or answers i answer) (sym same) ∙ sym is ∙ ok in
+    rw found at h
 
 -- all logs
 pub all-logs : (l : PartitionLogs) (p : ℕ) (counts : List ℕ) → IsValidLogs l → p ≡ l.partitions → AreCountsBelow l p counts → AreCountsByNumber l counts

@@ -1,3 +1,4 @@
 pub mod CountReport
+pub mod Private
 pub mod Reports
 pub mod Tally

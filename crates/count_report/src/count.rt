@@ -34,7 +34,7 @@ fn plain_report<R: Threads + Sync + RandomSource>(
     let total = keys.len() as u64;
     // The logs have a copy of each key that the text needs.
     drop(keys);
-    let counts = counts_in(alloc, &logs)?;
+    let counts = counts_in(rt, alloc, &logs)?;
     let text = count_rows_text(alloc, &logs, counts.counts(), total, total)?;
     Ok(text)
 }

@@ -8,4 +8,4 @@ mod tally;
 
 pub use count::count_text;
 pub use reading::file_keys;
-pub use tally::logs_of;
+pub use tally::{counts_in, logs_of};

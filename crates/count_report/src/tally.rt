@@ -1,9 +1,10 @@
 //! Keys in logs, and how often each key is in them.
 
-ghost use Rattle.std.specs.Prelude.{◌≡◌, ◌≤◌, ◌<◌, ◌⊎◌, [], ℕ, None, Some, IfOk, IfErr, OnOk, length};
+ghost use Rattle.std.specs.Prelude.{◌≡◌, ◌≤◌, ◌<◌, ◌+◌, ◌-◌, ◌⊎◌, [], ℕ, None, Some, IfOk, IfErr, OnOk, length, slice_index_or, vec_len};
 ghost use Rattle.lane_words.specs.declared.Refusal.TheVariants as refusal;
 ghost use Rattle.partition_log.specs.Logs.{IsValidLogs, AreLogsOf, log_at};
 ghost use Rattle.count_report.specs.CountReport.{first_fault};
+ghost use Rattle.count_report.specs.Private.Counted.{AreCountsBelow};
 ghost use Rattle.count_report.specs.Tally.{AreCountsByNumber, IsKeyFault};
 
 use key_file::FileKeys;
@@ -12,7 +13,14 @@ use lane_words::{MOST_PARTITIONS, Memory, Refusal};
 use partition_log::{LogRead, Logs};
 use std::alloc::Global;
 use std::random::RandomSource;
+use std::thread;
 use std::thread::Threads;
+
+/// How many records there are at least, so that threads are worth their start.
+const LEAST_RECORDS: u64 = 4096;
+
+/// How many logs are counted at a time where it can't be told how many processors there are.
+const GROUP: u32 = 8;
 
 /// The logs of the keys of a file, appended one after the other.
 ///
@@ -41,8 +49,34 @@ pub fn logs_of<R: Threads + Sync + RandomSource>(
     }
 }
 
-/// How often each key is in all logs together, by its number.
-pub fn counts_in<L: LogRead>(alloc: Global, logs: &L) -> Result<Table, Memory>
+/// How often each key is in all logs together, by its number. Many records are counted on several
+/// threads.
+pub fn counts_in<R: Threads + Sync, L: LogRead + Sync>(
+    rt: &R,
+    alloc: Global,
+    logs: &L,
+) -> Result<Table, Memory>
+    requires { IsValidLogs (L.contents logs.now) }
+    ensures { IfOk result (λ table. AreCountsByNumber (L.contents logs.now) table.counts) }
+{
+    if are_few(logs) {
+        counts_in_turn(alloc, logs)
+    } else {
+        counts_in_groups(rt, alloc, logs)
+    }
+}
+
+/// Whether logs are not worth the start of threads: there is one alone, or they have few records.
+fn are_few<L: LogRead>(logs: &L) -> bool {
+    let mut records: u64 = 0;
+    for p in 0..logs.partitions() {
+        records = records.saturating_add(u64::from(logs.len(p)));
+    }
+    logs.partitions() == 1 || records < LEAST_RECORDS
+}
+
+/// The counts of all logs, one log after the other.
+fn counts_in_turn<L: LogRead>(alloc: Global, logs: &L) -> Result<Table, Memory>
     requires { IsValidLogs (L.contents logs.now) }
     ensures { IfOk result (λ table. AreCountsByNumber (L.contents logs.now) table.counts) }
 {
@@ -53,6 +87,86 @@ pub fn counts_in<L: LogRead>(alloc: Global, logs: &L) -> Result<Table, Memory>
     Ok(table)
 }
 
+/// The counts of all logs, a group of them at a time.
+fn counts_in_groups<R: Threads + Sync, L: LogRead + Sync>(
+    rt: &R,
+    alloc: Global,
+    logs: &L,
+) -> Result<Table, Memory>
+    requires { IsValidLogs (L.contents logs.now) }
+    ensures { IfOk result (λ table. AreCountsByNumber (L.contents logs.now) table.counts) }
+{
+    let size = group_size(rt);
+    let mut table = Table::zeros(alloc, logs.keys())?;
+    let mut from = 0;
+    while from < logs.partitions() {
+        let to = from.saturating_add(size).min(logs.partitions());
+        add_group(rt, alloc, logs, from, to, &mut table)?;
+        from = to;
+    }
+    Ok(table)
+}
+
+/// How many logs are counted at a time: two for each processor, so that a long one leaves none of
+/// them idle for long, while only so many partial counts stand at once.
+fn group_size(rt: &impl Threads) -> u32
+    ensures { 1 ≤ result }
+{
+    match thread::available_parallelism(rt) {
+        Ok(count) => (count.get().min(MOST_PARTITIONS as usize) * 2) as u32,
+        Err(_) => GROUP,
+    }
+}
+
+/// Adds the counts of the logs from one on, below another, to those of the logs before.
+fn add_group<R: Threads + Sync, L: LogRead + Sync>(
+    rt: &R,
+    alloc: Global,
+    logs: &L,
+    from: u32,
+    to: u32,
+    table: &mut Table,
+) -> Result<(), Memory>
+    requires valid { IsValidLogs (L.contents logs.now) }
+    requires range { (from ≤ to) × (to ≤ (L.contents logs.now).partitions) }
+    requires before { AreCountsBelow (L.contents logs.now) from table.old.counts }
+    ensures { OnOk result (AreCountsBelow (L.contents logs.now) to table.new.counts) }
+{
+    let group = group_counts(rt, alloc, logs, from, to)?;
+    for counts in &group {
+        match counts {
+            Ok(partial) => table.merge(partial),
+            Err(_) => return Err(Memory),
+        }
+    }
+    Ok(())
+}
+
+/// How often each key is in each of the logs from one on, below another. Each is counted on a thread
+/// of its own.
+fn group_counts<R: Threads + Sync, L: LogRead + Sync>(
+    rt: &R,
+    alloc: Global,
+    logs: &L,
+    from: u32,
+    to: u32,
+) -> Result<Vec<Result<Partial, Memory>>, Memory>
+    requires { (from ≤ to) × (to ≤ (L.contents logs.now).partitions) }
+    ensures len { IfOk result (λ group. vec_len group ≡ to - from) }
+    ensures counts { IfOk result (λ group. (i : ℕ) (d : _) → i < to - from
+        → IfOk (slice_index_or group.items i d)
+        (λ partial. partial ≡ log_at (L.contents logs.now) (from + i))) }
+{
+    let many = (to - from) as usize;
+    let group = thread::map_indices(
+        rt,
+        alloc,
+        many,
+        &|i| log_counts(alloc, logs, from + i as u32),
+    )?;
+    Ok(group)
+}
+
 /// How often each key is in one log.
 fn log_counts<L: LogRead>(alloc: Global, logs: &L, p: u32) -> Result<Partial, Memory>
     requires { p < (L.contents logs.now).partitions }
@@ -61,3 +175,6 @@ fn log_counts<L: LogRead>(alloc: Global, logs: &L, p: u32) -> Result<Partial, Me
     let ids = Vec::from_slice(alloc, logs.ids(p, 0, logs.len(p)))?;
     Partial::of(alloc, ids)
 }
+
+#[cfg(test)]
+mod tests;

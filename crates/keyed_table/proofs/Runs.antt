@@ -1,4 +1,4 @@
--- Counts of a list whose numbers rise, run by run of equal numbers, as the plain program makes them.
+-- Runs of equal numbers in a list whose numbers rise, and the pairs that the plain program makes of them.
 use Rattle.std.proofs.Common.{◌≡◌, ◌≢◌, ◌∙◌, ◌+◌, ◌-◌, ◌<◌, ◌≤◌, ℕ, zero, suc, true, false, List, [], ◌∷◌, ◌++◌, length, take, get_or-take, cond, get_or, sym, ap, refl, arith, Option, Some, None, inl, inr}
 use Rattle.std.specs.Prelude.{◌==◌}
 use Rattle.std.specs.Map.{update}
@@ -64,7 +64,7 @@ pub record AreListed (runs : List (ℕ × ℕ)) (ids : List ℕ) (start at : ℕ
   pub below : at < length ids → (j : ℕ) → j < start → get_or ids j 0 < get_or ids at 0
   pub ended : at ≡ length ids → start ≡ at
 
-all_equal : (ids : List ℕ) (start at j : ℕ) → ((j : ℕ) → start ≤ j → j < at → get_or ids j 0 ≡ get_or ids at 0) → start ≤ j → j < at + 1 → get_or ids j 0 ≡ get_or ids at 0
+pub all_equal : (ids : List ℕ) (start at j : ℕ) → ((j : ℕ) → start ≤ j → j < at → get_or ids j 0 ≡ get_or ids at 0) → start ≤ j → j < at + 1 → get_or ids j 0 ≡ get_or ids at 0
 all_equal ids start at j run from to =
     elim (cases_lt j at) [
       | inl lt ↦ run j from lt
@@ -79,7 +79,7 @@ same_test : (v x : ℕ) → eq_by_cmp nat_cmp v x ≡ (v == x)
 same_test v x = grind (arith, nat_tests)
 
 -- a number that is larger than those before start is not among them
-none-before : (ids : List ℕ) (start v : ℕ) → start ≤ length ids → ((j : ℕ) → j < start → get_or ids j 0 < v) → plain (take start ids) v ≡ 0
+pub none-before : (ids : List ℕ) (start v : ℕ) → start ≤ length ids → ((j : ℕ) → j < start → get_or ids j 0 < v) → plain (take start ids) v ≡ 0
 none-before ids start v le below =
     none-past (take start ids) v v
     (λ i lt.

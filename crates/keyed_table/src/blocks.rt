@@ -1,8 +1,7 @@
 //! Blocks of eight key numbers, and how often a list has each of their numbers.
 
-ghost use Rattle.std.specs.Prelude.{◌≡◌, ◌≢◌, ◌+◌, ◌-◌, ◌*◌, ◌<◌, ◌≤◌, ◌^◌, ℕ, List, IfOk, OnOk, false, true, length, take, slice_index_or};
-ghost use Rattle.std.specs.List.Sorted.{IsNonDecreasing};
-ghost use Rattle.keyed_table.specs.Private.Blocks.{AreBlocksBelow, AreBlocksOf, AreBlocksUpTo, AreTallies, AreWithin, EndsBy};
+ghost use Rattle.std.specs.Prelude.{◌≡◌, ◌+◌, ◌*◌, ◌<◌, ◌≤◌, ◌^◌, ℕ, List, IfOk, OnOk, false, true, length, slice_index_or};
+ghost use Rattle.keyed_table.specs.Private.Blocks.{AreBlocksBelow, AreBlocksOf, AreTallies, AreWithin};
 
 use lane_words::Memory;
 use std::alloc::Global;
@@ -22,31 +21,9 @@ pub struct Blocks {
 }
 
 impl Blocks {
-    /// The blocks of a list. One that is no shorter than the key numbers up to its largest are many
-    /// is counted by a counter for each of them, and any other in the order of its numbers.
-    pub fn of(alloc: Global, ids: &[u32]) -> Result<Blocks, Memory>
-        ensures { IfOk result (λ blocks.
-            AreBlocksOf ids.now blocks.numbers.items blocks.counts.items) }
-    {
-        let bound = bound_of(ids);
-        if BLOCK * bound <= ids.len() {
-            return Blocks::of_tallies(alloc, ids, bound);
-        }
-        Blocks::of_any(alloc, ids)
-    }
-
-    /// The blocks of a list, by way of a sorted copy.
-    fn of_any(alloc: Global, ids: &[u32]) -> Result<Blocks, Memory>
-        ensures { IfOk result (λ blocks.
-            AreBlocksOf ids.now blocks.numbers.items blocks.counts.items) }
-    {
-        let mut sorted = Vec::from_slice(alloc, ids)?;
-        sorted.sort_unstable();
-        Blocks::of_rising(alloc, sorted.as_slice())
-    }
-
-    /// The blocks of a list whose numbers are in the first so many blocks.
-    fn of_tallies(alloc: Global, ids: &[u32], bound: usize) -> Result<Blocks, Memory>
+    /// The blocks of a list whose numbers are in the first so many blocks, by way of a counter for
+    /// each number of these.
+    pub fn of(alloc: Global, ids: &[u32], bound: usize) -> Result<Blocks, Memory>
         requires within { AreWithin bound ids.now }
         requires fit { 8 * bound ≤ 2 ^ 32 }
         ensures { IfOk result (λ blocks.
@@ -80,69 +57,10 @@ impl Blocks {
         self.counts.extend_from_slice(counts)?;
         Ok(())
     }
-
-    /// The blocks of a list whose numbers rise.
-    fn of_rising(alloc: Global, ids: &[u32]) -> Result<Blocks, Memory>
-        requires { IsNonDecreasing ids.now }
-        ensures { IfOk result (λ blocks.
-            AreBlocksOf ids.now blocks.numbers.items blocks.counts.items) }
-    {
-        let most = most_blocks(ids);
-        let mut blocks = Blocks {
-            numbers: Vec::with_capacity(alloc, most)?,
-            counts: Vec::with_capacity(alloc, BLOCK * most)?,
-        };
-        for at in 0..ids.len() {
-            blocks.count(ids, at)?;
-        }
-        Ok(blocks)
-    }
-
-    /// Counts the number at an index of a list whose numbers rise, after those before it.
-    fn count(&mut self, ids: &[u32], at: usize) -> Result<(), Memory>
-        requires rising { IsNonDecreasing ids.now }
-        requires at { at < length ids.now }
-        requires counted { AreBlocksOf (take at ids.now)
-            self.old.numbers.items self.old.counts.items }
-        ensures { OnOk result (AreBlocksOf (take (at + 1) ids.now)
-            self.new.numbers.items self.new.counts.items) }
-    {
-        let id = ids[at] as usize;
-        self.begin(ids[at] / BLOCK as u32)?;
-        let last = self.counts.len() - BLOCK;
-        self.counts[last + id % BLOCK] += 1;
-        Ok(())
-    }
-
-    /// Makes this block the last one, where it is not yet.
-    fn begin(&mut self, block: u32) -> Result<(), Memory>
-        ensures { OnOk result ((ids : List ℕ)
-            → AreBlocksOf ids self.old.numbers.items self.old.counts.items
-            → EndsBy ids block
-            → AreBlocksUpTo block ids self.new.numbers.items self.new.counts.items) }
-    {
-        if ends_in(&self.numbers, block) {
-            return Ok(());
-        }
-        self.numbers.push(block)?;
-        self.counts.extend_from_slice(&[0; BLOCK])?;
-        Ok(())
-    }
-}
-
-/// A bound on the blocks of a list whose numbers rise: it touches no more than it has numbers, and
-/// no more than there are up to its last.
-fn most_blocks(ids: &[u32]) -> usize
-    ensures { 8 * result < 2 ^ 64 }
-{
-    match ids.last() {
-        Some(last) => ids.len().min(*last as usize / BLOCK + 1),
-        None => 0,
-    }
 }
 
 /// How many blocks there are up to the one of the largest number of a list.
-fn bound_of(ids: &[u32]) -> usize
+pub fn bound_of(ids: &[u32]) -> usize
     ensures within { AreWithin result ids.now }
     ensures fit { 8 * result ≤ 2 ^ 32 }
 {
@@ -179,17 +97,4 @@ fn are_zeros(counts: &[u64]) -> bool
         }
     }
     true
-}
-
-/// Whether this is the last of some numbers.
-fn ends_in(numbers: &[u32], last: u32) -> bool
-    ensures yes { result ≡ true → (0 < length numbers.now)
-        × (slice_index_or numbers.now (length numbers.now - 1) 0 ≡ last) }
-    ensures no { result ≡ false → 0 < length numbers.now
-        → slice_index_or numbers.now (length numbers.now - 1) 0 ≢ last }
-{
-    match numbers.last() {
-        Some(number) => *number == last,
-        None => false,
-    }
 }

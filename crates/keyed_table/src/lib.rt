@@ -2,6 +2,8 @@
 #![tactic(auto)]
 
 mod blocks;
+mod by_blocks;
+mod by_number;
 mod partial;
 mod table;
 

@@ -1,35 +1,39 @@
 //! A list of key numbers and its counts.
 
-ghost use Rattle.std.specs.Prelude.{◌≡◌, ◌<◌, ◌≤◌, ◌%◌, IfOk, length};
+ghost use Rattle.std.specs.Prelude.{◌≡◌, ◌%◌, IfOk, length};
 ghost use Rattle.keyed_table.specs.Counts.{HaveCounters, SumsFit, plain, raised};
-ghost use Rattle.keyed_table.specs.Private.Blocks.{AreNeighbours, DoRise};
 
-use crate::blocks::{BLOCK, Blocks};
-use lane_words::{Memory, add_into};
+use crate::blocks::{BLOCK, bound_of};
+use crate::by_blocks::ByBlocks;
+use crate::by_number::ByNumber;
+use lane_words::Memory;
 use std::alloc::Global;
 use std::marker::Model;
 
-/// A list of key numbers, and beside it how often each number is in it, in blocks of eight.
+/// A list with its counts, in one of two forms.
+#[derive(Debug, Drop)]
+enum Counted {
+    /// One that is no shorter than the key numbers up to its largest are many.
+    Blocks(ByBlocks),
+    /// Any other.
+    Numbers(ByNumber),
+}
+
+/// A list of key numbers, and beside it how often each number is in it.
 ///
 /// The counts are always those of the list, whatever the list.
 #[derive(Debug, Drop)]
 pub struct Partial {
-    /// The list, in its own order.
-    ids: Vec<u32>,
-    /// The blocks that it touches.
-    blocks: Blocks,
+    counted: Counted,
 }
 
 impl Model for Partial {
     ghost use Rattle.std.specs.Prelude.{List, ℕ};
-    ghost use Rattle.keyed_table.specs.Private.Blocks.{AreBlocksOf};
+    ghost use Rattle.keyed_table.specs.Private.Partial.{list_of};
 
     ghost Value = { List ℕ };
 
-    ghost view = { λ p. p.ids.items };
-
-    ghost invariant = { λ p.
-        AreBlocksOf p.ids.items p.blocks.numbers.items p.blocks.counts.items };
+    ghost view = { λ p. list_of p.counted };
 }
 
 impl Partial {
@@ -37,24 +41,32 @@ impl Partial {
     pub fn of(alloc: Global, ids: Vec<u32>) -> Result<Partial, Memory>
         ensures { IfOk result (λ partial. partial ≡ ids.items) }
     {
-        let blocks = Blocks::of(alloc, ids.as_slice())?;
-        Ok(Partial { ids, blocks })
+        let bound = bound_of(ids.as_slice());
+        let counted = if BLOCK * bound <= ids.len() {
+            Counted::Blocks(ByBlocks::of(alloc, ids, bound)?)
+        } else {
+            Counted::Numbers(ByNumber::of(alloc, ids)?)
+        };
+        Ok(Partial { counted })
     }
 
     /// The list.
     pub fn ids(&self) -> &[u32]
         ensures { result.now ≡ self.now }
     {
-        self.ids.as_slice()
+        match &self.counted {
+            Counted::Blocks(counted) => counted.ids(),
+            Counted::Numbers(counted) => counted.ids(),
+        }
     }
 
     /// How often a number is in the list: 0 where it is not.
     pub fn get(&self, id: u32) -> u64
         ensures { result ≡ plain self.now id }
     {
-        match self.blocks.numbers.binary_search(&(id / BLOCK as u32)) {
-            Ok(at) => self.blocks.counts[BLOCK * at + id as usize % BLOCK],
-            Err(_) => 0,
+        match &self.counted {
+            Counted::Blocks(counted) => counted.get(id),
+            Counted::Numbers(counted) => counted.get(id),
         }
     }
 
@@ -66,31 +78,9 @@ impl Partial {
         requires fit { SumsFit cells.old self.now }
         ensures { cells.new ≡ raised cells.old self.now }
     {
-        let numbers = self.blocks.numbers.as_slice();
-        let counts = self.blocks.counts.as_slice();
-        let mut start = 0;
-        while start < numbers.len() {
-            let end = run_end(numbers, start);
-            let from = BLOCK * numbers[start] as usize;
-            let to = from + BLOCK * (end - start);
-            add_into(&mut cells[from..to], &counts[BLOCK * start..BLOCK * end]);
-            start = end;
+        match &self.counted {
+            Counted::Blocks(counted) => counted.add_to(cells),
+            Counted::Numbers(counted) => counted.add_to(cells),
         }
     }
-}
-
-/// Where the neighbouring blocks end that begin at an index.
-fn run_end(numbers: &[u32], start: usize) -> usize
-    requires rise { DoRise numbers.now }
-    requires start { start < length numbers.now }
-    ensures after { start < result }
-    ensures within { result ≤ length numbers.now }
-    ensures neighbours { AreNeighbours numbers.now start result }
-{
-    for end in start + 1..numbers.len() {
-        if (numbers[end] - numbers[start]) as usize != end - start {
-            return end;
-        }
-    }
-    numbers.len()
 }

@@ -11,6 +11,10 @@ use std::simd::prelude::*;
 /// How many words are worked on at a time.
 const LANES: usize = 8;
 
+/// How many words of 32 bits are compared at a time: eight vectors of the processor at least, so that
+/// none waits for the one before it.
+const WIDE: usize = 32;
+
 /// Clears in `a` the bits of `b`, which is as long.
 pub fn and_not_into(a: &mut [u64], b: &[u64])
     requires { length a.old ≡ length b.now }
@@ -84,8 +88,23 @@ pub fn equal64(a: &[u64], b: &[u64]) -> bool
     found.reduce_or() == 0 && plain::equal64(&a[at..], &b[at..])
 }
 
-/// Whether both, which are as long, are equal.
+/// Whether both, which are as long, are equal. Their words are compared 32 at a time, and the rest by
+/// eight.
 pub fn equal32(a: &[u32], b: &[u32]) -> bool
+    requires { length a.now ≡ length b.now }
+    ensures { IsTrue result ↔ (a.now ≡ b.now) }
+{
+    let mut found = u32x32::splat(0);
+    let mut at = 0;
+    while at + WIDE <= a.len() {
+        found |= u32x32::from_slice(&a[at..]) ^ u32x32::from_slice(&b[at..]);
+        at += WIDE;
+    }
+    found.reduce_or() == 0 && equal32_by_eight(&a[at..], &b[at..])
+}
+
+/// Whether both, which are as long, are equal.
+fn equal32_by_eight(a: &[u32], b: &[u32]) -> bool
     requires { length a.now ≡ length b.now }
     ensures { IsTrue result ↔ (a.now ≡ b.now) }
 {

@@ -4,7 +4,7 @@ use Rattle.std.proofs.lemmas.Bool.{cases_lt}
 use Rattle.std.proofs.lemmas.List.{get_or_append_left}
 use Rattle.std.proofs.Math.Seq.{get_or-append_seam}
 use Rattle.partition_log.specs.Keys.{Key, distinct, id_of}
-use Rattle.partition_log.specs.Private.Sharded.{AreLocals, AreTables, of_shard, shard_of}
+use Rattle.partition_log.specs.Private.Sharded.{AreLocals, AreTables, of_shard}
 
 -- the next one
 pub drop_next : {X : Type 0} (xs rest : List X) (n : ℕ) (x : X) → drop n xs ≡ x ∷ rest → (n < length xs) × (get_or xs n x ≡ x) × (rest ≡ drop (n + 1) xs)
@@ -23,14 +23,14 @@ drop_last [] (suc n) h e = absurd (omega arith)
 drop_last (y ∷ xs) zero h e = absurd (omega (arith, e))
 drop_last (y ∷ xs) (suc n) h e = ap suc (drop_last xs n (omega arith) e)
 
-pub tables-none : (keys : List Key) → AreTables 0 keys []
-tables-none keys = record { each = refl; are = λ s lt. absurd (omega (arith, lt)) }
+pub tables-none : (shard : Key → ℕ) (keys : List Key) → AreTables shard 0 keys []
+tables-none shard keys = record { each = refl; are = λ s lt. absurd (omega (arith, lt)) }
 
-pub locals-none : (keys : List Key) → AreLocals 0 keys []
-locals-none keys = record { each = refl; are = λ s lt. absurd (omega (arith, lt)) }
+pub locals-none : (shard : Key → ℕ) (keys : List Key) → AreLocals shard 0 keys []
+locals-none shard keys = record { each = refl; are = λ s lt. absurd (omega (arith, lt)) }
 
-pub tables-more : (keys : List Key) (tables : List (List Key)) (n : ℕ) (table : List Key) → AreTables n keys tables → table ≡ distinct (of_shard shard_of n keys) → AreTables (length (tables ++ table ∷ [])) keys (tables ++ table ∷ [])
-tables-more keys tables n table h is =
+pub tables-more : (shard : Key → ℕ) (keys : List Key) (tables : List (List Key)) (n : ℕ) (table : List Key) → AreTables shard n keys tables → table ≡ distinct (of_shard shard n keys) → AreTables shard (length (tables ++ table ∷ [])) keys (tables ++ table ∷ [])
+tables-more shard keys tables n table h is =
     let long : length (tables ++ table ∷ []) ≡ length tables + 1 = length-append tables (table ∷ []) in
     record {
       each = refl;
@@ -39,13 +39,13 @@ tables-more keys tables n table h is =
         | inr new ↦
             let last : s ≡ length tables = omega (arith, long, lt, new) in
             ap (λ i. get_or (tables ++ table ∷ []) i []) last ∙ get_or-append_seam tables table [] [] ∙ is
-            ∙ ap (λ i. distinct (of_shard shard_of i keys)) (sym h.each ∙ sym last)
+            ∙ ap (λ i. distinct (of_shard shard i keys)) (sym h.each ∙ sym last)
       ];
     }
 
-pub locals-more : (keys : List Key) (locals : List (List ℕ)) (n m : ℕ) (more : List ℕ) → m ≡ n + 1 → AreLocals n keys locals → more ≡ map (id_of (distinct (of_shard shard_of n keys))) (of_shard shard_of n keys)
-    → AreLocals m keys (locals ++ more ∷ [])
-locals-more keys locals n m more up h is =
+pub locals-more : (shard : Key → ℕ) (keys : List Key) (locals : List (List ℕ)) (n m : ℕ) (more : List ℕ) → m ≡ n + 1 → AreLocals shard n keys locals → more ≡ map (id_of (distinct (of_shard shard n keys))) (of_shard shard n keys)
+    → AreLocals shard m keys (locals ++ more ∷ [])
+locals-more shard keys locals n m more up h is =
     let long : length (locals ++ more ∷ []) ≡ length locals + 1 = length-append locals (more ∷ []) in
     record {
       each = omega (arith, long, h.each, up);
@@ -54,6 +54,6 @@ locals-more keys locals n m more up h is =
         | inr new ↦
             let last : s ≡ length locals = omega (arith, h.each, lt, up, new) in
             ap (λ i. get_or (locals ++ more ∷ []) i []) last ∙ get_or-append_seam locals more [] [] ∙ is
-            ∙ ap (λ i. map (id_of (distinct (of_shard shard_of i keys))) (of_shard shard_of i keys)) (sym h.each ∙ sym last)
+            ∙ ap (λ i. map (id_of (distinct (of_shard shard i keys))) (of_shard shard i keys)) (sym h.each ∙ sym last)
       ];
     }

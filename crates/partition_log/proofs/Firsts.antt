@@ -78,11 +78,11 @@ new_is_next ks x =
     ]
 
 -- the same in the shard of the key, and for what is known among all keys
-pub first_in_shard : (place : Key → ℕ) (xs ys : List Key) (x : Key)
-    → (id_of (distinct (of_shard place (place x) (xs ++ x ∷ ys))) x ≡ length (distinct (of_shard place (place x) xs))) ↔ (is_known (distinct xs) x ≡ false)
-first_in_shard place xs ys x =
-    let p : Key → Bool = λ k. place k == place x in
-    let px : p x ≡ true = eq-eqb (place x) (place x) refl in
+pub first_in_shard : (shard : Key → ℕ) (xs ys : List Key) (x : Key)
+    → (id_of (distinct (of_shard shard (shard x) (xs ++ x ∷ ys))) x ≡ length (distinct (of_shard shard (shard x) xs))) ↔ (is_known (distinct xs) x ≡ false)
+first_in_shard shard xs ys x =
+    let p : Key → Bool = λ k. shard k == shard x in
+    let px : p x ≡ true = eq-eqb (shard x) (shard x) refl in
     let ends : filter p (x ∷ ys) ≡ x ∷ filter p ys = rw px refl in
     let number : id_of (distinct (filter p (xs ++ x ∷ ys))) x ≡ id_of (distinct (filter p xs)) x =
     ap (λ ks. id_of (distinct ks) x) (filter-append p xs (x ∷ ys) ∙ ap (λ ks. filter p xs ++ ks) ends) ∙ number-there (filter p xs) (filter p ys) x in

@@ -1,83 +1,79 @@
 -- Where the keys stand that a walk over records has met.
-use Rattle.std.proofs.Common.{◌≡◌, ◌∙◌, ◌+◌, ◌<◌, ℕ, Bool, true, false, List, [], ◌∷◌, ◌++◌, length, map, take, drop, get_or, sym, ap, refl, subst, arith, inl, inr, length-append}
+use Rattle.std.proofs.Common.{◌≡◌, ◌∙◌, ◌+◌, ◌<◌, ℕ, Bool, true, false, List, [], ◌∷◌, ◌++◌, length, take, drop, get_or, sym, ap, refl, subst, inl, inr, length-append}
 use Rattle.std.specs.Prelude.{◌==◌, All}
 use Rattle.std.proofs.lemmas.Bool.{cases_Bool, eq-eqb, ne_eqb, both_ways}
-use Rattle.std.proofs.lemmas.List.{get_or-map, length-map, map-append, take-append-drop, drop_more, take_more}
+use Rattle.std.proofs.lemmas.List.{length-map, map-append, take-append-drop, drop_more, take_more}
 use Rattle.std.proofs.lemmas.List.Elements.{All-append, All-cons, All-nil}
 use Rattle.partition_log.specs.Keys.{Key, distinct, is_known, key_at, id_of}
-use Rattle.partition_log.specs.Private.Sharded.{AreGlobal, AreOrdered, AreSplit, is_first, next_after, of_shard, with_first_at}
+use Rattle.partition_log.specs.Private.Sharded.{AreOrdered, is_first, next_after, of_shard, with_first_at}
 use Rattle.partition_log.specs.declared.shards.KeyAt.{KeyAt}
 use Rattle.partition_log.proofs.Growth.{known}
 use Rattle.partition_log.proofs.Filtered.{filter-distinct, known-filter}
 use Rattle.partition_log.proofs.Firsts.{first_in_shard, known-there}
 use Rattle.partition_log.proofs.Walked.{IsWalked, more-known, more-new}
 
-pub ordered-none : (place : Key → ℕ) (all : List Key) (count : ℕ) → AreOrdered place all (distinct []) count []
+pub ordered-none : (shard : Key → ℕ) (all : List Key) (count : ℕ) → AreOrdered shard all (distinct []) count []
 unfolding distinct
-ordered-none place all count = record { named = refl; there = All-nil _ }
+ordered-none shard all count = record { named = refl; there = All-nil _ }
 
 -- a record of a known key changes nothing
-ordered-known : (place : Key → ℕ) (all xs : List Key) (x : Key) (count : ℕ) (order : List KeyAt) → is_known (distinct xs) x ≡ true → AreOrdered place all (distinct xs) count order
-    → AreOrdered place all (distinct (xs ++ x ∷ [])) count order
-ordered-known place all xs x count order e h = subst (λ ks. AreOrdered place all ks count order) (sym (more-known xs x e)) h
+ordered-known : (shard : Key → ℕ) (all xs : List Key) (x : Key) (count : ℕ) (order : List KeyAt) → is_known (distinct xs) x ≡ true → AreOrdered shard all (distinct xs) count order
+    → AreOrdered shard all (distinct (xs ++ x ∷ [])) count order
+ordered-known shard all xs x count order e h = subst (λ ks. AreOrdered shard all ks count order) (sym (more-known xs x e)) h
 
 -- a key that is met first stands at the number of its record
-ordered-new : (place : Key → ℕ) (all xs ys : List Key) (x : Key) (count local : ℕ) (order : List KeyAt) → all ≡ xs ++ x ∷ ys → place x < count
-    → local ≡ id_of (distinct (of_shard place (place x) all)) x → is_known (distinct xs) x ≡ false → AreOrdered place all (distinct xs) count order
-    → AreOrdered place all (distinct (xs ++ x ∷ [])) count (order ++ (record { shard = place x; number = local }) ∷ [])
-ordered-new place all xs ys x count local order is lt at e h =
-    let name : KeyAt → Key = λ where_it. key_at (distinct (of_shard place where_it.shard all)) where_it.number in
-    let here : KeyAt = record { shard = place x; number = local } in
-    let goes : Key → Bool = λ k. place k == place x in
-    let goes_x : goes x ≡ true = eq-eqb (place x) (place x) refl in
-    let own = distinct (of_shard place (place x) all) in
+ordered-new : (shard : Key → ℕ) (all xs ys : List Key) (x : Key) (count local : ℕ) (order : List KeyAt) → all ≡ xs ++ x ∷ ys → shard x < count
+    → local ≡ id_of (distinct (of_shard shard (shard x) all)) x → is_known (distinct xs) x ≡ false → AreOrdered shard all (distinct xs) count order
+    → AreOrdered shard all (distinct (xs ++ x ∷ [])) count (order ++ (record { shard = shard x; number = local }) ∷ [])
+ordered-new shard all xs ys x count local order is lt at e h =
+    let name : KeyAt → Key = λ where_it. key_at (distinct (of_shard shard where_it.shard all)) where_it.number in
+    let here : KeyAt = record { shard = shard x; number = local } in
+    let goes : Key → Bool = λ k. shard k == shard x in
+    let goes_x : goes x ≡ true = eq-eqb (shard x) (shard x) refl in
+    let own = distinct (of_shard shard (shard x) all) in
     let is_there : is_known own x ≡ true =
     ap (λ ks. is_known ks x) (sym (filter-distinct goes all)) ∙ known-filter goes x goes_x (distinct all) ∙ ap (λ ks. is_known (distinct ks) x) is ∙ known-there xs ys x in
     let there = known own x is_there in
     let named_x : name here ≡ x = ap (key_at own) at ∙ there.1 in
     let within : local < length own = rw at there.0 in
-    let stands : KeyAt → Type 0 = λ (where_it : KeyAt). (where_it.shard < count) × (where_it.number < length (distinct (of_shard place where_it.shard all))) in
+    let stands : KeyAt → Type 0 = λ (where_it : KeyAt). (where_it.shard < count) × (where_it.number < length (distinct (of_shard shard where_it.shard all))) in
     let last : All stands (here ∷ []) = All-cons stands here [] (lt, within) (All-nil stands) in record {
       named = map-append name order (here ∷ []) ∙ ap (λ ks. ks ++ name here ∷ []) h.named ∙ ap (λ (k : Key). distinct xs ++ k ∷ []) named_x ∙ sym (more-new xs x e);
       there = All-append stands order (here ∷ []) h.there last;
     }
 
 -- one more record
-ordered-one : (place : Key → ℕ) (all xs ys : List Key) (x : Key) (ids : List (List ℕ)) (next local count : ℕ) (order : List KeyAt) → all ≡ xs ++ x ∷ ys → place x < length ids → place x < count
-    → local ≡ id_of (distinct (of_shard place (place x) all)) x → IsWalked place all xs ids next → AreOrdered place all (distinct xs) count order
-    → AreOrdered place all (distinct (xs ++ x ∷ [])) count (with_first_at order (get_or ids (place x) []) (place x) local)
-ordered-one place all xs ys x ids next local count order is lt below at w h =
-    let old = get_or ids (place x) [] in
-    let long : length old ≡ length (distinct (of_shard place (place x) xs)) =
-    ap length (w.numbers (place x) lt) ∙ length-map (of_shard place (place x) (distinct xs)) (id_of (distinct all)) ∙ ap length (filter-distinct (λ k. place k == place x) xs) in
-    let first = first_in_shard place xs ys x in
-    let here : local ≡ id_of (distinct (of_shard place (place x) (xs ++ x ∷ ys))) x = at ∙ ap (λ ks. id_of (distinct (of_shard place (place x) ks)) x) is in
+ordered-one : (shard : Key → ℕ) (all xs ys : List Key) (x : Key) (ids : List (List ℕ)) (next local count : ℕ) (order : List KeyAt) → all ≡ xs ++ x ∷ ys → shard x < length ids → shard x < count
+    → local ≡ id_of (distinct (of_shard shard (shard x) all)) x → IsWalked shard all xs ids next → AreOrdered shard all (distinct xs) count order
+    → AreOrdered shard all (distinct (xs ++ x ∷ [])) count (with_first_at order (get_or ids (shard x) []) (shard x) local)
+ordered-one shard all xs ys x ids next local count order is lt below at w h =
+    let old = get_or ids (shard x) [] in
+    let long : length old ≡ length (distinct (of_shard shard (shard x) xs)) =
+    ap length (w.numbers (shard x) lt) ∙ length-map (of_shard shard (shard x) (distinct xs)) (id_of (distinct all)) ∙ ap length (filter-distinct (λ k. shard k == shard x) xs) in
+    let first = first_in_shard shard xs ys x in
+    let here : local ≡ id_of (distinct (of_shard shard (shard x) (xs ++ x ∷ ys))) x = at ∙ ap (λ ks. id_of (distinct (of_shard shard (shard x) ks)) x) is in
     elim (cases_Bool (is_known (distinct xs) x)) [
       | inl e ↦
           let test : is_first old local ≡ false = ne_eqb local (length old) (λ same. both_ways (is_known (distinct xs) x) (first.0 (sym here ∙ same ∙ long)) e) in
-          rw test (ordered-known place all xs x count order e h)
+          rw test (ordered-known shard all xs x count order e h)
       | inr e ↦
           let test : is_first old local ≡ true = eq-eqb local (length old) (here ∙ first.1 e ∙ sym long) in
-          rw test (ordered-new place all xs ys x count local order is below at e h)
+          rw test (ordered-new shard all xs ys x count local order is below at e h)
     ]
 
--- record i
-pub ordered-more : (place : Key → ℕ) (keys : List Key) (shards locals : List ℕ) (i : ℕ) (ids : List (List ℕ)) (next count : ℕ) (order : List KeyAt) → AreSplit place keys shards locals → i < length shards
-    → get_or shards i 0 < length ids → get_or shards i 0 < count → IsWalked place keys (take i keys) ids next → AreOrdered place keys (distinct (take i keys)) count order
-    → AreOrdered place keys (distinct (take (i + 1) keys)) count (with_first_at order (get_or ids (get_or shards i 0) []) (get_or shards i 0) (get_or locals i 0))
-ordered-more place keys shards locals i ids next count order split lt below within w h =
+-- record i, of shard s and with this number there
+pub ordered-more : (shard : Key → ℕ) (keys : List Key) (i s local : ℕ) (ids : List (List ℕ)) (next count : ℕ) (order : List KeyAt) → i < length keys → s ≡ shard (get_or keys i [])
+    → s < length ids → s < count → local ≡ id_of (distinct (of_shard shard s keys)) (get_or keys i []) → IsWalked shard keys (take i keys) ids next → AreOrdered shard keys (distinct (take i keys)) count order
+    → AreOrdered shard keys (distinct (take (i + 1) keys)) count (with_first_at order (get_or ids s []) s local)
+ordered-more shard keys i s local ids next count order lt at below within is w h =
     let x = get_or keys i [] in
-    let as_many : length shards ≡ length keys = ap length split.placed ∙ length-map keys place in
-    let i_in : i < length keys = omega (arith, lt, as_many) in
-    let s_is : get_or shards i 0 ≡ place x = ap (λ ss. get_or ss i 0) split.placed ∙ get_or-map place keys i [] 0 i_in in
-    let local_is : get_or locals i 0 ≡ id_of (distinct (of_shard place (place x) keys)) x =
-    ap (λ ls. get_or ls i 0) split.numbered ∙ get_or-map (λ k. id_of (distinct (of_shard place (place k) keys)) k) keys i [] 0 i_in in
-    let seam : keys ≡ take i keys ++ x ∷ drop (i + 1) keys = sym (take-append-drop i keys) ∙ ap (λ ks. take i keys ++ ks) (drop_more keys i [] i_in) in
-    let below_x : place x < length ids = subst (λ s. s < length ids) s_is below in
-    let within_x : place x < count = subst (λ s. s < count) s_is within in
-    subst (λ s. AreOrdered place keys (distinct (take (i + 1) keys)) count (with_first_at order (get_or ids s []) s (get_or locals i 0))) (sym s_is)
-    (subst (λ xs. AreOrdered place keys (distinct xs) count (with_first_at order (get_or ids (place x) []) (place x) (get_or locals i 0))) (sym (take_more keys i [] i_in))
-    (ordered-one place keys (take i keys) (drop (i + 1) keys) x ids next (get_or locals i 0) count order seam below_x within_x local_is w h))
+    let seam : keys ≡ take i keys ++ x ∷ drop (i + 1) keys = sym (take-append-drop i keys) ∙ ap (λ ks. take i keys ++ ks) (drop_more keys i [] lt) in
+    let below_x : shard x < length ids = subst (λ t. t < length ids) at below in
+    let within_x : shard x < count = subst (λ t. t < count) at within in
+    let is_x : local ≡ id_of (distinct (of_shard shard (shard x) keys)) x = is ∙ ap (λ t. id_of (distinct (of_shard shard t keys)) x) at in
+    subst (λ t. AreOrdered shard keys (distinct (take (i + 1) keys)) count (with_first_at order (get_or ids t []) t local)) (sym at)
+    (subst (λ xs. AreOrdered shard keys (distinct xs) count (with_first_at order (get_or ids (shard x) []) (shard x) local)) (sym (take_more keys i [] lt))
+    (ordered-one shard keys (take i keys) (drop (i + 1) keys) x ids next local count order seam below_x within_x is_x w h))
 
 -- as many keys stand somewhere as have numbers
 pub next-ordered : (order : List KeyAt) (ids : List ℕ) (s local : ℕ) → length (with_first_at order ids s local) ≡ next_after ids local (length order)
@@ -86,23 +82,3 @@ next-ordered order ids s local =
       | inl e ↦ rw e (length-append order ((record { shard = s; number = local }) ∷ []))
       | inr e ↦ rw e refl
     ]
-
--- a record's number in its shard is that of a key
-pub local-within : (place : Key → ℕ) (keys : List Key) (shards locals : List ℕ) (ids : List (List ℕ)) (i : ℕ) → AreSplit place keys shards locals → AreGlobal place keys ids → i < length shards
-    → get_or shards i 0 < length ids → get_or locals i 0 < length (get_or ids (get_or shards i 0) [])
-local-within place keys shards locals ids i split all lt below =
-    let x = get_or keys i [] in
-    let as_many : length shards ≡ length keys = ap length split.placed ∙ length-map keys place in
-    let i_in : i < length keys = omega (arith, lt, as_many) in
-    let s_is : get_or shards i 0 ≡ place x = ap (λ ss. get_or ss i 0) split.placed ∙ get_or-map place keys i [] 0 i_in in
-    let local_is : get_or locals i 0 ≡ id_of (distinct (of_shard place (place x) keys)) x =
-    ap (λ ls. get_or ls i 0) split.numbered ∙ get_or-map (λ k. id_of (distinct (of_shard place (place k) keys)) k) keys i [] 0 i_in in
-    let seam : keys ≡ take i keys ++ x ∷ drop (i + 1) keys = sym (take-append-drop i keys) ∙ ap (λ ks. take i keys ++ ks) (drop_more keys i [] i_in) in
-    let goes : Key → Bool = λ k. place k == place x in
-    let own = distinct (of_shard place (place x) keys) in
-    let is_there : is_known own x ≡ true =
-    ap (λ ks. is_known ks x) (sym (filter-distinct goes keys)) ∙ known-filter goes x (eq-eqb (place x) (place x) refl) (distinct keys) ∙ ap (λ ks. is_known (distinct ks) x) seam
-    ∙ known-there (take i keys) (drop (i + 1) keys) x in
-    let row : get_or ids (get_or shards i 0) [] ≡ map (id_of (distinct keys)) own = ap (λ s. get_or ids s []) s_is ∙ all (place x) (subst (λ s. s < length ids) s_is below) in
-    let long : length (get_or ids (get_or shards i 0) []) ≡ length own = ap length row ∙ length-map own (id_of (distinct keys)) in
-    omega (arith, (known own x is_there).0, local_is, long)

@@ -4,80 +4,80 @@ use Rattle.std.specs.Prelude.{if◌then◌else◌, ◌==◌, filter, slice_set}
 use Rattle.std.proofs.Math.ListN.{length-set}
 use Rattle.std.proofs.Math.Seq.{get_or-append_seam}
 use Rattle.std.specs.List.{fold}
+use Rattle.std.specs.declared.hash.RandomState.{RandomState}
 use Rattle.std.proofs.lemmas.Bool.{cases_eq, eq-eqb, ne_eqb}
 use Rattle.std.proofs.lemmas.List.{append-nil, get_or-map, length-map, length-replicate, map-append, take-append-drop, drop_more, take_more, take_all, length-take}
 use Rattle.std.proofs.lemmas.List.Elements.{filter-append}
 use Rattle.partition_log.specs.Keys.{Key, distinct, id_of, with_key}
-use Rattle.partition_log.specs.Private.Sharded.{AreNumberedIn, of_shard, shard_of}
+use Rattle.partition_log.specs.Private.Sharded.{AreNumberedIn, ArePassed, of_shard, shard_of}
 use Rattle.partition_log.specs.Appends.{lent}
 use Rattle.partition_log.specs.declared.shards.TheConstants.{SHARDS}
-use Rattle.partitioner.proofs.Places.{place_of-below}
 use Rattle.partition_log.proofs.Firsts.{number-there}
 use Rattle.partition_log.proofs.Growth.{grows}
 use Rattle.partition_log.proofs.Walked.{one-more}
 
 -- what is numbered of a shard after the first records
-pub record IsNumberedTo (place : Key → ℕ) (s : ℕ) (keys : List Key) (i : ℕ) (table : List Key) (locals : List ℕ) : Type 0 where
-  pub keys_of : table ≡ distinct (of_shard place s (take i keys))
-  pub locals_of : locals ≡ map (id_of (distinct (of_shard place s keys))) (of_shard place s (take i keys))
+pub record IsNumberedTo (shard : Key → ℕ) (s : ℕ) (keys : List Key) (i : ℕ) (table : List Key) (locals : List ℕ) : Type 0 where
+  pub keys_of : table ≡ distinct (of_shard shard s (take i keys))
+  pub locals_of : locals ≡ map (id_of (distinct (of_shard shard s keys))) (of_shard shard s (take i keys))
 
-pub numbered-none : (place : Key → ℕ) (s : ℕ) (keys : List Key) → IsNumberedTo place s keys 0 [] []
+pub numbered-none : (shard : Key → ℕ) (s : ℕ) (keys : List Key) → IsNumberedTo shard s keys 0 [] []
 unfolding distinct
-numbered-none place s keys = record { keys_of = refl; locals_of = refl }
+numbered-none shard s keys = record { keys_of = refl; locals_of = refl }
 
 -- the records of a shard, with one that is not of it
-pub shard-other : (place : Key → ℕ) (s : ℕ) (keys : List Key) (i : ℕ) → i < length keys → place (get_or keys i []) ≢ s → of_shard place s (take (i + 1) keys) ≡ of_shard place s (take i keys)
-shard-other place s keys i lt ne =
-    let test : (place (get_or keys i []) == s) ≡ false = ne_eqb (place (get_or keys i [])) s ne in
-    let none : of_shard place s (get_or keys i [] ∷ []) ≡ [] = rw test refl in
-    ap (of_shard place s) (take_more keys i [] lt) ∙ filter-append (λ k. place k == s) (take i keys) (get_or keys i [] ∷ [])
-    ∙ ap (λ ks. of_shard place s (take i keys) ++ ks) none ∙ append-nil (of_shard place s (take i keys))
+pub shard-other : (shard : Key → ℕ) (s : ℕ) (keys : List Key) (i : ℕ) → i < length keys → shard (get_or keys i []) ≢ s → of_shard shard s (take (i + 1) keys) ≡ of_shard shard s (take i keys)
+shard-other shard s keys i lt ne =
+    let test : (shard (get_or keys i []) == s) ≡ false = ne_eqb (shard (get_or keys i [])) s ne in
+    let none : of_shard shard s (get_or keys i [] ∷ []) ≡ [] = rw test refl in
+    ap (of_shard shard s) (take_more keys i [] lt) ∙ filter-append (λ k. shard k == s) (take i keys) (get_or keys i [] ∷ [])
+    ∙ ap (λ ks. of_shard shard s (take i keys) ++ ks) none ∙ append-nil (of_shard shard s (take i keys))
 
 -- the records of a shard, with one more of it
-pub shard-own : (place : Key → ℕ) (s : ℕ) (keys : List Key) (i : ℕ) → i < length keys → place (get_or keys i []) ≡ s → of_shard place s (take (i + 1) keys) ≡ of_shard place s (take i keys) ++ get_or keys i [] ∷ []
-shard-own place s keys i lt is =
-    let test : (place (get_or keys i []) == s) ≡ true = eq-eqb (place (get_or keys i [])) s is in
-    let one : of_shard place s (get_or keys i [] ∷ []) ≡ get_or keys i [] ∷ [] = rw test refl in
-    ap (of_shard place s) (take_more keys i [] lt) ∙ filter-append (λ k. place k == s) (take i keys) (get_or keys i [] ∷ [])
-    ∙ ap (λ ks. of_shard place s (take i keys) ++ ks) one
+pub shard-own : (shard : Key → ℕ) (s : ℕ) (keys : List Key) (i : ℕ) → i < length keys → shard (get_or keys i []) ≡ s → of_shard shard s (take (i + 1) keys) ≡ of_shard shard s (take i keys) ++ get_or keys i [] ∷ []
+shard-own shard s keys i lt is =
+    let test : (shard (get_or keys i []) == s) ≡ true = eq-eqb (shard (get_or keys i [])) s is in
+    let one : of_shard shard s (get_or keys i [] ∷ []) ≡ get_or keys i [] ∷ [] = rw test refl in
+    ap (of_shard shard s) (take_more keys i [] lt) ∙ filter-append (λ k. shard k == s) (take i keys) (get_or keys i [] ∷ [])
+    ∙ ap (λ ks. of_shard shard s (take i keys) ++ ks) one
 
 -- the records of a shard, parted at one of them
-pub shard-parted : (place : Key → ℕ) (s : ℕ) (keys : List Key) (i : ℕ) → i < length keys → place (get_or keys i []) ≡ s
-    → of_shard place s keys ≡ of_shard place s (take i keys) ++ get_or keys i [] ∷ of_shard place s (drop (i + 1) keys)
-shard-parted place s keys i lt is =
-    let test : (place (get_or keys i []) == s) ≡ true = eq-eqb (place (get_or keys i [])) s is in
+pub shard-parted : (shard : Key → ℕ) (s : ℕ) (keys : List Key) (i : ℕ) → i < length keys → shard (get_or keys i []) ≡ s
+    → of_shard shard s keys ≡ of_shard shard s (take i keys) ++ get_or keys i [] ∷ of_shard shard s (drop (i + 1) keys)
+shard-parted shard s keys i lt is =
+    let test : (shard (get_or keys i []) == s) ≡ true = eq-eqb (shard (get_or keys i [])) s is in
     let seam : keys ≡ take i keys ++ get_or keys i [] ∷ drop (i + 1) keys = sym (take-append-drop i keys) ∙ ap (λ ks. take i keys ++ ks) (drop_more keys i [] lt) in
-    let ends : of_shard place s (get_or keys i [] ∷ drop (i + 1) keys) ≡ get_or keys i [] ∷ of_shard place s (drop (i + 1) keys) = rw test refl in
-    ap (of_shard place s) seam ∙ filter-append (λ k. place k == s) (take i keys) (get_or keys i [] ∷ drop (i + 1) keys)
-    ∙ ap (λ ks. of_shard place s (take i keys) ++ ks) ends
+    let ends : of_shard shard s (get_or keys i [] ∷ drop (i + 1) keys) ≡ get_or keys i [] ∷ of_shard shard s (drop (i + 1) keys) = rw test refl in
+    ap (of_shard shard s) seam ∙ filter-append (λ k. shard k == s) (take i keys) (get_or keys i [] ∷ drop (i + 1) keys)
+    ∙ ap (λ ks. of_shard shard s (take i keys) ++ ks) ends
 
-pub numbered-other : (place : Key → ℕ) (s : ℕ) (keys : List Key) (i : ℕ) (table : List Key) (locals : List ℕ) → i < length keys → place (get_or keys i []) ≢ s
-    → IsNumberedTo place s keys i table locals → IsNumberedTo place s keys (i + 1) table locals
-numbered-other place s keys i table locals lt ne so =
-    let same = shard-other place s keys i lt ne in record {
+pub numbered-other : (shard : Key → ℕ) (s : ℕ) (keys : List Key) (i : ℕ) (table : List Key) (locals : List ℕ) → i < length keys → shard (get_or keys i []) ≢ s
+    → IsNumberedTo shard s keys i table locals → IsNumberedTo shard s keys (i + 1) table locals
+numbered-other shard s keys i table locals lt ne so =
+    let same = shard-other shard s keys i lt ne in record {
       keys_of = so.keys_of ∙ ap distinct (sym same);
-      locals_of = so.locals_of ∙ ap (map (id_of (distinct (of_shard place s keys)))) (sym same);
+      locals_of = so.locals_of ∙ ap (map (id_of (distinct (of_shard shard s keys)))) (sym same);
     }
 
-pub numbered-own : (place : Key → ℕ) (s : ℕ) (keys : List Key) (i : ℕ) (table : List Key) (locals : List ℕ) → i < length keys → place (get_or keys i []) ≡ s
-    → IsNumberedTo place s keys i table locals
-    → IsNumberedTo place s keys (i + 1) (with_key table (get_or keys i [])) (locals ++ id_of table (get_or keys i []) ∷ [])
-numbered-own place s keys i table locals lt is so =
+pub numbered-own : (shard : Key → ℕ) (s : ℕ) (keys : List Key) (i : ℕ) (table : List Key) (locals : List ℕ) → i < length keys → shard (get_or keys i []) ≡ s
+    → IsNumberedTo shard s keys i table locals
+    → IsNumberedTo shard s keys (i + 1) (with_key table (get_or keys i [])) (locals ++ id_of table (get_or keys i []) ∷ [])
+numbered-own shard s keys i table locals lt is so =
     let x = get_or keys i [] in
-    let xs = of_shard place s (take i keys) in
-    let more = shard-own place s keys i lt is in
-    let f = id_of (distinct (of_shard place s keys)) in
+    let xs = of_shard shard s (take i keys) in
+    let more = shard-own shard s keys i lt is in
+    let f = id_of (distinct (of_shard shard s keys)) in
     let number : f x ≡ id_of table x =
-    ap (λ ks. id_of (distinct ks) x) (shard-parted place s keys i lt is) ∙ number-there xs (of_shard place s (drop (i + 1) keys)) x ∙ ap (λ ks. id_of ks x) (sym so.keys_of) in record {
+    ap (λ ks. id_of (distinct ks) x) (shard-parted shard s keys i lt is) ∙ number-there xs (of_shard shard s (drop (i + 1) keys)) x ∙ ap (λ ks. id_of ks x) (sym so.keys_of) in record {
       keys_of = ap (λ ks. with_key ks x) so.keys_of ∙ sym (one-more xs x) ∙ ap distinct (sym more);
       locals_of = ap (λ ls. ls ++ id_of table x ∷ []) so.locals_of ∙ ap (λ n. map f xs ++ n ∷ []) (sym number) ∙ sym (ap (map f) more ∙ map-append f xs (x ∷ []));
     }
 
-pub numbered-all : (s : ℕ) (keys : List Key) (i : ℕ) (table : List Key) (locals : List ℕ) → length keys ≤ i → IsNumberedTo shard_of s keys i table locals → AreNumberedIn s keys table locals
-numbered-all s keys i table locals le so =
+pub numbered-all : (shard : Key → ℕ) (s : ℕ) (keys : List Key) (i : ℕ) (table : List Key) (locals : List ℕ) → length keys ≤ i → IsNumberedTo shard s keys i table locals → AreNumberedIn shard s keys table locals
+numbered-all shard s keys i table locals le so =
     let whole : take i keys ≡ keys = take_all i keys le in (
-      so.keys_of ∙ ap (λ ks. distinct (of_shard shard_of s ks)) whole,
-      so.locals_of ∙ ap (λ ks. map (id_of (distinct (of_shard shard_of s keys))) (of_shard shard_of s ks)) whole,
+      so.keys_of ∙ ap (λ ks. distinct (of_shard shard s ks)) whole,
+      so.locals_of ∙ ap (λ ks. map (id_of (distinct (of_shard shard s keys))) (of_shard shard s ks)) whole,
     )
 
 few-added : (ks zs : List Key) → length (fold with_key ks zs) ≤ length ks + length zs
@@ -98,19 +98,13 @@ few-filtered p [] = omega arith
 few-filtered p (x ∷ keys) = filtered-at (p x) x (filter p keys) keys (few-filtered p keys)
 
 -- there is room for one more
-pub numbered-room : (place : Key → ℕ) (s : ℕ) (keys : List Key) (i : ℕ) (table : List Key) (locals : List ℕ) → i < length keys → IsNumberedTo place s keys i table locals → length table < length keys
-numbered-room place s keys i table locals lt so =
-    let xs = of_shard place s (take i keys) in
-    omega (arith, ap length so.keys_of, few-distinct xs, few-filtered (λ k. place k == s) (take i keys), length-take i keys, lt)
+pub numbered-room : (shard : Key → ℕ) (s : ℕ) (keys : List Key) (i : ℕ) (table : List Key) (locals : List ℕ) → i < length keys → IsNumberedTo shard s keys i table locals → length table < length keys
+numbered-room shard s keys i table locals lt so =
+    let xs = of_shard shard s (take i keys) in
+    omega (arith, ap length so.keys_of, few-distinct xs, few-filtered (λ k. shard k == s) (take i keys), length-take i keys, lt)
 
--- the numbers of the first records in their shards, where so many of each shard have been met
-pub record ArePassed (place : Key → ℕ) (count : ℕ) (keys : List Key) (i : ℕ) (met ordered : List ℕ) : Type 0 where
-  pub each : length met ≡ count
-  pub passed : (s : ℕ) → s < count → get_or met s 0 ≡ length (of_shard place s (take i keys))
-  pub numbered : ordered ≡ map (λ k. id_of (distinct (of_shard place (place k) keys)) k) (take i keys)
-
-pub passed-none : (place : Key → ℕ) (count : ℕ) (keys : List Key) → ArePassed place count keys 0 (replicate count 0) []
-passed-none place count keys = record { each = length-replicate count 0; passed = λ s lt. zero-at count s; numbered = refl }
+pub passed-none : (shard : Key → ℕ) (count : ℕ) (keys : List Key) → ArePassed shard count keys 0 (replicate count 0)
+passed-none shard count keys = record { each = length-replicate count 0; passed = λ s lt. zero-at count s }
   where
     zero-at : (n s : ℕ) → get_or {A = ℕ} (replicate n 0) s 0 ≡ 0
     zero-at zero s = refl
@@ -118,54 +112,60 @@ passed-none place count keys = record { each = length-replicate count 0; passed 
     zero-at (suc n) (suc s) = zero-at n s
 
 -- the number of a record in its shard stands behind those of the records met before
-pub next-local : (place : Key → ℕ) (count : ℕ) (keys : List Key) (i : ℕ) (met ordered locals : List ℕ) (s : ℕ) → i < length keys → s ≡ place (get_or keys i []) → s < count
-    → locals ≡ map (id_of (distinct (of_shard place s keys))) (of_shard place s keys) → ArePassed place count keys i met ordered
-    → (get_or met s 0 < length locals) × (get_or locals (get_or met s 0) 0 ≡ id_of (distinct (of_shard place s keys)) (get_or keys i []))
-next-local place count keys i met ordered locals s lt at below are so =
+pub next-local : (shard : Key → ℕ) (count : ℕ) (keys : List Key) (i : ℕ) (met locals : List ℕ) (s : ℕ) → i < length keys → s ≡ shard (get_or keys i []) → s < count
+    → locals ≡ map (id_of (distinct (of_shard shard s keys))) (of_shard shard s keys) → ArePassed shard count keys i met
+    → (get_or met s 0 < length locals) × (get_or locals (get_or met s 0) 0 ≡ id_of (distinct (of_shard shard s keys)) (get_or keys i []))
+next-local shard count keys i met locals s lt at below are so =
     let x = get_or keys i [] in
-    let xs = of_shard place s (take i keys) in
-    let ys = of_shard place s (drop (i + 1) keys) in
-    let f = id_of (distinct (of_shard place s keys)) in
-    let parted : of_shard place s keys ≡ xs ++ x ∷ ys = shard-parted place s keys i lt (sym at) in
-    let long : length locals ≡ length xs + length (x ∷ ys) = ap length are ∙ length-map (of_shard place s keys) f ∙ ap length parted ∙ length-append xs (x ∷ ys) in
+    let xs = of_shard shard s (take i keys) in
+    let ys = of_shard shard s (drop (i + 1) keys) in
+    let f = id_of (distinct (of_shard shard s keys)) in
+    let parted : of_shard shard s keys ≡ xs ++ x ∷ ys = shard-parted shard s keys i lt (sym at) in
+    let long : length locals ≡ length xs + length (x ∷ ys) = ap length are ∙ length-map (of_shard shard s keys) f ∙ ap length parted ∙ length-append xs (x ∷ ys) in
     let here : get_or met s 0 ≡ length xs = so.passed s below in
     let within : get_or met s 0 < length locals = omega (arith, long, here) in
-    let within_all : get_or met s 0 < length (of_shard place s keys) = omega (arith, within, ap length are, length-map (of_shard place s keys) f) in (
+    let within_all : get_or met s 0 < length (of_shard shard s keys) = omega (arith, within, ap length are, length-map (of_shard shard s keys) f) in (
       within,
-      ap (λ ls. get_or ls (get_or met s 0) 0) are ∙ get_or-map f (of_shard place s keys) (get_or met s 0) [] 0 within_all
+      ap (λ ls. get_or ls (get_or met s 0) 0) are ∙ get_or-map f (of_shard shard s keys) (get_or met s 0) [] 0 within_all
           ∙ ap f (ap (λ ks. get_or ks (get_or met s 0) []) parted ∙ ap (λ n. get_or (xs ++ x ∷ ys) n []) here ∙ get_or-append_seam xs x ys []),
     )
 
-pub passed-more : (place : Key → ℕ) (count : ℕ) (keys : List Key) (i : ℕ) (met ordered : List ℕ) (s local : ℕ) → i < length keys → s ≡ place (get_or keys i []) → s < count
-    → local ≡ id_of (distinct (of_shard place s keys)) (get_or keys i []) → ArePassed place count keys i met ordered
-    → ArePassed place count keys (i + 1) (slice_set met s (get_or met s 0 + 1)) (ordered ++ local ∷ [])
-passed-more place count keys i met ordered s local lt at below is so =
-    let x = get_or keys i [] in
-    let f : Key → ℕ = λ k. id_of (distinct (of_shard place (place k) keys)) k in record {
+pub passed-more : (shard : Key → ℕ) (count : ℕ) (keys : List Key) (i : ℕ) (met : List ℕ) (s : ℕ) → i < length keys → s ≡ shard (get_or keys i []) → s < count → ArePassed shard count keys i met
+    → ArePassed shard count keys (i + 1) (slice_set met s (get_or met s 0 + 1))
+passed-more shard count keys i met s lt at below so =
+    let x = get_or keys i [] in record {
       each = length-set met s (get_or met s 0 + 1) ∙ so.each;
       passed = λ t t_in. elim (cases_eq s t) [
         | inl same ↦
-            let own = shard-own place s keys i lt (sym at) in
-            let more : length (of_shard place s (take (i + 1) keys)) ≡ length (of_shard place s (take i keys)) + 1 = ap length own ∙ length-append (of_shard place s (take i keys)) (x ∷ []) in
+            let own = shard-own shard s keys i lt (sym at) in
+            let more : length (of_shard shard s (take (i + 1) keys)) ≡ length (of_shard shard s (take i keys)) + 1 = ap length own ∙ length-append (of_shard shard s (take i keys)) (x ∷ []) in
             let set : get_or (slice_set met s (get_or met s 0 + 1)) s 0 ≡ get_or met s 0 + 1 = get_or-set_same met s (get_or met s 0 + 1) 0 (omega (arith, below, so.each)) in
-            subst (λ u. get_or (slice_set met s (get_or met s 0 + 1)) u 0 ≡ length (of_shard place u (take (i + 1) keys))) same
+            subst (λ u. get_or (slice_set met s (get_or met s 0 + 1)) u 0 ≡ length (of_shard shard u (take (i + 1) keys))) same
             (omega (arith, more, set, so.passed s below))
         | inr ne ↦
-            let other = shard-other place t keys i lt (λ e. ne (at ∙ e)) in
+            let other = shard-other shard t keys i lt (λ e. ne (at ∙ e)) in
             get_or-set_other met s t (get_or met s 0 + 1) 0 (λ e. ne (sym e)) ∙ so.passed t t_in ∙ ap length (sym other)
       ];
-      numbered = ap (λ ns. ns ++ local ∷ []) so.numbered ∙ ap (λ n. map f (take i keys) ++ n ∷ []) (is ∙ ap (λ t. id_of (distinct (of_shard place t keys)) x) at)
-          ∙ sym (ap (map f) (take_more keys i [] lt) ∙ map-append f (take i keys) (x ∷ []));
     }
 
--- the shard of record i
-pub shard-at : (place : Key → ℕ) (keys : List Key) (shards : List ℕ) (i : ℕ) → shards ≡ map place keys → i < length keys → get_or shards i 0 ≡ place (get_or keys i [])
-shard-at place keys shards i are lt = ap (λ ss. get_or ss i 0) are ∙ get_or-map place keys i [] 0 lt
+-- no more records of a shard are met than there are
+pub passed-few : (shard : Key → ℕ) (count : ℕ) (keys : List Key) (i : ℕ) (met : List ℕ) (s : ℕ) → s < count → i ≤ length keys → ArePassed shard count keys i met → get_or met s 0 ≤ i
+passed-few shard count keys i met s below le so =
+    omega (arith, so.passed s below, few-filtered (λ k. shard k == s) (take i keys), length-take i keys, le)
 
-pub shard-below : (keys : List Key) (shards : List ℕ) (i : ℕ) → shards ≡ map shard_of keys → i < length keys → get_or shards i 0 < SHARDS
-shard-below keys shards i are lt =
-    let below = place_of-below SHARDS (get_or keys i []) (omega arith) in
-    let at = shard-at shard_of keys shards i are lt in
+-- the shard of record i
+pub shard-at : (shard : Key → ℕ) (keys : List Key) (shards : List ℕ) (i : ℕ) → shards ≡ map shard keys → i < length keys → get_or shards i 0 ≡ shard (get_or keys i [])
+shard-at shard keys shards i are lt = ap (λ ss. get_or ss i 0) are ∙ get_or-map shard keys i [] 0 lt
+
+-- a shard is one of so many
+pub shard_of-below : (hasher : RandomState) (key : Key) → shard_of hasher key < SHARDS
+unfolding shard_of
+shard_of-below hasher key = omega arith
+
+pub shard-below : (hasher : RandomState) (keys : List Key) (shards : List ℕ) (i : ℕ) → shards ≡ map (shard_of hasher) keys → i < length keys → get_or shards i 0 < SHARDS
+shard-below hasher keys shards i are lt =
+    let below = shard_of-below hasher (get_or keys i []) in
+    let at = shard-at (shard_of hasher) keys shards i are lt in
     rw at below
 
 -- a borrowed key
@@ -175,7 +175,7 @@ lent-key keys i d lt = get_or-map (λ (key : Bor (List ℕ)). key.now) keys i d 
 pub lent-long : (keys : List (Bor (List ℕ))) → length (lent keys) ≡ length keys
 lent-long keys = length-map keys (λ (key : Bor (List ℕ)). key.now)
 
--- the places of borrowed keys
+-- what a function of keys gives of borrowed keys
 pub lent-placed : (place : Key → ℕ) (keys : List (Bor (List ℕ))) → map (λ (key : Bor (List ℕ)). place key.now) keys ≡ map place (lent keys)
 lent-placed place [] = refl
 lent-placed place (key ∷ keys) = ap (λ ps. place key.now ∷ ps) (lent-placed place keys)

@@ -50,7 +50,7 @@ impl KeyIds {
         Ok(KeyIds {
             alloc,
             hasher,
-            shards: Shards::none(alloc),
+            shards: Shards::none(alloc, hasher),
             table: KeyTable::new(alloc, hasher),
         })
     }

@@ -2,19 +2,18 @@
 
 ghost use Rattle.std.specs.Prelude.{◌≡◌, ◌≤◌, ◌<◌, ◌+◌, ℕ, [], List, IfOk, OnOk, length, map, replicate, slice_index_or, slice_set, vec_items, vec_len};
 ghost use Rattle.partition_log.specs.Keys.{Key, distinct, id_of};
-ghost use Rattle.partition_log.specs.Private.Sharded.{AreGlobal, AreLocals, AreNumberedIn, AreOrdered, AreReadFrom, AreReadable, AreSplit, AreTables, is_first, shard_of, with_first, with_first_at};
+ghost use Rattle.partition_log.specs.Private.Sharded.{AreFrom, AreGlobal, AreLocals, AreNumberedIn, AreOrdered, ArePassed, AreReadable, AreTables, is_first, shard_of, with_first, with_first_at};
 ghost use Rattle.partition_log.specs.Appends.{lent};
 
 use crate::key_table::KeyTable;
-use crate::shards::{KeyAt, SHARDS};
+use crate::shards::{KeyAt, SHARDS, shard_of};
 use lane_words::{MOST_RECORDS, Memory};
-use partitioner::Partitions;
 use std::alloc::Global;
 use std::hash::RandomState;
 use std::thread;
 use std::thread::Threads;
 
-/// In how many pieces the key numbers of all records are read.
+/// In how many pieces the shards and the key numbers of all records are found.
 const PIECES: usize = 8;
 
 /// Keys that are numbered.
@@ -38,19 +37,21 @@ pub fn number_keys<R: Threads + Sync>(
     keys: &[&[u8]],
 ) -> Result<NumberedKeys, Memory>
     requires { length keys.now ≤ MOST_RECORDS }
-    ensures tables { IfOk result (λ n. AreTables SHARDS (lent keys.now) n.tables.items) }
+    ensures tables { IfOk result (λ n.
+        AreTables (shard_of hasher) SHARDS (lent keys.now) n.tables.items) }
     ensures ids_each { IfOk result (λ n. vec_len n.ids ≡ SHARDS) }
     ensures ids { IfOk result (λ n.
-        AreGlobal shard_of (lent keys.now) (map vec_items n.ids.items)) }
-    ensures order { IfOk result (λ n. AreOrdered shard_of (lent keys.now)
+        AreGlobal (shard_of hasher) (lent keys.now) (map vec_items n.ids.items)) }
+    ensures order { IfOk result (λ n. AreOrdered (shard_of hasher) (lent keys.now)
         (distinct (lent keys.now)) SHARDS n.order.items) }
     ensures numbers { IfOk result (λ n. n.numbers.items
         ≡ map (id_of (distinct (lent keys.now))) (lent keys.now)) }
 {
-    let shards = Partitions::new(SHARDS).place_all(rt, alloc, keys)?;
-    let (tables, locals) = split(rt, alloc, hasher, keys, &shards)?;
-    let (ids, order) = walk(alloc, keys, &shards, &locals)?;
-    let numbers = key_numbers(rt, alloc, keys, &shards, &locals, &ids)?;
+    let shards = shards_of(rt, alloc, hasher, keys)?;
+    let found = number_shards(rt, alloc, hasher, keys, &shards)?;
+    let (tables, locals) = tables_of(alloc, hasher, keys, found)?;
+    let (ids, order) = walk(alloc, hasher, keys, &shards, &locals)?;
+    let numbers = key_numbers(rt, alloc, hasher, keys, &shards, &locals, &ids)?;
     Ok(NumberedKeys {
         tables,
         ids,
@@ -59,25 +60,45 @@ pub fn number_keys<R: Threads + Sync>(
     })
 }
 
-/// The keys of each shard, and of each record the number of its key in its shard.
-fn split<R: Threads + Sync>(
+/// The shard of each of some keys, in their order, by pieces side by side.
+fn shards_of<R: Threads + Sync>(
     rt: &R,
     alloc: Global,
     hasher: RandomState,
     keys: &[&[u8]],
-    shards: &[u32],
-) -> Result<(Vec<KeyTable>, Vec<u32>), Memory>
-    requires few { length keys.now ≤ MOST_RECORDS }
-    requires as_many { length shards.now ≡ length keys.now }
-    requires shards { shards.now ≡ map shard_of (lent keys.now) }
-    ensures tables { IfOk result (λ r. AreTables SHARDS (lent keys.now) r.0.items) }
-    ensures locals { IfOk result (λ r.
-        AreSplit shard_of (lent keys.now) shards.now r.1.items) }
+) -> Result<Vec<u8>, Memory>
+    ensures { IfOk result (λ shards. shards.items ≡ map (shard_of hasher) (lent keys.now)) }
 {
-    let found = number_shards(rt, alloc, hasher, keys, shards)?;
-    let (tables, locals) = tables_of(alloc, keys, found)?;
-    let locals = locals_in_order(alloc, keys, shards, &locals)?;
-    Ok((tables, locals))
+    let mut shards = vec![in alloc; 0; keys.len()]?;
+    fill_pieces(rt, hasher, keys, &mut shards);
+    Ok(shards)
+}
+
+/// The shards of keys, by pieces side by side.
+fn fill_pieces<R: Threads + Sync>(rt: &R, hasher: RandomState, keys: &[&[u8]], shards: &mut [u8])
+    requires { length shards.old ≡ length keys.now }
+    ensures { shards.new ≡ map (shard_of hasher) (lent keys.now) }
+{
+    thread::for_each_chunk_mut(
+        rt,
+        shards,
+        keys.len() / PIECES + 1,
+        &|from: usize, piece: &mut [u8]|
+            requires { from + length piece.now ≤ length keys.now }
+            ensures { AreFrom (shard_of hasher) (lent keys.entry.now) from
+                (length piece.entry.now) piece.exit.now }
+        { fill_piece(from, hasher, keys, piece) },
+    );
+}
+
+/// The shards of the keys from this index on, as many as these are.
+fn fill_piece(from: usize, hasher: RandomState, keys: &[&[u8]], shards: &mut [u8])
+    requires { from + length shards.old ≤ length keys.now }
+    ensures { AreFrom (shard_of hasher) (lent keys.now) from (length shards.old) shards.new }
+{
+    for k in 0..shards.len() {
+        shards[k] = shard_of(hasher, keys[from + k]);
+    }
 }
 
 /// A shard, numbered.
@@ -94,13 +115,14 @@ fn number_shard(
     alloc: Global,
     hasher: RandomState,
     keys: &[&[u8]],
-    shards: &[u32],
-    shard: u32,
+    shards: &[u8],
+    shard: u8,
 ) -> Result<NumberedShard, Memory>
     requires few { length keys.now ≤ MOST_RECORDS }
     requires as_many { length shards.now ≡ length keys.now }
-    requires shards { shards.now ≡ map shard_of (lent keys.now) }
-    ensures { IfOk result (λ n. AreNumberedIn shard (lent keys.now) n.table n.locals.items) }
+    requires shards { shards.now ≡ map (shard_of hasher) (lent keys.now) }
+    ensures { IfOk result (λ n.
+        AreNumberedIn (shard_of hasher) shard (lent keys.now) n.table n.locals.items) }
 {
     let mut table = KeyTable::new(alloc, hasher);
     let mut locals = Vec::new(alloc);
@@ -118,21 +140,21 @@ fn number_shards<R: Threads + Sync>(
     alloc: Global,
     hasher: RandomState,
     keys: &[&[u8]],
-    shards: &[u32],
+    shards: &[u8],
 ) -> Result<Vec<Result<NumberedShard, Memory>>, Memory>
     requires few { length keys.now ≤ MOST_RECORDS }
     requires as_many { length shards.now ≡ length keys.now }
-    requires shards { shards.now ≡ map shard_of (lent keys.now) }
+    requires shards { shards.now ≡ map (shard_of hasher) (lent keys.now) }
     ensures len { IfOk result (λ found. vec_len found ≡ SHARDS) }
     ensures found { IfOk result (λ found. (s : ℕ) (d : _) → s < SHARDS
         → IfOk (slice_index_or found.items s d)
-        (λ n. AreNumberedIn s (lent keys.now) n.table n.locals.items)) }
+        (λ n. AreNumberedIn (shard_of hasher) s (lent keys.now) n.table n.locals.items)) }
 {
     let numbered = thread::map_indices(
         rt,
         alloc,
         SHARDS as usize,
-        &|s| number_shard(alloc, hasher, keys, shards, s as u32),
+        &|s| number_shard(alloc, hasher, keys, shards, s as u8),
     )?;
     Ok(numbered)
 }
@@ -140,14 +162,16 @@ fn number_shards<R: Threads + Sync>(
 /// The keys of each shard, and the numbers in it of its records.
 fn tables_of(
     alloc: Global,
+    hasher: RandomState,
     keys: &[&[u8]],
     found: Vec<Result<NumberedShard, Memory>>,
 ) -> Result<(Vec<KeyTable>, Vec<Vec<u32>>), Memory>
     requires found { (s : ℕ) (d : _) → s < vec_len found → IfOk (slice_index_or found.items s d)
-        (λ n. AreNumberedIn s (lent keys.now) n.table n.locals.items) }
-    ensures tables { IfOk result (λ r. AreTables (vec_len found) (lent keys.now) r.0.items) }
+        (λ n. AreNumberedIn (shard_of hasher) s (lent keys.now) n.table n.locals.items) }
+    ensures tables { IfOk result (λ r.
+        AreTables (shard_of hasher) (vec_len found) (lent keys.now) r.0.items) }
     ensures locals { IfOk result (λ r.
-        AreLocals (vec_len found) (lent keys.now) (map vec_items r.1.items)) }
+        AreLocals (shard_of hasher) (vec_len found) (lent keys.now) (map vec_items r.1.items)) }
 {
     let mut tables = Vec::with_capacity(alloc, found.len())?;
     let mut locals = Vec::with_capacity(alloc, found.len())?;
@@ -159,33 +183,11 @@ fn tables_of(
     Ok((tables, locals))
 }
 
-/// Of each record, in order, the number of its key in its shard, from those of each shard.
-fn locals_in_order(
-    alloc: Global,
-    keys: &[&[u8]],
-    shards: &[u32],
-    locals: &[Vec<u32>],
-) -> Result<Vec<u32>, Memory>
-    requires as_many { length shards.now ≡ length keys.now }
-    requires shards { shards.now ≡ map shard_of (lent keys.now) }
-    requires locals { AreLocals SHARDS (lent keys.now) (map vec_items locals.now) }
-    ensures { IfOk result (λ ordered. AreSplit shard_of (lent keys.now) shards.now ordered.items) }
-{
-    let mut ordered = Vec::with_capacity(alloc, keys.len())?;
-    let mut met = [0; SHARDS as usize];
-    for i in 0..keys.len() {
-        let shard = shards[i] as usize;
-        ordered.push(locals[shard][met[shard]])?;
-        met[shard] += 1;
-    }
-    Ok(ordered)
-}
-
 /// Takes one more record of a shard: where it is the first of its key, the key gets the next number.
 fn number_record(
     ids: &mut Vec<Vec<u32>>,
     order: &mut Vec<KeyAt>,
-    shard: u32,
+    shard: u8,
     local: u32,
 ) -> Result<(), Memory>
     requires shard { shard < vec_len ids.old }
@@ -222,23 +224,29 @@ fn push_first(ids: &mut Vec<u32>, local: u32, next: u32) -> Result<bool, Memory>
 /// The key numbers of each shard, and where each key stands.
 fn walk(
     alloc: Global,
+    hasher: RandomState,
     keys: &[&[u8]],
-    shards: &[u32],
-    locals: &[u32],
+    shards: &[u8],
+    locals: &[Vec<u32>],
 ) -> Result<(Vec<Vec<u32>>, Vec<KeyAt>), Memory>
     requires few { length keys.now ≤ MOST_RECORDS }
-    requires shards { length shards.now ≡ length keys.now }
-    requires locals { length locals.now ≡ length keys.now }
-    requires split { AreSplit shard_of (lent keys.now) shards.now locals.now }
+    requires as_many { length shards.now ≡ length keys.now }
+    requires shards { shards.now ≡ map (shard_of hasher) (lent keys.now) }
+    requires locals { AreLocals (shard_of hasher) SHARDS (lent keys.now) (map vec_items locals.now) }
     ensures len { IfOk result (λ w. vec_len w.0 ≡ SHARDS) }
-    ensures ids { IfOk result (λ w. AreGlobal shard_of (lent keys.now) (map vec_items w.0.items)) }
-    ensures order { IfOk result (λ w. AreOrdered shard_of (lent keys.now)
+    ensures ids { IfOk result (λ w.
+        AreGlobal (shard_of hasher) (lent keys.now) (map vec_items w.0.items)) }
+    ensures order { IfOk result (λ w. AreOrdered (shard_of hasher) (lent keys.now)
         (distinct (lent keys.now)) SHARDS w.1.items) }
 {
     let mut ids = no_ids(alloc)?;
     let mut order = Vec::new(alloc);
+    let mut met = [0; SHARDS as usize];
     for i in 0..keys.len() {
-        number_record(&mut ids, &mut order, shards[i], locals[i])?;
+        let shard = shards[i] as usize;
+        let local = locals[shard][met[shard]];
+        met[shard] += 1;
+        number_record(&mut ids, &mut order, shards[i], local)?;
     }
     Ok((ids, order))
 }
@@ -258,31 +266,35 @@ fn no_ids(alloc: Global) -> Result<Vec<Vec<u32>>, Memory>
 fn key_numbers<R: Threads + Sync>(
     rt: &R,
     alloc: Global,
+    hasher: RandomState,
     keys: &[&[u8]],
-    shards: &[u32],
-    locals: &[u32],
+    shards: &[u8],
+    locals: &[Vec<u32>],
     ids: &[Vec<u32>],
 ) -> Result<Vec<u32>, Memory>
-    requires { AreReadable (lent keys.now) shards.now locals.now (map vec_items ids.now) }
+    requires { AreReadable (shard_of hasher) (lent keys.now) shards.now
+        (map vec_items locals.now) (map vec_items ids.now) }
     ensures { IfOk result (λ numbers. numbers.items
         ≡ map (id_of (distinct (lent keys.now))) (lent keys.now)) }
 {
     let mut numbers = vec![in alloc; 0; keys.len()]?;
-    read_pieces(rt, keys, shards, locals, ids, &mut numbers);
+    read_pieces(rt, hasher, keys, shards, locals, ids, &mut numbers);
     Ok(numbers)
 }
 
 /// The key numbers of the records, by pieces side by side.
 fn read_pieces<R: Threads + Sync>(
     rt: &R,
+    hasher: RandomState,
     keys: &[&[u8]],
-    shards: &[u32],
-    locals: &[u32],
+    shards: &[u8],
+    locals: &[Vec<u32>],
     ids: &[Vec<u32>],
     numbers: &mut [u32],
 )
     requires length { length numbers.old ≡ length keys.now }
-    requires readable { AreReadable (lent keys.now) shards.now locals.now (map vec_items ids.now) }
+    requires readable { AreReadable (shard_of hasher) (lent keys.now) shards.now
+        (map vec_items locals.now) (map vec_items ids.now) }
     ensures { numbers.new ≡ map (id_of (distinct (lent keys.now))) (lent keys.now) }
 {
     thread::for_each_chunk_mut(
@@ -291,28 +303,53 @@ fn read_pieces<R: Threads + Sync>(
         keys.len() / PIECES + 1,
         &|from: usize, piece: &mut [u32]|
             requires { (from + length piece.now ≤ length keys.now)
-                × AreReadable (lent keys.now) shards.now locals.now (map vec_items ids.now) }
-            ensures { AreReadFrom (lent keys.entry.now) from (length piece.entry.now)
-                piece.exit.now }
-        { read_numbers(from, keys, shards, locals, ids, piece) },
+                × AreReadable (shard_of hasher) (lent keys.now) shards.now
+                (map vec_items locals.now) (map vec_items ids.now) }
+            ensures { AreFrom (id_of (distinct (lent keys.entry.now))) (lent keys.entry.now) from
+                (length piece.entry.now) piece.exit.now }
+        { read_numbers(from, hasher, keys, shards, locals, ids, piece) },
     );
 }
 
 /// The key numbers of the records from this index on, as many as these are.
 fn read_numbers(
     from: usize,
+    hasher: RandomState,
     keys: &[&[u8]],
-    shards: &[u32],
-    locals: &[u32],
+    shards: &[u8],
+    locals: &[Vec<u32>],
     ids: &[Vec<u32>],
     numbers: &mut [u32],
 )
     requires range { from + length numbers.old ≤ length keys.now }
-    requires readable { AreReadable (lent keys.now) shards.now locals.now (map vec_items ids.now) }
-    ensures { AreReadFrom (lent keys.now) from (length numbers.old) numbers.new }
+    requires readable { AreReadable (shard_of hasher) (lent keys.now) shards.now
+        (map vec_items locals.now) (map vec_items ids.now) }
+    ensures { AreFrom (id_of (distinct (lent keys.now))) (lent keys.now) from
+        (length numbers.old) numbers.new }
 {
+    let mut met = met_before(from, hasher, keys, shards);
     for k in 0..numbers.len() {
-        let i = from + k;
-        numbers[k] = ids[shards[i] as usize][locals[i] as usize];
+        let shard = shards[from + k] as usize;
+        let local = locals[shard][met[shard]];
+        met[shard] += 1;
+        numbers[k] = ids[shard][local as usize];
     }
+}
+
+/// How many records each shard has before this index.
+fn met_before(
+    from: usize,
+    hasher: RandomState,
+    keys: &[&[u8]],
+    shards: &[u8],
+) -> [usize; SHARDS as usize]
+    requires range { from ≤ length keys.now }
+    requires shards { shards.now ≡ map (shard_of hasher) (lent keys.now) }
+    ensures { ArePassed (shard_of hasher) SHARDS (lent keys.now) from result }
+{
+    let mut met = [0; SHARDS as usize];
+    for i in 0..from {
+        met[shards[i] as usize] += 1;
+    }
+    met
 }

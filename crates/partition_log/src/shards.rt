@@ -2,7 +2,7 @@
 
 ghost use Rattle.std.specs.Prelude.{◌≡◌, ◌<◌, ◌≤◌, [], IfOk, IfSome, IfNone, IsOk, length, map, slice_index_or, vec_items, vec_len, true, false};
 ghost use Rattle.partition_log.specs.Private.Appends.{IsIdOf};
-ghost use Rattle.partition_log.specs.Private.Sharded.{AreShards, key_there};
+ghost use Rattle.partition_log.specs.Private.Sharded.{AreShards, key_there, shard_of};
 ghost use Rattle.partition_log.specs.Appends.{lent};
 ghost use Rattle.partition_log.specs.Keys.{distinct, id_of, is_known, key_at};
 
@@ -10,28 +10,42 @@ use crate::key_table::KeyTable;
 use crate::numbering::number_keys;
 use crate::stored_key::LONGEST_INLINE;
 use lane_words::{MOST_RECORDS, Memory};
-use partitioner::Partitions;
 use std::alloc::Global;
-use std::hash::RandomState;
+use std::hash::{BuildHasher, Hasher, RandomState};
 use std::marker::Model;
 use std::thread::Threads;
 
 /// How many shards there are.
-pub const SHARDS: u32 = 8;
+pub const SHARDS: u8 = 8;
+
+/// The shard of a key, from its keyed hash: who chooses the keys can't choose their shards.
+///
+/// It is the hash by which the shard's own table finds the key, of which the table folds one half
+/// into the other: so keys of one shard lie all over its table.
+#[tactic(auto, unfolding(crate::specs::Private::Sharded::shard_of))]
+pub fn shard_of(hasher: RandomState, key: &[u8]) -> u8
+    ensures shard { result ≡ shard_of hasher key.now }
+    ensures within { result < SHARDS }
+{
+    let mut state = hasher.build_hasher();
+    state.write(key);
+    (state.finish() % u64::from(SHARDS)) as u8
+}
 
 /// Where a key stands.
 #[derive(Clone, Copy, Debug)]
 pub struct KeyAt {
     /// Its shard.
-    pub shard: u32,
+    pub shard: u8,
     /// Its number in the shard.
     pub number: u32,
 }
 
-/// Keys by their numbers, to which none is added. The shard of a key is the place that it has among
-/// as many partitions: each is a table with numbers of its own.
+/// Keys by their numbers, to which none is added. Each shard is a table with numbers of its own.
 #[derive(Debug, Drop)]
 pub struct Shards {
+    /// What the keys are hashed by, for their shards too.
+    hasher: RandomState,
     /// Of each shard its keys.
     tables: Vec<KeyTable>,
     /// Of each shard the key numbers of its keys, by their numbers in the shard.
@@ -42,22 +56,24 @@ pub struct Shards {
 
 impl Model for Shards {
     ghost use Rattle.std.specs.Prelude.{List, ℕ, map, vec_items};
-    ghost use Rattle.partition_log.specs.Private.Sharded.{AreShards, key_there};
+    ghost use Rattle.partition_log.specs.Private.Sharded.{AreShards, key_there, shard_of};
 
     ghost Value = { List (List ℕ) };
 
     ghost view = { λ k. map (key_there k.tables.items) k.order.items };
 
-    ghost invariant = { λ k. AreShards (map (key_there k.tables.items) k.order.items)
-        k.tables.items (map vec_items k.ids.items) k.order.items };
+    ghost invariant = { λ k. AreShards (shard_of k.hasher)
+        (map (key_there k.tables.items) k.order.items) k.tables.items (map vec_items k.ids.items)
+        k.order.items };
 }
 
 impl Shards {
     /// No keys.
-    pub fn none(alloc: Global) -> Shards
+    pub fn none(alloc: Global, hasher: RandomState) -> Shards
         ensures { result ≡ [] }
     {
         Shards {
+            hasher,
             tables: Vec::new(alloc),
             ids: Vec::new(alloc),
             order: Vec::new(alloc),
@@ -82,6 +98,7 @@ impl Shards {
     {
         let numbered = number_keys(rt, alloc, hasher, keys)?;
         let shards = Shards {
+            hasher,
             tables: numbered.tables,
             ids: numbered.ids,
             order: numbered.order,
@@ -116,7 +133,7 @@ impl Shards {
         if self.order.is_empty() {
             return Ok(None);
         }
-        let shard = Partitions::new(SHARDS).place(key) as usize;
+        let shard = shard_of(self.hasher, key) as usize;
         let Some(local) = find_in_shard(&mut self.tables, shard, key)? else {
             return Ok(None);
         };

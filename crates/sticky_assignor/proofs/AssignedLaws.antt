@@ -5,13 +5,14 @@ use Rattle.bit_planes.specs.PartitionSet.{PartitionSet, partitions_of}
 use Rattle.bit_planes.specs.SetRows.{SetRows, members, find_row, set_or_empty, sets_of, IsRising, AreOver, IsValidRows}
 use Rattle.bit_planes.proofs.Sets.{partitions_empty}
 use Rattle.sticky_assignor.specs.Balanced.{AreApart, AreBelow, IsBalanced}
-use Rattle.sticky_assignor.specs.Private.Filling.{quotas, keeping, free_of, gaps, filled}
+use Rattle.sticky_assignor.specs.Private.Filling.{quotas, quotas_by, sizes, keeping, free_of, gaps, filled}
 use Rattle.sticky_assignor.specs.Kept.{kept, KeepsMost}
 use Rattle.sticky_assignor.specs.Target.{target}
 use Rattle.bit_planes.proofs.RowLaws.{rising_rest}
 use Rattle.sticky_assignor.proofs.Rows.{eq_self, not_eq}
 use Rattle.sticky_assignor.proofs.TargetLaws.{is_balanced, keeps_most}
 use Rattle.sticky_assignor.proofs.Ranks.{filling_is_target, length_quotas}
+use Rattle.sticky_assignor.proofs.Steps.{quotas_by_is}
 use Rattle.sticky_assignor.specs.Assigned.{pair_up, assigned, target_rows}
 use Rattle.sticky_assignor.proofs.SecondRound.{target_over, length_target}
 
@@ -113,6 +114,10 @@ target_paired p ms rows len rising =
     ∙ ap (λ sets. record { partitions = p; rows = pair_up ms (target p sets) }) (sets_paired p ms rows len rising)
 
 -- ---- the assignment by the parts that the code makes
+pub quotas_are : (p : ℕ) (ms : List ℕ) (owned : SetRows) (ns ds qs : List ℕ) → owned.partitions ≡ p → ns ≡ sizes (sets_of owned ms) → ds ≡ ns → qs ≡ quotas_by p ds → qs ≡ quotas owned.partitions (sets_of owned ms)
+quotas_are p ms owned ns ds qs below en ed e =
+    e ∙ (ap (quotas_by p) (ed ∙ en) ∙ (quotas_by_is p (sets_of owned ms) ∙ ap (λ n. quotas n (sets_of owned ms)) (sym below)))
+
 pub quotas_long : (p : ℕ) (ms : List ℕ) (owned : SetRows) (qs ns : List ℕ) → qs ≡ quotas p (sets_of owned ms) → ns ≡ qs → length ns ≡ length ms
 quotas_long p ms owned qs ns e same = ap length (same ∙ e) ∙ length_quotas p (sets_of owned ms) ∙ length_sets owned ms
 

@@ -1,12 +1,15 @@
 -- The steps of the loops.
-use Rattle.std.proofs.Common.{ℕ, zero, suc, ◌≡◌, ◌+◌, ◌-◌, ◌<◌, ◌≤◌, Bool, true, false, ◌&&◌, not, List, [], ◌∷◌, ◌++◌, length, map, drop, take, get_or, cond, append_assoc, refl, ap, sym, ◌∙◌, arith}
+use Rattle.std.proofs.Common.{ℕ, zero, suc, ◌≡◌, ◌+◌, ◌-◌, ◌/◌, ◌%◌, ◌<◌, ◌≤◌, Bool, true, false, ◌&&◌, ◌||◌, not, List, [], ◌∷◌, ◌++◌, length, map, drop, take, get_or, cond, min, append_assoc, refl, ap, sym, ◌∙◌, arith}
+use Rattle.std.specs.Prelude.{nat_lt}
 use Rattle.std.proofs.lemmas.Bool.{lt-ltb, le-ltb}
-use Rattle.bit_planes.specs.PartitionSet.{PartitionSet, is_in, size, full_set, union, minus, lowest}
+use Rattle.std.proofs.lemmas.Bool.Decides.{nat_tests}
+use Rattle.std.proofs.lemmas.List.Sums.{sum_by-cons}
+use Rattle.bit_planes.specs.PartitionSet.{PartitionSet, partitions_of, is_in, rank, size, full_set, union, minus, lowest}
 use Rattle.bit_planes.specs.SetRows.{SetRows, members, put_row, with_row, set_of, sets_of, IsRising}
-use Rattle.bit_planes.proofs.Sets.{same_set, in_minus, partitions_minus}
+use Rattle.bit_planes.proofs.Sets.{same_set, in_union, in_minus, in_lowest, partitions_union, partitions_minus, partitions_lowest, size_lowest, lowest_all}
 use Rattle.bit_planes.proofs.RowLaws.{put_last}
 use Rattle.sticky_assignor.specs.Assigned.{pair_up}
-use Rattle.sticky_assignor.specs.Private.Filling.{one_of, shares, keeping, free_of, gaps, filled}
+use Rattle.sticky_assignor.specs.Private.Filling.{one_of, shares, quotas, sizes, heavies_by, shares_by, quotas_by, keeping, free_of, gaps, filled, given_of}
 use Rattle.sticky_assignor.specs.Target.{is_heavy, heavies}
 use Rattle.sticky_assignor.proofs.Balance.{heavies_cons}
 
@@ -38,6 +41,97 @@ light_share share h o owned ms i m c lt e is light =
     let b : is_heavy share (set_of owned m) ≡ false = le-ltb share (size (set_of owned m)) (omega arith) in
     ap (λ rows. shares share h o rows) (sets_next owned ms i m lt e)
     ∙ ap (λ t. cond t ((share + one_of h) ∷ shares share (h - 1) o (sets_of owned (drop (i + 1) ms))) ((share + one_of o) ∷ shares share h (o - 1) (sets_of owned (drop (i + 1) ms)))) b
+
+-- ---- by sizes alone
+pub sizes_next : (owned : SetRows) (ms : List ℕ) (i m : ℕ) → i < length ms → m ≡ get_or ms i m → sizes (sets_of owned (drop i ms)) ≡ size (set_of owned m) ∷ sizes (sets_of owned (drop (i + 1) ms))
+sizes_next owned ms i m lt e = ap sizes (sets_next owned ms i m lt e)
+
+pub heavies_by_is : (share : ℕ) (rows : List PartitionSet) → heavies_by share (sizes rows) ≡ heavies share rows
+heavies_by_is share [] = refl
+heavies_by_is share (row ∷ rows) =
+    sum_by-cons (λ n. cond (nat_lt share n) 1 0) (size row) (sizes rows) ∙ (ap (λ m. cond (is_heavy share row) 1 0 + m) (heavies_by_is share rows) ∙ sym (heavies_cons share row rows))
+
+pub shares_by_is : (share h o : ℕ) (rows : List PartitionSet) → shares_by share h o (sizes rows) ≡ shares share h o rows
+shares_by_is share h o [] = refl
+shares_by_is share h o (row ∷ rows) =
+    elim (is_heavy share row) as (λ b. cond b ((share + one_of h) ∷ shares_by share (h - 1) o (sizes rows)) ((share + one_of o) ∷ shares_by share h (o - 1) (sizes rows)) ≡ cond b ((share + one_of h) ∷ shares share (h - 1) o rows) ((share + one_of o) ∷ shares share h (o - 1) rows)) [
+      | true ↦ ap (λ ns. (share + one_of h) ∷ ns) (shares_by_is share (h - 1) o rows)
+      | false ↦ ap (λ ns. (share + one_of o) ∷ ns) (shares_by_is share h (o - 1) rows)
+    ]
+
+pub length_sizes : (rows : List PartitionSet) → length (sizes rows) ≡ length rows
+length_sizes [] = refl
+length_sizes (row ∷ rows) = ap (λ n. suc n) (length_sizes rows)
+
+pub quotas_by_is : (p : ℕ) (rows : List PartitionSet) → quotas_by p (sizes rows) ≡ quotas p rows
+quotas_by_is p rows =
+    let n : ℕ = length rows in
+    rw (length_sizes rows, heavies_by_is (p / n) rows) (shares_by_is (p / n) (min (p % n) (heavies (p / n) rows)) (p % n - min (p % n) (heavies (p / n) rows)) rows)
+
+pub size_next : (ns : List ℕ) (i n : ℕ) → i < length ns → n ≡ get_or ns i n → drop i ns ≡ n ∷ drop (i + 1) ns
+size_next [] i n lt e = absurd (omega arith)
+size_next (x ∷ ns) zero n lt e = rw e refl
+size_next (x ∷ ns) (suc i) n lt e = let k : suc i + 1 ≡ suc (i + 1) = omega arith in rw k (size_next ns i n (omega arith) e)
+
+pub heavies_by_next : (share : ℕ) (ns : List ℕ) (i n : ℕ) (b : Bool) → i < length ns → n ≡ get_or ns i n → b ≡ nat_lt share n → heavies_by share (drop i ns) ≡ cond b 1 0 + heavies_by share (drop (i + 1) ns)
+heavies_by_next share ns i n b lt e is = rw (size_next ns i n lt e, is) (sum_by-cons (λ n. cond (nat_lt share n) 1 0) n (drop (i + 1) ns))
+
+pub heavy_by : (share h o : ℕ) (ns : List ℕ) (i n : ℕ) → i < length ns → n ≡ get_or ns i n → share < n → shares_by share h o (drop i ns) ≡ (share + one_of h) ∷ shares_by share (h - 1) o (drop (i + 1) ns)
+heavy_by share h o ns i n lt e heavy = rw (size_next ns i n lt e, lt-ltb share n heavy) refl
+
+pub light_by : (share h o : ℕ) (ns : List ℕ) (i n : ℕ) → i < length ns → n ≡ get_or ns i n → n ≤ share → shares_by share h o (drop i ns) ≡ (share + one_of o) ∷ shares_by share h (o - 1) (drop (i + 1) ns)
+light_by share h o ns i n lt e light = rw (size_next ns i n lt e, le-ltb share n light) refl
+
+-- the size of a row
+pub size_at : (owned : SetRows) (ns ms : List ℕ) (i : ℕ) → ns ≡ sizes (sets_of owned ms) → i < length ms → get_or ns i 0 ≡ size (set_of owned (get_or ms i 0))
+size_at owned ns ms i e lt = ap (λ xs. get_or xs i 0) e ∙ at ms i lt
+  where
+    at : (ms : List ℕ) (i : ℕ) → i < length ms → get_or (sizes (sets_of owned ms)) i 0 ≡ size (set_of owned (get_or ms i 0))
+    at [] i lt = absurd (omega arith)
+    at (x ∷ ms) zero lt = refl
+    at (x ∷ ms) (suc i) lt = at ms i (omega arith)
+
+-- ---- what is kept and given where the size of a row is known
+no_lower : (x : Bool) (r n : ℕ) → n ≡ 0 → (x && nat_lt r n) ≡ false
+no_lower true r n e = grind (arith, nat_tests)
+no_lower false r n e = refl
+
+none_given : (n : ℕ) (s : PartitionSet) → n ≡ 0 → (q : ℕ) → is_in (lowest n s) q ≡ false
+none_given n s none q = in_lowest n s q ∙ no_lower (is_in s q) (rank s q) n none
+
+or_none : (x y : Bool) → y ≡ false → x ≡ (x || y)
+or_none true y e = refl
+or_none false y e = sym e
+
+and_not_none : (x y : Bool) → y ≡ false → x ≡ (x && not y)
+and_not_none true y e = rw e refl
+and_not_none false y e = refl
+
+pub union_none : (s t : PartitionSet) → partitions_of s ≡ partitions_of t → ((q : ℕ) → is_in t q ≡ false) → s ≡ union s t
+union_none s t below none = same_set s (union s t) (sym (partitions_union s t)) (λ q lt. or_none (is_in s q) (is_in t q) (none q) ∙ sym (in_union s t q below))
+
+pub minus_none : (s t : PartitionSet) → ((q : ℕ) → is_in t q ≡ false) → s ≡ minus s t
+minus_none s t none = same_set s (minus s t) (sym (partitions_minus s t)) (λ q lt. and_not_none (is_in s q) (is_in t q) (none q) ∙ sym (in_minus s t q))
+
+pub kept_whole : (row : PartitionSet) (quota : ℕ) → size row ≤ quota → row ≡ lowest quota row
+kept_whole row quota le = lowest_all quota row le
+
+-- nothing is given to a row that has its quota
+pub row_alone : (row kept free : PartitionSet) (quota : ℕ) → partitions_of free ≡ partitions_of row → quota ≤ size row → kept ≡ lowest quota row → kept ≡ union (lowest quota row) (given_of quota row free)
+row_alone row kept free quota below le e =
+    let full : quota - size (lowest quota row) ≡ 0 = let s = size_lowest quota row in omega arith in
+    let low : PartitionSet = lowest quota row in
+    e ∙ union_none low (given_of quota row free) (partitions_lowest quota row ∙ (sym below ∙ sym (partitions_lowest (quota - size low) free))) (none_given (quota - size low) free full)
+
+pub free_alone : (row free : PartitionSet) (quota : ℕ) → quota ≤ size row → free ≡ minus free (given_of quota row free)
+free_alone row free quota le =
+    let full : quota - size (lowest quota row) ≡ 0 = let s = size_lowest quota row in omega arith in
+    minus_none free (given_of quota row free) (none_given (quota - size (lowest quota row)) free full)
+
+pub given_is : (row free given : PartitionSet) (quota size_of gap : ℕ) → size_of ≡ size row → size_of ≤ quota → gap ≡ quota - size_of → given ≡ lowest gap free → given ≡ given_of quota row free
+given_is row free given quota size_of gap es le eg e =
+    let same : gap ≡ quota - size (lowest quota row) = let s = size_lowest quota row in omega arith in
+    e ∙ ap (λ n. lowest n free) same
 
 -- ---- what is free
 -- what is left of a set by rows that are taken off in order

@@ -3,18 +3,19 @@
 #![tactic(auto)]
 
 ghost use Rattle.std.specs.Prelude.{◌≡◌, ◌<◌, ◌≤◌, length, IfOk, IsSome};
-ghost use Rattle.bit_planes.specs.PartitionSet.{partitions_of};
+ghost use Rattle.bit_planes.specs.PartitionSet.{partitions_of, size, union, minus, lowest};
 ghost use Rattle.bit_planes.specs.SetRows.{IsValidRows, IsRising, members as members_of, row_of, set_of, sets_of};
 ghost use Rattle.sticky_assignor.specs.Assigned.{assigned, HaveRows};
 ghost use Rattle.sticky_assignor.specs.Balanced.{AreApart, IsBalanced};
 ghost use Rattle.sticky_assignor.specs.Kept.{KeepsMost};
-ghost use Rattle.sticky_assignor.specs.Private.Filling.{filled_rows, free_of, keeping, one_of, quotas, shares};
-ghost use Rattle.sticky_assignor.specs.Target.{heavies};
+ghost use Rattle.sticky_assignor.specs.Private.Filling.{filled_rows, free_of, given_of, heavies_by, keeping, one_of, quotas_by, shares_by, sizes};
 
 mod laws;
 
 pub use laws::{balanced_stays, target_is_balanced, target_keeps_most};
 
+#[cfg(test)]
+mod plain_assign;
 #[cfg(test)]
 mod tests;
 
@@ -48,34 +49,44 @@ pub fn assign(
     ensures valid { IfOk result IsValidRows }
 {
     prove!(owned.partitions() == partitions);
-    let quotas = quotas_of(alloc, members, owned)?;
-    let free = free_beside(&quotas, members, owned);
-    fill(alloc, free, &quotas, members, owned)
+    let counts = counts_of(alloc, members, owned)?;
+    let quotas = quotas_of(alloc, partitions, &counts)?;
+    let free = free_beside(&counts, &quotas, members, owned);
+    fill(alloc, free, &counts, &quotas, members, owned)
 }
 
-/// How many partitions each member is to own.
-fn quotas_of(alloc: Global, members: &[u32], owned: &PlaneRows) -> Result<Vec<u32>, Memory>
-    requires some { 0 < length members.now }
-    requires rows { HaveRows owned.now members.now }
-    ensures { IfOk result (λ qs.
-        qs.items ≡ quotas owned.now.partitions (sets_of owned.now members.now)) }
+/// How many partitions each member owns.
+fn counts_of(alloc: Global, members: &[u32], owned: &PlaneRows) -> Result<Vec<u32>, Memory>
+    requires { HaveRows owned.now members.now }
+    ensures { IfOk result (λ ns. ns.items ≡ sizes (sets_of owned.now members.now)) }
 {
-    let partitions = owned.partitions() as usize;
-    let share = (partitions / members.len()) as u32;
-    let more = partitions % members.len();
-    let heavy = count_heavy(share, members, owned);
+    let mut counts = Vec::with_capacity(alloc, members.len())?;
+    for member in members {
+        counts.push(row_of(owned, *member).count())?;
+    }
+    Ok(counts)
+}
+
+/// How many partitions each member is to own, by how many each owns.
+fn quotas_of(alloc: Global, partitions: u32, counts: &[u32]) -> Result<Vec<u32>, Memory>
+    requires few { partitions ≤ MOST_PARTITIONS }
+    requires some { 0 < length counts.now }
+    ensures { IfOk result (λ qs. qs.items ≡ quotas_by partitions counts.now) }
+{
+    let share = (partitions as usize / counts.len()) as u32;
+    let more = partitions as usize % counts.len();
+    let heavy = count_heavy(share, counts);
     let for_heavy = more.min(heavy);
-    shares_of(alloc, share, for_heavy, more - for_heavy, members, owned)
+    shares_of(alloc, share, for_heavy, more - for_heavy, counts)
 }
 
 /// How many members own more than an even share.
-fn count_heavy(share: u32, members: &[u32], owned: &PlaneRows) -> usize
-    requires { HaveRows owned.now members.now }
-    ensures { result ≡ heavies share (sets_of owned.now members.now) }
+fn count_heavy(share: u32, counts: &[u32]) -> usize
+    ensures { result ≡ heavies_by share counts.now }
 {
     let mut heavy = 0;
-    for member in members {
-        if share < row_of(owned, *member).count() {
+    for count in counts {
+        if share < *count {
             heavy += 1;
         }
     }
@@ -88,19 +99,16 @@ fn shares_of(
     share: u32,
     for_heavy: usize,
     for_others: usize,
-    members: &[u32],
-    owned: &PlaneRows,
+    counts: &[u32],
 ) -> Result<Vec<u32>, Memory>
     requires few { share ≤ MOST_PARTITIONS }
-    requires rows { HaveRows owned.now members.now }
-    ensures { IfOk result (λ qs.
-        qs.items ≡ shares share for_heavy for_others (sets_of owned.now members.now)) }
+    ensures { IfOk result (λ qs. qs.items ≡ shares_by share for_heavy for_others counts.now) }
 {
-    let mut quotas = Vec::with_capacity(alloc, members.len())?;
+    let mut quotas = Vec::with_capacity(alloc, counts.len())?;
     let mut heavy_left = for_heavy;
     let mut others_left = for_others;
-    for member in members {
-        if share < row_of(owned, *member).count() {
+    for count in counts {
+        if share < *count {
             quotas.push(share + one_of(heavy_left))?;
             heavy_left = heavy_left.saturating_sub(1);
         } else {
@@ -120,7 +128,8 @@ fn one_of(left: usize) -> u32
 }
 
 /// The partitions that no member keeps.
-fn free_beside(quotas: &[u32], members: &[u32], owned: &PlaneRows) -> Plane
+fn free_beside(counts: &[u32], quotas: &[u32], members: &[u32], owned: &PlaneRows) -> Plane
+    requires sized { counts.now ≡ sizes (sets_of owned.now members.now) }
     requires long { length quotas.now ≡ length members.now }
     requires rows { HaveRows owned.now members.now }
     ensures free { result
@@ -128,10 +137,25 @@ fn free_beside(quotas: &[u32], members: &[u32], owned: &PlaneRows) -> Plane
     ensures below { partitions_of result ≡ owned.now.partitions }
 {
     let mut free = Plane::full(owned.partitions());
-    for (member, quota) in members.iter().zip(quotas) {
-        free = free.minus(&row_of(owned, *member).lowest(*quota));
+    for i in 0..members.len() {
+        remove_kept(&mut free, row_of(owned, members[i]), counts[i], quotas[i]);
     }
     free
+}
+
+/// Takes out what a member keeps of its row, which has so many elements: the lowest, up to its
+/// quota.
+fn remove_kept(free: &mut Plane, row: &Plane, count: u32, quota: u32)
+    requires below { partitions_of free.old ≡ partitions_of row.now }
+    requires sized { count ≡ size row.now }
+    ensures value { free.new ≡ minus free.old (lowest quota row.now) }
+    ensures below { partitions_of free.new ≡ partitions_of free.old }
+{
+    if count <= quota {
+        free.remove_all(row);
+    } else {
+        free.remove_all(&row.lowest(quota));
+    }
 }
 
 /// The rows: what each member keeps, and of the free partitions, in rising order, what its quota
@@ -139,25 +163,47 @@ fn free_beside(quotas: &[u32], members: &[u32], owned: &PlaneRows) -> Plane
 fn fill(
     alloc: Global,
     all_free: Plane,
+    counts: &[u32],
     quotas: &[u32],
     members: &[u32],
     owned: &PlaneRows,
 ) -> Result<PlaneRows, Memory>
     requires below { partitions_of all_free ≡ owned.now.partitions }
+    requires sized { counts.now ≡ sizes (sets_of owned.now members.now) }
     requires long { length quotas.now ≡ length members.now }
     requires rising { IsRising members.now }
     requires rows { HaveRows owned.now members.now }
     ensures { IfOk result (λ rows. rows ≡ filled_rows all_free quotas.now members.now owned.now) }
 {
-    let mut rows = PlaneRows::new(alloc, owned.partitions());
+    let mut rows = PlaneRows::with_room(alloc, owned.partitions(), members.len())?;
     let mut free = all_free;
-    for (member, quota) in members.iter().zip(quotas) {
-        let kept = row_of(owned, *member).lowest(*quota);
-        let given = free.lowest(quota - kept.count());
-        rows.put(*member, kept.union(&given))?;
-        free = free.minus(&given);
+    for i in 0..members.len() {
+        let row = filled_row(&mut free, row_of(owned, members[i]), counts[i], quotas[i]);
+        rows.put(members[i], row)?;
     }
     Ok(rows)
+}
+
+/// What a member keeps of its row, which has so many elements, and what its quota lacks, which is
+/// taken from the free partitions.
+fn filled_row(free: &mut Plane, row: &Plane, count: u32, quota: u32) -> Plane
+    requires below { partitions_of free.old ≡ partitions_of row.now }
+    requires sized { count ≡ size row.now }
+    ensures row { result ≡ union (lowest quota row.now) (given_of quota row.now free.old) }
+    ensures free { free.new ≡ minus free.old (given_of quota row.now free.old) }
+    ensures below { partitions_of result ≡ partitions_of row.now }
+    ensures free_below { partitions_of free.new ≡ partitions_of free.old }
+{
+    if quota < count {
+        return row.lowest(quota);
+    }
+    let mut filled = row.copy();
+    if count < quota {
+        let given = free.lowest(quota - count);
+        filled.insert_all(&given);
+        free.remove_all(&given);
+    }
+    filled
 }
 
 /// What a member owns.

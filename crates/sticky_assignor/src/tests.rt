@@ -9,6 +9,7 @@ ghost use Rattle.sticky_assignor.specs.Assigned.{HaveRows};
 ghost use Rattle.sticky_assignor.specs.Balanced.{AreApart};
 
 use super::*;
+use crate::plain_assign;
 use lane_words::MOST_MEMBERS;
 use std::process::Abort;
 use std::test::Fail;
@@ -92,7 +93,7 @@ fn are_apart(owned: &PlaneRows, members: &[u32]) -> bool
     true
 }
 
-/// The owners that the assignment gives to these members.
+/// The owners that the assignment gives to these members, as the plain program does.
 fn assigned(
     rt: &impl Abort,
     alloc: Global,
@@ -107,7 +108,10 @@ fn assigned(
     assert!(rt; have_rows(&owned, members));
     assert!(rt; are_apart(&owned, members));
     let rows = assign(alloc, owners.len() as u32, members, &owned)?;
-    owners_by(alloc, &rows)
+    let plain_rows = plain_assign::assign(alloc, owners.len() as u32, members, &owned)?;
+    let given = owners_by(alloc, &rows)?;
+    assert_eq!(rt; given, owners_by(alloc, &plain_rows)?);
+    Ok(given)
 }
 
 /// How many partitions stay with their owners.

@@ -80,7 +80,7 @@ pub fn granted_rows(
     ensures { (name : List ℕ) → IfOk result (λ rows.
         rows ≡ granted_in partitions (slots_after partitions name change slots.now)) }
 {
-    let mut rows = PlaneRows::new(alloc, partitions);
+    let mut rows = PlaneRows::with_room(alloc, partitions, slots.len() + 1)?;
     for (index, slot) in slots.iter().enumerate() {
         let member = index as u32 + 1;
         if let Some(granted) = change.granted(member, slot) {

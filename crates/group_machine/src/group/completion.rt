@@ -10,7 +10,7 @@ ghost use Rattle.group_machine.specs.Private.Walks.{AreSeatsOver};
 
 use super::{Move, Seat, Slot};
 use bit_planes::{Plane, PlaneRows};
-use coop_rebalance::withhold;
+use coop_rebalance::withhold_in_place;
 use lane_words::{MOST_MEMBERS, Memory};
 use std::alloc::Global;
 use sticky_assignor::assign;
@@ -33,8 +33,9 @@ pub fn next_rows(alloc: Global, granted: &PlaneRows) -> Result<PlaneRows, Memory
     ensures { IfOk result (λ rows. rows ≡ next_rows granted.now) }
 {
     let members: Vec<u32> = granted.members().collect(alloc)?;
-    let target = assign(alloc, granted.partitions(), &members, granted)?;
-    withhold(alloc, &target, granted)
+    let mut rows = assign(alloc, granted.partitions(), &members, granted)?;
+    withhold_in_place(&mut rows, granted);
+    Ok(rows)
 }
 
 /// Gives each present member its row, and clears its flags.
@@ -74,6 +75,6 @@ fn complete_seat(seat: &mut Seat, row: Plane)
 {
     seat.joined = false;
     seat.synced = false;
-    seat.granted = seat.granted.union(&row);
+    seat.granted.insert_all(&row);
     seat.assigned = row;
 }

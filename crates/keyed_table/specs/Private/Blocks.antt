@@ -1,10 +1,10 @@
 -- Blocks of eight key numbers with their counters: block b has the key numbers from 8 * b on.
-use Rattle.std.specs.Prelude.{◌≡◌, ◌≢◌, ◌+◌, ◌-◌, ◌*◌, ◌/◌, ◌<◌, ◌≤◌, ℕ, List, length, slice_index_or}
+use Rattle.std.specs.Prelude.{◌≡◌, ◌≢◌, ◌+◌, ◌*◌, ◌/◌, ◌<◌, ℕ, List, length, slice_index_or}
 use Rattle.keyed_table.specs.Counts.{plain}
 
--- the numbers of blocks rise
+-- numbers rise
 abbrev pub DoRise : List ℕ → Type 0
-DoRise blocks = (i j : ℕ) → i < j → j < length blocks → slice_index_or blocks i 0 < slice_index_or blocks j 0
+DoRise numbers = (i j : ℕ) → i < j → j < length numbers → slice_index_or numbers i 0 < slice_index_or numbers j 0
 
 -- block number b has a number of the list
 abbrev pub IsTouched : List ℕ → ℕ → Type 0
@@ -21,17 +21,6 @@ pub record HaveCounts (ids blocks counts : List ℕ) : Type 0 where
 pub record AreBlocksOf (ids blocks counts : List ℕ) : Type 0 where
   pub have : HaveCounts ids blocks counts
   pub touched : (j : ℕ) → j < length blocks → IsTouched ids (slice_index_or blocks j 0)
-
--- the same, but that the last block is b, touched or not
-pub record AreBlocksUpTo (b : ℕ) (ids blocks counts : List ℕ) : Type 0 where
-  pub have : HaveCounts ids blocks counts
-  pub touched : (j : ℕ) → j + 1 < length blocks → IsTouched ids (slice_index_or blocks j 0)
-  pub some : 0 < length blocks
-  pub last : slice_index_or blocks (length blocks - 1) 0 ≡ b
-
--- no number of a list is in a block past b
-abbrev pub EndsBy : List ℕ → ℕ → Type 0
-EndsBy ids b = (x : ℕ) → 0 < plain ids x → x / 8 ≤ b
 
 -- from index start to end the blocks are neighbours
 abbrev pub AreNeighbours : List ℕ → ℕ → ℕ → Type 0

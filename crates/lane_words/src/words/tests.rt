@@ -9,7 +9,7 @@ use std::process::Abort;
 use std::test::Fail;
 
 /// How many words are tried.
-const LENGTHS: [usize; 11] = [0, 1, 7, 8, 9, 15, 16, 17, 63, 64, 65];
+const LENGTHS: [usize; 14] = [0, 1, 7, 8, 9, 15, 16, 17, 31, 32, 33, 63, 64, 65];
 
 /// The bits that are tried in the last word.
 const LAST: [u64; 4] = [0, 1, 1 << 63, u64::MAX];

@@ -1,27 +1,24 @@
 -- Keys that are numbered shard by shard, and their key numbers.
-use Rattle.std.specs.Prelude.{◌≡◌, ◌<◌, ◌≤◌, ◌+◌, ◌==◌, ℕ, List, [], ◌∷◌, ◌++◌, All, Bool, filter, length, map, if◌then◌else◌, slice_index_or}
+use Rattle.std.specs.Prelude.{◌≡◌, ◌<◌, ◌≤◌, ◌+◌, ◌==◌, ◌%◌, ℕ, List, [], ◌∷◌, ◌++◌, All, Bool, filter, length, map, if◌then◌else◌, slice_index_or, take}
 use Rattle.lane_words.specs.declared.limits.TheConstants.{MOST_RECORDS}
-use Rattle.partitioner.specs.Place.{place_of}
+use Rattle.std.specs.RandomState.{initial_hasher}
+use Rattle.std.specs.declared.hash.RandomState.{RandomState}
+use Rattle.std.specs.Hash.DefaultHasher.{finish, write}
 use Rattle.partition_log.specs.Keys.{Key, distinct, id_of, key_at}
 use Rattle.partition_log.specs.declared.shards.TheConstants.{SHARDS}
 use Rattle.partition_log.specs.declared.shards.KeyAt.{KeyAt}
 
--- the shard of a key
-abbrev pub shard_of : Key → ℕ
-shard_of key = place_of SHARDS key
+-- the shard of a key that this hasher hashes, by one write of all its bytes
+unfoldable pub shard_of : RandomState → Key → ℕ
+shard_of hasher key = finish (write (initial_hasher hasher) key) % SHARDS
 
--- the keys of shard s, in order, where a key's shard is its place
+-- the keys of shard s, in order, where each key has such a shard
 abbrev pub of_shard : (Key → ℕ) → ℕ → List Key → List Key
-of_shard place s keys = filter (λ k. place k == s) keys
-
--- for each record, in order, the shard of its key and the key's number in that shard
-pub record AreSplit (place : Key → ℕ) (keys : List Key) (shards locals : List ℕ) : Type 0 where
-  pub placed : shards ≡ map place keys
-  pub numbered : locals ≡ map (λ k. id_of (distinct (of_shard place (place k) keys)) k) keys
+of_shard shard s keys = filter (λ k. shard k == s) keys
 
 -- for each shard the key numbers of its keys, by their numbers in the shard
 abbrev pub AreGlobal : (Key → ℕ) → List Key → List (List ℕ) → Type 0
-AreGlobal place keys ids = (s : ℕ) → s < length ids → slice_index_or ids s [] ≡ map (id_of (distinct keys)) (distinct (of_shard place s keys))
+AreGlobal shard keys ids = (s : ℕ) → s < length ids → slice_index_or ids s [] ≡ map (id_of (distinct keys)) (distinct (of_shard shard s keys))
 
 -- whether a record is the first of its key
 abbrev pub is_first : List ℕ → ℕ → Bool
@@ -41,49 +38,55 @@ abbrev pub next_after : List ℕ → ℕ → ℕ → ℕ
 next_after ids local next = if is_first ids local then next + 1 else next
 
 -- the keys of a shard of these, and the numbers in the shard of its records
-abbrev pub AreNumberedIn : ℕ → List Key → List Key → List ℕ → Type 0
-AreNumberedIn s keys table locals =
-    (table ≡ distinct (of_shard shard_of s keys)) × (locals ≡ map (id_of (distinct (of_shard shard_of s keys))) (of_shard shard_of s keys))
+abbrev pub AreNumberedIn : (Key → ℕ) → ℕ → List Key → List Key → List ℕ → Type 0
+AreNumberedIn shard s keys table locals =
+    (table ≡ distinct (of_shard shard s keys)) × (locals ≡ map (id_of (distinct (of_shard shard s keys))) (of_shard shard s keys))
 
 -- the keys of each of so many shards
-pub record AreTables (count : ℕ) (keys : List Key) (tables : List (List Key)) : Type 0 where
+pub record AreTables (shard : Key → ℕ) (count : ℕ) (keys : List Key) (tables : List (List Key)) : Type 0 where
   pub each : length tables ≡ count
-  pub are : (s : ℕ) → s < count → slice_index_or tables s [] ≡ distinct (of_shard shard_of s keys)
+  pub are : (s : ℕ) → s < count → slice_index_or tables s [] ≡ distinct (of_shard shard s keys)
 
 -- the numbers in each of so many shards of its records
-pub record AreLocals (count : ℕ) (keys : List Key) (locals : List (List ℕ)) : Type 0 where
+pub record AreLocals (shard : Key → ℕ) (count : ℕ) (keys : List Key) (locals : List (List ℕ)) : Type 0 where
   pub each : length locals ≡ count
-  pub are : (s : ℕ) → s < count → slice_index_or locals s [] ≡ map (id_of (distinct (of_shard shard_of s keys))) (of_shard shard_of s keys)
+  pub are : (s : ℕ) → s < count → slice_index_or locals s [] ≡ map (id_of (distinct (of_shard shard s keys))) (of_shard shard s keys)
 
 -- the key that stands there
 abbrev pub key_there : List (List Key) → KeyAt → Key
 key_there tables at = key_at (slice_index_or tables at.shard []) at.number
 
--- the key numbers of records can be read from those of their shards
-pub record AreReadable (keys : List Key) (shards locals : List ℕ) (ids : List (List ℕ)) : Type 0 where
-  pub split : AreSplit shard_of keys shards locals
-  pub each : length ids ≡ SHARDS
-  pub are : AreGlobal shard_of keys ids
+-- so many records of each shard are among the first ones
+pub record ArePassed (shard : Key → ℕ) (count : ℕ) (keys : List Key) (i : ℕ) (met : List ℕ) : Type 0 where
+  pub each : length met ≡ count
+  pub passed : (s : ℕ) → s < count → slice_index_or met s 0 ≡ length (of_shard shard s (take i keys))
 
--- as many key numbers as count are those of the records from an index on
-abbrev pub AreReadFrom : List Key → ℕ → ℕ → List ℕ → Type 0
-AreReadFrom keys from count numbers =
-    (k d : ℕ) → k < count → slice_index_or numbers k d ≡ id_of (distinct keys) (key_at keys (from + k))
+-- the key numbers of records can be read from those of their shards
+pub record AreReadable (shard : Key → ℕ) (keys : List Key) (shards : List ℕ) (locals ids : List (List ℕ)) : Type 0 where
+  pub sharded : shards ≡ map shard keys
+  pub numbered : AreLocals shard SHARDS keys locals
+  pub each : length ids ≡ SHARDS
+  pub are : AreGlobal shard keys ids
+
+-- as many numbers as count are what f gives of the keys from an index on
+abbrev pub AreFrom : (Key → ℕ) → List Key → ℕ → ℕ → List ℕ → Type 0
+AreFrom f keys from count numbers =
+    (k d : ℕ) → k < count → slice_index_or numbers k d ≡ f (key_at keys (from + k))
 
 -- where each of these keys stands, where those of a shard are numbered by their records
-pub record AreOrdered (place : Key → ℕ) (all keys : List Key) (count : ℕ) (order : List KeyAt) : Type 0 where
-  pub named : map (λ (at : KeyAt). key_at (distinct (of_shard place at.shard all)) at.number) order ≡ keys
-  pub there : All (λ (at : KeyAt). (at.shard < count) × (at.number < length (distinct (of_shard place at.shard all)))) order
+pub record AreOrdered (shard : Key → ℕ) (all keys : List Key) (count : ℕ) (order : List KeyAt) : Type 0 where
+  pub named : map (λ (at : KeyAt). key_at (distinct (of_shard shard at.shard all)) at.number) order ≡ keys
+  pub there : All (λ (at : KeyAt). (at.shard < count) × (at.number < length (distinct (of_shard shard at.shard all)))) order
 
 -- a key stands there
 abbrev pub IsThere : List (List Key) → KeyAt → Type 0
 IsThere tables at = (at.shard < length tables) × (at.number < length (slice_index_or tables at.shard []))
 
 -- what shards keep: each has the keys that go to it, in order, and their key numbers
-pub record AreShards (keys : List Key) (tables : List (List Key)) (ids : List (List ℕ)) (order : List KeyAt) : Type 0 where
+pub record AreShards (shard : Key → ℕ) (keys : List Key) (tables : List (List Key)) (ids : List (List ℕ)) (order : List KeyAt) : Type 0 where
   pub few : length order ≤ MOST_RECORDS
   pub a_table_each : 0 < length order → length tables ≡ SHARDS
   pub ids_each : 0 < length order → length ids ≡ SHARDS
-  pub keys_of : (s : ℕ) → s < length tables → slice_index_or tables s [] ≡ of_shard shard_of s keys
-  pub ids_of : (s : ℕ) → s < length ids → slice_index_or ids s [] ≡ map (id_of keys) (of_shard shard_of s keys)
+  pub keys_of : (s : ℕ) → s < length tables → slice_index_or tables s [] ≡ of_shard shard s keys
+  pub ids_of : (s : ℕ) → s < length ids → slice_index_or ids s [] ≡ map (id_of keys) (of_shard shard s keys)
   pub there : All (IsThere tables) order

@@ -4,18 +4,20 @@ use Rattle.bit_planes.specs.SetRows.{SetRows, members as members_of, sets_of}
 use Rattle.sticky_assignor.specs.Assigned.{assigned}
 use Rattle.sticky_assignor.specs.Balanced.{IsBalanced}
 use Rattle.sticky_assignor.specs.Kept.{KeepsMost}
-use Rattle.sticky_assignor.proofs.AssignedLaws.{quotas_long, is_assigned, members_assigned, balanced_assigned, most_assigned}
+use Rattle.sticky_assignor.proofs.AssignedLaws.{quotas_are, quotas_long, is_assigned, members_assigned, balanced_assigned, most_assigned}
 use Rattle.sticky_assignor.proofs.assign.Goals as goal
+use Rattle.sticky_assignor.proofs.assign.Goals.{After-drop-counts-2}
 
 pub free_beside-free-requires-clause-long : goal.free_beside-free-requires-clause-long
-free_beside-free-requires-clause-long c = quotas_long _ _ _ _ _ c.in_ok-quotas.ensures c.deref.ensures.value
+free_beside-free-requires-clause-long c = quotas_long _ _ _ _ _ (quotas_are _ c.args.members.now c.args.owned.now _ _ _ c.requires.below c.in_ok-counts.ensures c.deref.ensures.value c.in_ok-quotas.ensures) c.deref-3.ensures.value
 
 pub fill-requires-clause-long : goal.fill-requires-clause-long
-fill-requires-clause-long c = quotas_long _ _ _ _ _ c.in_ok-quotas.ensures c.deref-2.ensures.value
+fill-requires-clause-long c = quotas_long _ _ _ _ _ (quotas_are _ c.args.members.now c.args.owned.now _ _ _ c.requires.below c.in_ok-counts.ensures c.deref.ensures.value c.in_ok-quotas.ensures) c.deref-5.ensures.value
 
-is_target : (c : goal.After-drop-quotas) → IfOk c.fill.result (λ rows. rows ≡ assigned c.args.partitions c.args.members.now c.args.owned.now)
+is_target : (c : After-drop-counts-2) → IfOk c.fill.result (λ rows. rows ≡ assigned c.args.partitions c.args.members.now c.args.owned.now)
 is_target c =
-    IfOk-weaker c.fill.result _ (λ rows. rows ≡ assigned c.args.partitions c.args.members.now c.args.owned.now) (λ rows e. is_assigned _ _ _ _ _ _ _ _ c.requires.below c.in_ok-quotas.ensures c.deref.ensures.value c.deref-2.ensures.value c.free_beside-free.ensures.free e) c.fill.ensures
+    let quotas = quotas_are _ c.args.members.now c.args.owned.now _ _ _ c.requires.below c.in_ok-counts.ensures c.deref.ensures.value c.in_ok-quotas.ensures in
+    IfOk-weaker c.fill.result _ (λ rows. rows ≡ assigned c.args.partitions c.args.members.now c.args.owned.now) (λ rows e. is_assigned _ _ _ _ _ _ _ _ c.requires.below quotas c.deref-3.ensures.value c.deref-5.ensures.value c.free_beside-free.ensures.free e) c.fill.ensures
 
 pub returns-clause-target : goal.returns-clause-target
 returns-clause-target c = is_target c

@@ -1,10 +1,9 @@
 use Rattle.std.proofs.Common.{◌≡◌, ◌+◌, ◌≤◌, drop}
-use Rattle.bit_planes.specs.SetRows.{sets_of}
-use Rattle.sticky_assignor.specs.Target.{heavies}
+use Rattle.sticky_assignor.specs.Private.Filling.{heavies_by}
 use Rattle.sticky_assignor.proofs.count_heavy.Given as goal
 
-abbrev pub invariant-loop-member : goal.invariant-loop-member
-invariant-loop-member l = record {
-  few : l.heavy ≤ l.member-index;
-  so_far : l.heavy + heavies l.share (sets_of l.owned (drop l.member-index l.members)) ≡ heavies l.share (sets_of l.owned l.members);
+abbrev pub invariant-loop-count : goal.invariant-loop-count
+invariant-loop-count l = record {
+  few : l.heavy ≤ l.count-index;
+  so_far : l.heavy + heavies_by l.share (drop l.count-index l.counts) ≡ heavies_by l.share l.counts;
 }

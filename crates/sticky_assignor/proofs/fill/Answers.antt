@@ -1,24 +1,27 @@
-use Rattle.std.proofs.Common.{length, refl, ◌∙◌, arith}
-use Rattle.std.proofs.lemmas.List.{length_push}
-use Rattle.std.proofs.lemmas.Slice.Zip.{zip_turn, zip_end}
-use Rattle.sticky_assignor.proofs.Steps.{fill_step, fill_end}
+use Rattle.std.proofs.Common.{◌-◌, ◌∙◌, ℕ, get_or, refl, ap, sym, arith}
+use Rattle.std.proofs.lemmas.List.{get_or_default}
+use Rattle.bit_planes.specs.PartitionSet.{size, lowest}
+use Rattle.sticky_assignor.specs.Private.Filling.{given_of}
+use Rattle.sticky_assignor.proofs.Steps.{size_at, fill_step}
 use Rattle.sticky_assignor.proofs.fill.Goals as goal
 
-pub loop-member-preserved : goal.loop-member-preserved
-loop-member-preserved c =
-    let t = zip_turn c.args.members.now c.args.quotas.now c.loop-member.yielded c.into_iter-member-iterator.result c.loop-member.member-iterator c.next.new.self c.next.result (cc) (cc) c.loop-member.yielded_by (c.in-Some.member, c.in-Some.quota) c.in-Some.is c.next.ensures.steps in
-    let e = length_push c.loop-member.yielded (c.in-Some.member, c.in-Some.quota) in
-    let step = fill_step c.args.owned.now c.loop-member.rows c.put.new.self c.args.members.now c.args.quotas.now (length c.loop-member.yielded) c.in-Some.member.now c.in-Some.quota.now _ _ c.loop-member.free _ _ _ _ _ c.requires.rising t.0 t.1 (t.2 _) (t.3 _) c.row_of.ensures.value c.lowest-kept.ensures.value c.count.ensures.value refl c.lowest-given.ensures.value c.union.ensures.value c.minus-free.ensures.value c.in_ok-put.ensures.value c.loop-member.invariant.numbers in
-    record {
-      next = (tt, tt);
-      ends = tt;
-      below = step.0 ∙ c.loop-member.invariant.below;
-      free_below = c.minus-free.ensures.partitions ∙ c.loop-member.invariant.free_below;
-      numbers = rw e step.1;
-      so_far = rw e (step.2 ∙ c.loop-member.invariant.so_far);
-    }
+pub filled_row-row-requires-clause-sized : goal.filled_row-row-requires-clause-sized
+filled_row-row-requires-clause-sized c = size_at c.args.owned.now c.args.counts.now c.args.members.now c.loop-i.i c.requires.sized c.loop-i-test.true ∙ ap size (sym c.row_of.ensures.value)
 
-pub returns : goal.returns
-returns c =
-    let t = zip_end c.args.members.now c.args.quotas.now c.loop-member.yielded c.into_iter-member-iterator.result c.loop-member.member-iterator c.next.new.self c.next.result (cc) (cc) c.loop-member.yielded_by c.in-None.is c.next.ensures.steps in
-    fill_end c.args.owned.now c.loop-member.rows c.args.members.now c.args.quotas.now (length c.loop-member.yielded) c.loop-member.free c.args.all_free (omega arith) c.loop-member.invariant.below c.loop-member.invariant.so_far
+pub loop-i-preserved : goal.loop-i-preserved
+loop-i-preserved c =
+    let i = c.loop-i.i in
+    let ms = c.args.members.now in
+    let qs = c.args.quotas.now in
+    let m : ℕ = get_or ms i 0 in
+    let n : ℕ = get_or qs i 0 in
+    let own = c.row_of.result.now in
+    let free = c.loop-i.free in
+    let step = fill_step c.args.owned.now c.loop-i.rows c.put.new.self ms qs i m n (size (lowest n own)) (n - size (lowest n own)) free own (lowest n own) (given_of n own free) c.filled_row-row.result c.filled_row-row.new.free c.requires.rising c.loop-i-test.true (omega (arith, c.requires.long, c.loop-i-test.true))
+    (get_or_default ms i 0 m c.loop-i-test.true) (get_or_default qs i 0 n (omega (arith, c.requires.long, c.loop-i-test.true))) c.row_of.ensures.value refl refl refl refl c.filled_row-row.ensures.row c.filled_row-row.ensures.free c.in_ok-put.ensures.value c.loop-i.invariant.numbers in
+    record {
+      below = step.0 ∙ c.loop-i.invariant.below;
+      free_below = c.filled_row-row.ensures.free_below ∙ c.loop-i.invariant.free_below;
+      numbers = step.1;
+      so_far = step.2 ∙ c.loop-i.invariant.so_far;
+    }

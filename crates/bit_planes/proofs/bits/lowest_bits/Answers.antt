@@ -1,6 +1,9 @@
 use Rattle.std.proofs.Common.{◌≡◌, subst, arith}
-use Rattle.bit_planes.proofs.WordBits.{LacksLowestBits, lacks_none, lacks_next, lowest_taken, lowest_all_bits}
+use Rattle.bit_planes.proofs.WordBits.{LacksLowestBits, lacks_none, lacks_next, lowest_taken, lowest_all_bits, lowest_no_bits}
 use Rattle.bit_planes.proofs.bits.lowest_bits.Goals as goal
+
+pub returns-then-n-eq0 : goal.returns-then-n-eq0
+returns-then-n-eq0 c = lowest_no_bits c.args.word c.args.n (omega (arith, c.if-n-eq0.true))
 
 pub returns-then-count_in-n : goal.returns-then-count_in-n
 returns-then-count_in-n c = lowest_all_bits c.args.word c.args.n (omega (arith, c.count_in.ensures))

@@ -1,6 +1,6 @@
 use Rattle.std.proofs.Common.{ℕ, ◌≡◌, refl, ◌∙◌, length, ap, sym, arith}
 use Rattle.std.proofs.lemmas.List.{length_push}
-use Rattle.bit_planes.specs.PartitionSet.{PartitionSet, is_in}
+use Rattle.bit_planes.specs.PartitionSet.{PartitionSet, partitions_of, is_in, minus}
 use Rattle.bit_planes.specs.SetRows.{SetRows, no_rows, with_row, members, set_of}
 use Rattle.bit_planes.proofs.Walks.{row_turn, row_end}
 use Rattle.coop_rebalance.proofs.WithheldRows.{withheld_more, withheld_all, members_withheld, set_withheld}
@@ -8,17 +8,17 @@ use Rattle.coop_rebalance.specs.Withheld.{withheld}
 use Rattle.coop_rebalance.proofs.withholding.withhold.Goals as goal
 
 pub loop-member-init : goal.loop-member-init
-loop-member-init c = record { next = tt; ends = tt; so_far = c.new-rows.ensures.value ∙ ap no_rows c.partitions.ensures.value; valid = c.new-rows.ensures.valid }
+loop-member-init c = record { next = tt; ends = tt; so_far = c.in_ok-rows.ensures.value ∙ ap no_rows c.partitions.ensures.value; valid = c.in_ok-rows.ensures.valid }
 
-pub minus-requires : goal.minus-requires
-minus-requires c =
+pub remove_all-requires : goal.remove_all-requires
+remove_all-requires c =
     let turn = row_turn c.args.target.now _ _ _ c.loop-member.yielded _ (c.in-Some.member, c.in-Some.row) c.iter-member-items.ensures.valid (cc) c.loop-member.yielded_by c.in-Some.is c.next.ensures.steps in
-    turn.below ∙ c.requires ∙ sym c.of_others-others.ensures.partitions
+    ap partitions_of c.copy-given.ensures ∙ turn.below ∙ c.requires ∙ sym c.of_others.ensures.partitions
 
 pub put-requires : goal.put-requires
 put-requires c =
     let turn = row_turn c.args.target.now _ _ _ c.loop-member.yielded _ (c.in-Some.member, c.in-Some.row) c.iter-member-items.ensures.valid (cc) c.loop-member.yielded_by c.in-Some.is c.next.ensures.steps in
-    c.minus.ensures.partitions ∙ turn.below ∙ sym (ap (λ (r : SetRows). r.partitions) c.loop-member.invariant.so_far)
+    c.remove_all.ensures.partitions ∙ ap partitions_of c.copy-given.ensures ∙ turn.below ∙ sym (ap (λ (r : SetRows). r.partitions) c.loop-member.invariant.so_far)
 
 pub loop-member-preserved : goal.loop-member-preserved
 loop-member-preserved c =
@@ -28,9 +28,9 @@ loop-member-preserved c =
     record {
       next = tt;
       ends = tt;
-      so_far = rw next (withheld_more c.args.target.now c.args.granted.now c.args.target.now.rows (length c.loop-member.yielded) row c.of_others-others.result c.loop-member.rows c.put.new.self
-          c.iter-member-items.ensures.valid refl turn.within turn.at c.of_others-others.ensures.elements c.loop-member.invariant.so_far
-          (c.in_ok-put.ensures.value ∙ ap (λ s. with_row c.loop-member.rows c.in-Some.member s) c.minus.ensures.value));
+      so_far = rw next (withheld_more c.args.target.now c.args.granted.now c.args.target.now.rows (length c.loop-member.yielded) row c.of_others.result c.loop-member.rows c.put.new.self
+          c.iter-member-items.ensures.valid refl turn.within turn.at c.of_others.ensures.elements c.loop-member.invariant.so_far
+          (c.in_ok-put.ensures.value ∙ ap (λ s. with_row c.loop-member.rows c.in-Some.member s) (c.remove_all.ensures.value ∙ ap (λ s. minus s c.of_others.result) c.copy-given.ensures)));
       valid = c.put.ensures.valid;
     }
 

@@ -1,7 +1,6 @@
 use Rattle.std.proofs.Common.{◌≡◌, ◌∙◌, Bor, List, map, ap, subst}
 use Rattle.partition_log.specs.Appends.{AreAppended, AreStoppedAfter, lent}
 use Rattle.partition_log.specs.Keys.{Key}
-use Rattle.partition_log.specs.Logs.{AreLogsOf}
 use Rattle.count_report.proofs.Appended.{all_appended, appends_stopped}
 use Rattle.count_report.proofs.tally.logs_of.Goals as goal
 

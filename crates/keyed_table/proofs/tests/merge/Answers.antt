@@ -1,4 +1,4 @@
-use Rattle.std.proofs.Common.{rules, ◌<◌, length, ap, arith}
+use Rattle.std.proofs.Common.{rules, length, ap, arith}
 use Rattle.std.specs.Prelude.{IsTrue}
 use Rattle.keyed_table.proofs.tests.merge.Goals as goal
 

@@ -1,4 +1,4 @@
-use Rattle.std.proofs.Common.{rules, ◌<◌, length, arith}
+use Rattle.std.proofs.Common.{rules, arith}
 use Rattle.std.specs.Prelude.{IsTrue}
 use Rattle.keyed_table.proofs.tests.merge_plainly.Goals as goal
 

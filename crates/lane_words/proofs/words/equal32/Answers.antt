@@ -5,13 +5,13 @@ use Rattle.lane_words.proofs.words.equal32.Goals as goal
 pub loop-at-preserved : goal.loop-at-preserved
 loop-at-preserved c = record {
   within = omega arith;
-  lanes = lanes_more bit_xor 8 c.loop-at.at c.loop-at.found c.args.a.now c.args.b.now c.requires (omega arith) c.loop-at.invariant.lanes;
-  so_far = set_more bit_xor 8 c.loop-at.at c.loop-at.found c.args.a.now c.args.b.now c.requires (omega arith) c.loop-at.invariant.lanes c.loop-at.invariant.so_far;
+  lanes = lanes_more bit_xor 32 c.loop-at.at c.loop-at.found c.args.a.now c.args.b.now c.requires (omega arith) c.loop-at.invariant.lanes;
+  so_far = set_more bit_xor 32 c.loop-at.at c.loop-at.found c.args.a.now c.args.b.now c.requires (omega arith) c.loop-at.invariant.lanes c.loop-at.invariant.so_far;
 }
 
 pub returns-then-found-eq0 : goal.returns-then-found-eq0
 returns-then-found-eq0 c =
-    let told = equal_told _ _ c.equal32.result (rests c.loop-at.at c.args.a.now c.args.b.now c.requires) c.equal32.ensures in
+    let told = equal_told _ _ c.equal32_by_eight.result (rests c.loop-at.at c.args.a.now c.args.b.now c.requires) c.equal32_by_eight.ensures in
     equal_is c.args.a.now c.args.b.now _ c.requires (told ∙ ap not (lanes_none bit_xor c.loop-at.at c.loop-at.found c.args.a.now c.args.b.now c.requires c.loop-at.invariant.within c.loop-at.invariant.so_far (is_set-zero _ c.if-found-eq0.true)))
 
 pub returns-else-found-eq0 : goal.returns-else-found-eq0

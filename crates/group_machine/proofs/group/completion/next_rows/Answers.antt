@@ -13,5 +13,5 @@ assign-requires-clause-rows c =
     let same : c.in_ok-members.members.items ≡ all = subst (λ r. IfOk r (λ w. w.items ≡ all)) c.in_ok-members.was (items_from_collect c.collect.result c.collect.ensures.ran (YieldsList-from_first (λ x. x) (λ s. s) all c.members.ensures)) in
     subst (HaveRows c.args.granted.now) (sym (c.deref.ensures.value ∙ same)) (have_rows c.args.granted.now)
 
-pub withhold-requires : goal.withhold-requires
-withhold-requires c = ap (λ r. r.partitions) c.in_ok-target.ensures.target ∙ below_assigned c.partitions.result c.deref.result.now c.args.granted.now ∙ c.partitions.ensures.value
+pub withhold_in_place-requires-clause-partitions : goal.withhold_in_place-requires-clause-partitions
+withhold_in_place-requires-clause-partitions c = ap (λ r. r.partitions) c.in_ok-rows.ensures.target ∙ below_assigned c.partitions.result c.deref.result.now c.args.granted.now ∙ c.partitions.ensures.value

@@ -1,7 +1,6 @@
-use Rattle.std.proofs.Common.{rules, ◌≡◌, ◌<◌, ◌∙◌, [], length, ap, arith}
-use Rattle.bit_planes.specs.PartitionSet.{elements, partitions_of}
+use Rattle.std.proofs.Common.{◌∙◌, arith}
 use Rattle.bit_planes.proofs.Sets.{in_below}
-use Rattle.group_machine.proofs.TakenLemmas.{all_taken, next_taken, none_taken, one_taken}
+use Rattle.group_machine.proofs.TakenLemmas.{next_taken, none_taken, one_taken}
 use Rattle.group_machine.proofs.group.moves.take_added.Goals as goal
 
 pub loop-q-init : goal.loop-q-init

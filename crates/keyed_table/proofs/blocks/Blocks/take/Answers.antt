@@ -1,5 +1,4 @@
 use Rattle.std.proofs.Common.{◌≡◌, ◌+◌, ◌-◌, ◌*◌, ◌++◌, ◌∷◌, [], take, drop, rules, arith}
-use Rattle.std.proofs.lemmas.List.{length-take}
 use Rattle.keyed_table.proofs.Tallied.{part-of, passed-over, taken-over}
 use Rattle.keyed_table.proofs.blocks.Blocks.take.Goals as goal
 

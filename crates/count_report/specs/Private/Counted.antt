@@ -1,0 +1,13 @@
+-- Counts of logs by key number, as far as they are counted.
+use Rattle.std.specs.Prelude.{◌≡◌, ◌<◌, ℕ, List, length, slice_index_or}
+use Rattle.keyed_table.specs.Counts as table
+use Rattle.partition_log.specs.Logs.{PartitionLogs, log_at, sum_below}
+
+-- how often a key number is in the logs below p
+abbrev pub so_far : PartitionLogs → ℕ → ℕ → ℕ
+so_far l p n = sum_below p (λ q. table.plain (log_at l q) n)
+
+-- counters of the logs below p
+pub record AreCountsBelow (l : PartitionLogs) (p : ℕ) (counts : List ℕ) : Type 0 where
+  pub one_each : length counts ≡ length l.keys
+  pub counted : (n : ℕ) → n < length l.keys → slice_index_or counts n 0 ≡ so_far l p n

@@ -1,0 +1,167 @@
+-- Counts number by number: they are made run by run of equal numbers, and added one by one.
+use Rattle.std.proofs.Common.{◌≡◌, ◌≢◌, ◌∙◌, ◌+◌, ◌-◌, ◌<◌, ◌≤◌, ℕ, List, [], ◌∷◌, ◌++◌, length, take, get_or, set, sym, ap, refl, arith, inl, inr, get_or-take, get_or-set_same, get_or-set_other, length-set}
+use Rattle.std.specs.List.Sorted.{IsNonDecreasing}
+use Rattle.std.proofs.lemmas.Bool.{cases_lt, cases_eq}
+use Rattle.std.proofs.lemmas.List.{ext_get_or, get_or_append_left, get_or_push, length-take, length_push}
+use Rattle.keyed_table.specs.Counts.{HaveCounters, plain, raised, raised_from}
+use Rattle.keyed_table.specs.Private.ByNumber.{AreCountsOf}
+use Rattle.keyed_table.proofs.Elements.{stands-somewhere}
+use Rattle.keyed_table.proofs.Raised.{counter-raised, length-raised}
+use Rattle.keyed_table.proofs.Runs.{all_equal, none-before, run-other, run-same}
+use Rattle.keyed_table.proofs.Touched.{not-falling}
+
+-- ---- how they are made
+-- a run of n numbers v, past all before it, is counted
+run-counted : (ids numbers counts : List ℕ) (start n v end : ℕ) → start + n ≡ end → end ≤ length ids → 0 < n
+    → ((j : ℕ) → start ≤ j → j < end → get_or ids j 0 ≡ v) → ((j : ℕ) → j < start → get_or ids j 0 < v)
+    → AreCountsOf (take start ids) numbers counts → AreCountsOf (take end ids) (numbers ++ v ∷ []) (counts ++ n ∷ [])
+run-counted ids numbers counts start n v end to le some equal below h =
+    let size = length_push numbers v in
+    let more = numbers ++ v ∷ [] in
+    let all = counts ++ n ∷ [] in
+    let old : (j : ℕ) → j < length numbers → get_or more j 0 ≡ get_or numbers j 0 = λ j lt. get_or_append_left numbers (v ∷ []) 0 j lt in
+    let own : (j : ℕ) → j < length more → length numbers ≤ j → get_or more j 0 ≡ v = λ j lt past. get_or_push numbers v 0 j (omega (arith, lt, past, size)) in
+    let kept : (j : ℕ) → j < length numbers → get_or all j 0 ≡ get_or counts j 0 = λ j lt. get_or_append_left counts (n ∷ []) 0 j (omega (arith, lt, h.whole)) in
+    let last : (j : ℕ) → j < length more → length numbers ≤ j → get_or all j 0 ≡ n = λ j lt past. get_or_push counts n 0 j (omega (arith, lt, past, size, h.whole)) in
+    let in_run : (j : ℕ) → start ≤ j → j < start + n → get_or ids j 0 ≡ v = λ j from before. equal j from (omega (arith, before, to)) in
+    let none : plain (take start ids) v ≡ 0 = none-before ids start v (omega (arith, le, to)) below in
+    let run = run-same ids start n v (omega (arith, le, to)) in_run in
+    let its : plain (take end ids) v ≡ n = ap (λ m. plain (take m ids) v) (sym to) ∙ omega (arith, run, none) in
+    let other : (x : ℕ) → x ≢ v → plain (take end ids) x ≡ plain (take start ids) x = λ x ne. ap (λ m. plain (take m ids) x) (sym to) ∙ run-other ids start n v x (omega (arith, le, to)) ne in_run in
+    let less : (j : ℕ) → j < length numbers → get_or numbers j 0 < v = λ j lt.
+    let found = stands-somewhere (take start ids) (get_or numbers j 0) (h.there j lt) in
+    let before : found.0 < start = omega (arith, found.1, length-take start ids) in
+    let is : get_or ids found.0 0 ≡ get_or numbers j 0 = sym (get_or-take start ids found.0 0 before) ∙ found.2 in
+    omega (arith, below found.0 before, is) in
+    let as_before : (j : ℕ) → j < length numbers → plain (take end ids) (get_or numbers j 0) ≡ plain (take start ids) (get_or numbers j 0) = λ j lt. other (get_or numbers j 0) (λ e. omega (arith, less j lt, e)) in
+    record {
+      whole = omega (arith, size, length_push counts n, h.whole);
+      rise = λ i j before lt. elim (cases_lt j (length numbers)) [
+        | inl within ↦ rw (old j within, old i (omega (arith, before, within))) (h.rise i j before within)
+        | inr past ↦
+            let within : i < length numbers = omega (arith, before, lt, size) in
+            rw (own j lt past, old i within) (less i within)
+      ];
+      counted = λ j lt. elim (cases_lt j (length numbers)) [
+        | inl within ↦ rw (old j within) (kept j within ∙ h.counted j within ∙ sym (as_before j within))
+        | inr past ↦ rw (own j lt past) (last j lt past ∙ sym its)
+      ];
+      there = λ j lt. elim (cases_lt j (length numbers)) [
+        | inl within ↦ rw (old j within) (omega (arith, as_before j within, h.there j within))
+        | inr past ↦ rw (own j lt past) (omega (arith, its, some))
+      ];
+      others = λ x absent.
+          let new : x ≢ v = λ e. absent (length numbers) (omega (arith, size)) (own (length numbers) (omega (arith, size)) (omega arith) ∙ sym e) in
+          other x new ∙ h.others x (λ j lt same. absent j (omega (arith, lt, size)) (old j lt ∙ same));
+    }
+
+-- the runs before start are counted, from start on there are equal numbers, and those before start are smaller
+pub record AreCountedRuns (ids numbers counts : List ℕ) (start at : ℕ) : Type 0 where
+  pub so_far : AreCountsOf (take start ids) numbers counts
+  pub order : start ≤ at
+  pub run : at < length ids → (j : ℕ) → start ≤ j → j < at → get_or ids j 0 ≡ get_or ids at 0
+  pub below : at < length ids → (j : ℕ) → j < start → get_or ids j 0 < get_or ids at 0
+  pub ended : at ≡ length ids → start ≡ at
+
+-- a run that ends is counted
+pub run-ends : (ids numbers counts : List ℕ) (start at : ℕ) → IsNonDecreasing ids → at < length ids → AreCountedRuns ids numbers counts start at
+    → (at + 1 < length ids → get_or ids (at + 1) 0 ≢ get_or ids at 0)
+    → AreCountedRuns ids (numbers ++ get_or ids at 0 ∷ []) (counts ++ (at + 1 - start) ∷ []) (at + 1) (at + 1)
+run-ends ids numbers counts start at rising lt h ends = record {
+  so_far = run-counted ids numbers counts start (at + 1 - start) (get_or ids at 0) (at + 1) (omega (arith, h.order)) (omega (arith, lt)) (omega (arith, h.order))
+      (λ j from before. all_equal ids start at j (h.run lt) from before) (h.below lt) h.so_far;
+  order = omega arith;
+  run = λ lt' j from before. absurd (omega (arith, from, before));
+  below = λ lt' j before.
+      let step = rising j at 0 (omega (arith, before)) lt in
+      let next = rising at (at + 1) 0 (omega arith) lt' in
+      elim (cases_lt (get_or ids at 0) (get_or ids (at + 1) 0)) [
+        | inl less ↦ omega (arith, step, less)
+        | inr le ↦ absurd (ends lt' (omega (arith, next, le)))
+      ];
+  ended = λ e. refl;
+}
+
+-- a run goes on
+pub run-goes-on : (ids numbers counts : List ℕ) (start at : ℕ) → AreCountedRuns ids numbers counts start at → at + 1 < length ids → get_or ids (at + 1) 0 ≡ get_or ids at 0 → AreCountedRuns ids numbers counts start (at + 1)
+run-goes-on ids numbers counts start at h lt same = record {
+  so_far = h.so_far;
+  order = omega (arith, h.order);
+  run = λ lt' j from to. all_equal ids start at j (h.run (omega (arith, lt))) from to ∙ sym same;
+  below = λ lt' j before. rw same (h.below (omega (arith, lt)) j before);
+  ended = λ e. absurd (omega (arith, e, lt));
+}
+
+-- the order of a list doesn't matter to its counts
+pub counts-in-any-order : (sorted ids numbers counts : List ℕ) → AreCountsOf sorted numbers counts → ((x : ℕ) → plain sorted x ≡ plain ids x) → AreCountsOf ids numbers counts
+counts-in-any-order sorted ids numbers counts h same = record {
+  whole = h.whole;
+  rise = h.rise;
+  counted = λ j lt. h.counted j lt ∙ same _;
+  there = λ j lt. omega (arith, h.there j lt, same (get_or numbers j 0));
+  others = λ x none. sym (same x) ∙ h.others x none;
+}
+
+-- ---- what they say of a number
+-- a number that a search does not find is not in the list
+pub none-found : (ids numbers counts : List ℕ) (i x : ℕ) → AreCountsOf ids numbers counts → ((k : ℕ) → k < i → get_or numbers k 0 < x) → ((k : ℕ) → i ≤ k → k < length numbers → x < get_or numbers k 0) → 0 ≡ plain ids x
+none-found ids numbers counts i x h below above =
+    sym (h.others x (λ j lt same. elim (cases_lt j i) [
+      | inl before ↦ absurd (omega (arith, below j before, same))
+      | inr past ↦ absurd (omega (arith, above j past lt, same))
+    ]))
+
+-- ---- how they are added
+-- the numbers before an index are added: counters below the number there are raised, and the others are as they were
+pub record AreAddedOnes (ids numbers old cells : List ℕ) (at : ℕ) : Type 0 where
+  pub same : length cells ≡ length old
+  pub before : (x : ℕ) → (at < length numbers → x < get_or numbers at 0) → get_or cells x 0 ≡ get_or old x 0 + plain ids x
+  pub rest : (x : ℕ) → at < length numbers → get_or numbers at 0 ≤ x → get_or cells x 0 ≡ get_or old x 0
+
+-- nothing is added yet
+pub ones-none : (ids numbers counts old : List ℕ) → AreCountsOf ids numbers counts → AreAddedOnes ids numbers old old 0
+ones-none ids numbers counts old h = record {
+  same = refl;
+  before = λ x first. let none : plain ids x ≡ 0 = h.others x (λ j lt e. absurd (omega (arith, first (omega (arith, lt)), not-falling numbers h.rise 0 j (omega arith) lt, e))) in omega (arith, none);
+  rest = λ x lt le. refl;
+}
+
+-- each number has a counter
+pub one-within : (ids numbers counts old : List ℕ) (at : ℕ) → AreCountsOf ids numbers counts → at < length numbers → HaveCounters old ids → get_or numbers at 0 < length old
+one-within ids numbers counts old at h lt have = have (get_or numbers at 0) (h.there at lt)
+
+-- the number at the index is added
+pub one-more : (ids numbers counts old cells : List ℕ) (at : ℕ) → AreCountsOf ids numbers counts → AreAddedOnes ids numbers old cells at → at < length numbers → HaveCounters old ids
+    → AreAddedOnes ids numbers old (set cells (get_or numbers at 0) (get_or cells (get_or numbers at 0) 0 + get_or counts at 0)) (at + 1)
+one-more ids numbers counts old cells at h added lt have =
+    let own = get_or numbers at 0 in
+    let sum = get_or cells own 0 + get_or counts at 0 in
+    let within : own < length cells = omega (arith, one-within ids numbers counts old at h lt have, added.same) in
+    record {
+      same = length-set cells own sum ∙ added.same;
+      before = λ x upto. elim (cases_lt x own) [
+        | inl below ↦ get_or-set_other cells own x sum 0 (λ e. omega (arith, below, e)) ∙ added.before x (λ there. below)
+        | inr from ↦ elim (cases_eq x own) [
+          | inl same ↦ rw same (get_or-set_same cells own sum 0 within ∙ omega (arith, added.rest own lt (omega arith), h.counted at lt))
+          | inr differs ↦
+              let none : plain ids x ≡ 0 = h.others x (λ j lt' e. elim (cases_lt j (at + 1)) [
+                | inl first ↦ absurd (omega (arith, not-falling numbers h.rise j at (omega (arith, first)) lt, e, from, differs))
+                | inr later ↦ absurd (omega (arith, not-falling numbers h.rise (at + 1) j later lt', e, upto (omega (arith, later, lt'))))
+              ]) in
+              get_or-set_other cells own x sum 0 differs ∙ omega (arith, added.rest x lt from, none)
+        ]
+      ];
+      rest = λ x lt' past.
+          let step = h.rise at (at + 1) (omega arith) lt' in
+          get_or-set_other cells own x sum 0 (λ e. omega (arith, step, past, e)) ∙ added.rest x lt (omega (arith, step, past));
+    }
+
+-- in the end all numbers are added
+pub ones-all : (ids numbers old cells : List ℕ) (at : ℕ) → AreAddedOnes ids numbers old cells at → length numbers ≤ at → cells ≡ raised old ids
+unfolding raised
+ones-all ids numbers old cells at added le =
+    ext_get_or 0 cells (raised_from 0 old ids) (added.same ∙ sym (length-raised 0 old ids))
+    (λ x lt.
+    let within : x < length old = omega (arith, lt, added.same) in
+    let zero_on : 0 + x ≡ x = omega arith in
+    added.before x (λ more. absurd (omega (arith, more, le))) ∙ sym (counter-raised 0 old ids x within ∙ ap (λ y. get_or old x 0 + plain ids y) zero_on))

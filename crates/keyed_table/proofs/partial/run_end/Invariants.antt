@@ -1,5 +1,0 @@
-use Rattle.keyed_table.specs.Private.Blocks.{AreNeighbours}
-use Rattle.keyed_table.proofs.partial.run_end.Given as goal
-
-abbrev pub invariant-loop-end : goal.invariant-loop-end
-invariant-loop-end l = AreNeighbours l.numbers l.start l.end
