@@ -8,6 +8,7 @@ use lane_words::{MOST_MEMBERS, MOST_PARTITIONS, Memory, Refusal};
 use partition_log::{LogRead, Logs};
 use std::alloc::Global;
 use std::process::Abort;
+use std::random::RandomSource;
 use std::test::Fail;
 
 /// Whether a set has these elements and no others.
@@ -15,32 +16,115 @@ fn is(set: &Plane, list: &[u32]) -> bool {
     set.count() as usize == list.len() && list.iter().all(|q| set.contains(*q))
 }
 
-// The calls, without what their contracts say: a test of many calls would else be proved over what
-// all of them say.
-
-fn join(cluster: &mut Cluster, name: Name) -> Result<u32, Refusal> {
-    cluster.join(name)
+/// A call on a cluster of four partitions with its answer, or what is told of the cluster.
+///
+/// A test is a list of them, which one loop makes: a course of calls one after the other is proved
+/// over what all of them say, and takes minutes.
+#[derive(Clone, Copy)]
+enum Step<'a> {
+    /// One joins under this name.
+    Join(&'a [u8], Result<u32, Refusal>),
+    /// A member syncs, and is leased these partitions in this generation.
+    Lease(u32, u32, &'a [u32]),
+    /// A member rejoins in a generation with this claim.
+    Rejoin(u32, u32, &'a [u32], Result<(), Refusal>),
+    /// A member leaves.
+    Leave(u32, Result<(), Refusal>),
+    /// A member is lost.
+    Lose(u32, Result<(), Refusal>),
+    /// A record of this key is appended.
+    Append(&'a [u8], Result<(u32, u32), Refusal>),
+    /// A member commits in a generation, of a partition from an offset on, records of these keys.
+    Commit((u32, u32, u32, u32), &'a [u32], Result<u32, Refusal>),
+    /// The generation, the phase, and whether the group is settled.
+    Stands(u32, Phase, bool),
+    /// A member is granted these partitions, and is to keep those.
+    Has(u32, &'a [u32], &'a [u32]),
+    /// Whether a member is present, has joined and has synced.
+    Is(u32, bool, bool, bool),
+    /// The member of a name.
+    Named(&'a [u8], Option<u32>),
+    /// The committed offsets.
+    Offsets(&'a [u32]),
 }
 
-fn rejoin(
+/// Whether a step is answered as it says.
+fn is_answered(
+    rt: &impl Abort,
+    alloc: Global,
     cluster: &mut Cluster,
-    member: u32,
-    generation: u32,
-    claim: &Plane,
-) -> Result<(), Refusal> {
-    cluster.rejoin(member, generation, claim)
+    step: &Step<'_>,
+) -> Result<bool, Memory> {
+    let is_so = match step {
+        Step::Join(text, answer) => cluster.join(name(rt, text)) == *answer,
+        Step::Lease(member, generation, list) => leases(cluster, *member, *generation, list),
+        Step::Rejoin(member, generation, claim, answer) => {
+            cluster.rejoin(*member, *generation, &set_of(claim)) == *answer
+        }
+        Step::Leave(member, answer) => cluster.leave(*member) == *answer,
+        Step::Lose(member, answer) => cluster.lose(*member) == *answer,
+        Step::Append(key, answer) => cluster.append(key) == *answer,
+        Step::Commit(terms, ids, answer) => commit(alloc, cluster, *terms, ids)? == *answer,
+        step => is_told(rt, cluster, step),
+    };
+    Ok(is_so)
 }
 
-fn leave(cluster: &mut Cluster, member: u32) -> Result<(), Refusal> {
-    cluster.leave(member)
+/// Whether a cluster is told as a step says, which calls nothing that changes it.
+fn is_told(rt: &impl Abort, cluster: &Cluster, step: &Step<'_>) -> bool {
+    match step {
+        Step::Stands(generation, phase, settled) => {
+            cluster.generation() == *generation
+                && cluster.phase() == *phase
+                && cluster.is_settled() == *settled
+        }
+        Step::Has(member, granted, assigned) => has(cluster, *member, granted, assigned),
+        Step::Is(member, present, joined, synced) => {
+            cluster.is_present(*member) == *present
+                && cluster.is_joined(*member) == *joined
+                && cluster.is_synced(*member) == *synced
+        }
+        Step::Named(text, member) => cluster.member_named(&name(rt, text)) == *member,
+        Step::Offsets(offsets) => cluster.store().offsets() == *offsets,
+        _ => false,
+    }
 }
 
-fn lose(cluster: &mut Cluster, member: u32) -> Result<(), Refusal> {
-    cluster.lose(member)
+/// The first step that is not answered as it says.
+fn first_other(
+    rt: &impl Abort,
+    alloc: Global,
+    cluster: &mut Cluster,
+    steps: &[Step<'_>],
+) -> Result<Option<usize>, Memory> {
+    for (index, step) in steps.iter().enumerate() {
+        if !is_answered(rt, alloc, cluster, step)? {
+            return Ok(Some(index));
+        }
+    }
+    Ok(None)
 }
 
-fn append(cluster: &mut Cluster, key: &[u8]) -> Result<(u32, u32), Refusal> {
-    cluster.append(key)
+/// A cluster of four partitions, after steps that are answered as they say.
+fn after<R: Abort + RandomSource>(
+    rt: &R,
+    alloc: Global,
+    steps: &[Step<'_>],
+) -> Result<Cluster, Fail> {
+    let mut cluster = Cluster::new(rt, alloc, 4)?;
+    assert_eq!(rt; first_other(rt, alloc, &mut cluster, steps)?, None);
+    Ok(cluster)
+}
+
+/// The set of these of four partitions.
+fn set_of(list: &[u32]) -> Plane {
+    let mut set = Plane::new(4);
+    for q in list {
+        if *q < set.partitions() {
+            set.insert(*q);
+        }
+    }
+    set
 }
 
 /// Whether a member is present with these sets.
@@ -74,20 +158,15 @@ fn sync_and_rejoin(cluster: &mut Cluster, member: u32) -> Result<u32, Refusal> {
 }
 
 /// Whether a member is leased these partitions in this generation.
-fn leases(
-    cluster: &mut Cluster,
-    member: u32,
-    generation: u32,
-    list: &[u32],
-) -> Result<bool, Refusal> {
-    let lease = cluster.sync(member)?;
-    let of_member = lease.member() == member && lease.generation() == generation;
-    Ok(of_member && is(lease.assigned(), list))
-}
-
-/// Whether a partition has so many records.
-fn is_length(cluster: &Cluster, p: u32, records: u32) -> bool {
-    p < cluster.partitions() && cluster.logs().len(p) == records
+fn leases(cluster: &mut Cluster, member: u32, generation: u32, list: &[u32]) -> bool {
+    match cluster.sync(member) {
+        Ok(lease) => {
+            lease.member() == member
+                && lease.generation() == generation
+                && is(lease.assigned(), list)
+        }
+        Err(_) => false,
+    }
 }
 
 /// What a cluster answers a commit of these terms.
@@ -103,105 +182,96 @@ fn commit(
     Ok(cluster.commit(&sent))
 }
 
-#[test]
-fn a_partition_moves_once_it_is_revoked(rt: HostRuntime) -> Result<(), Fail> {
-    let mut cluster = Cluster::new(&rt, rt.alloc(), 4)?;
-    assert_eq!(rt; join(&mut cluster, name(&rt, b"A")), Ok(1));
-    assert_eq!(rt; join(&mut cluster, name(&rt, b"B")), Ok(2));
-    assert!(rt; cluster.phase() == Phase::Preparing && cluster.generation() == 1);
-    assert!(rt; cluster.is_joined(2) && !cluster.is_joined(1) && !cluster.is_synced(1));
-    assert_eq!(rt; leases(&mut cluster, 1, 1, &[0, 1, 2, 3]), Ok(true));
-    assert!(rt; cluster.is_synced(1));
-    assert_eq!(rt;
-        rejoin(&mut cluster, 1, 1, &Plane::of(4, &[0, 1, 2, 3])),
-        Ok(())
-    );
-    assert!(rt; cluster.generation() == 2 && !cluster.is_settled());
-    assert!(rt; has(&cluster, 1, &[0, 1, 2, 3], &[0, 1]) && has(&cluster, 2, &[], &[]));
-    assert_eq!(rt; leases(&mut cluster, 1, 2, &[0, 1]), Ok(true));
-    assert_eq!(rt; rejoin(&mut cluster, 1, 2, &Plane::of(4, &[0, 1])), Ok(()));
-    assert_eq!(rt; leases(&mut cluster, 2, 2, &[]), Ok(true));
-    assert_eq!(rt; rejoin(&mut cluster, 2, 2, &Plane::of(4, &[])), Ok(()));
-    assert!(rt; cluster.generation() == 3 && cluster.is_settled());
+/// The moves from the last on: generation, partition, last holder and holder.
+fn moves_end_with(cluster: &Cluster, rows: &[(u32, u32, Option<u32>, u32)]) -> bool {
     let last = cluster
         .moves()
         .iter()
         .rev()
         .map(|m| (m.generation, m.partition, m.last, m.holder));
-    let expected = [(3, 3, Some(1), 2), (3, 2, Some(1), 2), (1, 3, None, 1)];
-    for (moved, row) in last.zip(expected) {
-        assert_eq!(rt; moved, row);
-    }
-    assert_eq!(rt; cluster.moves().len(), 6);
+    last.zip(rows).all(|(moved, row)| moved == *row)
+}
+
+#[test]
+fn a_partition_moves_once_it_is_revoked(rt: HostRuntime) -> Result<(), Fail> {
+    let cluster = after(
+        &rt,
+        rt.alloc(),
+        &[
+            Step::Join(b"A", Ok(1)),
+            Step::Join(b"B", Ok(2)),
+            Step::Stands(1, Phase::Preparing, false),
+            Step::Is(1, true, false, false),
+            Step::Is(2, true, true, false),
+            Step::Lease(1, 1, &[0, 1, 2, 3]),
+            Step::Is(1, true, false, true),
+            Step::Rejoin(1, 1, &[0, 1, 2, 3], Ok(())),
+            Step::Stands(2, Phase::Stable, false),
+            Step::Has(1, &[0, 1, 2, 3], &[0, 1]),
+            Step::Has(2, &[], &[]),
+            Step::Lease(1, 2, &[0, 1]),
+            Step::Rejoin(1, 2, &[0, 1], Ok(())),
+            Step::Lease(2, 2, &[]),
+            Step::Rejoin(2, 2, &[], Ok(())),
+            Step::Stands(3, Phase::Stable, true),
+        ],
+    )?;
+    let rows = [(3, 3, Some(1), 2), (3, 2, Some(1), 2), (1, 3, None, 1)];
+    assert!(rt; cluster.moves().len() == 6 && moves_end_with(&cluster, &rows));
     assert_eq!(rt; cluster.owner(3), Some(2));
     Ok(())
 }
 
 #[test]
 fn commits_are_fenced_and_taken_once(rt: HostRuntime) -> Result<(), Fail> {
-    let mut cluster = Cluster::new(&rt, rt.alloc(), 4)?;
-    assert_eq!(rt; append(&mut cluster, b"21"), Ok((0, 0)));
-    assert_eq!(rt; append(&mut cluster, b"21"), Ok((0, 1)));
-    assert_eq!(rt; join(&mut cluster, name(&rt, b"A")), Ok(1));
-    assert_eq!(rt;
-        rejoin(&mut cluster, 1, 1, &Plane::of(4, &[])),
-        Err(Refusal::SyncFirst)
-    );
-    assert_eq!(rt; leases(&mut cluster, 1, 1, &[0, 1, 2, 3]), Ok(true));
-    assert_eq!(rt; join(&mut cluster, name(&rt, b"B")), Ok(2));
-    assert_eq!(rt;
-        rejoin(&mut cluster, 1, 1, &Plane::of(4, &[0, 1])),
-        Err(Refusal::ClaimDiffers)
-    );
-    let commits: [((u32, u32, u32, u32), &[u32], Result<u32, Refusal>); 9] = [
-        ((9, 1, 0, 0), &[0], Err(Refusal::UnknownMember)),
-        ((1, 0, 0, 0), &[0], Err(Refusal::StaleGeneration)),
-        ((1, 1, 7, 0), &[0], Err(Refusal::NotOwner)),
-        ((1, 1, 0, 0), &[], Err(Refusal::EmptyCommit)),
-        (
-            (1, 1, 0, 1),
-            &[0],
-            Err(Refusal::OffsetMismatch { committed: 0 }),
-        ),
-        ((1, 1, 0, 0), &[0, 0, 0], Err(Refusal::PastEnd)),
-        ((1, 1, 0, 0), &[0, 1], Err(Refusal::WrongRecords)),
-        ((1, 1, 0, 0), &[0, 0], Ok(2)),
-        (
-            (1, 1, 0, 0),
-            &[0, 0],
-            Err(Refusal::OffsetMismatch { committed: 2 }),
-        ),
-    ];
-    for (terms, ids, answer) in commits {
-        assert_eq!(rt;
-            commit(rt.alloc(), &mut cluster, terms, ids)?,
-            answer,
-            "{terms:?} {ids:?}"
-        );
-    }
-    assert_eq!(rt; cluster.store().offsets(), [2, 0, 0, 0].as_slice());
-    assert!(rt; is_length(&cluster, 0, 2));
+    let none_yet = Err(Refusal::OffsetMismatch { committed: 0 });
+    let taken = Err(Refusal::OffsetMismatch { committed: 2 });
+    let cluster = after(
+        &rt,
+        rt.alloc(),
+        &[
+            Step::Append(b"21", Ok((0, 0))),
+            Step::Append(b"21", Ok((0, 1))),
+            Step::Join(b"A", Ok(1)),
+            Step::Rejoin(1, 1, &[], Err(Refusal::SyncFirst)),
+            Step::Lease(1, 1, &[0, 1, 2, 3]),
+            Step::Join(b"B", Ok(2)),
+            Step::Rejoin(1, 1, &[0, 1], Err(Refusal::ClaimDiffers)),
+            Step::Commit((9, 1, 0, 0), &[0], Err(Refusal::UnknownMember)),
+            Step::Commit((1, 0, 0, 0), &[0], Err(Refusal::StaleGeneration)),
+            Step::Commit((1, 1, 7, 0), &[0], Err(Refusal::NotOwner)),
+            Step::Commit((1, 1, 0, 0), &[], Err(Refusal::EmptyCommit)),
+            Step::Commit((1, 1, 0, 1), &[0], none_yet),
+            Step::Commit((1, 1, 0, 0), &[0, 0, 0], Err(Refusal::PastEnd)),
+            Step::Commit((1, 1, 0, 0), &[0, 1], Err(Refusal::WrongRecords)),
+            Step::Commit((1, 1, 0, 0), &[0, 0], Ok(2)),
+            Step::Commit((1, 1, 0, 0), &[0, 0], taken),
+            Step::Offsets(&[2, 0, 0, 0]),
+        ],
+    )?;
+    assert!(rt; cluster.partitions() == 4 && cluster.logs().len(0) == 2);
     Ok(())
 }
 
 #[test]
 fn a_lost_member_is_fenced_off(rt: HostRuntime) -> Result<(), Fail> {
-    let mut cluster = Cluster::new(&rt, rt.alloc(), 4)?;
-    assert_eq!(rt; append(&mut cluster, b"21"), Ok((0, 0)));
-    assert_eq!(rt; join(&mut cluster, name(&rt, b"A")), Ok(1));
-    assert_eq!(rt; join(&mut cluster, name(&rt, b"B")), Ok(2));
-    assert_eq!(rt; join(&mut cluster, name(&rt, b"B")), Err(Refusal::NameUsed));
-    assert_eq!(rt; lose(&mut cluster, 1), Ok(()));
-    assert_eq!(rt; leave(&mut cluster, 1), Err(Refusal::UnknownMember));
-    assert!(rt; !cluster.is_present(1) && cluster.is_present(2) && cluster.is_settled());
-    assert_eq!(rt;
-        commit(rt.alloc(), &mut cluster, (1, 1, 0, 0), &[0])?,
-        Err(Refusal::UnknownMember)
-    );
-    assert_eq!(rt;
-        commit(rt.alloc(), &mut cluster, (2, 2, 0, 0), &[0])?,
-        Ok(1)
-    );
+    let cluster = after(
+        &rt,
+        rt.alloc(),
+        &[
+            Step::Append(b"21", Ok((0, 0))),
+            Step::Join(b"A", Ok(1)),
+            Step::Join(b"B", Ok(2)),
+            Step::Join(b"B", Err(Refusal::NameUsed)),
+            Step::Lose(1, Ok(())),
+            Step::Leave(1, Err(Refusal::UnknownMember)),
+            Step::Is(1, false, false, false),
+            Step::Is(2, true, false, false),
+            Step::Stands(2, Phase::Stable, true),
+            Step::Commit((1, 1, 0, 0), &[0], Err(Refusal::UnknownMember)),
+            Step::Commit((2, 2, 0, 0), &[0], Ok(1)),
+        ],
+    )?;
     assert!(rt; cluster.members().eq([2]));
     let lost = cluster.name(1).expect(&rt, "a number that was given");
     assert_eq!(rt; lost.text(), b"A".as_slice());
@@ -223,33 +293,54 @@ fn names_are_of_letters_digits_and_two_marks(rt: HostRuntime) {
     }
 }
 
+/// As many members as there may be, of as many partitions.
+fn at_its_limits<R: Abort + RandomSource>(rt: &R, alloc: Global) -> Result<Cluster, Fail> {
+    let mut cluster = Cluster::new(rt, alloc, MOST_PARTITIONS)?;
+    for member in 1..MOST_MEMBERS as u32 + 1 {
+        assert!(rt;
+            cluster.join(numbered(rt, member)) == Ok(member),
+            "{member}"
+        );
+    }
+    Ok(cluster)
+}
+
+#[test]
+fn no_more_members_than_there_may_be_join(rt: HostRuntime) -> Result<(), Fail> {
+    let mut cluster = at_its_limits(&rt, rt.alloc())?;
+    let joins = [
+        Step::Join(b"late", Err(Refusal::TooManyMembers)),
+        Step::Join(b"007", Err(Refusal::NameUsed)),
+    ];
+    assert_eq!(rt; first_other(&rt, rt.alloc(), &mut cluster, &joins)?, None);
+    Ok(())
+}
+
+/// What a member is leased, where it syncs and rejoins.
+fn leased(cluster: &mut Cluster, member: u32) -> Option<u32> {
+    sync_and_rejoin(cluster, member).ok()
+}
+
 #[test]
 fn a_cluster_at_its_limits(rt: HostRuntime) -> Result<(), Fail> {
-    let mut cluster = Cluster::new(&rt, rt.alloc(), MOST_PARTITIONS)?;
-    for member in 1..MOST_MEMBERS as u32 + 1 {
-        assert_eq!(rt; join(&mut cluster, numbered(&rt, member)), Ok(member));
+    let mut cluster = at_its_limits(&rt, rt.alloc())?;
+    for (member, count) in [(1, MOST_PARTITIONS), (1, 8), (512, 0)] {
+        assert!(rt;
+            leased(&mut cluster, member) == Some(count),
+            "{member} {count}"
+        );
     }
-    assert_eq!(rt;
-        join(&mut cluster, name(&rt, b"late")),
-        Err(Refusal::TooManyMembers)
-    );
-    assert_eq!(rt;
-        join(&mut cluster, numbered(&rt, 7)),
-        Err(Refusal::NameUsed)
-    );
-    assert_eq!(rt; sync_and_rejoin(&mut cluster, 1), Ok(MOST_PARTITIONS));
-    assert!(rt; cluster.generation() == 2 && cluster.moves().len() == MOST_PARTITIONS as usize);
-    assert!(rt;
-        cluster
-            .assigned(1)
-            .is_some_and(|kept| is(kept, &[0, 1, 2, 3, 4, 5, 6, 7]))
-    );
-    assert_eq!(rt; sync_and_rejoin(&mut cluster, 1), Ok(8));
-    assert_eq!(rt; sync_and_rejoin(&mut cluster, 512), Ok(0));
-    assert_eq!(rt; leave(&mut cluster, 512), Ok(()));
-    assert_eq!(rt; leave(&mut cluster, 512), Err(Refusal::UnknownMember));
-    assert!(rt; cluster.phase() == Phase::Preparing && cluster.generation() == 2);
-    assert!(rt; cluster.is_present(511) && !cluster.is_present(512));
+    assert_eq!(rt; cluster.moves().len(), MOST_PARTITIONS as usize);
+    let first = [0, 1, 2, 3, 4, 5, 6, 7];
+    let steps = [
+        Step::Has(1, &first, &first),
+        Step::Leave(512, Ok(())),
+        Step::Leave(512, Err(Refusal::UnknownMember)),
+        Step::Stands(2, Phase::Preparing, false),
+        Step::Is(511, true, false, false),
+        Step::Is(512, false, false, false),
+    ];
+    assert_eq!(rt; first_other(&rt, rt.alloc(), &mut cluster, &steps)?, None);
     Ok(())
 }
 
@@ -273,22 +364,24 @@ fn a_cluster_over_logs_has_nothing_committed(rt: HostRuntime) -> Result<(), Fail
     Ok(())
 }
 
+/// Whether a cluster's logs are equal to these.
+fn are_logs(logs: Logs, cluster: &Cluster) -> bool {
+    logs.seal().same(cluster.logs())
+}
+
 #[test]
 fn a_cluster_over_logs_keeps_them(rt: HostRuntime) -> Result<(), Fail> {
     let mut cluster = Cluster::over(rt.alloc(), five_records(&rt)?)?;
-    assert_eq!(rt; join(&mut cluster, name(&rt, b"A")), Ok(1));
-    assert_eq!(rt; leases(&mut cluster, 1, 1, &[0, 1, 2, 3]), Ok(true));
-    assert_eq!(rt;
-        commit(rt.alloc(), &mut cluster, (1, 1, 0, 0), &[0, 0]),
-        Ok(Ok(2))
-    );
-    assert_eq!(rt;
-        commit(rt.alloc(), &mut cluster, (1, 1, 2, 0), &[2]),
-        Ok(Ok(1))
-    );
-    assert_eq!(rt; cluster.store().offsets(), [2, 0, 1, 0].as_slice());
+    let steps = [
+        Step::Join(b"A", Ok(1)),
+        Step::Lease(1, 1, &[0, 1, 2, 3]),
+        Step::Commit((1, 1, 0, 0), &[0, 0], Ok(2)),
+        Step::Commit((1, 1, 2, 0), &[2], Ok(1)),
+        Step::Offsets(&[2, 0, 1, 0]),
+    ];
+    assert_eq!(rt; first_other(&rt, rt.alloc(), &mut cluster, &steps)?, None);
     assert_eq!(rt; cluster.store().counts(), [2, 0, 1, 0].as_slice());
-    assert!(rt; five_records(&rt)?.seal().same(cluster.logs()));
+    assert!(rt; are_logs(five_records(&rt)?, &cluster));
     Ok(())
 }
 
@@ -307,26 +400,26 @@ fn a_cluster_over_many_keys_counts_each(rt: HostRuntime) -> Result<(), Fail> {
     assert!(rt; cluster.partitions() == MOST_PARTITIONS && cluster.logs().keys() == 100_000);
     assert_eq!(rt; cluster.store().offsets().len(), 4096);
     assert_eq!(rt; cluster.store().counts().len(), 100_000);
-    assert_eq!(rt; append(&mut cluster, b"new").is_ok(), true);
+    assert!(rt; cluster.append(b"new").is_ok());
     assert_eq!(rt; cluster.store().counts().len(), 100_001);
     Ok(())
 }
 
 #[test]
 fn a_name_tells_its_number(rt: HostRuntime) -> Result<(), Fail> {
-    let mut cluster = Cluster::new(&rt, rt.alloc(), 4)?;
-    assert_eq!(rt; cluster.member_named(&name(&rt, b"A")), None);
-    assert_eq!(rt; join(&mut cluster, name(&rt, b"A")), Ok(1));
-    assert_eq!(rt; join(&mut cluster, name(&rt, b"B")), Ok(2));
-    assert_eq!(rt; leave(&mut cluster, 1), Ok(()));
-    let numbers: [(&[u8], Option<u32>); 4] = [
-        (b"A", Some(1)),
-        (b"B", Some(2)),
-        (b"a", None),
-        (b"AB", None),
-    ];
-    for (text, number) in numbers {
-        assert_eq!(rt; cluster.member_named(&name(&rt, text)), number, "{text:?}");
-    }
+    after(
+        &rt,
+        rt.alloc(),
+        &[
+            Step::Named(b"A", None),
+            Step::Join(b"A", Ok(1)),
+            Step::Join(b"B", Ok(2)),
+            Step::Leave(1, Ok(())),
+            Step::Named(b"A", Some(1)),
+            Step::Named(b"B", Some(2)),
+            Step::Named(b"a", None),
+            Step::Named(b"AB", None),
+        ],
+    )?;
     Ok(())
 }

@@ -11,9 +11,56 @@ use std::process::Abort;
 use std::random::RandomSource;
 use std::test::Fail;
 
-/// The name of this text, which is one.
-fn name(rt: &impl Abort, text: &[u8]) -> Name {
-    Name::new(text).expect(rt, "a name")
+/// A call on a cluster that is taken, or the rows that it has then.
+///
+/// A test is a list of them, which one loop makes: a course of calls one after the other is proved
+/// over what all of them say, and takes minutes.
+#[derive(Clone, Copy)]
+enum Step<'a> {
+    /// One joins under this name, and is given this number.
+    Join(&'a [u8], u32),
+    /// A member is lost.
+    Lose(u32),
+    /// Member 1 commits, in generation 1, records of these keys from the start of a log.
+    Commit(u32, &'a [u32]),
+    /// The rows of moves from an index on.
+    Moves(usize, &'a [u8]),
+    /// The closing rows.
+    Closing(&'a [u8]),
+}
+
+/// Whether a step is taken, or tells these rows.
+fn is_so(
+    rt: &impl Abort,
+    alloc: Global,
+    cluster: &mut Cluster,
+    step: &Step<'_>,
+) -> Result<bool, Memory> {
+    let is_so = match step {
+        Step::Join(text, number) => {
+            cluster.join(Name::new(text).expect(rt, "a name")) == Ok(*number)
+        }
+        Step::Lose(member) => cluster.lose(*member) == Ok(()),
+        Step::Commit(partition, ids) => commit(alloc, cluster, *partition, ids)?,
+        Step::Moves(from, wanted) => has_moves(alloc, cluster, *from, wanted)?,
+        Step::Closing(wanted) => has_closing(alloc, cluster, wanted)?,
+    };
+    Ok(is_so)
+}
+
+/// The first step that is not so.
+fn first_other(
+    rt: &impl Abort,
+    alloc: Global,
+    cluster: &mut Cluster,
+    steps: &[Step<'_>],
+) -> Result<Option<usize>, Memory> {
+    for (index, step) in steps.iter().enumerate() {
+        if !is_so(rt, alloc, cluster, step)? {
+            return Ok(Some(index));
+        }
+    }
+    Ok(None)
 }
 
 /// Whether a cluster has these rows of moves from an index on.
@@ -32,16 +79,20 @@ fn has_closing(alloc: Global, cluster: &Cluster, wanted: &[u8]) -> Result<bool, 
     Ok(text.as_slice() == wanted)
 }
 
-/// What a cluster answers a commit of member 1 in generation 1, from the start of a log.
+/// Whether member 1 commits records of these keys, in generation 1 and from the start of a log.
 fn commit(
     alloc: Global,
     cluster: &mut Cluster,
     partition: u32,
     ids: &[u32],
-) -> Result<Result<u32, Refusal>, Memory> {
+) -> Result<bool, Memory> {
     let partial = Partial::of(alloc, Vec::from_slice(alloc, ids)?)?;
     let sent = Commit::new(1, 1, partition, 0, partial);
-    Ok(cluster.commit(&sent))
+    Ok(
+        cluster
+            .commit(&sent)
+            .is_ok_and(|end| end as usize == ids.len()),
+    )
 }
 
 /// A cluster of this many partitions.
@@ -49,16 +100,6 @@ fn cluster_of(rt: &impl RandomSource, alloc: Global, partitions: u32) -> Result<
     requires { (1 ≤ partitions) × (partitions ≤ MOST_PARTITIONS) }
 {
     Cluster::new(rt, alloc, partitions)
-}
-
-/// What a cluster answers to a join under this name.
-fn join(rt: &impl Abort, cluster: &mut Cluster, text: &[u8]) -> Result<u32, Refusal> {
-    cluster.join(name(rt, text))
-}
-
-/// What a cluster answers to the loss of a member.
-fn lose(cluster: &mut Cluster, member: u32) -> Result<(), Refusal> {
-    cluster.lose(member)
 }
 
 /// The five records that most rows are over.
@@ -78,12 +119,15 @@ const FIRST_CLOSING: &[u8] = b"owner,0,A\nowner,1,A\nowner,2,A\nowner,3,A\n\
 #[test]
 fn a_first_member_is_given_all_partitions(rt: HostRuntime) -> Result<(), Fail> {
     let mut cluster = cluster_of(&rt, rt.alloc(), 4)?;
-    assert!(rt; has_moves(rt.alloc(), &cluster, 0, b"")?);
-    assert_eq!(rt; join(&rt, &mut cluster, b"A"), Ok(1));
-    assert!(rt; has_moves(rt.alloc(), &cluster, 0, FIRST_MOVES)?);
-    assert!(rt; has_moves(rt.alloc(), &cluster, 3, b"move,1,3,,A\n")?);
-    assert!(rt; has_moves(rt.alloc(), &cluster, 9, b"")?);
-    assert!(rt; has_closing(rt.alloc(), &cluster, FIRST_CLOSING)?);
+    let steps = [
+        Step::Moves(0, b""),
+        Step::Join(b"A", 1),
+        Step::Moves(0, FIRST_MOVES),
+        Step::Moves(3, b"move,1,3,,A\n"),
+        Step::Moves(9, b""),
+        Step::Closing(FIRST_CLOSING),
+    ];
+    assert_eq!(rt; first_other(&rt, rt.alloc(), &mut cluster, &steps)?, None);
     Ok(())
 }
 
@@ -94,11 +138,14 @@ const SECOND_MOVES: &[u8] = b"move,2,0,A,worker-2_B\nmove,2,1,A,worker-2_B\n";
 #[test]
 fn a_move_names_the_last_holder(rt: HostRuntime) -> Result<(), Fail> {
     let mut cluster = cluster_of(&rt, rt.alloc(), 2)?;
-    assert_eq!(rt; join(&rt, &mut cluster, b"A"), Ok(1));
-    assert_eq!(rt; lose(&mut cluster, 1), Ok(()));
-    assert!(rt; has_closing(rt.alloc(), &cluster, NOBODYS_CLOSING)?);
-    assert_eq!(rt; join(&rt, &mut cluster, b"worker-2_B"), Ok(2));
-    assert!(rt; has_moves(rt.alloc(), &cluster, 2, SECOND_MOVES)?);
+    let steps = [
+        Step::Join(b"A", 1),
+        Step::Lose(1),
+        Step::Closing(NOBODYS_CLOSING),
+        Step::Join(b"worker-2_B", 2),
+        Step::Moves(2, SECOND_MOVES),
+    ];
+    assert_eq!(rt; first_other(&rt, rt.alloc(), &mut cluster, &steps)?, None);
     Ok(())
 }
 
@@ -110,10 +157,13 @@ const COUNTED_CLOSING: &[u8] = b"owner,0,A\nowner,1,A\nowner,2,A\nowner,3,A\n\
 fn committed_keys_are_counted(rt: HostRuntime) -> Result<(), Fail> {
     let mut cluster = cluster_of(&rt, rt.alloc(), 4)?;
     load(&mut cluster)?;
-    assert_eq!(rt; join(&rt, &mut cluster, b"A"), Ok(1));
-    assert_eq!(rt; commit(rt.alloc(), &mut cluster, 0, &[0, 0])?, Ok(2));
-    assert_eq!(rt; commit(rt.alloc(), &mut cluster, 3, &[3])?, Ok(1));
-    assert!(rt; has_closing(rt.alloc(), &cluster, COUNTED_CLOSING)?);
+    let steps = [
+        Step::Join(b"A", 1),
+        Step::Commit(0, &[0, 0]),
+        Step::Commit(3, &[3]),
+        Step::Closing(COUNTED_CLOSING),
+    ];
+    assert_eq!(rt; first_other(&rt, rt.alloc(), &mut cluster, &steps)?, None);
     Ok(())
 }
 

@@ -48,6 +48,16 @@ fn loaded<R: Abort + RandomSource + Threads + Sync>(rt: &R, alloc: Global) -> Re
     Ok(world)
 }
 
+/// The first of some events whose reply is another.
+fn first_other(world: &mut World, events: &[Event], expected: &[Reply]) -> Option<usize> {
+    for (index, (event, reply)) in events.iter().zip(expected).enumerate() {
+        if step(world, *event) != *reply {
+            return Some(index);
+        }
+    }
+    None
+}
+
 /// The replies to a schedule, event by event and by one run of another world.
 fn replies_are<R: Abort + RandomSource + Threads + Sync>(
     rt: &R,
@@ -56,9 +66,7 @@ fn replies_are<R: Abort + RandomSource + Threads + Sync>(
     expected: &[Reply],
 ) -> Result<World, Fail> {
     let mut world = loaded(rt, alloc)?;
-    for (event, reply) in events.iter().zip(expected) {
-        assert_eq!(rt; step(&mut world, *event), *reply);
-    }
+    assert_eq!(rt; first_other(&mut world, events, expected), None);
     let mut other = loaded(rt, alloc)?;
     let replies = other.run(events)?;
     assert_eq!(rt; replies.as_slice(), expected);
@@ -204,17 +212,31 @@ fn an_answer_moves_the_base(rt: HostRuntime) -> Result<(), Fail> {
     Ok(())
 }
 
+/// A world of as many partitions as there may be, with this many records of one key.
+fn of_one_key<R: Abort + RandomSource + Threads + Sync>(
+    rt: &R,
+    alloc: Global,
+    records: usize,
+) -> Result<World, Fail> {
+    let keys: Vec<&[u8]> = vec![in alloc; b"21".as_slice(); records]?;
+    let mut world = World::new(rt, alloc, 4096)?;
+    assert_eq!(rt; load(rt, &mut world, keys.as_slice()), Ok(()));
+    Ok(world)
+}
+
+/// The partition to which a record of the key goes, after so many.
+fn partition_after(world: &mut World, records: u32) -> Option<u32> {
+    match step(world, Event::Append(b"21")) {
+        Reply::Appended(partition, offset) if offset == records => Some(partition),
+        _ => None,
+    }
+}
+
 #[test]
 fn reads_and_sends_at_real_sizes(rt: HostRuntime) -> Result<(), Fail> {
-    let keys: Vec<&[u8]> = vec![in rt.alloc(); b"21".as_slice(); 100_000]?;
+    let mut world = of_one_key(&rt, rt.alloc(), 100_000)?;
+    let partition = partition_after(&mut world, 100_000).expect(&rt, "a record");
     let a = name(&rt, b"A");
-    let mut world = World::new(&rt, rt.alloc(), 4096)?;
-    assert_eq!(rt; load(&rt, &mut world, keys.as_slice()), Ok(()));
-    let Reply::Appended(partition, 100_000) = step(&mut world, Event::Append(b"21")) else {
-        return Err("not appended".into());
-    };
-    assert_eq!(rt; step(&mut world, Event::Join(&a)), Reply::Joined(1));
-    assert_eq!(rt; step(&mut world, Event::Sync(1)), Reply::Leased(1));
     let poll = Event::Poll {
         member: 1,
         partition,
@@ -224,16 +246,35 @@ fn reads_and_sends_at_real_sizes(rt: HostRuntime) -> Result<(), Fail> {
         member: 1,
         partition,
     };
-    assert_eq!(rt; step(&mut world, poll), Reply::Polled(100_001));
-    assert_eq!(rt; step(&mut world, send), Reply::Sent(1));
-    assert_eq!(rt;
-        step(&mut world, Event::Deliver(1)),
-        Reply::Committed(100_001)
-    );
+    let events = [
+        Event::Join(&a),
+        Event::Sync(1),
+        poll,
+        send,
+        Event::Deliver(1),
+    ];
+    let expected = [
+        Reply::Joined(1),
+        Reply::Leased(1),
+        Reply::Polled(100_001),
+        Reply::Sent(1),
+        Reply::Committed(100_001),
+    ];
+    assert_eq!(rt; first_other(&mut world, &events, &expected), None);
+    Ok(())
+}
+
+/// How many replies a run has.
+fn replies_of(world: &mut World, events: &[Event]) -> Result<usize, Fail> {
+    Ok(world.run(events)?.len())
+}
+
+#[test]
+fn runs_at_real_sizes(rt: HostRuntime) -> Result<(), Fail> {
     let events = vec![in rt.alloc(); Event::Append(b"4"); 70_000]?;
-    let replies = world.run(events.as_slice())?;
-    assert_eq!(rt; replies.len(), 70_000);
-    assert_eq!(rt; world.cluster().logs().keys(), 2);
+    let mut world = loaded(&rt, rt.alloc())?;
+    assert_eq!(rt; replies_of(&mut world, events.as_slice())?, 70_000);
+    assert_eq!(rt; world.cluster().logs().keys(), 4);
     Ok(())
 }
 
@@ -252,16 +293,26 @@ fn a_load_stops_at_the_first_key_that_is_refused(rt: HostRuntime) -> Result<(), 
 fn a_member_that_leaves_or_rejoins_is_told(rt: HostRuntime) -> Result<(), Fail> {
     let (a, b) = (name(&rt, b"A"), name(&rt, b"B"));
     let mut world = loaded(&rt, rt.alloc())?;
-    assert_eq!(rt; step(&mut world, Event::Join(&a)), Reply::Joined(1));
-    assert_eq!(rt; step(&mut world, Event::Sync(1)), Reply::Leased(1));
-    assert_eq!(rt; step(&mut world, Event::Join(&b)), Reply::Joined(2));
-    assert_eq!(rt; step(&mut world, Event::Rejoin(1)), Reply::Rejoined);
-    assert_eq!(rt; step(&mut world, Event::Leave(2)), Reply::Left);
-    let out = Reply::Refused(Refusal::OutOfGroup);
-    assert_eq!(rt; step(&mut world, Event::Leave(2)), out);
-    let unknown = Reply::Refused(Refusal::UnknownMember);
-    assert_eq!(rt; step(&mut world, Event::Sync(3)), unknown);
-    assert!(rt; world.cluster().generation() == 2 && world.cluster().phase() == Phase::Preparing);
+    let events = [Event::Join(&a), Event::Sync(1)];
+    let expected = [Reply::Joined(1), Reply::Leased(1)];
+    assert_eq!(rt; first_other(&mut world, &events, &expected), None);
+    let events = [
+        Event::Join(&b),
+        Event::Rejoin(1),
+        Event::Leave(2),
+        Event::Leave(2),
+        Event::Sync(3),
+    ];
+    let expected = [
+        Reply::Joined(2),
+        Reply::Rejoined,
+        Reply::Left,
+        Reply::Refused(Refusal::OutOfGroup),
+        Reply::Refused(Refusal::UnknownMember),
+    ];
+    assert_eq!(rt; first_other(&mut world, &events, &expected), None);
+    assert_eq!(rt; world.cluster().generation(), 2);
+    assert!(rt; world.cluster().phase() == Phase::Preparing);
     Ok(())
 }
 
@@ -278,17 +329,23 @@ fn a_drain_commits_all(rt: HostRuntime) -> Result<(), Fail> {
     let a = name(&rt, b"A");
     let mut world = loaded(&rt, rt.alloc())?;
     assert_eq!(rt; drain(&mut world, 500), Err(Refusal::NobodyPresent));
-    assert_eq!(rt; step(&mut world, Event::Join(&a)), Reply::Joined(1));
+    let joined = [Reply::Joined(1)];
+    assert_eq!(rt; first_other(&mut world, &[Event::Join(&a)], &joined), None);
     assert_eq!(rt; drain(&mut world, 500), Ok(()));
     all_is_drained(&rt, &world);
     Ok(())
 }
 
-#[test]
-fn a_drain_goes_on_from_what_is_pending(rt: HostRuntime) -> Result<(), Fail> {
-    let (a, b) = (name(&rt, b"A"), name(&rt, b"B"));
-    let mut world = loaded(&rt, rt.alloc())?;
-    assert_eq!(rt; step(&mut world, Event::Join(&a)), Reply::Joined(1));
+/// A world in which one who is settled has sent the records of two partitions, when a second member
+/// joins.
+fn with_what_is_pending<R: Abort + RandomSource + Threads + Sync>(
+    rt: &R,
+    alloc: Global,
+) -> Result<World, Fail> {
+    let (a, b) = (name(rt, b"A"), name(rt, b"B"));
+    let mut world = loaded(rt, alloc)?;
+    let joined = [Reply::Joined(1)];
+    assert_eq!(rt; first_other(&mut world, &[Event::Join(&a)], &joined), None);
     assert_eq!(rt; settle(&mut world), Ok(()));
     let third = Event::Poll {
         member: 1,
@@ -299,11 +356,21 @@ fn a_drain_goes_on_from_what_is_pending(rt: HostRuntime) -> Result<(), Fail> {
         member: 1,
         partition: 2,
     };
-    assert_eq!(rt; step(&mut world, POLL), Reply::Polled(2));
-    assert_eq!(rt; step(&mut world, SEND), Reply::Sent(1));
-    assert_eq!(rt; step(&mut world, third), Reply::Polled(1));
-    assert_eq!(rt; step(&mut world, send_third), Reply::Sent(2));
-    assert_eq!(rt; step(&mut world, Event::Join(&b)), Reply::Joined(2));
+    let events = [POLL, SEND, third, send_third, Event::Join(&b)];
+    let expected = [
+        Reply::Polled(2),
+        Reply::Sent(1),
+        Reply::Polled(1),
+        Reply::Sent(2),
+        Reply::Joined(2),
+    ];
+    assert_eq!(rt; first_other(&mut world, &events, &expected), None);
+    Ok(world)
+}
+
+#[test]
+fn a_drain_goes_on_from_what_is_pending(rt: HostRuntime) -> Result<(), Fail> {
+    let mut world = with_what_is_pending(&rt, rt.alloc())?;
     assert_eq!(rt; drain(&mut world, 1), Ok(()));
     all_is_drained(&rt, &world);
     Ok(())
