@@ -12,7 +12,7 @@ use Rattle.partition_log.specs.declared.shards.KeyAt.{KeyAt}
 unfoldable pub shard_of : RandomState → Key → ℕ
 shard_of hasher key = finish (write (initial_hasher hasher) key) % SHARDS
 
--- the keys of shard s, in order, where each key has such a shard
+-- the keys of shard s, in order, where a function tells the shard of each key
 abbrev pub of_shard : (Key → ℕ) → ℕ → List Key → List Key
 of_shard shard s keys = filter (λ k. shard k == s) keys
 
