@@ -6,7 +6,7 @@ use std::test::Fail;
 
 #[test]
 fn a_fault_has_its_line_and_status(rt: HostRuntime) -> Result<(), Fail> {
-    let told: [(Refusal, &[u8], u8); 7] = [
+    let told: [(Refusal, &[u8], u8); 8] = [
         (Refusal::KeyTooLong, b"fault 20\n", 1),
         (Refusal::BadLine { line: 1 }, b"fault 22 at line 1\n", 1),
         (
@@ -18,6 +18,11 @@ fn a_fault_has_its_line_and_status(rt: HostRuntime) -> Result<(), Fail> {
         (
             Refusal::NobodyLeft { line: u64::MAX },
             b"fault 27 at line 18446744073709551615\n",
+            1,
+        ),
+        (
+            Refusal::NoSuchTopic { nth: 6 },
+            b"fault 32 at record 6\n",
             1,
         ),
         (Refusal::UnknownMember, b"fault 1\n", 3),
