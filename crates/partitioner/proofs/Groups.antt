@@ -1,66 +1,59 @@
--- Keys that wait, and places that are known so far.
+-- Keys that wait, and hashes that are known so far.
 use Rattle.std.proofs.Common.{ℕ, ◌≡◌, ◌≢◌, ◌+◌, ◌<◌, ◌≤◌, ◌^◌, ◌%◌, List, [], ◌∷◌, length, map, replicate, refl, arith, zero, suc, get_or, ap, sym, ◌∙◌, Bor, slice_set}
 use Rattle.std.proofs.Math.ListN.{length-set}
 use Rattle.murmur_lanes.specs.Murmur.{AreOfOneLength, hash_of}
-use Rattle.partitioner.specs.Place.{place_of}
-use Rattle.partitioner.specs.Private.Groups.{AreKnown, AreOfLength, AreUnplaced, AreWaitingFrom, IsOfLength, IsWaiting, joined_row, no_key}
+use Rattle.partitioner.specs.Place.{positive_hash}
+use Rattle.partitioner.specs.Private.Groups.{AreKnown, AreOfLength, AreUnhashed, AreWaitingFrom, IsOfLength, IsWaiting, joined_row, no_key}
 
--- keys without places
-pub known_unplaced : (partitions : ℕ) (keys : List (Bor (List ℕ))) (places : List ℕ) → AreUnplaced places → AreKnown partitions keys places
+-- keys without hashes
+pub known_unhashed : (keys : List (Bor (List ℕ))) (hashes : List ℕ) → AreUnhashed hashes → AreKnown keys hashes
 unfolding AreKnown
-known_unplaced partitions [] places none = tt
-known_unplaced partitions (key ∷ keys) [] none = tt
-known_unplaced partitions (key ∷ keys) (p ∷ places) none = ((λ missing. absurd (missing (none 0 (omega arith)))), known_unplaced partitions keys places (λ k lt. none (suc k) (omega arith)))
+known_unhashed [] hashes none = tt
+known_unhashed (key ∷ keys) [] none = tt
+known_unhashed (key ∷ keys) (p ∷ hashes) none = ((λ missing. absurd (missing (none 0 (omega arith)))), known_unhashed keys hashes (λ k lt. none (suc k) (omega arith)))
 
--- places that are those of the keys, index by index
-pub placed_by_index : (partitions : ℕ) (keys : List (Bor (List ℕ))) (places : List ℕ) → length places ≡ length keys → ((i : ℕ) → i < length keys → get_or places i 0 ≡ place_of partitions (get_or keys i no_key).now) → places ≡ map (λ key. place_of partitions key.now) keys
-placed_by_index partitions [] [] e each = refl
-placed_by_index partitions [] (p ∷ places) e each = absurd (omega arith)
-placed_by_index partitions (key ∷ keys) [] e each = absurd (omega arith)
-placed_by_index partitions (key ∷ keys) (p ∷ places) e each = rw (each 0 (omega arith), placed_by_index partitions keys places (omega arith) (λ i lt. each (suc i) (omega arith))) refl
-
--- one place more
-pub known_set : (partitions : ℕ) (keys : List (Bor (List ℕ))) (places : List ℕ) (i place : ℕ) → AreKnown partitions keys places → place ≡ place_of partitions (get_or keys i no_key).now → AreKnown partitions keys (slice_set places i place)
+-- one hash more
+pub known_set : (keys : List (Bor (List ℕ))) (hashes : List ℕ) (i hash : ℕ) → AreKnown keys hashes → hash ≡ positive_hash (get_or keys i no_key).now → AreKnown keys (slice_set hashes i hash)
 unfolding AreKnown
-known_set partitions [] places i place known e = tt
-known_set partitions (key ∷ keys) [] i place known e = tt
-known_set partitions (key ∷ keys) (p ∷ places) zero place known e = ((λ missing. e), known.1)
-known_set partitions (key ∷ keys) (p ∷ places) (suc i) place known e = (known.0, known_set partitions keys places i place known.1 e)
+known_set [] hashes i hash known e = tt
+known_set (key ∷ keys) [] i hash known e = tt
+known_set (key ∷ keys) (p ∷ hashes) zero hash known e = ((λ missing. e), known.1)
+known_set (key ∷ keys) (p ∷ hashes) (suc i) hash known e = (known.0, known_set keys hashes i hash known.1 e)
 
--- the places before an index are their keys', and those from there on too, or missing
-unfoldable pub ArePlacedBelow : ℕ → ℕ → List (Bor (List ℕ)) → List ℕ → Type 0
-ArePlacedBelow partitions zero keys places = AreKnown partitions keys places
-ArePlacedBelow partitions (suc i) [] places = Unit {0}
-ArePlacedBelow partitions (suc i) (key ∷ keys) [] = Unit {0}
-ArePlacedBelow partitions (suc i) (key ∷ keys) (p ∷ places) = (p ≡ place_of partitions key.now) × ArePlacedBelow partitions i keys places
+-- the hashes before an index are their keys', and those from there on too, or missing
+unfoldable pub AreHashedBelow : ℕ → List (Bor (List ℕ)) → List ℕ → Type 0
+AreHashedBelow zero keys hashes = AreKnown keys hashes
+AreHashedBelow (suc i) [] hashes = Unit {0}
+AreHashedBelow (suc i) (key ∷ keys) [] = Unit {0}
+AreHashedBelow (suc i) (key ∷ keys) (p ∷ hashes) = (p ≡ positive_hash key.now) × AreHashedBelow i keys hashes
 
-placed_set : (partitions i : ℕ) (keys : List (Bor (List ℕ))) (places : List ℕ) (place : ℕ) → ArePlacedBelow partitions i keys places → place ≡ place_of partitions (get_or keys i no_key).now → ArePlacedBelow partitions (suc i) keys (slice_set places i place)
-unfolding ArePlacedBelow AreKnown
-placed_set partitions i [] places place placed e = tt
-placed_set partitions i (key ∷ keys) [] place placed e = tt
-placed_set partitions zero (key ∷ keys) (p ∷ places) place placed e = (e, placed.1)
-placed_set partitions (suc i) (key ∷ keys) (p ∷ places) place placed e = (placed.0, placed_set partitions i keys places place placed.1 e)
+hashed_set : (i : ℕ) (keys : List (Bor (List ℕ))) (hashes : List ℕ) (hash : ℕ) → AreHashedBelow i keys hashes → hash ≡ positive_hash (get_or keys i no_key).now → AreHashedBelow (suc i) keys (slice_set hashes i hash)
+unfolding AreHashedBelow AreKnown
+hashed_set i [] hashes hash hashed e = tt
+hashed_set i (key ∷ keys) [] hash hashed e = tt
+hashed_set zero (key ∷ keys) (p ∷ hashes) hash hashed e = (e, hashed.1)
+hashed_set (suc i) (key ∷ keys) (p ∷ hashes) hash hashed e = (hashed.0, hashed_set i keys hashes hash hashed.1 e)
 
-pub placed_one : (partitions i : ℕ) (keys : List (Bor (List ℕ))) (places : List ℕ) (place : ℕ) → ArePlacedBelow partitions i keys places → place ≡ place_of partitions (get_or keys i no_key).now → ArePlacedBelow partitions (i + 1) keys (slice_set places i place)
-placed_one partitions i keys places place placed e = let one : i + 1 ≡ suc i = omega arith in rw one (placed_set partitions i keys places place placed e)
+pub hashed_one : (i : ℕ) (keys : List (Bor (List ℕ))) (hashes : List ℕ) (hash : ℕ) → AreHashedBelow i keys hashes → hash ≡ positive_hash (get_or keys i no_key).now → AreHashedBelow (i + 1) keys (slice_set hashes i hash)
+hashed_one i keys hashes hash hashed e = let one : i + 1 ≡ suc i = omega arith in rw one (hashed_set i keys hashes hash hashed e)
 
-placed_known : (partitions i : ℕ) (keys : List (Bor (List ℕ))) (places : List ℕ) → ArePlacedBelow partitions i keys places → get_or places i 0 ≢ 4294967295 → ArePlacedBelow partitions (suc i) keys places
-unfolding ArePlacedBelow AreKnown
-placed_known partitions i [] places placed there = tt
-placed_known partitions i (key ∷ keys) [] placed there = tt
-placed_known partitions zero (key ∷ keys) (p ∷ places) placed there = (placed.0 there, placed.1)
-placed_known partitions (suc i) (key ∷ keys) (p ∷ places) placed there = (placed.0, placed_known partitions i keys places placed.1 there)
+hashed_known : (i : ℕ) (keys : List (Bor (List ℕ))) (hashes : List ℕ) → AreHashedBelow i keys hashes → get_or hashes i 0 ≢ 4294967295 → AreHashedBelow (suc i) keys hashes
+unfolding AreHashedBelow AreKnown
+hashed_known i [] hashes hashed there = tt
+hashed_known i (key ∷ keys) [] hashed there = tt
+hashed_known zero (key ∷ keys) (p ∷ hashes) hashed there = (hashed.0 there, hashed.1)
+hashed_known (suc i) (key ∷ keys) (p ∷ hashes) hashed there = (hashed.0, hashed_known i keys hashes hashed.1 there)
 
-pub placed_before : (partitions i : ℕ) (keys : List (Bor (List ℕ))) (places : List ℕ) → ArePlacedBelow partitions i keys places → get_or places i 0 ≢ 4294967295 → ArePlacedBelow partitions (i + 1) keys places
-placed_before partitions i keys places placed there = let one : i + 1 ≡ suc i = omega arith in rw one (placed_known partitions i keys places placed there)
+pub hashed_before : (i : ℕ) (keys : List (Bor (List ℕ))) (hashes : List ℕ) → AreHashedBelow i keys hashes → get_or hashes i 0 ≢ 4294967295 → AreHashedBelow (i + 1) keys hashes
+hashed_before i keys hashes hashed there = let one : i + 1 ≡ suc i = omega arith in rw one (hashed_known i keys hashes hashed there)
 
-pub placed_all : (partitions i : ℕ) (keys : List (Bor (List ℕ))) (places : List ℕ) → length places ≡ length keys → length keys ≤ i → ArePlacedBelow partitions i keys places → places ≡ map (λ key. place_of partitions key.now) keys
-unfolding ArePlacedBelow
-placed_all partitions i [] [] e le placed = refl
-placed_all partitions i [] (p ∷ places) e le placed = absurd (omega arith)
-placed_all partitions i (key ∷ keys) [] e le placed = absurd (omega arith)
-placed_all partitions zero (key ∷ keys) (p ∷ places) e le placed = absurd (omega arith)
-placed_all partitions (suc i) (key ∷ keys) (p ∷ places) e le placed = rw (placed.0, placed_all partitions i keys places (omega arith) (omega arith) placed.1) refl
+pub hashed_all : (i : ℕ) (keys : List (Bor (List ℕ))) (hashes : List ℕ) → length hashes ≡ length keys → length keys ≤ i → AreHashedBelow i keys hashes → hashes ≡ map (λ key. positive_hash key.now) keys
+unfolding AreHashedBelow
+hashed_all i [] [] e le hashed = refl
+hashed_all i [] (p ∷ hashes) e le hashed = absurd (omega arith)
+hashed_all i (key ∷ keys) [] e le hashed = absurd (omega arith)
+hashed_all zero (key ∷ keys) (p ∷ hashes) e le hashed = absurd (omega arith)
+hashed_all (suc i) (key ∷ keys) (p ∷ hashes) e le hashed = rw (hashed.0, hashed_all i keys hashes (omega arith) (omega arith) hashed.1) refl
 
 -- a lane's index
 pub lane_of_length : (keys : List (Bor (List ℕ))) (len : ℕ) (row : List ℕ) (lane : ℕ) → AreOfLength keys len row → lane < length row → IsOfLength keys len (get_or row lane 0)
@@ -137,10 +130,10 @@ lane_hash keys row (suc (suc (suc (suc (suc (suc zero)))))) lt = refl
 lane_hash keys row (suc (suc (suc (suc (suc (suc (suc zero))))))) lt = refl
 lane_hash keys row (suc (suc (suc (suc (suc (suc (suc (suc k)))))))) lt = absurd (omega arith)
 
--- the place of a lane's key
-pub lane_place : (partitions : ℕ) (keys : List (Bor (List ℕ))) (row hashes : List ℕ) (lane place : ℕ) → lane < 8 → hashes ≡ map (λ key. hash_of key.now) (row_keys keys row) → place ≡ (get_or hashes lane 0 % 2 ^ 31) % partitions → place ≡ place_of partitions (get_or keys (get_or row lane 0) no_key).now
-unfolding place_of
-lane_place partitions keys row hashes lane place lt e is = is ∙ ap (λ h. (h % 2 ^ 31) % partitions) (ap (λ hs. get_or hs lane 0) e ∙ lane_hash keys row lane lt)
+-- the hash of a lane's key
+pub lane_positive : (keys : List (Bor (List ℕ))) (row hashes : List ℕ) (lane hash : ℕ) → lane < 8 → hashes ≡ map (λ key. hash_of key.now) (row_keys keys row) → hash ≡ get_or hashes lane 0 % 2 ^ 31 → hash ≡ positive_hash (get_or keys (get_or row lane 0) no_key).now
+unfolding positive_hash
+lane_positive keys row hashes lane hash lt e is = is ∙ ap (λ h. h % 2 ^ 31) (ap (λ hs. get_or hs lane 0) e ∙ lane_hash keys row lane lt)
 
 pub read_row : (rows : List (List ℕ)) (i : ℕ) (row : List ℕ) → i < length rows → get_or (slice_set rows i row) i [] ≡ row
 read_row [] i row lt = absurd (omega arith)

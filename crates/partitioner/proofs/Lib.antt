@@ -1,2 +1,4 @@
+pub mod Counts
 pub mod Groups
+pub mod Hashes
 pub mod Places

@@ -1,9 +1,39 @@
 -- Where a record of a key goes: Kafka's partitioner for keyed records takes murmur2 of the key
--- without its highest bit, modulo the number of partitions (BuiltInPartitioner.partitionForKey,
--- Utils.toPositive).
-use Rattle.std.specs.Prelude.{ℕ, ◌^◌, ◌%◌, List}
+-- without its highest bit, modulo the number of partitions of the record's topic
+-- (BuiltInPartitioner.partitionForKey, Utils.toPositive). Partitions are counted over all topics,
+-- those of a topic after those of the topics before.
+use Rattle.std.specs.Prelude.{ℕ, ◌≡◌, ◌+◌, ◌<◌, ◌≤◌, ◌^◌, ◌%◌, All, List, length, slice_index_or, take}
+use Rattle.std.specs.List.{sum}
+use Rattle.lane_words.specs.declared.limits.TheConstants.{MOST_PARTITIONS}
 use Rattle.murmur_lanes.specs.Murmur.{hash_of}
+use Rattle.partitioner.specs.declared.limits.TheConstants.{MOST_TOPICS}
+
+-- the hash of a key without its highest bit
+unfoldable pub positive_hash : List ℕ → ℕ
+positive_hash key = hash_of key % 2 ^ 31
 
 -- the partition of a key, of this many
 unfoldable pub place_of : ℕ → List ℕ → ℕ
-place_of partitions key = (hash_of key % 2 ^ 31) % partitions
+place_of partitions key = positive_hash key % partitions
+
+-- how many partitions the topics before this one have, where these are the topics' numbers of them
+abbrev pub partitions_before : List ℕ → ℕ → ℕ
+partitions_before counts topic = sum (take topic counts)
+
+-- the partition of a key in this topic
+abbrev pub place_in_topic : List ℕ → ℕ → List ℕ → ℕ
+place_in_topic counts topic key =
+    partitions_before counts topic + place_of (slice_index_or counts topic 0) key
+
+-- the numbers of partitions of some topics: 1 to 8 topics, each of which has a partition, and at most
+-- 4096 partitions in all
+pub record AreCounts (counts : List ℕ) : Type 0 where
+  pub some : 1 ≤ length counts
+  pub few : length counts ≤ MOST_TOPICS
+  pub each : All (λ n. 1 ≤ n) counts
+  pub within : sum counts ≤ MOST_PARTITIONS
+
+-- a topic for each of so many keys, as its index among so many topics
+pub record AreTopics (count keys : ℕ) (topics : List ℕ) : Type 0 where
+  pub as_many : length topics ≡ keys
+  pub among : All (λ topic. topic < count) topics

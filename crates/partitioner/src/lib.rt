@@ -1,86 +1,143 @@
 //! Which partition a record of a key goes to.
 #![tactic(auto)]
 
-ghost use Rattle.std.specs.Prelude.{◌≡◌, ◌≤◌, ◌<◌, ◌+◌, ◌^◌, ◌%◌, ℕ, List, length, map, slice_index_or, IfOk};
-ghost use Rattle.std.specs.Borrow.{Bor};
-ghost use Rattle.partitioner.specs.Place.{place_of};
-ghost use Rattle.partitioner.specs.Private.Groups.{AreKnown, AreOfLength, ArePlacedFrom, AreUnplaced, AreWaitingFrom, joined_row};
+ghost use Rattle.std.specs.Prelude.{◌≡◌, ◌≤◌, ◌<◌, ◌+◌, ◌∷◌, [], ℕ, All, length, map, slice_index_or, zip, IfOk};
+ghost use Rattle.std.specs.List.{sum};
+ghost use Rattle.partitioner.specs.Place.{AreCounts, AreTopics, partitions_before, place_in_topic};
+ghost use Rattle.partitioner.specs.Private.Counts.{ArePlaces, place_of_hash};
+ghost use Rattle.partitioner.specs.Private.Groups.{ArePlacedFrom, AreUnhashed};
 
+mod hashing;
+mod limits;
+
+use hashing::{UNHASHED, hash_key, hash_keys};
 use lane_words::{MOST_PARTITIONS, Memory};
-use murmur_lanes::{murmur2, murmur2_x8};
+pub use limits::MOST_TOPICS;
 use rayon::prelude::*;
 use std::alloc::Global;
 use std::marker::Model;
 use std::thread::Threads;
 
-/// How many keys are hashed side by side.
-const LANES: usize = 8;
-
-/// Keys of fewer bytes are hashed side by side with others of their length; a longer one is alone.
-const GROUPED: usize = 65;
-
 /// How many keys are placed in one piece of work: fewer would not be worth a thread.
 const PIECE: usize = 4096;
 
-/// What stands in for the place of a key that has none yet.
-const UNPLACED: u32 = u32::MAX;
-
-/// How many partitions there are, from 1 to 4096.
+/// How many partitions each of 1 to 8 topics has, which are 1 to 4096 in all.
+///
+/// Partitions are counted from 0 over all topics, those of a topic after those of the topics before.
 #[derive(Clone, Copy, Debug, PartialEq, Eq)]
 pub struct Partitions {
-    /// From 1 to `MOST_PARTITIONS`.
-    count: u32,
+    /// How many each topic has, and then zeros.
+    counts: [u32; MOST_TOPICS],
+    /// How many topics there are.
+    topics: usize,
 }
 
 impl Model for Partitions {
-    ghost use Rattle.std.specs.Prelude.{ℕ, ◌≤◌};
-    ghost use Rattle.lane_words.specs.declared.limits.TheConstants.{MOST_PARTITIONS};
+    ghost use Rattle.std.specs.Prelude.{ℕ, ◌++◌, ◌-◌, List, length, replicate, take};
+    ghost use Rattle.partitioner.specs.Place.{AreCounts};
+    ghost use Rattle.partitioner.specs.Private.Counts.{IsPadded};
 
-    ghost Value = { ℕ };
+    ghost Value = { List ℕ };
 
-    ghost view = { λ p. p.count };
+    ghost view = { λ p. take p.topics p.counts };
 
-    ghost invariant = { λ p. (1 ≤ p.count) × (p.count ≤ MOST_PARTITIONS) };
+    ghost invariant = { λ p. IsPadded p.counts p.topics × AreCounts (take p.topics p.counts) };
 
-    ghost inverse = { λ n. record { count = n } };
+    ghost inverse = { λ counts. record {
+      counts = counts ++ replicate (8 - length counts) 0;
+      topics = length counts;
+    } };
+
+    ghost inverse_ok = { λ p h i. record { counts = h.0.padded i; topics = h.0.many i } };
 }
 
 impl Partitions {
-    /// This many partitions.
+    /// This many partitions, of one topic.
     pub fn new(count: u32) -> Partitions
         requires { (1 ≤ count) × (count ≤ MOST_PARTITIONS) }
-        ensures { result ≡ count }
+        ensures { result ≡ count ∷ [] }
     {
-        Partitions { count }
+        Partitions {
+            counts: [count, 0, 0, 0, 0, 0, 0, 0],
+            topics: 1,
+        }
     }
 
-    /// How many there are.
+    /// As many partitions of each topic as these numbers say. It takes no memory.
+    pub fn with_topics(counts: &[u32]) -> Partitions
+        requires { AreCounts counts.now }
+        ensures { result ≡ counts.now }
+    {
+        let mut padded = [0; MOST_TOPICS];
+        padded[..counts.len()].copy_from_slice(counts);
+        Partitions {
+            counts: padded,
+            topics: counts.len(),
+        }
+    }
+
+    /// How many there are, of all topics.
     pub fn count(&self) -> u32
-        ensures count { result ≡ self.now }
-        ensures range { (1 ≤ self.now) × (self.now ≤ MOST_PARTITIONS) }
+        ensures count { result ≡ sum self.now }
+        ensures range { (1 ≤ sum self.now) × (sum self.now ≤ MOST_PARTITIONS) }
     {
-        self.count
+        self.before(self.topics)
     }
 
-    /// The partition of a key of any length and any bytes, counted from 0: its murmur2 without the
-    /// highest bit, modulo the number of partitions. It takes no memory.
-    #[tactic(auto, unfolding(crate::specs::Place::place_of))]
+    /// How many topics there are.
+    pub fn topics(&self) -> usize
+        ensures topics { result ≡ length self.now }
+        ensures valid { AreCounts self.now }
+    {
+        self.topics
+    }
+
+    /// How many partitions the topics before this one have.
+    fn before(&self, topic: usize) -> u32
+        requires { topic ≤ length self.now }
+        ensures { result ≡ partitions_before self.now topic }
+    {
+        let mut before = 0;
+        for i in 0..topic {
+            before += self.counts[i];
+        }
+        before
+    }
+
+    /// The partition of a key of any length and any bytes: its murmur2 without the highest bit,
+    /// modulo the number of partitions. Of several topics it is the key's place in the first. It
+    /// takes no memory.
     pub fn place(&self, key: &[u8]) -> u32
-        ensures place { result ≡ place_of self.now key.now }
-        ensures within { result < self.now }
+        ensures place { result ≡ place_in_topic self.now 0 key.now }
+        ensures within { result < sum self.now }
     {
-        self.place_of_hash(murmur2(key))
+        let _ = &self.counts;
+        self.place_in(0, key)
     }
 
-    /// The partition of a key of this hash.
-    fn place_of_hash(&self, hash: u32) -> u32
-        ensures place { result ≡ (hash % 2 ^ 31) % self.now }
-        ensures within { result < self.now }
+    /// The partition of a key in the topic of this index, counted over all topics: its murmur2
+    /// without the highest bit, modulo the number of the topic's partitions, after the partitions of
+    /// the topics before. It takes no memory.
+    pub fn place_in(&self, topic: u8, key: &[u8]) -> u32
+        requires { topic < length self.now }
+        ensures place { result ≡ place_in_topic self.now topic key.now }
+        ensures within { result < sum self.now }
     {
-        hash % (1 << 31) % self.count
+        self.place_of_hash(topic as usize, hash_key(key))
     }
 
-    /// The partition of each of some keys, in their order. Refused for want of memory alone.
+    /// The partition in a topic of a key of this hash without its highest bit.
+    fn place_of_hash(&self, topic: usize, hash: u32) -> u32
+        requires { topic < length self.now }
+        ensures place { result ≡ place_of_hash self.now topic hash }
+        ensures within { result < sum self.now }
+    {
+        let counts = &self.counts;
+        self.before(topic) + hash % counts[topic]
+    }
+
+    /// The partition of each of some keys, in their order. Of several topics they are the keys'
+    /// places in the first. Refused for want of memory alone.
     ///
     /// Pieces of 4,096 keys are placed side by side, on two threads a processor at most. Up to one
     /// piece no thread is started, and where one can't be, its pieces are placed without it.
@@ -90,18 +147,37 @@ impl Partitions {
         alloc: Global,
         keys: &[&[u8]],
     ) -> Result<Vec<u32>, Memory>
-        ensures { IfOk result (λ places. places.items ≡ map (λ key. place_of self.now key.now) keys.now) }
+        ensures { IfOk result (λ places.
+            places.items ≡ map (λ key. place_in_topic self.now 0 key.now) keys.now) }
     {
-        let mut places = vec![in alloc; UNPLACED; keys.len()]?;
+        let mut places = vec![in alloc; UNHASHED; keys.len()]?;
         self.place_pieces(rt, keys, &mut places);
         Ok(places)
     }
 
-    /// Places the keys, of which none has a place yet, by pieces.
+    /// The partition of each of some keys in its topic, in their order: as `place_all`, with a topic
+    /// for each key.
+    pub fn place_all_in<R: Threads + Sync>(
+        &self,
+        rt: &R,
+        alloc: Global,
+        topics: &[u8],
+        keys: &[&[u8]],
+    ) -> Result<Vec<u32>, Memory>
+        requires topics { AreTopics (length self.now) (length keys.now) topics.now }
+        ensures { IfOk result (λ places. places.items
+            ≡ map (λ keyed. place_in_topic self.now keyed.0 keyed.1.now) (zip topics.now keys.now)) }
+    {
+        let mut places = vec![in alloc; UNHASHED; keys.len()]?;
+        self.place_pieces_in(rt, topics, keys, &mut places);
+        Ok(places)
+    }
+
+    /// Places the keys, of which none is hashed yet, by pieces.
     fn place_pieces<R: Threads + Sync>(&self, rt: &R, keys: &[&[u8]], places: &mut [u32])
         requires length { length places.old ≡ length keys.now }
-        requires unplaced { AreUnplaced places.old }
-        ensures { places.new ≡ map (λ key. place_of self.now key.now) keys.now }
+        requires unhashed { AreUnhashed places.old }
+        ensures { places.new ≡ map (λ key. place_in_topic self.now 0 key.now) keys.now }
     {
         let partitions = *self;
         par_chunks_mut_for_each(
@@ -109,9 +185,9 @@ impl Partitions {
             places,
             PIECE,
             |from: usize, piece: &mut [u32]|
-                requires { (from + length piece.now ≤ length keys.now) × AreUnplaced piece.now }
-                ensures { ArePlacedFrom partitions keys.entry.now from (length piece.entry.now)
-                    piece.exit.now }
+                requires { (from + length piece.now ≤ length keys.now) × AreUnhashed piece.now }
+                ensures { ArePlacedFrom partitions (λ i. 0) keys.entry.now from
+                    (length piece.entry.now) piece.exit.now }
             { partitions.place_piece(keys, from, piece) },
         );
     }
@@ -119,103 +195,72 @@ impl Partitions {
     /// Places the keys from this index on, as many as there are places.
     fn place_piece(&self, keys: &[&[u8]], from: usize, places: &mut [u32])
         requires range { from + length places.old ≤ length keys.now }
-        requires unplaced { AreUnplaced places.old }
-        ensures { ArePlacedFrom self.now keys.now from (length places.old) places.new }
+        requires unhashed { AreUnhashed places.old }
+        ensures { ArePlacedFrom self.now (λ i. 0) keys.now from (length places.old) places.new }
     {
-        let keys = &keys[from..from + places.len()];
-        self.place_eights(keys, places);
-        self.place_rest(keys, places);
+        hash_keys(&keys[from..from + places.len()], places);
+        self.place_hashes(places);
     }
 
-    /// Places keys of which eight have one length, and leaves the others without a place.
-    fn place_eights(&self, keys: &[&[u8]], places: &mut [u32])
-        requires length { length places.old ≡ length keys.now }
-        requires known { AreKnown self.now keys.now places.old }
-        ensures length { length places.new ≡ length keys.now }
-        ensures known { AreKnown self.now keys.now places.new }
+    /// Puts the places in the first topic where the hashes are.
+    fn place_hashes(&self, hashes: &mut [u32])
+        ensures { ArePlaces self.now (λ i. 0) hashes.old hashes.new }
     {
-        let mut rows = [[0; LANES]; GROUPED];
-        let mut counts = [0; GROUPED];
-        for i in 0..keys.len() {
-            if keys[i].len() < GROUPED {
-                self.wait(i, keys, &mut rows, &mut counts, places);
-            }
+        let _ = &self.counts;
+        for i in 0..hashes.len() {
+            hashes[i] = self.place_of_hash(0, hashes[i]);
         }
     }
 
-    /// Lets a key wait with those of its length, and places these when they are eight.
-    fn wait(
+    /// Places the keys in their topics, of which none is hashed yet, by pieces.
+    fn place_pieces_in<R: Threads + Sync>(
         &self,
-        i: usize,
+        rt: &R,
+        topics: &[u8],
         keys: &[&[u8]],
-        rows: &mut [[usize; LANES]; GROUPED],
-        counts: &mut [usize; GROUPED],
         places: &mut [u32],
     )
-        requires index { i < length keys.now }
-        requires grouped { (d : Bor (List ℕ)) → length (slice_index_or keys.now i d).now < 65 }
-        requires waiting { AreWaitingFrom keys.now 0 rows.old counts.old }
         requires length { length places.old ≡ length keys.now }
-        requires known { AreKnown self.now keys.now places.old }
-        ensures waiting { AreWaitingFrom keys.now 0 rows.new counts.new }
-        ensures length { length places.new ≡ length keys.now }
-        ensures known { AreKnown self.now keys.now places.new }
+        requires topics { AreTopics (length self.now) (length keys.now) topics.now }
+        requires unhashed { AreUnhashed places.old }
+        ensures { places.new
+            ≡ map (λ keyed. place_in_topic self.now keyed.0 keyed.1.now) (zip topics.now keys.now) }
     {
-        let len = keys[i].len();
-        let count = counts[len];
-        rows[len] = joined(rows[len], count, i);
-        if count < LANES - 1 {
-            counts[len] = count + 1;
-        } else {
-            self.place_eight(rows[len], keys, places);
-            counts[len] = 0;
-        }
+        let partitions = *self;
+        par_chunks_mut_for_each(
+            rt,
+            places,
+            PIECE,
+            |from: usize, piece: &mut [u32]|
+                requires piece { (from + length piece.now ≤ length keys.now) × AreUnhashed piece.now }
+                requires topics { AreTopics (length partitions) (length keys.now) topics.now }
+                ensures { ArePlacedFrom partitions (λ i. slice_index_or topics.entry.now i 0)
+                    keys.entry.now from (length piece.entry.now) piece.exit.now }
+            { partitions.place_piece_in(topics, keys, from, piece) },
+        );
     }
 
-    /// Places eight keys of one length.
-    #[tactic(auto, using(crate::proofs::Groups::lane_within))]
-    fn place_eight(&self, row: [usize; LANES], keys: &[&[u8]], places: &mut [u32])
-        requires row { (len : ℕ) × AreOfLength keys.now len row }
-        requires length { length places.old ≡ length keys.now }
-        requires known { AreKnown self.now keys.now places.old }
-        ensures length { length places.new ≡ length keys.now }
-        ensures known { AreKnown self.now keys.now places.new }
+    /// Places the keys from this index on in their topics, as many as there are places.
+    fn place_piece_in(&self, topics: &[u8], keys: &[&[u8]], from: usize, places: &mut [u32])
+        requires range { from + length places.old ≤ length keys.now }
+        requires topics { AreTopics (length self.now) (length keys.now) topics.now }
+        requires unhashed { AreUnhashed places.old }
+        ensures { ArePlacedFrom self.now (λ i. slice_index_or topics.now i 0) keys.now from
+            (length places.old) places.new }
     {
-        let [a, b, c, d, e, f, g, h] = row;
-        let hashes = murmur2_x8([
-            keys[a], keys[b], keys[c], keys[d], keys[e], keys[f], keys[g], keys[h],
-        ]);
-        for lane in 0..LANES {
-            places[row[lane]] = self.place_of_hash(hashes[lane]);
-        }
+        let topics = &topics[from..from + places.len()];
+        hash_keys(&keys[from..from + places.len()], places);
+        self.place_hashes_in(topics, places);
     }
 
-    /// Places the keys that have no place yet, one by one.
-    fn place_rest(&self, keys: &[&[u8]], places: &mut [u32])
-        requires length { length places.old ≡ length keys.now }
-        requires known { AreKnown self.now keys.now places.old }
-        ensures { places.new ≡ map (λ key. place_of self.now key.now) keys.now }
+    /// Puts the places in these topics where the hashes are.
+    fn place_hashes_in(&self, topics: &[u8], hashes: &mut [u32])
+        requires topics { AreTopics (length self.now) (length hashes.old) topics.now }
+        ensures { ArePlaces self.now (λ i. slice_index_or topics.now i 0) hashes.old hashes.new }
     {
-        for i in 0..keys.len() {
-            if places[i] == UNPLACED {
-                places[i] = self.place(keys[i]);
-            }
+        for i in 0..hashes.len() {
+            hashes[i] = self.place_of_hash(topics[i] as usize, hashes[i]);
         }
-    }
-}
-
-/// The row after one more index. One that begins is filled with it, so that all eight are of keys of
-/// one length from then on.
-fn joined(row: [usize; LANES], count: usize, i: usize) -> [usize; LANES]
-    requires { count < 8 }
-    ensures { result ≡ joined_row row count i }
-{
-    if count == 0 {
-        [i; LANES]
-    } else {
-        let mut joined = row;
-        joined[count] = i;
-        joined
     }
 }
 

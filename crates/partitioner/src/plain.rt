@@ -1,7 +1,10 @@
 //! The places of keys one by one, as the definition says, and all in one piece, eight at a time:
 //! beside them the tests run the call that places pieces side by side.
 
-use crate::{Partitions, UNPLACED};
+ghost use Rattle.std.specs.Prelude.{length};
+ghost use Rattle.partitioner.specs.Place.{AreTopics};
+
+use crate::{Partitions, UNHASHED};
 use lane_words::Memory;
 use std::alloc::Global;
 
@@ -20,7 +23,23 @@ pub fn place_in_one_piece(
     alloc: Global,
     keys: &[&[u8]],
 ) -> Result<Vec<u32>, Memory> {
-    let mut places = vec![in alloc; UNPLACED; keys.len()]?;
+    let mut places = vec![in alloc; UNHASHED; keys.len()]?;
     partitions.place_piece(keys, 0, &mut places);
+    Ok(places)
+}
+
+/// The partition of each of some keys in its topic, in their order.
+pub fn place_all_in(
+    partitions: Partitions,
+    alloc: Global,
+    topics: &[u8],
+    keys: &[&[u8]],
+) -> Result<Vec<u32>, Memory>
+    requires { AreTopics (length partitions) (length keys.now) topics.now }
+{
+    let mut places = Vec::with_capacity(alloc, keys.len())?;
+    for i in 0..keys.len() {
+        places.push(partitions.place_in(topics[i], keys[i]))?;
+    }
     Ok(places)
 }

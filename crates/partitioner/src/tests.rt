@@ -1,6 +1,7 @@
 //! Places from outside: a table computed by the rules alone.
 
-ghost use Rattle.std.specs.Prelude.{◌<◌};
+ghost use Rattle.std.specs.Prelude.{◌<◌, IfOk};
+ghost use Rattle.partitioner.specs.Place.{AreTopics};
 
 use super::*;
 use std::test::Fail;
@@ -33,6 +34,47 @@ fn places_all_in_their_order(rt: HostRuntime) -> Result<(), Fail> {
         places.as_slice(),
         [0, 2, 0, 2, 1, 0, 2, 0, 2, 0].as_slice()
     );
+    Ok(())
+}
+
+#[test]
+fn places_in_topics(rt: HostRuntime) -> Result<(), Fail> {
+    let partitions = Partitions::with_topics(&[2, 3]);
+    let keys: [&[u8]; 5] = [b"21", b"abc", b"21", b"4", b"4"];
+    let places = partitions.place_all_in(&rt, rt.alloc(), &[0, 1, 1, 0, 1], &keys)?;
+    assert_eq!(rt; places.as_slice(), [0, 2, 2, 1, 3].as_slice());
+    assert_eq!(rt; partitions.place_in(1, b"abc"), 2);
+    assert_eq!(rt; partitions.place(b"4"), 1);
+    assert_eq!(rt; (partitions.topics(), partitions.count()), (2, 5));
+    assert!(rt; Partitions::with_topics(&[4]) == Partitions::new(4));
+    Ok(())
+}
+
+/// Topics of which each of the eight has every eighth key.
+fn topics_in_turn(alloc: Global, count: usize) -> Result<Vec<u8>, Fail>
+    ensures { IfOk result (λ topics. AreTopics 8 count topics.items) }
+{
+    let mut topics = Vec::with_capacity(alloc, count)?;
+    for i in 0..count {
+        topics.push((i % 8) as u8)?;
+    }
+    Ok(topics)
+}
+
+#[test]
+fn pieces_and_one_by_one_in_topics(rt: HostRuntime) -> Result<(), Fail> {
+    let bytes = bytes_of_keys();
+    let partitions = Partitions::with_topics(&[1, 2, 500, 4, 512, 3000, 7, 70]);
+    for count in [0, 1, 9, 4097, 70_000] {
+        let mut keys: Vec<&[u8]> = Vec::new(rt.alloc());
+        for i in 0..count {
+            keys.push(window(&bytes, i % 199, i / 3 % 70))?;
+        }
+        let topics = topics_in_turn(rt.alloc(), keys.len())?;
+        let places = partitions.place_all_in(&rt, rt.alloc(), &topics, &keys)?;
+        let plain = plain::place_all_in(partitions, rt.alloc(), &topics, &keys)?;
+        assert!(rt; places == plain, "{count} keys");
+    }
     Ok(())
 }
 

@@ -1,30 +1,31 @@
--- Keys that wait to be hashed with others of their length, and places that are known so far.
+-- Keys that wait to be hashed with others of their length, and hashes and places that are known so
+-- far. What is hashed is hashed without its highest bit, so that 2 ^ 32 - 1 is no hash.
 use Rattle.std.specs.Prelude.{ℕ, zero, suc, ◌≡◌, ◌≢◌, ◌<◌, ◌+◌, ◌^◌, ◌-◌, List, [], length, ◌∷◌, replicate}
 use Rattle.std.specs.Prelude.{slice_index, slice_set, slice_index_or as get_or}
 use Rattle.std.specs.Simd.Lanes.{Each1, Each2}
 use Rattle.std.specs.Borrow.{Bor}
-use Rattle.partitioner.specs.Place.{place_of}
+use Rattle.partitioner.specs.Place.{place_in_topic, positive_hash}
 
 -- what stands where there is no key
 abbrev pub no_key : Bor (List ℕ)
 no_key = record { ref_ptr = (0, 0); now = [] }
 
--- a place that is not known to be missing is the one expected
+-- a hash that is not known to be missing is the one expected
 abbrev pub IsKnown : ℕ → ℕ → Type 0
-IsKnown place expected = place ≢ 2 ^ 32 - 1 → place ≡ expected
+IsKnown hash expected = hash ≢ 2 ^ 32 - 1 → hash ≡ expected
 
--- no key has a place
-abbrev pub AreUnplaced : List ℕ → Type 0
-AreUnplaced places = (k : ℕ) → k < length places → slice_index places k ≡ 2 ^ 32 - 1
+-- no key is hashed
+abbrev pub AreUnhashed : List ℕ → Type 0
+AreUnhashed hashes = (k : ℕ) → k < length hashes → slice_index hashes k ≡ 2 ^ 32 - 1
 
--- the places of so many keys from this index on
-abbrev pub ArePlacedFrom : ℕ → List (Bor (List ℕ)) → ℕ → ℕ → List ℕ → Type 0
-ArePlacedFrom partitions keys from count places = (k : ℕ) (d : Bor (List ℕ)) → k < count
-    → slice_index places k ≡ place_of partitions (get_or keys (from + k) d).now
+-- the places of so many keys from this index on, where a function tells the topic of each
+abbrev pub ArePlacedFrom : List ℕ → (ℕ → ℕ) → List (Bor (List ℕ)) → ℕ → ℕ → List ℕ → Type 0
+ArePlacedFrom counts topic keys from count places = (k : ℕ) (d : Bor (List ℕ)) → k < count
+    → slice_index places k ≡ place_in_topic counts (topic (from + k)) (get_or keys (from + k) d).now
 
--- each place is its key's, or missing
-unfoldable pub AreKnown : ℕ → List (Bor (List ℕ)) → List ℕ → Type 0
-AreKnown partitions keys places = Each2 (λ key place. IsKnown place (place_of partitions key.now)) keys places
+-- each hash is its key's, or missing
+unfoldable pub AreKnown : List (Bor (List ℕ)) → List ℕ → Type 0
+AreKnown keys hashes = Each2 (λ key hash. IsKnown hash (positive_hash key.now)) keys hashes
 
 -- an index of a key of this length
 abbrev pub IsOfLength : List (Bor (List ℕ)) → ℕ → ℕ → Type 0

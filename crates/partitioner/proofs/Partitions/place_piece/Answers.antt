@@ -1,8 +1,7 @@
-use Rattle.std.proofs.Common.{◌+◌, ◌-◌, drop, length, take}
-use Rattle.partitioner.proofs.Groups.{known_unplaced}
+use Rattle.std.proofs.Common.{length, refl}
+use Rattle.partitioner.proofs.Hashes.{piece_placed}
 use Rattle.partitioner.proofs.Partitions.place_piece.Goals as goal
 
-pub place_eights-requires-clause-known : goal.place_eights-requires-clause-known
-place_eights-requires-clause-known c =
-    let from = c.args.from in
-    known_unplaced c.args.self.now (take (from + length c.args.places.now - from) (drop from c.args.keys.now)) c.args.places.now c.requires.unplaced
+pub returns : goal.returns
+returns c =
+    piece_placed c.args.self.now (λ i. 0) (λ i. 0) c.args.keys.now c.args.from (length c.args.places.now) c.hash_keys.new.hashes c.place_hashes.new.hashes c.requires.range c.hash_keys.ensures c.place_hashes.ensures (λ k lt. refl)

@@ -1,0 +1,135 @@
+//! The hashes of many keys, without their highest bits: keys of one length are hashed eight at a
+//! time.
+
+ghost use Rattle.std.specs.Prelude.{◌≡◌, ◌≤◌, ◌<◌, ◌+◌, ◌^◌, ◌%◌, ℕ, List, length, map, slice_index_or};
+ghost use Rattle.std.specs.Borrow.{Bor};
+ghost use Rattle.murmur_lanes.specs.Murmur.{hash_of};
+ghost use Rattle.partitioner.specs.Place.{positive_hash};
+ghost use Rattle.partitioner.specs.Private.Groups.{AreKnown, AreOfLength, AreUnhashed, AreWaitingFrom, joined_row};
+
+use murmur_lanes::{murmur2, murmur2_x8};
+
+/// How many keys are hashed side by side.
+const LANES: usize = 8;
+
+/// Keys of fewer bytes are hashed side by side with others of their length; a longer one is alone.
+const GROUPED: usize = 65;
+
+/// What stands for the hash of a key that is not hashed yet: no hash without its highest bit.
+pub const UNHASHED: u32 = u32::MAX;
+
+/// A hash without its highest bit, as `Utils.toPositive` gives it.
+fn positive(hash: u32) -> u32
+    ensures { result ≡ hash % 2 ^ 31 }
+{
+    hash % (1 << 31)
+}
+
+/// The hash of a key without its highest bit.
+#[tactic(auto, unfolding(crate::specs::Place::positive_hash))]
+pub fn hash_key(key: &[u8]) -> u32
+    ensures { result ≡ positive_hash key.now }
+{
+    positive(murmur2(key))
+}
+
+/// Hashes the keys, of which none is hashed yet.
+#[tactic(auto, using(crate::proofs::Groups::known_unhashed))]
+pub fn hash_keys(keys: &[&[u8]], hashes: &mut [u32])
+    requires length { length hashes.old ≡ length keys.now }
+    requires unhashed { AreUnhashed hashes.old }
+    ensures { hashes.new ≡ map (λ key. positive_hash key.now) keys.now }
+{
+    hash_eights(keys, hashes);
+    hash_rest(keys, hashes);
+}
+
+/// Hashes keys of which eight have one length, and leaves the others.
+fn hash_eights(keys: &[&[u8]], hashes: &mut [u32])
+    requires length { length hashes.old ≡ length keys.now }
+    requires known { AreKnown keys.now hashes.old }
+    ensures length { length hashes.new ≡ length keys.now }
+    ensures known { AreKnown keys.now hashes.new }
+{
+    let mut rows = [[0; LANES]; GROUPED];
+    let mut counts = [0; GROUPED];
+    for i in 0..keys.len() {
+        if keys[i].len() < GROUPED {
+            wait(i, keys, &mut rows, &mut counts, hashes);
+        }
+    }
+}
+
+/// Lets a key wait with those of its length, and hashes these when they are eight.
+fn wait(
+    i: usize,
+    keys: &[&[u8]],
+    rows: &mut [[usize; LANES]; GROUPED],
+    counts: &mut [usize; GROUPED],
+    hashes: &mut [u32],
+)
+    requires index { i < length keys.now }
+    requires grouped { (d : Bor (List ℕ)) → length (slice_index_or keys.now i d).now < 65 }
+    requires waiting { AreWaitingFrom keys.now 0 rows.old counts.old }
+    requires length { length hashes.old ≡ length keys.now }
+    requires known { AreKnown keys.now hashes.old }
+    ensures waiting { AreWaitingFrom keys.now 0 rows.new counts.new }
+    ensures length { length hashes.new ≡ length keys.now }
+    ensures known { AreKnown keys.now hashes.new }
+{
+    let len = keys[i].len();
+    let count = counts[len];
+    rows[len] = joined(rows[len], count, i);
+    if count < LANES - 1 {
+        counts[len] = count + 1;
+    } else {
+        hash_eight(rows[len], keys, hashes);
+        counts[len] = 0;
+    }
+}
+
+/// Hashes eight keys of one length.
+#[tactic(auto, using(crate::proofs::Groups::lane_within))]
+fn hash_eight(row: [usize; LANES], keys: &[&[u8]], hashes: &mut [u32])
+    requires row { (len : ℕ) × AreOfLength keys.now len row }
+    requires length { length hashes.old ≡ length keys.now }
+    requires known { AreKnown keys.now hashes.old }
+    ensures length { length hashes.new ≡ length keys.now }
+    ensures known { AreKnown keys.now hashes.new }
+{
+    let [a, b, c, d, e, f, g, h] = row;
+    let eight = murmur2_x8([
+        keys[a], keys[b], keys[c], keys[d], keys[e], keys[f], keys[g], keys[h],
+    ]);
+    for lane in 0..LANES {
+        hashes[row[lane]] = positive(eight[lane]);
+    }
+}
+
+/// Hashes the keys that are not hashed yet, one by one.
+fn hash_rest(keys: &[&[u8]], hashes: &mut [u32])
+    requires length { length hashes.old ≡ length keys.now }
+    requires known { AreKnown keys.now hashes.old }
+    ensures { hashes.new ≡ map (λ key. positive_hash key.now) keys.now }
+{
+    for i in 0..keys.len() {
+        if hashes[i] == UNHASHED {
+            hashes[i] = hash_key(keys[i]);
+        }
+    }
+}
+
+/// The row after one more index. One that begins is filled with it, so that all eight are of keys of
+/// one length from then on.
+fn joined(row: [usize; LANES], count: usize, i: usize) -> [usize; LANES]
+    requires { count < 8 }
+    ensures { result ≡ joined_row row count i }
+{
+    if count == 0 {
+        [i; LANES]
+    } else {
+        let mut joined = row;
+        joined[count] = i;
+        joined
+    }
+}

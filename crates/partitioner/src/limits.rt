@@ -1,0 +1,4 @@
+//! A limit of topics.
+
+/// The most topics.
+pub const MOST_TOPICS: usize = 8;
