@@ -7,15 +7,14 @@ use Rattle.std.proofs.lemmas.List.Sums.{sum_by-cons}
 use Rattle.keyed_table.specs.Counts as counts
 use Rattle.keyed_table.proofs.Elements.{none-past, stands-somewhere}
 use Rattle.keyed_table.proofs.Raised.{counter-raised, length-raised}
-use Rattle.partition_log.proofs.Stored.{place_in-below}
 use Rattle.partition_log.specs.Keys.{IsWithoutRepeats, is_known, key_at, with_key}
-use Rattle.partition_log.specs.Logs.{place_in}
+use Rattle.partition_log.specs.Logs.{IsPlaceOf, with_record_at}
 use Rattle.partition_log.proofs.Growth.{among, fresh, grows, known, stays_apart}
 use Rattle.partition_log.proofs.History.{names-same}
-use Rattle.partition_log.proofs.Valid.{log-other, log-same}
+use Rattle.partition_log.proofs.Valid.{goes-below, log-other, log-same}
 use Rattle.partition_log.proofs.Numbered.{by_number}
 use Rattle.partition_log.proofs.Parted.{in_one_log, sum-same, sum-zero}
-use Rattle.commit_store.specs.Commits.{IsValidLogs, AreLogsOf, Commits, Fits, IsExact, Key, PartitionLogs, committed_at, count_at, keys_of_log, log_at, id_of, plain, raised, sum_below, with_commit, with_record}
+use Rattle.commit_store.specs.Commits.{IsValidLogs, AreLogsOf, Commits, Fits, IsExact, Key, Keyed, PartitionLogs, committed_at, count_at, keys_of_log, log_at, id_of, plain, raised, keys_in, sum_below, with_commit}
 
 -- counts of two lists, one after the other
 plain-append : (ks js : List Key) (x : Key) → plain (ks ++ js) x ≡ plain ks x + plain js x
@@ -161,35 +160,35 @@ later-number ks k x h =
     at false e lt = let g = grows ks k in omega (arith, fresh (with_key ks k) x e, g.longer, lt)
 
 -- an append leaves the committed part of each log
-same-part : (s : Commits) (l : PartitionLogs) (key : Key) (p : ℕ) → IsValidLogs l → IsExact s l → take (committed_at s p) (keys_of_log (with_record l key) p) ≡ take (committed_at s p) (keys_of_log l p)
-same-part s l key p a e =
+same-part : (s : Commits) (l : PartitionLogs) (at : ℕ) (key : Key) (p : ℕ) → IsValidLogs l → at < l.partitions → IsExact s l → take (committed_at s p) (keys_of_log (with_record_at l at key) p) ≡ take (committed_at s p) (keys_of_log l p)
+same-part s l at key p a below e =
     let ws = with_key l.keys key in
     let c = committed_at s p in
-    let placed : place_in l key < length l.logs = rw a.a_log_each (place_in-below l key a) in
-    elim (cases_eq p (place_in l key)) [
-      | inr ne ↦ ap (take c) (ap (map (key_at ws)) (log-other l key p ne) ∙ names-same l key a p)
+    let placed : at < length l.logs = rw a.a_log_each below in
+    elim (cases_eq p (at)) [
+      | inr ne ↦ ap (take c) (ap (map (key_at ws)) (log-other l at key p ne) ∙ names-same l at key a p)
       | inl is ↦
-          let more : log_at (with_record l key) p ≡ log_at l p ++ id_of l.keys key ∷ [] = ap (log_at (with_record l key)) is ∙ log-same l key placed ∙ ap (λ q. log_at l q ++ id_of l.keys key ∷ []) (sym is) in
+          let more : log_at (with_record_at l at key) p ≡ log_at l p ++ id_of l.keys key ∷ [] = ap (log_at (with_record_at l at key)) is ∙ log-same l at key placed ∙ ap (λ q. log_at l q ++ id_of l.keys key ∷ []) (sym is) in
           let fits : c ≤ length (keys_of_log l p) = omega (arith, e.within p, length-map (log_at l p) (key_at l.keys)) in
-          ap (take c) (ap (map (key_at ws)) more ∙ map-append (key_at ws) (log_at l p) (id_of l.keys key ∷ []) ∙ ap (λ ks. ks ++ key_at ws (id_of l.keys key) ∷ []) (names-same l key a p))
+          ap (take c) (ap (map (key_at ws)) more ∙ map-append (key_at ws) (log_at l p) (id_of l.keys key ∷ []) ∙ ap (λ ks. ks ++ key_at ws (id_of l.keys key) ∷ []) (names-same l at key a p))
           ∙ take-append-le c (keys_of_log l p) (key_at ws (id_of l.keys key) ∷ []) fits
     ]
 
-longer-log : (l : PartitionLogs) (key : Key) (p : ℕ) → IsValidLogs l → length (log_at l p) ≤ length (log_at (with_record l key) p)
-longer-log l key p a =
-    let placed : place_in l key < length l.logs = rw a.a_log_each (place_in-below l key a) in
-    elim (cases_eq p (place_in l key)) [
-      | inr ne ↦ omega (arith, ap length (log-other l key p ne))
+longer-log : (l : PartitionLogs) (at : ℕ) (key : Key) (p : ℕ) → IsValidLogs l → at < l.partitions → length (log_at l p) ≤ length (log_at (with_record_at l at key) p)
+longer-log l at key p a below =
+    let placed : at < length l.logs = rw a.a_log_each below in
+    elim (cases_eq p (at)) [
+      | inr ne ↦ omega (arith, ap length (log-other l at key p ne))
       | inl is ↦
-          let more : log_at (with_record l key) p ≡ log_at l p ++ id_of l.keys key ∷ [] = ap (log_at (with_record l key)) is ∙ log-same l key placed ∙ ap (λ q. log_at l q ++ id_of l.keys key ∷ []) (sym is) in
+          let more : log_at (with_record_at l at key) p ≡ log_at l p ++ id_of l.keys key ∷ [] = ap (log_at (with_record_at l at key)) is ∙ log-same l at key placed ∙ ap (λ q. log_at l q ++ id_of l.keys key ∷ []) (sym is) in
           omega (arith, ap length more, length-append (log_at l p) (id_of l.keys key ∷ []))
     ]
 
 -- a record that is appended leaves a store exact
-pub append-exact : (s : Commits) (l : PartitionLogs) (key : Key) → IsValidLogs l → IsExact s l → IsExact s (with_record l key)
-append-exact s l key a e = record {
-  within = λ p. omega (arith, e.within p, longer-log l key p a);
-  counted = λ x. numbered (is_known l.keys x) x refl ∙ e.counted x ∙ sym (sum-same l.partitions (λ p. plain (take (committed_at s p) (keys_of_log (with_record l key) p)) x) (λ p. plain (take (committed_at s p) (keys_of_log l p)) x) (λ p lt. ap (λ ks. plain ks x) (same-part s l key p a e)));
+pub append-exact : (s : Commits) (l : PartitionLogs) (at : ℕ) (key : Key) → IsValidLogs l → IsPlaceOf l key at → IsExact s l → IsExact s (with_record_at l at key)
+append-exact s l at key a goes e = record {
+  within = λ p. omega (arith, e.within p, longer-log l at key p a (goes-below l key at a goes));
+  counted = λ x. numbered (is_known l.keys x) x refl ∙ e.counted x ∙ sym (sum-same l.partitions (λ p. plain (take (committed_at s p) (keys_of_log (with_record_at l at key) p)) x) (λ p. plain (take (committed_at s p) (keys_of_log l p)) x) (λ p lt. ap (λ ks. plain ks x) (same-part s l at key p a (goes-below l key at a goes) e)));
   spare = λ n le. e.spare n (omega (arith, le, (grows l.keys key).longer));
 }
   where
@@ -198,7 +197,7 @@ append-exact s l key a e = record {
     numbered false x h = e.spare (id_of (with_key l.keys key) x) (later-number l.keys key x h) ∙ sym (e.spare (id_of l.keys x) (omega (arith, fresh l.keys x h)))
 
 -- where all ends are committed, all is counted
-pub all-counted : (s : Commits) (l : PartitionLogs) (appended : List Key) (x : Key) → IsValidLogs l → AreLogsOf appended l → IsExact s l → ((p : ℕ) → p < l.partitions → committed_at s p ≡ length (log_at l p)) → count_at s (id_of l.keys x) ≡ plain appended x
+pub all-counted : (s : Commits) (l : PartitionLogs) (appended : List Keyed) (x : Key) → IsValidLogs l → AreLogsOf appended l → IsExact s l → ((p : ℕ) → p < l.partitions → committed_at s p ≡ length (log_at l p)) → count_at s (id_of l.keys x) ≡ plain (keys_in appended) x
 all-counted s l appended x a h e ends =
     e.counted x
     ∙ sum-same l.partitions (λ p. plain (take (committed_at s p) (keys_of_log l p)) x) (λ p. plain (keys_of_log l p) x) (λ p lt. ap (λ ks. plain ks x) (take_all (committed_at s p) (keys_of_log l p) (omega (arith, ends p lt, length-map (log_at l p) (key_at l.keys)))))

@@ -4,8 +4,8 @@ use Rattle.std.specs.Str.{bytes_eq}
 use Rattle.lane_words.specs.declared.limits.TheConstants.{MOST_PARTITIONS}
 use Rattle.lane_words.specs.declared.Refusal.{Refusal}
 use Rattle.lane_words.specs.declared.Refusal.TheVariants as r
-pub use Rattle.partition_log.specs.Keys.{Key, id_of, plain}
-pub use Rattle.partition_log.specs.Logs.{PartitionLogs, IsValidLogs, AreLogsOf, append_answer, keys_of_log, log_at, sum_below, with_record}
+pub use Rattle.partition_log.specs.Keys.{Key, Keyed, id_of, keys_in, plain}
+pub use Rattle.partition_log.specs.Logs.{PartitionLogs, IsPlaceOf, IsValidLogs, AreLogsOf, append_answer, keys_of_log, log_at, sum_below, with_record_at}
 unfoldable pub use Rattle.keyed_table.specs.Counts.{raised}
 
 -- the committed offset of each partition, which is that of the next record to be read; the counter

@@ -1,78 +1,89 @@
--- Keys that are appended to empty logs all at once.
-use Rattle.std.proofs.Common.{◌≡◌, ◌∙◌, ◌+◌, ◌<◌, ◌≤◌, ℕ, suc, Bool, true, false, List, [], ◌∷◌, ◌++◌, Ok, Err, length, map, get_or, replicate, sym, ap, refl, subst, arith, inl, inr, length-append, append_assoc}
+-- Records that are appended to empty logs all at once.
+use Rattle.std.proofs.Common.{◌≡◌, ◌∙◌, ◌+◌, ◌<◌, ◌≤◌, ℕ, suc, Bool, true, false, List, [], ◌∷◌, ◌++◌, Ok, Err, length, map, get_or, replicate, sym, ap, refl, subst, arith, inl, inr, length-append}
 use Rattle.std.specs.Prelude.{if◌then◌else◌, not, nat_lt, slice_set, All, IsOk}
-use Rattle.std.specs.List.{fold}
+use Rattle.std.specs.List.{fold, zip}
 use Rattle.std.proofs.lemmas.Bool.{and_right, cases_lt, le-ltb, lt-leb, or_from}
-use Rattle.std.proofs.lemmas.List.{append-nil, get_or-map, length-map}
-use Rattle.std.proofs.lemmas.List.Elements.{All-head, All-tail}
+use Rattle.std.proofs.lemmas.List.Elements.{All-cons, All-head, All-tail}
+use Rattle.std.proofs.lemmas.Slice.Zip.{length-zip}
 use Rattle.lane_words.specs.declared.limits.TheConstants.{LONGEST_KEY, MOST_RECORDS}
 use Rattle.lane_words.specs.declared.Refusal.TheVariants as r
-use Rattle.partitioner.proofs.Places.{place_of-below}
-use Rattle.partition_log.specs.Appends.{AreAccepted, AreAppended, GrowByKeys, with_records}
+use Rattle.partition_log.specs.Appends.{AreAccepted, AreAppended, Placed, with_records}
 use Rattle.partition_log.specs.Keys.{Key, distinct, id_of, is_known, with_key}
-use Rattle.partition_log.specs.Logs.{AreLogsOf, IsValidLogs, PartitionLogs, is_full_for, log_at, place_in, with_record}
-use Rattle.partition_log.specs.Private.Filled.{CanGoSideBySide, filled}
-use Rattle.partitioner.specs.Place.{place_of}
+use Rattle.partition_log.specs.Logs.{IsPlaceOf, IsValidLogs, PartitionLogs, is_full_for, log_at, with_record_at}
+use Rattle.partition_log.specs.Private.Filled.{AreShort, CanGoSideBySide, filled}
 use Rattle.partition_log.proofs.Firsts.{own, stays}
 use Rattle.partition_log.proofs.Growth.{grows}
-use Rattle.partition_log.proofs.History.{history}
-use Rattle.partition_log.proofs.Valid.{is_place, log-other, log-same, valid}
+use Rattle.partition_log.proofs.Valid.{goes-below, is_place, log-other, log-same, valid}
+
+abbrev pub key_of : Placed → Key
+key_of one = one.1
+
+abbrev pub place_at : Placed → ℕ
+place_at one = one.0
 
 -- the keys of logs to which more were appended
-pub with_records-keys : (l : PartitionLogs) (keys : List Key) → (with_records l keys).keys ≡ fold with_key l.keys keys
+pub with_records-keys : (l : PartitionLogs) (records : List Placed) → (with_records l records).keys ≡ fold with_key l.keys (map key_of records)
 unfolding with_records
 with_records-keys l [] = refl
-with_records-keys l (x ∷ keys) = with_records-keys (with_record l x) keys
+with_records-keys l (x ∷ records) = with_records-keys (with_record_at l x.0 x.1) records
 
-pub with_records-partitions : (l : PartitionLogs) (keys : List Key) → (with_records l keys).partitions ≡ l.partitions
+pub with_records-counts : (l : PartitionLogs) (records : List Placed) → (with_records l records).counts ≡ l.counts
+unfolding with_records
+with_records-counts l [] = refl
+with_records-counts l (x ∷ records) = with_records-counts (with_record_at l x.0 x.1) records
+
+pub with_records-partitions : (l : PartitionLogs) (records : List Placed) → (with_records l records).partitions ≡ l.partitions
 unfolding with_records
 with_records-partitions l [] = refl
-with_records-partitions l (x ∷ keys) = with_records-partitions (with_record l x) keys
+with_records-partitions l (x ∷ records) = with_records-partitions (with_record_at l x.0 x.1) records
 
--- logs that are filled by the keys' last numbers are those to which the keys are appended
-pub with_records-logs : (l : PartitionLogs) (keys all : List Key) → all ≡ fold with_key l.keys keys → filled l.logs (map (place_in l) keys) (map (id_of all) keys) ≡ (with_records l keys).logs
+-- logs that are filled by the keys' last numbers are those to which the records are appended
+pub with_records-logs : (l : PartitionLogs) (records : List Placed) (all : List Key) → all ≡ fold with_key l.keys (map key_of records) → filled l.logs (map place_at records) (map (id_of all) (map key_of records)) ≡ (with_records l records).logs
 unfolding with_records
 with_records-logs l [] all is = refl
-with_records-logs l (x ∷ keys) all is =
-    let final : id_of all x ≡ id_of l.keys x = ap (λ ks. id_of ks x) is ∙ (stays (with_key l.keys x) keys x (own l.keys x).0).1 ∙ (own l.keys x).1 in
-    ap (λ n. filled (slice_set l.logs (place_in l x) (log_at l (place_in l x) ++ n ∷ [])) (map (place_in l) keys) (map (id_of all) keys)) final
-    ∙ with_records-logs (with_record l x) keys all is
+with_records-logs l (x ∷ records) all is =
+    let final : id_of all x.1 ≡ id_of l.keys x.1 = ap (λ ks. id_of ks x.1) is ∙ (stays (with_key l.keys x.1) (map key_of records) x.1 (own l.keys x.1).0).1 ∙ (own l.keys x.1).1 in
+    ap (λ n. filled (slice_set l.logs x.0 (log_at l x.0 ++ n ∷ [])) (map place_at records) (map (id_of all) (map key_of records))) final
+    ∙ with_records-logs (with_record_at l x.0 x.1) records all is
 
--- no limit is met where these keys are appended
-pub record HasRoomFor (l : PartitionLogs) (more : List Key) : Type 0 where
+-- no limit is met where these records are appended
+pub record HasRoomFor (l : PartitionLogs) (more : List Placed) : Type 0 where
   pub valid : IsValidLogs l
+  pub placed : All (λ (one : Placed). IsPlaceOf l one.1 one.0) more
   pub logs : (p : ℕ) → length (log_at l p) + length more ≤ MOST_RECORDS
   pub keys : length l.keys + length more ≤ MOST_RECORDS
-  pub short : All (λ (key : Key). length key ≤ LONGEST_KEY) more
+  pub short : All (λ (one : Placed). length one.1 ≤ LONGEST_KEY) more
 
--- where there is room for a key and more, the key finds room
-finds_room : (l : PartitionLogs) (x : Key) (keys : List Key) → HasRoomFor l (x ∷ keys) → is_full_for l x ≡ false
-finds_room l x keys h =
-    or_from _ _ (lt-leb MOST_RECORDS (length (log_at l (place_in l x))) (omega (arith, h.logs (place_in l x))))
-    (and_right (not (is_known l.keys x)) _ (lt-leb MOST_RECORDS (length l.keys) (omega (arith, h.keys))))
+-- where there is room for a record and more, its key finds room
+finds_room : (l : PartitionLogs) (x : Placed) (records : List Placed) → HasRoomFor l (x ∷ records) → is_full_for l x.0 x.1 ≡ false
+finds_room l x records h =
+    or_from _ _ (lt-leb MOST_RECORDS (length (log_at l x.0)) (omega (arith, h.logs x.0)))
+    (and_right (not (is_known l.keys x.1)) _ (lt-leb MOST_RECORDS (length l.keys) (omega (arith, h.keys))))
 
-is_short : (l : PartitionLogs) (x : Key) (keys : List Key) → HasRoomFor l (x ∷ keys) → length x ≤ LONGEST_KEY
-is_short l x keys h = All-head (λ (key : Key). length key ≤ LONGEST_KEY) x keys h.short
+is_short : (l : PartitionLogs) (x : Placed) (records : List Placed) → HasRoomFor l (x ∷ records) → length x.1 ≤ LONGEST_KEY
+is_short l x records h = All-head (λ (one : Placed). length one.1 ≤ LONGEST_KEY) x records h.short
 
-within : (l : PartitionLogs) (x : Key) (keys : List Key) → HasRoomFor l (x ∷ keys) → place_in l x < l.partitions
-within l x keys h = place_of-below l.partitions x h.valid.some_partitions
+is_placed : (l : PartitionLogs) (x : Placed) (records : List Placed) → HasRoomFor l (x ∷ records) → IsPlaceOf l x.1 x.0
+is_placed l x records h = All-head (λ (one : Placed). IsPlaceOf l one.1 one.0) x records h.placed
 
--- after the first key there is room for the others
-room-next : (l : PartitionLogs) (x : Key) (keys : List Key) → HasRoomFor l (x ∷ keys) → HasRoomFor (with_record l x) keys
-room-next l x keys h =
-    let placed = within l x keys h in
-    let below : place_in l x < length l.logs = rw h.valid.a_log_each placed in record {
-      valid = valid l x h.valid placed (is_short l x keys h) (finds_room l x keys h);
-      logs = λ p. elim (is_place p (place_in l x)) [
-        | inr ne ↦ let same = ap length (log-other l x p ne) in omega (arith, same, h.logs p)
+-- after the first record there is room for the others
+room-next : (l : PartitionLogs) (x : Placed) (records : List Placed) → HasRoomFor l (x ∷ records) → HasRoomFor (with_record_at l x.0 x.1) records
+room-next l x records h =
+    let goes = is_placed l x records h in
+    let within = goes-below l x.1 x.0 h.valid goes in
+    let below : x.0 < length l.logs = rw h.valid.a_log_each within in record {
+      valid = valid l x.0 x.1 h.valid goes within (is_short l x records h) (finds_room l x records h);
+      placed = All-tail (λ (one : Placed). IsPlaceOf l one.1 one.0) x records h.placed;
+      logs = λ p. elim (is_place p x.0) [
+        | inr ne ↦ let same = ap length (log-other l x.0 x.1 p ne) in omega (arith, same, h.logs p)
         | inl is ↦
-            let old = log_at l (place_in l x) in
-            let long : length (log_at (with_record l x) p) ≡ length old + 1 =
-            ap (λ q. length (log_at (with_record l x) q)) is ∙ ap length (log-same l x below) ∙ length-append old (id_of l.keys x ∷ []) in
-            omega (arith, long, h.logs (place_in l x))
+            let old = log_at l x.0 in
+            let long : length (log_at (with_record_at l x.0 x.1) p) ≡ length old + 1 =
+            ap (λ q. length (log_at (with_record_at l x.0 x.1) q)) is ∙ ap length (log-same l x.0 x.1 below) ∙ length-append old (id_of l.keys x.1 ∷ []) in
+            omega (arith, long, h.logs x.0)
       ];
-      keys = omega (arith, (grows l.keys x).by_one, h.keys);
-      short = All-tail (λ (key : Key). length key ≤ LONGEST_KEY) x keys h.short;
+      keys = omega (arith, (grows l.keys x.1).by_one, h.keys);
+      short = All-tail (λ (one : Placed). length one.1 ≤ LONGEST_KEY) x records h.short;
     }
 
 -- an answer where nothing is refused
@@ -81,24 +92,17 @@ accepted-one true b v e f = absurd (cc e)
 accepted-one false true v e f = absurd (cc f)
 accepted-one false false v e f = refl
 
-pub all-accepted : (l : PartitionLogs) (keys : List Key) → HasRoomFor l keys → AreAccepted l keys
+pub all-accepted : (l : PartitionLogs) (records : List Placed) → HasRoomFor l records → AreAccepted l records
 all-accepted l [] h = tt
-all-accepted l (x ∷ keys) h = (
-  accepted-one (nat_lt LONGEST_KEY (length x)) (is_full_for l x) _ (le-ltb LONGEST_KEY (length x) (is_short l x keys h)) (finds_room l x keys h),
-  all-accepted (with_record l x) keys (room-next l x keys h),
+all-accepted l (x ∷ records) h = (
+  accepted-one (nat_lt LONGEST_KEY (length x.1)) (is_full_for l x.0 x.1) _ (le-ltb LONGEST_KEY (length x.1) (is_short l x records h)) (finds_room l x records h),
+  all-accepted (with_record_at l x.0 x.1) records (room-next l x records h),
 )
 
-pub all-valid : (l : PartitionLogs) (keys : List Key) → HasRoomFor l keys → IsValidLogs (with_records l keys)
+pub all-valid : (l : PartitionLogs) (records : List Placed) → HasRoomFor l records → IsValidLogs (with_records l records)
 unfolding with_records
 all-valid l [] h = h.valid
-all-valid l (x ∷ keys) h = all-valid (with_record l x) keys (room-next l x keys h)
-
-pub all-history : (l : PartitionLogs) (keys : List Key) → HasRoomFor l keys → GrowByKeys keys l (with_records l keys)
-unfolding with_records
-all-history l [] h appended are = subst (λ ks. AreLogsOf ks l) (sym (append-nil appended)) are
-all-history l (x ∷ keys) h appended are =
-    subst (λ ks. AreLogsOf ks (with_records (with_record l x) keys)) (append_assoc appended (x ∷ []) keys)
-    (all-history (with_record l x) keys (room-next l x keys h) (appended ++ x ∷ []) (history l x appended h.valid are (within l x keys h)))
+all-valid l (x ∷ records) h = all-valid (with_record_at l x.0 x.1) records (room-next l x records h)
 
 -- logs with no key have no record
 pub no-record : (l : PartitionLogs) (p : ℕ) → IsValidLogs l → length l.keys ≡ 0 → length (log_at l p) ≡ 0
@@ -122,56 +126,84 @@ pub no-records : (l : PartitionLogs) → IsValidLogs l → length l.keys ≡ 0 �
 no-records l a none = all-empty l.logs (λ p. no-record l p a none) ∙ ap (λ n. replicate n []) a.a_log_each
 
 -- logs with no key have room
-pub has_room : (l : PartitionLogs) (keys : List Key) → IsValidLogs l → length l.keys ≡ 0 → length keys ≤ MOST_RECORDS → All (λ (key : Key). length key ≤ LONGEST_KEY) keys → HasRoomFor l keys
-has_room l keys a none few short = record {
+pub has_room : (l : PartitionLogs) (records : List Placed) → IsValidLogs l → length l.keys ≡ 0 → length records ≤ MOST_RECORDS → All (λ (one : Placed). length one.1 ≤ LONGEST_KEY) records
+    → All (λ (one : Placed). IsPlaceOf l one.1 one.0) records → HasRoomFor l records
+has_room l records a none few short placed = record {
   valid = a;
+  placed = placed;
   logs = λ p. omega (arith, no-record l p a none, few);
   keys = omega (arith, none, few);
   short = short;
 }
 
 -- logs of which the parts are those of these
-same-parts : (w : PartitionLogs) (partitions : ℕ) (keys : List Key) (logs : List (List ℕ)) → partitions ≡ w.partitions → keys ≡ w.keys → logs ≡ w.logs
-    → (let new : PartitionLogs = record { partitions = partitions; keys = keys; logs = logs } in new ≡ w)
-same-parts w partitions keys logs p ks ls = rw (p, ks, ls) refl
+same-parts : (w : PartitionLogs) (counts : List ℕ) (partitions : ℕ) (keys : List Key) (logs : List (List ℕ)) → counts ≡ w.counts → partitions ≡ w.partitions → keys ≡ w.keys → logs ≡ w.logs
+    → (let new : PartitionLogs = record { counts = counts; partitions = partitions; keys = keys; logs = logs } in new ≡ w)
+same-parts w counts partitions keys logs c p ks ls = rw (c, p, ks, ls) refl
 
--- logs of which the parts are those with the keys appended
-pub appended-whole : (l : PartitionLogs) (keys all : List Key) (logs : List (List ℕ)) → IsValidLogs l → l.keys ≡ [] → all ≡ distinct keys → logs ≡ filled (replicate l.partitions []) (map (place_in l) keys) (map (id_of all) keys)
-    → (let new : PartitionLogs = record { partitions = l.partitions; keys = all; logs = logs } in new ≡ with_records l keys)
+-- logs of which the parts are those with the records appended
+pub appended-whole : (l : PartitionLogs) (records : List Placed) (all : List Key) (logs : List (List ℕ)) → IsValidLogs l → l.keys ≡ [] → all ≡ distinct (map key_of records)
+    → logs ≡ filled (replicate l.partitions []) (map place_at records) (map (id_of all) (map key_of records))
+    → (let new : PartitionLogs = record { counts = l.counts; partitions = l.partitions; keys = all; logs = logs } in new ≡ with_records l records)
 unfolding distinct
-appended-whole l keys all logs a none is are =
-    let w = with_records l keys in
-    let same_keys : all ≡ w.keys = is ∙ ap (λ ks. fold with_key ks keys) (sym none) ∙ sym (with_records-keys l keys) in
+appended-whole l records all logs a none is are =
+    let w = with_records l records in
+    let same_keys : all ≡ w.keys = is ∙ ap (λ ks. fold with_key ks (map key_of records)) (sym none) ∙ sym (with_records-keys l records) in
     let same_logs : logs ≡ w.logs =
-    are ∙ ap (λ ls. filled ls (map (place_in l) keys) (map (id_of all) keys)) (sym (no-records l a (ap length none))) ∙ with_records-logs l keys all (same_keys ∙ with_records-keys l keys) in
-    let same_partitions : l.partitions ≡ w.partitions = sym (with_records-partitions l keys) in
-    same-parts w l.partitions all logs same_partitions same_keys same_logs
-
--- places of keys are partitions
-pub all-placed : (partitions : ℕ) (keys : List Key) (places : List ℕ) → 1 ≤ partitions → places ≡ map (place_of partitions) keys → All (λ p. p < partitions) places
-all-placed partitions keys places some are = λ i d lt.
-    let long = ap length are ∙ length-map keys (place_of partitions) in
-    let read = ap (λ ps. get_or ps i d) are ∙ get_or-map (place_of partitions) keys i [] d (omega (arith, lt, long)) in
-    omega (arith, read, place_of-below partitions (get_or keys i []) some)
+    are ∙ ap (λ ls. filled ls (map place_at records) (map (id_of all) (map key_of records))) (sym (no-records l a (ap length none))) ∙ with_records-logs l records all (same_keys ∙ with_records-keys l records) in
+    same-parts w l.counts l.partitions all logs (sym (with_records-counts l records)) (sym (with_records-partitions l records)) same_keys same_logs
 
 no-key : (keys : List Key) → length keys ≡ 0 → keys ≡ []
 no-key [] e = refl
 no-key (k ∷ keys) e = absurd (omega (arith, e))
 
+-- places beside keys, taken apart
+unzip-places : (places : List ℕ) (keys : List Key) → length places ≡ length keys → map place_at (zip places keys) ≡ places
+unzip-places [] [] e = refl
+unzip-places [] (k ∷ keys) e = absurd (omega (arith, e))
+unzip-places (p ∷ places) [] e = absurd (omega (arith, e))
+unzip-places (p ∷ places) (k ∷ keys) e = ap (λ ps. p ∷ ps) (unzip-places places keys (omega (arith, e)))
+
+pub unzip-keys : (places : List ℕ) (keys : List Key) → length places ≡ length keys → map key_of (zip places keys) ≡ keys
+unzip-keys [] [] e = refl
+unzip-keys [] (k ∷ keys) e = absurd (omega (arith, e))
+unzip-keys (p ∷ places) [] e = absurd (omega (arith, e))
+unzip-keys (p ∷ places) (k ∷ keys) e = ap (λ ks. k ∷ ks) (unzip-keys places keys (omega (arith, e)))
+
+zip-short : (places : List ℕ) (keys : List Key) → AreShort keys → All (λ (one : Placed). length one.1 ≤ LONGEST_KEY) (zip places keys)
+zip-short [] keys h = λ i d lt. absurd (omega (arith, lt))
+zip-short (p ∷ places) [] h = λ i d lt. absurd (omega (arith, lt))
+zip-short (p ∷ places) (k ∷ keys) h =
+    All-cons (λ (one : Placed). length one.1 ≤ LONGEST_KEY) (p, k) (zip places keys) (All-head (λ (key : Key). length key ≤ LONGEST_KEY) k keys h)
+    (zip-short places keys (All-tail (λ (key : Key). length key ≤ LONGEST_KEY) k keys h))
+
 -- what keys give that are appended side by side
-pub side-by-side : (old l : PartitionLogs) (keys all : List Key) (places ids : List ℕ) (count : ℕ) (logs : List (List ℕ)) → l ≡ old → IsValidLogs l → CanGoSideBySide old keys → count ≡ l.partitions
-    → places ≡ map (place_in l) keys → ids ≡ map (id_of (distinct keys)) keys → all ≡ distinct keys → logs ≡ filled (replicate count []) places ids
-    → (let new : PartitionLogs = record { partitions = l.partitions; keys = all; logs = logs } in AreAppended old keys new × IsValidLogs new × GrowByKeys keys old new)
-side-by-side old l keys all places ids count logs seen a can counted placed numbered is are =
+pub side-by-side : (old l : PartitionLogs) (keys all : List Key) (places ids : List ℕ) (count : ℕ) (logs : List (List ℕ)) → l ≡ old → IsValidLogs l → CanGoSideBySide old keys → count ≡ l.partitions → length places ≡ length keys
+    → All (λ (one : Placed). IsPlaceOf old one.1 one.0) (zip places keys) → ids ≡ map (id_of (distinct keys)) keys → all ≡ distinct keys → logs ≡ filled (replicate count []) places ids
+    → (let new : PartitionLogs = record { counts = l.counts; partitions = l.partitions; keys = all; logs = logs } in AreAppended old (zip places keys) new × IsValidLogs new)
+side-by-side old l keys all places ids count logs seen a can counted as_many goes numbered is are =
+    let records = zip places keys in
     let none : length l.keys ≡ 0 = ap (λ (x : PartitionLogs). length x.keys) seen ∙ can.none in
-    let room = has_room l keys a none can.few can.short in
-    let same_ids : ids ≡ map (id_of all) keys = numbered ∙ ap (λ ks. map (id_of ks) keys) (sym is) in
-    let same_logs : logs ≡ filled (replicate l.partitions []) (map (place_in l) keys) (map (id_of all) keys) =
-    are ∙ ap (λ n. filled (replicate n []) places ids) counted ∙ ap (λ ps. filled (replicate l.partitions []) ps ids) placed
-    ∙ ap (λ ns. filled (replicate l.partitions []) (map (place_in l) keys) ns) same_ids in
-    let new : PartitionLogs = record { partitions = l.partitions; keys = all; logs = logs } in
-    let whole : new ≡ with_records l keys = appended-whole l keys all logs a (no-key l.keys none) is same_logs in (
-      subst (λ (x : PartitionLogs). AreAppended x keys new) seen (all-accepted l keys room, whole),
-      subst IsValidLogs (sym whole) (all-valid l keys room),
-      subst (λ (x : PartitionLogs). GrowByKeys keys x new) seen (subst (λ (w : PartitionLogs). GrowByKeys keys l w) (sym whole) (all-history l keys room)),
+    let goes_l : All (λ (one : Placed). IsPlaceOf l one.1 one.0) records = subst (λ (x : PartitionLogs). All (λ (one : Placed). IsPlaceOf x one.1 one.0) records) (sym seen) goes in
+    let few : length records ≤ MOST_RECORDS = omega (arith, length-zip places keys, can.few) in
+    let room = has_room l records a none few (zip-short places keys can.short) goes_l in
+    let ks : map key_of records ≡ keys = unzip-keys places keys as_many in
+    let ps : map place_at records ≡ places = unzip-places places keys as_many in
+    let same_all : all ≡ distinct (map key_of records) = is ∙ ap distinct (sym ks) in
+    let same_ids : ids ≡ map (id_of all) (map key_of records) = numbered ∙ ap (λ xs. map (id_of xs) keys) (sym is) ∙ ap (map (id_of all)) (sym ks) in
+    let same_logs : logs ≡ filled (replicate l.partitions []) (map place_at records) (map (id_of all) (map key_of records)) =
+    are ∙ ap (λ n. filled (replicate n []) places ids) counted ∙ ap (λ xs. filled (replicate l.partitions []) xs ids) (sym ps)
+    ∙ ap (λ ns. filled (replicate l.partitions []) (map place_at records) ns) same_ids in
+    let new : PartitionLogs = record { counts = l.counts; partitions = l.partitions; keys = all; logs = logs } in
+    let whole : new ≡ with_records l records = appended-whole l records all logs a (no-key l.keys none) same_all same_logs in (
+      subst (λ (x : PartitionLogs). AreAppended x records new) seen (all-accepted l records room, whole),
+      subst IsValidLogs (sym whole) (all-valid l records room),
     )
+
+-- places of records are partitions
+pub all-below : (l : PartitionLogs) (places : List ℕ) (keys : List Key) → IsValidLogs l → length places ≡ length keys → All (λ (one : Placed). IsPlaceOf l one.1 one.0) (zip places keys) → All (λ p. p < l.partitions) places
+all-below l [] keys a e h = λ i d lt. absurd (omega (arith, lt))
+all-below l (p ∷ places) [] a e h = absurd (omega (arith, e))
+all-below l (p ∷ places) (k ∷ keys) a e h =
+    All-cons (λ q. q < l.partitions) p places (goes-below l k p a (All-head (λ (one : Placed). IsPlaceOf l one.1 one.0) (p, k) (zip places keys) h))
+    (all-below l places keys a (omega (arith, e)) (All-tail (λ (one : Placed). IsPlaceOf l one.1 one.0) (p, k) (zip places keys) h))

@@ -6,10 +6,9 @@ use Rattle.lane_words.specs.Answers.{Answers}
 use Rattle.lane_words.specs.declared.limits.TheConstants.{LONGEST_KEY}
 use Rattle.lane_words.specs.declared.Refusal.{Refusal}
 use Rattle.lane_words.specs.declared.Refusal.TheVariants as r
-use Rattle.partitioner.proofs.Places.{place_of-below}
-use Rattle.partition_log.specs.Keys.{Key, id_of}
-use Rattle.partition_log.specs.Logs.{IsValidLogs, PartitionLogs, append_answer, is_full_for, log_at, place_in, with_record}
-use Rattle.partition_log.proofs.Valid.{log-same}
+use Rattle.partition_log.specs.Keys.{Key, Keyed, id_of, of_first}
+use Rattle.partition_log.specs.Logs.{IsOfTopic, IsValidLogs, PartitionLogs, append_answer, is_full_for, log_at, place_in, with_record}
+use Rattle.partition_log.proofs.Valid.{log-same, place-below}
 
 -- the record of a key that was appended to logs stands at this place and offset, as the number of the key
 pub record IsStored (l : PartitionLogs) (key : Key) (new : PartitionLogs) (place offset : ℕ) : Type 0 where
@@ -27,17 +26,19 @@ pub accepted : {T : Type 0} (expected : Result T Refusal) (v : T) → Answers ex
 accepted expected v (inl e) = sym e
 accepted expected v (inr e) = absurd (cc e)
 
-pub stored : (l new : PartitionLogs) (key : Key) (place offset : ℕ) → IsValidLogs l → new ≡ with_record l key → Answers {T = ℕ × ℕ} (append_answer l key) (Ok (place, offset))
-    → IsStored l key new place offset
-stored l new key place offset a e h =
-    let pair : (let v : ℕ × ℕ = (place_in l key, length (log_at l (place_in l key))) in v) ≡ (place, offset) =
-    answered (nat_lt LONGEST_KEY (length key)) (is_full_for l key) _ _ (accepted _ _ h) in
-    let at : place_in l key ≡ place = ap (λ (v : ℕ × ℕ). v.0) pair in
-    let end : length (log_at l (place_in l key)) ≡ offset = ap (λ (v : ℕ × ℕ). v.1) pair in
-    let below : place_in l key < l.partitions = place_of-below l.partitions key a.some_partitions in
-    let old = log_at l (place_in l key) in
+pub stored : (l new : PartitionLogs) (keyed : Keyed) (place offset : ℕ) → IsValidLogs l → IsOfTopic l keyed → new ≡ with_record l keyed → Answers {T = ℕ × ℕ} (append_answer l keyed) (Ok (place, offset))
+    → IsStored l keyed.1 new place offset
+stored l new keyed place offset a topic e h =
+    let key = keyed.1 in
+    let goes = place_in l keyed in
+    let pair : (let v : ℕ × ℕ = (goes, length (log_at l goes)) in v) ≡ (place, offset) =
+    answered (nat_lt LONGEST_KEY (length key)) (is_full_for l goes key) _ _ (accepted _ _ h) in
+    let at : goes ≡ place = ap (λ (v : ℕ × ℕ). v.0) pair in
+    let end : length (log_at l goes) ≡ offset = ap (λ (v : ℕ × ℕ). v.1) pair in
+    let below : goes < l.partitions = place-below l keyed a topic in
+    let old = log_at l goes in
     let log : log_at new place ≡ old ++ id_of l.keys key ∷ [] =
-    ap (λ (x : PartitionLogs). log_at x place) e ∙ ap (log_at (with_record l key)) (sym at) ∙ log-same l key (rw a.a_log_each below) in
+    ap (λ (x : PartitionLogs). log_at x place) e ∙ ap (log_at (with_record l keyed)) (sym at) ∙ log-same l goes key (rw a.a_log_each below) in
     let long : length (log_at new place) ≡ length old + 1 = ap length log ∙ length-append old (id_of l.keys key ∷ []) in
     let same : new.partitions ≡ l.partitions = ap (λ (x : PartitionLogs). x.partitions) e in
     record {
@@ -46,6 +47,10 @@ stored l new key place offset a e h =
       numbered = ap (λ (xs : List ℕ). get_or xs offset 0) log ∙ ap (λ n. get_or (old ++ id_of l.keys key ∷ []) n 0) (sym end) ∙ get_or-append_seam old (id_of l.keys key) [] 0;
     }
 
--- a key's place is a partition
-pub place_in-below : (l : PartitionLogs) (key : Key) → IsValidLogs l → place_in l key < l.partitions
-place_in-below l key a = place_of-below l.partitions key a.some_partitions
+-- a record of the first topic is of a topic
+pub first-topic : (l : PartitionLogs) (key : Key) → IsValidLogs l → IsOfTopic l (of_first key)
+first-topic l key a = omega (arith, a.counted.some)
+
+-- its place is a partition
+pub first-below : (l : PartitionLogs) (key : Key) → IsValidLogs l → place_in l (of_first key) < l.partitions
+first-below l key a = place-below l (of_first key) a (first-topic l key a)

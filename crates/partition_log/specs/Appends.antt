@@ -1,37 +1,51 @@
--- Appends of several keys, one after the other.
-use Rattle.std.specs.Prelude.{◌≡◌, ◌<◌, ℕ, List, [], ◌∷◌, ◌++◌, Err, IsOk, length, fold, map, take}
+-- Appends of several records, one after the other.
+use Rattle.std.specs.Prelude.{◌≡◌, ◌<◌, ℕ, List, [], ◌∷◌, ◌++◌, Err, IsOk, length, fold, map, slice_index_or, take}
 use Rattle.std.specs.Borrow.{Bor}
 use Rattle.lane_words.specs.Answers.{Answers}
 use Rattle.lane_words.specs.declared.Refusal.{Refusal}
-use Rattle.partition_log.specs.Keys.{Key, key_at}
-use Rattle.partition_log.specs.Logs.{AreLogsOf, PartitionLogs, append_answer, with_record}
+use Rattle.partition_log.specs.Keys.{Key, Keyed, of_first}
+use Rattle.partition_log.specs.Logs.{AreLogsOf, PartitionLogs, answer_at, place_in, with_record_at}
 
 -- the keys that are lent
 abbrev pub lent : List (Bor Key) → List Key
 lent keys = map (λ key. key.now) keys
 
--- the logs after these keys were appended, one after the other
-unfoldable pub with_records : PartitionLogs → List Key → PartitionLogs
-with_records l keys = fold with_record l keys
+-- records of the first topic
+abbrev pub in_first : List Key → List Keyed
+in_first keys = map of_first keys
 
--- each of these keys is accepted, appended one after the other
-abbrev pub AreAccepted : PartitionLogs → List Key → Type 0
+-- a record that goes to a known partition, and its key
+abbrev pub Placed : Type 0
+Placed = ℕ × Key
+
+-- records beside their places
+abbrev pub placed : PartitionLogs → List Keyed → List Placed
+placed l records = map (λ keyed. (place_in l keyed, keyed.1)) records
+
+-- the logs after these records were appended, one after the other
+unfoldable pub with_records : PartitionLogs → List Placed → PartitionLogs
+with_records l records = fold (λ logs one. with_record_at logs one.0 one.1) l records
+
+-- each of these records is accepted, appended one after the other
+abbrev pub AreAccepted : PartitionLogs → List Placed → Type 0
 AreAccepted l [] = Unit {0}
-AreAccepted l (key ∷ keys) = IsOk (append_answer l key) × AreAccepted (with_record l key) keys
+AreAccepted l (one ∷ records) =
+    IsOk (answer_at l one.0 one.1) × AreAccepted (with_record_at l one.0 one.1) records
 
--- all of these keys were appended, one after the other
-abbrev pub AreAppended : PartitionLogs → List Key → PartitionLogs → Type 0
-AreAppended l keys l2 = AreAccepted l keys × (l2 ≡ with_records l keys)
+-- all of these records were appended, one after the other
+abbrev pub AreAppended : PartitionLogs → List Placed → PartitionLogs → Type 0
+AreAppended l records l2 = AreAccepted l records × (l2 ≡ with_records l records)
 
--- the appends of these keys stopped after n of them: those and no more were appended, and the append
--- of the next one is refused
-pub record AreStoppedAfter (n : ℕ) (why : Refusal) (l : PartitionLogs) (keys : List Key)
+-- the appends of these records stopped after n of them: those and no more were appended, and the
+-- append of the next one is refused
+pub record AreStoppedAfter (n : ℕ) (why : Refusal) (l : PartitionLogs) (records : List Placed)
     (l2 : PartitionLogs) : Type 0 where
-  pub among : n < length keys
-  pub appended : AreAppended l (take n keys) l2
-  pub refused : Answers (append_answer l2 (key_at keys n)) (Err why)
+  pub among : n < length records
+  pub appended : AreAppended l (take n records) l2
+  pub refused : (let one = slice_index_or records n (0, []) in
+      Answers (answer_at l2 one.0 one.1) (Err why))
 
--- logs of a list of keys are afterwards those of the list with these at its end
-abbrev pub GrowByKeys : List Key → PartitionLogs → PartitionLogs → Type 0
-GrowByKeys keys old new =
-    (appended : List Key) → AreLogsOf appended old → AreLogsOf (appended ++ keys) new
+-- logs of a list of records are afterwards those of the list with these at its end
+abbrev pub GrowByRecords : List Keyed → PartitionLogs → PartitionLogs → Type 0
+GrowByRecords records old new =
+    (appended : List Keyed) → AreLogsOf appended old → AreLogsOf (appended ++ records) new

@@ -1,13 +1,14 @@
 //! Append-only logs of keyed records.
 #![tactic(auto)]
 
-ghost use Rattle.std.specs.Prelude.{◌≡◌, ◌<◌, ◌≤◌, ◌↔◌, ◌++◌, ◌∷◌, [], Ok, Err, List, map, length, vec_items, vec_len, slice_set, slice_range, replicate, slice_index_or, IfOk, IsTrue, OnOk, OnErr, if◌then◌else◌};
+ghost use Rattle.std.specs.Prelude.{◌≡◌, ◌<◌, ◌≤◌, ◌↔◌, ◌++◌, ◌∷◌, [], ℕ, Ok, Err, List, map, length, vec_items, vec_len, slice_set, slice_range, replicate, slice_index_or, IfOk, IsTrue, OnOk, OnErr, if◌then◌else◌};
+ghost use Rattle.std.specs.List.{sum};
 ghost use Rattle.lane_words.specs.Answers.{Answers};
 ghost use Rattle.lane_words.specs.declared.Refusal.TheVariants as refusal;
-ghost use Rattle.partitioner.specs.Place.{place_of};
-ghost use Rattle.partition_log.specs.Keys.{Key, key_at, with_key};
+ghost use Rattle.partition_log.specs.Appends.{GrowByRecords};
+ghost use Rattle.partition_log.specs.Keys.{key_at, of_first, with_key};
 ghost use Rattle.partition_log.specs.Private.Appends.{log_answer, with_id, with_id_at};
-ghost use Rattle.partition_log.specs.Logs.{append_answer, with_record, log_at, place_in, IsValidLogs, AreLogsOf, PartitionLogs};
+ghost use Rattle.partition_log.specs.Logs.{AreCounts, AreLogsOf, IsOfTopic, IsPlaceOf, IsValidLogs, PartitionLogs, answer_at, append_answer, log_at, place_in, with_record, with_record_at};
 
 mod appends;
 mod filling;
@@ -30,14 +31,16 @@ use std::alloc::Global;
 use std::marker::Model;
 use std::random::RandomSource;
 
-/// Append-only logs of keyed records, one for each of 1 to 4096 partitions.
+/// Append-only logs of keyed records, one for each of 1 to 4096 partitions of 1 to 8 topics.
 ///
+/// Partitions are counted over all topics, those of a topic after those of the topics before, and
+/// keys are numbered over all of them.
 /// A record is its key alone. A key has 0 to 65,535 bytes of any value and is numbered from 0 in
 /// the order of first appearance; a log holds up to 4,294,967,295 records, each as the number of
 /// its key, and there are up to 4,294,967,295 keys.
 #[derive(Debug, Drop)]
 pub struct Logs {
-    /// How many logs there are.
+    /// How many logs each topic has.
     partitions: Partitions,
     /// The keys of all logs.
     keys: KeyIds,
@@ -114,58 +117,121 @@ impl LogRead for Logs {
 }
 
 impl Logs {
-    /// Empty logs of this many partitions. They are refused for want of memory, or where the random
+    /// Empty logs of this many partitions, of one topic. They are refused for want of memory, or where the random
     /// source fails, from which the hasher of the keys is drawn.
     pub fn new(rt: &impl RandomSource, alloc: Global, partitions: u32) -> Result<Logs, Memory>
         requires { (1 ≤ partitions) × (partitions ≤ MOST_PARTITIONS) }
+        ensures counts { IfOk result (λ logs. logs.counts ≡ partitions ∷ []) }
         ensures partitions { IfOk result (λ logs. logs.partitions ≡ partitions) }
         ensures empty { IfOk result (AreLogsOf []) }
         ensures valid { IfOk result IsValidLogs }
     {
+        Logs::of(rt, alloc, Partitions::new(partitions))
+    }
+
+    /// Empty logs of as many partitions of each topic as these numbers say. They are refused as
+    /// those of one topic.
+    pub fn with_topics(
+        rt: &impl RandomSource,
+        alloc: Global,
+        counts: &[u32],
+    ) -> Result<Logs, Memory>
+        requires { AreCounts counts.now }
+        ensures counts { IfOk result (λ logs. logs.counts ≡ counts.now) }
+        ensures empty { IfOk result (AreLogsOf []) }
+        ensures valid { IfOk result IsValidLogs }
+    {
+        Logs::of(rt, alloc, Partitions::with_topics(counts))
+    }
+
+    /// Empty logs of these partitions.
+    fn of(rt: &impl RandomSource, alloc: Global, partitions: Partitions) -> Result<Logs, Memory>
+        ensures counts { IfOk result (λ logs. logs.counts ≡ partitions) }
+        ensures partitions { IfOk result (λ logs. logs.partitions ≡ sum partitions) }
+        ensures empty { IfOk result (AreLogsOf []) }
+        ensures valid { IfOk result IsValidLogs }
+    {
         let keys = KeyIds::new(rt, alloc)?;
-        let logs = empty_logs(alloc, partitions as usize)?;
+        let logs = empty_logs(alloc, partitions.count() as usize)?;
         Ok(Logs {
-            partitions: Partitions::new(partitions),
+            partitions,
             keys,
             logs,
         })
     }
 
-    /// The partition of a key, which need not have a record here. It takes no memory.
-    pub fn place_of(&self, key: &[u8]) -> u32
-        ensures place { result ≡ place_in self.now key.now }
-        ensures within { result < self.now.partitions }
+    /// How many topics there are.
+    pub fn topics(&self) -> usize
+        ensures topics { result ≡ length self.now.counts }
+        ensures valid { IsValidLogs self.now }
     {
-        self.partitions.place(key)
+        self.partitions.topics()
     }
 
-    /// Appends a record of this key to the log of its place, and answers the partition and the
-    /// record's offset.
+    /// The partition of a key in the first topic. The key need not have a record here. It takes no
+    /// memory.
+    pub fn place_of(&self, key: &[u8]) -> u32
+        ensures place { result ≡ place_in self.now (of_first key.now) }
+        ensures goes { IsPlaceOf self.now key.now result }
+        ensures within { result < self.now.partitions }
+    {
+        let _ = &self.partitions;
+        self.place_of_in(0, key)
+    }
+
+    /// The same, in the topic of this index, with partitions counted over all topics.
+    pub fn place_of_in(&self, topic: u8, key: &[u8]) -> u32
+        requires { IsOfTopic self.now (topic, key.now) }
+        ensures place { result ≡ place_in self.now (topic, key.now) }
+        ensures goes { IsPlaceOf self.now key.now result }
+        ensures within { result < self.now.partitions }
+    {
+        self.partitions.place_in(topic, key)
+    }
+
+    /// Appends a record of this key to the log of its place in the first topic, and answers the
+    /// partition and the record's offset.
     ///
     /// Refused, with everything as it was: a key of more than 65,535 bytes (`KeyTooLong`); a log
     /// that holds its limit, or a new key where the keys are at theirs (`LogFull`); want of memory.
     /// A known key takes four bytes of its log, and is accepted where the keys are at their limit.
     pub fn append(&mut self, key: &[u8]) -> Result<(u32, u32), Refusal>
-        ensures answer { Answers (append_answer self.old key.now) result }
-        ensures ok { OnOk result (self.new ≡ with_record self.old key.now) }
+        ensures answer { Answers (append_answer self.old (of_first key.now)) result }
+        ensures ok { OnOk result (self.new ≡ with_record self.old (of_first key.now)) }
         ensures err { OnErr result (self.new ≡ self.old) }
         ensures valid { OnOk result (IsValidLogs self.new) }
-        ensures history { OnOk result ((appended : List Key) → AreLogsOf appended self.old
-            → AreLogsOf (appended ++ key.now ∷ []) self.new) }
+        ensures history { OnOk result
+            (GrowByRecords (of_first key.now ∷ []) self.old self.new) }
     {
-        let place = self.partitions.place(key);
+        let _ = &self.partitions;
+        self.append_in(0, key)
+    }
+
+    /// The same, to the log of the key's place in the topic of this index. Partitions are counted
+    /// over all topics.
+    pub fn append_in(&mut self, topic: u8, key: &[u8]) -> Result<(u32, u32), Refusal>
+        requires { IsOfTopic self.old (topic, key.now) }
+        ensures answer { Answers (append_answer self.old (topic, key.now)) result }
+        ensures ok { OnOk result (self.new ≡ with_record self.old (topic, key.now)) }
+        ensures err { OnErr result (self.new ≡ self.old) }
+        ensures valid { OnOk result (IsValidLogs self.new) }
+        ensures history { OnOk result
+            (GrowByRecords ((topic, key.now) ∷ []) self.old self.new) }
+    {
+        let place = self.place_of_in(topic, key);
         self.append_at(place, key)
     }
 
-    /// The same, where the key's place is known.
+    /// The same, where the key's place in some topic is known.
     pub fn append_at(&mut self, place: u32, key: &[u8]) -> Result<(u32, u32), Refusal>
-        requires { place ≡ place_in self.old key.now }
-        ensures answer { Answers (append_answer self.old key.now) result }
-        ensures ok { OnOk result (self.new ≡ with_record self.old key.now) }
+        requires { IsPlaceOf self.old key.now place }
+        ensures answer { Answers (answer_at self.old place key.now) result }
+        ensures ok { OnOk result (self.new ≡ with_record_at self.old place key.now) }
         ensures err { OnErr result (self.new ≡ self.old) }
         ensures valid { OnOk result (IsValidLogs self.new) }
-        ensures history { OnOk result ((appended : List Key) → AreLogsOf appended self.old
-            → AreLogsOf (appended ++ key.now ∷ []) self.new) }
+        ensures history { OnOk result ((topic : ℕ) → IsOfTopic self.old (topic, key.now)
+            → place_in self.old (topic, key.now) ≡ place
+            → GrowByRecords ((topic, key.now) ∷ []) self.old self.new) }
     {
         if key.len() > LONGEST_KEY {
             return Err(Refusal::KeyTooLong);
@@ -186,7 +252,7 @@ impl Logs {
     fn same(&self, other: &Logs) -> bool
         ensures { IsTrue result ↔ (self.now ≡ other.now) }
     {
-        self.partitions() == other.partitions()
+        self.partitions.same(&other.partitions)
             && self.keys.same(&other.keys)
             && same_logs(&self.logs, &other.logs)
     }
@@ -199,7 +265,7 @@ impl Logs {
         let keys = self.keys.copy(rt)?;
         let logs = copy_logs(alloc, &self.logs)?;
         Ok(Logs {
-            partitions: Partitions::new(self.partitions.count()),
+            partitions: self.partitions,
             keys,
             logs,
         })
@@ -284,3 +350,5 @@ fn push_id(keys: &mut KeyIds, log: &mut Vec<u32>, key: &[u8]) -> Result<u32, Ref
 
 #[cfg(test)]
 mod tests;
+#[cfg(test)]
+mod topics;

@@ -3,7 +3,7 @@ use Rattle.std.proofs.Common.{ℕ, ◌≡◌, ◌∙◌, ◌+◌, ◌-◌, ◌%�
 use Rattle.std.specs.List.{sum}
 use Rattle.std.proofs.Math.Seq.{take-append_seam}
 use Rattle.std.proofs.lemmas.List.Sums.{sum_by_more_le}
-use Rattle.partitioner.specs.Place.{AreCounts}
+use Rattle.partitioner.specs.Place.{AreCounts, place_in_topic, place_of, positive_hash}
 use Rattle.partitioner.specs.Private.Counts.{IsPadded, place_of_hash}
 
 -- a list with zeros behind it
@@ -23,6 +23,11 @@ place_within counts topic hash a lt =
     let below : hash % get_or counts topic 0 < get_or counts topic 0 = omega (arith, some) in
     let le = sum_by_more_le (λ (x : ℕ). x) counts topic 0 lt in
     omega (arith, below, le)
+
+-- the same, of a key
+pub place_in_topic-below : (counts : List ℕ) (topic : ℕ) (key : List ℕ) → AreCounts counts → topic < length counts → place_in_topic counts topic key < sum counts
+unfolding place_of
+place_in_topic-below counts topic key a lt = place_within counts topic (positive_hash key) a lt
 
 -- there is a partition
 pub some_partitions : (counts : List ℕ) → AreCounts counts → 1 ≤ sum counts

@@ -1,7 +1,7 @@
 //! Which partition a record of a key goes to.
 #![tactic(auto)]
 
-ghost use Rattle.std.specs.Prelude.{◌≡◌, ◌≤◌, ◌<◌, ◌+◌, ◌∷◌, [], ℕ, All, length, map, slice_index_or, zip, IfOk};
+ghost use Rattle.std.specs.Prelude.{◌≡◌, ◌≤◌, ◌<◌, ◌+◌, ◌∷◌, ◌↔◌, [], ℕ, All, length, map, slice_index_or, zip, IfOk, IsTrue};
 ghost use Rattle.std.specs.List.{sum};
 ghost use Rattle.partitioner.specs.Place.{AreCounts, AreTopics, partitions_before, place_in_topic};
 ghost use Rattle.partitioner.specs.Private.Counts.{ArePlaces, place_of_hash};
@@ -24,7 +24,7 @@ const PIECE: usize = 4096;
 /// How many partitions each of 1 to 8 topics has, which are 1 to 4096 in all.
 ///
 /// Partitions are counted from 0 over all topics, those of a topic after those of the topics before.
-#[derive(Clone, Copy, Debug, PartialEq, Eq)]
+#[derive(Clone, Copy, Debug)]
 pub struct Partitions {
     /// How many each topic has, and then zeros.
     counts: [u32; MOST_TOPICS],
@@ -80,6 +80,7 @@ impl Partitions {
     pub fn count(&self) -> u32
         ensures count { result ≡ sum self.now }
         ensures range { (1 ≤ sum self.now) × (sum self.now ≤ MOST_PARTITIONS) }
+        ensures valid { AreCounts self.now }
     {
         self.before(self.topics)
     }
@@ -90,6 +91,13 @@ impl Partitions {
         ensures valid { AreCounts self.now }
     {
         self.topics
+    }
+
+    /// Whether others are as many, topic by topic.
+    pub fn same(&self, other: &Partitions) -> bool
+        ensures { IsTrue result ↔ (self.now ≡ other.now) }
+    {
+        self.counts[..self.topics] == other.counts[..other.topics]
     }
 
     /// How many partitions the topics before this one have.

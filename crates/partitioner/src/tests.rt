@@ -46,7 +46,7 @@ fn places_in_topics(rt: HostRuntime) -> Result<(), Fail> {
     assert_eq!(rt; partitions.place_in(1, b"abc"), 2);
     assert_eq!(rt; partitions.place(b"4"), 1);
     assert_eq!(rt; (partitions.topics(), partitions.count()), (2, 5));
-    assert!(rt; Partitions::with_topics(&[4]) == Partitions::new(4));
+    assert!(rt; Partitions::with_topics(&[4]).same(&Partitions::new(4)));
     Ok(())
 }
 

@@ -1,14 +1,20 @@
 -- Logs that are filled record by record, and keys that are appended side by side.
 use Rattle.std.specs.Prelude.{◌≡◌, ◌<◌, ◌≤◌, ℕ, List, [], ◌∷◌, ◌++◌, All, length, slice_index_or, slice_set}
+use Rattle.std.specs.List.{zip}
 use Rattle.lane_words.specs.declared.limits.TheConstants.{LONGEST_KEY, MOST_RECORDS}
 use Rattle.partition_log.specs.Keys.{Key}
-use Rattle.partition_log.specs.Logs.{PartitionLogs}
+use Rattle.partition_log.specs.Logs.{IsPlaceOf, PartitionLogs}
 
 -- the logs after the records of these key numbers, each at the end of the log of its place
 abbrev pub filled : List (List ℕ) → List ℕ → List ℕ → List (List ℕ)
 filled logs [] ids = logs
 filled logs (place ∷ places) [] = logs
 filled logs (place ∷ places) (id ∷ ids) = filled (slice_set logs place (slice_index_or logs place [] ++ id ∷ [])) places ids
+
+-- each of these keys goes to its place in some topic
+pub record ArePlaced (l : PartitionLogs) (places : List ℕ) (keys : List Key) : Type 0 where
+  pub as_many : length places ≡ length keys
+  pub goes : All (λ (one : ℕ × Key). IsPlaceOf l one.1 one.0) (zip places keys)
 
 -- none of these keys is too long
 abbrev pub AreShort : List Key → Type 0
