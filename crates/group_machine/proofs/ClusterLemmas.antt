@@ -15,7 +15,7 @@ use Rattle.group_machine.specs.declared.group.Seat.{Seat}
 use Rattle.group_machine.specs.State.{GroupState, assigned_of, granted_of, is_present, member_of, opening, seat_assigned}
 use Rattle.group_machine.specs.Good.{AllFit, IsFit, IsValidGroup}
 use Rattle.group_machine.specs.Completion.{complete, completed, is_ready}
-use Rattle.group_machine.specs.Cluster.{IsValidLogs, AreLogsOf, ClusterState, CommitTerms, Commits, IsValidCluster, IsExact, Key, PartitionLogs, appended_to, fence, is_known, with_commit, with_group, with_record, without_room}
+use Rattle.group_machine.specs.Cluster.{IsValidLogs, AreLogsOf, ClusterState, CommitTerms, Commits, IsValidCluster, IsExact, IsPlaceOf, Key, PartitionLogs, appended_at, fence, is_known, with_commit, with_group, with_record_at, without_room}
 use Rattle.group_machine.proofs.GroupLemmas.{granted_over}
 use Rattle.group_machine.proofs.StepLemmas.{length_replicate, opening_good}
 
@@ -56,11 +56,11 @@ offsets-at : (b : Bool) (store : Commits) → length (if b then store else (reco
 offsets-at true store = refl
 offsets-at false store = refl
 
-pub append-kept : (s : ClusterState) (key : Key) → IsValidCluster s → IsValidLogs (with_record s.logs key) → IsValidCluster (appended_to s key)
-append-kept s key c logs = record {
+pub append-kept : (s : ClusterState) (at : ℕ) (key : Key) → IsValidCluster s → IsPlaceOf s.logs key at → IsValidLogs (with_record_at s.logs at key) → IsValidCluster (appended_at s at key)
+append-kept s at key c goes logs = record {
   good = c.good;
   logs = logs;
-  exact = exact-at (is_known s.logs.keys key) (with_record s.logs key) s.store (append-exact s.store s.logs key c.logs c.exact);
+  exact = exact-at (is_known s.logs.keys key) (with_record_at s.logs at key) s.store (append-exact s.store s.logs at key c.logs goes c.exact);
   logs_partitions = c.logs_partitions;
   store_partitions = offsets-at (is_known s.logs.keys key) s.store ∙ c.store_partitions;
   a_counter_each = counters-at (is_known s.logs.keys key) s.logs key s.store refl c.a_counter_each;
@@ -71,9 +71,9 @@ known-at true l key few = refl
 known-at false l key few = absurd (omega (arith, length-append l.keys (key ∷ []), few))
 
 -- no key came to the logs, so no counter is wanted
-pub known-appended : (s : ClusterState) (key : Key) (logs : PartitionLogs) (store : Commits) → logs ≡ with_record s.logs key → store ≡ s.store → length (with_key s.logs.keys key) ≤ length s.logs.keys
-    → ◌≡◌ {A = ClusterState} (record { group = s.group; logs = logs; store = store }) (appended_to s key)
-known-appended s key logs store ls ss few =
+pub known-appended : (s : ClusterState) (at : ℕ) (key : Key) (logs : PartitionLogs) (store : Commits) → logs ≡ with_record_at s.logs at key → store ≡ s.store → length (with_key s.logs.keys key) ≤ length s.logs.keys
+    → ◌≡◌ {A = ClusterState} (record { group = s.group; logs = logs; store = store }) (appended_at s at key)
+known-appended s at key logs store ls ss few =
     let known : is_known s.logs.keys key ≡ true = known-at (is_known s.logs.keys key) s.logs key few in
     rw (ls, ss, known) refl
 

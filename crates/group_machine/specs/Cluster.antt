@@ -4,8 +4,10 @@ use Rattle.std.specs.Result.{result_and}
 use Rattle.lane_words.specs.declared.Refusal.{Refusal}
 use Rattle.lane_words.specs.declared.Refusal.TheVariants as r
 use Rattle.bit_planes.specs.PartitionSet.{PartitionSet, is_in}
-pub use Rattle.partition_log.specs.Keys.{Key, is_known}
-pub use Rattle.commit_store.specs.Commits.{IsValidLogs, AreLogsOf, Commits, Fits, IsExact, PartitionLogs, append_answer, commit_answer, committed_at, with_commit, with_record}
+pub use Rattle.partition_log.specs.Appends.{GrowByRecords}
+pub use Rattle.partition_log.specs.Keys.{Key, Keyed, is_known, of_first}
+pub use Rattle.partition_log.specs.Logs.{AreCounts, IsOfTopic, IsPlaceOf, answer_at, place_in}
+pub use Rattle.commit_store.specs.Commits.{IsValidLogs, AreLogsOf, Commits, Fits, IsExact, PartitionLogs, append_answer, commit_answer, committed_at, with_commit, with_record_at}
 use Rattle.group_machine.specs.State.{GroupState, assigned_of, granted_of, is_present}
 use Rattle.group_machine.specs.Good.{IsValidGroup}
 use Rattle.group_machine.specs.Steps.{sync_answer}
@@ -86,18 +88,17 @@ abbrev pub with_counter_for : PartitionLogs → Key → Commits → Commits
 with_counter_for l key store =
     if is_known l.keys key then store else (record store { counts = store.counts ++ 0 ∷ [] })
 
--- one record more at the end of the log of its place, a counter at 0 for a new key, and all else as
--- it was
-abbrev pub appended_to : ClusterState → Key → ClusterState
-appended_to s key = record s {
-  logs = with_record s.logs key;
+-- one record more at the end of the log of this partition, a counter at 0 for a new key, and all
+-- else as it was
+abbrev pub appended_at : ClusterState → ℕ → Key → ClusterState
+appended_at s place key = record s {
+  logs = with_record_at s.logs place key;
   store = with_counter_for s.logs key s.store;
 }
 
--- logs of a list of keys are afterwards those of the list with this key at its end
-abbrev pub GrowsBy : Key → PartitionLogs → PartitionLogs → Type 0
-GrowsBy key old new =
-    (appended : List Key) → AreLogsOf appended old → AreLogsOf (appended ++ key ∷ []) new
+-- the same, of a record that goes to its place
+abbrev pub appended_to : ClusterState → Keyed → ClusterState
+appended_to s keyed = appended_at s (place_in s.logs keyed) keyed.1
 
 -- ---- sync
 -- what a member is leased: what it is to keep, and the committed offsets

@@ -1,12 +1,11 @@
 //! The cluster: members, logs, and what was committed of them.
 
-ghost use Rattle.std.specs.Prelude.{◌≡◌, ◌+◌, ◌≤◌, ℕ, [], Ok, Some, None, MatchOption, IfOk, IfSome, OnOk, OnErr, is_some, length, replicate};
+ghost use Rattle.std.specs.Prelude.{◌≡◌, ◌+◌, ◌≤◌, ◌∷◌, ℕ, [], Ok, Some, None, MatchOption, IfOk, IfSome, OnOk, OnErr, is_some, length, replicate};
 ghost use Rattle.lane_words.specs.Answers.{Answers};
-ghost use Rattle.partition_log.specs.Logs.{place_in};
 ghost use Rattle.group_machine.specs.State.{assigned_of, granted_of, is_joined, is_present, is_synced, member_named, member_of, members, name_of, opening, owner_of};
 ghost use Rattle.group_machine.specs.Steps.{join_answer, joined_by, leave_answer, left_by, rejoin_answer, rejoined_by, synced_by};
 ghost use Rattle.group_machine.specs.Rounds.{is_settled};
-ghost use Rattle.group_machine.specs.Cluster.{AreLogsOf, ClusterState, GrowsBy, IsDue, IsValidCluster, append_answer, appended_to, cluster_commit_answer, cluster_sync_answer, committed_at, committed_by, fence, with_group, without_room};
+ghost use Rattle.group_machine.specs.Cluster.{AreLogsOf, ClusterState, GrowByRecords, IsDue, IsOfTopic, IsPlaceOf, IsValidCluster, answer_at, append_answer, appended_at, appended_to, cluster_commit_answer, cluster_sync_answer, committed_at, committed_by, fence, of_first, place_in, with_group, without_room};
 
 use crate::commit::Commit;
 use crate::group::{Group, Members, Move, Phase, Seat, members, slots};
@@ -174,30 +173,48 @@ impl Cluster {
         )
     }
 
-    /// Appends a record of this key to the log of its place, and answers the partition and the
-    /// record's offset. A new key gets a counter at 0.
+    /// Appends a record of this key to the log of its place in the first topic, and answers the
+    /// partition and the record's offset. A new key gets a counter at 0.
     ///
     /// Refused, with everything as it was, as `Logs::append` is: `KeyTooLong`, `LogFull`, and for
     /// want of memory.
     pub fn append(&mut self, key: &[u8]) -> Result<(u32, u32), Refusal>
-        ensures answer { Answers (append_answer self.old.logs key.now) result }
-        ensures ok { OnOk result (self.new ≡ appended_to self.old key.now) }
+        ensures answer { Answers (append_answer self.old.logs (of_first key.now)) result }
+        ensures ok { OnOk result (self.new ≡ appended_to self.old (of_first key.now)) }
         ensures err { OnErr result (self.new ≡ self.old) }
         ensures valid { OnOk result (IsValidCluster self.new) }
-        ensures history { OnOk result (GrowsBy key.now self.old.logs self.new.logs) }
+        ensures history { OnOk result
+            (GrowByRecords (of_first key.now ∷ []) self.old.logs self.new.logs) }
     {
-        let place = self.logs.place_of(key);
+        let _ = &self.logs;
+        self.append_in(0, key)
+    }
+
+    /// The same, to the log of the key's place in the topic of this index. Partitions are counted
+    /// over all topics.
+    pub fn append_in(&mut self, topic: u8, key: &[u8]) -> Result<(u32, u32), Refusal>
+        requires { IsOfTopic self.old.logs (topic, key.now) }
+        ensures answer { Answers (append_answer self.old.logs (topic, key.now)) result }
+        ensures ok { OnOk result (self.new ≡ appended_to self.old (topic, key.now)) }
+        ensures err { OnErr result (self.new ≡ self.old) }
+        ensures valid { OnOk result (IsValidCluster self.new) }
+        ensures history { OnOk result
+            (GrowByRecords ((topic, key.now) ∷ []) self.old.logs self.new.logs) }
+    {
+        let place = self.logs.place_of_in(topic, key);
         self.append_at(place, key)
     }
 
-    /// The same, where the key's place is known.
+    /// The same, where the key's place in some topic is known.
     pub fn append_at(&mut self, place: u32, key: &[u8]) -> Result<(u32, u32), Refusal>
-        requires { place ≡ place_in self.old.logs key.now }
-        ensures answer { Answers (append_answer self.old.logs key.now) result }
-        ensures ok { OnOk result (self.new ≡ appended_to self.old key.now) }
+        requires { IsPlaceOf self.old.logs key.now place }
+        ensures answer { Answers (answer_at self.old.logs place key.now) result }
+        ensures ok { OnOk result (self.new ≡ appended_at self.old place key.now) }
         ensures err { OnErr result (self.new ≡ self.old) }
         ensures valid { OnOk result (IsValidCluster self.new) }
-        ensures history { OnOk result (GrowsBy key.now self.old.logs self.new.logs) }
+        ensures history { OnOk result ((topic : ℕ) → IsOfTopic self.old.logs (topic, key.now)
+            → place_in self.old.logs (topic, key.now) ≡ place
+            → GrowByRecords ((topic, key.now) ∷ []) self.old.logs self.new.logs) }
     {
         self.store.reserve_key()?;
         let at = self.logs.append_at(place, key)?;
