@@ -1,5 +1,5 @@
 -- What is written in a form is read as its action.
-use Rattle.std.proofs.Common.{◌≡◌, refl, sym, ap, ◌∙◌, ℕ, Bool, true, cond, not, List, [], ◌∷◌, ◌++◌, codes, Option, Some, None}
+use Rattle.std.proofs.Common.{◌≡◌, refl, sym, ap, ◌∙◌, ℕ, true, cond, not, List, codes, Option, Some, None}
 use Rattle.std.specs.List.{list_all}
 use Rattle.std.specs.Option.{option_and_then}
 use Rattle.group_machine.specs.Name.{is_name}
@@ -7,7 +7,7 @@ use Rattle.script.proofs.Parts.{split-there}
 use Rattle.script.proofs.TopicLemmas.{said-in}
 use Rattle.script.proofs.WordLemmas.{command-word, name-word, number-word}
 use Rattle.script.specs.Forms.{◌⎵◌, IsAppend, IsNumbered, IsPoll, IsSend, IsWritten}
-use Rattle.script.specs.Grammar.{action_of, append_action, appended, bare_action, command_action, is_space, mail_action, member_action, name_of, number_of, poll_action, send_action, single_action, split_word}
+use Rattle.script.specs.Grammar.{action_of, append_action, appended, bare_action, command_action, is_space, mail_action, member_action, name_of, poll_action, send_action, single_action, split_word}
 use Rattle.script.specs.Topics.{MayBeTopics}
 use Rattle.script.specs.declared.action.Action.{Action}
 use Rattle.script.specs.declared.action.Action.TheVariants.{Append, AppendIn, Join, Rejoin, Sync, Leave, Lose, Poll, Send, Deliver, Unanswered, Settle, Drain}

@@ -1,7 +1,7 @@
 -- Which topic a name tells, and what is said in it.
-use Rattle.std.proofs.Common.{◌≡◌, ◌≢◌, refl, sym, ap, ◌∙◌, ℕ, ◌<◌, ◌≤◌, Bool, true, false, cond, option_and_then, subst, List, [], ◌∷◌, ◌++◌, length, get_or, arith, Option, Some, None}
+use Rattle.std.proofs.Common.{◌≡◌, refl, sym, ap, ◌∙◌, ℕ, Bool, true, false, cond, option_and_then, subst, List, [], ◌∷◌, ◌++◌, length, get_or, arith, Option, Some, None}
 use Rattle.std.specs.Prelude.{◌==◌}
-use Rattle.std.specs.List.{position, position_or_len, slice_get}
+use Rattle.std.specs.List.{slice_get}
 use Rattle.std.specs.Str.{bytes_eq}
 use Rattle.std.proofs.lemmas.List.Quantifiers.{position-Some}
 use Rattle.std.proofs.lemmas.List.Sums.{position_or_len_is}
@@ -16,17 +16,17 @@ use Rattle.script.specs.Topics.{MayBeTopics, topic_named}
 use Rattle.script.specs.declared.topics.Topic.{Topic}
 use borrow.Author.Tests.{eqb-true, lt-ltb}
 
-nobody : Topic
-nobody = record { name = []; partitions = 0 }
+no_topic : Topic
+no_topic = record { name = []; partitions = 0 }
 
 -- the topic of an index that a name tells has this name
 pub named-topic : (topics : List Topic) (name : List ℕ) (i : ℕ) → topic_named topics name ≡ Some i
     → (topic : Topic) × (slice_get topics i ≡ Some topic) × (topic.name ≡ name)
 unfolding topic_named
 named-topic topics name i e =
-    let found = position-Some (λ topic. bytes_eq topic.name name) topics i nobody e in
-    let topic = get_or topics i nobody in
-    (topic, slice_get-get_or topics i nobody found.0, (bytes_eq-Decides topic.name name).0 found.1)
+    let found = position-Some (λ topic. bytes_eq topic.name name) topics i no_topic e in
+    let topic = get_or topics i no_topic in
+    (topic, slice_get-get_or topics i no_topic found.0, (bytes_eq-Decides topic.name name).0 found.1)
 
 untrue : (b : Bool) → (b ≡ true → ⊥) → b ≡ false
 untrue true h = absurd (h refl)
@@ -38,16 +38,16 @@ pub topic-named : (topics : List Topic) (i : ℕ) (topic : Topic) → MayBeTopic
 unfolding topic_named
 topic-named topics i topic known e =
     let within = slice_get_within topics i topic e in
-    let is = get_or_from_slice_get topics i topic nobody e in
+    let is = get_or_from_slice_get topics i topic no_topic e in
     let at =
-    position_or_len_is (λ other. bytes_eq other.name topic.name) topics i nobody (omega arith)
+    position_or_len_is (λ other. bytes_eq other.name topic.name) topics i no_topic (omega arith)
     (λ k below.
-    untrue (bytes_eq (get_or topics k nobody).name topic.name)
+    untrue (bytes_eq (get_or topics k no_topic).name topic.name)
     (λ same.
-    known.distinct k i nobody below within
-    ((bytes_eq-Decides (get_or topics k nobody).name topic.name).0 same ∙ ap (λ t. t.name) (sym is))))
+    known.distinct k i no_topic below within
+    ((bytes_eq-Decides (get_or topics k no_topic).name topic.name).0 same ∙ ap (λ t. t.name) (sym is))))
     (λ below.
-    (bytes_eq-Decides (get_or topics i nobody).name topic.name).1 (ap (λ t. t.name) is)) in
+    (bytes_eq-Decides (get_or topics i no_topic).name topic.name).1 (ap (λ t. t.name) is)) in
     rw (at, lt-ltb _ _ within) refl
 
 -- where there are topics, one is named

@@ -29,11 +29,11 @@ pub fn read_replay(alloc: Global, bytes: &[u8]) -> Result<Vec<Line>, Refusal>
     lines_in(alloc, &[], bytes)
 }
 
-/// The same of a script of several topics: in an `append` a topic's name stands before the key, and
-/// in a `poll` and a `send` before the partition, which is one of this topic and is told as counted
-/// over all topics. One that its topic does not have is told as `NO_PARTITION`.
+/// The same of a script of several topics. In an `append` the name of a topic stands before the key,
+/// and in a `poll` and a `send` before the partition, which is one of this topic. It is told as it
+/// is counted over all topics, and as `NO_PARTITION` where its topic does not have it.
 ///
-/// Refused as `read_replay` is; a line with the name of no topic is not of the grammar.
+/// Refused as `read_replay` is; a line that names no topic of these is not of the grammar.
 pub fn read_replay_topics(
     alloc: Global,
     bytes: &[u8],

@@ -41,7 +41,7 @@ fn index_named(topics: &[Topic], name: &[u8]) -> Option<u32>
     requires { MayBeTopics topics.now }
     ensures { result ≡ topic_named topics.now name.now }
 {
-    match first_named(topics, name) {
+    match index_in(topics, name) {
         Some(index) => Some(index as u32),
         None => None,
     }
@@ -49,7 +49,7 @@ fn index_named(topics: &[Topic], name: &[u8]) -> Option<u32>
 
 /// The same, as an index of the slice.
 #[tactic(auto, unfolding(crate::specs::Topics::topic_named))]
-fn first_named(topics: &[Topic], name: &[u8]) -> Option<usize>
+fn index_in(topics: &[Topic], name: &[u8]) -> Option<usize>
     ensures { result ≡ topic_named topics.now name.now }
 {
     topics.iter().position(|topic| topic.name.text() == name)
