@@ -13,7 +13,7 @@ pub enum Event<'a> {
     /// A record of this key is appended to the first topic.
     Append(&'a [u8]),
     /// A record of this key is appended to the topic of this index.
-    AppendIn(u8, &'a [u8]),
+    AppendIn(u32, &'a [u8]),
     /// A member joins under this name, with a consumer of its own.
     Join(&'a Name),
     /// A member's consumer takes a lease.

@@ -80,14 +80,14 @@ impl Parts {
         }
     }
 
-    fn append_in(&mut self, topic: u8, key: &[u8]) -> Reply
+    fn append_in(&mut self, topic: u32, key: &[u8]) -> Reply
         ensures { MayCome (world_view self.old)
             (append_in_event (world_view self.old) (topic, key.now)) result (world_view self.new) }
     {
         if topic as usize >= self.cluster.topics() {
             return Reply::Refused(Refusal::NoSuchTopic { nth: 0 });
         }
-        match self.cluster.append_in(topic, key) {
+        match self.cluster.append_in(topic as u8, key) {
             Ok((partition, offset)) => return Reply::Appended(partition, offset),
             Err(why) => return Reply::Refused(why),
         }
