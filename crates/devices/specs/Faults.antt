@@ -10,6 +10,7 @@ use Rattle.lane_words.specs.declared.Refusal.TheVariants as r
 abbrev pub location_text : Refusal → List ℕ
 location_text (r.NoSuchColumn nth) = codes " at record " ++ decimal nth
 location_text (r.BadCsv nth) = codes " at record " ++ decimal nth
+location_text (r.NoSuchTopic nth) = codes " at record " ++ decimal nth
 location_text (r.BadLine line) = codes " at line " ++ decimal line
 location_text (r.NobodyLeft line) = codes " at line " ++ decimal line
 location_text _ = []
@@ -20,7 +21,7 @@ fault_text fault = codes "fault " ++ decimal (code_of fault) ++ location_text fa
 
 -- the numbers of the faults that lie in what the program was given to read
 abbrev pub input_codes : List ℕ
-input_codes = 20 ∷ 21 ∷ 22 ∷ 23 ∷ 24 ∷ 27 ∷ []
+input_codes = 20 ∷ 21 ∷ 22 ∷ 23 ∷ 24 ∷ 27 ∷ 32 ∷ []
 
 -- the status of a program that ends with a fault: 1 where it lies in the input, and 3 for every
 -- other

@@ -46,6 +46,7 @@ fn put_location_of(line: &mut [u8], end: usize, fault: &Refusal) -> usize
     match fault {
         Refusal::NoSuchColumn { nth } => put_location(line, end, b" at record ", *nth),
         Refusal::BadCsv { nth } => put_location(line, end, b" at record ", *nth),
+        Refusal::NoSuchTopic { nth } => put_location(line, end, b" at record ", *nth),
         Refusal::BadLine { line: number } => put_location(line, end, b" at line ", *number),
         Refusal::NobodyLeft { line: number } => put_location(line, end, b" at line ", *number),
         _ => end,
@@ -88,7 +89,7 @@ pub fn status(fault: &Refusal) -> u8
     ensures { result ≡ status_of fault.now }
 {
     match fault.code() {
-        20..=24 | 27 => 1,
+        20..=24 | 27 | 32 => 1,
         _ => 3,
     }
 }
