@@ -32,13 +32,18 @@ const KEYS: [&str; 15] = [
     "21",
 ];
 
-/// Appends records one by one.
+/// Appends records one by one, and tells the logs that come of it.
 pub fn tell_appends<R: RandomSource, W: Write>(rt: &R, stage: &mut Stage<W>) -> Result<()> {
     let mut logs = Logs::new(rt, stage.alloc, 4)?;
-    for key in KEYS {
+    tell_appends_to(stage, &mut logs)
+}
+
+/// Appends records to logs that are new.
+fn tell_appends_to<W: Write>(stage: &mut Stage<W>, logs: &mut Logs) -> Result<()> {
+    for key in &KEYS {
         stage.call(format_args!("append {key}"), || logs.append(key.as_bytes()))?;
     }
-    state::tell_logs(stage, &logs)
+    state::tell_logs(stage, logs)
 }
 
 /// Places keys of two lengths.
