@@ -75,21 +75,19 @@ fn text_apart<R: Threads + Sync>(
     rt: &R,
     alloc: Global,
     file: &[u8],
-    column: u32,
+    wanted: &Wanted<'_>,
     header: bool,
     pieces: usize,
 ) -> Result<Vec<u8>, Refusal>
-    requires { 1 ≤ column }
 {
-    let lists = lists_apart(rt, alloc, file, column, header, pieces)?;
+    let lists = lists_apart(rt, alloc, file, wanted, header, pieces)?;
     Ok(text_of(alloc, lists.as_slice())?)
 }
 
 /// The keys of a file that is read in one piece.
-fn text_whole(alloc: Global, file: &[u8], column: u32, header: bool) -> Result<Vec<u8>, Refusal>
-    requires { 1 ≤ column }
+fn text_whole(alloc: Global, file: &[u8], wanted: &Wanted<'_>, header: bool) -> Result<Vec<u8>, Refusal>
 {
-    let lists = read_whole(alloc, file, column, header)?;
+    let lists = read_whole(alloc, file, wanted, header)?;
     Ok(text_of(alloc, lists.as_slice())?)
 }
 
@@ -98,14 +96,13 @@ fn same_in_pieces<R: Threads + Sync>(
     rt: &R,
     alloc: Global,
     file: &[u8],
-    column: u32,
+    wanted: &Wanted<'_>,
     header: bool,
 ) -> bool
-    requires { 1 ≤ column }
 {
-    let whole = text_whole(alloc, file, column, header);
+    let whole = text_whole(alloc, file, wanted, header);
     for pieces in [0, 2, 5] {
-        if text_apart(rt, alloc, file, column, header, pieces) != whole {
+        if text_apart(rt, alloc, file, wanted, header, pieces) != whole {
             return false;
         }
     }
@@ -126,7 +123,7 @@ fn any_bytes_are_read_the_same_in_pieces(rt: HostRuntime) -> Result<(), Fail> {
                 &rt,
                 rt.alloc(),
                 file.as_slice(),
-                column,
+                &Wanted::key(column),
                 random.below(2) == 0
             )
         );
@@ -148,7 +145,7 @@ fn a_fault_in_any_piece_is_told_the_same(rt: HostRuntime) -> Result<(), Fail> {
                 &rt,
                 rt.alloc(),
                 file.as_slice(),
-                column,
+                &Wanted::key(column),
                 random.below(2) == 0
             )
         );
@@ -166,7 +163,7 @@ fn long_keys_are_read_the_same_in_pieces(rt: HostRuntime) -> Result<(), Fail> {
         }
         file.extend_from_slice(b"\",b\nc,d\n")?;
     }
-    assert!(rt; same_in_pieces(&rt, rt.alloc(), file.as_slice(), 1, false));
+    assert!(rt; same_in_pieces(&rt, rt.alloc(), file.as_slice(), &Wanted::key(1), false));
     Ok(())
 }
 
@@ -213,6 +210,6 @@ fn a_file_of_a_few_mebibytes_has_all_keys(rt: HostRuntime) -> Result<(), Fail> {
     assert!(rt; file.len() > 2 * LEAST_PIECE);
     let (len, text) = read_apart(&rt, rt.alloc(), file.as_slice(), 2)?;
     assert_eq!(rt; len, 199_999);
-    assert!(rt; text == text_whole(rt.alloc(), file.as_slice(), 2, true)?);
+    assert!(rt; text == text_whole(rt.alloc(), file.as_slice(), &Wanted::key(2), true)?);
     Ok(())
 }
