@@ -1,6 +1,6 @@
 //! The keys of a file, whose pieces are read side by side.
 
-ghost use Rattle.std.specs.Prelude.{◌≡◌, ◌≤◌, ◌<◌, ◌⊎◌, ◌∷◌, ◌++◌, Ok, Err, [], ℕ, IfOk, IfErr, List, length, map, take, slice_index, slice_index_or, slice_range, vec_len};
+ghost use Rattle.std.specs.Prelude.{◌≡◌, ◌≤◌, ◌<◌, ◌^◌, ◌⊎◌, ◌∷◌, ◌++◌, Ok, Err, [], ℕ, IfOk, IfErr, List, length, map, take, slice_index, slice_index_or, slice_range, vec_len};
 ghost use Rattle.key_file.specs.KeyFile.{IsFileFault, keys_of, taken_of, topic_keys_of};
 ghost use Rattle.key_file.specs.Private.Cuts.{AreCuts};
 ghost use Rattle.key_file.specs.Private.FileKeys.{all_keys};

@@ -69,10 +69,11 @@ impl TopicKeys {
     pub fn slices(&self, alloc: Global) -> Result<Vec<&[u8]>, Memory>
         ensures { IfOk result (λ slices. map (λ key. key.now) slices.items ≡ map key_behind self.now) }
     {
-        let mut keys = self.keys.slices(alloc)?;
+        let keys = self.keys.slices(alloc)?;
+        let mut slices = Vec::with_capacity(alloc, keys.len())?;
         for i in 0..keys.len() {
-            keys[i] = key_behind(keys[i]);
+            slices.push(key_behind(keys[i]))?;
         }
-        Ok(keys)
+        Ok(slices)
     }
 }
