@@ -256,8 +256,9 @@ fn topics_are_read_the_same_in_pieces(rt: HostRuntime) -> Result<(), Fail> {
 
 /// The topics and the keys of a file whose topics are a and b, in one text: of each record the
 /// index of its topic as a digit, its key and a semicolon.
-fn topics_in(
-    rt: &HostRuntime,
+fn topics_in<R: Threads + Sync>(
+    rt: &R,
+    alloc: Global,
     file: &[u8],
     topic_column: u32,
     header: bool,
@@ -265,10 +266,10 @@ fn topics_in(
     requires { 1 ≤ topic_column }
 {
     let names = [b"a".as_slice(), b"b".as_slice()];
-    let found = read_topic_keys_apart(rt, rt.alloc(), file, 1, topic_column, &names, header)?;
-    let topics = found.topics(rt.alloc())?;
-    let keys = found.slices(rt.alloc())?;
-    let mut text = Vec::new(rt.alloc());
+    let found = read_topic_keys_apart(rt, alloc, file, 1, topic_column, &names, header)?;
+    let topics = found.topics(alloc)?;
+    let keys = found.slices(alloc)?;
+    let mut text = Vec::new(alloc);
     for (topic, key) in topics.iter().zip(keys.iter()) {
         text.push(b'0'.wrapping_add(*topic))?;
         text.extend_from_slice(*key)?;
@@ -280,7 +281,7 @@ fn topics_in(
 #[test]
 fn a_file_has_its_topics_or_its_first_fault(rt: HostRuntime) -> Result<(), Fail> {
     assert_eq!(rt;
-        topics_in(&rt, b"21,a\nabc,b\n21,b\n4,a\n4,b\n", 2, false)?.as_slice(),
+        topics_in(&rt, rt.alloc(), b"21,a\nabc,b\n21,b\n4,a\n4,b\n", 2, false)?.as_slice(),
         b"021;1abc;121;04;14;".as_slice()
     );
     for (file, topic_column, header, fault) in [
@@ -322,7 +323,7 @@ fn a_file_has_its_topics_or_its_first_fault(rt: HostRuntime) -> Result<(), Fail>
         ),
     ] {
         assert_eq!(rt;
-            topics_in(&rt, file, topic_column, header).err(),
+            topics_in(&rt, rt.alloc(), file, topic_column, header).err(),
             Some(fault)
         );
     }
