@@ -1,5 +1,5 @@
 -- The faults of the lines of a replay.
-use Rattle.std.proofs.Common.{◌≡◌, ℕ, List, Option, Some, None, Result, Ok, Err, IfErr, refl, subst}
+use Rattle.std.proofs.Common.{◌≡◌, ℕ, List, [], Option, Some, None, Result, Ok, Err, IfErr, refl, subst}
 use Rattle.std.specs.Prelude.{Vec}
 use Rattle.std.specs.Global.{Global}
 use Rattle.std.specs.List.{filter_map, find}
@@ -18,7 +18,7 @@ bad_line (Some bad) lines e h = let is : r.BadLine bad.0 ≡ e = cc h in subst I
 
 pub lines_tell : TellsLines read_answer
 unfolding answer_of
-lines_tell bytes e h = bad_line (find (λ line. is_bad line.1) (lines_from 1 bytes)) (filter_map said (lines_from 1 bytes)) e h
+lines_tell bytes e h = bad_line (find (λ line. is_bad [] line.1) (lines_from 1 bytes)) (filter_map (said []) (lines_from 1 bytes)) e h
 
 -- what is said of the lines that were read is said of the answer
 pub lines_err : (P : Refusal → Type 0) (result : Result (Vec Line Global) Refusal) → IfErr (lines_seen result) P → IfErr result P

@@ -5,17 +5,17 @@ use Rattle.std.specs.Str.{bytes_eq}
 use Rattle.lane_words.specs.Refusal.{code_of}
 use Rattle.lane_words.specs.declared.Refusal.{Refusal}
 use Rattle.lane_words.specs.declared.Refusal.TheVariants as r
-use Rattle.partition_log.specs.Keys.{Key}
+use Rattle.partition_log.specs.Keys.{Key, of_first}
 use Rattle.group_machine.specs.State.{GroupState, opening}
 use Rattle.group_machine.specs.declared.group.Slot.{Slot}
 use Rattle.world.specs.Courses.{Course, answer_in}
 use Rattle.world.specs.Draining.{draining}
 use Rattle.world.specs.Settling.{settling}
-use Rattle.world.specs.Steps.{Outcome, append_event, deliver_event, deliver_unanswered_event, join_event, leave_event, lose_event, poll_event, rejoin_event, send_event, sync_event}
+use Rattle.world.specs.Steps.{Outcome, append_event, append_in_event, deliver_event, deliver_unanswered_event, join_event, leave_event, lose_event, poll_event, rejoin_event, send_event, sync_event}
 use Rattle.world.specs.World.{WorldState}
 use Rattle.script.specs.Replay.{read_answer}
 use Rattle.script.specs.declared.action.Action.{Action}
-use Rattle.script.specs.declared.action.Action.TheVariants.{Append, Join, Rejoin, Sync, Leave, Lose, Poll, Send, Deliver, Unanswered, Settle, Drain}
+use Rattle.script.specs.declared.action.Action.TheVariants.{Append, AppendIn, Join, Rejoin, Sync, Leave, Lose, Poll, Send, Deliver, Unanswered, Settle, Drain}
 use Rattle.script.specs.declared.replay.Line.{Line}
 use Rattle.command_line.specs.declared.options.Options.{Options}
 use Rattle.count_report.specs.CountReport.{first_fault}
@@ -29,7 +29,7 @@ unfoldable pub opening_world : ℕ → WorldState
 opening_world partitions = record {
   cluster = record {
     group = opening partitions;
-    logs = record { partitions = partitions; keys = []; logs = replicate partitions [] };
+    logs = record { counts = partitions ∷ []; partitions = partitions; keys = []; logs = replicate partitions [] };
     store = record { offsets = replicate partitions 0; counts = []; room = 0 };
   };
   consumers = [];
@@ -38,7 +38,7 @@ opening_world partitions = record {
 
 -- these keys were appended, one after the other
 unfoldable pub loaded : WorldState → List Key → WorldState
-loaded w keys = fold (λ so_far key. (append_event so_far key).after) w keys
+loaded w keys = fold (λ so_far key. (append_event so_far (of_first key)).after) w keys
 
 -- ---- one line
 -- what comes of a line: its answer, and the world after it
@@ -66,7 +66,9 @@ number_named g name = number_from 1 g.slots name
 -- what comes of what a line says, where there is memory for it: a poll of a drain takes at most
 -- `batch` records, and a name stands for the member that joined under it
 unfoldable pub outcome_of_line : ℕ → WorldState → Action → LineOutcome
-outcome_of_line batch w (Append key) = outcome_of_event (append_event w key)
+outcome_of_line batch w (Append key) = outcome_of_event (append_event w (of_first key))
+outcome_of_line batch w (AppendIn topic key) =
+    outcome_of_event (append_in_event w (topic, key))
 outcome_of_line batch w (Join name) = outcome_of_event (join_event w name)
 outcome_of_line batch w (Rejoin name) =
     outcome_of_event (rejoin_event w (number_named w.cluster.group name))

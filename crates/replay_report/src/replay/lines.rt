@@ -51,6 +51,7 @@ fn event_of<'a>(world: &World, action: &'a Action) -> Event<'a>
 {
     match action {
         Action::Append(key) => Event::Append(key.bytes()),
+        Action::AppendIn { topic, key } => Event::AppendIn(*topic, key.bytes()),
         Action::Join(name) => Event::Join(name),
         Action::Rejoin(name) => Event::Rejoin(number_named(world, name)),
         Action::Sync(name) => Event::Sync(number_named(world, name)),
