@@ -5,6 +5,7 @@ use crate::state;
 use anyhow::Result;
 use partition_log::Logs;
 use partitioner::Partitions;
+use std::alloc::Global;
 use std::io::Write;
 use std::random::RandomSource;
 use std::thread::Threads;
@@ -32,13 +33,18 @@ const KEYS: [&str; 15] = [
     "21",
 ];
 
-/// Appends records one by one.
+/// Appends records one by one, and tells the logs that come of it.
 pub fn tell_appends<R: RandomSource, W: Write>(rt: &R, stage: &mut Stage<W>) -> Result<()> {
     let mut logs = Logs::new(rt, stage.alloc, 4)?;
-    for key in KEYS {
+    tell_appends_to(stage, &mut logs)
+}
+
+/// Appends records to logs that are new.
+fn tell_appends_to<W: Write>(stage: &mut Stage<W>, logs: &mut Logs) -> Result<()> {
+    for key in &KEYS {
         stage.call(format_args!("append {key}"), || logs.append(key.as_bytes()))?;
     }
-    state::tell_logs(stage, &logs)
+    state::tell_logs(stage, logs)
 }
 
 /// Places keys of two lengths.
@@ -46,22 +52,42 @@ pub fn tell_places<R: Threads + Sync, W: Write>(rt: &R, stage: &mut Stage<W>) ->
     let keys: [&[u8]; 10] = [
         b"21", b"34", b"21", b"34", b"", b"21", b"34", b"21", b"34", b"21",
     ];
-    let alloc = stage.alloc;
-    let partitions = Partitions::new(4);
-    stage.call("place_all", || Ok(partitions.place_all(rt, alloc, &keys)?))
+    tell_placed(rt, stage, &keys)
 }
 
 /// Places the numbers from 0 on, which are more keys than one piece of work has.
 pub fn tell_pieces<R: Threads + Sync, W: Write>(rt: &R, stage: &mut Stage<W>) -> Result<()> {
     let alloc = stage.alloc;
+    let texts = numbers(alloc)?;
+    let keys = keys_of(alloc, &texts)?;
+    tell_placed(rt, stage, &keys)
+}
+
+/// The texts of the numbers from 0 on.
+fn numbers(alloc: Global) -> Result<Vec<String>> {
     let mut texts = Vec::with_capacity(alloc, MANY)?;
     for number in 0..MANY {
         texts.push(format!(in alloc; "{number}")?)?;
     }
-    let mut keys: Vec<&[u8]> = Vec::with_capacity(alloc, MANY)?;
-    for text in &texts {
+    Ok(texts)
+}
+
+/// Keys of these texts.
+fn keys_of<'a>(alloc: Global, texts: &'a [String]) -> Result<Vec<&'a [u8]>> {
+    let mut keys = Vec::with_capacity(alloc, texts.len())?;
+    for text in texts {
         keys.push(text.as_bytes())?;
     }
+    Ok(keys)
+}
+
+/// Places keys among four partitions.
+fn tell_placed<R: Threads + Sync, W: Write>(
+    rt: &R,
+    stage: &mut Stage<W>,
+    keys: &[&[u8]],
+) -> Result<()> {
+    let alloc = stage.alloc;
     let partitions = Partitions::new(4);
-    stage.call("place_all", || Ok(partitions.place_all(rt, alloc, &keys)?))
+    stage.call("place_all", || Ok(partitions.place_all(rt, alloc, keys)?))
 }

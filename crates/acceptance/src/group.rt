@@ -70,10 +70,15 @@ pub const TWO_ROUNDS: [Call; 15] = [
 /// Makes the calls, and tells the cluster that comes of them.
 pub fn tell<R: RandomSource, W: Write>(rt: &R, stage: &mut Stage<W>, calls: &[Call]) -> Result<()> {
     let mut cluster = Cluster::new(rt, stage.alloc, PARTITIONS)?;
+    tell_in(stage, &mut cluster, calls)
+}
+
+/// Makes the calls in a cluster that is new.
+fn tell_in<W: Write>(stage: &mut Stage<W>, cluster: &mut Cluster, calls: &[Call]) -> Result<()> {
     for call in calls {
-        tell_call(stage, &mut cluster, *call)?;
+        tell_call(stage, cluster, *call)?;
     }
-    state::tell_cluster(stage, &cluster)
+    state::tell_cluster(stage, cluster)
 }
 
 /// Makes one call. What a commit hands over is made before.
@@ -81,11 +86,14 @@ fn tell_call<W: Write>(stage: &mut Stage<W>, cluster: &mut Cluster, call: Call) 
     if let Call::Commit(member, generation, partition, from, ids) = call {
         let partial = partial_of(stage.alloc, ids)?;
         let commit = Commit::new(member, generation, partition, from, partial);
-        return stage.call(format_args!("{call:?}"), || {
-            Ok(Reply::Committed(cluster.commit(&commit)?))
-        });
+        return stage.call(format_args!("{call:?}"), || committed(cluster, &commit));
     }
     stage.call(format_args!("{call:?}"), || replied(cluster, call))
+}
+
+/// Gives a commit to the cluster.
+fn committed(cluster: &mut Cluster, commit: &Commit) -> Result<Reply, Refusal> {
+    Ok(Reply::Committed(cluster.commit(commit)?))
 }
 
 /// Key numbers with their counts.

@@ -16,6 +16,7 @@ mod stage;
 mod state;
 
 use anyhow::{Result, bail};
+use schedule::Story;
 use stage::Stage;
 use std::env;
 use std::io::Write;
@@ -36,11 +37,11 @@ fn tell<R: RandomSource + Threads + Sync, W: Write>(
         "zombies" => group::tell(rt, stage, &group::ZOMBIES),
         "group" => group::tell(rt, stage, &group::TWO_ROUNDS),
         "readers" => readers::tell(rt, stage),
-        "steps" => schedule::tell_steps(rt, stage),
-        "run" => schedule::tell_run(rt, stage),
-        "load" => schedule::tell_load(rt, stage),
-        "settle" => schedule::tell_settle(rt, stage),
-        "drain" => schedule::tell_drain(rt, stage),
+        "steps" => schedule::tell(rt, stage, Story::Steps),
+        "run" => schedule::tell(rt, stage, Story::Run),
+        "load" => schedule::tell(rt, stage, Story::Load),
+        "settle" => schedule::tell(rt, stage, Story::Settle),
+        "drain" => schedule::tell(rt, stage, Story::Drain),
         _ => bail!("there is no story {story:?}"),
     }
 }

@@ -7,6 +7,7 @@ use anyhow::Result;
 use consumer::Consumer;
 use group_machine::Commit;
 use lane_words::Refusal;
+use std::alloc::Global;
 use std::fmt;
 use std::io::Write;
 use std::random::RandomSource;
@@ -35,15 +36,21 @@ const BEFORE: [Call; 5] = [
 /// Makes a consumer, and lets that of a world send what it has read.
 pub fn tell<R: RandomSource, W: Write>(rt: &R, stage: &mut Stage<W>) -> Result<()> {
     let alloc = stage.alloc;
-    stage.call("Consumer::new", || {
-        Ok(Consumer::new(alloc, 4)?.partitions())
-    })?;
+    stage.call("Consumer::new", || made(alloc))?;
     let mut world = World::new(rt, alloc, 4)?;
-    for call in BEFORE {
-        schedule::replied(&mut world, call)?;
-    }
-    stage.call("send", || sent(&world))?;
-    state::tell_world(stage, &world)
+    tell_sent(stage, &mut world)
+}
+
+/// How many partitions a new consumer has.
+fn made(alloc: Global) -> Result<u32, Refusal> {
+    Ok(Consumer::new(alloc, 4)?.partitions())
+}
+
+/// Lets the consumer of a world that is new send what it has read.
+fn tell_sent<W: Write>(stage: &mut Stage<W>, world: &mut World) -> Result<()> {
+    schedule::all_replied(world, &BEFORE)?;
+    stage.call("send", || sent(world))?;
+    state::tell_world(stage, world)
 }
 
 /// The commit of what member 1 has read of partition 0.

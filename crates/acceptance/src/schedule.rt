@@ -1,5 +1,7 @@
 //! Calls on a world.
 
+ghost use Rattle.std.specs.Prelude.{◌<◌};
+
 use crate::group::name;
 use crate::stage::Stage;
 use crate::state;
@@ -68,41 +70,85 @@ const TWO_MEMBERS: [Call; 5] = [
     Call::Join("B"),
 ];
 
-/// One event after the other.
-pub fn tell_steps<R: RandomSource, W: Write>(rt: &R, stage: &mut Stage<W>) -> Result<()> {
-    let mut world = World::new(rt, stage.alloc, 4)?;
-    for call in STEPS {
-        stage.call(format_args!("{call:?}"), || replied(&mut world, call))?;
-    }
-    state::tell_world(stage, &world)
+/// A story of a world.
+#[derive(Clone, Copy)]
+pub enum Story {
+    /// One event after the other.
+    Steps,
+    /// A run of events that take no memory themselves.
+    Run,
+    /// A load, of which what is left is loaded where it was refused.
+    Load,
+    /// A settling, with a commit of what the first member gives up.
+    Settle,
+    /// A draining to the ends of all logs.
+    Drain,
 }
 
-/// A run of events that take no memory themselves.
-pub fn tell_run<R: RandomSource + Threads + Sync, W: Write>(
+/// Tells a story of a world, and the world that comes of it.
+pub fn tell<R: RandomSource + Threads + Sync, W: Write>(
     rt: &R,
     stage: &mut Stage<W>,
+    story: Story,
 ) -> Result<()> {
-    let mut world = shared(rt, stage)?;
-    replied(&mut world, Call::Send(1, 2))?;
+    let mut world = World::new(rt, stage.alloc, 4)?;
+    tell_in(rt, stage, &mut world, story)
+}
+
+/// Tells a story in a world that is new. It is not the world's owner: each `?` of an owner is
+/// proved with all that lets the world go.
+fn tell_in<R: Threads + Sync, W: Write>(
+    rt: &R,
+    stage: &mut Stage<W>,
+    world: &mut World,
+    story: Story,
+) -> Result<()> {
+    match story {
+        Story::Steps => tell_steps(stage, world)?,
+        Story::Run => tell_run(rt, stage, world)?,
+        Story::Load => tell_load(rt, stage, world)?,
+        Story::Settle => {
+            share(rt, world)?;
+            stage.call("settle", || settle(world))?;
+        }
+        Story::Drain => {
+            share(rt, world)?;
+            stage.call("drain", || drain(world, 500))?;
+        }
+    }
+    state::tell_world(stage, world)
+}
+
+fn tell_steps<W: Write>(stage: &mut Stage<W>, world: &mut World) -> Result<()> {
+    for call in &STEPS {
+        stage.call(format_args!("{call:?}"), || replied(world, *call))?;
+    }
+    Ok(())
+}
+
+fn tell_run<R: Threads + Sync, W: Write>(
+    rt: &R,
+    stage: &mut Stage<W>,
+    world: &mut World,
+) -> Result<()> {
+    share(rt, world)?;
+    replied(world, Call::Send(1, 2))?;
     let poll = Event::Poll {
         member: 1,
         partition: 0,
         records: 1,
     };
     let events = [poll, Event::Deliver(1), poll, Event::Deliver(1)];
-    stage.call("run", || Ok(world.run(&events)?))?;
-    state::tell_world(stage, &world)
+    stage.call("run", || run(world, &events))
 }
 
-/// A load, of which what is left is loaded where it was refused.
-pub fn tell_load<R: RandomSource + Threads + Sync, W: Write>(
+fn tell_load<R: Threads + Sync, W: Write>(
     rt: &R,
     stage: &mut Stage<W>,
+    world: &mut World,
 ) -> Result<()> {
-    let mut world = World::new(rt, stage.alloc, 4)?;
     let mut done = 0;
-    stage.call("load", || load_left(rt, &mut world, &mut done))?;
-    state::tell_world(stage, &world)
+    stage.call("load", || load_left(rt, world, &mut done))
 }
 
 /// Loads the records that are not loaded yet, and counts those that then are.
@@ -112,7 +158,7 @@ fn load_left<R: Threads + Sync>(
     done: &mut usize,
 ) -> Result<(), Refusal> {
     let left = &FIVE[FIVE.len().min(*done)..];
-    match world.load(rt, left) {
+    match load(rt, world, left) {
         Ok(()) => Ok(()),
         Err((before, why)) => {
             *done = done.saturating_add(before as usize);
@@ -121,55 +167,72 @@ fn load_left<R: Threads + Sync>(
     }
 }
 
-/// A settling, with a commit of what the first member gives up.
-pub fn tell_settle<R: RandomSource + Threads + Sync, W: Write>(
-    rt: &R,
-    stage: &mut Stage<W>,
-) -> Result<()> {
-    let mut world = shared(rt, stage)?;
-    stage.call("settle", || world.settle())?;
-    state::tell_world(stage, &world)
+/// Makes a new world one of five records, a member who has read two of them, and another who has
+/// joined.
+fn share<R: Threads + Sync>(rt: &R, world: &mut World) -> Result<(), Refusal> {
+    if let Err((_, why)) = load(rt, world, &FIVE) {
+        return Err(why);
+    }
+    all_replied(world, &TWO_MEMBERS)
 }
 
-/// A draining to the ends of all logs.
-pub fn tell_drain<R: RandomSource + Threads + Sync, W: Write>(
-    rt: &R,
-    stage: &mut Stage<W>,
-) -> Result<()> {
-    let mut world = shared(rt, stage)?;
-    stage.call("drain", || world.drain(500))?;
-    state::tell_world(stage, &world)
+/// Makes events, none of which is refused.
+pub fn all_replied(world: &mut World, calls: &[Call]) -> Result<(), Refusal> {
+    for call in calls {
+        replied(world, *call)?;
+    }
+    Ok(())
 }
 
-/// A world of five records, a member who has read two of them, and another who has joined.
-fn shared<R: RandomSource + Threads + Sync, W: Write>(rt: &R, stage: &Stage<W>) -> Result<World> {
-    let mut world = World::new(rt, stage.alloc, 4)?;
-    if let Err((_, why)) = world.load(rt, &FIVE) {
-        return Err(why.into());
-    }
-    for call in TWO_MEMBERS {
-        replied(&mut world, call)?;
-    }
-    Ok(world)
+// The calls of a world, without what their contracts say: several calls one after the other would
+// else be proved over what all of them say.
+
+fn step(world: &mut World, event: Event) -> Reply {
+    world.step(event)
+}
+
+fn run(world: &mut World, events: &[Event]) -> Result<Vec<Reply>, Refusal> {
+    Ok(world.run(events)?)
+}
+
+fn load<R: Threads + Sync>(
+    rt: &R,
+    world: &mut World,
+    keys: &[&[u8]],
+) -> Result<(), (u64, Refusal)> {
+    world.load(rt, keys)
+}
+
+fn settle(world: &mut World) -> Result<(), Refusal> {
+    world.settle()
+}
+
+fn drain(world: &mut World, batch: u32) -> Result<(), Refusal>
+    requires { 0 < batch }
+{
+    world.drain(batch)
 }
 
 /// What an event is replied, or why it is refused.
 pub fn replied(world: &mut World, call: Call) -> Result<Reply, Refusal> {
     let reply = match call {
-        Call::Append(key) => world.step(Event::Append(key.as_bytes())),
-        Call::Join(text) => world.step(Event::Join(&name(text)?)),
-        Call::Sync(member) => world.step(Event::Sync(member)),
-        Call::Rejoin(member) => world.step(Event::Rejoin(member)),
-        Call::Leave(member) => world.step(Event::Leave(member)),
-        Call::Lose(member) => world.step(Event::Lose(member)),
-        Call::Poll(member, partition, records) => world.step(Event::Poll {
-            member,
-            partition,
-            records,
-        }),
-        Call::Send(member, partition) => world.step(Event::Send { member, partition }),
-        Call::Deliver(number) => world.step(Event::Deliver(number)),
-        Call::DeliverUnanswered(number) => world.step(Event::DeliverUnanswered(number)),
+        Call::Append(key) => step(world, Event::Append(key.as_bytes())),
+        Call::Join(text) => step(world, Event::Join(&name(text)?)),
+        Call::Sync(member) => step(world, Event::Sync(member)),
+        Call::Rejoin(member) => step(world, Event::Rejoin(member)),
+        Call::Leave(member) => step(world, Event::Leave(member)),
+        Call::Lose(member) => step(world, Event::Lose(member)),
+        Call::Poll(member, partition, records) => step(
+            world,
+            Event::Poll {
+                member,
+                partition,
+                records,
+            },
+        ),
+        Call::Send(member, partition) => step(world, Event::Send { member, partition }),
+        Call::Deliver(number) => step(world, Event::Deliver(number)),
+        Call::DeliverUnanswered(number) => step(world, Event::DeliverUnanswered(number)),
     };
     match reply {
         Reply::Refused(why) => Err(why),

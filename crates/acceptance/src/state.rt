@@ -4,7 +4,7 @@ use crate::stage::Stage;
 use anyhow::Result;
 use bit_planes::Plane;
 use consumer::Consumer;
-use group_machine::{Cluster, Commit};
+use group_machine::{Cluster, Commit, Move, Name};
 use partition_log::{LogRead, Logs};
 use std::io::Write;
 use std::{fmt, str};
@@ -63,6 +63,11 @@ pub fn tell_logs<W: Write>(stage: &mut Stage<W>, logs: &Logs) -> Result<()> {
         let ids = logs.ids(p, 0, logs.len(p));
         stage.tell(format_args!("log {p} {ids:?}"))?;
     }
+    tell_keys(stage, logs)
+}
+
+/// Tells the keys of logs, in the order of their numbers.
+fn tell_keys<W: Write>(stage: &mut Stage<W>, logs: &Logs) -> Result<()> {
     for id in 0..logs.keys() {
         let key = str::from_utf8(logs.key(id)).unwrap_or("other than text");
         stage.tell(format_args!("key {id} {key:?}"))?;
@@ -72,20 +77,35 @@ pub fn tell_logs<W: Write>(stage: &mut Stage<W>, logs: &Logs) -> Result<()> {
 
 /// Tells a cluster: its group, its moves, its logs, and what is committed and counted.
 pub fn tell_cluster<W: Write>(stage: &mut Stage<W>, cluster: &Cluster) -> Result<()> {
+    tell_group(stage, cluster)?;
+    for step in cluster.moves() {
+        tell_move(stage, *step)?;
+    }
+    tell_logs(stage, cluster.logs())?;
+    tell_counts(stage, cluster)
+}
+
+/// Tells a group: its generation, its phase, and its members.
+fn tell_group<W: Write>(stage: &mut Stage<W>, cluster: &Cluster) -> Result<()> {
     let generation = cluster.generation();
     let phase = cluster.phase();
     stage.tell(format_args!("generation {generation} {phase:?}"))?;
     for member in cluster.members() {
         tell_member(stage, cluster, member)?;
     }
-    for step in cluster.moves() {
-        let generation = step.generation;
-        let partition = step.partition;
-        let last = step.last;
-        let holder = step.holder;
-        stage.tell(format_args!("move {generation} {partition} {last:?} {holder}"))?;
-    }
-    tell_logs(stage, cluster.logs())?;
+    Ok(())
+}
+
+fn tell_move<W: Write>(stage: &mut Stage<W>, step: Move) -> Result<()> {
+    let generation = step.generation;
+    let partition = step.partition;
+    let last = step.last;
+    let holder = step.holder;
+    stage.tell(format_args!("move {generation} {partition} {last:?} {holder}"))
+}
+
+/// Tells what is committed and counted.
+fn tell_counts<W: Write>(stage: &mut Stage<W>, cluster: &Cluster) -> Result<()> {
     let offsets = cluster.store().offsets();
     let counts = cluster.store().counts();
     stage.tell(format_args!("committed {offsets:?} counted {counts:?}"))
@@ -93,19 +113,29 @@ pub fn tell_cluster<W: Write>(stage: &mut Stage<W>, cluster: &Cluster) -> Result
 
 /// Tells a member: its name, what it is granted and assigned, and its flags.
 fn tell_member<W: Write>(stage: &mut Stage<W>, cluster: &Cluster, member: u32) -> Result<()> {
-    if let Some(name) = cluster.name(member) {
-        let name = str::from_utf8(name.text()).unwrap_or("other than text");
-        stage.tell(format_args!("member {member} {name}"))?;
-    }
-    if let Some(granted) = cluster.granted(member) {
-        stage.tell(format_args!("granted{}", Elements(granted)))?;
-    }
-    if let Some(assigned) = cluster.assigned(member) {
-        stage.tell(format_args!("assigned{}", Elements(assigned)))?;
-    }
+    tell_name(stage, cluster.name(member), member)?;
+    tell_set(stage, "granted", cluster.granted(member))?;
+    tell_set(stage, "assigned", cluster.assigned(member))?;
     let is_joined = cluster.is_joined(member);
     let is_synced = cluster.is_synced(member);
     stage.tell(format_args!("joined {is_joined} synced {is_synced}"))
+}
+
+/// Tells a member's name, if it has one.
+fn tell_name<W: Write>(stage: &mut Stage<W>, name: Option<&Name>, member: u32) -> Result<()> {
+    let Some(name) = name else {
+        return Ok(());
+    };
+    let name = str::from_utf8(name.text()).unwrap_or("other than text");
+    stage.tell(format_args!("member {member} {name}"))
+}
+
+/// Tells a set under what it is, if there is one.
+fn tell_set<W: Write>(stage: &mut Stage<W>, what: &str, set: Option<&Plane>) -> Result<()> {
+    let Some(set) = set else {
+        return Ok(());
+    };
+    stage.tell(format_args!("{what}{}", Elements(set)))
 }
 
 /// Tells a world: its cluster, its consumers, and its mail.

@@ -1,11 +1,12 @@
 //! The cluster: members, logs, and what was committed of them.
 
 ghost use Rattle.std.specs.Prelude.{◌≡◌, ◌+◌, ◌≤◌, ◌∷◌, ℕ, [], Ok, Some, None, MatchOption, IfOk, IfSome, OnOk, OnErr, is_some, length, replicate};
+ghost use Rattle.std.specs.List.{sum};
 ghost use Rattle.lane_words.specs.Answers.{Answers};
 ghost use Rattle.group_machine.specs.State.{assigned_of, granted_of, is_joined, is_present, is_synced, member_named, member_of, members, name_of, opening, owner_of};
 ghost use Rattle.group_machine.specs.Steps.{join_answer, joined_by, leave_answer, left_by, rejoin_answer, rejoined_by, synced_by};
 ghost use Rattle.group_machine.specs.Rounds.{is_settled};
-ghost use Rattle.group_machine.specs.Cluster.{AreLogsOf, ClusterState, GrowByRecords, IsDue, IsOfTopic, IsPlaceOf, IsValidCluster, answer_at, append_answer, appended_at, appended_to, cluster_commit_answer, cluster_sync_answer, committed_at, committed_by, fence, of_first, place_in, with_group, without_room};
+ghost use Rattle.group_machine.specs.Cluster.{AreCounts, AreLogsOf, ClusterState, GrowByRecords, IsDue, IsOfTopic, IsPlaceOf, IsValidCluster, answer_at, append_answer, appended_at, appended_to, cluster_commit_answer, cluster_sync_answer, committed_at, committed_by, fence, of_first, place_in, with_group, without_room};
 
 use crate::commit::Commit;
 use crate::group::{Group, Members, Move, Phase, Seat, members, slots};
@@ -45,12 +46,13 @@ impl Model for Cluster {
 }
 
 impl Cluster {
-    /// A cluster of 1 to 4096 partitions, with nobody present and nothing appended. Refused for
-    /// want of memory, or where the random source fails, from which the hasher of the keys is
-    /// drawn.
+    /// A cluster of 1 to 4096 partitions of one topic, with nobody present and nothing appended.
+    /// Refused for want of memory, or where the random source fails, from which the hasher of the
+    /// keys is drawn.
     pub fn new(rt: &impl RandomSource, alloc: Global, partitions: u32) -> Result<Cluster, Memory>
         requires { (1 ≤ partitions) × (partitions ≤ MOST_PARTITIONS) }
         ensures group { IfOk result (λ cluster. cluster.group ≡ opening partitions) }
+        ensures counts { IfOk result (λ cluster. cluster.logs.counts ≡ partitions ∷ []) }
         ensures logs { IfOk result (λ cluster. AreLogsOf [] cluster.logs) }
         ensures counters { IfOk result (λ cluster. cluster.store.counts ≡ []) }
         ensures room { IfOk result (λ cluster. cluster.store.room ≡ 0) }
@@ -58,6 +60,25 @@ impl Cluster {
         ensures valid { IfOk result IsValidCluster }
     {
         let logs = Logs::new(rt, alloc, partitions)?;
+        Cluster::over(alloc, logs)
+    }
+
+    /// The same, of as many partitions of each topic as these numbers say.
+    pub fn with_topics(
+        rt: &impl RandomSource,
+        alloc: Global,
+        counts: &[u32],
+    ) -> Result<Cluster, Memory>
+        requires { AreCounts counts.now }
+        ensures group { IfOk result (λ cluster. cluster.group ≡ opening (sum counts.now)) }
+        ensures counts { IfOk result (λ cluster. cluster.logs.counts ≡ counts.now) }
+        ensures logs { IfOk result (λ cluster. AreLogsOf [] cluster.logs) }
+        ensures counters { IfOk result (λ cluster. cluster.store.counts ≡ []) }
+        ensures room { IfOk result (λ cluster. cluster.store.room ≡ 0) }
+        ensures offsets { IfOk result (λ cluster. (p : ℕ) → committed_at cluster.store p ≡ 0) }
+        ensures valid { IfOk result IsValidCluster }
+    {
+        let logs = Logs::with_topics(rt, alloc, counts)?;
         Cluster::over(alloc, logs)
     }
 
@@ -238,7 +259,15 @@ impl Cluster {
         self.group.phase
     }
 
-    /// How many partitions there are.
+    /// How many topics there are.
+    pub fn topics(&self) -> usize
+        ensures topics { result ≡ length self.now.logs.counts }
+        ensures valid { IsValidCluster self.now }
+    {
+        self.logs.topics()
+    }
+
+    /// How many partitions there are, of all topics.
     pub fn partitions(&self) -> u32
         ensures count { result ≡ self.now.group.partitions }
         ensures valid { IsValidCluster self.now }

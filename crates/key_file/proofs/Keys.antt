@@ -1,12 +1,12 @@
 -- The keys found so far, and the keys of the records that are left.
-use Rattle.std.proofs.Common.{◌≡◌, ◌+◌, ◌-◌, ℕ, List, [], ◌∷◌, ◌++◌, Some, None, Result, Ok, Err, length, ap, refl, inl, inr, ◌≢◌}
+use Rattle.std.proofs.Common.{◌≡◌, ◌+◌, ℕ, List, [], ◌∷◌, ◌++◌, Result, Ok, Err, length, ap, refl, inl, inr, ◌≢◌}
 use Rattle.std.proofs.lemmas.Bool.{eq-eqb}
 use Rattle.std.proofs.lemmas.Bool.Decides.{eqb_tells}
 use Rattle.std.specs.Prelude.{◌⊎◌}
-use Rattle.csv.specs.Records.{field_at}
 use Rattle.lane_words.specs.declared.Refusal.{Refusal}
 use Rattle.lane_words.specs.declared.Refusal.TheVariants as r
-use Rattle.key_file.specs.KeyFile.{Record, keys_from, key_before}
+use Rattle.key_file.specs.declared.lack.Lack.{Lack}
+use Rattle.key_file.specs.KeyFile.{Record, Taking, keys_from, key_before, lack_at}
 use Rattle.key_file.specs.KeyFile.{after_keys}
 
 pub after_keys-ok : (ks : List (List ℕ)) → after_keys ks (Ok []) ≡ Ok ks
@@ -21,37 +21,37 @@ pub after_keys-more : (ks : List (List ℕ)) (k : List ℕ) (rest : Result (List
 after_keys-more [] k rest = refl
 after_keys-more (x ∷ ks) k rest = ap (key_before x) (after_keys-more ks k rest)
 
--- a record of the right length that has the column
-pub keys_from-key : (column width nth : ℕ) (fields : Record) (rest : List Record) (key : List ℕ) → length fields ≡ width → field_at fields (column - 1) ≡ Some key
-    → keys_from column width nth (fields ∷ rest) ≡ key_before key (keys_from column width (nth + 1) rest)
+-- a record of the right length that lacks nothing
+pub keys_from-key : (wanted : Taking) (width nth : ℕ) (fields : Record) (rest : List Record) (key : List ℕ) → length fields ≡ width → wanted fields ≡ Ok key
+    → keys_from wanted width nth (fields ∷ rest) ≡ key_before key (keys_from wanted width (nth + 1) rest)
 unfolding keys_from
-keys_from-key column width nth fields rest key e h = rw (eq-eqb (length fields) width e, h) refl
+keys_from-key wanted width nth fields rest key e h = rw (eq-eqb (length fields) width e, h) refl
 
--- one that lacks it
-pub keys_from-lacks : (column width nth : ℕ) (fields : Record) (rest : List Record) → length fields ≡ width → field_at fields (column - 1) ≡ None
-    → keys_from column width nth (fields ∷ rest) ≡ Err (r.NoSuchColumn nth)
+-- one that lacks something
+pub keys_from-lacks : (wanted : Taking) (width nth : ℕ) (fields : Record) (rest : List Record) (lack : Lack) → length fields ≡ width → wanted fields ≡ Err lack
+    → keys_from wanted width nth (fields ∷ rest) ≡ Err (lack_at nth lack)
 unfolding keys_from
-keys_from-lacks column width nth fields rest e h = rw (eq-eqb (length fields) width e, h) refl
+keys_from-lacks wanted width nth fields rest lack e h = rw (eq-eqb (length fields) width e, h) refl
 
 -- one of another length
-pub keys_from-other : (column width nth : ℕ) (fields : Record) (rest : List Record) → length fields ≢ width
-    → keys_from column width nth (fields ∷ rest) ≡ Err (r.BadCsv nth)
+pub keys_from-other : (wanted : Taking) (width nth : ℕ) (fields : Record) (rest : List Record) → length fields ≢ width
+    → keys_from wanted width nth (fields ∷ rest) ≡ Err (r.BadCsv nth)
 unfolding keys_from
-keys_from-other column width nth fields rest e =
+keys_from-other wanted width nth fields rest e =
     elim (eqb_tells (length fields) width) [
       | inl t ↦ absurd (e t.1)
       | inr f ↦ rw (f.0) refl
     ]
 
 -- no record is left
-pub keys_from-nil : (column width nth : ℕ) → keys_from column width nth [] ≡ Ok []
+pub keys_from-nil : (wanted : Taking) (width nth : ℕ) → keys_from wanted width nth [] ≡ Ok []
 unfolding keys_from
-keys_from-nil column width nth = refl
+keys_from-nil wanted width nth = refl
 
 -- a fault at the first of the records that are left is the file's
-pub fault_after : (keys : List (List ℕ)) (total : Result (List (List ℕ)) Refusal) (rows : List Record) (column width nth : ℕ) (fields : Record) (rest : List Record) (e : Refusal)
-    → total ≡ after_keys keys (keys_from column width nth rows) → rows ≡ fields ∷ rest
-    → ((e ≡ r.Memory) ⊎ ((rest : List Record) → keys_from column width nth (fields ∷ rest) ≡ Err e))
+pub fault_after : (keys : List (List ℕ)) (total : Result (List (List ℕ)) Refusal) (rows : List Record) (wanted : Taking) (width nth : ℕ) (fields : Record) (rest : List Record) (e : Refusal)
+    → total ≡ after_keys keys (keys_from wanted width nth rows) → rows ≡ fields ∷ rest
+    → ((e ≡ r.Memory) ⊎ ((rest : List Record) → keys_from wanted width nth (fields ∷ rest) ≡ Err e))
     → (e ≡ r.Memory) ⊎ (total ≡ Err e)
-fault_after keys total rows column width nth fields rest e t w (inl h) = inl h
-fault_after keys total rows column width nth fields rest e t w (inr h) = inr (rw (t, w, h rest) (after_keys-err keys e))
+fault_after keys total rows wanted width nth fields rest e t w (inl h) = inl h
+fault_after keys total rows wanted width nth fields rest e t w (inr h) = inr (rw (t, w, h rest) (after_keys-err keys e))

@@ -8,4 +8,5 @@ pub mod Pieces
 pub mod Progress
 pub mod Short
 pub mod Stands
+pub mod Topics
 pub mod Walk

@@ -1,17 +1,18 @@
 -- A file has no more records than bytes, so that their numbers fit.
-use Rattle.std.proofs.Common.{◌≡◌, ◌<◌, ◌≤◌, ◌+◌, ◌-◌, ℕ, List, [], ◌∷◌, ◌++◌, Bool, true, false, Option, Some, None, Result, Ok, Err, length, refl, arith, inl, inr, subst}
+use Rattle.std.proofs.Common.{◌≡◌, ◌<◌, ◌≤◌, ◌+◌, ℕ, List, [], ◌∷◌, ◌++◌, Bool, true, false, Result, Ok, Err, length, refl, arith, inl, inr, subst}
 use Rattle.std.proofs.lemmas.Bool.{cases_Bool}
 use Rattle.std.specs.Prelude.{◌==◌, if◌then◌else◌, suc, ⊤}
 use Rattle.csv.specs.Machine.{ends_at_end, field_after, fields_after, is_end, step}
 use Rattle.csv.specs.Reading.{default_config, is_bom, records, strip_bom}
-use Rattle.csv.specs.Records.{field_at}
 use Rattle.csv.specs.declared.parser.State.{State}
 use Rattle.csv.specs.declared.parser.State.TheVariants as st
 use Rattle.lane_words.specs.declared.Refusal.{Refusal}
 use Rattle.lane_words.specs.declared.Refusal.TheVariants as r
+use Rattle.key_file.specs.declared.lack.Lack.{Lack}
+use Rattle.key_file.specs.declared.lack.Lack.TheVariants as l
 use Rattle.key_file.specs.Pieces.{file_records}
 use Rattle.key_file.specs.Private.Join.{fault_number}
-use Rattle.key_file.specs.KeyFile.{Record, keyed, keys_from}
+use Rattle.key_file.specs.KeyFile.{Record, Taking, keyed, keys_from}
 use Rattle.key_file.specs.Private.Records.{IsBetween}
 use Rattle.key_file.proofs.Progress.{step-between}
 use Rattle.key_file.proofs.Walk.{records-walk, walk}
@@ -68,18 +69,19 @@ abbrev pub FaultBelow : ℕ → Result (List (List ℕ)) Refusal → Type 0
 FaultBelow n (Ok keys) = ⊤
 FaultBelow n (Err fault) = fault_number fault < n
 
-keyed-below : (b : Bool) (nth n : ℕ) (o : Option (List ℕ)) (rest : Result (List (List ℕ)) Refusal) → nth < n → FaultBelow n rest
+keyed-below : (b : Bool) (nth n : ℕ) (o : Result (List ℕ) Lack) (rest : Result (List (List ℕ)) Refusal) → nth < n → FaultBelow n rest
     → FaultBelow n (if b then keyed nth o rest else Err (r.BadCsv nth))
 keyed-below false nth n o rest h k = h
-keyed-below true nth n None rest h k = h
-keyed-below true nth n (Some key) (Ok keys) h k = tt
-keyed-below true nth n (Some key) (Err fault) h k = k
+keyed-below true nth n (Err l.Column) rest h k = h
+keyed-below true nth n (Err l.Topic) rest h k = h
+keyed-below true nth n (Ok key) (Ok keys) h k = tt
+keyed-below true nth n (Ok key) (Err fault) h k = k
 
-keys-below : (column width nth n : ℕ) (xs : List Record) → nth + length xs ≤ n → FaultBelow n (keys_from column width nth xs)
+keys-below : (wanted : Taking) (width nth n : ℕ) (xs : List Record) → nth + length xs ≤ n → FaultBelow n (keys_from wanted width nth xs)
 unfolding keys_from
-keys-below column width nth n [] h = tt
-keys-below column width nth n (x ∷ xs) h =
-    keyed-below (length x == width) nth n (field_at x (column - 1)) _ (omega arith) (keys-below column width (nth + 1) n xs (omega arith))
+keys-below wanted width nth n [] h = tt
+keys-below wanted width nth n (x ∷ xs) h =
+    keyed-below (length x == width) nth n (wanted x) _ (omega arith) (keys-below wanted width (nth + 1) n xs (omega arith))
 
-pub fault-below : (column width nth : ℕ) (xs : List Record) (e : Refusal) → keys_from column width nth xs ≡ Err e → fault_number e < nth + length xs
-fault-below column width nth xs e h = subst (FaultBelow (nth + length xs)) h (keys-below column width nth (nth + length xs) xs (omega arith))
+pub fault-below : (wanted : Taking) (width nth : ℕ) (xs : List Record) (e : Refusal) → keys_from wanted width nth xs ≡ Err e → fault_number e < nth + length xs
+fault-below wanted width nth xs e h = subst (FaultBelow (nth + length xs)) h (keys-below wanted width nth (nth + length xs) xs (omega arith))

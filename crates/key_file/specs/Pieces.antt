@@ -3,7 +3,7 @@ use Rattle.std.specs.Prelude.{◌≡◌, ℕ, ◌+◌, false, List, [], ◌∷�
 use Rattle.csv.specs.Reading.{default_config, records, strip_bom}
 use Rattle.lane_words.specs.declared.Refusal.{Refusal}
 use Rattle.lane_words.specs.declared.Refusal.TheVariants as r
-use Rattle.key_file.specs.KeyFile.{Record, after_keys, keys_from}
+use Rattle.key_file.specs.KeyFile.{Record, Taking, after_keys, keys_from}
 use Rattle.key_file.specs.Stand.{in_quotes, stand_after}
 use Rattle.key_file.specs.declared.stand.Stand.TheVariants as k
 
@@ -30,6 +30,7 @@ then_keys (Err fault) rest = Err fault
 abbrev pub later_fault : ℕ → Refusal → Refusal
 later_fault earlier (r.NoSuchColumn nth) = r.NoSuchColumn (nth + earlier)
 later_fault earlier (r.BadCsv nth) = r.BadCsv (nth + earlier)
+later_fault earlier (r.NoSuchTopic nth) = r.NoSuchTopic (nth + earlier)
 later_fault earlier fault = fault
 
 -- the keys of a piece that was numbered from its own first record on
@@ -38,8 +39,8 @@ later_keys earlier (Ok keys) = Ok keys
 later_keys earlier (Err fault) = Err (later_fault earlier fault)
 
 -- the keys of a piece behind the first, whose records are numbered from 1 on
-abbrev pub piece_keys : ℕ → ℕ → List ℕ → Result (List (List ℕ)) Refusal
-piece_keys column width piece = keys_from column width 1 (file_records piece)
+abbrev pub piece_keys : Taking → ℕ → List ℕ → Result (List (List ℕ)) Refusal
+piece_keys wanted width piece = keys_from wanted width 1 (file_records piece)
 
 -- the keys of pieces in their order, after `earlier` records: of a fault the record's number counts
 -- on

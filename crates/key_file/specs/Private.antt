@@ -4,3 +4,4 @@ pub mod Join
 pub mod KeyFile
 pub mod KeyList
 pub mod Records
+pub mod Wanted

@@ -1,10 +1,11 @@
 //! The keys of a file, whose pieces are read side by side.
 
-ghost use Rattle.std.specs.Prelude.{◌≡◌, ◌≤◌, ◌<◌, ◌⊎◌, ◌∷◌, ◌++◌, Ok, Err, [], ℕ, IfOk, IfErr, List, length, take, slice_index, slice_index_or, slice_range, vec_len};
-ghost use Rattle.key_file.specs.KeyFile.{IsFileFault, keys_of};
+ghost use Rattle.std.specs.Prelude.{◌≡◌, ◌≤◌, ◌<◌, ◌^◌, ◌⊎◌, ◌∷◌, ◌++◌, Ok, Err, [], ℕ, IfOk, IfErr, List, length, map, take, slice_index, slice_index_or, slice_range, vec_len};
+ghost use Rattle.key_file.specs.KeyFile.{IsFileFault, keys_of, taken_of, topic_keys_of};
 ghost use Rattle.key_file.specs.Private.Cuts.{AreCuts};
 ghost use Rattle.key_file.specs.Private.FileKeys.{all_keys};
 ghost use Rattle.key_file.specs.Private.Join.{AnswerPieces};
+ghost use Rattle.key_file.specs.Private.Wanted.{taking};
 ghost use Rattle.lane_words.specs.declared.Refusal.TheVariants as refusal;
 
 use crate::cuts::cuts_of;
@@ -12,7 +13,9 @@ use crate::file_keys::FileKeys;
 use crate::join::{join_keys, keys_at, piece_between};
 use crate::key_list::KeyList;
 use crate::piece::first_width;
-use crate::whole::read_keys;
+use crate::topic_keys::TopicKeys;
+use crate::wanted::Wanted;
+use crate::whole::read_taken;
 use lane_words::Refusal;
 use std::alloc::Global;
 use std::thread;
@@ -38,16 +41,15 @@ fn pieces_for(rt: &impl Threads, len: usize) -> usize
 fn read_whole(
     alloc: Global,
     file: &[u8],
-    column: u32,
+    wanted: &Wanted<'_>,
     header: bool,
 ) -> Result<Vec<KeyList>, Refusal>
-    requires { 1 ≤ column }
     ensures keys { IfOk result
-        (λ lists. keys_of column header file.now ≡ Ok (all_keys lists.items)) }
+        (λ lists. taken_of (taking wanted.now) header file.now ≡ Ok (all_keys lists.items)) }
     ensures fault { IfErr result
-        (λ e. (e ≡ refusal.Memory) ⊎ (keys_of column header file.now ≡ Err e)) }
+        (λ e. (e ≡ refusal.Memory) ⊎ (taken_of (taking wanted.now) header file.now ≡ Err e)) }
 {
-    let keys = read_keys(alloc, file, column, header)?;
+    let keys = read_taken(alloc, file, wanted, header)?;
     let mut lists = Vec::new(alloc);
     let Ok(()) = lists.push(keys) else {
         return Err(Refusal::Memory);
@@ -61,22 +63,21 @@ fn found_apart<R: Threads + Sync>(
     alloc: Global,
     file: &[u8],
     cuts: &[usize],
-    column: u32,
+    wanted: &Wanted<'_>,
     header: bool,
     width: usize,
 ) -> Result<Vec<Result<KeyList, Refusal>>, Refusal>
-    requires column { 1 ≤ column }
     requires cuts { AreCuts file.now 0 cuts.now (length file.now) }
     ensures len { IfOk result (λ found. length found.items ≡ length cuts.now) }
     ensures found { IfOk result
-        (λ found. AnswerPieces column header width file.now cuts.now found.items) }
+        (λ found. AnswerPieces (taking wanted.now) header width file.now cuts.now found.items) }
     ensures memory { IfErr result (λ e. e ≡ refusal.Memory) }
 {
     let Ok(found) = thread::map_indices(
         rt,
         alloc,
         cuts.len(),
-        &|i| { keys_at(alloc, file, cuts, i, column, header, width) },
+        &|i| { keys_at(alloc, file, cuts, i, wanted, header, width) },
     ) else {
         return Err(Refusal::Memory);
     };
@@ -88,15 +89,14 @@ fn lists_apart<R: Threads + Sync>(
     rt: &R,
     alloc: Global,
     file: &[u8],
-    column: u32,
+    wanted: &Wanted<'_>,
     header: bool,
     pieces: usize,
 ) -> Result<Vec<KeyList>, Refusal>
-    requires { 1 ≤ column }
     ensures keys { IfOk result
-        (λ lists. keys_of column header file.now ≡ Ok (all_keys lists.items)) }
+        (λ lists. taken_of (taking wanted.now) header file.now ≡ Ok (all_keys lists.items)) }
     ensures fault { IfErr result
-        (λ e. (e ≡ refusal.Memory) ⊎ (keys_of column header file.now ≡ Err e)) }
+        (λ e. (e ≡ refusal.Memory) ⊎ (taken_of (taking wanted.now) header file.now ≡ Err e)) }
 {
     let Ok(cuts) = cuts_of(alloc, file, pieces) else {
         return Err(Refusal::Memory);
@@ -107,10 +107,10 @@ fn lists_apart<R: Threads + Sync>(
         return Err(Refusal::Memory);
     };
     let Some(width) = width else {
-        return read_whole(alloc, file, column, header);
+        return read_whole(alloc, file, wanted, header);
     };
-    let found = found_apart(rt, alloc, file, cuts, column, header, width)?;
-    join_keys(alloc, file, cuts, column, header, width, found)
+    let found = found_apart(rt, alloc, file, cuts, wanted, header, width)?;
+    join_keys(alloc, file, cuts, wanted, header, width, found)
 }
 
 /// The keys of a file of comma-separated records, as `read_keys` has them.
@@ -133,8 +133,39 @@ pub fn read_keys_apart<R: Threads + Sync>(
         (λ e. (e ≡ refusal.Memory) ⊎ (keys_of column header file.now ≡ Err e)) }
 {
     let pieces = pieces_for(rt, file.len());
-    let lists = lists_apart(rt, alloc, file, column, header, pieces)?;
+    let lists = lists_apart(rt, alloc, file, &Wanted::key(column), header, pieces)?;
     Ok(FileKeys::of(lists))
+}
+
+/// The keys and the topics of a file of comma-separated records that has several topics, whose names
+/// these are.
+///
+/// The file is read as `read_keys_apart` reads it. Of each record the field in `column` is its key,
+/// and the field in `topic_column` the name of its topic, byte for byte; both columns are counted
+/// from 1. A record of another length than the first is refused with `BadCsv`, one that lacks a
+/// column with `NoSuchColumn`, and then one whose topic has none of the names with `NoSuchTopic`.
+/// The first record at fault decides.
+pub fn read_topic_keys_apart<R: Threads + Sync>(
+    rt: &R,
+    alloc: Global,
+    file: &[u8],
+    column: u32,
+    topic_column: u32,
+    names: &[&[u8]],
+    header: bool,
+) -> Result<TopicKeys, Refusal>
+    requires columns { (1 ≤ column) × (1 ≤ topic_column) }
+    requires names { length names.now ≤ 2 ^ 8 }
+    ensures keys { IfOk result (λ keys. topic_keys_of column topic_column
+        (map (λ name. name.now) names.now) header file.now ≡ Ok keys) }
+    ensures kind { IfErr result IsFileFault }
+    ensures fault { IfErr result (λ e. (e ≡ refusal.Memory) ⊎ (topic_keys_of column topic_column
+        (map (λ name. name.now) names.now) header file.now ≡ Err e)) }
+{
+    let wanted = Wanted::topic_and_key(column, topic_column, names);
+    let pieces = pieces_for(rt, file.len());
+    let lists = lists_apart(rt, alloc, file, &wanted, header, pieces)?;
+    Ok(TopicKeys::of(FileKeys::of(lists)))
 }
 
 #[cfg(test)]

@@ -1,17 +1,19 @@
 //! The keys of a file from those of its pieces.
 
 ghost use Rattle.std.specs.Prelude.{◌≡◌, ◌≤◌, ◌<◌, ◌+◌, ◌^◌, ◌⊎◌, ◌∷◌, ◌++◌, Ok, Err, [], ℕ, IfOk, IfErr, List, length, take, slice_index, slice_index_or, slice_range, vec_len};
-ghost use Rattle.key_file.specs.KeyFile.{IsFileFault, keys_of};
+ghost use Rattle.key_file.specs.KeyFile.{IsFileFault, taken_of};
 ghost use Rattle.key_file.specs.Pieces.{file_records, later_fault};
 ghost use Rattle.key_file.specs.Private.Cuts.{AreCuts};
 ghost use Rattle.key_file.specs.Private.FileKeys.{all_keys};
 ghost use Rattle.key_file.specs.Private.Join.{AnswerPieces, IsWidthOf, fault_number, keys_at, without_key};
 ghost use Rattle.lane_words.specs.Answers.{Answers};
+ghost use Rattle.key_file.specs.Private.Wanted.{taking};
 ghost use Rattle.lane_words.specs.declared.Refusal.TheVariants as refusal;
 
 use crate::key_list::KeyList;
 use crate::piece::keys_of_piece;
-use crate::whole::read_keys;
+use crate::wanted::Wanted;
+use crate::whole::read_taken;
 use lane_words::Refusal;
 use std::alloc::Global;
 
@@ -29,20 +31,19 @@ pub fn keys_at(
     file: &[u8],
     cuts: &[usize],
     i: usize,
-    column: u32,
+    wanted: &Wanted<'_>,
     header: bool,
     width: usize,
 ) -> Result<KeyList, Refusal>
-    requires column { 1 ≤ column }
     requires cuts { AreCuts file.now 0 cuts.now (length file.now) }
     requires index { i < length cuts.now }
-    ensures { Answers (keys_at column header width file.now cuts.now i) result }
+    ensures { Answers (keys_at (taking wanted.now) header width file.now cuts.now i) result }
 {
     if i == 0 {
-        read_keys(alloc, piece_between(file, 0, cuts[0]), column, header)
+        read_taken(alloc, piece_between(file, 0, cuts[0]), wanted, header)
     } else {
         let piece = piece_between(file, cuts[i - 1], cuts[i]);
-        keys_of_piece(alloc, piece, column, width)
+        keys_of_piece(alloc, piece, wanted, width)
     }
 }
 
@@ -54,6 +55,7 @@ fn later(fault: Refusal, earlier: u64) -> Refusal
     match fault {
         Refusal::BadCsv { nth } => Refusal::BadCsv { nth: nth + earlier },
         Refusal::NoSuchColumn { nth } => Refusal::NoSuchColumn { nth: nth + earlier },
+        Refusal::NoSuchTopic { nth } => Refusal::NoSuchTopic { nth: nth + earlier },
         other => other,
     }
 }
@@ -64,7 +66,7 @@ pub fn join_keys(
     alloc: Global,
     file: &[u8],
     cuts: &[usize],
-    column: u32,
+    wanted: &Wanted<'_>,
     header: bool,
     width: usize,
     found: Vec<Result<KeyList, Refusal>>,
@@ -73,11 +75,11 @@ pub fn join_keys(
     requires last { (before : List ℕ) × (cuts.now ≡ before ++ length file.now ∷ []) }
     requires first { IsWidthOf width (file_records (take (slice_index cuts.now 0) file.now)) }
     requires len { length found.items ≡ length cuts.now }
-    requires found { AnswerPieces column header width file.now cuts.now found.items }
+    requires found { AnswerPieces (taking wanted.now) header width file.now cuts.now found.items }
     ensures keys { IfOk result
-        (λ lists. keys_of column header file.now ≡ Ok (all_keys lists.items)) }
+        (λ lists. taken_of (taking wanted.now) header file.now ≡ Ok (all_keys lists.items)) }
     ensures fault { IfErr result
-        (λ e. (e ≡ refusal.Memory) ⊎ (keys_of column header file.now ≡ Err e)) }
+        (λ e. (e ≡ refusal.Memory) ⊎ (taken_of (taking wanted.now) header file.now ≡ Err e)) }
 {
     let mut lists = Vec::new(alloc);
     let mut count = if header { 1u64 } else { 0 };

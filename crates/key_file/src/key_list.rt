@@ -2,6 +2,7 @@
 
 ghost use Rattle.std.specs.Prelude.{◌≡◌, ◌<◌, ◌^◌, ◌∷◌, ◌++◌, [], ℕ, List, Some, OnOk, OnErr, length, map, slice_get, slice_index, slice_range, ◌≤◌};
 ghost use Rattle.key_file.specs.Private.KeyList.{IsValidKeyList, keys_between};
+ghost use Rattle.key_file.specs.Private.Wanted.{item};
 
 use lane_words::Memory;
 use std::alloc::Global;
@@ -80,11 +81,32 @@ impl KeyList {
         ensures err { OnErr result (self.new ≡ self.old) }
         ensures few { OnOk result (length self.new < 2 ^ 63) }
     {
+        self.push_two(&[], key)
+    }
+
+    /// Adds a key behind the index of its topic, if it has one, as `push` adds a key.
+    pub(crate) fn push_taken(&mut self, topic: Option<u8>, key: &[u8]) -> Result<(), Memory>
+        ensures ok { OnOk result (self.new ≡ self.old ++ item topic key.now ∷ []) }
+        ensures err { OnErr result (self.new ≡ self.old) }
+        ensures few { OnOk result (length self.new < 2 ^ 63) }
+    {
+        match topic {
+            Some(index) => self.push_two(&[index], key),
+            None => self.push_two(&[], key),
+        }
+    }
+
+    /// Adds two texts as one key, as `push` adds a key.
+    fn push_two(&mut self, head: &[u8], key: &[u8]) -> Result<(), Memory>
+        ensures ok { OnOk result (self.new ≡ self.old ++ (head.now ++ key.now) ∷ []) }
+        ensures err { OnErr result (self.new ≡ self.old) }
+        ensures few { OnOk result (length self.new < 2 ^ 63) }
+    {
         let start = self.text.len();
-        if self.text.extend_from_slice(key).is_err() {
+        if self.text.extend_from_slice(head).is_err() {
             return Err(Memory);
         }
-        if self.ends.push(self.text.len()).is_err() {
+        if self.text.extend_from_slice(key).is_err() || self.ends.push(self.text.len()).is_err() {
             self.text.truncate(start);
             return Err(Memory);
         }

@@ -2,7 +2,7 @@
 
 ghost use Rattle.std.specs.Prelude.{◌≡◌, ◌≢◌, ◌+◌, ◌++◌, ◌∷◌, [], false, Bool, List, ℕ, Ok, All, flat_map, length, map};
 ghost use Rattle.csv.specs.Reading.{default_config, records, strip_bom};
-ghost use Rattle.key_file.specs.KeyFile.{Record, keys_from, keys_of};
+ghost use Rattle.key_file.specs.KeyFile.{Record, Taking, keys_from, taken_of};
 ghost use Rattle.key_file.specs.Pieces.{ArePieces, file_records, joined, later_keys, piece_keys, then_keys};
 ghost use Rattle.key_file.specs.Stand.{in_quotes, stand_after};
 ghost use Rattle.key_file.specs.declared.stand.Stand.{Stand};
@@ -56,21 +56,21 @@ pub fn outside_without_quotes()
 /// The keys of two lists of records: those of the first, and then those of the second, whose
 /// numbers go on.
 pub fn keys_of_two_pieces()
-    ensures { (column width nth : ℕ) (xs ys : List Record) → keys_from column width nth (xs ++ ys)
-        ≡ then_keys (keys_from column width nth xs) (keys_from column width (nth + length xs) ys) }
+    ensures { (wanted : Taking) (width nth : ℕ) (xs ys : List Record) → keys_from wanted width nth (xs ++ ys)
+        ≡ then_keys (keys_from wanted width nth xs) (keys_from wanted width (nth + length xs) ys) }
 {}
 
 /// Where records have no fault, there are as many keys.
 pub fn a_key_a_record()
-    ensures { (column width nth : ℕ) (xs : List Record) (keys : List (List ℕ))
-        → keys_from column width nth xs ≡ Ok keys → length keys ≡ length xs }
+    ensures { (wanted : Taking) (width nth : ℕ) (xs : List Record) (keys : List (List ℕ))
+        → keys_from wanted width nth xs ≡ Ok keys → length keys ≡ length xs }
 {}
 
 /// Records that stand later have the same keys, and their faults later numbers.
 pub fn keys_later()
-    ensures { (column width nth earlier : ℕ) (xs : List Record)
-        → keys_from column width (nth + earlier) xs
-        ≡ later_keys earlier (keys_from column width nth xs) }
+    ensures { (wanted : Taking) (width nth earlier : ℕ) (xs : List Record)
+        → keys_from wanted width (nth + earlier) xs
+        ≡ later_keys earlier (keys_from wanted width nth xs) }
 {}
 
 /// A file in pieces has the records of its pieces.
@@ -83,9 +83,9 @@ pub fn records_of_pieces()
 /// then those of the others, whose records all have the length of the very first one, and whose
 /// faults count on.
 pub fn keys_of_pieces()
-    ensures { (column : ℕ) (header : Bool) (file piece : List ℕ) (pieces : List (List ℕ))
+    ensures { (wanted : Taking) (header : Bool) (file piece : List ℕ) (pieces : List (List ℕ))
         (first : Record) (more : List Record) → ArePieces file (piece ∷ pieces)
         → file_records piece ≡ first ∷ more
-        → keys_of column header file ≡ then_keys (keys_of column header piece)
-        (joined (length (first ∷ more)) (map (piece_keys column (length first)) pieces)) }
+        → taken_of wanted header file ≡ then_keys (taken_of wanted header piece)
+        (joined (length (first ∷ more)) (map (piece_keys wanted (length first)) pieces)) }
 {}

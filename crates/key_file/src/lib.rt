@@ -6,19 +6,24 @@ mod cuts;
 mod file_keys;
 mod join;
 mod key_list;
+mod lack;
 mod laws;
 mod piece;
 mod records;
 mod stand;
+mod topic_keys;
+mod wanted;
 mod whole;
 
-pub use apart::read_keys_apart;
+pub use apart::{read_keys_apart, read_topic_keys_apart};
 pub use file_keys::FileKeys;
 pub use key_list::KeyList;
+pub use lack::Lack;
 pub use laws::{
     a_key_a_record, cut_before_a_line_feed, cut_behind_a_record, cut_file, cut_without_quotes,
     keys_later, keys_of_pieces, keys_of_two_pieces, line_feed_ends_a_record,
     outside_without_quotes, records_of_pieces, stand_after_two,
 };
 pub use stand::Stand;
+pub use topic_keys::TopicKeys;
 pub use whole::read_keys;

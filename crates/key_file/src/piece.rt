@@ -4,10 +4,12 @@ ghost use Rattle.std.specs.Prelude.{◌≡◌, ◌≤◌, ◌<◌, ◌⊎◌, �
 ghost use Rattle.key_file.specs.KeyFile.{IsFileFault, Record};
 ghost use Rattle.key_file.specs.Pieces.{file_records, piece_keys};
 ghost use Rattle.key_file.specs.Private.Join.{IsWidthOf};
+ghost use Rattle.key_file.specs.Private.Wanted.{taking};
 ghost use Rattle.lane_words.specs.declared.Refusal.TheVariants as refusal;
 
 use crate::key_list::KeyList;
 use crate::records::{next_record, records_of};
+use crate::wanted::Wanted;
 use crate::whole::add_key;
 use csv::ByteRecord;
 use lane_words::{Memory, Refusal};
@@ -29,14 +31,13 @@ pub fn first_width(alloc: Global, file: &[u8]) -> Result<Option<usize>, Memory>
 pub fn keys_of_piece(
     alloc: Global,
     piece: &[u8],
-    column: u32,
+    wanted: &Wanted<'_>,
     width: usize,
 ) -> Result<KeyList, Refusal>
-    requires { 1 ≤ column }
-    ensures keys { IfOk result (λ keys. piece_keys column width piece.now ≡ Ok keys) }
+    ensures keys { IfOk result (λ keys. piece_keys (taking wanted.now) width piece.now ≡ Ok keys) }
     ensures kind { IfErr result IsFileFault }
     ensures fault { IfErr result
-        (λ e. (e ≡ refusal.Memory) ⊎ (piece_keys column width piece.now ≡ Err e)) }
+        (λ e. (e ≡ refusal.Memory) ⊎ (piece_keys (taking wanted.now) width piece.now ≡ Err e)) }
 {
     let mut keys = KeyList::new(alloc);
     let mut reader = records_of(alloc, piece);
@@ -48,7 +49,7 @@ pub fn keys_of_piece(
         if !found {
             return Ok(keys);
         }
-        add_key(&mut keys, &row, column, width, nth)?;
+        add_key(&mut keys, &row, wanted, width, nth)?;
     }
     unreachable!()
 }

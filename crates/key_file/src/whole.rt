@@ -3,43 +3,79 @@
 ghost use Rattle.std.specs.Prelude.{◌≡◌, ◌≤◌, ◌+◌, ◌<◌, ◌^◌, ◌⊎◌, ◌∷◌, ◌-◌, Some, None, [], ℕ, List, Ok, Err, IfOk, IfErr, OnOk, length, Bool};
 ghost use Rattle.csv.specs.Reading.{default_config, records, strip_bom};
 ghost use Rattle.csv.specs.Records.{field_at, fields_of};
-ghost use Rattle.key_file.specs.KeyFile.{IsFileFault, keys_of};
+ghost use Rattle.key_file.specs.KeyFile.{IsFileFault, keys_of, taken_of};
 ghost use Rattle.key_file.specs.Private.KeyFile.{IsFaultAt, TakesKey};
 ghost use Rattle.key_file.specs.Private.Records.{ReadsRecords, TakesNext, records_left};
+ghost use Rattle.key_file.specs.Private.Wanted.{taking};
 ghost use Rattle.lane_words.specs.declared.Refusal.TheVariants as refusal;
 
 use crate::key_list::KeyList;
 use crate::records::{next_record, records_of};
+use crate::wanted::{Wanted, lack_at};
 use csv::ByteRecord;
 use lane_words::Refusal;
 use std::alloc::Global;
 
-/// Adds the key of record number nth, which has to be as long as the first.
+/// Adds what is taken of record number nth, which has to be as long as the first.
 pub fn add_key(
     keys: &mut KeyList,
     row: &ByteRecord,
-    column: u32,
+    wanted: &Wanted<'_>,
     width: usize,
     nth: u64,
 ) -> Result<(), Refusal>
-    requires { 1 ≤ column }
     ensures few { OnOk result (length keys.new < 2 ^ 63) }
     ensures added { OnOk result (length keys.new ≡ length keys.old + 1) }
-    ensures key { OnOk result (TakesKey column width nth keys.old keys.new (fields_of row.now)) }
+    ensures key { OnOk result (TakesKey (taking wanted.now) width nth keys.old keys.new (fields_of row.now)) }
     ensures kind { IfErr result IsFileFault }
     ensures fault { IfErr result
-        (λ e. (e ≡ refusal.Memory) ⊎ IsFaultAt column width nth (fields_of row.now) e) }
+        (λ e. (e ≡ refusal.Memory) ⊎ IsFaultAt (taking wanted.now) width nth (fields_of row.now) e) }
 {
     if row.len() != width {
         return Err(Refusal::BadCsv { nth });
     }
-    let Some(field) = row.get(column as usize - 1) else {
-        return Err(Refusal::NoSuchColumn { nth });
-    };
-    if keys.push(field).is_err() {
-        return Err(Refusal::Memory);
+    match wanted.of(row) {
+        Ok(taken) => Ok(keys.push_taken(taken.topic, taken.key)?),
+        Err(lack) => Err(lack_at(nth, lack)),
     }
-    Ok(())
+}
+
+/// What is taken of the records of a file, in their order: of each its key, behind the index of its
+/// topic where the file has topics. `read_keys` tells the rest.
+pub fn read_taken(
+    alloc: Global,
+    file: &[u8],
+    wanted: &Wanted<'_>,
+    header: bool,
+) -> Result<KeyList, Refusal>
+    ensures keys { IfOk result (λ keys. taken_of (taking wanted.now) header file.now ≡ Ok keys) }
+    ensures kind { IfErr result IsFileFault }
+    ensures fault { IfErr result
+        (λ e. (e ≡ refusal.Memory) ⊎ (taken_of (taking wanted.now) header file.now ≡ Err e)) }
+{
+    let mut keys = KeyList::new(alloc);
+    let mut reader = records_of(alloc, file);
+    let mut row = ByteRecord::new(alloc);
+    let Ok(found) = next_record(&mut reader, &mut row) else {
+        return Err(Refusal::Memory);
+    };
+    if !found {
+        return Ok(keys);
+    }
+    let width = row.len();
+    if !header {
+        add_key(&mut keys, &row, wanted, width, 1)?;
+    }
+    for nth in 2..u64::MAX {
+        let Ok(found) = next_record(&mut reader, &mut row) else {
+            return Err(Refusal::Memory);
+        };
+        if !found {
+            return Ok(keys);
+        }
+        add_key(&mut keys, &row, wanted, width, nth)?;
+    }
+    unreachable!()
 }
 
 /// The keys of a file of comma-separated records: of each record the field in this column, in the
@@ -56,29 +92,7 @@ pub fn read_keys(alloc: Global, file: &[u8], column: u32, header: bool) -> Resul
     ensures fault { IfErr result
         (λ e. (e ≡ refusal.Memory) ⊎ (keys_of column header file.now ≡ Err e)) }
 {
-    let mut keys = KeyList::new(alloc);
-    let mut reader = records_of(alloc, file);
-    let mut row = ByteRecord::new(alloc);
-    let Ok(found) = next_record(&mut reader, &mut row) else {
-        return Err(Refusal::Memory);
-    };
-    if !found {
-        return Ok(keys);
-    }
-    let width = row.len();
-    if !header {
-        add_key(&mut keys, &row, column, width, 1)?;
-    }
-    for nth in 2..u64::MAX {
-        let Ok(found) = next_record(&mut reader, &mut row) else {
-            return Err(Refusal::Memory);
-        };
-        if !found {
-            return Ok(keys);
-        }
-        add_key(&mut keys, &row, column, width, nth)?;
-    }
-    unreachable!()
+    read_taken(alloc, file, &Wanted::key(column), header)
 }
 
 #[cfg(test)]

@@ -62,9 +62,9 @@ impl Logs {
         self.append_placed(rt, keys, &places)
     }
 
-    /// The partition in the first topic of each of some keys, in their order. Refused for want of
-    /// memory alone, and not where there are no keys.
-    fn places_of<R: Threads + Sync>(&self, rt: &R, keys: &[&[u8]]) -> Result<Vec<u32>, Memory>
+    /// The partition in the first topic of each of some keys, in their order, computed side by side.
+    /// Refused for want of memory alone, and not where there are no keys.
+    pub fn places_of<R: Threads + Sync>(&self, rt: &R, keys: &[&[u8]]) -> Result<Vec<u32>, Memory>
         ensures places { IfOk result (λ places. places.items
             ≡ map (λ key. place_in self.now (of_first key.now)) keys.now) }
         ensures refused { OnErr result (0 < length keys.now) }
@@ -78,7 +78,7 @@ impl Logs {
     }
 
     /// The same, in the topic of each.
-    fn places_of_in<R: Threads + Sync>(
+    pub fn places_of_in<R: Threads + Sync>(
         &self,
         rt: &R,
         topics: &[u8],

@@ -138,6 +138,7 @@ impl Logs {
     ) -> Result<Logs, Memory>
         requires { AreCounts counts.now }
         ensures counts { IfOk result (λ logs. logs.counts ≡ counts.now) }
+        ensures partitions { IfOk result (λ logs. logs.partitions ≡ sum counts.now) }
         ensures empty { IfOk result (AreLogsOf []) }
         ensures valid { IfOk result IsValidLogs }
     {

@@ -7,10 +7,26 @@ use super::*;
 use std::test::Fail;
 
 // The calls, without what their contracts say: a test of many calls would else be proved over what
-// all of them say.
+// all of them say. And who owns logs makes few calls: each `?` is proved with all that lets go what
+// is owned there.
 
 fn append(logs: &mut Logs, key: &[u8]) -> Result<(u32, u32), Refusal> {
     logs.append(key)
+}
+
+/// Appends records of these keys.
+fn append_each(logs: &mut Logs, keys: &[&[u8]]) -> Result<(), Refusal> {
+    for key in keys {
+        append(logs, key)?;
+    }
+    Ok(())
+}
+
+/// Sealed logs of four partitions with records of these keys.
+fn sealed_of(rt: &impl RandomSource, alloc: Global, keys: &[&[u8]]) -> Result<SealedLogs, Refusal> {
+    let mut logs = Logs::new(rt, alloc, 4)?;
+    append_each(&mut logs, keys)?;
+    Ok(logs.seal())
 }
 
 /// Whether a key number is that of a key.
@@ -28,6 +44,20 @@ fn are_ids<L: LogRead>(logs: &L, p: u32, ids: &[u32]) -> bool {
     p < logs.partitions() && logs.ids(p, 0, logs.len(p)) == ids
 }
 
+/// Whether a key has this place, and its record comes to this offset there.
+fn comes_to(logs: &mut Logs, key: &[u8], place: u32, offset: u32) -> bool {
+    logs.place_of(key) == place && append(logs, key) == Ok((place, offset))
+}
+
+/// Whether logs have the keys and the key numbers of those five records.
+fn are_of_five(logs: &Logs) -> bool {
+    let ids: [(u32, &[u32]); 4] = [(0, &[0, 0]), (1, &[1]), (2, &[2]), (3, &[3])];
+    logs.keys() == 4
+        && is_key(logs, 0, b"21")
+        && is_key(logs, 3, b"abc")
+        && ids.iter().all(|(p, numbers)| are_ids(logs, *p, numbers))
+}
+
 #[test]
 fn appends_in_order_of_place(rt: HostRuntime) -> Result<(), Fail> {
     let mut logs = Logs::new(&rt, rt.alloc(), 4)?;
@@ -39,34 +69,43 @@ fn appends_in_order_of_place(rt: HostRuntime) -> Result<(), Fail> {
         (b"abc", 3, 0),
         (b"21", 0, 1),
     ];
-    for (key, place, offset) in steps {
-        assert_eq!(rt; logs.place_of(key), place, "{key:?}");
-        assert_eq!(rt; append(&mut logs, key), Ok((place, offset)), "{key:?}");
+    for (key, place, offset) in &steps {
+        assert!(rt; comes_to(&mut logs, key, *place, *offset), "{key:?}");
     }
-    assert_eq!(rt; logs.keys(), 4);
-    assert!(rt; is_key(&logs, 0, b"21") && is_key(&logs, 3, b"abc"));
-    let ids: [(u32, &[u32]); 4] = [(0, &[0, 0]), (1, &[1]), (2, &[2]), (3, &[3])];
-    for (p, numbers) in ids {
-        assert!(rt; are_ids(&logs, p, numbers), "{p}");
-    }
+    assert!(rt; are_of_five(&logs));
     Ok(())
+}
+
+/// Whether a copy has a third record of the first key, which what was copied has not.
+fn are_copied(sealed: &SealedLogs, copy: &Logs, second: &[u8]) -> bool {
+    sealed.partitions() == 4
+        && copy.partitions() == 4
+        && is_length(sealed, 0, 2)
+        && is_length(copy, 0, 3)
+        && sealed.keys() == 2
+        && copy.keys() == 2
+        && is_key(sealed, 1, second)
+        && is_key(copy, 1, second)
+        && are_ids(sealed, 0, &[0, 0])
+}
+
+/// Whether a copy takes a third record of the first key, and what was copied does not.
+fn copy_takes(
+    rt: &impl RandomSource,
+    sealed: &SealedLogs,
+    alloc: Global,
+    second: &[u8],
+) -> Result<bool, Refusal> {
+    let mut copy = sealed.copy(rt, alloc)?;
+    let at = append(&mut copy, b"21");
+    Ok(at == Ok((0, 2)) && are_copied(sealed, &copy, second))
 }
 
 #[test]
 fn a_copy_of_sealed_logs_numbers_keys_as_they_do(rt: HostRuntime) -> Result<(), Fail> {
-    let mut logs = Logs::new(&rt, rt.alloc(), 4)?;
     let keys: [&[u8]; 3] = [b"21", b"a key of more than 22 bytes", b"21"];
-    for key in keys {
-        append(&mut logs, key)?;
-    }
-    let sealed = logs.seal();
-    let mut copy = sealed.copy(&rt, rt.alloc())?;
-    assert_eq!(rt; append(&mut copy, b"21"), Ok((0, 2)));
-    assert!(rt; sealed.partitions() == 4 && copy.partitions() == 4);
-    assert!(rt; is_length(&sealed, 0, 2) && is_length(&copy, 0, 3));
-    assert!(rt; sealed.keys() == 2 && copy.keys() == 2);
-    assert!(rt; is_key(&sealed, 1, keys[1]) && is_key(&copy, 1, keys[1]));
-    assert!(rt; are_ids(&sealed, 0, &[0, 0]));
+    let sealed = sealed_of(&rt, rt.alloc(), &keys)?;
+    assert_eq!(rt; copy_takes(&rt, &sealed, rt.alloc(), keys[1]), Ok(true));
     Ok(())
 }
 
@@ -104,57 +143,114 @@ fn same_tells_logs_that_differ(rt: HostRuntime) -> Result<(), Fail> {
     Ok(())
 }
 
+/// Whether the longest key and the shortest are taken, and one that is longer is not.
+fn takes_longest(logs: &mut Logs, longest: &[u8], longer: &[u8]) -> bool {
+    append(logs, longest) == Ok((0, 0))
+        && append(logs, longer) == Err(Refusal::KeyTooLong)
+        && append(logs, b"") == Ok((0, 1))
+        && logs.keys() == 2
+        && is_key(logs, 0, longest)
+        && is_key(logs, 1, b"")
+}
+
 #[test]
 fn takes_keys_up_to_the_longest(rt: HostRuntime) -> Result<(), Fail> {
-    let mut logs = Logs::new(&rt, rt.alloc(), 1)?;
     let bytes = vec![in rt.alloc(); 0xff_u8; LONGEST_KEY + 1]?;
-    assert_eq!(rt; append(&mut logs, &bytes[..LONGEST_KEY]), Ok((0, 0)));
-    assert_eq!(rt; append(&mut logs, &bytes), Err(Refusal::KeyTooLong));
-    assert_eq!(rt; append(&mut logs, b""), Ok((0, 1)));
-    assert_eq!(rt; logs.keys(), 2);
-    assert!(rt; is_key(&logs, 0, &bytes[..LONGEST_KEY]) && is_key(&logs, 1, b""));
+    let mut logs = Logs::new(&rt, rt.alloc(), 1)?;
+    assert!(rt; takes_longest(&mut logs, &bytes[..LONGEST_KEY], &bytes));
     Ok(())
+}
+
+/// Whether a key is known to both forms under one number, or is new to both and gets one number.
+fn is_numbered_alike(
+    keys: &mut KeyIds,
+    plain: &mut plain_keys::PlainKeys,
+    key: &[u8],
+) -> Result<bool, Refusal> {
+    match (keys.find(key)?, plain.find(key)) {
+        (None, None) if keys.count() < 1000 && plain.count() < 1000 => {
+            Ok(keys.add(key)? == plain.add(key)?)
+        }
+        (found, known) => Ok(found == known),
+    }
+}
+
+/// The key of a turn: each length up to 40 comes twice, round the longest that is stored inline, and
+/// then once more with another byte at the end.
+fn key_of(alloc: Global, turn: usize) -> Result<Vec<u8>, Memory> {
+    let bytes = [0x80_u8; 41];
+    let mut key = Vec::from_slice(alloc, &bytes[..turn % 41])?;
+    if turn >= 82 {
+        key.push(b'x')?;
+    }
+    Ok(key)
+}
+
+/// The first of those turns in which a key is not numbered alike.
+fn first_other(
+    alloc: Global,
+    keys: &mut KeyIds,
+    plain: &mut plain_keys::PlainKeys,
+) -> Result<Option<usize>, Refusal> {
+    for turn in 0..123 {
+        let key = key_of(alloc, turn)?;
+        if !is_numbered_alike(keys, plain, key.as_slice())? {
+            return Ok(Some(turn));
+        }
+    }
+    Ok(None)
+}
+
+/// Whether both forms have the same keys.
+fn are_keys_alike(keys: &KeyIds, plain: &plain_keys::PlainKeys) -> bool {
+    for number in 0..keys.count().min(plain.count()) {
+        if keys.key(number) != plain.key(number) {
+            return false;
+        }
+    }
+    keys.count() == plain.count()
 }
 
 #[test]
 fn keys_are_numbered_as_by_the_plain_form(rt: HostRuntime) -> Result<(), Fail> {
     let mut keys = KeyIds::new(&rt, rt.alloc())?;
     let mut plain = plain_keys::PlainKeys::new(&rt, rt.alloc())?;
-    let bytes = vec![in rt.alloc(); 0x80_u8; 64]?;
-    // Each length twice, round the longest that is stored inline, and then once more with another
-    // last byte.
-    for round in 0..3_u8 {
-        for size in 0..=40_usize {
-            let mut key = Vec::from_slice(rt.alloc(), &bytes[..size])?;
-            if round == 2 {
-                key.push(b'x')?;
-            }
-            match (keys.find(key.as_slice())?, plain.find(key.as_slice())) {
-                (None, None) if keys.count() < 1000 && plain.count() < 1000 => {
-                    assert_eq!(rt; keys.add(key.as_slice())?, plain.add(key.as_slice())?);
-                }
-                (found, known) => assert_eq!(rt; found, known),
-            }
-        }
-    }
-    assert_eq!(rt; keys.count(), plain.count());
-    for number in 0..keys.count().min(plain.count()) {
-        assert_eq!(rt; keys.key(number), plain.key(number));
+    assert_eq!(rt; first_other(rt.alloc(), &mut keys, &mut plain), Ok(None));
+    assert!(rt; are_keys_alike(&keys, &plain));
+    Ok(())
+}
+
+/// Sealed logs, as many as there may be, with records of ten thousand keys.
+fn many_sealed(rt: &impl RandomSource, alloc: Global) -> Result<SealedLogs, Refusal> {
+    let mut logs = Logs::new(rt, alloc, MOST_PARTITIONS)?;
+    append_numbers(&mut logs, 10_000)?;
+    Ok(logs.seal())
+}
+
+/// Appends records of the numbers below this one.
+fn append_numbers(logs: &mut Logs, records: u32) -> Result<(), Refusal> {
+    for i in 0..records {
+        append(logs, &i.to_le_bytes())?;
     }
     Ok(())
 }
 
+/// Whether logs are the same as a copy of them until it has one record more.
+fn are_same_till_a_record(
+    rt: &impl RandomSource,
+    alloc: Global,
+    sealed: &SealedLogs,
+) -> Result<bool, Refusal> {
+    let mut copy = sealed.copy(rt, alloc)?;
+    let are_same = sealed.same(&copy);
+    let at = append(&mut copy, &[0; 4]);
+    Ok(are_same && at.is_ok() && !sealed.same(&copy))
+}
+
 #[test]
 fn same_over_as_many_logs_as_there_may_be(rt: HostRuntime) -> Result<(), Fail> {
-    let mut logs = Logs::new(&rt, rt.alloc(), MOST_PARTITIONS)?;
-    for i in 0..10_000_u32 {
-        append(&mut logs, &i.to_le_bytes())?;
-    }
-    let sealed = logs.seal();
-    let mut copy = sealed.copy(&rt, rt.alloc())?;
-    assert!(rt; sealed.same(&copy));
-    append(&mut copy, &[0; 4])?;
-    assert!(rt; !sealed.same(&copy));
+    let sealed = many_sealed(&rt, rt.alloc())?;
+    assert_eq!(rt; are_same_till_a_record(&rt, rt.alloc(), &sealed), Ok(true));
     Ok(())
 }
 
@@ -185,20 +281,41 @@ fn takes_two(logs: &mut Logs, number: u32) -> bool {
     short.is_ok() && at.is_ok_and(|at| at.0 == place)
 }
 
+/// Whether logs take twice 70,000 keys, and one more record of the first.
+fn takes_many(logs: &mut Logs) -> bool {
+    for i in 0..70_000_u32 {
+        if !takes_two(logs, i) {
+            return false;
+        }
+    }
+    append(logs, &[0; 4]).is_ok() && logs.keys() == 140_000
+}
+
+/// Whether logs have those keys and records.
+fn has_many(logs: &Logs) -> bool {
+    let (first, second) = (length(logs, 0), length(logs, 1));
+    logs.keys() == 140_000
+        && logs.partitions() == 2
+        && u64::from(first) + u64::from(second) == 140_001
+        && first > 65_536
+        && second > 65_536
+        && is_key(logs, 139_998, &69_999_u32.to_le_bytes())
+}
+
+/// Whether a copy has them.
+fn copy_has_many(
+    rt: &impl RandomSource,
+    alloc: Global,
+    sealed: &SealedLogs,
+) -> Result<bool, Refusal> {
+    Ok(has_many(&sealed.copy(rt, alloc)?))
+}
+
 #[test]
 fn takes_and_copies_more_records_and_keys_than_16_bits_number(rt: HostRuntime) -> Result<(), Fail> {
     let mut logs = Logs::new(&rt, rt.alloc(), 2)?;
-    for i in 0..70_000_u32 {
-        assert!(rt; takes_two(&mut logs, i));
-    }
-    assert_eq!(rt; append(&mut logs, &[0; 4]).is_ok(), true);
-    assert_eq!(rt; logs.keys(), 140_000);
+    assert!(rt; takes_many(&mut logs));
     let sealed = logs.seal();
-    let copy = sealed.copy(&rt, rt.alloc())?;
-    assert!(rt; copy.keys() == 140_000 && copy.partitions() == 2);
-    let (first, second) = (length(&copy, 0), length(&copy, 1));
-    assert_eq!(rt; u64::from(first) + u64::from(second), 140_001);
-    assert!(rt; first > 65_536 && second > 65_536);
-    assert!(rt; is_key(&copy, 139_998, &69_999_u32.to_le_bytes()));
+    assert_eq!(rt; copy_has_many(&rt, rt.alloc(), &sealed), Ok(true));
     Ok(())
 }

@@ -5,3 +5,5 @@ pub mod PlanProgress
 pub mod PlanRules
 pub mod Progress
 pub mod ReadLemmas
+pub mod TopicLemmas
+pub mod WordLemmas

@@ -1,12 +1,13 @@
 -- The first part of bytes, before a byte at which they are cut, and what follows.
-use Rattle.std.proofs.Common.{◌≡◌, refl, ap, ℕ, ◌+◌, ◌-◌, ◌<◌, ◌≤◌, Bool, true, false, cond, not, ltb, List, [], ◌∷◌, length, take, drop, Option, Some, None, arith, add_comm}
-use Rattle.std.proofs.lemmas.List.{take_rest}
-use Rattle.std.proofs.lemmas.List.Splits.{slice_split_first}
-use Rattle.std.specs.List.{after_first, before_first, onto_first, position, position_or_len, slice_split}
-use Rattle.std.specs.Option.{IfSome, is_some}
-use Rattle.script.specs.Grammar.{action_of_words, is_line_feed, split_lines}
+use Rattle.std.proofs.Common.{◌≡◌, refl, ap, subst, ◌∙◌, ℕ, ◌+◌, ◌-◌, ◌<◌, ◌≤◌, Bool, true, false, cond, not, ltb, List, [], ◌∷◌, ◌++◌, length, take, drop, Option, Some, None, arith, add_comm}
+use Rattle.std.proofs.Math.Seq.{drop-append-add, get_or-append_seam, take-append_seam}
+use Rattle.std.proofs.lemmas.List.{get_or_append_left, length-append, take_rest}
+use Rattle.std.proofs.lemmas.List.Sums.{passes_at_first, position_or_len_is, split_at_first}
+use Rattle.std.specs.List.{All, after_first, before_first, onto_first, position, position_or_len}
+use Rattle.std.specs.Option.{option_map}
+use Rattle.script.specs.Grammar.{is_line_feed, is_space, split_lines, split_word}
 use native.Mathlib.Numerals.{unary_clauses}
-use borrow.Author.Tests.{ltb-true, ltb-false}
+use borrow.Author.Tests.{eqb-true, lt-ltb, ltb-true, ltb-false}
 
 -- what the position of the first byte that passes says
 pub first_at : (p : ℕ → Bool) (xs : List ℕ) (i : ℕ)
@@ -34,24 +35,6 @@ no_cut : (x : ℕ) (xs : List ℕ) (parts : List (List ℕ)) (n : ℕ) (b : Bool
     → cond b ([] ∷ parts) (onto_first x parts) ≡ (x ∷ xs) ∷ []
 no_cut x xs parts n true rest h = absurd (omega arith)
 no_cut x xs parts n false rest h = ap (onto_first x) (rest (omega arith))
-
-pub slice_split-none : (p : ℕ → Bool) (xs : List ℕ)
-    → length xs ≤ position_or_len p xs → slice_split p xs ≡ xs ∷ []
-slice_split-none p [] h = refl
-slice_split-none p (x ∷ xs) h =
-    no_cut x xs (slice_split p xs) (position_or_len p xs) (p x) (slice_split-none p xs) h
-
-pub words-none : (p : ℕ → Bool) (xs : List ℕ) → position p xs ≡ None → slice_split p xs ≡ xs ∷ []
-words-none p xs e = slice_split-none p xs (none_at p xs e)
-
--- a part before the first byte that passes, and the parts of what follows
-pub words-found : (p : ℕ → Bool) (xs : List ℕ) (i : ℕ)
-    → position p xs ≡ Some i
-    → slice_split p xs ≡ take i xs ∷ slice_split p (take (length xs - (i + 1)) (drop (i + 1) xs))
-words-found p xs i e =
-    let at = first_at p xs i e in
-    let first = slice_split_first p xs 0 at.1 in
-    rw (take_rest xs (i + 1)) (rw (at.0) at first)
 
 -- the lines of bytes with a line feed
 cut : (x : ℕ) (xs : List ℕ) (n : ℕ) (b : Bool)
@@ -96,23 +79,39 @@ pub lines-none : (xs : List ℕ)
 lines-none [] some e = absurd (omega arith)
 lines-none (x ∷ xs) some e = lines_none x xs (none_at is_line_feed (x ∷ xs) e)
 
--- there is always a part
-fifth : (command first second third : List ℕ) (b : Bool) (x : ℕ) (parts : List (List ℕ))
-    → action_of_words
-    (command ∷ first ∷ second ∷ third ∷ cond b ([] ∷ parts) (onto_first x parts)) ≡ None
-unfolding action_of_words
-fifth command first second third true x parts = refl
-fifth command first second third false x [] = refl
-fifth command first second third false x (part ∷ parts) = refl
+-- ---- the word before the first space
 
-pub no_fifth : (p : ℕ → Bool) (command first second third : List ℕ) (xs : List ℕ)
-    → action_of_words (command ∷ first ∷ second ∷ third ∷ slice_split p xs) ≡ None
-no_fifth p command first second third [] = fifth command first second third true 0 []
-no_fifth p command first second third (x ∷ xs) =
-    fifth command first second third (p x) x (slice_split p xs)
+-- what is cut there is put together again
+split_at : (text : List ℕ) (i : ℕ) → position is_space text ≡ Some i
+    → text ≡ take i text ++ 32 ∷ drop (i + 1) text
+split_at text i e =
+    let at = first_at is_space text i e in
+    let whole = split_at_first is_space text 0 at.1 in
+    let space = eqb-true _ 32 (passes_at_first is_space text 0 at.1) in
+    rw (at.0) at (rw space at whole)
 
--- what holds of a value holds of some value, where there is one
-pub some_with : {A : Type 0} (P : A → Type 0) (o : Option A)
-    → is_some o ≡ true → IfSome o P → (x : A) × P x
-some_with P None some h = absurd cc
-some_with P (Some x) some h = (x, h)
+pub split-parts : (text : List ℕ) (parts : List ℕ × List ℕ) → split_word text ≡ Some parts
+    → text ≡ parts.0 ++ 32 ∷ parts.1
+unfolding split_word
+split-parts text parts e = go (position is_space text) refl e
+  where
+    go : (o : Option ℕ) → position is_space text ≡ o
+        → option_map (λ i. (take i text, drop (i + 1) text)) o ≡ Some parts
+        → text ≡ parts.0 ++ 32 ∷ parts.1
+    go None at e = absurd cc
+    go (Some i) at e =
+        let is : (take i text, drop (i + 1) text) ≡ parts = cc in
+        subst (λ parts. text ≡ parts.0 ++ 32 ∷ parts.1) is (split_at text i at)
+
+-- a word and a text behind one space are cut there
+pub split-there : (word text : List ℕ) → All (λ b. is_space b ≡ false) word
+    → split_word (word ++ 32 ∷ text) ≡ Some (word, text)
+unfolding split_word
+split-there word text h =
+    let sizes = length-append word (32 ∷ text) in
+    let at =
+    position_or_len_is is_space (word ++ 32 ∷ text) (length word) 0 (omega arith)
+    (λ k below. ap is_space (get_or_append_left word (32 ∷ text) 0 k below) ∙ h k 0 below)
+    (λ below. ap is_space (get_or-append_seam word 32 text 0)) in
+    let within : length word < length (word ++ 32 ∷ text) = omega arith in
+    rw (at, lt-ltb _ _ within, take-append_seam, drop-append-add word (32 ∷ text) 1) refl

@@ -62,19 +62,19 @@ unread_by n false false (Some a) e h = absurd cc
 
 -- a line of which an action was read, if any was
 pub said-read : (n : ℕ) (line : List ℕ) (x : Option Action)
-    → Answers (line_answer (n, line)) (Ok x) → said_answer (n, line) ≡ read_as n x
+    → Answers (line_answer [] (n, line)) (Ok x) → said_answer (n, line) ≡ read_as n x
 unfolding action_said change_said is_bad is_no_plan_line line_answer said_answer
 said-read n line x (inl e) =
-    read_by n (ltb LONGEST_LINE (length line)) (is_silent line) (action_of line) x (sym e)
+    read_by n (ltb LONGEST_LINE (length line)) (is_silent line) (action_of [] line) x (sym e)
 said-read n line x (inr e) = absurd cc
 
 -- a line that was refused
 pub said-refused : (n : ℕ) (line : List ℕ) (e : Refusal)
-    → Answers (line_answer (n, line)) (Err e) → Answers (said_answer (n, line)) (Err e)
+    → Answers (line_answer [] (n, line)) (Err e) → Answers (said_answer (n, line)) (Err e)
 unfolding action_said change_said is_bad is_no_plan_line line_answer said_answer
 said-refused n line e (inl h) =
     inl
-    (sym (unread_by n (ltb LONGEST_LINE (length line)) (is_silent line) (action_of line) e (sym h)))
+    (sym (unread_by n (ltb LONGEST_LINE (length line)) (is_silent line) (action_of [] line) e (sym h)))
 said-refused n line e (inr h) = inr cc
 
 -- ---- the rest of a plan

@@ -12,6 +12,7 @@ use Rattle.script.specs.Private.Answers.{line_answer}
 use Rattle.script.specs.Replay.{action_said, answer_of, is_bad, said}
 use Rattle.script.specs.declared.action.Action.{Action}
 use Rattle.script.specs.declared.replay.Line.{Line}
+use Rattle.script.specs.declared.topics.Topic.{Topic}
 
 -- lines that are read already, before an answer to the rest
 abbrev pub after : List Line → Result (List Line) Refusal → Result (List Line) Refusal
@@ -67,51 +68,57 @@ refused_first true line action first found more e h = cc
 refused_first false line action first found more e h = absurd cc
 
 -- a line that is read adds what it says
-pub answer_of-read : (n : ℕ) (text : List ℕ) (rest : List (ℕ × List ℕ)) (x : Option Action)
-    → Answers (line_answer (n, text)) (Ok x)
-    → answer_of ((n, text) ∷ rest) ≡ after (option_to_list (line_saying n x)) (answer_of rest)
+pub answer_of-read : (topics : List Topic) (n : ℕ) (text : List ℕ) (rest : List (ℕ × List ℕ))
+    (x : Option Action)
+    → Answers (line_answer topics (n, text)) (Ok x)
+    → answer_of topics ((n, text) ∷ rest)
+    ≡ after (option_to_list (line_saying n x)) (answer_of topics rest)
 unfolding answer_of line_answer said
-answer_of-read n text rest x (inl e) =
-    read_first (is_bad text) (n, text) (action_said text) _ _ x (sym e)
-answer_of-read n text rest x (inr e) = absurd cc
+answer_of-read topics n text rest x (inl e) =
+    read_first (is_bad topics text) (n, text) (action_said topics text) _ _ x (sym e)
+answer_of-read topics n text rest x (inr e) = absurd cc
 
 -- one that is refused is the answer, unless memory was
-pub answer_of-refused : (n : ℕ) (text : List ℕ) (rest : List (ℕ × List ℕ)) (e : Refusal)
-    → Answers (line_answer (n, text)) (Err e)
-    → (answer_of ((n, text) ∷ rest) ≡ Err e) ⊎ (e ≡ r.Memory)
+pub answer_of-refused : (topics : List Topic) (n : ℕ) (text : List ℕ)
+    (rest : List (ℕ × List ℕ)) (e : Refusal)
+    → Answers (line_answer topics (n, text)) (Err e)
+    → (answer_of topics ((n, text) ∷ rest) ≡ Err e) ⊎ (e ≡ r.Memory)
 unfolding answer_of line_answer
-answer_of-refused n text rest e (inl h) =
-    inl (refused_first (is_bad text) (n, text) (action_said text) (said (n, text)) _ _ e (sym h))
-answer_of-refused n text rest e (inr h) = inr cc
+answer_of-refused topics n text rest e (inl h) =
+    inl
+    (refused_first (is_bad topics text) (n, text) (action_said topics text)
+    (said topics (n, text)) _ _ e (sym h))
+answer_of-refused topics n text rest e (inr h) = inr cc
 
 -- a line before the rest of the bytes
-pub read-more : (lines : List Line) (whole : Result (List Line) Refusal) (n : ℕ)
+pub read-more : (topics : List Topic) (lines : List Line) (whole : Result (List Line) Refusal) (n : ℕ)
     (bytes line rest : List ℕ) (x : Option Action)
     → lines_from n bytes ≡ (n, line) ∷ lines_from (n + 1) rest
-    → after lines (answer_of (lines_from n bytes)) ≡ whole
-    → Answers (line_answer (n, line)) (Ok x)
-    → after (lines ++ option_to_list (line_saying n x)) (answer_of (lines_from (n + 1) rest)) ≡ whole
-read-more lines whole n bytes line rest x first before said =
+    → after lines (answer_of topics (lines_from n bytes)) ≡ whole
+    → Answers (line_answer topics (n, line)) (Ok x)
+    → after (lines ++ option_to_list (line_saying n x)) (answer_of topics (lines_from (n + 1) rest)) ≡ whole
+read-more topics lines whole n bytes line rest x first before said =
     let more = option_to_list (line_saying n x) in
-    sym (after-after lines more (answer_of (lines_from (n + 1) rest)))
+    sym (after-after lines more (answer_of topics (lines_from (n + 1) rest)))
     ∙ ap (after lines)
-    (sym (ap answer_of first ∙ answer_of-read n line (lines_from (n + 1) rest) x said))
+    (sym (ap (answer_of topics) first ∙ answer_of-read topics n line (lines_from (n + 1) rest) x said))
     ∙ before
 
-pub read-refused : (lines : List Line) (whole : Result (List Line) Refusal) (n : ℕ)
+pub read-refused : (topics : List Topic) (lines : List Line) (whole : Result (List Line) Refusal) (n : ℕ)
     (bytes line rest : List ℕ) (e : Refusal)
     → lines_from n bytes ≡ (n, line) ∷ lines_from (n + 1) rest
-    → after lines (answer_of (lines_from n bytes)) ≡ whole
-    → Answers (line_answer (n, line)) (Err e) → Answers whole (Err e)
-read-refused lines whole n bytes line rest e first before refused =
+    → after lines (answer_of topics (lines_from n bytes)) ≡ whole
+    → Answers (line_answer topics (n, line)) (Err e) → Answers whole (Err e)
+read-refused topics lines whole n bytes line rest e first before refused =
     ⊎_elim
-    (λ told. inl (ap (after lines) (sym (ap answer_of first ∙ told)) ∙ before))
+    (λ told. inl (ap (after lines) (sym (ap (answer_of topics) first ∙ told)) ∙ before))
     (λ memory. inr (ap Err memory))
-    (answer_of-refused n line (lines_from (n + 1) rest) e refused)
+    (answer_of-refused topics n line (lines_from (n + 1) rest) e refused)
 
 -- no bytes have no lines
-pub read-all : (lines : List Line) (whole : Result (List Line) Refusal) (n : ℕ) (bytes : List ℕ)
-    → after lines (answer_of (lines_from n bytes)) ≡ whole → length bytes ≡ 0 → Ok lines ≡ whole
+pub read-all : (topics : List Topic) (lines : List Line) (whole : Result (List Line) Refusal)
+    (n : ℕ) (bytes : List ℕ)
+    → after lines (answer_of topics (lines_from n bytes)) ≡ whole → length bytes ≡ 0 → Ok lines ≡ whole
 unfolding answer_of
-read-all lines whole n [] before none = ap Ok (sym (append-nil lines)) ∙ before
-read-all lines whole n (x ∷ xs) before none = absurd (omega arith)
+read-all topics lines whole n [] before none = ap Ok (sym (append-nil lines)) ∙ before
+read-all topics lines whole n (x ∷ xs) before none = absurd (omega arith)

@@ -1,15 +1,14 @@
 -- What is read as an action is written in a form of it.
-use Rattle.std.proofs.Common.{◌≡◌, refl, sym, ap, ◌∙◌, ℕ, Bool, true, false, cond, List, [], ◌∷◌, ◌++◌, take, drop, codes, Option, Some, None}
-use Rattle.std.proofs.lemmas.List.{take-append-drop}
-use Rattle.std.proofs.lemmas.List.Splits.{join_with_byte-slice_split}
+use Rattle.std.proofs.Common.{◌≡◌, refl, ap, subst, ◌∙◌, ℕ, Bool, true, false, cond, List, codes, Option, Some, None}
 use Rattle.std.proofs.lemmas.Slice.Eq.{bytes_eq-Decides}
-use Rattle.std.specs.List.{join_with_byte}
-use Rattle.std.specs.Option.{IfSome, option_and_then, option_map, option_or}
+use Rattle.std.specs.Option.{IfSome, option_and_then, option_map_or, option_or}
 use Rattle.std.specs.Str.{bytes_eq}
 use Rattle.group_machine.specs.Name.{is_name}
-use Rattle.script.specs.Forms.{◌⎵◌, IsNamed, IsNumbered, IsWritten}
-use Rattle.script.specs.Grammar.{action_of, action_of_words, bare_action, key_of, mail_action, member_action, name_of, number_of, poll_action, send_action, single_action, words_of}
-use Rattle.script.specs.declared.action.Action.TheVariants.{Append}
+use Rattle.script.proofs.Parts.{split-parts}
+use Rattle.script.proofs.TopicLemmas.{in-said}
+use Rattle.script.specs.Forms.{◌⎵◌, IsNamed, IsNumbered, IsSaidIn, IsWritten}
+use Rattle.script.specs.Grammar.{action_of, append_action, appended, bare_action, command_action, mail_action, member_action, name_of, number_of, poll_action, send_action, single_action, split_word, topic_said}
+use Rattle.script.specs.declared.topics.Topic.{Topic}
 
 module _ {A : Type 0} (P : A → Type 0) where
   -- what holds of the value of each branch holds of the value
@@ -41,23 +40,12 @@ module _ {A : Type 0} (P : A → Type 0) where
 same : (word text : List ℕ) → bytes_eq word text ≡ true → word ≡ text
 same word text e = (bytes_eq-Decides word text).0 e
 
-key_said : (line : List ℕ) → IfSome (option_map Append (key_of line)) (λ action. IsWritten action line)
-unfolding key_of
-key_said line = at (bytes_eq (take 7 line) (codes "append ")) refl
-  where
-    at : (b : Bool) → bytes_eq (take 7 line) (codes "append ") ≡ b
-        → IfSome (option_map Append (cond b (Some (drop 7 line)) None)) (λ action. IsWritten action line)
-    at true e =
-        sym (take-append-drop 7 line)
-        ∙ ap (λ front. front ++ drop 7 line) (same (take 7 line) (codes "append ") e)
-    at false e = tt
-
-bare_said : (command line : List ℕ) → line ≡ command
-    → IfSome (bare_action command) (λ action. IsWritten action line)
+bare_said : (topics : List Topic) (command line : List ℕ) → line ≡ command
+    → IfSome (bare_action command) (λ action. IsWritten topics action line)
 unfolding bare_action
-bare_said command line e =
-    if_some (λ action. IsWritten action line) _ _ _ (λ t. e ∙ same command (codes "settle") t)
-    (if_some (λ action. IsWritten action line) _ _ _ (λ t. e ∙ same command (codes "drain") t)
+bare_said topics command line e =
+    if_some (λ action. IsWritten topics action line) _ _ _ (λ t. e ∙ same command (codes "settle") t)
+    (if_some (λ action. IsWritten topics action line) _ _ _ (λ t. e ∙ same command (codes "drain") t)
     tt)
 
 named_by : (command text name line : List ℕ) → is_name name ≡ true → line ≡ command ⎵ name
@@ -69,66 +57,113 @@ numbered_by : (command text word : List ℕ) (n : ℕ) (line : List ℕ) → num
 numbered_by command text word n line h e t =
     record { word = word; number = h; line_is = e ∙ ap (λ c. c ⎵ word) (same command text t) }
 
-member_said : (command name line : List ℕ) → is_name name ≡ true → line ≡ command ⎵ name
-    → IfSome (member_action command name) (λ action. IsWritten action line)
+member_said : (topics : List Topic) (command name line : List ℕ) → is_name name ≡ true → line ≡ command ⎵ name
+    → IfSome (member_action command name) (λ action. IsWritten topics action line)
 unfolding member_action
-member_said command name line h e =
-    if_some (λ action. IsWritten action line) _ _ _ (named_by command (codes "join") name line h e)
-    (if_some (λ action. IsWritten action line) _ _ _ (named_by command (codes "rejoin") name line h e)
-    (if_some (λ action. IsWritten action line) _ _ _ (named_by command (codes "sync") name line h e)
-    (if_some (λ action. IsWritten action line) _ _ _ (named_by command (codes "leave") name line h e)
-    (if_some (λ action. IsWritten action line) _ _ _ (named_by command (codes "lose") name line h e)
+member_said topics command name line h e =
+    if_some (λ action. IsWritten topics action line) _ _ _ (named_by command (codes "join") name line h e)
+    (if_some (λ action. IsWritten topics action line) _ _ _ (named_by command (codes "rejoin") name line h e)
+    (if_some (λ action. IsWritten topics action line) _ _ _ (named_by command (codes "sync") name line h e)
+    (if_some (λ action. IsWritten topics action line) _ _ _ (named_by command (codes "leave") name line h e)
+    (if_some (λ action. IsWritten topics action line) _ _ _ (named_by command (codes "lose") name line h e)
     tt))))
 
-mail_said : (command word : List ℕ) (n : ℕ) (line : List ℕ) → number_of word ≡ Some n → line ≡ command ⎵ word
-    → IfSome (mail_action command n) (λ action. IsWritten action line)
+mail_said : (topics : List Topic) (command word : List ℕ) (n : ℕ) (line : List ℕ) → number_of word ≡ Some n → line ≡ command ⎵ word
+    → IfSome (mail_action command n) (λ action. IsWritten topics action line)
 unfolding mail_action
-mail_said command word n line h e =
-    if_some (λ action. IsWritten action line) _ _ _ (numbered_by command (codes "deliver") word n line h e)
-    (if_some (λ action. IsWritten action line) _ _ _ (numbered_by command (codes "unanswered") word n line h e)
+mail_said topics command word n line h e =
+    if_some (λ action. IsWritten topics action line) _ _ _ (numbered_by command (codes "deliver") word n line h e)
+    (if_some (λ action. IsWritten topics action line) _ _ _ (numbered_by command (codes "unanswered") word n line h e)
     tt)
 
-single_said : (command word line : List ℕ) → line ≡ command ⎵ word
-    → IfSome (single_action command word) (λ action. IsWritten action line)
+single_said : (topics : List Topic) (command word line : List ℕ) → line ≡ command ⎵ word
+    → IfSome (single_action command word) (λ action. IsWritten topics action line)
 unfolding single_action
-single_said command word line e =
-    or_some (λ action. IsWritten action line) _ _
-    (then_name (λ action. IsWritten action line) (member_action command) word (λ h. member_said command word line h e))
-    (then_some (λ action. IsWritten action line) (mail_action command) (number_of word) (λ n h. mail_said command word n line h e))
+single_said topics command word line e =
+    or_some (λ action. IsWritten topics action line) _ _
+    (then_name (λ action. IsWritten topics action line) (member_action command) word (λ h. member_said topics command word line h e))
+    (then_some (λ action. IsWritten topics action line) (mail_action command) (number_of word) (λ n h. mail_said topics command word n line h e))
 
-send_said : (name partition line : List ℕ) → line ≡ codes "send" ⎵ name ⎵ partition
-    → IfSome (send_action name partition) (λ action. IsWritten action line)
+-- what is said behind a command
+append_said : (topics : List Topic) (text line : List ℕ) → line ≡ codes "append" ⎵ text
+    → IfSome (append_action topics text) (λ action. IsWritten topics action line)
+unfolding append_action
+append_said topics text line e =
+    then_some (λ action. IsWritten topics action line) _ (topic_said topics text) (λ said h.
+    written_in said.0 said.1 (in-said topics text said h))
+  where
+    written_in : (topic : Option ℕ) (key : List ℕ) → IsSaidIn topics topic key text
+        → IsWritten topics (appended topic key) line
+    written_in None key h = record { text = text; said = h; line_is = e }
+    written_in (Some i) key h = record { text = text; said = h; line_is = e }
+
+send_said : (topics : List Topic) (text line : List ℕ) → line ≡ codes "send" ⎵ text
+    → IfSome (send_action topics text) (λ action. IsWritten topics action line)
 unfolding send_action
-send_said name partition line e =
-    then_name (λ action. IsWritten action line) _ name (λ named.
-    then_some (λ action. IsWritten action line) _ (number_of partition) (λ p h.
-    record { partition = partition; named = named; partition_is = h; line_is = e }))
+send_said topics text line e =
+    then_some (λ action. IsWritten topics action line) _ (split_word text) (λ parts cut.
+    then_name (λ action. IsWritten topics action line) _ parts.0 (λ named.
+    then_some (λ action. IsWritten topics action line) _ (topic_said topics parts.1) (λ said h.
+    then_some (λ action. IsWritten topics action line) _ (number_of said.1) (λ p is.
+    record {
+      topic = said.0;
+      number = p;
+      word = said.1;
+      text = parts.1;
+      named = named;
+      said = in-said topics parts.1 said h;
+      number_is = is;
+      partition_is = refl;
+      line_is = e ∙ ap (λ text. codes "send" ⎵ text) (split-parts text parts cut);
+    }))))
 
-poll_said : (name partition most line : List ℕ) → line ≡ codes "poll" ⎵ name ⎵ partition ⎵ most
-    → IfSome (poll_action name partition most) (λ action. IsWritten action line)
+poll_said : (topics : List Topic) (text line : List ℕ) → line ≡ codes "poll" ⎵ text
+    → IfSome (poll_action topics text) (λ action. IsWritten topics action line)
 unfolding poll_action
-poll_said name partition most line e =
-    then_name (λ action. IsWritten action line) _ name (λ named.
-    then_some (λ action. IsWritten action line) _ (number_of partition) (λ p h.
-    then_some (λ action. IsWritten action line) _ (number_of most) (λ n m.
-    record { partition = partition; most = most; named = named; partition_is = h; most_is = m; line_is = e })))
+poll_said topics text line e =
+    then_some (λ action. IsWritten topics action line) _ (split_word text) (λ parts cut.
+    then_name (λ action. IsWritten topics action line) _ parts.0 (λ named.
+    then_some (λ action. IsWritten topics action line) _ (topic_said topics parts.1) (λ said h.
+    then_some (λ action. IsWritten topics action line) _ (split_word said.1) (λ numbers at.
+    then_some (λ action. IsWritten topics action line) _ (number_of numbers.0) (λ p is.
+    then_some (λ action. IsWritten topics action line) _ (number_of numbers.1) (λ n most.
+    record {
+      topic = said.0;
+      number = p;
+      word = numbers.0;
+      most = numbers.1;
+      text = parts.1;
+      named = named;
+      said =
+          subst (λ rest. IsSaidIn topics said.0 rest parts.1) (split-parts said.1 numbers at)
+          (in-said topics parts.1 said h);
+      number_is = is;
+      partition_is = refl;
+      most_is = most;
+      line_is = e ∙ ap (λ text. codes "poll" ⎵ text) (split-parts text parts cut);
+    }))))))
 
-words_said : (words : List (List ℕ)) (line : List ℕ) → line ≡ join_with_byte 32 words
-    → IfSome (action_of_words words) (λ action. IsWritten action line)
-unfolding action_of_words
-words_said [] line e = tt
-words_said (command ∷ []) line e = bare_said command line e
-words_said (command ∷ argument ∷ []) line e = single_said command argument line e
-words_said (command ∷ first ∷ second ∷ []) line e =
-    if_some (λ action. IsWritten action line) _ _ _
-    (λ t. send_said first second line (e ∙ ap (λ c. c ⎵ first ⎵ second) (same command (codes "send") t))) tt
-words_said (command ∷ first ∷ second ∷ third ∷ []) line e =
-    if_some (λ action. IsWritten action line) _ _ _
-    (λ t. poll_said first second third line (e ∙ ap (λ c. c ⎵ first ⎵ second ⎵ third) (same command (codes "poll") t))) tt
-words_said (command ∷ first ∷ second ∷ third ∷ fourth ∷ more) line e = tt
+command_said : (topics : List Topic) (command text line : List ℕ) → line ≡ command ⎵ text
+    → IfSome (command_action topics command text) (λ action. IsWritten topics action line)
+unfolding command_action
+command_said topics command text line e =
+    if_some (λ action. IsWritten topics action line) _ _ _
+    (λ t. append_said topics text line (e ∙ ap (λ c. c ⎵ text) (same command (codes "append") t)))
+    (if_some (λ action. IsWritten topics action line) _ _ _
+    (λ t. send_said topics text line (e ∙ ap (λ c. c ⎵ text) (same command (codes "send") t)))
+    (if_some (λ action. IsWritten topics action line) _ _ _
+    (λ t. poll_said topics text line (e ∙ ap (λ c. c ⎵ text) (same command (codes "poll") t)))
+    (single_said topics command text line e)))
 
-pub read_is_written : (line : List ℕ) → IfSome (action_of line) (λ action. IsWritten action line)
+pub read_is_written : (topics : List Topic) (line : List ℕ)
+    → IfSome (action_of topics line) (λ action. IsWritten topics action line)
 unfolding action_of
-read_is_written line =
-    or_some (λ action. IsWritten action line) _ _ (key_said line)
-    (words_said (words_of line) line (sym (join_with_byte-slice_split 32 line)))
+read_is_written topics line = go (split_word line) refl
+  where
+    go : (parts : Option (List ℕ × List ℕ)) → split_word line ≡ parts
+        → IfSome
+        (option_map_or (λ parts. command_action topics parts.0 parts.1) parts (bare_action line))
+        (λ action. IsWritten topics action line)
+    go None cut = bare_said topics line line refl
+    go (Some parts) cut =
+        command_said topics parts.0 parts.1 line (split-parts line parts cut)

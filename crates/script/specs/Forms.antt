@@ -1,9 +1,12 @@
 -- The forms of a line that says something, as they are written.
-use Rattle.std.specs.Prelude.{◌≡◌, ℕ, true, List, ◌∷◌, ◌++◌, codes, Some}
+use Rattle.std.specs.Prelude.{◌≡◌, ℕ, true, List, [], ◌∷◌, ◌++◌, codes, Option, Some, None}
+use Rattle.std.specs.List.{slice_get}
 use Rattle.group_machine.specs.Name.{is_name}
 use Rattle.script.specs.Grammar.{number_of}
+use Rattle.script.specs.Topics.{partition_at}
 use Rattle.script.specs.declared.action.Action.{Action}
-use Rattle.script.specs.declared.action.Action.TheVariants.{Append, Join, Rejoin, Sync, Leave, Lose, Poll, Send, Deliver, Unanswered, Settle, Drain}
+use Rattle.script.specs.declared.action.Action.TheVariants.{Append, AppendIn, Join, Rejoin, Sync, Leave, Lose, Poll, Send, Deliver, Unanswered, Settle, Drain}
+use Rattle.script.specs.declared.topics.Topic.{Topic}
 
 -- a word and a text behind one space
 infixr 20 ◌⎵◌
@@ -20,33 +23,61 @@ pub record IsNumbered (command : List ℕ) (n : ℕ) (line : List ℕ) : Type 0 
   pub number : number_of word ≡ Some n
   pub line_is : line ≡ command ⎵ word
 
--- send NAME P
-pub record IsSend (name : List ℕ) (p : ℕ) (line : List ℕ) : Type 0 where
-  pub partition : List ℕ
-  pub named : is_name name ≡ true
-  pub partition_is : number_of partition ≡ Some p
-  pub line_is : line ≡ codes "send" ⎵ name ⎵ partition
+-- TOPIC and what is said in it, where TOPIC is the name of the topic of this index
+pub record IsInTopic (topics : List Topic) (i : ℕ) (said text : List ℕ) : Type 0 where
+  pub topic : Topic
+  pub at : slice_get topics i ≡ Some topic
+  pub text_is : text ≡ topic.name ⎵ said
 
--- poll NAME P N
-pub record IsPoll (name : List ℕ) (p n : ℕ) (line : List ℕ) : Type 0 where
-  pub partition : List ℕ
-  pub most : List ℕ
+-- what is said in a topic; no topic is told where there are none, and only there
+abbrev pub IsSaidIn : List Topic → Option ℕ → List ℕ → List ℕ → Type 0
+IsSaidIn topics None said text = (topics ≡ []) × (text ≡ said)
+IsSaidIn topics (Some i) said text = IsInTopic topics i said text
+
+-- append KEY, append TOPIC KEY
+pub record IsAppend (topics : List Topic) (topic : Option ℕ) (key line : List ℕ) : Type 0 where
+  pub text : List ℕ
+  pub said : IsSaidIn topics topic key text
+  pub line_is : line ≡ codes "append" ⎵ text
+
+-- send NAME P, send NAME TOPIC P
+pub record IsSend (topics : List Topic) (name : List ℕ) (p : ℕ) (line : List ℕ) : Type 0 where
+  pub topic : Option ℕ
+  pub number : ℕ
+  pub word : List ℕ
+  pub text : List ℕ
   pub named : is_name name ≡ true
-  pub partition_is : number_of partition ≡ Some p
+  pub said : IsSaidIn topics topic word text
+  pub number_is : number_of word ≡ Some number
+  pub partition_is : p ≡ partition_at topics topic number
+  pub line_is : line ≡ codes "send" ⎵ name ⎵ text
+
+-- poll NAME P N, poll NAME TOPIC P N
+pub record IsPoll (topics : List Topic) (name : List ℕ) (p n : ℕ) (line : List ℕ) : Type 0 where
+  pub topic : Option ℕ
+  pub number : ℕ
+  pub word : List ℕ
+  pub most : List ℕ
+  pub text : List ℕ
+  pub named : is_name name ≡ true
+  pub said : IsSaidIn topics topic (word ⎵ most) text
+  pub number_is : number_of word ≡ Some number
+  pub partition_is : p ≡ partition_at topics topic number
   pub most_is : number_of most ≡ Some n
-  pub line_is : line ≡ codes "poll" ⎵ name ⎵ partition ⎵ most
+  pub line_is : line ≡ codes "poll" ⎵ name ⎵ text
 
 -- the line is a form of the action
-abbrev pub IsWritten : Action → List ℕ → Type 0
-IsWritten (Append key) line = line ≡ codes "append" ⎵ key
-IsWritten (Join name) line = IsNamed (codes "join") name line
-IsWritten (Rejoin name) line = IsNamed (codes "rejoin") name line
-IsWritten (Sync name) line = IsNamed (codes "sync") name line
-IsWritten (Leave name) line = IsNamed (codes "leave") name line
-IsWritten (Lose name) line = IsNamed (codes "lose") name line
-IsWritten (Poll name p n) line = IsPoll name p n line
-IsWritten (Send name p) line = IsSend name p line
-IsWritten (Deliver k) line = IsNumbered (codes "deliver") k line
-IsWritten (Unanswered k) line = IsNumbered (codes "unanswered") k line
-IsWritten Settle line = line ≡ codes "settle"
-IsWritten Drain line = line ≡ codes "drain"
+abbrev pub IsWritten : List Topic → Action → List ℕ → Type 0
+IsWritten topics (Append key) line = IsAppend topics None key line
+IsWritten topics (AppendIn i key) line = IsAppend topics (Some i) key line
+IsWritten topics (Join name) line = IsNamed (codes "join") name line
+IsWritten topics (Rejoin name) line = IsNamed (codes "rejoin") name line
+IsWritten topics (Sync name) line = IsNamed (codes "sync") name line
+IsWritten topics (Leave name) line = IsNamed (codes "leave") name line
+IsWritten topics (Lose name) line = IsNamed (codes "lose") name line
+IsWritten topics (Poll name p n) line = IsPoll topics name p n line
+IsWritten topics (Send name p) line = IsSend topics name p line
+IsWritten topics (Deliver k) line = IsNumbered (codes "deliver") k line
+IsWritten topics (Unanswered k) line = IsNumbered (codes "unanswered") k line
+IsWritten topics Settle line = line ≡ codes "settle"
+IsWritten topics Drain line = line ≡ codes "drain"

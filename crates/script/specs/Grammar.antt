@@ -1,15 +1,17 @@
 -- The grammar of a script: its lines, and what a line can say.
-use Rattle.std.specs.Prelude.{ℕ, ◌^◌, ◌==◌, ◌&&◌, nat_le, nat_lt, Bool, if◌then◌else◌, List, [], ◌∷◌, length, take, drop, map, codes, Option, Some, None}
+use Rattle.std.specs.Prelude.{ℕ, ◌+◌, ◌^◌, ◌==◌, ◌&&◌, nat_le, nat_lt, Bool, if◌then◌else◌, List, [], ◌∷◌, length, take, drop, map, codes, Option, Some, None}
 use Rattle.std.specs.Char.{is_ascii_digit}
-use Rattle.std.specs.List.{enumerate_from, list_all, onto_first, slice_split}
-use Rattle.std.specs.Option.{option_and_then, option_map, option_or}
+use Rattle.std.specs.List.{enumerate_from, list_all, onto_first, position}
+use Rattle.std.specs.Option.{option_and_then, option_map, option_map_or, option_or}
 use Rattle.std.specs.Str.{bytes_eq}
 use Rattle.std.specs.Str.Lines.{strip_carriage_return}
 use Rattle.std.specs.Str.Parse.{digits_value}
 use Rattle.group_machine.specs.Name.{is_name}
 use Rattle.script.specs.declared.action.Action.{Action}
-use Rattle.script.specs.declared.action.Action.TheVariants.{Append, Join, Rejoin, Sync, Leave, Lose, Poll, Send, Deliver, Unanswered, Settle, Drain}
+use Rattle.script.specs.declared.action.Action.TheVariants.{Append, AppendIn, Join, Rejoin, Sync, Leave, Lose, Poll, Send, Deliver, Unanswered, Settle, Drain}
+use Rattle.script.specs.Topics.{partition_at, topic_named}
 use Rattle.script.specs.declared.limits.TheConstants.{MOST_DIGITS}
+use Rattle.script.specs.declared.topics.Topic.{Topic}
 
 infixl 10 ◌>>=◌
 abbrev pub ◌>>=◌ : {A B : Type 0} → Option A → (A → Option B) → Option B
@@ -31,10 +33,9 @@ split_lines (byte ∷ bytes) =
 abbrev pub lines_from : ℕ → List ℕ → List (ℕ × List ℕ)
 lines_from first bytes = enumerate_from first (map strip_carriage_return (split_lines bytes))
 
--- The words of a line, which one space parts. So a word without bytes stands before a space in
--- front, between two spaces and behind a space at the end, and no form has such a word.
-abbrev pub words_of : List ℕ → List (List ℕ)
-words_of line = slice_split is_space line
+-- the word before the first space, and every byte behind that space
+unfoldable pub split_word : List ℕ → Option (List ℕ × List ℕ)
+split_word text = option_map (λ i. (take i text, drop (i + 1) text)) (position is_space text)
 
 -- 1 to 10 decimal digits, and a value of 32 bits; there may be zeros in front
 abbrev pub is_number : List ℕ → Bool
@@ -50,9 +51,27 @@ number_of word = if is_number word then Some (digits_value 10 word) else None
 unfoldable pub name_of : List ℕ → Option (List ℕ)
 name_of word = if is_name word then Some word else None
 
--- append KEY, where the key is every byte after the first space
-unfoldable pub key_of : List ℕ → Option (List ℕ)
-key_of line = if bytes_eq (take 7 line) (codes "append ") then Some (drop 7 line) else None
+-- TOPIC and what is said in it: the index of the topic of this name, and the text behind it
+unfoldable pub topic_before : List Topic → List ℕ → Option (Option ℕ × List ℕ)
+topic_before topics text = do
+  parts ← split_word text
+  topic ← topic_named topics parts.0
+  Some (Some topic, parts.1)
+
+-- with topics, the name of one stands before what is said in it; without any, no topic is told
+unfoldable pub topic_said : List Topic → List ℕ → Option (Option ℕ × List ℕ)
+topic_said topics text =
+    if length topics == 0 then Some (None, text) else topic_before topics text
+
+abbrev pub appended : Option ℕ → List ℕ → Action
+appended None key = Append key
+appended (Some topic) key = AppendIn topic key
+
+-- append KEY, and with topics append TOPIC KEY: the key is every byte that is left
+unfoldable pub append_action : List Topic → List ℕ → Option Action
+append_action topics text = do
+  said ← topic_said topics text
+  Some (appended said.0 said.1)
 
 -- settle, drain
 unfoldable pub bare_action : List ℕ → Option Action
@@ -78,20 +97,25 @@ mail_action command commit =
     else if bytes_eq command (codes "unanswered") then Some (Unanswered commit)
     else None
 
--- send NAME P
-unfoldable pub send_action : List ℕ → List ℕ → Option Action
-send_action name partition = do
-  name ← name_of name
-  partition ← number_of partition
-  Some (Send name partition)
+-- send NAME P, and with topics send NAME TOPIC P
+unfoldable pub send_action : List Topic → List ℕ → Option Action
+send_action topics text = do
+  parts ← split_word text
+  name ← name_of parts.0
+  said ← topic_said topics parts.1
+  p ← number_of said.1
+  Some (Send name (partition_at topics said.0 p))
 
--- poll NAME P N
-unfoldable pub poll_action : List ℕ → List ℕ → List ℕ → Option Action
-poll_action name partition most = do
-  name ← name_of name
-  partition ← number_of partition
-  most ← number_of most
-  Some (Poll name partition most)
+-- poll NAME P N, and with topics poll NAME TOPIC P N
+unfoldable pub poll_action : List Topic → List ℕ → Option Action
+poll_action topics text = do
+  parts ← split_word text
+  name ← name_of parts.0
+  said ← topic_said topics parts.1
+  numbers ← split_word said.1
+  p ← number_of numbers.0
+  most ← number_of numbers.1
+  Some (Poll name (partition_at topics said.0 p) most)
 
 -- a command with one argument: a name or a number
 unfoldable pub single_action : List ℕ → List ℕ → Option Action
@@ -100,17 +124,18 @@ single_action command argument =
     (option_and_then (member_action command) (name_of argument))
     (option_and_then (mail_action command) (number_of argument))
 
--- a command with its arguments
-unfoldable pub action_of_words : List (List ℕ) → Option Action
-action_of_words [] = None
-action_of_words (command ∷ []) = bare_action command
-action_of_words (command ∷ argument ∷ []) = single_action command argument
-action_of_words (command ∷ first ∷ second ∷ []) =
-    if bytes_eq command (codes "send") then send_action first second else None
-action_of_words (command ∷ first ∷ second ∷ third ∷ []) =
-    if bytes_eq command (codes "poll") then poll_action first second third else None
-action_of_words (command ∷ first ∷ second ∷ third ∷ fourth ∷ more) = None
+-- a command with what stands behind it
+unfoldable pub command_action : List Topic → List ℕ → List ℕ → Option Action
+command_action topics command text =
+    if bytes_eq command (codes "append") then append_action topics text
+    else if bytes_eq command (codes "send") then send_action topics text
+    else if bytes_eq command (codes "poll") then poll_action topics text
+    else single_action command text
 
 -- what a line says, if it is of the grammar
-unfoldable pub action_of : List ℕ → Option Action
-action_of line = option_or (option_map Append (key_of line)) (action_of_words (words_of line))
+unfoldable pub action_of : List Topic → List ℕ → Option Action
+action_of topics line =
+    option_map_or
+    (λ parts. command_action topics parts.0 parts.1)
+    (split_word line)
+    (bare_action line)

@@ -3,3 +3,4 @@ pub mod Grammar
 pub mod Plan
 pub mod Private
 pub mod Replay
+pub mod Topics

@@ -69,9 +69,9 @@ change_of (a.Leave name) = Some (Leave name)
 change_of (a.Lose name) = Some (Lose name)
 change_of action = None
 
--- the change that a line says
+-- the change that a line says, without topics
 unfoldable pub change_said : List ℕ → Option Change
-change_said line = action_said line >>= change_of
+change_said line = action_said [] line >>= change_of
 
 -- a line that is too long, be it a comment, or that is neither silent nor says a change
 unfoldable pub is_no_plan_line : List ℕ → Bool

@@ -1,5 +1,5 @@
 -- What a script is read as.
-use Rattle.std.specs.Prelude.{ℕ, ◌==◌, ◌&&◌, ◌||◌, not, nat_lt, Bool, if◌then◌else◌, List, length, slice_index, Option, None, Result, Ok, Err, Vec}
+use Rattle.std.specs.Prelude.{ℕ, ◌==◌, ◌&&◌, ◌||◌, not, nat_lt, Bool, if◌then◌else◌, List, [], length, slice_index, Option, None, Result, Ok, Err, Vec}
 use Rattle.std.specs.Global.{Global}
 use Rattle.std.specs.List.{filter_map, find}
 use Rattle.std.specs.Option.{is_none, option_map, option_map_or}
@@ -10,36 +10,41 @@ use Rattle.script.specs.Grammar.{action_of, lines_from}
 use Rattle.script.specs.declared.action.Action.{Action}
 use Rattle.script.specs.declared.limits.TheConstants.{LONGEST_LINE}
 use Rattle.script.specs.declared.replay.Line.{Line}
+use Rattle.script.specs.declared.topics.Topic.{Topic}
 
 -- an empty line, and a comment, which begins with '#'
 abbrev pub is_silent : List ℕ → Bool
 is_silent line = (length line == 0) || (slice_index line 0 == 35)
 
 -- a line that is too long, be it a comment, or that is neither silent nor says an action
-unfoldable pub is_bad : List ℕ → Bool
-is_bad line =
-    nat_lt LONGEST_LINE (length line) || (not (is_silent line) && is_none (action_of line))
+unfoldable pub is_bad : List Topic → List ℕ → Bool
+is_bad topics line =
+    nat_lt LONGEST_LINE (length line) || (not (is_silent line) && is_none (action_of topics line))
 
 -- what a line says, if it is not silent
-unfoldable pub action_said : List ℕ → Option Action
-action_said line = if is_silent line then None else action_of line
+unfoldable pub action_said : List Topic → List ℕ → Option Action
+action_said topics line = if is_silent line then None else action_of topics line
 
 -- what a line says, beside its number
-unfoldable pub said : ℕ × List ℕ → Option Line
-said (number, line) =
-    option_map (λ action. record { number = number; action = action }) (action_said line)
+unfoldable pub said : List Topic → ℕ × List ℕ → Option Line
+said topics (number, line) =
+    option_map (λ action. record { number = number; action = action }) (action_said topics line)
 
 -- the first bad line is told, and where none is bad, what the lines say
-unfoldable pub answer_of : List (ℕ × List ℕ) → Result (List Line) Refusal
-answer_of lines =
+unfoldable pub answer_of : List Topic → List (ℕ × List ℕ) → Result (List Line) Refusal
+answer_of topics lines =
     option_map_or
     (λ bad. Err (r.BadLine bad.0))
-    (find (λ line. is_bad line.1) lines)
-    (Ok (filter_map said lines))
+    (find (λ line. is_bad topics line.1) lines)
+    (Ok (filter_map (said topics) lines))
 
 -- the lines of a script are numbered from 1
+abbrev pub read_answer_in : List Topic → List ℕ → Result (List Line) Refusal
+read_answer_in topics bytes = answer_of topics (lines_from 1 bytes)
+
+-- a script without topics
 abbrev pub read_answer : List ℕ → Result (List Line) Refusal
-read_answer bytes = answer_of (lines_from 1 bytes)
+read_answer bytes = read_answer_in [] bytes
 
 -- an answer as a list of lines
 abbrev pub lines_seen : Result (Vec Line Global) Refusal → Result (List Line) Refusal

@@ -1,8 +1,10 @@
 //! What a line can say.
 
 ghost use Rattle.std.specs.Prelude.{◌≡◌, Some, IfOk};
-ghost use Rattle.script.specs.Grammar.{action_of, action_of_words, bare_action, mail_action, member_action, poll_action, send_action, single_action, words_of};
+ghost use Rattle.script.specs.Grammar.{action_of, append_action, bare_action, command_action, mail_action, member_action, poll_action, send_action, single_action};
+ghost use Rattle.script.specs.Topics.{MayBeTopics};
 
+use crate::topics::{self, Topic};
 use crate::words;
 use group_machine::Name;
 use lane_words::Memory;
@@ -52,6 +54,11 @@ impl Key {
 pub enum Action {
     /// A record with this key is appended.
     Append(Key),
+    /// A record with this key is appended in the topic of this index.
+    AppendIn {
+        topic: u32,
+        key: Key,
+    },
     /// A member of this name joins.
     Join(Name),
     /// The member joins the rebalance.
@@ -83,43 +90,53 @@ pub enum Action {
     Drain,
 }
 
-/// What a line says, if it is of the grammar.
-#[tactic(auto, unfolding(crate::specs::Grammar::action_of, crate::specs::Grammar::key_of))]
-pub fn action_of(alloc: Global, line: &[u8]) -> Result<Option<Action>, Memory>
-    ensures { IfOk result (λ action. action ≡ action_of line.now) }
+/// What a line says among topics, or without any, if it is of the grammar.
+#[tactic(auto, unfolding(crate::specs::Grammar::action_of))]
+pub fn action_of(alloc: Global, topics: &[Topic], line: &[u8]) -> Result<Option<Action>, Memory>
+    requires { MayBeTopics topics.now }
+    ensures { IfOk result (λ action. action ≡ action_of topics.now line.now) }
 {
-    if let Some(key) = line.strip_prefix(b"append ".as_slice()) {
-        let key = Key::new(key.to_vec(alloc)?);
-        return Ok(Some(Action::Append(key)));
+    match words::split_word(line) {
+        Some((command, text)) => command_action(alloc, topics, command, text),
+        None => Ok(bare_action(line)),
     }
-    Ok(action_of_words(line))
 }
 
-/// What the words of a line say that is no `append`.
-#[tactic(auto, unfolding(crate::specs::Grammar::action_of_words))]
-fn action_of_words(line: &[u8]) -> Option<Action>
-    ensures { result ≡ action_of_words (words_of line.now) }
+/// A command with what stands behind it.
+#[tactic(auto, unfolding(crate::specs::Grammar::command_action))]
+fn command_action(
+    alloc: Global,
+    topics: &[Topic],
+    command: &[u8],
+    text: &[u8],
+) -> Result<Option<Action>, Memory>
+    requires { MayBeTopics topics.now }
+    ensures { IfOk result (λ action. action ≡ command_action topics.now command.now text.now) }
 {
-    let Some((command, rest)) = words::split_word(line) else {
-        return bare_action(line);
-    };
-    let Some((first, rest)) = words::split_word(rest) else {
-        return single_action(command, rest);
-    };
-    let Some((second, rest)) = words::split_word(rest) else {
-        return if command == b"send".as_slice() {
-            send_action(first, rest)
-        } else {
-            None
-        };
-    };
-    if words::split_word(rest).is_some() {
-        return None;
-    }
-    if command == b"poll".as_slice() {
-        poll_action(first, second, rest)
+    if command == b"append".as_slice() {
+        append_action(alloc, topics, text)
+    } else if command == b"send".as_slice() {
+        Ok(send_action(topics, text))
+    } else if command == b"poll".as_slice() {
+        Ok(poll_action(topics, text))
     } else {
-        None
+        Ok(single_action(command, text))
+    }
+}
+
+/// `append KEY`, and with topics `append TOPIC KEY`.
+#[tactic(auto, unfolding(crate::specs::Grammar::append_action))]
+fn append_action(alloc: Global, topics: &[Topic], text: &[u8]) -> Result<Option<Action>, Memory>
+    requires { MayBeTopics topics.now }
+    ensures { IfOk result (λ action. action ≡ append_action topics.now text.now) }
+{
+    let Some((topic, key)) = topics::topic_said(topics, text) else {
+        return Ok(None);
+    };
+    let key = Key::new(key.to_vec(alloc)?);
+    match topic {
+        Some(topic) => Ok(Some(Action::AppendIn { topic, key })),
+        None => Ok(Some(Action::Append(key))),
     }
 }
 
@@ -184,23 +201,30 @@ fn mail_action(command: &[u8], commit: u32) -> Option<Action>
     }
 }
 
-/// `send NAME P`.
+/// `send NAME P`, and with topics `send NAME TOPIC P`.
 #[tactic(auto, unfolding(crate::specs::Grammar::send_action, crate::specs::Grammar::name_of))]
-fn send_action(name: &[u8], partition: &[u8]) -> Option<Action>
-    ensures { result ≡ send_action name.now partition.now }
+fn send_action(topics: &[Topic], text: &[u8]) -> Option<Action>
+    requires { MayBeTopics topics.now }
+    ensures { result ≡ send_action topics.now text.now }
 {
+    let (name, rest) = words::split_word(text)?;
     let name = Name::new(name)?;
-    let partition = words::number_of(partition)?;
+    let (topic, number) = topics::topic_said(topics, rest)?;
+    let partition = topics::partition_at(topics, topic, words::number_of(number)?);
     Some(Action::Send { name, partition })
 }
 
-/// `poll NAME P N`.
+/// `poll NAME P N`, and with topics `poll NAME TOPIC P N`.
 #[tactic(auto, unfolding(crate::specs::Grammar::poll_action, crate::specs::Grammar::name_of))]
-fn poll_action(name: &[u8], partition: &[u8], most: &[u8]) -> Option<Action>
-    ensures { result ≡ poll_action name.now partition.now most.now }
+fn poll_action(topics: &[Topic], text: &[u8]) -> Option<Action>
+    requires { MayBeTopics topics.now }
+    ensures { result ≡ poll_action topics.now text.now }
 {
+    let (name, rest) = words::split_word(text)?;
     let name = Name::new(name)?;
-    let partition = words::number_of(partition)?;
+    let (topic, rest) = topics::topic_said(topics, rest)?;
+    let (number, most) = words::split_word(rest)?;
+    let partition = topics::partition_at(topics, topic, words::number_of(number)?);
     let most = words::number_of(most)?;
     Some(Action::Poll {
         name,

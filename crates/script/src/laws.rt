@@ -5,18 +5,22 @@ ghost use Rattle.lane_words.specs.declared.limits.TheConstants.{MOST_MEMBERS};
 ghost use Rattle.script.specs.Forms.{IsWritten};
 ghost use Rattle.script.specs.Grammar.{action_of};
 ghost use Rattle.script.specs.Plan.{IsPlan};
+ghost use Rattle.script.specs.Topics.{MayBeTopics};
 ghost use Rattle.script.specs.declared.action.Action.{Action};
 ghost use Rattle.script.specs.declared.plan.Change.{Change};
+ghost use Rattle.script.specs.declared.topics.Topic.{Topic};
 
-/// A line in a form of an action says this action.
+/// A line in a form of an action says this action, with topics and without.
 pub fn forms_are_read()
-    ensures { (action : Action) (line : List ℕ) → IsWritten action line
-        → action_of line ≡ Some action }
+    ensures { (topics : List Topic) (action : Action) (line : List ℕ) → MayBeTopics topics
+        → IsWritten topics action line → action_of topics line ≡ Some action }
 {}
 
-/// What is read of a line is written in one of its forms: the grammar has no other lines.
+/// What is read of a line is written in one of its forms: the grammar has no other lines, with
+/// topics and without.
 pub fn no_others_are_read()
-    ensures { (line : List ℕ) → IfSome (action_of line) (λ action. IsWritten action line) }
+    ensures { (topics : List Topic) (line : List ℕ)
+        → IfSome (action_of topics line) (λ action. IsWritten topics action line) }
 {}
 
 /// A plan has fewer lines than two for each member there may be: each line is a join, or a leave

@@ -5,9 +5,11 @@ ghost use Rattle.std.specs.Str.Lines.{strip_carriage_return};
 ghost use Rattle.lane_words.specs.Answers.{Answers};
 ghost use Rattle.script.specs.Grammar.{lines_from, split_lines};
 ghost use Rattle.script.specs.Private.Answers.{line_answer};
+ghost use Rattle.script.specs.Topics.{MayBeTopics};
 
 use crate::action::{self, Action};
 use crate::limits::LONGEST_LINE;
+use crate::topics::Topic;
 use crate::words;
 use lane_words::Refusal;
 use std::alloc::Global;
@@ -45,11 +47,17 @@ fn without_carriage_return(line: &[u8]) -> &[u8]
     }
 }
 
-/// What the line of this number says, if it says something. A line that is not of the grammar is
-/// refused with `BadLine`.
+/// What the line of this number says among these topics, if it says something. A line that is not
+/// of the grammar is refused with `BadLine`.
 #[tactic(auto, unfolding(crate::specs::Private::Answers::line_answer, crate::specs::Replay::is_bad, crate::specs::Replay::action_said))]
-pub fn action_said(alloc: Global, number: u64, line: &[u8]) -> Result<Option<Action>, Refusal>
-    ensures { Answers (line_answer (number, line.now)) result }
+pub fn action_said(
+    alloc: Global,
+    topics: &[Topic],
+    number: u64,
+    line: &[u8],
+) -> Result<Option<Action>, Refusal>
+    requires { MayBeTopics topics.now }
+    ensures { Answers (line_answer topics.now (number, line.now)) result }
 {
     if line.len() > LONGEST_LINE {
         return Err(Refusal::BadLine { line: number });
@@ -57,7 +65,7 @@ pub fn action_said(alloc: Global, number: u64, line: &[u8]) -> Result<Option<Act
     if line.is_empty() || line[0] == b'#' {
         return Ok(None);
     }
-    let Some(action) = action::action_of(alloc, line)? else {
+    let Some(action) = action::action_of(alloc, topics, line)? else {
         return Err(Refusal::BadLine { line: number });
     };
     Ok(Some(action))

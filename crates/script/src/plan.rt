@@ -156,7 +156,7 @@ pub fn read_plan(alloc: Global, bytes: &[u8]) -> Result<Plan, Refusal>
 fn change_said(alloc: Global, number: u64, line: &[u8]) -> Result<Option<Change>, Refusal>
     ensures { Answers (said_answer (number, line.now)) result }
 {
-    let Some(action) = lines::action_said(alloc, number, line)? else {
+    let Some(action) = lines::action_said(alloc, &[], number, line)? else {
         return Ok(None);
     };
     let Some(change) = change_of(&action) else {

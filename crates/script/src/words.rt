@@ -1,17 +1,18 @@
 //! Words, which one space parts, and numbers.
 
-ghost use Rattle.std.specs.Prelude.{◌≡◌, ◌==◌, [], ◌∷◌, IfSome, IfNone};
+ghost use Rattle.std.specs.Prelude.{◌≡◌, ◌==◌, IfSome, IfNone};
 ghost use Rattle.std.specs.Char.{is_ascii_digit};
 ghost use Rattle.std.specs.List.{list_all, position};
-ghost use Rattle.script.specs.Grammar.{number_of, words_of};
+ghost use Rattle.script.specs.Grammar.{number_of, split_word};
 
 use crate::limits::MOST_DIGITS;
 
-/// The word before the first space, and the text behind it.
+/// The word before the first space, and every byte behind that space.
+#[tactic(auto, unfolding(crate::specs::Grammar::split_word))]
 pub fn split_word(text: &[u8]) -> Option<(&[u8], &[u8])>
     ensures found { IfSome result
-        (λ parts. words_of text.now ≡ parts.0.now ∷ words_of parts.1.now) }
-    ensures none { IfNone result (words_of text.now ≡ text.now ∷ []) }
+        (λ parts. split_word text.now ≡ Some (parts.0.now, parts.1.now)) }
+    ensures none { IfNone result (split_word text.now ≡ None) }
 {
     match first_index(text, b' ') {
         Some(end) => Some((&text[..end], &text[end + 1..])),

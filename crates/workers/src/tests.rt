@@ -18,13 +18,22 @@ use std::thread::Threads;
 /// The five records that most rows are over.
 const FIVE: [&[u8]; 5] = [b"21", b"4", b"foobar", b"abc", b"21"];
 
+// Who owns logs, a plan or an outcome makes few calls: each `?` and each assertion is proved with
+// all that lets go what is owned there.
+
 /// Logs of four partitions with the five records.
 fn five_logs(rt: &impl RandomSource, alloc: Global) -> Result<SealedLogs, Refusal> {
     let mut logs = Logs::new(rt, alloc, 4)?;
-    for key in FIVE {
+    append_five(&mut logs)?;
+    Ok(logs.seal())
+}
+
+/// Appends the five records.
+fn append_five(logs: &mut Logs) -> Result<(), Refusal> {
+    for key in &FIVE {
         logs.append(key)?;
     }
-    Ok(logs.seal())
+    Ok(())
 }
 
 /// Always lets commit.
@@ -114,8 +123,8 @@ fn ran<R: Threads + Wait + RandomSource + Sync, G: Gate + Sync>(
 ) -> Result<Outcome, Refusal>
     requires { 1 ≤ batch }
 {
-    let logs = five_logs(rt, alloc)?;
     let plan = read_plan(alloc, script)?;
+    let logs = five_logs(rt, alloc)?;
     run_cluster(rt, alloc, &logs, &plan, batch, gate)
 }
 
@@ -140,10 +149,22 @@ fn is_two_members(outcome: &Outcome) -> bool {
         && outcome.cluster().moves() == two_members_moves().as_slice()
 }
 
+/// Whether the plan of two joins comes to that.
+fn two_join<R: Threads + Wait + RandomSource + Sync, G: Gate + Sync>(
+    rt: &R,
+    alloc: Global,
+    batch: u32,
+    gate: &G,
+) -> Result<bool, Refusal>
+    requires { 1 ≤ batch }
+{
+    Ok(is_two_members(&ran(rt, alloc, TWO_JOINS, batch, gate)?))
+}
+
 #[test]
 fn two_members(rt: HostRuntime) -> Result<(), Fail> {
-    assert!(rt; is_two_members(&ran(&rt, rt.alloc(), TWO_JOINS, 1, &Open)?));
-    assert!(rt; is_two_members(&ran(&rt, rt.alloc(), TWO_JOINS, 500, &Open)?));
+    assert_eq!(rt; two_join(&rt, rt.alloc(), 1, &Open), Ok(true));
+    assert_eq!(rt; two_join(&rt, rt.alloc(), 500, &Open), Ok(true));
     Ok(())
 }
 
@@ -156,12 +177,25 @@ fn is_one_left(outcome: &Outcome) -> bool {
         && moves.len() == 8
 }
 
+/// Whether a plan comes to that.
+fn leaves_one<R: Threads + Wait + RandomSource + Sync>(
+    rt: &R,
+    alloc: Global,
+    script: &[u8],
+    batch: u32,
+) -> Result<bool, Refusal>
+    requires { 1 ≤ batch }
+{
+    Ok(is_one_left(&ran(rt, alloc, script, batch, &Open)?))
+}
+
 #[test]
 fn one_leaves(rt: HostRuntime) -> Result<(), Fail> {
     let leave = b"join A\njoin B\nleave A\n";
-    assert!(rt; is_one_left(&ran(&rt, rt.alloc(), leave, 1, &Open)?));
-    assert!(rt; is_one_left(&ran(&rt, rt.alloc(), leave, 500, &Open)?));
-    assert!(rt; is_one_left(&ran(&rt, rt.alloc(), b"join A\njoin B\nlose A\n", 1, &Open)?));
+    assert_eq!(rt; leaves_one(&rt, rt.alloc(), leave, 1), Ok(true));
+    assert_eq!(rt; leaves_one(&rt, rt.alloc(), leave, 500), Ok(true));
+    let lose = b"join A\njoin B\nlose A\n";
+    assert_eq!(rt; leaves_one(&rt, rt.alloc(), lose, 1), Ok(true));
     Ok(())
 }
 
@@ -234,7 +268,7 @@ fn other_worker_held(rt: HostRuntime) -> Result<(), Fail> {
         first: Side::new(),
         second: Side::new(),
     };
-    assert!(rt; is_two_members(&ran(&rt, rt.alloc(), TWO_JOINS, 500, &gate)?));
+    assert_eq!(rt; two_join(&rt, rt.alloc(), 500, &gate), Ok(true));
     assert!(rt; gate.first.is_up() && gate.second.is_up());
     Ok(())
 }
@@ -260,15 +294,32 @@ fn a_gate_that_stops(rt: HostRuntime) -> Result<(), Fail> {
 fn a_gate_that_holds_back(rt: HostRuntime) -> Result<(), Fail> {
     for first in 0..51 {
         let gate = Counting::new(first, NotNow, Go);
-        assert!(rt; is_two_members(&ran(&rt, rt.alloc(), TWO_JOINS, 500, &gate)?));
+        assert_eq!(rt; two_join(&rt, rt.alloc(), 500, &gate), Ok(true));
     }
     Ok(())
 }
 
 /// The plan of two joins, of which nothing was applied.
 fn planned(rt: &impl RandomSource, alloc: Global) -> Result<Planned, Refusal> {
-    let logs = five_logs(rt, alloc)?.copy(rt, alloc)?;
-    Ok(Planned::new(alloc, logs, read_plan(alloc, TWO_JOINS)?)?)
+    let plan = read_plan(alloc, TWO_JOINS)?;
+    let logs = five_copied(rt, alloc)?;
+    Ok(Planned::new(alloc, logs, plan)?)
+}
+
+/// A copy of the logs with the five records.
+fn five_copied(rt: &impl RandomSource, alloc: Global) -> Result<Logs, Refusal> {
+    Ok(five_logs(rt, alloc)?.copy(rt, alloc)?)
+}
+
+/// A call on a plan that is carried out, or what is told of it.
+#[derive(Clone, Copy)]
+enum Step {
+    /// As many lines as can be applied are these.
+    Advance(u32),
+    /// A member syncs and rejoins.
+    Rejoin(u32),
+    /// The group is settled in this generation, and so many lines are applied.
+    Settled(u32, u32),
 }
 
 /// Whether as many lines as can be applied are these.
@@ -292,16 +343,52 @@ fn is_settled_in(planned: &Planned, generation: u32) -> bool {
     planned.cluster().is_settled() && planned.cluster().generation() == generation
 }
 
+/// Whether a step goes as it says.
+fn goes(planned: &mut Planned, step: Step) -> Result<bool, Refusal> {
+    match step {
+        Step::Advance(lines) => advances_by(planned, lines),
+        Step::Rejoin(member) => {
+            rejoin(planned, member)?;
+            Ok(true)
+        }
+        Step::Settled(generation, lines) => {
+            Ok(is_settled_in(planned, generation) && planned.applied() == lines)
+        }
+    }
+}
+
+/// The first step that does not go as it says.
+fn first_other(planned: &mut Planned, steps: &[Step]) -> Result<Option<usize>, Refusal> {
+    for (index, step) in steps.iter().enumerate() {
+        if !goes(planned, *step)? {
+            return Ok(Some(index));
+        }
+    }
+    Ok(None)
+}
+
+/// The first step of a plan of two joins that does not go as it says.
+fn first_other_of_two(
+    rt: &impl RandomSource,
+    alloc: Global,
+    steps: &[Step],
+) -> Result<Option<usize>, Refusal> {
+    let mut planned = planned(rt, alloc)?;
+    first_other(&mut planned, steps)
+}
+
 #[test]
 fn each_line_in_its_turn(rt: HostRuntime) -> Result<(), Fail> {
-    let mut planned = planned(&rt, rt.alloc())?;
-    assert_eq!(rt; advances_by(&mut planned, 2), Ok(true));
-    rejoin(&mut planned, 1)?;
-    assert_eq!(rt; advances_by(&mut planned, 0), Ok(true));
-    rejoin(&mut planned, 1)?;
-    rejoin(&mut planned, 2)?;
-    assert!(rt; is_settled_in(&planned, 3) && planned.applied() == 2);
-    assert_eq!(rt; advances_by(&mut planned, 0), Ok(true));
+    let steps = [
+        Step::Advance(2),
+        Step::Rejoin(1),
+        Step::Advance(0),
+        Step::Rejoin(1),
+        Step::Rejoin(2),
+        Step::Settled(3, 2),
+        Step::Advance(0),
+    ];
+    assert_eq!(rt; first_other_of_two(&rt, rt.alloc(), &steps), Ok(None));
     Ok(())
 }
 
@@ -320,12 +407,24 @@ fn all_join(alloc: Global) -> Result<Vec<u8>, Memory> {
     Ok(script)
 }
 
+/// Whether all are present after a run to its end.
+fn are_all_present(outcome: &Outcome) -> bool {
+    let cluster = outcome.cluster();
+    ends_with(outcome, cluster.generation(), &[1, 4, 2, 3])
+        && (1..=MOST_MEMBERS as u32).all(|member| cluster.is_present(member))
+}
+
+/// Whether all are present after the run of that plan.
+fn most_join<R: Threads + Wait + RandomSource + Sync>(
+    rt: &R,
+    alloc: Global,
+) -> Result<bool, Refusal> {
+    let script = all_join(alloc)?;
+    Ok(are_all_present(&ran(rt, alloc, script.as_slice(), 500, &Open)?))
+}
+
 #[test]
 fn as_many_members_as_there_can_be(rt: HostRuntime) -> Result<(), Fail> {
-    let script = all_join(rt.alloc())?;
-    let outcome = ran(&rt, rt.alloc(), script.as_slice(), 500, &Open)?;
-    let cluster = outcome.cluster();
-    assert!(rt; ends_with(&outcome, cluster.generation(), &[1, 4, 2, 3]));
-    assert!(rt; (1..=MOST_MEMBERS as u32).all(|member| cluster.is_present(member)));
+    assert_eq!(rt; most_join(&rt, rt.alloc()), Ok(true));
     Ok(())
 }

@@ -151,6 +151,7 @@ event_never w (event.Poll m p n) h = poll_never w m p n (consumer_of w m)
 event_never w (event.Send m p) h = send_never w p (consumer_of w m)
 event_never w (event.Deliver k) h = deliver_never w (commit_at w k)
 event_never w (event.Append key) h = absurd h
+event_never w (event.AppendIn topic key) h = absurd h
 event_never w (event.Join name) h = absurd h
 event_never w (event.Leave m) h = absurd h
 event_never w (event.Lose m) h = absurd h

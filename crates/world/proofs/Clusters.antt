@@ -10,17 +10,16 @@ use Rattle.lane_words.specs.declared.Refusal.{Refusal}
 use Rattle.lane_words.specs.declared.Refusal.TheVariants as r
 use Rattle.bit_planes.specs.PartitionSet.{PartitionSet}
 use Rattle.keyed_table.proofs.Raised.{length-raised}
-use Rattle.partitioner.proofs.Places.{place_of-below}
-use Rattle.partition_log.specs.Keys.{Key, id_of, is_known}
-use Rattle.partition_log.specs.Logs.{PartitionLogs, is_full_for, log_at, place_in}
-use Rattle.partition_log.proofs.Valid.{is_place, log-other, log-same, valid}
+use Rattle.partition_log.specs.Keys.{Key, Keyed, id_of, is_known}
+use Rattle.partition_log.specs.Logs.{IsOfTopic, IsPlaceOf, PartitionLogs, is_full_for, log_at, place_in, with_record}
+use Rattle.partition_log.proofs.Valid.{is_place, log-other, log-same, place-below, valid}
 use Rattle.commit_store.specs.Commits.{Commits, Fits, commit_answer, committed_at, raised}
 use Rattle.commit_store.proofs.Answered.{accepted}
 use Rattle.commit_store.proofs.Exact.{commit-exact}
 use Rattle.group_machine.specs.State.{GroupState, is_present}
 use Rattle.group_machine.specs.Steps.{join_answer, joined_by, leave_answer, left_by, rejoin_answer, rejoined_by, synced_by}
 use Rattle.group_machine.specs.Others.{LeavesMember, LeavesOthers}
-use Rattle.group_machine.specs.Cluster.{ClusterState, CommitTerms, IsValidCluster, IsValidLogs, append_answer, appended_to, cluster_commit_answer, committed_by, fence, with_group, with_record}
+use Rattle.group_machine.specs.Cluster.{ClusterState, CommitTerms, IsValidCluster, IsValidLogs, append_answer, appended_to, cluster_commit_answer, committed_by, fence, with_group}
 use Rattle.group_machine.proofs.ClusterLemmas.{append-kept, partition-below, regrouped}
 use Rattle.group_machine.proofs.FinishLemmas as finish
 use Rattle.group_machine.proofs.OtherLemmas.{accepted_join, accepted_leave, join_leaves, leave_leaves, rejoin_leaves}
@@ -52,10 +51,13 @@ accepted_append false false a b e = (refl, refl)
 not_longer : (most n : ℕ) → nat_lt most n ≡ false → n ≤ most
 not_longer most n e = grind (arith, nat_tests)
 
-pub appended_valid : (s : ClusterState) (key : Key) (at : ℕ × ℕ) → IsValidCluster s → append_answer s.logs key ≡ Ok at → IsValidCluster (appended_to s key)
-appended_valid s key at v ok =
-    let passed = accepted_append (nat_lt LONGEST_KEY (length key)) (is_full_for s.logs key) (place_in s.logs key, length (log_at s.logs (place_in s.logs key))) at ok in
-    append-kept s key v (valid s.logs key v.logs (place_of-below s.logs.partitions key v.logs.some_partitions) (not_longer LONGEST_KEY (length key) passed.0) passed.1)
+pub appended_valid : (s : ClusterState) (keyed : Keyed) (at : ℕ × ℕ) → IsValidCluster s → IsOfTopic s.logs keyed → append_answer s.logs keyed ≡ Ok at → IsValidCluster (appended_to s keyed)
+appended_valid s keyed at v topic ok =
+    let key = keyed.1 in
+    let place = place_in s.logs keyed in
+    let goes : IsPlaceOf s.logs key place = (keyed.0, topic, refl) in
+    let passed = accepted_append (nat_lt LONGEST_KEY (length key)) (is_full_for s.logs place key) (place, length (log_at s.logs place)) at ok in
+    append-kept s place key v goes (valid s.logs place key v.logs goes (place-below s.logs keyed v.logs topic) (not_longer LONGEST_KEY (length key) passed.0) passed.1)
 
 -- ---- commits
 passed_fence : (a : Result (Unit {0}) Refusal) (b : Result ℕ Refusal) (end : ℕ) → result_and a b ≡ Ok end → (a ≡ Ok tt) × (b ≡ Ok end)
@@ -139,21 +141,23 @@ commit_leaves s c end about a = record {
   logs = λ p. same_log (log_at s.logs p);
 }
 
-log_grows : (l : PartitionLogs) (key : Key) (p : ℕ) → IsValidLogs l → (more : List ℕ) × (log_at (with_record l key) p ≡ log_at l p ++ more)
-log_grows l key p v =
-    elim (is_place p (place_in l key)) [
-      | inl same ↦ (id_of l.keys key ∷ [], rw same (log-same l key (omega (arith, place_of-below l.partitions key v.some_partitions, v.a_log_each))))
-      | inr other ↦ ([], log-other l key p other ∙ sym (append-nil (log_at l p)))
+log_grows : (l : PartitionLogs) (keyed : Keyed) (p : ℕ) → IsValidLogs l → IsOfTopic l keyed → (more : List ℕ) × (log_at (with_record l keyed) p ≡ log_at l p ++ more)
+log_grows l keyed p v topic =
+    let place = place_in l keyed in
+    let key = keyed.1 in
+    elim (is_place p place) [
+      | inl same ↦ (id_of l.keys key ∷ [], rw same (log-same l place key (omega (arith, place-below l keyed v topic, v.a_log_each))))
+      | inr other ↦ ([], log-other l place key p other ∙ sym (append-nil (log_at l p)))
     ]
 
 offsets_same : (b : Bool) (store : Commits) → (if b then store else (record store { counts = store.counts ++ 0 ∷ [] })).offsets ≡ store.offsets
 offsets_same true store = refl
 offsets_same false store = refl
 
-pub append_leaves : (s : ClusterState) (key : Key) (at : ℕ × ℕ) (about : ℕ) → IsValidCluster s → append_answer s.logs key ≡ Ok at → Leaves s (appended_to s key) about
-append_leaves s key at about v ok = record {
-  valid = appended_valid s key at v ok;
+pub append_leaves : (s : ClusterState) (keyed : Keyed) (at : ℕ × ℕ) (about : ℕ) → IsValidCluster s → IsOfTopic s.logs keyed → append_answer s.logs keyed ≡ Ok at → Leaves s (appended_to s keyed) about
+append_leaves s keyed at about v topic ok = record {
+  valid = appended_valid s keyed at v topic ok;
   others = same_group s.group about;
-  committed = λ p. omega (arith, ap (λ (os : List ℕ). slice_index_or os p 0) (offsets_same (is_known s.logs.keys key) s.store));
-  logs = λ p. log_grows s.logs key p v.logs;
+  committed = λ p. omega (arith, ap (λ (os : List ℕ). slice_index_or os p 0) (offsets_same (is_known s.logs.keys keyed.1) s.store));
+  logs = λ p. log_grows s.logs keyed p v.logs topic;
 }

@@ -1,6 +1,6 @@
 -- A world stays valid, whatever event comes and whatever is replied to it.
 use Rattle.std.proofs.Common.{◌≡◌, ◌⊎◌, ◌∙◌, ◌+◌, ◌-◌, ◌<◌, ◌≤◌, ℕ, zero, suc, Bool, true, false, List, [], ◌∷◌, ◌++◌, Option, Some, None, Result, Ok, Err, length, drop, refl, sym, ap, subst, inl, inr, arith, length-append, length-drop}
-use Rattle.std.specs.Prelude.{is_none, nat_le, ◌==◌, slice_range, if◌then◌else◌}
+use Rattle.std.specs.Prelude.{is_none, nat_le, nat_lt, ◌==◌, slice_range, if◌then◌else◌}
 use Rattle.std.specs.Result.{result_and}
 use Rattle.std.proofs.lemmas.Bool.{cases_lt}
 use Rattle.std.proofs.lemmas.Bool.Decides.{eqb_tells, nat_tests}
@@ -9,7 +9,7 @@ use Rattle.std.proofs.lemmas.Option.{slice_get_within}
 use Rattle.lane_words.specs.Answers.{Answers}
 use Rattle.lane_words.specs.declared.Refusal.{Refusal}
 use Rattle.lane_words.specs.declared.Refusal.TheVariants as r
-use Rattle.partition_log.specs.Keys.{Key}
+use Rattle.partition_log.specs.Keys.{Key, Keyed, of_first}
 use Rattle.partition_log.specs.Logs.{PartitionLogs, log_at}
 use Rattle.commit_store.specs.Commits.{committed_at}
 use Rattle.group_machine.specs.State.{is_present}
@@ -25,8 +25,11 @@ use Rattle.world.specs.declared.event.Reply.{Reply}
 use Rattle.world.specs.declared.event.Reply.TheVariants as reply
 use Rattle.world.specs.declared.event.TheConstants.{MOST_COMMITS}
 use Rattle.world.specs.World.{WorldState, commit_at, consumer_of, with_cluster}
-use Rattle.world.specs.Steps.{Comes, MayCome, NeverFaults, Outcome, Step, append_event, append_outcome, asked, deliver_event, deliver_unanswered_event, delivered, delivered_unanswered, delivery, dropped, join_event, join_outcome, leave_event, leave_outcome, lose_event, lose_outcome, mail_answer, poll_event, poll_known, poll_outcome, refused_by_cluster, rejoin_event, rejoin_outcome, send_event, send_known, send_outcome, sync_event, sync_outcome}
+use Rattle.world.specs.Steps.{Comes, MayCome, NeverFaults, Outcome, Step, append_event, append_in_event, append_outcome, asked, deliver_event, deliver_unanswered_event, delivered, delivered_unanswered, delivery, dropped, join_event, join_outcome, leave_event, leave_outcome, lose_event, lose_outcome, mail_answer, poll_event, poll_known, poll_outcome, refused_by_cluster, refused, rejoin_event, rejoin_outcome, send_event, send_known, send_outcome, sync_event, sync_outcome}
 use Rattle.world.specs.Valid.{IsSent, IsValidWorld}
+use Rattle.std.proofs.lemmas.Bool.Decides.{nat_tests}
+use Rattle.partition_log.specs.Logs.{IsOfTopic}
+use Rattle.partition_log.proofs.Stored.{first-topic}
 use Rattle.world.proofs.Clusters.{Leaves, append_leaves, commit_leaves, committed_valid, joined_valid, leaves_by_group, left_valid, nothing_leaves, rejoined_valid, synced_valid}
 use Rattle.world.proofs.Fine.{join_fine, rejoin_fine, sync_fine}
 use Rattle.world.proofs.Groups.{in_step_same}
@@ -65,12 +68,22 @@ same_consumer : (w : WorldState) (m : ℕ) (c x : ConsumerState) → consumer_of
 same_consumer w m c x a b = cc
 
 -- ---- appends
-append_stays : (w : WorldState) (key : Key) → IsValidWorld w → IsValidWorld (append_event w key).after
-append_stays w key v = go (append_answer w.cluster.logs key) refl
+pub of_topic : (topic count : ℕ) → nat_lt topic count ≡ true → topic < count
+of_topic topic count e = grind (arith, nat_tests)
+
+append_stays : (w : WorldState) (keyed : Keyed) → IsValidWorld w → IsOfTopic w.cluster.logs keyed → IsValidWorld (append_event w keyed).after
+append_stays w keyed v topic = go (append_answer w.cluster.logs keyed) refl
   where
-    go : (a : Result (ℕ × ℕ) Refusal) → append_answer w.cluster.logs key ≡ a → IsValidWorld (append_outcome w key a).after
-    go (Ok at) is = alone_stays w (appended_to w.cluster key) 0 v (append_leaves w.cluster key at 0 v.cluster is) refl (λ c e. absurd (cc e))
+    go : (a : Result (ℕ × ℕ) Refusal) → append_answer w.cluster.logs keyed ≡ a → IsValidWorld (append_outcome w keyed a).after
+    go (Ok at) is = alone_stays w (appended_to w.cluster keyed) 0 v (append_leaves w.cluster keyed at 0 v.cluster topic is) refl (λ c e. absurd (cc e))
     go (Err why) is = v
+
+append_in_stays : (w : WorldState) (keyed : Keyed) → IsValidWorld w → IsValidWorld (append_in_event w keyed).after
+append_in_stays w keyed v = go (nat_lt keyed.0 (length w.cluster.logs.counts)) refl
+  where
+    go : (b : Bool) → nat_lt keyed.0 (length w.cluster.logs.counts) ≡ b → (let o : Outcome = if b then append_event w keyed else refused w (r.NoSuchTopic 0) in IsValidWorld o.after)
+    go true is = append_stays w keyed v (of_topic keyed.0 (length w.cluster.logs.counts) is)
+    go false is = v
 
 -- ---- joins
 -- the number of a consumer that was there is at most how many there were
@@ -333,7 +346,8 @@ may_come w outcome told w2 was (inl comes) v = subst IsValidWorld (sym comes.1) 
 may_come w outcome told w2 was (inr comes) v = subst IsValidWorld (sym comes.1) was
 
 pub valid_after : (w : WorldState) (e : Event) (told : Reply) (w2 : WorldState) → IsValidWorld w → Step w e told w2 → IsValidWorld w2
-valid_after w (event.Append key) told w2 v step = may_come w (append_event w key.now) told w2 v step (append_stays w key.now v)
+valid_after w (event.Append key) told w2 v step = may_come w (append_event w (of_first key.now)) told w2 v step (append_stays w (of_first key.now) v (first-topic w.cluster.logs key.now v.cluster.logs))
+valid_after w (event.AppendIn topic key) told w2 v step = may_come w (append_in_event w (topic, key.now)) told w2 v step (append_in_stays w (topic, key.now) v)
 valid_after w (event.Join name) told w2 v step = may_come w (join_event w name.now) told w2 v step (join_stays w name.now v)
 valid_after w (event.Sync m) told w2 v step = may_come w (sync_event w m) told w2 v step (sync_stays w m v)
 valid_after w (event.Rejoin m) told w2 v step = may_come w (rejoin_event w m) told w2 v step (rejoin_stays w m v)
@@ -353,6 +367,7 @@ commit_sent w (suc i) c v e = v.mail i c e
 
 pub never_faults : (w : WorldState) (e : Event) → IsValidWorld w → NeverFaults w e
 never_faults w (event.Append key) v = tt
+never_faults w (event.AppendIn topic key) v = tt
 never_faults w (event.Join name) v = tt
 never_faults w (event.Sync m) v = tt
 never_faults w (event.Rejoin m) v = λ c known. rejoin_never_faults w.cluster.group m c.generation c.assigned
@@ -366,7 +381,7 @@ never_faults w (event.Deliver k) v = λ c known. commit_never_faults w.cluster c
 never_faults w (event.DeliverUnanswered k) v = λ c known. commit_never_faults w.cluster c (commit_sent w k c v known)
 
 -- an append that is accepted, by its answer
-pub appended_world : (w : WorldState) (key : Key) (at : ℕ × ℕ) (s : ClusterState) → IsValidWorld w → Answers (append_answer w.cluster.logs key) (Ok at) → s ≡ appended_to w.cluster key → IsValidWorld (with_cluster w s)
-appended_world w key at s v (inr wrong) is = absurd (cc wrong)
-appended_world w key at s v (inl answer) is =
-    subst (λ x. IsValidWorld (with_cluster w x)) (sym is) (alone_stays w (appended_to w.cluster key) 0 v (append_leaves w.cluster key at 0 v.cluster (sym answer)) refl (λ c e. absurd (cc e)))
+pub appended_world : (w : WorldState) (keyed : Keyed) (at : ℕ × ℕ) (s : ClusterState) → IsValidWorld w → IsOfTopic w.cluster.logs keyed → Answers (append_answer w.cluster.logs keyed) (Ok at) → s ≡ appended_to w.cluster keyed → IsValidWorld (with_cluster w s)
+appended_world w keyed at s v topic (inr wrong) is = absurd (cc wrong)
+appended_world w keyed at s v topic (inl answer) is =
+    subst (λ x. IsValidWorld (with_cluster w x)) (sym is) (alone_stays w (appended_to w.cluster keyed) 0 v (append_leaves w.cluster keyed at 0 v.cluster topic (sym answer)) refl (λ c e. absurd (cc e)))

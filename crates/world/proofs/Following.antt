@@ -106,6 +106,7 @@ drain_members_course batch w = each_course (members w.cluster.group) (drain_memb
 -- ---- one event
 step_comes : (w : WorldState) (e : Event) (told : Reply) (w2 : WorldState) → Step w e told w2 → Comes (outcome_of w e) told w2 ⊎ Comes (refused w r.Memory) told w2
 step_comes w (event.Append key) told w2 s = s
+step_comes w (event.AppendIn topic key) told w2 s = s
 step_comes w (event.Join name) told w2 s = s
 step_comes w (event.Sync m) told w2 s = s
 step_comes w (event.Rejoin m) told w2 s = s

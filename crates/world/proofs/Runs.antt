@@ -2,16 +2,18 @@
 use Rattle.std.proofs.Common.{◌≡◌, ◌∙◌, ◌+◌, ◌<◌, ℕ, suc, List, [], ◌∷◌, ◌++◌, Option, Some, None, Result, Ok, Err, length, take, drop, map, get_or, append_assoc, refl, sym, ap, subst, inl, inr, arith}
 use Rattle.std.specs.Borrow.{Bor}
 use Rattle.std.proofs.lemmas.List.{append-nil, get_or_default, length-map, map-append, take_more}
-use Rattle.std.proofs.Math.ListN.{get_or-map as map_at}
 use Rattle.std.proofs.Math.Seq.{drop-cons}
 use Rattle.lane_words.specs.Answers.{Answers}
 use Rattle.lane_words.specs.declared.Refusal.{Refusal}
 use Rattle.lane_words.specs.declared.Refusal.TheVariants as r
-use Rattle.partitioner.proofs.Places.{place_of-below}
-use Rattle.partition_log.specs.Keys.{Key}
-use Rattle.partition_log.specs.Logs.{PartitionLogs, place_in, place_of}
+use Rattle.std.proofs.lemmas.List.{get_or-map}
+use Rattle.std.specs.Prelude.{nat_lt, if◌then◌else◌}
+use Rattle.std.proofs.Common.{Bool, true, false}
+use Rattle.partition_log.specs.Keys.{Key, Keyed, of_first}
+use Rattle.partition_log.specs.Logs.{IsOfTopic, PartitionLogs, place_in, place_in_topic}
+use Rattle.partition_log.proofs.Stored.{first-topic}
 use Rattle.partition_log.proofs.History.{history}
-use Rattle.group_machine.specs.Cluster.{AreLogsOf, ClusterState, GrowsBy, CommitTerms, LeaseTerms, append_answer, appended_to, cluster_commit_answer, cluster_sync_answer}
+use Rattle.group_machine.specs.Cluster.{AreLogsOf, ClusterState, GrowByRecords, CommitTerms, LeaseTerms, append_answer, appended_to, cluster_commit_answer, cluster_sync_answer}
 use Rattle.group_machine.specs.Steps.{join_answer, leave_answer, rejoin_answer}
 use Rattle.consumer.specs.Consumer.{ConsumerState, poll_answer}
 use Rattle.world.specs.declared.event.Event.{Event}
@@ -19,9 +21,10 @@ use Rattle.world.specs.declared.event.Event.TheVariants as event
 use Rattle.world.specs.declared.event.Reply.{Reply}
 use Rattle.world.specs.declared.event.Reply.TheVariants as reply
 use Rattle.world.specs.World.{WorldState, commit_at, consumer_of, on_consumer, with_cluster}
-use Rattle.world.specs.Steps.{Comes, MayCome, Outcome, Step, append_event, append_outcome, asked, deliver_event, deliver_unanswered_event, delivered, delivered_unanswered, delivery, dropped, given, join_event, join_outcome, leave_event, leave_outcome, lose_event, lose_outcome, mail_answer, poll_event, poll_known, poll_outcome, refused_by_cluster, rejoin_event, rejoin_outcome, send_event, send_known, send_outcome, sync_event, sync_outcome}
-use Rattle.world.specs.Runs.{AppendsKeys, AreAppended, Appends, IsRefusedNext, Run, StopsLoad, appended_by, appended_in, appends_of, key_if_appended}
+use Rattle.world.specs.Steps.{Comes, MayCome, Outcome, Step, append_event, append_in_event, append_outcome, asked, deliver_event, deliver_unanswered_event, delivered, delivered_unanswered, delivery, dropped, given, join_event, join_outcome, leave_event, leave_outcome, lose_event, lose_outcome, mail_answer, poll_event, poll_known, poll_outcome, refused, refused_by_cluster, rejoin_event, rejoin_outcome, send_event, send_known, send_outcome, sync_event, sync_outcome}
+use Rattle.world.specs.Runs.{AppendsRecords, AreAppended, Appends, IsRefusedNext, Run, StopsLoad, appended_by, appended_in, appends_of, if_appended}
 use Rattle.world.specs.Valid.{IsValidWorld}
+use Rattle.world.proofs.Events.{of_topic}
 use Rattle.world.proofs.Stays.{on_cluster}
 
 -- ---- events that append nothing leave the logs
@@ -94,33 +97,45 @@ unanswered_logs : (w : WorldState) (c : CommitTerms) (a : Result ℕ Refusal) �
 unanswered_logs w c a = given_logs w.cluster c a
 
 -- ---- what an event appends
-nothing_more : (w w2 : WorldState) → w2.cluster.logs ≡ w.cluster.logs → AppendsKeys [] w w2
+nothing_more : (w w2 : WorldState) → w2.cluster.logs ≡ w.cluster.logs → AppendsRecords [] w w2
 nothing_more w w2 same appended h = rw append-nil (subst (AreLogsOf appended) (sym same) h)
 
-came_same : (w : WorldState) (o : Outcome) (told : Reply) (w2 : WorldState) → Comes o told w2 → KeepsLogs w o → AppendsKeys [] w w2
+came_same : (w : WorldState) (o : Outcome) (told : Reply) (w2 : WorldState) → Comes o told w2 → KeepsLogs w o → AppendsRecords [] w w2
 came_same w o told w2 comes same = nothing_more w w2 (ap (λ (x : WorldState). x.cluster.logs) comes.1 ∙ same)
 
-may_come_same : (w : WorldState) (o : Outcome) (told : Reply) (w2 : WorldState) → MayCome w o told w2 → KeepsLogs w o → AppendsKeys [] w w2
+may_come_same : (w : WorldState) (o : Outcome) (told : Reply) (w2 : WorldState) → MayCome w o told w2 → KeepsLogs w o → AppendsRecords [] w w2
 may_come_same w o told w2 (inl comes) same = came_same w o told w2 comes same
 may_come_same w o told w2 (inr comes) same = nothing_more w w2 (ap (λ (x : WorldState). x.cluster.logs) comes.1)
 
-refused_key : (w : WorldState) (key : Key) (told : Reply) (why : Refusal) (w2 : WorldState) → told ≡ reply.Refused why → w2 ≡ w → AppendsKeys (key_if_appended key told) w w2
-refused_key w key told why w2 is same =
-    subst (λ t. AppendsKeys (key_if_appended key t) w w2) (sym is) (nothing_more w w2 (ap (λ (x : WorldState). x.cluster.logs) same))
+refused_key : (w : WorldState) (keyed : Keyed) (told : Reply) (why : Refusal) (w2 : WorldState) → told ≡ reply.Refused why → w2 ≡ w → AppendsRecords (if_appended keyed told) w w2
+refused_key w keyed told why w2 is same =
+    subst (λ t. AppendsRecords (if_appended keyed t) w w2) (sym is) (nothing_more w w2 (ap (λ (x : WorldState). x.cluster.logs) same))
 
-append_history : (w : WorldState) (key : Key) (told : Reply) (w2 : WorldState) → IsValidWorld w → MayCome w (append_event w key) told w2 → AppendsKeys (key_if_appended key told) w w2
-append_history w key told w2 v (inr comes) = refused_key w key told r.Memory w2 comes.0 comes.1
-append_history w key told w2 v (inl comes) = go (append_answer w.cluster.logs key) comes
+came_history : (w : WorldState) (keyed : Keyed) (told : Reply) (w2 : WorldState) → IsValidWorld w → IsOfTopic w.cluster.logs keyed → Comes (append_event w keyed) told w2 → AppendsRecords (if_appended keyed told) w w2
+came_history w keyed told w2 v topic comes = go (append_answer w.cluster.logs keyed) comes
   where
-    go : (a : Result (ℕ × ℕ) Refusal) → Comes (append_outcome w key a) told w2 → AppendsKeys (key_if_appended key told) w w2
-    go (Err why) c = refused_key w key told why w2 c.0 c.1
+    go : (a : Result (ℕ × ℕ) Refusal) → Comes (append_outcome w keyed a) told w2 → AppendsRecords (if_appended keyed told) w w2
+    go (Err why) c = refused_key w keyed told why w2 c.0 c.1
     go (Ok at) c =
-        subst (λ t. AppendsKeys (key_if_appended key t) w w2) (sym c.0)
-        (subst (λ x. AppendsKeys (key ∷ []) w x) (sym c.1)
-        (λ appended h. history w.cluster.logs key appended v.cluster.logs h (place_of-below w.cluster.logs.partitions key v.cluster.logs.some_partitions)))
+        subst (λ t. AppendsRecords (if_appended keyed t) w w2) (sym c.0)
+        (subst (λ x. AppendsRecords (keyed ∷ []) w x) (sym c.1)
+        (λ appended h. history w.cluster.logs keyed appended v.cluster.logs h topic))
 
-pub history_after : (w : WorldState) (e : Event) (told : Reply) (w2 : WorldState) → IsValidWorld w → Step w e told w2 → AppendsKeys (appended_by e told) w w2
-history_after w (event.Append key) told w2 v step = append_history w key.now told w2 v step
+append_history : (w : WorldState) (keyed : Keyed) (told : Reply) (w2 : WorldState) → IsValidWorld w → IsOfTopic w.cluster.logs keyed → MayCome w (append_event w keyed) told w2 → AppendsRecords (if_appended keyed told) w w2
+append_history w keyed told w2 v topic (inr comes) = refused_key w keyed told r.Memory w2 comes.0 comes.1
+append_history w keyed told w2 v topic (inl comes) = came_history w keyed told w2 v topic comes
+
+append_in_history : (w : WorldState) (keyed : Keyed) (told : Reply) (w2 : WorldState) → IsValidWorld w → MayCome w (append_in_event w keyed) told w2 → AppendsRecords (if_appended keyed told) w w2
+append_in_history w keyed told w2 v (inr comes) = refused_key w keyed told r.Memory w2 comes.0 comes.1
+append_in_history w keyed told w2 v (inl comes) = go (nat_lt keyed.0 (length w.cluster.logs.counts)) refl comes
+  where
+    go : (b : Bool) → nat_lt keyed.0 (length w.cluster.logs.counts) ≡ b → (let o : Outcome = if b then append_event w keyed else refused w (r.NoSuchTopic 0) in Comes o told w2) → AppendsRecords (if_appended keyed told) w w2
+    go true is c = came_history w keyed told w2 v (of_topic keyed.0 (length w.cluster.logs.counts) is) c
+    go false is c = refused_key w keyed told (r.NoSuchTopic 0) w2 c.0 c.1
+
+pub history_after : (w : WorldState) (e : Event) (told : Reply) (w2 : WorldState) → IsValidWorld w → Step w e told w2 → AppendsRecords (appended_by e told) w w2
+history_after w (event.Append key) told w2 v step = append_history w (of_first key.now) told w2 v (first-topic w.cluster.logs key.now v.cluster.logs) step
+history_after w (event.AppendIn topic key) told w2 v step = append_in_history w (topic, key.now) told w2 v step
 history_after w (event.Join name) told w2 v step = may_come_same w (join_event w name.now) told w2 step (join_logs w name.now (join_answer w.cluster.group name.now))
 history_after w (event.Sync m) told w2 v step = may_come_same w (sync_event w m) told w2 step (asked_logs w _ (λ c. sync_logs w m (cluster_sync_answer w.cluster m)) (consumer_of w m))
 history_after w (event.Rejoin m) told w2 v step =
@@ -152,16 +167,16 @@ appended_push (d ∷ events) [] w w2 e told run = absurd run
 appended_push (d ∷ events) (s ∷ replies) w w2 e told run =
     ap (λ ks. appended_by d s ++ ks) (appended_push events replies run.0 w2 e told run.2) ∙ sym (append_assoc (appended_by d s) (appended_in events replies) (appended_by e told))
 
-pub appends_both : (a b : List Key) (w w2 w3 : WorldState) → AppendsKeys a w w2 → AppendsKeys b w2 w3 → AppendsKeys (a ++ b) w w3
+pub appends_both : (a b : List Keyed) (w w2 w3 : WorldState) → AppendsRecords a w w2 → AppendsRecords b w2 w3 → AppendsRecords (a ++ b) w w3
 appends_both a b w w2 w3 first second appended h = subst (λ ks. AreLogsOf ks w3.cluster.logs) (append_assoc appended a b) (second (appended ++ a) (first appended h))
 
-pub history_more : (events : List Event) (replies all : List Reply) (w w2 w3 : WorldState) (i : ℕ) (d e : Event) (told : Reply) → Run w (take i events) replies w2 → AppendsKeys (appended_in (take i events) replies) w w2
-    → AppendsKeys (appended_by e told) w2 w3 → e ≡ get_or events i d → i < length events → all ≡ replies ++ told ∷ [] → AppendsKeys (appended_in (take (i + 1) events) all) w w3
+pub history_more : (events : List Event) (replies all : List Reply) (w w2 w3 : WorldState) (i : ℕ) (d e : Event) (told : Reply) → Run w (take i events) replies w2 → AppendsRecords (appended_in (take i events) replies) w w2
+    → AppendsRecords (appended_by e told) w2 w3 → e ≡ get_or events i d → i < length events → all ≡ replies ++ told ∷ [] → AppendsRecords (appended_in (take (i + 1) events) all) w w3
 history_more events replies all w w2 w3 i d e told run before now at lt is =
     let grown : appended_in (take (i + 1) events) all ≡ appended_in (take i events) replies ++ appended_by e told =
     ap (appended_in (take (i + 1) events)) is ∙ ap (λ es. appended_in es (replies ++ told ∷ [])) (take_more events i d lt ∙ ap (λ x. take i events ++ x ∷ []) (sym at))
     ∙ appended_push (take i events) replies w w2 e told run in
-    subst (λ ks. AppendsKeys ks w w3) (sym grown) (appends_both (appended_in (take i events) replies) (appended_by e told) w w2 w3 before now)
+    subst (λ ks. AppendsRecords ks w w3) (sym grown) (appends_both (appended_in (take i events) replies) (appended_by e told) w w2 w3 before now)
 
 -- ---- loads
 pub no_appends : (w : WorldState) → Appends w [] w
@@ -174,13 +189,13 @@ appended_last (told ∷ replies) p offset h = absurd h
 
 -- one key more is appended
 pub append_more : (w w2 : WorldState) (keys : List (Bor Key)) (i : ℕ) (d : Bor Key) (s : ClusterState) (at : ℕ × ℕ) → Appends w (take i keys) w2 → i < length keys
-    → Answers (append_answer w2.cluster.logs (get_or keys i d).now) (Ok at) → s ≡ appended_to w2.cluster (get_or keys i d).now → Appends w (take (i + 1) keys) (with_cluster w2 s)
+    → Answers (append_answer w2.cluster.logs (of_first (get_or keys i d).now)) (Ok at) → s ≡ appended_to w2.cluster (of_first (get_or keys i d).now) → Appends w (take (i + 1) keys) (with_cluster w2 s)
 append_more w w2 keys i d s at before lt (inr wrong) is = absurd (cc wrong)
 append_more w w2 keys i d s at before lt (inl answer) is =
     let key = get_or keys i d in
     let events : appends_of (take (i + 1) keys) ≡ appends_of (take i keys) ++ event.Append key ∷ [] =
     ap appends_of (take_more keys i d lt) ∙ map-append (λ k. event.Append k) (take i keys) (key ∷ []) in
-    let comes : append_event w2 key.now ≡ append_outcome w2 key.now (Ok at) = ap (append_outcome w2 key.now) (sym answer) in
+    let comes : append_event w2 (of_first key.now) ≡ append_outcome w2 (of_first key.now) (Ok at) = ap (append_outcome w2 (of_first key.now)) (sym answer) in
     let step : Step w2 (event.Append key) (reply.Appended at.0 at.1) (with_cluster w2 s) =
     inl (ap (λ (o : Outcome). o.reply) (sym comes), ap (with_cluster w2) is ∙ ap (λ (o : Outcome). o.after) (sym comes)) in (
       before.0 ++ reply.Appended at.0 at.1 ∷ [],
@@ -189,29 +204,33 @@ append_more w w2 keys i d s at before lt (inl answer) is =
     )
 
 -- the append of the next key is refused
-pub append_stops : (w : WorldState) (keys : List (Bor Key)) (i : ℕ) (d : Bor Key) (why : Refusal) → i < length keys → Answers (append_answer w.cluster.logs (get_or keys i d).now) (Err why) → StopsLoad w (drop i keys) i why
+pub append_stops : (w : WorldState) (keys : List (Bor Key)) (i : ℕ) (d : Bor Key) (why : Refusal) → i < length keys → Answers (append_answer w.cluster.logs (of_first (get_or keys i d).now)) (Err why) → StopsLoad w (drop i keys) i why
 append_stops w keys i d why lt answer =
     let key = get_or keys i d in
     let rest : drop i keys ≡ key ∷ drop (suc i) keys = drop-cons keys i d lt in
     inl (subst (λ ks. IsRefusedNext w (appends_of ks) why) (sym rest) (go answer))
   where
-    go : Answers (append_answer w.cluster.logs (get_or keys i d).now) (Err why) → Step w (event.Append (get_or keys i d)) (reply.Refused why) w
+    go : Answers (append_answer w.cluster.logs (of_first (get_or keys i d).now)) (Err why) → Step w (event.Append (get_or keys i d)) (reply.Refused why) w
     go (inl same) =
-        let comes : append_event w (get_or keys i d).now ≡ append_outcome w (get_or keys i d).now (Err why) = ap (append_outcome w (get_or keys i d).now) (sym same) in
+        let comes : append_event w (of_first (get_or keys i d).now) ≡ append_outcome w (of_first (get_or keys i d).now) (Err why) = ap (append_outcome w (of_first (get_or keys i d).now)) (sym same) in
         inl (ap (λ (o : Outcome). o.reply) (sym comes), ap (λ (o : Outcome). o.after) (sym comes))
     go (inr same) = inr (let e : why ≡ r.Memory = cc in ap (λ x. reply.Refused x) e, refl)
 
+abbrev pub first_of : Bor Key → Keyed
+first_of key = of_first key.now
+
 -- what the keys so far and the next one append
-pub keys_more : (w w2 w3 : WorldState) (keys : List (Bor Key)) (i : ℕ) (d : Bor Key) → i < length keys → AppendsKeys (map (λ key. key.now) (take i keys)) w w2 → GrowsBy (get_or keys i d).now w2.cluster.logs w3.cluster.logs
-    → AppendsKeys (map (λ key. key.now) (take (i + 1) keys)) w w3
+pub keys_more : (w w2 w3 : WorldState) (keys : List (Bor Key)) (i : ℕ) (d : Bor Key) → i < length keys → AppendsRecords (map first_of (take i keys)) w w2 → GrowByRecords (first_of (get_or keys i d) ∷ []) w2.cluster.logs w3.cluster.logs
+    → AppendsRecords (map first_of (take (i + 1) keys)) w w3
 keys_more w w2 w3 keys i d lt before now =
-    let grown : map (λ (key : Bor Key). key.now) (take (i + 1) keys) ≡ map (λ (key : Bor Key). key.now) (take i keys) ++ (get_or keys i d).now ∷ [] =
-    ap (map (λ (key : Bor Key). key.now)) (take_more keys i d lt) ∙ map-append (λ (key : Bor Key). key.now) (take i keys) (get_or keys i d ∷ []) in
-    subst (λ ks. AppendsKeys ks w w3) (sym grown) (appends_both (map (λ (key : Bor Key). key.now) (take i keys)) ((get_or keys i d).now ∷ []) w w2 w3 before now)
+    let grown : map first_of (take (i + 1) keys) ≡ map first_of (take i keys) ++ first_of (get_or keys i d) ∷ [] =
+    ap (map first_of) (take_more keys i d lt) ∙ map-append first_of (take i keys) (get_or keys i d ∷ []) in
+    subst (λ ks. AppendsRecords ks w w3) (sym grown) (appends_both (map first_of (take i keys)) (first_of (get_or keys i d) ∷ []) w w2 w3 before now)
 
 -- the place of a key among those of all keys
-pub place_among : (n : ℕ) (l : PartitionLogs) (places : List ℕ) (keys : List (Bor Key)) (i e : ℕ) (d : Bor Key) → places ≡ map (λ key. place_of n key.now) keys → i < length keys → n ≡ l.partitions → get_or places i e ≡ place_in l (get_or keys i d).now
-place_among n l places keys i e d is lt same =
+pub place_among : (l l2 : PartitionLogs) (places : List ℕ) (keys : List (Bor Key)) (i e : ℕ) (d : Bor Key) → places ≡ map (λ key. place_in l (of_first key.now)) keys → i < length keys → l2.counts ≡ l.counts
+    → get_or places i e ≡ place_in l2 (first_of (get_or keys i d))
+place_among l l2 places keys i e d is lt same =
     ap (λ (ps : List ℕ). get_or ps i e) is
-    ∙ get_or_default (map (λ (key : Bor Key). place_of n key.now) keys) i e (place_of n d.now) (omega (arith, lt, length-map keys (λ (key : Bor Key). place_of n key.now)))
-    ∙ map_at (λ (key : Bor Key). place_of n key.now) keys i d ∙ ap (λ m. place_of m (get_or keys i d).now) same
+    ∙ get_or-map (λ (key : Bor Key). place_in l (of_first key.now)) keys i d e lt
+    ∙ ap (λ (counts : List ℕ). place_in_topic counts 0 (get_or keys i d).now) (sym same)

@@ -3,8 +3,8 @@ use Rattle.std.specs.Prelude.{◌≡◌, ◌⊎◌, ◌≤◌, ℕ, List, [], �
 use Rattle.std.specs.Borrow.{Bor}
 use Rattle.lane_words.specs.declared.Refusal.{Refusal}
 use Rattle.lane_words.specs.declared.Refusal.TheVariants as r
-use Rattle.partition_log.specs.Keys.{Key}
-use Rattle.group_machine.specs.Cluster.{AreLogsOf}
+use Rattle.partition_log.specs.Keys.{Key, Keyed, of_first}
+use Rattle.group_machine.specs.Cluster.{AreLogsOf, GrowByRecords}
 use Rattle.group_machine.specs.State.{opening}
 use Rattle.world.specs.declared.event.Event.{Event}
 use Rattle.world.specs.declared.event.Event.TheVariants as event
@@ -13,7 +13,7 @@ use Rattle.world.specs.declared.event.Reply.TheVariants as reply
 use Rattle.world.specs.Steps.{Step}
 use Rattle.world.specs.World.{WorldState}
 
--- a world of this many partitions in which nothing has happened
+-- a world of this many partitions, over all topics, in which nothing has happened
 pub record IsOpening (partitions : ℕ) (w : WorldState) : Type 0 where
   pub group : w.cluster.group ≡ opening partitions
   pub logs : AreLogsOf [] w.cluster.logs
@@ -31,26 +31,26 @@ Run w (event ∷ events) (reply ∷ replies) w2 =
     (mid : WorldState) × Step w event reply mid × Run mid events replies w2
 
 -- ---- what was appended
-abbrev pub key_if_appended : Key → Reply → List Key
-key_if_appended key (reply.Appended p offset) = key ∷ []
-key_if_appended key reply = []
+abbrev pub if_appended : Keyed → Reply → List Keyed
+if_appended keyed (reply.Appended p offset) = keyed ∷ []
+if_appended keyed reply = []
 
--- the key that an event appended, if its reply says so
-abbrev pub appended_by : Event → Reply → List Key
-appended_by (event.Append key) reply = key_if_appended key.now reply
+-- the record that an event appended, if its reply says so
+abbrev pub appended_by : Event → Reply → List Keyed
+appended_by (event.Append key) reply = if_appended (of_first key.now) reply
+appended_by (event.AppendIn topic key) reply = if_appended (topic, key.now) reply
 appended_by event reply = []
 
--- the keys that a schedule appended, by its replies
-abbrev pub appended_in : List Event → List Reply → List Key
+-- the records that a schedule appended, by its replies
+abbrev pub appended_in : List Event → List Reply → List Keyed
 appended_in [] replies = []
 appended_in (event ∷ events) [] = []
 appended_in (event ∷ events) (reply ∷ replies) =
     appended_by event reply ++ appended_in events replies
 
--- logs of a list of keys are afterwards those of the list with these at its end
-abbrev pub AppendsKeys : List Key → WorldState → WorldState → Type 0
-AppendsKeys keys w w2 = (appended : List Key) → AreLogsOf appended w.cluster.logs
-    → AreLogsOf (appended ++ keys) w2.cluster.logs
+-- logs of a list of records are afterwards those of the list with these at its end
+abbrev pub AppendsRecords : List Keyed → WorldState → WorldState → Type 0
+AppendsRecords records w w2 = GrowByRecords records w.cluster.logs w2.cluster.logs
 
 -- ---- loading
 -- the events that append these keys, in order

@@ -1,9 +1,9 @@
 -- The events of a world, each said by the steps of the cluster and of a consumer.
-use Rattle.std.specs.Prelude.{◌≡◌, ◌⊎◌, ℕ, ◌+◌, List, [], ◌∷◌, ◌++◌, Option, Some, None, is_none, Result, Ok, Err, length, nat_le, if◌then◌else◌}
+use Rattle.std.specs.Prelude.{◌≡◌, ◌⊎◌, ℕ, ◌+◌, List, [], ◌∷◌, ◌++◌, Option, Some, None, is_none, Result, Ok, Err, length, nat_le, nat_lt, if◌then◌else◌}
 use Rattle.std.specs.Result.{result_and}
 use Rattle.lane_words.specs.declared.Refusal.{Refusal}
 use Rattle.lane_words.specs.declared.Refusal.TheVariants as r
-use Rattle.partition_log.specs.Keys.{Key}
+use Rattle.partition_log.specs.Keys.{Keyed, of_first}
 use Rattle.group_machine.specs.Cluster.{ClusterState, CommitTerms, LeaseTerms, append_answer, appended_to, cluster_commit_answer, cluster_sync_answer, committed_by, with_group}
 use Rattle.group_machine.specs.Steps.{join_answer, joined_by, leave_answer, left_by, rejoin_answer, rejoined_by, synced_by}
 use Rattle.consumer.specs.Consumer.{ConsumerState, answered_by, commit_of, given_up, joined_as, leased, out_of_group, poll_answer, polled, sendable_answer}
@@ -27,13 +27,19 @@ abbrev pub refused : WorldState → Refusal → Outcome
 refused w why = done (reply.Refused why) w
 
 -- ---- the cluster's own events
-abbrev pub append_outcome : WorldState → Key → Result (ℕ × ℕ) Refusal → Outcome
-append_outcome w key (Ok at) = done (reply.Appended at.0 at.1)
-    (with_cluster w (appended_to w.cluster key))
-append_outcome w key (Err why) = refused w why
+abbrev pub append_outcome : WorldState → Keyed → Result (ℕ × ℕ) Refusal → Outcome
+append_outcome w keyed (Ok at) = done (reply.Appended at.0 at.1)
+    (with_cluster w (appended_to w.cluster keyed))
+append_outcome w keyed (Err why) = refused w why
 
-abbrev pub append_event : WorldState → Key → Outcome
-append_event w key = append_outcome w key (append_answer w.cluster.logs key)
+abbrev pub append_event : WorldState → Keyed → Outcome
+append_event w keyed = append_outcome w keyed (append_answer w.cluster.logs keyed)
+
+-- the same, of a topic that may be none of the logs'
+abbrev pub append_in_event : WorldState → Keyed → Outcome
+append_in_event w keyed =
+    if nat_lt keyed.0 (length w.cluster.logs.counts) then append_event w keyed
+    else refused w (r.NoSuchTopic 0)
 
 -- a member that joins gets a consumer, which has joined
 abbrev pub join_outcome : WorldState → List ℕ → Result ℕ Refusal → Outcome
@@ -176,7 +182,9 @@ MayCome w outcome reply w2 = Comes outcome reply w2 ⊎ Comes (refused w r.Memor
 
 -- an event in a world, the reply to it, and the world after it
 abbrev pub Step : WorldState → Event → Reply → WorldState → Type 0
-Step w (event.Append key) reply w2 = MayCome w (append_event w key.now) reply w2
+Step w (event.Append key) reply w2 = MayCome w (append_event w (of_first key.now)) reply w2
+Step w (event.AppendIn topic key) reply w2 =
+    MayCome w (append_in_event w (topic, key.now)) reply w2
 Step w (event.Join name) reply w2 = MayCome w (join_event w name.now) reply w2
 Step w (event.Sync m) reply w2 = MayCome w (sync_event w m) reply w2
 Step w (event.Rejoin m) reply w2 = MayCome w (rejoin_event w m) reply w2

@@ -10,8 +10,10 @@ pub const MOST_COMMITS: usize = 65_536;
 /// from 1.
 #[derive(Clone, Copy, Debug)]
 pub enum Event<'a> {
-    /// A record of this key is appended.
+    /// A record of this key is appended to the first topic.
     Append(&'a [u8]),
+    /// A record of this key is appended to the topic of this index.
+    AppendIn(u32, &'a [u8]),
     /// A member joins under this name, with a consumer of its own.
     Join(&'a Name),
     /// A member's consumer takes a lease.

@@ -1,7 +1,7 @@
 //! Laws of worlds.
 
 ghost use Rattle.std.specs.Prelude.{List};
-ghost use Rattle.partition_log.specs.Keys.{Key};
+ghost use Rattle.partition_log.specs.Keys.{Keyed, keys_in};
 ghost use Rattle.commit_store.specs.Commits.{AreEndsCommitted, HasPlainCounts};
 ghost use Rattle.group_machine.specs.Cluster.{AreLogsOf};
 ghost use Rattle.world.specs.Valid.{IsValidWorld};
@@ -9,7 +9,7 @@ ghost use Rattle.world.specs.World.{WorldState};
 
 /// Where the ends of all logs are committed, each key's count is how often it was appended.
 pub fn all_committed_is_the_plain_count()
-    ensures { (w : WorldState) (appended : List Key) → IsValidWorld w
+    ensures { (w : WorldState) (appended : List Keyed) → IsValidWorld w
         → AreLogsOf appended w.cluster.logs → AreEndsCommitted w.cluster.store w.cluster.logs
-        → HasPlainCounts w.cluster.store w.cluster.logs appended }
+        → HasPlainCounts w.cluster.store w.cluster.logs (keys_in appended) }
 {}

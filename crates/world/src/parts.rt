@@ -1,9 +1,10 @@
 //! What a world is made of, and its events.
 
 ghost use Rattle.std.specs.Prelude.{◌≡◌, ◌<◌, ℕ, suc, length, map, IfOk, IfErr, OnOk};
+ghost use Rattle.partition_log.specs.Keys.{of_first};
 ghost use Rattle.world.specs.World.{WorldState};
-ghost use Rattle.world.specs.Steps.{Comes, MayCome, Step, append_event, deliver_event, deliver_unanswered_event, join_event, leave_event, lose_event, poll_event, refused_by_cluster, rejoin_event, send_event, sync_event};
-ghost use Rattle.world.specs.Runs.{AppendsKeys, Loads};
+ghost use Rattle.world.specs.Steps.{Comes, MayCome, Step, append_event, append_in_event, deliver_event, deliver_unanswered_event, join_event, leave_event, lose_event, poll_event, refused_by_cluster, rejoin_event, send_event, sync_event};
+ghost use Rattle.world.specs.Runs.{AppendsRecords, Loads};
 ghost use Rattle.world.specs.Valid.{IsValidWorld};
 ghost use Rattle.world.specs.Private.Lookups.{IsAsking, IsIndexOf, IsNotAsking};
 ghost use Rattle.world.specs.Private.View.{world_view};
@@ -12,7 +13,6 @@ use crate::event::{Event, MOST_COMMITS, Reply};
 use consumer::Consumer;
 use group_machine::{Cluster, Commit, Name};
 use lane_words::Refusal;
-use partitioner::Partitions;
 use std::alloc::Global;
 use std::thread::Threads;
 
@@ -34,6 +34,7 @@ impl Parts {
     {
         match event {
             Event::Append(key) => self.append(key),
+            Event::AppendIn(topic, key) => self.append_in(topic, key),
             Event::Join(name) => self.join(alloc, name),
             Event::Sync(member) => self.sync(member),
             Event::Rejoin(member) => self.rejoin(member),
@@ -51,20 +52,14 @@ impl Parts {
     }
 
     /// Appends records of these keys in order, until one is refused.
-    pub fn load<R: Threads + Sync>(
-        &mut self,
-        rt: &R,
-        alloc: Global,
-        keys: &[&[u8]],
-    ) -> Result<(), (u64, Refusal)>
+    pub fn load<R: Threads + Sync>(&mut self, rt: &R, keys: &[&[u8]]) -> Result<(), (u64, Refusal)>
         requires { IsValidWorld (world_view self.old) }
         ensures loads { Loads (world_view self.old) keys.now result (world_view self.new) }
-        ensures history { OnOk result (AppendsKeys (map (λ key. key.now) keys.now)
+        ensures history { OnOk result (AppendsRecords (map (λ key. of_first key.now) keys.now)
             (world_view self.old) (world_view self.new)) }
         ensures valid { IsValidWorld (world_view self.new) }
     {
-        let partitions = Partitions::new(self.cluster.partitions());
-        let Ok(places) = partitions.place_all(rt, alloc, keys) else {
+        let Ok(places) = self.cluster.logs().places_of(rt, keys) else {
             return Err((0, Refusal::Memory));
         };
         for i in 0..keys.len() {
@@ -76,10 +71,23 @@ impl Parts {
     }
 
     fn append(&mut self, key: &[u8]) -> Reply
-        ensures { MayCome (world_view self.old) (append_event (world_view self.old) key.now) result
-            (world_view self.new) }
+        ensures { MayCome (world_view self.old)
+            (append_event (world_view self.old) (of_first key.now)) result (world_view self.new) }
     {
         match self.cluster.append(key) {
+            Ok((partition, offset)) => return Reply::Appended(partition, offset),
+            Err(why) => return Reply::Refused(why),
+        }
+    }
+
+    fn append_in(&mut self, topic: u32, key: &[u8]) -> Reply
+        ensures { MayCome (world_view self.old)
+            (append_in_event (world_view self.old) (topic, key.now)) result (world_view self.new) }
+    {
+        if topic as usize >= self.cluster.topics() {
+            return Reply::Refused(Refusal::NoSuchTopic { nth: 0 });
+        }
+        match self.cluster.append_in(topic as u8, key) {
             Ok((partition, offset)) => return Reply::Appended(partition, offset),
             Err(why) => return Reply::Refused(why),
         }

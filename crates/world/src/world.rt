@@ -1,10 +1,12 @@
 //! A world: whatever is scheduled in it, what it keeps holds.
 
-ghost use Rattle.std.specs.Prelude.{◌≡◌, ◌≤◌, ℕ, None, Some, IfOk, MatchOption, OnErr, OnOk, map};
-ghost use Rattle.group_machine.specs.Cluster.{committed_at};
+ghost use Rattle.std.specs.Prelude.{◌≡◌, ◌≤◌, ◌∷◌, [], ℕ, None, Some, IfOk, MatchOption, OnErr, OnOk, map};
+ghost use Rattle.std.specs.List.{sum};
+ghost use Rattle.group_machine.specs.Cluster.{AreCounts, committed_at};
+ghost use Rattle.partition_log.specs.Keys.{of_first};
 ghost use Rattle.world.specs.World.{consumer_of};
 ghost use Rattle.world.specs.Steps.{NeverFaults, Step};
-ghost use Rattle.world.specs.Runs.{AppendsKeys, IsOpening, Loads, Run, appended_by, appended_in};
+ghost use Rattle.world.specs.Runs.{AppendsRecords, IsOpening, Loads, Run, appended_by, appended_in};
 ghost use Rattle.world.specs.Valid.{IsValidWorld};
 
 mod drain;
@@ -45,15 +47,39 @@ impl Model for World {
 }
 
 impl World {
-    /// A world of 1 to 4096 partitions in which nothing has happened. Refused for want of memory,
-    /// or where the random source fails, from which the hasher of the keys is drawn.
+    /// A world of 1 to 4096 partitions of one topic in which nothing has happened. Refused for want
+    /// of memory, or where the random source fails, from which the hasher of the keys is drawn.
     pub fn new(rt: &impl RandomSource, alloc: Global, partitions: u32) -> Result<World, Memory>
         requires { (1 ≤ partitions) × (partitions ≤ MOST_PARTITIONS) }
         ensures opening { IfOk result (IsOpening partitions) }
+        ensures counts { IfOk result (λ w. w.cluster.logs.counts ≡ partitions ∷ []) }
         ensures offsets { IfOk result (λ w. (p : ℕ) → committed_at w.cluster.store p ≡ 0) }
         ensures valid { IfOk result IsValidWorld }
     {
         let cluster = Cluster::new(rt, alloc, partitions)?;
+        Ok(World {
+            alloc,
+            parts: Parts {
+                cluster,
+                consumers: Vec::new(alloc),
+                mail: Vec::new(alloc),
+            },
+        })
+    }
+
+    /// The same, of as many partitions of each of 1 to 8 topics as these numbers say.
+    pub fn with_topics(
+        rt: &impl RandomSource,
+        alloc: Global,
+        counts: &[u32],
+    ) -> Result<World, Memory>
+        requires { AreCounts counts.now }
+        ensures opening { IfOk result (IsOpening (sum counts.now)) }
+        ensures counts { IfOk result (λ w. w.cluster.logs.counts ≡ counts.now) }
+        ensures offsets { IfOk result (λ w. (p : ℕ) → committed_at w.cluster.store p ≡ 0) }
+        ensures valid { IfOk result IsValidWorld }
+    {
+        let cluster = Cluster::with_topics(rt, alloc, counts)?;
         Ok(World {
             alloc,
             parts: Parts {
@@ -72,7 +98,7 @@ impl World {
     pub fn step(&mut self, event: Event<'_>) -> Reply
         ensures step { Step self.old event.entry result self.new }
         ensures never_faults { NeverFaults self.old event.entry }
-        ensures history { AppendsKeys (appended_by event.entry result) self.old self.new }
+        ensures history { AppendsRecords (appended_by event.entry result) self.old self.new }
         ensures valid { IsValidWorld self.new }
     {
         self.parts.step(self.alloc, event)
@@ -82,7 +108,7 @@ impl World {
     /// with everything as it was; an event that is refused has its reply, and the run goes on.
     pub fn run(&mut self, events: &[Event<'_>]) -> Result<Vec<Reply>, Memory>
         ensures run { IfOk result (λ replies. Run self.old events.now replies.items self.new) }
-        ensures history { IfOk result (λ replies. AppendsKeys
+        ensures history { IfOk result (λ replies. AppendsRecords
             (appended_in events.now replies.items) self.old self.new) }
         ensures valid { IsValidWorld self.new }
         ensures err { OnErr result (self.new ≡ self.old) }
@@ -100,11 +126,11 @@ impl World {
     /// stand. Where the memory for the places of the keys is refused, that number is 0.
     pub fn load<R: Threads + Sync>(&mut self, rt: &R, keys: &[&[u8]]) -> Result<(), (u64, Refusal)>
         ensures loads { Loads self.old keys.now result self.new }
-        ensures history { OnOk result (AppendsKeys (map (λ key. key.now) keys.now) self.old
-            self.new) }
+        ensures history { OnOk result (AppendsRecords (map (λ key. of_first key.now) keys.now)
+            self.old self.new) }
         ensures valid { IsValidWorld self.new }
     {
-        self.parts.load(rt, self.alloc, keys)
+        self.parts.load(rt, keys)
     }
 
     /// The cluster.

@@ -75,21 +75,22 @@ fn text_apart<R: Threads + Sync>(
     rt: &R,
     alloc: Global,
     file: &[u8],
-    column: u32,
+    wanted: &Wanted<'_>,
     header: bool,
     pieces: usize,
-) -> Result<Vec<u8>, Refusal>
-    requires { 1 ≤ column }
-{
-    let lists = lists_apart(rt, alloc, file, column, header, pieces)?;
+) -> Result<Vec<u8>, Refusal> {
+    let lists = lists_apart(rt, alloc, file, wanted, header, pieces)?;
     Ok(text_of(alloc, lists.as_slice())?)
 }
 
 /// The keys of a file that is read in one piece.
-fn text_whole(alloc: Global, file: &[u8], column: u32, header: bool) -> Result<Vec<u8>, Refusal>
-    requires { 1 ≤ column }
-{
-    let lists = read_whole(alloc, file, column, header)?;
+fn text_whole(
+    alloc: Global,
+    file: &[u8],
+    wanted: &Wanted<'_>,
+    header: bool,
+) -> Result<Vec<u8>, Refusal> {
+    let lists = read_whole(alloc, file, wanted, header)?;
     Ok(text_of(alloc, lists.as_slice())?)
 }
 
@@ -98,14 +99,12 @@ fn same_in_pieces<R: Threads + Sync>(
     rt: &R,
     alloc: Global,
     file: &[u8],
-    column: u32,
+    wanted: &Wanted<'_>,
     header: bool,
-) -> bool
-    requires { 1 ≤ column }
-{
-    let whole = text_whole(alloc, file, column, header);
+) -> bool {
+    let whole = text_whole(alloc, file, wanted, header);
     for pieces in [0, 2, 5] {
-        if text_apart(rt, alloc, file, column, header, pieces) != whole {
+        if text_apart(rt, alloc, file, wanted, header, pieces) != whole {
             return false;
         }
     }
@@ -126,7 +125,7 @@ fn any_bytes_are_read_the_same_in_pieces(rt: HostRuntime) -> Result<(), Fail> {
                 &rt,
                 rt.alloc(),
                 file.as_slice(),
-                column,
+                &Wanted::key(column),
                 random.below(2) == 0
             )
         );
@@ -148,7 +147,7 @@ fn a_fault_in_any_piece_is_told_the_same(rt: HostRuntime) -> Result<(), Fail> {
                 &rt,
                 rt.alloc(),
                 file.as_slice(),
-                column,
+                &Wanted::key(column),
                 random.below(2) == 0
             )
         );
@@ -166,7 +165,7 @@ fn long_keys_are_read_the_same_in_pieces(rt: HostRuntime) -> Result<(), Fail> {
         }
         file.extend_from_slice(b"\",b\nc,d\n")?;
     }
-    assert!(rt; same_in_pieces(&rt, rt.alloc(), file.as_slice(), 1, false));
+    assert!(rt; same_in_pieces(&rt, rt.alloc(), file.as_slice(), &Wanted::key(1), false));
     Ok(())
 }
 
@@ -213,6 +212,120 @@ fn a_file_of_a_few_mebibytes_has_all_keys(rt: HostRuntime) -> Result<(), Fail> {
     assert!(rt; file.len() > 2 * LEAST_PIECE);
     let (len, text) = read_apart(&rt, rt.alloc(), file.as_slice(), 2)?;
     assert_eq!(rt; len, 199_999);
-    assert!(rt; text == text_whole(rt.alloc(), file.as_slice(), 2, true)?);
+    assert!(rt; text == text_whole(rt.alloc(), file.as_slice(), &Wanted::key(2), true)?);
+    Ok(())
+}
+
+/// What files of a key and a topic are put together from, the last of which are at fault.
+fn topic_row(n: u64) -> &'static str {
+    match n {
+        0..10 => "k,a\n",
+        10..20 => "\"c\nd\",\"b\"\r\n",
+        20..30 => "\"f\"\"\n\"\"g\",a\r",
+        30..40 => ",b\n",
+        40..50 => "\n\u{feff},a\n",
+        50..60 => "\r\n\r\n\"\",\"b\"\n",
+        60 => "k,c\n",
+        61 => "k\n",
+        _ => "l,a,n\n",
+    }
+}
+
+#[test]
+fn topics_are_read_the_same_in_pieces(rt: HostRuntime) -> Result<(), Fail> {
+    let mut random = Random { state: 3 };
+    let names = [b"a".as_slice(), b"b".as_slice()];
+    for _ in 0..60 {
+        let mut file = Vec::new(rt.alloc());
+        for _ in 0..random.below(40) {
+            file.extend_from_slice(topic_row(random.below(63)).as_bytes())?;
+        }
+        let column = 1 + random.below(3) as u32;
+        assert!(rt;
+            same_in_pieces(
+                &rt,
+                rt.alloc(),
+                file.as_slice(),
+                &Wanted::topic_and_key(column, 2, &names),
+                random.below(2) == 0
+            )
+        );
+    }
+    Ok(())
+}
+
+/// The topics and the keys of a file whose topics are a and b, in one text: of each record the
+/// index of its topic as a digit, its key and a semicolon.
+fn topics_in<R: Threads + Sync>(
+    rt: &R,
+    alloc: Global,
+    file: &[u8],
+    topic_column: u32,
+    header: bool,
+) -> Result<Vec<u8>, Refusal>
+    requires { 1 ≤ topic_column }
+{
+    let names = [b"a".as_slice(), b"b".as_slice()];
+    let found = read_topic_keys_apart(rt, alloc, file, 1, topic_column, &names, header)?;
+    let topics = found.topics(alloc)?;
+    let keys = found.slices(alloc)?;
+    let mut text = Vec::new(alloc);
+    for (topic, key) in topics.iter().zip(keys.iter()) {
+        text.push(b'0'.wrapping_add(*topic))?;
+        text.extend_from_slice(*key)?;
+        text.push(b';')?;
+    }
+    Ok(text)
+}
+
+#[test]
+fn a_file_has_its_topics_or_its_first_fault(rt: HostRuntime) -> Result<(), Fail> {
+    assert_eq!(rt;
+        topics_in(&rt, rt.alloc(), b"21,a\nabc,b\n21,b\n4,a\n4,b\n", 2, false)?.as_slice(),
+        b"021;1abc;121;04;14;".as_slice()
+    );
+    for (file, topic_column, header, fault) in [
+        (
+            b"21,c\n".as_slice(),
+            2,
+            false,
+            Refusal::NoSuchTopic { nth: 1 },
+        ),
+        (
+            b"21\n".as_slice(),
+            2,
+            false,
+            Refusal::NoSuchColumn { nth: 1 },
+        ),
+        (
+            b"21,c\n".as_slice(),
+            3,
+            false,
+            Refusal::NoSuchColumn { nth: 1 },
+        ),
+        (
+            b"1,a\n2\n3,c\n".as_slice(),
+            2,
+            false,
+            Refusal::BadCsv { nth: 2 },
+        ),
+        (
+            b"1,a\n2,b,c\n".as_slice(),
+            2,
+            false,
+            Refusal::BadCsv { nth: 2 },
+        ),
+        (
+            b"key,topic\n2,b\n3, a\n".as_slice(),
+            2,
+            true,
+            Refusal::NoSuchTopic { nth: 3 },
+        ),
+    ] {
+        assert_eq!(rt;
+            topics_in(&rt, rt.alloc(), file, topic_column, header).err(),
+            Some(fault)
+        );
+    }
     Ok(())
 }

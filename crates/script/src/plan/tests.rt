@@ -3,32 +3,91 @@
 use super::*;
 use std::test::Fail;
 
-/// The lines of a plan, each as its line of a script.
-fn text(rt: &HostRuntime, plan: &Plan) -> Result<Vec<u8>, Fail> {
-    let mut out = Vec::new(rt.alloc());
-    for change in plan.lines() {
-        let (command, name) = match change {
-            Change::Join(name) => (b"join ".as_slice(), name.text()),
-            Change::Leave(name) => (b"leave ".as_slice(), name.text()),
-            Change::Lose(name) => (b"lose ".as_slice(), name.text()),
-        };
-        out.extend_from_slice(command)?;
-        out.extend_from_slice(name)?;
-        out.push(b'\n')?;
-    }
-    Ok(out)
+/// A change: its command and its name.
+type Said<'a> = (&'a [u8], &'a [u8]);
+
+/// What a script is read as, as a plan.
+///
+/// A test is a list of scripts, which one loop reads: a course of calls one after the other is
+/// proved over what all of them say, and takes minutes.
+#[derive(Clone, Copy)]
+enum Read<'a> {
+    /// A plan of these changes and this many members.
+    Plan(&'a [Said<'a>], u32),
+    /// It is refused with this number, at the line of this number.
+    Refused(u8, u64),
 }
 
-/// The number of the refusal of a script and its line.
-fn fault(rt: &HostRuntime, script: &[u8]) -> Option<(u8, u64)> {
-    let refusal = match read_plan(rt.alloc(), script) {
-        Ok(_) => return None,
-        Err(refusal) => refusal,
-    };
-    match refusal {
-        Refusal::BadLine { line } | Refusal::NobodyLeft { line } => Some((refusal.code(), line)),
-        _ => None,
+/// A script and what it is read as.
+type Row<'a> = (&'a [u8], Read<'a>);
+
+// The calls, without what their contracts say.
+
+fn plan_of(alloc: Global, script: &[u8]) -> Result<Plan, Refusal> {
+    read_plan(alloc, script)
+}
+
+fn changes(plan: &Plan) -> &[Change] {
+    plan.lines()
+}
+
+fn members(plan: &Plan) -> u32 {
+    plan.members()
+}
+
+fn copied(alloc: Global, plan: &Plan) -> Result<Plan, Memory> {
+    plan.copy(alloc)
+}
+
+fn is_same(plan: &Plan, other: &Plan) -> bool {
+    plan.same(other)
+}
+
+/// Whether a plan has these changes, in order.
+fn has_changes(plan: &Plan, said: &[Said<'_>]) -> bool {
+    let lines = changes(plan);
+    for (change, (command, name)) in lines.iter().zip(said) {
+        let (has_command, has_name) = match change {
+            Change::Join(name) => (b"join".as_slice(), name.text()),
+            Change::Leave(name) => (b"leave".as_slice(), name.text()),
+            Change::Lose(name) => (b"lose".as_slice(), name.text()),
+        };
+        if has_command != *command || has_name != *name {
+            return false;
+        }
     }
+    lines.len() == said.len()
+}
+
+/// Whether a script is read so.
+fn is_read(alloc: Global, script: &[u8], read: &Read<'_>) -> bool {
+    match (plan_of(alloc, script), read) {
+        (Ok(plan), Read::Plan(said, count)) => {
+            has_changes(&plan, said) && members(&plan) == *count
+        }
+        (Err(why), Read::Refused(code, number)) => is_refusal(&why, *code, *number),
+        _ => false,
+    }
+}
+
+/// Whether a refusal has this number, at the line of this number.
+fn is_refusal(why: &Refusal, code: u8, number: u64) -> bool {
+    match why {
+        Refusal::BadLine { line } | Refusal::NobodyLeft { line } => {
+            why.code() == code && *line == number
+        }
+        _ => false,
+    }
+}
+
+/// The first of some scripts that is read otherwise.
+fn first_other(alloc: Global, rows: &[Row<'_>]) -> Option<usize> {
+    for (index, (script, read)) in rows.iter().enumerate() {
+        if !is_read(alloc, script, read) {
+            return Some(index);
+        }
+    }
+    None
 }
 
 /// Adds a line for each number from 0 on: a command and a name with the number.
@@ -36,72 +95,121 @@ fn add_lines(out: &mut Vec<u8>, command: &[u8], count: u32) -> Result<(), Fail> 
     for i in 0..count {
         let number = i.to_string(*out.allocator())?;
         out.extend_from_slice(command)?;
-        out.extend_from_slice(b" m")?;
         out.extend_from_slice(number.as_bytes())?;
         out.push(b'\n')?;
     }
     Ok(())
 }
 
+/// The names of so many members that join, and then of so many that leave, each in its order.
+fn are_all(plan: &Plan, joins: usize, leaves: usize) -> bool {
+    let lines = changes(plan);
+    for (index, change) in lines.iter().enumerate() {
+        let is_so = match change {
+            Change::Join(name) => index < joins && is_numbered(name, index),
+            Change::Leave(name) => joins <= index && is_numbered(name, index - joins),
+            Change::Lose(_) => false,
+        };
+        if !is_so {
+            return false;
+        }
+    }
+    joins <= lines.len() && lines.len() - joins == leaves
+}
+
+/// Whether a name is `m` and a number below 1,000, without zeros in front.
+fn is_numbered(name: &Name, number: usize) -> bool {
+    let text = name.text();
+    let digits = [
+        b'm',
+        b'0' + (number / 100 % 10) as u8,
+        b'0' + (number / 10 % 10) as u8,
+        b'0' + (number % 10) as u8,
+    ];
+    let front = if number < 10 {
+        3
+    } else if number < 100 {
+        2
+    } else {
+        1
+    };
+    text.first() == Some(&b'm') && text[1..] == digits[front..]
+}
+
+const CHANGES: &[Said<'static>] = &[
+    (b"join", b"A"),
+    (b"join", b"B-1"),
+    (b"leave", b"A"),
+    (b"join", b"c_2"),
+    (b"lose", b"B-1"),
+];
+
+const PLANS: &[Row<'static>] = &[
+    (
+        b"# x\n\njoin A\r\njoin B-1\n\r\nleave A\njoin c_2\nlose B-1",
+        Read::Plan(CHANGES, 3),
+    ),
+    (
+        b"join A\njoin B-1\nleave A\njoin c_2\nlose B-1\n",
+        Read::Plan(CHANGES, 3),
+    ),
+];
+
+const FAULTS: &[Row<'static>] = &[
+    (b"", Read::Refused(27, 0)),
+    (b"# x\n\n\r\n#", Read::Refused(27, 0)),
+    (b"join A\nlose A", Read::Refused(27, 2)),
+    (b"join A\nleave A\njoin B", Read::Refused(27, 2)),
+    (b"join A\nlose A\njunk", Read::Refused(27, 2)),
+    (b"join A\njunk\nlose A", Read::Refused(22, 2)),
+    (b"join A\njoin A", Read::Refused(22, 2)),
+    (b"leave A", Read::Refused(22, 1)),
+    (b"lose A", Read::Refused(22, 1)),
+    (b"join A\nleave B", Read::Refused(22, 2)),
+    (b"join A\n\n# x\r\n\r\nlose B", Read::Refused(22, 5)),
+    (b"join A\njoin B\nlose A\nlose A", Read::Refused(22, 4)),
+    (b"join A\njoin B\nleave A\nlose A", Read::Refused(22, 4)),
+    (b"join A\njoin B\nleave A\njoin A", Read::Refused(22, 4)),
+    (
+        b"join A\njoin B\nlose A\nlose B\njoin A",
+        Read::Refused(27, 4),
+    ),
+];
+
+const OTHERS: &[Row<'static>] = &[
+    (b"settle", Read::Refused(22, 1)),
+    (b"drain", Read::Refused(22, 1)),
+    (b"append x", Read::Refused(22, 1)),
+    (b"append ", Read::Refused(22, 1)),
+    (b"append", Read::Refused(22, 1)),
+    (b"poll A 0 1", Read::Refused(22, 1)),
+    (b"send A 0", Read::Refused(22, 1)),
+    (b"rejoin A", Read::Refused(22, 1)),
+    (b"sync A", Read::Refused(22, 1)),
+    (b"deliver 1", Read::Refused(22, 1)),
+    (b"unanswered 1", Read::Refused(22, 1)),
+    (b"join", Read::Refused(22, 1)),
+    (b"join A B", Read::Refused(22, 1)),
+    (b"join  A", Read::Refused(22, 1)),
+    (b"join A ", Read::Refused(22, 1)),
+    (b" join A", Read::Refused(22, 1)),
+    (b"join A\r\r", Read::Refused(22, 1)),
+    (b"join \xc3\xa4", Read::Refused(22, 1)),
+];
+
 #[test]
-fn changes_are_read(rt: HostRuntime) -> Result<(), Fail> {
-    let script = b"# x\n\njoin A\r\njoin B-1\n\r\nleave A\njoin c_2\nlose B-1".as_slice();
-    let plan = read_plan(rt.alloc(), script)?;
-    let lines = b"join A\njoin B-1\nleave A\njoin c_2\nlose B-1\n".as_slice();
-    assert!(rt; text(&rt, &plan)?.as_slice() == lines);
-    assert_eq!(rt; plan.members(), 3);
-    let again = read_plan(rt.alloc(), lines)?;
-    assert!(rt; plan.same(&again));
-    Ok(())
+fn changes_are_read(rt: HostRuntime) {
+    assert_eq!(rt; first_other(rt.alloc(), PLANS), None);
 }
 
 #[test]
 fn the_first_fault_is_told(rt: HostRuntime) {
-    for (script, code, line) in [
-        (b"".as_slice(), 27, 0),
-        (b"# x\n\n\r\n#".as_slice(), 27, 0),
-        (b"join A\nlose A".as_slice(), 27, 2),
-        (b"join A\nleave A\njoin B".as_slice(), 27, 2),
-        (b"join A\nlose A\njunk".as_slice(), 27, 2),
-        (b"join A\njunk\nlose A".as_slice(), 22, 2),
-        (b"join A\njoin A".as_slice(), 22, 2),
-        (b"leave A".as_slice(), 22, 1),
-        (b"lose A".as_slice(), 22, 1),
-        (b"join A\nleave B".as_slice(), 22, 2),
-        (b"join A\n\n# x\r\n\r\nlose B".as_slice(), 22, 5),
-        (b"join A\njoin B\nlose A\nlose A".as_slice(), 22, 4),
-        (b"join A\njoin B\nleave A\nlose A".as_slice(), 22, 4),
-        (b"join A\njoin B\nleave A\njoin A".as_slice(), 22, 4),
-        (b"join A\njoin B\nlose A\nlose B\njoin A".as_slice(), 27, 4),
-    ] {
-        assert_eq!(rt; fault(&rt, script), Some((code, line)));
-    }
+    assert_eq!(rt; first_other(rt.alloc(), FAULTS), None);
 }
 
 #[test]
 fn other_lines_are_refused(rt: HostRuntime) {
-    for script in [
-        b"settle".as_slice(),
-        b"drain".as_slice(),
-        b"append x".as_slice(),
-        b"append ".as_slice(),
-        b"append".as_slice(),
-        b"poll A 0 1".as_slice(),
-        b"send A 0".as_slice(),
-        b"rejoin A".as_slice(),
-        b"sync A".as_slice(),
-        b"deliver 1".as_slice(),
-        b"unanswered 1".as_slice(),
-        b"join".as_slice(),
-        b"join A B".as_slice(),
-        b"join  A".as_slice(),
-        b"join A ".as_slice(),
-        b" join A".as_slice(),
-        b"join A\r\r".as_slice(),
-        b"join \xc3\xa4".as_slice(),
-    ] {
-        assert_eq!(rt; fault(&rt, script), Some((22, 1)));
-    }
+    assert_eq!(rt; first_other(rt.alloc(), OTHERS), None);
 }
 
 #[test]
@@ -110,50 +218,63 @@ fn a_line_has_256_bytes_at_most(rt: HostRuntime) -> Result<(), Fail> {
     for _ in 0..256 {
         script.push(b'#')?;
     }
-    assert_eq!(rt; fault(&rt, &script), None);
+    let read = [(script.as_slice(), Read::Plan(&[(b"join", b"A")], 1))];
+    assert_eq!(rt; first_other(rt.alloc(), &read), None);
     script.push(b'#')?;
-    assert_eq!(rt; fault(&rt, &script), Some((22, 2)));
+    let refused = [(script.as_slice(), Read::Refused(22, 2))];
+    assert_eq!(rt; first_other(rt.alloc(), &refused), None);
     Ok(())
 }
 
 #[test]
 fn at_most_512_join(rt: HostRuntime) -> Result<(), Fail> {
     let mut script = Vec::new(rt.alloc());
-    add_lines(&mut script, b"join", 512)?;
-    let plan = read_plan(rt.alloc(), &script)?;
-    assert_eq!(rt; plan.members(), 512);
-    assert_eq!(rt; plan.lines().len(), 512);
+    add_lines(&mut script, b"join m", 512)?;
+    let plan = plan_of(rt.alloc(), &script)?;
+    assert!(rt; members(&plan) == 512 && are_all(&plan, 512, 0));
     let mut more = script.as_slice().to_vec(rt.alloc())?;
     more.extend_from_slice(b"join m512\n")?;
-    assert_eq!(rt; fault(&rt, &more), Some((22, 513)));
-    add_lines(&mut script, b"leave", 511)?;
-    let plan = read_plan(rt.alloc(), &script)?;
-    assert_eq!(rt; plan.members(), 512);
-    assert_eq!(rt; plan.lines().len(), 1023);
-    assert!(rt; text(&rt, &plan)?.as_slice() == script.as_slice());
-    assert!(rt; plan.same(&plan.copy(rt.alloc())?));
-    script.extend_from_slice(b"lose m511\n")?;
-    assert_eq!(rt; fault(&rt, &script), Some((27, 1024)));
+    assert_eq!(rt;
+        first_other(rt.alloc(), &[(&more, Read::Refused(22, 513))]),
+        None
+    );
     Ok(())
 }
 
 #[test]
+fn all_but_one_of_512_leave(rt: HostRuntime) -> Result<(), Fail> {
+    let mut script = Vec::new(rt.alloc());
+    add_lines(&mut script, b"join m", 512)?;
+    add_lines(&mut script, b"leave m", 511)?;
+    let plan = plan_of(rt.alloc(), &script)?;
+    assert!(rt; members(&plan) == 512 && are_all(&plan, 512, 511));
+    assert!(rt; is_same(&plan, &copied(rt.alloc(), &plan)?));
+    script.extend_from_slice(b"lose m511\n")?;
+    assert_eq!(rt;
+        first_other(rt.alloc(), &[(&script, Read::Refused(27, 1024))]),
+        None
+    );
+    Ok(())
+}
+
+const UNLIKE: &[&[u8]] = &[
+    b"join A\njoin B\nlose A",
+    b"join A\njoin B\nleave B",
+    b"join A\njoin C\nleave A",
+    b"join B\njoin A\nleave A",
+    b"join A\njoin B",
+    b"join A\njoin B\nleave A\njoin C",
+];
+
+#[test]
 fn plans_are_compared(rt: HostRuntime) -> Result<(), Fail> {
-    let plan = read_plan(rt.alloc(), b"join A\njoin B\nleave A".as_slice())?;
-    assert!(rt; plan.same(&plan));
-    let copy = plan.copy(rt.alloc())?;
-    assert!(rt; copy.same(&plan) && plan.same(&copy));
-    assert!(rt; text(&rt, &copy)?.as_slice() == b"join A\njoin B\nleave A\n".as_slice());
-    for other in [
-        b"join A\njoin B\nlose A".as_slice(),
-        b"join A\njoin B\nleave B".as_slice(),
-        b"join A\njoin C\nleave A".as_slice(),
-        b"join B\njoin A\nleave A".as_slice(),
-        b"join A\njoin B".as_slice(),
-        b"join A\njoin B\nleave A\njoin C".as_slice(),
-    ] {
-        let other = read_plan(rt.alloc(), other)?;
-        assert!(rt; !plan.same(&other) && !other.same(&plan));
+    let plan = plan_of(rt.alloc(), b"join A\njoin B\nleave A")?;
+    let copy = copied(rt.alloc(), &plan)?;
+    assert!(rt; is_same(&plan, &plan) && is_same(&plan, &copy) && is_same(&copy, &plan));
+    assert!(rt; has_changes(&copy, &[(b"join", b"A"), (b"join", b"B"), (b"leave", b"A")]));
+    for other in UNLIKE {
+        let other = plan_of(rt.alloc(), other)?;
+        assert!(rt; !is_same(&plan, &other) && !is_same(&other, &plan));
     }
     Ok(())
 }

@@ -584,3 +584,25 @@ fn a_long_schedule_keeps_the_world_good(rt: HostRuntime) -> Result<(), Fail> {
     assert!(rt; world.cluster().generation() > 8);
     Ok(())
 }
+
+#[test]
+fn appends_in_topics(rt: HostRuntime) -> Result<(), Fail> {
+    let mut world = World::with_topics(&rt, rt.alloc(), &[2, 3])?;
+    let steps = [
+        (Event::AppendIn(0, b"21"), Reply::Appended(0, 0)),
+        (Event::AppendIn(1, b"abc"), Reply::Appended(2, 0)),
+        (Event::AppendIn(1, b"21"), Reply::Appended(2, 1)),
+        (Event::AppendIn(0, b"4"), Reply::Appended(1, 0)),
+        (Event::AppendIn(1, b"4"), Reply::Appended(3, 0)),
+        (Event::AppendIn(1, b"abc"), Reply::Appended(2, 2)),
+        (
+            Event::AppendIn(2, b"abc"),
+            Reply::Refused(Refusal::NoSuchTopic { nth: 0 }),
+        ),
+        (Event::Append(b"21"), Reply::Appended(0, 1)),
+    ];
+    for (event, reply) in steps {
+        assert_eq!(rt; step(&mut world, event), reply, "{event:?}");
+    }
+    Ok(())
+}

@@ -1,5 +1,6 @@
 use Rattle.std.proofs.Common.{rules, ◌∙◌}
 use Rattle.key_file.proofs.Keys.{after_keys-ok, fault_after, keys_from-nil}
+use Rattle.key_file.specs.Private.Wanted.{taking}
 use Rattle.key_file.proofs.piece.keys_of_piece.Goals as goal
 
 pub returns-then-not-found-clause-keys : goal.returns-then-not-found-clause-keys
@@ -10,5 +11,5 @@ returns-then-not-found-clause-keys c =
 pub returns-in_err-add_key-clause-fault : goal.returns-in_err-add_key-clause-fault
 returns-in_err-add_key-clause-fault c =
     let next = rw c.if-not-found.false at c.in-Ok.ensures.reads in
-    let fault = fault_after c.loop-nth.keys _ _ c.args.column c.args.width c.loop-nth.nth _ _ c.in_err-add_key.field-0.0 c.loop-nth.invariant.keys next.1 c.in_err-add_key.ensures.fault in
+    let fault = fault_after c.loop-nth.keys _ _ (taking c.args.wanted.now) c.args.width c.loop-nth.nth _ _ c.in_err-add_key.field-0.0 c.loop-nth.invariant.keys next.1 c.in_err-add_key.ensures.fault in
     search rules

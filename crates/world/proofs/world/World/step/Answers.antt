@@ -1,5 +1,5 @@
 use Rattle.std.proofs.Common.{subst}
-use Rattle.world.specs.Runs.{AppendsKeys, appended_by}
+use Rattle.world.specs.Runs.{AppendsRecords, appended_by}
 use Rattle.world.specs.Steps.{NeverFaults}
 use Rattle.world.specs.Private.View.{world_view}
 use Rattle.world.proofs.Events.{never_faults, valid_after}
@@ -15,7 +15,7 @@ returns-clause-never_faults c = subst (λ w. NeverFaults w c.args.event) c.self.
 
 pub returns-clause-history : goal.returns-clause-history
 returns-clause-history c =
-    subst (λ w. AppendsKeys (appended_by c.args.event c.step.result) w (world_view c.step.new.self)) c.self.view_is
+    subst (λ w. AppendsRecords (appended_by c.args.event c.step.result) w (world_view c.step.new.self)) c.self.view_is
     (history_after (world_view c.self.inside.parts) c.args.event c.step.result (world_view c.step.new.self) c.self.invariant c.step.ensures)
 
 pub returns-clause-valid : goal.returns-clause-valid

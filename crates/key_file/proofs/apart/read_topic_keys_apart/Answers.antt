@@ -1,0 +1,15 @@
+use Rattle.std.proofs.Common.{rules, ◌≡◌, Err, arith}
+use Rattle.key_file.specs.Private.Wanted.{taking}
+use Rattle.key_file.proofs.Faults.{fault-kind}
+use Rattle.key_file.proofs.Joined.{keys_of-few}
+use Rattle.key_file.proofs.apart.read_topic_keys_apart.Goals as goal
+
+pub of-requires : goal.of-requires
+of-requires g c =
+    let few = keys_of-few (taking c.topic_and_key-wanted.result) c.args.header c.args.file.now _ c.in_ok-lists.ensures.keys in
+    omega (arith, few)
+
+pub returns-in_err-lists-clause-kind : goal.returns-in_err-lists-clause-kind
+returns-in_err-lists-clause-kind g c =
+    let same : c.from_residual.result ≡ Err c.in_err-lists.field-0.0 = search rules in
+    rw same (fault-kind (taking c.topic_and_key-wanted.result) c.args.header c.args.file.now _ c.in_err-lists.ensures.fault)

@@ -1,0 +1,125 @@
+-- Which topic a name tells, and what is said in it.
+use Rattle.std.proofs.Common.{◌≡◌, refl, sym, ap, ◌∙◌, ℕ, Bool, true, false, cond, option_and_then, subst, List, [], ◌∷◌, ◌++◌, length, get_or, arith, Option, Some, None}
+use Rattle.std.specs.Prelude.{◌==◌}
+use Rattle.std.specs.List.{slice_get}
+use Rattle.std.specs.Str.{bytes_eq}
+use Rattle.std.proofs.lemmas.List.Quantifiers.{position-Some}
+use Rattle.std.proofs.lemmas.List.Sums.{position_or_len_is}
+use Rattle.std.proofs.lemmas.Option.{get_or_from_slice_get, slice_get-get_or, slice_get_within}
+use Rattle.std.proofs.lemmas.Slice.Eq.{bytes_eq-Decides}
+use Rattle.group_machine.specs.Name.{is_name}
+use Rattle.script.proofs.Parts.{split-parts, split-there}
+use Rattle.script.proofs.WordLemmas.{name-word}
+use Rattle.script.specs.Forms.{IsInTopic, IsSaidIn}
+use Rattle.script.specs.Grammar.{split_word, topic_before, topic_said}
+use Rattle.script.specs.Topics.{MayBeTopics, topic_named}
+use Rattle.script.specs.declared.topics.Topic.{Topic}
+use borrow.Author.Tests.{eqb-true, lt-ltb}
+
+no_topic : Topic
+no_topic = record { name = []; partitions = 0 }
+
+-- the topic of an index that a name tells has this name
+pub named-topic : (topics : List Topic) (name : List ℕ) (i : ℕ) → topic_named topics name ≡ Some i
+    → (topic : Topic) × (slice_get topics i ≡ Some topic) × (topic.name ≡ name)
+unfolding topic_named
+named-topic topics name i e =
+    let found = position-Some (λ topic. bytes_eq topic.name name) topics i no_topic e in
+    let topic = get_or topics i no_topic in
+    (topic, slice_get-get_or topics i no_topic found.0, (bytes_eq-Decides topic.name name).0 found.1)
+
+untrue : (b : Bool) → (b ≡ true → ⊥) → b ≡ false
+untrue true h = absurd (h refl)
+untrue false h = refl
+
+-- its name tells a topic, since no other has it
+pub topic-named : (topics : List Topic) (i : ℕ) (topic : Topic) → MayBeTopics topics
+    → slice_get topics i ≡ Some topic → topic_named topics topic.name ≡ Some i
+unfolding topic_named
+topic-named topics i topic known e =
+    let within = slice_get_within topics i topic e in
+    let is = get_or_from_slice_get topics i topic no_topic e in
+    let at =
+    position_or_len_is (λ other. bytes_eq other.name topic.name) topics i no_topic (omega arith)
+    (λ k below.
+    untrue (bytes_eq (get_or topics k no_topic).name topic.name)
+    (λ same.
+    known.distinct k i no_topic below within
+    ((bytes_eq-Decides (get_or topics k no_topic).name topic.name).0 same ∙ ap (λ t. t.name) (sym is))))
+    (λ below.
+    (bytes_eq-Decides (get_or topics i no_topic).name topic.name).1 (ap (λ t. t.name) is)) in
+    rw (at, lt-ltb _ _ within) refl
+
+-- where there are topics, one is named
+named-before : (first : Topic) (more : List Topic) (text : List ℕ)
+    → topic_said (first ∷ more) text ≡ topic_before (first ∷ more) text
+unfolding topic_said
+named-before first more text = at (length (first ∷ more) == 0) refl
+  where
+    at : (none : Bool) → (length (first ∷ more) == 0) ≡ none
+        → cond none (Some (None, text)) (topic_before (first ∷ more) text)
+        ≡ topic_before (first ∷ more) text
+    at true e = let none = eqb-true (length (first ∷ more)) 0 e in absurd (omega arith)
+    at false e = refl
+
+-- what is written behind the name of a topic is read as said in it
+before-in : (topics : List Topic) (i : ℕ) (said text : List ℕ) → MayBeTopics topics
+    → IsInTopic topics i said text → topic_before topics text ≡ Some (Some i, said)
+unfolding topic_before
+before-in topics i said text known h =
+    let name = known.named i h.topic (slice_get_within topics i h.topic h.at) in
+    let same = get_or_from_slice_get topics i h.topic h.topic h.at in
+    let named : is_name h.topic.name ≡ true = sym (ap (λ t. is_name t.name) same) ∙ name in
+    rw (
+      h.text_is,
+      split-there h.topic.name said (name-word h.topic.name named),
+      topic-named topics i h.topic known h.at,
+    ) refl
+
+pub said-in : (topics : List Topic) (topic : Option ℕ) (said text : List ℕ) → MayBeTopics topics
+    → IsSaidIn topics topic said text → topic_said topics text ≡ Some (topic, said)
+unfolding topic_said
+said-in topics None said text known h = rw (h.0, h.1) refl
+said-in [] (Some i) said text known h = absurd (cc h.at)
+said-in (first ∷ more) (Some i) said text known h =
+    named-before first more text ∙ before-in (first ∷ more) i said text known h
+
+-- and what is read as said in a topic is written behind its name
+in-before : (topics : List Topic) (text : List ℕ) (o : Option ℕ × List ℕ)
+    → topic_before topics text ≡ Some o → IsSaidIn topics o.0 o.1 text
+unfolding topic_before
+in-before topics text o e = go (split_word text) refl e
+  where
+    named : (parts : List ℕ × List ℕ) → split_word text ≡ Some parts
+        → (i : Option ℕ) → topic_named topics parts.0 ≡ i
+        → option_and_then (λ topic. Some (Some topic, parts.1)) i ≡ Some o
+        → IsSaidIn topics o.0 o.1 text
+    named parts cut None is e = absurd cc
+    named parts cut (Some i) is e =
+        let topic = named-topic topics parts.0 i is in
+        let that : (Some i, parts.1) ≡ o = cc in
+        let written : IsInTopic topics i parts.1 text =
+        record {
+          topic = topic.0;
+          at = topic.1;
+          text_is =
+              split-parts text parts cut ∙ ap (λ name. name ++ 32 ∷ parts.1) (sym topic.2);
+        } in
+        subst (λ o. IsSaidIn topics o.0 o.1 text) that written
+
+    go : (parts : Option (List ℕ × List ℕ)) → split_word text ≡ parts
+        → option_and_then
+        (λ parts. option_and_then (λ topic. Some (Some topic, parts.1)) (topic_named topics parts.0))
+        parts ≡ Some o
+        → IsSaidIn topics o.0 o.1 text
+    go None cut e = absurd cc
+    go (Some parts) cut e = named parts cut (topic_named topics parts.0) refl e
+
+pub in-said : (topics : List Topic) (text : List ℕ) (o : Option ℕ × List ℕ)
+    → topic_said topics text ≡ Some o → IsSaidIn topics o.0 o.1 text
+unfolding topic_said
+in-said [] text o e =
+    let that : (None, text) ≡ o = cc in
+    subst (λ o. IsSaidIn [] o.0 o.1 text) that (refl, refl)
+in-said (first ∷ more) text o e =
+    in-before (first ∷ more) text o (sym (named-before first more text) ∙ e)

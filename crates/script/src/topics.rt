@@ -1,0 +1,87 @@
+//! Topics, which lines may name.
+
+ghost use Rattle.std.specs.Prelude.{◌≡◌, ◌≤◌, ℕ, length, take, IfSome, IfNone};
+ghost use Rattle.script.specs.Grammar.{topic_said};
+ghost use Rattle.script.specs.Topics.{MayBeTopics, partition_at, partitions_in, topic_named};
+
+use crate::limits::NO_PARTITION;
+use crate::words;
+use group_machine::Name;
+
+/// A topic, whose records go to partitions of its own. The partitions of several topics are counted
+/// over all of them, in the order of the topics.
+#[derive(Debug, Drop)]
+pub struct Topic {
+    /// Its name, which no other topic has.
+    pub name: Name,
+    /// How many partitions it has: at least 1, and all topics together at most 4096.
+    pub partitions: u32,
+}
+
+/// The index of the topic that is named before a text, and this text; no index, and the text as it
+/// is, where there are no topics.
+#[tactic(auto, unfolding(crate::specs::Grammar::topic_said, crate::specs::Grammar::topic_before))]
+pub fn topic_said<'a>(topics: &[Topic], text: &'a [u8]) -> Option<(Option<u32>, &'a [u8])>
+    requires { MayBeTopics topics.now }
+    ensures found { IfSome result
+        (λ said. topic_said topics.now text.now ≡ Some (said.0, said.1.now)) }
+    ensures none { IfNone result (topic_said topics.now text.now ≡ None) }
+{
+    if topics.is_empty() {
+        return Some((None, text));
+    }
+    let (name, rest) = words::split_word(text)?;
+    let topic = index_named(topics, name)?;
+    Some((Some(topic), rest))
+}
+
+/// The index of the topic of this name.
+#[tactic(auto, unfolding(crate::specs::Topics::topic_named))]
+fn index_named(topics: &[Topic], name: &[u8]) -> Option<u32>
+    requires { MayBeTopics topics.now }
+    ensures { result ≡ topic_named topics.now name.now }
+{
+    match index_in(topics, name) {
+        Some(index) => Some(index as u32),
+        None => None,
+    }
+}
+
+/// The same, as an index of the slice.
+#[tactic(auto, unfolding(crate::specs::Topics::topic_named))]
+fn index_in(topics: &[Topic], name: &[u8]) -> Option<usize>
+    ensures { result ≡ topic_named topics.now name.now }
+{
+    topics.iter().position(|topic| topic.name.text() == name)
+}
+
+/// A partition of the topic of this index, counted over all topics, or `NO_PARTITION` where the
+/// topic does not have it; as it is, where no topic is told.
+#[tactic(auto, unfolding(crate::specs::Topics::partition_at))]
+pub fn partition_at(topics: &[Topic], topic: Option<u32>, partition: u32) -> u32
+    requires { MayBeTopics topics.now }
+    ensures { result ≡ partition_at topics.now topic partition }
+{
+    let Some(index) = topic else {
+        return partition;
+    };
+    let index = index as usize;
+    if index < topics.len() && partition < topics[index].partitions {
+        partitions_before(topics, index) + partition
+    } else {
+        NO_PARTITION
+    }
+}
+
+/// How many partitions the topics before this index have.
+fn partitions_before(topics: &[Topic], index: usize) -> u32
+    requires known { MayBeTopics topics.now }
+    requires within { index ≤ length topics.now }
+    ensures { result ≡ partitions_in (take index topics.now) }
+{
+    let mut partitions = 0;
+    for topic in &topics[..index] {
+        partitions += topic.partitions;
+    }
+    partitions
+}
