@@ -1,4 +1,5 @@
 pub mod Appended
 pub mod Counted
 pub mod Faulted
+pub mod FirstTopic
 pub mod Told

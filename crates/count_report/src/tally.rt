@@ -1,7 +1,8 @@
 //! Keys in logs, and how often each key is in them.
 
-ghost use Rattle.std.specs.Prelude.{◌≡◌, ◌≤◌, ◌<◌, ◌+◌, ◌-◌, ◌⊎◌, [], ℕ, None, Some, IfOk, IfErr, OnOk, length, slice_index_or, vec_len};
+ghost use Rattle.std.specs.Prelude.{◌≡◌, ◌≤◌, ◌<◌, ◌+◌, ◌-◌, ◌⊎◌, ◌∷◌, [], ℕ, None, Some, IfOk, IfErr, OnOk, length, slice_index_or, vec_len};
 ghost use Rattle.lane_words.specs.declared.Refusal.TheVariants as refusal;
+ghost use Rattle.partition_log.specs.Appends.{in_first};
 ghost use Rattle.partition_log.specs.Logs.{IsValidLogs, AreLogsOf, log_at};
 ghost use Rattle.count_report.specs.CountReport.{first_fault};
 ghost use Rattle.count_report.specs.Private.Counted.{AreCountsBelow};
@@ -22,7 +23,7 @@ const LEAST_RECORDS: u64 = 4096;
 /// How many logs are counted at a time where it can't be told how many processors there are.
 const GROUP: u32 = 8;
 
-/// The logs of the keys of a file, appended one after the other.
+/// The logs of the keys of a file, of one topic, appended one after the other.
 ///
 /// Refused by the first key that can't be appended, and for want of memory or of the random bytes
 /// for a hasher.
@@ -33,7 +34,8 @@ pub fn logs_of<R: Threads + Sync + RandomSource>(
     partitions: u32,
 ) -> Result<Logs, Refusal>
     requires { (1 ≤ partitions) × (partitions ≤ MOST_PARTITIONS) }
-    ensures logs { IfOk result (AreLogsOf keys.now) }
+    ensures logs { IfOk result (AreLogsOf (in_first keys.now)) }
+    ensures counts { IfOk result (λ logs. logs.counts ≡ partitions ∷ []) }
     ensures partitions { IfOk result (λ logs. logs.partitions ≡ partitions) }
     ensures valid { IfOk result IsValidLogs }
     ensures accepted { OnOk result (first_fault partitions [] keys.now ≡ None) }
