@@ -5,18 +5,19 @@ use Rattle.std.specs.List.{list_any}
 use Rattle.std.specs.Option.{option_map}
 use Rattle.std.specs.Str.{bytes_eq}
 use Rattle.std.proofs.lemmas.Bool.Decides.{eqb_tells}
-use Rattle.std.proofs.lemmas.List.{length-map}
 use Rattle.std.proofs.lemmas.List.Folds.{list_any-append}
 use Rattle.std.proofs.lemmas.List.Sums.{sum_by-cons}
 use Rattle.std.proofs.lemmas.Slice.Eq.{bytes_eq-Decides}
 use Rattle.lane_words.specs.Sums.{sum_below}
 use Rattle.lane_words.specs.declared.Refusal.{Refusal}
 use Rattle.lane_words.specs.declared.Refusal.TheVariants as r
+use Rattle.partition_log.specs.Appends.{in_first}
 use Rattle.partition_log.specs.Keys.{Key, distinct, id_of, is_known, key_at, plain, with_key}
-use Rattle.partition_log.specs.Logs.{AreLogsOf, IsValidLogs, PartitionLogs, log_at, place_of}
+use Rattle.partition_log.specs.Logs.{AreLogsOf, PartitionLogs, place_of}
 use Rattle.partition_log.proofs.Numbered.{number-back}
 use Rattle.partition_log.proofs.Parted.{sum-plus, sum-same, sum-zero}
-use Rattle.partition_log.proofs.Stored.{place_in-below}
+use Rattle.partition_log.proofs.Appended.{first-keys}
+use Rattle.partition_log.proofs.Stored.{first-below}
 use Rattle.commit_store.specs.Commits.{committed_at}
 use Rattle.group_machine.specs.Cluster.{ClusterState, IsValidCluster}
 use Rattle.group_machine.specs.Rounds.{bare, bare_seat}
@@ -39,6 +40,7 @@ use Rattle.count_report.specs.Reports.{IsFaultOf, IsNoDeviceFault}
 use Rattle.run_report.specs.Private.Runs.{EndsRun, IsRunOver}
 use Rattle.count_report.specs.Tally.{AreCountsByNumber, IsKeyFault}
 use Rattle.count_report.proofs.Counted.{counts-are}
+use Rattle.count_report.proofs.FirstTopic.{log-long, partitions-first, place-first}
 use Rattle.replay_rows.proofs.Replayed.{counted_is}
 
 -- ---- rows see no flags
@@ -94,19 +96,19 @@ group_bare : (g : GroupState) → group_rows (bare g) ≡ group_rows g
 group_bare g = ap₂ (λ a b. a ++ b) (moves_bare g g.moves) (rows_same g.partitions (owner_row (bare g)) (owner_row g) (λ p lt. owner_row_bare g p))
 
 -- ---- the ends of the logs
-log_long : (keys : List Key) (l : PartitionLogs) (p : ℕ) → AreLogsOf keys l → p < l.partitions → end_of l p ≡ records_to l.partitions keys p
-log_long keys l p h lt = sym (length-map (log_at l p) (key_at l.keys)) ∙ ap length (h.records p lt)
+partitions_are : (partitions : ℕ) (keys : List Key) (plan : List Change) (s : ClusterState) → IsRunOver partitions keys plan s → s.logs.partitions ≡ partitions
+partitions_are partitions keys plan s h = partitions-first s.logs partitions h.valid.logs h.counts
 
 ends_are : (partitions : ℕ) (keys : List Key) (plan : List Change) (s : ClusterState) → IsRunOver partitions keys plan s → (p : ℕ) → p < s.group.partitions
     → (committed_at s.store p ≡ records_to partitions keys p) × (end_of s.logs p ≡ records_to partitions keys p)
 ends_are partitions keys plan s h p lt =
     let below : p < s.logs.partitions = omega (arith, lt, h.valid.logs_partitions) in
-    let long = log_long keys s.logs p h.logs below ∙ ap (λ n. records_to n keys p) h.partitions in
+    let long : end_of s.logs p ≡ records_to partitions keys p = log-long s.logs partitions keys p h.counts h.logs below in
     (h.run.ends p below ∙ long, long)
 
 offsets_are : (partitions : ℕ) (keys : List Key) (plan : List Change) (s : ClusterState) → IsRunOver partitions keys plan s → offset_rows s ≡ ended_rows partitions keys
 offsets_are partitions keys plan s h =
-    let n : s.group.partitions ≡ partitions = sym h.valid.logs_partitions ∙ h.partitions in
+    let n : s.group.partitions ≡ partitions = sym h.valid.logs_partitions ∙ partitions_are partitions keys plan s h in
     rows_same s.group.partitions (λ p. offset_row p (committed_at s.store p) (end_of s.logs p)) (λ p. offset_row p (records_to partitions keys p) (records_to partitions keys p))
     (λ p lt. let ends = ends_are partitions keys plan s h p lt in ap₂ (offset_row p) ends.0 ends.1)
     ∙ ap (λ m. rows_below m (λ p. offset_row p (records_to partitions keys p) (records_to partitions keys p))) n
@@ -150,8 +152,8 @@ parted partitions (key ∷ keys) placed =
 
 totals_are : (partitions : ℕ) (keys : List Key) (plan : List Change) (s : ClusterState) → IsRunOver partitions keys plan s → (committed_total s ≡ length keys) × (appended_total s ≡ length keys)
 totals_are partitions keys plan s h =
-    let n : s.group.partitions ≡ partitions = sym h.valid.logs_partitions ∙ h.partitions in
-    let placed : (key : Key) → place_of partitions key < partitions = λ key. subst (λ m. place_of m key < m) h.partitions (place_in-below s.logs key h.valid.logs) in
+    let n : s.group.partitions ≡ partitions = sym h.valid.logs_partitions ∙ partitions_are partitions keys plan s h in
+    let placed : (key : Key) → place_of partitions key < partitions = λ key. omega (arith, first-below s.logs key h.valid.logs, place-first s.logs partitions key h.counts, partitions_are partitions keys plan s h) in
     let all : sum_below s.group.partitions (records_to partitions keys) ≡ length keys = ap (λ m. sum_below m (records_to partitions keys)) n ∙ parted partitions keys placed in (
       sum-same s.group.partitions (committed_at s.store) (records_to partitions keys) (λ p lt. (ends_are partitions keys plan s h p lt).0) ∙ all,
       sum-same s.group.partitions (end_of s.logs) (records_to partitions keys) (λ p lt. (ends_are partitions keys plan s h p lt).1) ∙ all,
@@ -230,7 +232,7 @@ counts_are : (partitions : ℕ) (keys : List Key) (plan : List Change) (s : Clus
     → committed_count_rows s.logs.keys s.store.counts ≡ count_rows (distinct keys) (counts_of keys)
 unfolding counts_of
 counts_are partitions keys plan s h =
-    ap₂ committed_count_rows h.logs.numbers (counts-are keys s.logs s.store.counts h.valid.logs h.logs (by_number partitions keys plan s h))
+    ap₂ committed_count_rows (h.logs.numbers ∙ ap distinct (first-keys keys)) (counts-are keys s.logs s.store.counts h.valid.logs h.logs (by_number partitions keys plan s h))
     ∙ counted_rows keys (distinct keys) (distinct_counted keys)
 
 -- ---- the text
@@ -243,7 +245,7 @@ joined m o f c t =
 pub text_is : (partitions : ℕ) (keys : List Key) (plan : List Change) (s : ClusterState) → IsRunOver partitions keys plan s → move_rows s.group s.group.moves ++ closing_rows s ≡ text_of_run partitions keys plan
 unfolding text_of_run
 text_is partitions keys plan s h =
-    let group : group_rows s.group ≡ group_rows (settled partitions plan) = sym (group_bare s.group) ∙ ap group_rows (h.run.group ∙ ap (λ n. settled n plan) h.partitions) in
+    let group : group_rows s.group ≡ group_rows (settled partitions plan) = sym (group_bare s.group) ∙ ap group_rows (h.run.group ∙ ap (λ n. settled n plan) (partitions_are partitions keys plan s h)) in
     let totals = totals_are partitions keys plan s h in
     joined (move_rows s.group s.group.moves) (owner_rows s.group) (offset_rows s) (committed_count_rows s.logs.keys s.store.counts) (total_row (committed_total s) (appended_total s))
     ∙ ap (λ g. (g ++ offset_rows s) ++ (committed_count_rows s.logs.keys s.store.counts ++ total_row (committed_total s) (appended_total s))) group
@@ -253,13 +255,13 @@ text_is partitions keys plan s h =
 
 -- ---- the report
 -- a run over the logs of some keys
-pub run_over : (partitions : ℕ) (keys : List Key) (plan : List Change) (l : PartitionLogs) (s : ClusterState) → IsValidCluster s → l.partitions ≡ partitions → AreLogsOf keys l → IsRunOf l plan s → IsRunOver partitions keys plan s
+pub run_over : (partitions : ℕ) (keys : List Key) (plan : List Change) (l : PartitionLogs) (s : ClusterState) → IsValidCluster s → l.counts ≡ partitions ∷ [] → AreLogsOf (in_first keys) l → IsRunOf l plan s → IsRunOver partitions keys plan s
 run_over partitions keys plan l s valid same logs run =
     let is : l ≡ s.logs = sym run.logs_are in
     record {
       valid = valid;
-      partitions = sym (ap (λ (x : PartitionLogs). x.partitions) is) ∙ same;
-      logs = subst (AreLogsOf keys) is logs;
+      counts = sym (ap (λ (x : PartitionLogs). x.counts) is) ∙ same;
+      logs = subst (AreLogsOf (in_first keys)) is logs;
       run = subst (λ (x : PartitionLogs). IsRunOf x plan s) is run;
     }
 
