@@ -24,12 +24,17 @@ use Rattle.replay_rows.specs.ReplayRows.{closing_rows, move_rows, refused_row}
 use Rattle.count_report.specs.Reports.{report_of_read}
 
 -- ---- the world before the first line
--- nothing has happened
+-- nothing has happened in it, and its partitions are those of one topic
 unfoldable pub opening_world : ℕ → WorldState
 opening_world partitions = record {
   cluster = record {
     group = opening partitions;
-    logs = record { counts = partitions ∷ []; partitions = partitions; keys = []; logs = replicate partitions [] };
+    logs = record {
+      counts = partitions ∷ [];
+      partitions = partitions;
+      keys = [];
+      logs = replicate partitions [];
+    };
     store = record { offsets = replicate partitions 0; counts = []; room = 0 };
   };
   consumers = [];

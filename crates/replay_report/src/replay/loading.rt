@@ -14,7 +14,7 @@ use std::random::RandomSource;
 use std::thread::Threads;
 use world::World;
 
-/// A world in which nothing has happened.
+/// A world of one topic in which nothing has happened.
 fn opened(rt: &impl RandomSource, alloc: Global, partitions: u32) -> Result<World, Memory>
     requires { (1 ≤ partitions) × (partitions ≤ MOST_PARTITIONS) }
     ensures opening { IfOk result (λ world. world ≡ opening_world partitions) }
@@ -24,7 +24,8 @@ fn opened(rt: &impl RandomSource, alloc: Global, partitions: u32) -> Result<Worl
     Ok(world)
 }
 
-/// A world in which these keys were appended, one after the other, and nothing else has happened.
+/// A world of one topic to which these keys were appended, one after the other, and in which nothing
+/// else has happened.
 ///
 /// Refused by the first key that can't be appended.
 pub fn loaded<R: Threads + Sync + RandomSource>(
