@@ -8,11 +8,10 @@ use Rattle.std.proofs.lemmas.List.Elements.{All-cons, All-head, All-tail}
 use Rattle.std.proofs.lemmas.List.Sums.{fold-append}
 use Rattle.std.proofs.lemmas.Slice.Zip.{get_or-zip, length-zip}
 use Rattle.lane_words.specs.Answers.{Answers}
-use Rattle.lane_words.specs.declared.limits.TheConstants.{LONGEST_KEY}
 use Rattle.lane_words.specs.declared.Refusal.{Refusal}
 use Rattle.lane_words.specs.declared.Refusal.TheVariants as r
 use Rattle.partition_log.specs.Keys.{Key, Keyed, of_first}
-use Rattle.partition_log.specs.Logs.{AreLogsOf, IsOfTopic, IsPlaceOf, IsValidLogs, PartitionLogs, answer_at, is_full_for, place_in, place_in_topic, with_record, with_record_at}
+use Rattle.partition_log.specs.Logs.{AreLogsOf, IsOfTopic, IsPlaceOf, IsValidLogs, PartitionLogs, answer_at, place_in, place_in_topic, with_record, with_record_at}
 use Rattle.partition_log.specs.Appends.{AreAccepted, AreAppended, AreStoppedAfter, GrowByRecords, Placed, in_first, lent, placed, with_records}
 use Rattle.partition_log.specs.Private.Filled.{ArePlaced}
 use Rattle.partition_log.proofs.History.{history}

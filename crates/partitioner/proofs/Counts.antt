@@ -1,5 +1,5 @@
 -- Numbers of partitions in an array of eight, and sums of them.
-use Rattle.std.proofs.Common.{ℕ, ◌≡◌, ◌∙◌, ◌+◌, ◌-◌, ◌%◌, ◌<◌, ◌≤◌, List, [], ◌∷◌, ◌++◌, ap, arith, drop, get_or, length, refl, replicate, sym, take, zero, suc}
+use Rattle.std.proofs.Common.{ℕ, ◌≡◌, ◌-◌, ◌%◌, ◌<◌, ◌≤◌, List, ◌++◌, ap, arith, drop, get_or, length, refl, replicate, zero, suc}
 use Rattle.std.specs.List.{sum}
 use Rattle.std.proofs.Math.Seq.{take-append_seam}
 use Rattle.std.proofs.lemmas.List.Sums.{sum_by_more_le}

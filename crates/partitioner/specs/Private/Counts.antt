@@ -1,5 +1,5 @@
 -- The numbers of partitions of topics in an array of eight, and places that are made of hashes.
-use Rattle.std.specs.Prelude.{ℕ, ◌≡◌, ◌<◌, ◌≤◌, ◌+◌, ◌-◌, ◌%◌, ◌++◌, List, length, replicate, slice_index_or, take}
+use Rattle.std.specs.Prelude.{ℕ, ◌≡◌, ◌<◌, ◌+◌, ◌-◌, ◌%◌, ◌++◌, List, length, replicate, slice_index_or, take}
 use Rattle.partitioner.specs.Place.{partitions_before}
 use Rattle.partitioner.specs.declared.limits.TheConstants.{MOST_TOPICS}
 

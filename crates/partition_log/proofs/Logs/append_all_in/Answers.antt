@@ -1,7 +1,6 @@
-use Rattle.std.proofs.Common.{◌≡◌, ◌∙◌, arith, length, map, subst, sym}
+use Rattle.std.proofs.Common.{◌∙◌, arith, subst, sym}
 use Rattle.std.specs.Prelude.{IfErr, IfOk}
 use Rattle.std.specs.List.{zip}
-use Rattle.std.proofs.lemmas.List.{length-map}
 use Rattle.std.proofs.lemmas.Result.{IfOk-weaker}
 use Rattle.partition_log.specs.Appends.{AreAppended, AreStoppedAfter, GrowByRecords, lent, placed}
 use Rattle.partition_log.proofs.Appended.{all-topics, grow, placed-long, places-are, records-placed, stopped-first, topics-placed}

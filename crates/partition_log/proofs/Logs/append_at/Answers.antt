@@ -1,4 +1,4 @@
-use Rattle.std.proofs.Common.{◌≡◌, ◌∙◌, ◌<◌, [], ◌∷◌, ◌++◌, ap, map, arith, rules, sym, subst, length, vec_items}
+use Rattle.std.proofs.Common.{◌≡◌, ◌∙◌, ◌<◌, [], ◌∷◌, ◌++◌, map, arith, rules, sym, subst, length, vec_items}
 use Rattle.std.specs.List.{sum}
 use Rattle.std.proofs.lemmas.List.{length-map}
 use Rattle.partition_log.specs.Logs.{AreLogsOf, IsOfTopic, IsPlaceOf, PartitionLogs, place_in}

@@ -1,9 +1,9 @@
-use Rattle.std.proofs.Common.{◌∙◌, ◌<◌, ℕ, [], ap, arith, get_or, length, refl, subst, sym}
+use Rattle.std.proofs.Common.{◌∙◌, ◌<◌, [], ap, arith, get_or, length, refl, subst, sym}
 use Rattle.std.specs.Borrow.{Bor}
 use Rattle.std.specs.List.{zip}
 use Rattle.std.proofs.lemmas.List.{take_all}
 use Rattle.partition_log.specs.Keys.{Key}
-use Rattle.partition_log.specs.Logs.{IsPlaceOf, IsValidLogs, PartitionLogs}
+use Rattle.partition_log.specs.Logs.{IsValidLogs, PartitionLogs}
 use Rattle.partition_log.specs.Appends.{AreAppended, AreStoppedAfter, lent}
 use Rattle.partition_log.proofs.Appended.{appended_more, none_appended, placed-still, stopped, zipped-at, zipped-goes, zipped-long}
 use Rattle.partition_log.proofs.ShardRecords.{lent-long}

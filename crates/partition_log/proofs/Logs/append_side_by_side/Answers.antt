@@ -1,4 +1,4 @@
-use Rattle.std.proofs.Common.{◌∙◌, ap, map, subst, sym, vec_items}
+use Rattle.std.proofs.Common.{◌∙◌, map, subst, sym, vec_items}
 use Rattle.std.specs.List.{sum}
 use Rattle.partition_log.specs.Appends.{lent}
 use Rattle.partition_log.specs.Logs.{PartitionLogs}

@@ -1,4 +1,4 @@
-use Rattle.std.proofs.Common.{arith, ap, length, subst}
+use Rattle.std.proofs.Common.{arith, subst}
 use Rattle.partitioner.specs.Place.{AreCounts}
 use Rattle.partitioner.proofs.Partitions.place.Goals as goal
 

@@ -1,4 +1,4 @@
-use Rattle.std.proofs.Common.{arith, get_or, ap, length}
+use Rattle.std.proofs.Common.{arith, get_or}
 use Rattle.partitioner.proofs.Hashes.{all_placed, none_placed, one_placed}
 use Rattle.partitioner.proofs.Partitions.place_hashes_in.Goals as goal
 

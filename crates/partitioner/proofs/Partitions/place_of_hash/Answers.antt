@@ -1,7 +1,5 @@
-use Rattle.std.proofs.Common.{◌+◌, ◌<◌, ◌≡◌, ◌∙◌, ◌%◌, ap, arith, get_or, length, subst, sym}
-use Rattle.std.specs.List.{sum}
+use Rattle.std.proofs.Common.{◌≡◌, ◌∙◌, ap, arith, get_or, length, subst, sym}
 use Rattle.partitioner.specs.Place.{AreCounts}
-use Rattle.partitioner.specs.Private.Counts.{place_of_hash}
 use Rattle.std.proofs.lemmas.List.{get_or-take}
 use Rattle.partitioner.proofs.Counts.{place_within}
 use Rattle.partitioner.proofs.Partitions.place_of_hash.Goals as goal

@@ -1,4 +1,4 @@
-use Rattle.std.proofs.Common.{◌++◌, ◌-◌, ◌∙◌, ap, drop, length, replicate, refl, subst, take, sym}
+use Rattle.std.proofs.Common.{◌++◌, drop, length, replicate, subst, sym}
 use Rattle.std.proofs.Math.Seq.{take-append_seam}
 use Rattle.partitioner.specs.Place.{AreCounts}
 use Rattle.partitioner.specs.Private.Counts.{IsPadded}
