@@ -10,7 +10,7 @@ use Rattle.lane_words.specs.declared.Refusal.{Refusal}
 use Rattle.lane_words.specs.declared.Refusal.TheVariants as r
 use Rattle.bit_planes.specs.PartitionSet.{PartitionSet}
 use Rattle.keyed_table.proofs.Raised.{length-raised}
-use Rattle.partition_log.specs.Keys.{Key, Keyed, id_of, is_known}
+use Rattle.partition_log.specs.Keys.{Keyed, id_of, is_known}
 use Rattle.partition_log.specs.Logs.{IsOfTopic, IsPlaceOf, PartitionLogs, is_full_for, log_at, place_in, with_record}
 use Rattle.partition_log.proofs.Valid.{is_place, log-other, log-same, place-below, valid}
 use Rattle.commit_store.specs.Commits.{Commits, Fits, commit_answer, committed_at, raised}

@@ -1,7 +1,7 @@
 use Rattle.std.proofs.Common.{◌≡◌, ◌∙◌, [], ap, arith, drop, get_or, map, refl, subst, sym, take}
 use Rattle.std.specs.Borrow.{Bor}
 use Rattle.std.proofs.lemmas.List.{append-nil, take_all}
-use Rattle.std.proofs.Common.{ℕ, Ok, Err}
+use Rattle.std.proofs.Common.{Ok, Err}
 use Rattle.lane_words.specs.Answers.{Answers}
 use Rattle.partition_log.specs.Keys.{Key, of_first}
 use Rattle.partition_log.specs.Logs.{PartitionLogs, answer_at}
