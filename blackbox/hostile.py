@@ -24,7 +24,7 @@ from simulator.programs import Outcome
 from simulator.records import Options
 
 FIVE = b"21\n4\nfoobar\nabc\n21\n"
-FIVE_KEYS = FIVE.split()
+FIVE_KEYS = [(0, key) for key in FIVE.split()]
 
 # Lines at the edge of what is allowed, in a script alone.
 GOOD = [
@@ -32,12 +32,12 @@ GOOD = [
     b"append \r", b"append join A", b"#" * 256, b"# join\tA", b"#", b"poll A 00 01", b"poll A 4294967295 4294967295",
     b"poll A 4096 0", b"deliver 0", b"deliver 0000000000", b"deliver 4294967295", b"unanswered 0000000001",
     b"send A 0004294967", b"join " + b"n" * 32, b"join -", b"join _", b"join 0", b"join join", b"rejoin A", b"sync A",
-    b"leave A", b"lose A", b"settle", b"drain",
+    b"leave A", b"lose A", b"settle", b"drain", b"keep B", b"return A",
 ]
 
 # What a line that says something is, and how large a number may be.
 LINE = re.compile(
-    rb"append .*|(join|rejoin|sync|leave|lose) N|poll N D D|send N D|(deliver|unanswered) D|settle|drain"
+    rb"append .*|(join|keep|return|rejoin|sync|leave|lose) N|poll N D D|send N D|(deliver|unanswered) D|settle|drain"
     .replace(b"N", rb"[A-Za-z0-9_-]{1,32}").replace(b"D", rb"[0-9]{1,10}"), re.DOTALL)
 LARGEST = 4_294_967_295
 
@@ -49,10 +49,11 @@ CUT_FILES = [
     (b'key,note\r\n"a,b","say ""no"""\r\n"x\r\ny",\r\n"","2"\r\n\r\n"a,b",3\r\n', Options(column=1, header=True)),
     (b'note,key\n"1\n2","a""b"\n3,"a""b"\n"",\n,"\xff,"\n"4"x,"""q"""z\n5,"last"', Options(column=2, header=True)),
     (b'a"b\n"c"d"\n""""\n"\n"\n', Options()),
+    (b'key,topic\n21,a\n"x,y","b-1"\r\n"",a\n4,b-1\n', Options(header=True, topics=((b"a", 2), (b"b-1", 3)))),
 ]
 
 CUT_SCRIPT = (b"# two\njoin A\r\nsettle\n\njoin B\nsettle\npoll A 0 2\nsend A 0\ndeliver 1\nappend a,b \nlose B\n"
-              b"drain\nunanswered 01\n")
+              b"drain\nunanswered 01\nkeep C\nreturn C\nreturn A\ndrain\n")
 CUT_PLAN = b"join A\n# x\r\njoin B-1\nleave A\njoin C\nlose B-1\n"
 
 
@@ -135,7 +136,7 @@ def cut_file_faults(program: Path, text: bytes, options: Options) -> Iterator[st
         cut = text[:end]
         read = records.read(cut)
         told = records.record_fault(read, options)
-        wanted = Outcome(b"", told, 1) if told else Outcome(count_text(records.keys_of(read, options)), b"", 0)
+        wanted = Outcome(b"", told, 1) if told else Outcome(count_text([key for _, key in records.keyed(read, options)]), b"", 0)
         [done] = programs.outcomes(program, {"file": cut}, [[b"count", b"file", *options.words()]])
         yield from unless_equal(done, wanted, cut)
 

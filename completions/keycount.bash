@@ -7,8 +7,8 @@ _keycount() {
     return
   fi
   case $command in
-    count) options="--partitions --column --header -h --help" ;;
-    replay | run) options="--partitions --column --header --batch -h --help" ;;
+    count) options="--partitions --column --header --topics --topic-column -h --help" ;;
+    replay | run) options="--partitions --column --header --topics --topic-column --batch -h --help" ;;
     help)
       mapfile -t COMPREPLY < <(compgen -W "count replay run help" -- "$word")
       return
@@ -16,8 +16,8 @@ _keycount() {
     *) return ;;
   esac
   case $before in
-    # A number follows.
-    --partitions | --column | --batch) return ;;
+    # A number or a list of topics follows.
+    --partitions | --column | --topics | --topic-column | --batch) return ;;
   esac
   case $word in
     -*) mapfile -t COMPREPLY < <(compgen -W "$options" -- "$word") ;;

@@ -13,4 +13,6 @@ complete -c keycount -f -n '__fish_seen_subcommand_from help' -a 'count replay r
 complete -c keycount -x -n $each -l partitions -d 'How many partitions the keys are spread over, 1 to 4096'
 complete -c keycount -x -n $each -l column -d 'Which column has the key, 1 to 65535'
 complete -c keycount -n $each -l header -d 'Pass over the first record'
+complete -c keycount -x -n $each -l topics -d 'The topics, as NAME:N,NAME:N, each of N partitions'
+complete -c keycount -x -n $each -l topic-column -d 'Which column has the topic, 1 to 65535'
 complete -c keycount -x -n $scripted -l batch -d 'The most records of one poll, 1 to 1000000'

@@ -45,7 +45,7 @@ def help_faults() -> Iterator[str]:
     """The help tells something at all, so that the comparisons with it say something."""
     yield from differ("the list of subcommands", {*SUBCOMMANDS, "help"}, told_subcommands())
     for name, told in told_options().items():
-        least = {"-h", "--help"} | ({"--partitions", "--column", "--header"} if name else set())
+        least = {"-h", "--help"} | ({"--partitions", "--column", "--header", "--topics", "--topic-column"} if name else set())
         if not least <= told:
             yield f"the help of keycount {name} does not list {sorted(least - told)}"
 
@@ -124,7 +124,7 @@ def fish_faults() -> Iterator[str]:
                                       FISH.read_text(encoding="utf-8"), re.M):
         for name in under.get(condition, []):
             ours[name] |= {f"-{letter}" for letter in re.findall(r"-s (\w)", rest)}
-            ours[name] |= {f"--{long}" for long in re.findall(r"-l (\w+)", rest)}
+            ours[name] |= {f"--{long}" for long in re.findall(r"-l ([\w-]+)", rest)}
         named |= set(re.findall(r"^-a (\w+)", rest)) if condition == "$first" else set()
     yield from options_differ(ours)
     yield from differ("the list of subcommands", named, told_subcommands())

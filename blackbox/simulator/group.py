@@ -19,8 +19,13 @@ def require(holds: bool, law: str, *details: object) -> None:
         raise Broken(law.format(*details))
 
 
+def name_of(member: bytes) -> bytes:
+    """The name of a member. Who took over a place has the name of the one before, and is told apart by a number behind it."""
+    return member.partition(b"#")[0]
+
+
 class Move(NamedTuple):
-    """A printed move."""
+    """A printed move, by the members that its names stand for."""
 
     partition: int
     last: bytes
@@ -57,9 +62,12 @@ class Group:
     def __init__(self, partitions: int) -> None:
         self.partitions = partitions
         self.generation = 0
-        self.names: set[bytes] = set()
-        # In the order of their joins.
+        # The newest member of each name, and how many numbers were given.
+        self.newest: dict[bytes, bytes] = {}
+        self.given = 0
+        # In the order of their numbers.
         self.present: list[bytes] = []
+        self.kept: set[bytes] = set()
         self.joined: set[bytes] = set()
         self.synced: set[bytes] = set()
         self.preparing = False
@@ -90,9 +98,39 @@ class Group:
         """Whether the next completion is due."""
         return bool(self.present) and self.joined.issuperset(self.present)
 
+    def member(self, name: bytes) -> bytes:
+        """The member that a name stands for."""
+        return self.newest.get(name, name)
+
+    def move(self, partition: int, last: bytes, holder: bytes) -> Move:
+        """A move as it is printed, with names. What had the partition is told by its name alone."""
+        was = self.holder[partition] if partition < self.partitions else NOBODY
+        return Move(partition, was if name_of(was) == last else last, self.member(holder))
+
+    def number(self, name: bytes, member: bytes) -> None:
+        """A member gets the next number."""
+        self.newest[name] = member
+        self.given += 1
+        self.present.append(member)
+
+    def take_over(self, name: bytes) -> bytes:
+        """A new member has the place of the one that keeps it under a name: all that it is granted, and what of it it has to
+        give up. It has joined where that one had, and has not synced."""
+        old, new = self.member(name), b"%s#%d" % (name, self.given)
+        for partition in self.owned()[old]:
+            self.holder[partition] = new
+        self.present.remove(old)
+        self.number(name, new)
+        self.kept.add(new)
+        self.excess[new] = self.excess.pop(old, [])
+        if old in self.joined:
+            self.joined.add(new)
+        self.joined.discard(old)
+        self.synced.discard(old)
+        return new
+
     def join(self, name: bytes) -> None:
-        self.names.add(name)
-        self.present.append(name)
+        self.number(name, name)
         self.joined.add(name)
         self.preparing = self.changed = True
 

@@ -5,12 +5,14 @@ from __future__ import annotations
 from collections import Counter
 from dataclasses import dataclass
 
-from simulator.group import MOST_MEMBERS, Group, Move, require
-from simulator.records import Options, place, read, row
+from simulator.group import MOST_MEMBERS, Group, Move, name_of, require
+from simulator.records import Options, read, row
 from simulator.scripts import lines_of
 
 TAKEN = 0
 HISTORY = (b"move", b"refused")
+# The lines of a member that joined before: its name stands for the newest of that name.
+OF_A_MEMBER = ("rejoin", "sync", "leave", "lose", "poll", "send")
 
 
 @dataclass(frozen=True)
@@ -27,14 +29,15 @@ class Commit:
 class Logs:
     """The appended records, by partition, and the keys in order of first appearance."""
 
-    def __init__(self, partitions: int, keys: list[bytes]) -> None:
-        self.partitions: list[list[bytes]] = [[] for _ in range(partitions)]
+    def __init__(self, options: Options, keyed: list[tuple[int, bytes]]) -> None:
+        self.options = options
+        self.partitions: list[list[bytes]] = [[] for _ in range(options.total())]
         self.keys: dict[bytes, None] = {}
-        for key in keys:
-            self.append(key)
+        for topic, key in keyed:
+            self.append(topic, key)
 
-    def append(self, key: bytes) -> None:
-        self.partitions[place(key, len(self.partitions))].append(key)
+    def append(self, topic: int, key: bytes) -> None:
+        self.partitions[self.options.place(topic, key)].append(key)
         self.keys.setdefault(key)
 
     def end(self, partition: int) -> int:
@@ -49,16 +52,17 @@ class Logs:
 class Ledger:
     """What the lines of a script and the printed rows tell so far, and which answer each line has to have by it."""
 
-    def __init__(self, options: Options, keys: list[bytes]) -> None:
+    def __init__(self, options: Options, keyed: list[tuple[int, bytes]]) -> None:
+        self.options = options
         self.batch = options.batch or 500
-        self.logs = Logs(options.partitions, keys)
-        self.group = Group(options.partitions)
+        self.logs = Logs(options, keyed)
+        self.group = Group(options.total())
         # Of each who ever joined: the generation of its last lease, and by partition its base and position.
         self.leased: dict[bytes, int] = {}
         self.held: dict[bytes, dict[int, list[int]]] = {}
         # Those who know that they are no members any more.
         self.out: set[bytes] = set()
-        self.committed = [0] * options.partitions
+        self.committed = [0] * options.total()
         self.mail: list[Commit] = []
         # The commits of the mail that were taken, and the rows that are not looked at yet, the next one last.
         self.accepted: set[int] = set()
@@ -70,7 +74,9 @@ class Ledger:
         """Goes through the lines with the moves and refusals that were printed for them."""
         self.history = history[::-1]
         for number, line in lines_of(script):
-            verb, arguments = parts_of(line)
+            verb, arguments = parts_of(line, self.options)
+            if verb in OF_A_MEMBER:
+                arguments[0] = self.group.member(arguments[0])
             code = self.take_refusal(number)
             wanted = getattr(self, f"answer_to_{verb}")(*arguments)
             require(code == wanted, "line {}, {}, is answered by {}, and not by {}", number, line, code, wanted)
@@ -95,8 +101,10 @@ class Ledger:
         head = [b"move", b"%d" % (self.group.generation + 1)]
         while self.history and self.history[-1][:2] == head:
             fields = self.history.pop()[2:]
-            require(len(fields) == 3 and fields[0].isdigit(), "a move of {}", fields)
-            moves.append(Move(int(fields[0]), fields[1], fields[2]))
+            told, names = fields[:-2], fields[-2:]
+            require(len(told) == len(self.options.told(0)) and told[-1].isdigit(), "a move of {}", fields)
+            require(not self.options.topics or told[0] in self.options.names(), "a move of {}", fields)
+            moves.append(self.group.move(self.options.partition(told), *names))
         return moves
 
     # The group
@@ -106,11 +114,12 @@ class Ledger:
             self.group.complete(self.take_moves())
 
     def lease(self, name: bytes) -> None:
-        """A sync: what a member was granted and does not hold it holds from the committed offset on."""
+        """A sync: what a member is to keep and does not hold it holds from the committed offset on."""
         self.group.synced.add(name)
         self.leased[name] = self.group.generation
+        excess = self.group.excess.get(name, [])
         for partition, holder in enumerate(self.group.holder):
-            if holder == name:
+            if holder == name and partition not in excess:
                 self.held[name].setdefault(partition, [self.committed[partition]] * 2)
 
     def give_up(self, name: bytes) -> None:
@@ -124,14 +133,31 @@ class Ledger:
         return 16 if name in self.out else 1
 
     def answer_to_join(self, name: bytes) -> int:
-        if name in self.group.names:
+        if name in self.group.newest:
             return 8
-        return 9 if len(self.group.names) == MOST_MEMBERS else TAKEN
+        return 9 if self.group.given == MOST_MEMBERS else TAKEN
 
     def after_join(self, name: bytes) -> None:
         self.group.join(name)
         self.held[name], self.leased[name] = {}, 0
         self.complete_if_due()
+
+    answer_to_keep = answer_to_join
+
+    def after_keep(self, name: bytes) -> None:
+        self.group.kept.add(name)
+        self.after_join(name)
+
+    def answer_to_return(self, name: bytes) -> int:
+        member = self.group.member(name)
+        if member not in self.group.present or member not in self.group.kept:
+            return 33
+        return 9 if self.group.given == MOST_MEMBERS else TAKEN
+
+    def after_return(self, name: bytes) -> None:
+        """A new member has the place of the old one, whose consumer goes on without knowing. It holds nothing yet."""
+        member = self.group.take_over(name)
+        self.held[member], self.leased[member] = {}, 0
 
     def answer_to_leave(self, name: bytes) -> int:
         return TAKEN if name in self.group.present else self.answer_to_stranger(name)
@@ -170,7 +196,7 @@ class Ledger:
         self.complete_if_due()
 
     def after_refused_sync(self, code: int, name: bytes) -> None:
-        if code == 1 and name in self.group.names:
+        if code == 1 and name in self.held:
             self.out.add(name)
 
     after_refused_rejoin = after_refused_leave = after_refused_sync
@@ -202,7 +228,7 @@ class Ledger:
 
     def answer_to_holder(self, name: bytes, partition: int) -> int:
         """The answer of a consumer that is asked for a partition."""
-        if name not in self.group.names:
+        if name not in self.held:
             return 1
         if name in self.out:
             return 16
@@ -300,37 +326,54 @@ class Ledger:
                 self.take(len(self.mail))
             self.learn(self.mail[-1])
 
-    def answer_to_append(self, _key: bytes) -> int:
+    def answer_to_append(self, _topic: int, _key: bytes) -> int:
         return TAKEN
 
-    def after_append(self, key: bytes) -> None:
-        self.logs.append(key)
+    def after_append(self, topic: int, key: bytes) -> None:
+        self.logs.append(topic, key)
 
     # The end
 
     def check_end(self, rows: list[list[bytes]]) -> None:
         """The laws of the closing rows: the owners are those of the moves, the offsets those of the commits, and the counts
         those of the records below the offsets."""
-        owners = [row(b"owner", b"%d" % partition, self.group.owner(partition)) for partition in range(len(self.committed))]
-        ends = [b"%d" % self.logs.end(partition) for partition in range(len(self.committed))]
-        offsets = [row(b"offset", b"%d" % partition, b"%d" % offset, ends[partition])
+        told = [self.options.told(partition) for partition in range(len(self.committed))]
+        owners = [row(b"owner", *told[partition], name_of(self.group.owner(partition))) for partition in range(len(told))]
+        ends = [b"%d" % self.logs.end(partition) for partition in range(len(told))]
+        offsets = [row(b"offset", *told[partition], b"%d" % offset, ends[partition])
                    for partition, offset in enumerate(self.committed)]
         total = [row(b"total", b"%d" % sum(self.committed), b"%d" % sum(map(int, ends)))]
         wanted = [*owners, *offsets, *self.logs.counts(self.committed), *total]
-        told = [row(*fields) for fields in rows]
-        wrong = [pair for pair in zip(told, wanted) if pair[0] != pair[1]]
-        require(told == wanted, "{} closing rows, where there have to be {}; the first difference: {}",
-                len(told), len(wanted), wrong[:1])
+        written = [row(*fields) for fields in rows]
+        wrong = [pair for pair in zip(written, wanted) if pair[0] != pair[1]]
+        require(written == wanted, "{} closing rows, where there have to be {}; the first difference: {}",
+                len(written), len(wanted), wrong[:1])
 
 
-def parts_of(line: bytes) -> tuple[str, list[bytes | int]]:
-    """The first word of a line, and what follows it: a key, or a name and numbers, or numbers."""
+def parts_of(line: bytes, options: Options) -> tuple[str, list[bytes | int]]:
+    """The first word of a line, and what follows it: a topic and a key, or a name, a partition over all topics and numbers,
+    or numbers."""
     verb, _, rest = line.partition(b" ")
     if verb == b"append":
-        return verb.decode(), [rest]
+        return verb.decode(), [*appended(rest, options)]
     words = rest.split(b" ") if rest else []
     names = 0 if verb in (b"deliver", b"unanswered") else 1
-    return verb.decode(), [*words[:names], *map(int, words[names:])]
+    told = len(options.told(0)) if verb in (b"poll", b"send") else 0
+    partition = [options.partition(words[1:1 + told])] if told else []
+    return verb.decode(), [*words[:names], *partition, *map(int, words[names + told:])]
+
+
+def appended(text: bytes, options: Options) -> tuple[int, bytes]:
+    """The topic and the key of what stands after `append` and a space."""
+    if not options.topics:
+        return 0, text
+    topic, _, key = text.partition(b" ")
+    return options.names().index(topic), key
+
+
+def appended_keys(script: bytes, options: Options) -> list[bytes]:
+    """The keys that the lines of a script append."""
+    return [appended(line[7:], options)[1] for _, line in lines_of(script) if line.startswith(b"append ")]
 
 
 def rows_of(text: bytes) -> list[list[bytes]]:
@@ -340,11 +383,11 @@ def rows_of(text: bytes) -> list[list[bytes]]:
     return rows
 
 
-def check_replay(options: Options, keys: list[bytes], script: bytes, text: bytes) -> None:
+def check_replay(options: Options, keyed: list[tuple[int, bytes]], script: bytes, text: bytes) -> None:
     """Every law of a replay's text."""
     rows = rows_of(text)
     start = next((at for at, fields in enumerate(rows) if fields[0] not in HISTORY), len(rows))
-    ledger = Ledger(options, keys)
+    ledger = Ledger(options, keyed)
     ledger.follow(script, rows[:start])
     ledger.check_end(rows[start:])
 

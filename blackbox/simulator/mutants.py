@@ -6,13 +6,13 @@ from random import Random
 from typing import Callable, Iterator
 
 from simulator.programs import Outcome
-from simulator.records import quoted, read, row
+from simulator.records import plain_rows, quoted, read, row, topical_rows
 from simulator.scripts import lines_of
 from simulator.trials import Trial
 
 Rows = list[list[bytes]]
 
-CODES = b"1 2 3 4 7 8 10 11 14 15 16 17 19".split()
+CODES = b"1 2 3 4 7 8 10 11 14 15 16 17 19 33".split()
 
 
 def of_kind(rows: Rows, kind: bytes) -> list[int]:
@@ -227,11 +227,12 @@ def altered(rng: Random, trial: Trial, outcomes: list[Outcome]) -> Iterator[tupl
         other = change(outcome)
         if other:
             yield name, other
-    rows = read(outcome.stdout)
+    rows = plain_rows(read(outcome.stdout), trial.options)
     for name, way in ROW_WAYS.items():
         altered_rows = way(rng, trial, rows) if rows else None
         if altered_rows is not None and altered_rows != rows:
-            yield name, outcome._replace(stdout=b"".join(row(*fields) for fields in altered_rows))
+            told = topical_rows(altered_rows, trial.options)
+            yield name, outcome._replace(stdout=b"".join(row(*fields) for fields in told))
 
 
 def difference(one: Outcome, other: Outcome) -> str:

@@ -6,9 +6,11 @@ import csv
 import io
 from dataclasses import dataclass
 from functools import lru_cache
+from itertools import accumulate
 from random import Random
 
 LONGEST_KEY = 65_535
+NO_PARTITION = 4_294_967_295
 WORD = 0xFFFFFFFF
 MIX = 0x5BD1E995
 
@@ -17,19 +19,61 @@ csv.field_size_limit(1 << 30)
 
 @dataclass(frozen=True)
 class Options:
-    """The options of a run of the program. A batch of 0 is none."""
+    """The options of a run of the program. A batch of 0 is none. Topics are names with their numbers of partitions; without
+    any, all records are of one topic that has no name."""
 
     partitions: int = 4
     column: int = 1
     header: bool = False
     batch: int = 0
+    topics: tuple[tuple[bytes, int], ...] = ()
+    topic_column: int = 2
 
     def words(self) -> list[bytes]:
         """The words of the command line."""
         words = [b"--partitions", b"%d" % self.partitions, b"--column", b"%d" % self.column]
         if self.batch:
             words += [b"--batch", b"%d" % self.batch]
+        if self.topics:
+            words += [b"--topics", b",".join(b"%s:%d" % topic for topic in self.topics)]
+            words += [b"--topic-column", b"%d" % self.topic_column]
         return words + [b"--header"] * self.header
+
+    def names(self) -> list[bytes]:
+        """The names of the topics."""
+        return [name for name, _ in self.topics]
+
+    def counts(self) -> list[int]:
+        """How many partitions each topic has."""
+        return [count for _, count in self.topics] or [self.partitions]
+
+    def total(self) -> int:
+        """How many partitions there are, over all topics."""
+        return sum(self.counts())
+
+    def befores(self) -> list[int]:
+        """How many partitions stand before those of each topic."""
+        return [0, *accumulate(self.counts())]
+
+    def place(self, topic: int, key: bytes) -> int:
+        """The partition that the records of a key in a topic go to, counted over all topics."""
+        return self.befores()[topic] + place(key, self.counts()[topic])
+
+    def told(self, partition: int) -> list[bytes]:
+        """How a partition is told: by its number, or by the name of its topic and its number there. One past the last is one
+        past those of the last topic."""
+        if not self.topics:
+            return [b"%d" % partition]
+        topic = max(nth for nth in range(len(self.topics)) if self.befores()[nth] <= partition)
+        return [self.topics[topic][0], b"%d" % (partition - self.befores()[topic])]
+
+    def partition(self, told: list[bytes]) -> int:
+        """The partition that is told so; one that its topic does not have is one that nobody holds."""
+        number = int(told[-1])
+        if not self.topics:
+            return number
+        topic = self.names().index(told[0])
+        return self.befores()[topic] + number if number < self.counts()[topic] else NO_PARTITION
 
 
 def random_options(rng: Random, batch: bool) -> Options:
@@ -37,7 +81,15 @@ def random_options(rng: Random, batch: bool) -> Options:
     partitions = rng.choices((rng.randint(1, 4), rng.randint(5, 17), rng.randint(63, 130), 4096), (60, 30, 9, 1))[0]
     column = rng.choices((1, 2, 3), (70, 20, 10))[0]
     batches = (0, 1, 2, 7, 500, 1_000_000)
-    return Options(partitions, column, rng.random() < 0.3, rng.choice(batches) if batch else 0)
+    topics = random_topics(rng) if rng.random() < 0.35 else ()
+    topic_column = rng.choices((2, 1, 3), (70, 20, 10))[0]
+    return Options(partitions, column, rng.random() < 0.3, rng.choice(batches) if batch else 0, topics, topic_column)
+
+
+def random_topics(rng: Random) -> tuple[tuple[bytes, int], ...]:
+    """Up to eight topics, of few partitions mostly."""
+    names = rng.sample((b"a", b"b", b"orders", b"clicks-2", b"T", b"_", b"a-b_c", b"t" * 32), rng.choice((1, 2, 2, 3, 5, 8)))
+    return tuple((name, rng.choices((rng.randint(1, 4), rng.randint(5, 40), 500), (70, 28, 2))[0]) for name in names)
 
 
 def quoted(field: bytes) -> bytes:
@@ -61,14 +113,37 @@ def record_fault(records: list[list[bytes]], options: Options) -> bytes:
     for number, record in enumerate(records, 1):
         if len(record) != len(records[0]):
             return b"fault 24 at record %d\n" % number
-        if len(record) < options.column and not (options.header and number == 1):
+        if options.header and number == 1:
+            continue
+        if len(record) < max(options.column, options.topic_column if options.topics else 0):
             return b"fault 23 at record %d\n" % number
+        if options.topics and record[options.topic_column - 1] not in options.names():
+            return b"fault 32 at record %d\n" % number
     return b""
 
 
-def keys_of(records: list[list[bytes]], options: Options) -> list[bytes]:
-    """The keys of good records, in order."""
-    return [record[options.column - 1] for record in records[options.header:]]
+def keyed(records: list[list[bytes]], options: Options) -> list[tuple[int, bytes]]:
+    """The topics and the keys of good records, in order."""
+    return [(topic_of(record, options), record[options.column - 1]) for record in records[options.header:]]
+
+
+def topic_of(record: list[bytes], options: Options) -> int:
+    """The index of a good record's topic."""
+    return options.names().index(record[options.topic_column - 1]) if options.topics else 0
+
+
+def plain_rows(rows: list[list[bytes]], options: Options) -> list[list[bytes]]:
+    """Rows of topics as they are with partitions counted over all topics."""
+    at = {b"move": 2, b"owner": 1, b"offset": 1} if options.topics else {}
+    return [[*fields[:at[fields[0]]], b"%d" % options.partition(fields[at[fields[0]]:at[fields[0]] + 2]),
+             *fields[at[fields[0]] + 2:]] if fields[0] in at else fields for fields in rows]
+
+
+def topical_rows(rows: list[list[bytes]], options: Options) -> list[list[bytes]]:
+    """Plain rows as they are told of topics."""
+    at = {b"move": 2, b"owner": 1, b"offset": 1} if options.topics else {}
+    return [[*fields[:at[fields[0]]], *options.told(int(fields[at[fields[0]]])), *fields[at[fields[0]] + 1:]]
+            if fields[0] in at else fields for fields in rows]
 
 
 @lru_cache(maxsize=4096)
@@ -111,18 +186,24 @@ def written(rng: Random, field: bytes, alone: bool) -> bytes:
 
 def careful_file(rng: Random, options: Options, keys: list[bytes]) -> bytes:
     """Records of a width, with line ends and blank lines of all kinds; seldom one of another width, or a long key."""
-    width = max(1, options.column + rng.choices((0, 1, 2, -1), (60, 20, 17, 3))[0])
+    widest = max(options.column, options.topic_column if options.topics else 0)
+    width = max(1, widest + rng.choices((0, 1, 2, -1), (60, 20, 17, 3))[0])
     count = rng.choices((0, rng.randint(1, 12), rng.randint(13, 60), rng.randint(61, 400)), (5, 45, 40, 10))[0]
     odd = rng.randrange(count * 20 + 20)
     end = rng.choices((b"\n", b"\r\n", b"\r"), (70, 20, 10))[0]
     pieces = []
     for number in range(count):
         record = [rng.choice(keys) for _ in range(width + (rng.choice((-1, 1)) if number == odd else 0))]
+        if options.topics and len(record) >= options.topic_column and rng.random() < 0.999:
+            record[options.topic_column - 1] = rng.choice(options.names())
         pieces.append(b",".join(written(rng, field, len(record) == 1) for field in record))
         pieces.append(end * rng.choices((1, 2), (95, 5))[0])
     if rng.random() < 0.01:
         # The longest key there is, and one that is longer by a byte.
-        pieces.append(b",".join([b"k" * (LONGEST_KEY + rng.randint(0, 1))] * width))
+        record = [b"k" * (LONGEST_KEY + rng.randint(0, 1))] * width
+        if options.topics and width >= options.topic_column:
+            record[options.topic_column - 1] = rng.choice(options.names())
+        pieces.append(b",".join(record))
     elif pieces and rng.random() < 0.3:
         pieces.pop()
     return b"".join(pieces)

@@ -5,7 +5,7 @@ from __future__ import annotations
 from random import Random
 from typing import Iterator
 
-from simulator.records import Options, place
+from simulator.records import Options
 
 NAMES = b"A B C D x-1 y_2 Zz m0 m1 m2 0 - _ member-of-thirty-two-letters-abc".split()
 LONGEST_LINE = 256
@@ -17,11 +17,15 @@ BAD = [
     b"lose A B", b"poll A 0", b"poll A 0 ", b"poll A 0 1 1", b"poll A 0 4294967296", b"poll A 4294967296 0",
     b"poll A -1 1", b"poll A +1 1", b"poll A 0x1 1", b"poll A  0 1", b"poll 0 1", b"send A", b"send A 0 1",
     b"send A 00000000000", b"deliver", b"deliver 1 ", b"deliver 00000000001", b"deliver 9999999999", b"unanswered",
-    b"unanswered A", b"append", b"Append x", b"settle ", b"settle now", b"drain 5", b"drains", b"append " + b"k" * 250,
+    b"unanswered A", b"append", b"Append x", b"keep", b"keep A B", b"return", b"return  A", b"Keep A", b"settle ", b"settle now", b"drain 5", b"drains", b"append " + b"k" * 250,
     b"#" * 257, b"sync", b"rejoin A 1", b"-", b",",
 ]
 BAD_IN_PLAN = [b"settle", b"drain", b"sync A", b"rejoin A", b"append x", b"append ", b"poll A 0 1", b"send A 0",
-               b"deliver 1", b"unanswered 1", b"leave nobody-of-this-name", b"lose nobody-of-this-name"]
+               b"deliver 1", b"unanswered 1", b"leave nobody-of-this-name", b"lose nobody-of-this-name", b"keep m0",
+               b"return m0"]
+# Lines that are none among topics, of which none has a number for a name.
+BAD_AMONG_TOPICS = [b"append k", b"append ", b"append no-such-topic k", b"append  k", b"poll A 0 1", b"send A 0",
+                    b"poll A no-such-topic 0 1", b"send A no-such-topic 0", b"poll no-such-topic 0 1"]
 
 
 class Author:
@@ -34,6 +38,7 @@ class Author:
         self.lines: list[bytes] = []
         self.unused = list(NAMES) + [b"n%d" % number for number in range(40)]
         self.present: list[bytes] = []
+        self.kept: list[bytes] = []
         self.gone: list[bytes] = []
         self.sent = 0
 
@@ -49,8 +54,8 @@ class Author:
     def partition(self) -> int:
         """A partition, most times one with records, and seldom one past the last."""
         if self.rng.random() < 0.7:
-            return place(self.rng.choice(self.keys), self.options.partitions)
-        return self.rng.randrange(self.options.partitions + (self.rng.random() < 0.05))
+            return self.options.place(self.rng.randrange(len(self.options.counts())), self.rng.choice(self.keys))
+        return self.rng.randrange(self.options.total() + (self.rng.random() < 0.05))
 
     def readers(self) -> list[bytes]:
         """Somebody, or all who are present, of whom one is the owner."""
@@ -63,7 +68,27 @@ class Author:
             self.say(b"join", self.present[-1])
 
     def join_again(self) -> None:
-        self.say(b"join", self.somebody())
+        self.say(self.rng.choice((b"join", b"keep")), self.somebody())
+
+    def keep(self) -> None:
+        if self.unused:
+            self.present.append(self.unused.pop(0))
+            self.kept.append(self.present[-1])
+            self.say(b"keep", self.present[-1])
+
+    def come_back(self) -> None:
+        """Somebody returns, mostly one whose place is kept, and sometimes one with a commit on its way."""
+        kept = [name for name in self.kept if name in self.present]
+        name = self.rng.choice(kept) if kept and self.rng.random() < 0.9 else self.somebody()
+        if self.rng.random() < 0.4:
+            partition = self.partition()
+            self.poll([name], partition)
+            self.send([name], partition)
+        self.say(b"return", name)
+        if self.rng.random() < 0.5:
+            self.deliver_all()
+        if self.rng.random() < 0.5:
+            self.say(self.rng.choice((b"sync", b"rejoin")), name)
 
     def part(self) -> None:
         name = self.somebody()
@@ -93,12 +118,12 @@ class Author:
 
     def poll(self, names: list[bytes], partition: int) -> None:
         for name in names:
-            self.say(b"poll", name, partition, self.rng.choice((1, 1, 2, 3, 500, 0)))
+            self.say(b"poll", name, *self.options.told(partition), self.rng.choice((1, 1, 2, 3, 500, 0)))
 
     def send(self, names: list[bytes], partition: int) -> None:
         """Each of these sends, of whom one is the owner at most."""
         for name in names:
-            self.say(b"send", name, partition)
+            self.say(b"send", name, *self.options.told(partition))
         self.sent += 1
 
     def deliver_all(self) -> None:
@@ -142,14 +167,16 @@ class Author:
         self.send(self.readers(), self.partition())
 
     def append(self) -> None:
-        self.lines.append(b"append " + self.rng.choice(self.keys))
+        names = self.options.names()
+        topic = self.rng.choice(names) + b" " if names else b""
+        self.lines.append(b"append " + topic + self.rng.choice([key for key in self.keys if len(key) + len(topic) < 249] or [b"k"]))
 
     def settle(self) -> None:
         self.say(b"settle")
 
     def drain(self) -> None:
         self.say(b"drain")
-        self.sent += self.rng.randint(0, self.options.partitions)
+        self.sent += self.rng.randint(0, self.options.total())
 
     def sync(self) -> None:
         self.say(b"sync", self.somebody())
@@ -168,7 +195,7 @@ class Author:
         self.lines.append(self.rng.choice((b"", b"# nothing", b"#" * LONGEST_LINE, b"#join A")))
 
 
-CALM = {"join": 6, "part_one_of_many": 4, "read": 12, "deliver_late": 5, "append": 6, "settle": 12, "drain": 3,
+CALM = {"join": 6, "keep": 2, "come_back": 3, "part_one_of_many": 4, "read": 12, "deliver_late": 5, "append": 6, "settle": 12, "drain": 3,
         "say_nothing": 1, "join_again": 0.5, "send_again": 2, "lose_with_mail": 1}
 WILD = {**CALM, "part": 3, "sync": 8, "rejoin": 8, "rejoin_all": 6, "settle": 5, "drain": 2, "give_up_with_mail": 2}
 
@@ -215,6 +242,16 @@ def lines_of(script: bytes) -> Iterator[tuple[int, bytes]]:
         line = line.removesuffix(b"\r")
         if line and not line.startswith(b"#"):
             yield number, line
+
+
+def in_topic(script: bytes, topic: bytes) -> bytes:
+    """A script with the name of a topic in its lines that want one."""
+    lines = []
+    for line in script.split(b"\n"):
+        words = line.split(b" ")
+        at = {b"append": 1, b"poll": 2, b"send": 2}.get(words[0], 0)
+        lines.append(b" ".join([*words[:at], topic, *words[at:]] if at else words))
+    return b"\n".join(lines)
 
 
 def settled_after_each(plan: bytes) -> bytes:

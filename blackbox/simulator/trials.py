@@ -2,15 +2,15 @@
 
 from __future__ import annotations
 
-from dataclasses import dataclass
+from dataclasses import dataclass, replace
 from random import Random
 from typing import Callable
 
 from simulator import records, scripts
 from simulator.group import require
-from simulator.laws import check_replay, count_text
+from simulator.laws import appended_keys, check_replay, count_text
 from simulator.programs import Outcome
-from simulator.records import Options
+from simulator.records import Options, read, row, topical_rows
 
 
 def check_fault(fault: bytes, outcome: Outcome) -> None:
@@ -25,9 +25,11 @@ def check_done(outcome: Outcome) -> None:
 
 @dataclass(frozen=True)
 class Trial:
-    """Files, runs of the program over them, and the check of their outcomes, which tells what is broken."""
+    """Files, runs of the program over them, and the check of their outcomes, which tells what is broken. The options are those
+    of the last run."""
 
     kind: str
+    options: Options
     files: dict[str, bytes]
     runs: list[list[bytes]]
     check: Callable[[list[Outcome]], None]
@@ -41,22 +43,29 @@ class Input:
     pool: list[bytes]
     text: bytes
     bad_record: bytes
-    keys: list[bytes]
+    keyed: list[tuple[int, bytes]]
+
+    @property
+    def keys(self) -> list[bytes]:
+        """The keys, without their topics."""
+        return [key for _, key in self.keyed]
 
     def long_key(self) -> bytes:
         """The fault of a key that is too long, where there is one."""
         return b"fault 20\n" if any(len(key) > records.LONGEST_KEY for key in self.keys) else b""
 
 
-def random_input(rng: Random, batch: bool, good: bool) -> Input:
-    """A file with its options; one whose records are good, where that is asked."""
+def random_input(rng: Random, batch: bool, good: bool, one_topic: bool = False) -> Input:
+    """A file with its options; one whose records are good, or of one topic, where that is asked."""
     while True:
         options = records.random_options(rng, batch)
+        if one_topic:
+            options = replace(options, topics=records.random_topics(rng)[:1])
         pool = records.random_keys(rng)
         text = records.random_file(rng, options, pool)
         read = records.read(text)
         bad_record = records.record_fault(read, options)
-        found = Input(options, pool, text, bad_record, [] if bad_record else records.keys_of(read, options))
+        found = Input(options, pool, text, bad_record, [] if bad_record else records.keyed(read, options))
         if not good or not (bad_record or found.long_key()):
             return found
 
@@ -73,7 +82,7 @@ def count_trial(rng: Random) -> Trial:
             check_done(outcomes[0])
             require(outcomes[0].stdout == count_text(source.keys), "the counts differ: {}", outcomes[0].stdout[:300])
 
-    return Trial("count", {"file": source.text}, [[b"count", b"file", *source.options.words()]], check)
+    return Trial("count", source.options, {"file": source.text}, [[b"count", b"file", *source.options.words()]], check)
 
 
 def replay_trial(rng: Random, wild: bool) -> Trial:
@@ -84,14 +93,14 @@ def replay_trial(rng: Random, wild: bool) -> Trial:
 
     def check(outcomes: list[Outcome]) -> None:
         check_done(outcomes[0])
-        check_replay(source.options, source.keys, script, outcomes[0].stdout)
+        check_replay(source.options, source.keyed, script, outcomes[0].stdout)
         refused = b"\nrefused,%d," % last_line(script) in b"\n" + outcomes[0].stdout
         if lines[-1:] == [b"drain"] and not refused:
-            keys = source.keys + [line[7:] for line in lines if line.startswith(b"append ")]
+            keys = source.keys + appended_keys(script, source.options)
             require(outcomes[0].stdout.endswith(b"\n" + count_text(keys)), "after a drain the counts differ")
 
     runs = [[b"replay", b"file", b"script", *source.options.words()]]
-    return Trial("wild replay" if wild else "replay", {"file": source.text, "script": script}, runs, check)
+    return Trial("wild replay" if wild else "replay", source.options, {"file": source.text, "script": script}, runs, check)
 
 
 def last_line(script: bytes) -> int:
@@ -108,20 +117,21 @@ def run_trial(rng: Random) -> Trial:
     def check(outcomes: list[Outcome]) -> None:
         check_done(outcomes[0])
         check_done(outcomes[1])
-        check_replay(source.options, source.keys, script, outcomes[1].stdout)
+        check_replay(source.options, source.keyed, script, outcomes[1].stdout)
         require(outcomes[1].stdout.endswith(b"\n" + count_text(source.keys)), "the counts of the replay differ")
         require(outcomes[0].stdout == outcomes[1].stdout, "the run differs from the replay: {}", outcomes[0].stdout[:300])
 
     words = source.options.words()
     runs = [[b"run", b"file", b"plan", *words], [b"replay", b"file", b"script", *words]]
-    return Trial("run", {"file": source.text, "plan": plan, "script": script}, runs, check)
+    return Trial("run", source.options, {"file": source.text, "plan": plan, "script": script}, runs, check)
 
 
 def faulty_lines(rng: Random, command: bytes, options: Options, pool: list[bytes]) -> tuple[bytes, bytes]:
     """A script or a plan with a fault, and what is told of it."""
     if command == b"replay":
         script = scripts.random_script(rng, options, pool, wild=True)
-        spoiled, line = scripts.spoiled(rng, script, scripts.BAD)
+        bad = scripts.BAD + (scripts.BAD_AMONG_TOPICS if options.topics else [])
+        spoiled, line = scripts.spoiled(rng, script, bad)
     elif rng.random() < 0.3:
         return scripts.forsaken_plan(rng)
     else:
@@ -139,7 +149,27 @@ def fault_trial(rng: Random) -> Trial:
         check_fault(source.bad_record or fault, outcomes[0])
 
     runs = [[command, b"file", b"script", *source.options.words()]]
-    return Trial(f"fault of a {command.decode()}", {"file": source.text, "script": script}, runs, check)
+    return Trial(f"fault of a {command.decode()}", source.options, {"file": source.text, "script": script}, runs, check)
+
+
+def one_topic_trial(rng: Random) -> Trial:
+    """One topic alone gives the rows of as many partitions without one, but for its name."""
+    source = random_input(rng, batch=True, good=True, one_topic=True)
+    name, count = source.options.topics[0]
+    plain = replace(source.options, partitions=count, topics=())
+    # The name of the topic makes lines longer, which may not be too long then.
+    short = [key for key in source.pool if len(key) < 200]
+    command = rng.choice((b"replay", b"run"))
+    script = scripts.random_script(rng, plain, short, wild=True) if command == b"replay" else scripts.random_plan(rng)
+    files = {"file": source.text, "plain": script, "script": scripts.in_topic(script, name)}
+
+    def check(outcomes: list[Outcome]) -> None:
+        rows = topical_rows(read(outcomes[0].stdout), source.options)
+        require(outcomes[1] == outcomes[0]._replace(stdout=b"".join(row(*fields) for fields in rows)),
+                "one topic gives other rows: {}", outcomes[1].stdout[:300])
+
+    runs = [[command, b"file", b"plain", *plain.words()], [command, b"file", b"script", *source.options.words()]]
+    return Trial("one topic", source.options, files, runs, check)
 
 
 KINDS: list[tuple[int, Callable[[Random], Trial]]] = [
@@ -148,6 +178,7 @@ KINDS: list[tuple[int, Callable[[Random], Trial]]] = [
     (25, lambda rng: replay_trial(rng, wild=True)),
     (15, run_trial),
     (15, fault_trial),
+    (8, one_topic_trial),
 ]
 
 

@@ -20,6 +20,8 @@ const PARTITIONS: u32 = 4;
 pub enum Call<'a> {
     Append(&'a str),
     Join(&'a str),
+    JoinKept(&'a str),
+    TakeOver(&'a str),
     Sync(u32),
     /// A member, a generation, and what is claimed.
     Rejoin(u32, u32, &'a [u32]),
@@ -48,8 +50,9 @@ pub const ZOMBIES: [Call; 15] = [
     Call::Commit(2, 2, 0, 0, &[0, 0]),
 ];
 
-/// Two members who share partitions in two rounds, and a third who is left with all of them.
-pub const TWO_ROUNDS: [Call; 15] = [
+/// Two members who share partitions in two rounds, a third who is left with all of them, and one
+/// whose place another takes over.
+pub const TWO_ROUNDS: [Call; 17] = [
     Call::Append("abc"),
     Call::Join("A"),
     Call::Join("B"),
@@ -65,6 +68,8 @@ pub const TWO_ROUNDS: [Call; 15] = [
     Call::Join("C"),
     Call::Leave(2),
     Call::Lose(3),
+    Call::JoinKept("D"),
+    Call::TakeOver("D"),
 ];
 
 /// Makes the calls, and tells the cluster that comes of them.
@@ -109,6 +114,8 @@ fn replied(cluster: &mut Cluster, call: Call) -> Result<Reply, Refusal> {
             Ok(Reply::Appended(partition, offset))
         }
         Call::Join(text) => Ok(Reply::Joined(cluster.join(name(text)?)?)),
+        Call::JoinKept(text) => Ok(Reply::Joined(cluster.join_kept(name(text)?)?)),
+        Call::TakeOver(text) => Ok(Reply::TakenOver(cluster.take_over(&name(text)?)?)),
         Call::Sync(member) => Ok(Reply::Leased(cluster.sync(member)?.generation())),
         Call::Rejoin(member, generation, claim) => {
             cluster.rejoin(member, generation, &set_of(claim))?;

@@ -40,6 +40,7 @@ fn tell<R: RandomSource + Threads + Sync, W: Write>(
         "steps" => schedule::tell(rt, stage, Story::Steps),
         "run" => schedule::tell(rt, stage, Story::Run),
         "load" => schedule::tell(rt, stage, Story::Load),
+        "load_in" => schedule::tell_in_topics(rt, stage),
         "settle" => schedule::tell(rt, stage, Story::Settle),
         "drain" => schedule::tell(rt, stage, Story::Drain),
         _ => bail!("there is no story {story:?}"),

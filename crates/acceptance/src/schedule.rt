@@ -1,6 +1,7 @@
 //! Calls on a world.
 
-ghost use Rattle.std.specs.Prelude.{◌<◌};
+ghost use Rattle.std.specs.Prelude.{◌<◌, ◌≡◌, true};
+ghost use Rattle.partitioner.specs.Place.{AreTopics};
 
 use crate::group::name;
 use crate::stage::Stage;
@@ -17,6 +18,8 @@ use world::{Event, Reply, World};
 pub enum Call<'a> {
     Append(&'a str),
     Join(&'a str),
+    JoinKept(&'a str),
+    TakeOver(&'a str),
     Sync(u32),
     Rejoin(u32),
     Leave(u32),
@@ -30,7 +33,7 @@ pub enum Call<'a> {
 }
 
 /// Each event at least once; the joins, rejoins, losses and leaves with their completions.
-const STEPS: [Call; 25] = [
+const STEPS: [Call; 27] = [
     Call::Append("21"),
     Call::Append("21"),
     Call::Append("foobar"),
@@ -56,10 +59,15 @@ const STEPS: [Call; 25] = [
     Call::Sync(3),
     Call::Rejoin(3),
     Call::Lose(2),
+    Call::JoinKept("E"),
+    Call::TakeOver("E"),
 ];
 
 /// Five records of four keys, each of which has a place of its own among four partitions.
 const FIVE: [&[u8]; 5] = [b"21", b"4", b"foobar", b"abc", b"21"];
+
+/// Their topics, where there are two.
+const TOPICS: [u8; 5] = [0, 1, 1, 0, 1];
 
 /// A member who has read of two partitions, and another who joins.
 const TWO_MEMBERS: [Call; 5] = [
@@ -119,6 +127,25 @@ fn tell_in<R: Threads + Sync, W: Write>(
     state::tell_world(stage, world)
 }
 
+/// Tells a load of records of two topics, and the world that comes of it.
+pub fn tell_in_topics<R: RandomSource + Threads + Sync, W: Write>(
+    rt: &R,
+    stage: &mut Stage<W>,
+) -> Result<()> {
+    let mut world = World::with_topics(rt, stage.alloc, &[2, 3])?;
+    tell_load_in(rt, stage, &mut world)
+}
+
+fn tell_load_in<R: Threads + Sync, W: Write>(
+    rt: &R,
+    stage: &mut Stage<W>,
+    world: &mut World,
+) -> Result<()> {
+    let mut done = 0;
+    stage.call("load_in", || load_left_in(rt, world, &mut done))?;
+    state::tell_world(stage, world)
+}
+
 fn tell_steps<W: Write>(stage: &mut Stage<W>, world: &mut World) -> Result<()> {
     for call in &STEPS {
         stage.call(format_args!("{call:?}"), || replied(world, *call))?;
@@ -167,6 +194,22 @@ fn load_left<R: Threads + Sync>(
     }
 }
 
+/// The same, of records in their topics.
+fn load_left_in<R: Threads + Sync>(
+    rt: &R,
+    world: &mut World,
+    done: &mut usize,
+) -> Result<(), Refusal> {
+    let from = FIVE.len().min(*done);
+    match load_in(rt, world, &TOPICS[from..], &FIVE[from..]) {
+        Ok(()) => Ok(()),
+        Err((before, why)) => {
+            *done = done.saturating_add(before as usize);
+            Err(why)
+        }
+    }
+}
+
 /// Makes a new world one of five records, a member who has read two of them, and another who has
 /// joined.
 fn share<R: Threads + Sync>(rt: &R, world: &mut World) -> Result<(), Refusal> {
@@ -203,6 +246,25 @@ fn load<R: Threads + Sync>(
     world.load(rt, keys)
 }
 
+fn load_in<R: Threads + Sync>(
+    rt: &R,
+    world: &mut World,
+    topics: &[u8],
+    keys: &[&[u8]],
+) -> Result<(), (u64, Refusal)> {
+    if !are_topics(world.cluster().topics(), keys.len(), topics) {
+        return Err((0, Refusal::NoSuchTopic { nth: 0 }));
+    }
+    world.load_in(rt, topics, keys)
+}
+
+/// Whether there is one of so many topics for each of so many keys.
+fn are_topics(count: usize, keys: usize, topics: &[u8]) -> bool
+    ensures { result ≡ true → AreTopics count keys topics.now }
+{
+    topics.len() == keys && topics.iter().all(|topic| (*topic as usize) < count)
+}
+
 fn settle(world: &mut World) -> Result<(), Refusal> {
     world.settle()
 }
@@ -218,6 +280,8 @@ pub fn replied(world: &mut World, call: Call) -> Result<Reply, Refusal> {
     let reply = match call {
         Call::Append(key) => step(world, Event::Append(key.as_bytes())),
         Call::Join(text) => step(world, Event::Join(&name(text)?)),
+        Call::JoinKept(text) => step(world, Event::JoinKept(&name(text)?)),
+        Call::TakeOver(text) => step(world, Event::TakeOver(&name(text)?)),
         Call::Sync(member) => step(world, Event::Sync(member)),
         Call::Rejoin(member) => step(world, Event::Rejoin(member)),
         Call::Leave(member) => step(world, Event::Leave(member)),

@@ -118,7 +118,8 @@ fn tell_member<W: Write>(stage: &mut Stage<W>, cluster: &Cluster, member: u32) -
     tell_set(stage, "assigned", cluster.assigned(member))?;
     let is_joined = cluster.is_joined(member);
     let is_synced = cluster.is_synced(member);
-    stage.tell(format_args!("joined {is_joined} synced {is_synced}"))
+    let is_kept = cluster.is_kept(member);
+    stage.tell(format_args!("joined {is_joined} synced {is_synced} kept {is_kept}"))
 }
 
 /// Tells a member's name, if it has one.

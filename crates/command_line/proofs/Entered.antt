@@ -1,6 +1,6 @@
 -- The subcommand that clap entered, and what clap has tested of it.
 use Rattle.std.proofs.Common.{◌≡◌, ◌∙◌, ◌≤◌, ◌++◌, ◌&&◌, ◌||◌, not, cond, refl, ap, ap₂, sym, subst, arith, zero, suc, ℕ, List, [], ◌∷◌, length, drop, Option, Some, None, is_some, IsSome, Bool, true, false, true≢false, codes, inl, inr}
-use Rattle.std.specs.Prelude.{⊤, ◌⊎◌, unwrap_or, option_and_then, option_map, encode_utf8, slice_get, find, fold, Box, pos}
+use Rattle.std.specs.Prelude.{⊤, ◌⊎◌, IfErr, IfOk, IsErrAnd, Result, Ok, Err, unwrap_or, option_and_then, option_map, encode_utf8, slice_get, find, fold, Box, pos}
 use Rattle.std.specs.Box.{box_value}
 use Rattle.std.specs.Option.{option_map_or}
 use Rattle.std.specs.Str.{bytes_eq, chars}
@@ -32,8 +32,12 @@ use Rattle.clap.specs.declared.error.kind.ErrorKind.TheVariants as kind
 use Rattle.clap.specs.declared.parser.matches.SubCommand.{SubCommand}
 use Rattle.clap.specs.declared.parser.matches.ArgMatches.TheViews.{out-SubCommand}
 use Rattle.clap.specs.declared.parser.matches.ValueSource.TheVariants.{CommandLine, DefaultValue}
-use Rattle.command_line.specs.CommandLine.{IsFlag, IsNumber, IsRefusal, keycount_app, keycount_top, path}
-use Rattle.command_line.specs.Private.CommandLine.{IsCommand, ReadsNumber, TakesCount, TakesOptions, TakesScript, Tells}
+use Rattle.command_line.specs.CommandLine.{HasJob, HaveBadList, IsBadListTold, IsFlag, IsJobOf, IsNumber, IsRefusal, keycount_app, keycount_top, path}
+use Rattle.command_line.specs.Private.CommandLine.{IsCommand, ReadsNumber, TakesCount, TakesOptions, TakesScript, Tells, TellsBadList}
+use Rattle.command_line.specs.Topics.{AreTopicsOf, IsBadList}
+use Rattle.script.specs.declared.topics.Topic.{Topic}
+use Rattle.command_line.specs.declared.words.Job.{Job}
+use Rattle.command_line.specs.declared.words.Job.TheVariants.{Count, Replay, Run}
 use Rattle.command_line.specs.declared.words.Usage.{Usage}
 use Rattle.command_line.specs.declared.words.Usage.TheVariants.{Help, Bad, Memory}
 
@@ -435,6 +439,7 @@ Named name most r = bytes_eq r.id name ≡ true → ReadsNumber (slice_get r.val
 -- the row has a value, which is a number in the range where it is a number's row
 abbrev RowPasses : Row → Type 0
 RowPasses r = IsSome (slice_get r.values 0) × Named (codes "partitions") 4096 r × Named (codes "column") 65535 r × Named (codes "batch") 1000000 r
+    × Named (codes "topic-column") 65535 r
 
 abbrev count_rule : ℕ → Rule
 count_rule k = unwrap_or (slice_get count_shape.rules k) (path (codes "file"))
@@ -451,32 +456,41 @@ KeepsRows = Keeps RowPasses count_shape
 
 file_keeps : KeepsRows (count_rule 0)
 file_keeps [] rows e r = absurd (some_kind _ _ e)
-file_keeps (v ∷ vs) rows e r = set_use RowPasses (count_rule 0) v vs rows (none_of _ _ e).1 (λ ok. (refl, (λ f. other f), (λ f. other f), (λ f. other f))) r
+file_keeps (v ∷ vs) rows e r = set_use RowPasses (count_rule 0) v vs rows (none_of _ _ e).1 (λ ok. (refl, (λ f. other f), (λ f. other f), (λ f. other f), (λ f. other f))) r
 
 script_keeps : KeepsRows (replay_rule 1)
 script_keeps [] rows e r = absurd (some_kind _ _ e)
-script_keeps (v ∷ vs) rows e r = set_use RowPasses (replay_rule 1) v vs rows (none_of _ _ e).1 (λ ok. (refl, (λ f. other f), (λ f. other f), (λ f. other f))) r
+script_keeps (v ∷ vs) rows e r = set_use RowPasses (replay_rule 1) v vs rows (none_of _ _ e).1 (λ ok. (refl, (λ f. other f), (λ f. other f), (λ f. other f), (λ f. other f))) r
 
 partitions_keeps : KeepsRows (count_rule 1)
 partitions_keeps [] rows e r = absurd (some_kind _ _ e)
 partitions_keeps (v ∷ vs) rows e r =
-    set_use RowPasses (count_rule 1) v vs rows (none_of _ _ e).1 (λ ok. (refl, (λ _. accepts-Accepts false (parser.Signed (pos 1) (pos 4096)) v ok), (λ f. other f), (λ f. other f))) r
+    set_use RowPasses (count_rule 1) v vs rows (none_of _ _ e).1 (λ ok. (refl, (λ _. accepts-Accepts false (parser.Signed (pos 1) (pos 4096)) v ok), (λ f. other f), (λ f. other f), (λ f. other f))) r
 
 column_keeps : KeepsRows (count_rule 2)
 column_keeps [] rows e r = absurd (some_kind _ _ e)
 column_keeps (v ∷ vs) rows e r =
-    set_use RowPasses (count_rule 2) v vs rows (none_of _ _ e).1 (λ ok. (refl, (λ f. other f), (λ _. accepts-Accepts false (parser.Signed (pos 1) (pos 65535)) v ok), (λ f. other f))) r
+    set_use RowPasses (count_rule 2) v vs rows (none_of _ _ e).1 (λ ok. (refl, (λ f. other f), (λ _. accepts-Accepts false (parser.Signed (pos 1) (pos 65535)) v ok), (λ f. other f), (λ f. other f))) r
 
 header_keeps : KeepsRows (count_rule 3)
-header_keeps [] rows e r = set_use RowPasses (count_rule 3) (codes "true") [] rows e (λ ok. (refl, (λ f. other f), (λ f. other f), (λ f. other f))) r
-header_keeps (v ∷ vs) rows e r = set_use RowPasses (count_rule 3) v vs rows (none_of _ _ e).1 (λ ok. (refl, (λ f. other f), (λ f. other f), (λ f. other f))) r
+header_keeps [] rows e r = set_use RowPasses (count_rule 3) (codes "true") [] rows e (λ ok. (refl, (λ f. other f), (λ f. other f), (λ f. other f), (λ f. other f))) r
+header_keeps (v ∷ vs) rows e r = set_use RowPasses (count_rule 3) v vs rows (none_of _ _ e).1 (λ ok. (refl, (λ f. other f), (λ f. other f), (λ f. other f), (λ f. other f))) r
 
-batch_keeps : KeepsRows (replay_rule 5)
+topics_keeps : KeepsRows (count_rule 4)
+topics_keeps [] rows e r = absurd (some_kind _ _ e)
+topics_keeps (v ∷ vs) rows e r = set_use RowPasses (count_rule 4) v vs rows (none_of _ _ e).1 (λ ok. (refl, (λ f. other f), (λ f. other f), (λ f. other f), (λ f. other f))) r
+
+topic_column_keeps : KeepsRows (count_rule 5)
+topic_column_keeps [] rows e r = absurd (some_kind _ _ e)
+topic_column_keeps (v ∷ vs) rows e r =
+    set_use RowPasses (count_rule 5) v vs rows (none_of _ _ e).1 (λ ok. (refl, (λ f. other f), (λ f. other f), (λ f. other f), (λ _. accepts-Accepts false (parser.Signed (pos 1) (pos 65535)) v ok))) r
+
+batch_keeps : KeepsRows (replay_rule 7)
 batch_keeps [] rows e r = absurd (some_kind _ _ e)
 batch_keeps (v ∷ vs) rows e r =
-    set_use RowPasses (replay_rule 5) v vs rows (none_of _ _ e).1 (λ ok. (refl, (λ f. other f), (λ f. other f), (λ _. accepts-Accepts false (parser.Signed (pos 1) (pos 1000000)) v ok))) r
+    set_use RowPasses (replay_rule 7) v vs rows (none_of _ _ e).1 (λ ok. (refl, (λ f. other f), (λ f. other f), (λ _. accepts-Accepts false (parser.Signed (pos 1) (pos 1000000)) v ok), (λ f. other f))) r
 
-help_keeps : KeepsRows (count_rule 4)
+help_keeps : KeepsRows (count_rule 6)
 help_keeps values rows e r = absurd (some_kind _ _ (none_of _ _ e).1)
 
 -- a default adds nothing to rows that pass but rows that pass
@@ -492,46 +506,19 @@ header_default rows r = go (has_row (codes "header") rows) refl
   where
     go : (b : Bool) → has_row (codes "header") rows ≡ b → Each RowPasses (cond b rows (default_rows (codes "header") (reading_by (count_rule 3)) (codes "false" ∷ []) rows))
     go true e = r
-    go false e = joined RowPasses (codes "header") (more_values DefaultValue (codes "false" ∷ [])) (record { id = codes "header"; values = codes "false" ∷ []; count = None; source = Some DefaultValue; reading = reading_by (count_rule 3) } ∷ []) rows e r ((refl, (λ f. other f), (λ f. other f), (λ f. other f)), tt)
+    go false e = joined RowPasses (codes "header") (more_values DefaultValue (codes "false" ∷ [])) (record { id = codes "header"; values = codes "false" ∷ []; count = None; source = Some DefaultValue; reading = reading_by (count_rule 3) } ∷ []) rows e r ((refl, (λ f. other f), (λ f. other f), (λ f. other f), (λ f. other f)), tt)
 
 count_keeps : Each (Keeps RowPasses count_shape) count_shape.rules
-count_keeps = (file_keeps, (partitions_keeps, (column_keeps, (header_keeps, (help_keeps, tt)))))
+count_keeps = (file_keeps, (partitions_keeps, (column_keeps, (header_keeps, (topics_keeps, (topic_column_keeps, (help_keeps, tt)))))))
 
 replay_keeps : Each (Keeps RowPasses replay_shape) replay_shape.rules
-replay_keeps = (file_keeps, (script_keeps, (partitions_keeps, (column_keeps, (header_keeps, (batch_keeps, (help_keeps, tt)))))))
+replay_keeps = (file_keeps, (script_keeps, (partitions_keeps, (column_keeps, (header_keeps, (topics_keeps, (topic_column_keeps, (batch_keeps, (help_keeps, tt)))))))))
 
 count_defaults : Each (KeepsDefault RowPasses count_shape) count_shape.rules
-count_defaults = (
-  (λ rows r. no_default (has_row (codes "file") rows) rows r),
-  (
-    (λ rows r. no_default (has_row (codes "partitions") rows) rows r),
-    (
-      (λ rows r. no_default (has_row (codes "column") rows) rows r),
-      (header_default, ((λ rows r. no_default (has_row (codes "help") rows) rows r), tt)),
-    ),
-  ),
-)
+count_defaults = ((λ rows r. no_default (has_row (codes "file") rows) rows r), ((λ rows r. no_default (has_row (codes "partitions") rows) rows r), ((λ rows r. no_default (has_row (codes "column") rows) rows r), (header_default, ((λ rows r. no_default (has_row (codes "topics") rows) rows r), ((λ rows r. no_default (has_row (codes "topic-column") rows) rows r), ((λ rows r. no_default (has_row (codes "help") rows) rows r), tt)))))))
 
 replay_defaults : Each (KeepsDefault RowPasses replay_shape) replay_shape.rules
-replay_defaults = (
-  (λ rows r. no_default (has_row (codes "file") rows) rows r),
-  (
-    (λ rows r. no_default (has_row (codes "script") rows) rows r),
-    (
-      (λ rows r. no_default (has_row (codes "partitions") rows) rows r),
-      (
-        (λ rows r. no_default (has_row (codes "column") rows) rows r),
-        (
-          header_default,
-          (
-            (λ rows r. no_default (has_row (codes "batch") rows) rows r),
-            ((λ rows r. no_default (has_row (codes "help") rows) rows r), tt),
-          ),
-        ),
-      ),
-    ),
-  ),
-)
+replay_defaults = ((λ rows r. no_default (has_row (codes "file") rows) rows r), ((λ rows r. no_default (has_row (codes "script") rows) rows r), ((λ rows r. no_default (has_row (codes "partitions") rows) rows r), ((λ rows r. no_default (has_row (codes "column") rows) rows r), (header_default, ((λ rows r. no_default (has_row (codes "topics") rows) rows r), ((λ rows r. no_default (has_row (codes "topic-column") rows) rows r), ((λ rows r. no_default (has_row (codes "batch") rows) rows r), ((λ rows r. no_default (has_row (codes "help") rows) rows r), tt)))))))))
 
 -- the first value of an id
 first_passes : (name : Text) (rows : List Row) → Each RowPasses rows → IsSome (find (λ r. bytes_eq r.id name) rows) → IsSome (first_of name rows)
@@ -579,6 +566,7 @@ options_pass : (rows : List Row) → Each RowPasses rows → TakesOptions rows
 options_pass rows all = record {
   partitions = number_passes (codes "partitions") 4096 rows all (λ r passes. passes.1);
   column = number_passes (codes "column") 65535 rows all (λ r passes. passes.2);
+  topic_column = number_passes (codes "topic-column") 65535 rows all (λ r passes. passes.4);
 }
 
 count_taken : (words : List Text) → level_fault count_shape [] nothing_held words false [] ≡ [] → TakesCount (rows_after count_shape.rules [] words)
@@ -664,8 +652,8 @@ taken_job words e =
     job_entered stop elsewhere (subcommand_given (matches_of keycount_app words) _ parts.2) parts.1
 
 -- the answer to an error of clap's
-pub told : (usage : Usage) (e : Error) (old kinds : Kinds) → old ≡ kinds → Tells usage (kind_of e) → HasKind old e → IsRefusal kinds usage
-told (Help text) e old kinds same tells (inl memory) =
+pub told : (words : List Text) (usage : Usage) (e : Error) (kinds : Kinds) → kinds ≡ fault_of keycount_app words → Tells usage (kind_of e) → HasKind kinds e → IsRefusal words usage
+told words (Help text) e kinds same tells (inl memory) =
     elim tells [
       | inl help ↦
           let no : ⊥ = cc in
@@ -674,10 +662,42 @@ told (Help text) e old kinds same tells (inl memory) =
           let no : ⊥ = cc in
           absurd no
     ]
-told (Help text) e old kinds same tells (inr among) = (kind_of e, subst (λ ks. IsAmong (kind_of e) ks) same among, tells)
-told (Bad text) e old kinds same tells (inl memory) = absurd (tells.2 memory)
-told (Bad text) e old kinds same tells (inr among) = (kind_of e, subst (λ ks. IsAmong (kind_of e) ks) same among, tells.0, tells.1)
-told Memory e old kinds same tells has = tt
+told words (Help text) e kinds same tells (inr among) = (kind_of e, subst (λ ks. IsAmong (kind_of e) ks) same among, tells)
+told words (Bad text) e kinds same tells (inl memory) = absurd (tells.2 memory)
+told words (Bad text) e kinds same tells (inr among) = inl (kind_of e, subst (λ ks. IsAmong (kind_of e) ks) same among, tells.0, tells.1)
+told words Memory e kinds same tells has = tt
+
+-- what is told of a list of topics that is none
+pub bad_told : (rows : List Row) (usage : Usage) → IsBadList (first_of (codes "topics") rows) → IsBadListTold usage → TellsBadList rows usage
+bad_told rows (Help text) bad tells = tells
+bad_told rows (Bad text) bad tells = (bad, tells)
+bad_told rows Memory bad tells = tt
+
+-- the answer to a list of topics that is none, where clap took the words
+pub list_told : (words : List Text) (name : Text) (rows : List Row) (usage : Usage) → fault_of keycount_app words ≡ []
+    → subcommand_of keycount_app words ≡ Some (name, rows) → TellsBadList rows usage → IsRefusal words usage
+list_told words name rows (Help text) taken found tells = absurd tells
+list_told words name rows (Bad text) taken found tells =
+    inr (record { name = name; rows = rows; taken = taken; subcommand = found; list = tells.0 }, tells.1)
+list_told words name rows Memory taken found tells = tt
+
+-- the topics of a job are those of its words
+topics_of_job : (rows : List Row) (job : Job) → HasJob rows job → (topics : List Topic) × AreTopicsOf (first_of (codes "topics") rows) topics
+topics_of_job rows (Count file options) has = (options.topics.items, has.1.topics)
+topics_of_job rows (Replay file script options) has = (options.topics.items, has.options_are.topics)
+topics_of_job rows (Run file script options) has = (options.topics.items, has.options_are.topics)
+
+-- words whose list is none give no job, and nothing else is told of them
+pub bad_list_told : (words : List Text) (answer : Result Job Usage) → IfOk answer (IsJobOf words) → IfErr answer (IsRefusal words)
+    → HaveBadList words → IsErrAnd answer IsBadListTold
+bad_list_told words (Ok job) is refusal bad =
+    let topics = topics_of_job is.rows job is.found in
+    let rows : is.rows ≡ bad.rows = ap (λ (o : Option (Text × List Row)). option_map_or (λ p. p.1) o []) (sym is.subcommand ∙ bad.subcommand) in
+    bad.list topics.0 (subst (λ rows. AreTopicsOf (first_of (codes "topics") rows) topics.0) rows topics.1)
+bad_list_told words (Err (Help text)) is refusal bad = subst (λ kinds. IsAmong refusal.0 kinds) bad.taken refusal.1
+bad_list_told words (Err (Bad text)) is (inl fault) bad = absurd (subst (λ kinds. IsAmong fault.0 kinds) bad.taken fault.1)
+bad_list_told words (Err (Bad text)) is (inr list) bad = list.1
+bad_list_told words (Err Memory) is refusal bad = tt
 
 -- the matches of words that clap takes: the subcommand of a job, with what its arguments want
 pub record MatchesJob (words : List Text) (m : ArgMatches) : Type 0 where

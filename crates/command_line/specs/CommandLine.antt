@@ -1,9 +1,9 @@
 -- The command line of keycount, as clap describes one.
-use Rattle.std.specs.Prelude.{◌≡◌, ◌⊎◌, ℕ, List, [], Option, Some, None, Ok, true, false, codes, Bool, ⊤, ◌≢◌, pos}
+use Rattle.std.specs.Prelude.{◌≡◌, ◌⊎◌, ℕ, List, [], Option, Some, None, Ok, true, false, codes, Bool, ⊤, ◌≢◌, pos, string_bytes}
 use Rattle.std.specs.Str.Parse.{ParsesUnsigned}
 use Rattle.clap.specs.Simple.{App, new_app, new_rule, with_rule, with_subcommand, subcommand_of}
 use Rattle.clap.specs.Walk.{Row, Rule, Text, first_of, one_of}
-use Rattle.clap.specs.Kinds.{IsAmong, Kinds}
+use Rattle.clap.specs.Kinds.{IsAmong}
 use Rattle.clap.specs.Faults.{fault_of}
 use Rattle.clap.specs.declared.error.kind.ErrorKind.{ErrorKind}
 use Rattle.lane_words.specs.declared.limits.TheConstants.{MOST_PARTITIONS}
@@ -17,6 +17,7 @@ use Rattle.command_line.specs.declared.words.Usage.{Usage}
 use Rattle.command_line.specs.declared.words.Usage.TheVariants.{Help, Bad, Memory}
 use Rattle.command_line.specs.declared.options.TheConstants.{LAST_COLUMN, DEFAULT_BATCH, MOST_BATCH}
 use Rattle.command_line.specs.Options.{AreInRange}
+use Rattle.command_line.specs.Topics.{AreTopicsOf, IsBadList}
 
 -- an option that takes a number from 1 to this
 abbrev pub number_option : Text → ℕ → Rule
@@ -24,6 +25,14 @@ number_option name most = record (new_rule name) {
   long = Some name;
   value_names = 1;
   parser = Some (parser.Signed (pos 1) (pos most));
+  action = Some action.Set;
+}
+
+-- an option that takes a text
+abbrev pub text_option : Text → Rule
+text_option name = record (new_rule name) {
+  long = Some name;
+  value_names = 1;
   action = Some action.Set;
 }
 
@@ -40,7 +49,9 @@ abbrev pub with_options : App → App
 with_options app =
     let partitions = with_rule app (number_option (codes "partitions") MOST_PARTITIONS) in
     let column = with_rule partitions (number_option (codes "column") LAST_COLUMN) in
-    with_rule column (flag (codes "header"))
+    let header = with_rule column (flag (codes "header")) in
+    let topics = with_rule header (text_option (codes "topics")) in
+    with_rule topics (number_option (codes "topic-column") LAST_COLUMN)
 
 -- the subcommand `count`
 abbrev pub count_app : App
@@ -86,11 +97,13 @@ IsFlag None given = given ≡ false
 IsFlag (Some text) given =
     (text ≡ codes "true" → given ≡ true) × (text ≡ codes "false" → given ≡ false)
 
--- the options of all subcommands are those that clap found, and each number is in its range
+-- the options of all subcommands are those that clap found, and each is in its range
 pub record HasOptions (rows : List Row) (options : Options) : Type 0 where
   pub partitions : IsNumber (first_of (codes "partitions") rows) 4 options.partitions
   pub column : IsNumber (first_of (codes "column") rows) 1 options.column
   pub header : IsFlag (one_of (codes "header") rows) options.header
+  pub topics : AreTopicsOf (first_of (codes "topics") rows) options.topics.items
+  pub topic_column : IsNumber (first_of (codes "topic-column") rows) 2 options.topic_column
   pub in_range : AreInRange options
 
 -- the paths, the options and the batch of a job with a script are those that clap found
@@ -125,10 +138,34 @@ pub record IsJobOf (words : List Text) (job : Job) : Type 0 where
 abbrev pub IsRequest : ErrorKind → Type 0
 IsRequest k = (k ≡ kind.DisplayHelp) ⊎ (k ≡ kind.DisplayVersion)
 
--- clap refuses the words by one of these kinds; help and the version are told as help, another
--- fault as bad words
-abbrev pub IsRefusal : Kinds → Usage → Type 0
-IsRefusal kinds (Help text) = (k : ErrorKind) × IsAmong k kinds × IsRequest k
-IsRefusal kinds (Bad text) =
-    (k : ErrorKind) × IsAmong k kinds × (k ≢ kind.DisplayHelp) × (k ≢ kind.DisplayVersion)
-IsRefusal kinds Memory = ⊤
+-- clap refuses the words, and they ask neither for help nor for the version
+abbrev pub AreNotUnderstood : List Text → Type 0
+AreNotUnderstood words =
+    (k : ErrorKind) × IsAmong k (fault_of keycount_app words) × (k ≢ kind.DisplayHelp)
+    × (k ≢ kind.DisplayVersion)
+
+-- clap takes the words, and what they give as a list of topics is none
+pub record HaveBadList (words : List Text) : Type 0 where
+  pub name : Text
+  pub rows : List Row
+  pub taken : fault_of keycount_app words ≡ []
+  pub subcommand : subcommand_of keycount_app words ≡ Some (name, rows)
+  pub list : IsBadList (first_of (codes "topics") rows)
+
+-- what is told of a list that is none
+abbrev pub bad_topics : Text
+bad_topics = codes "bad topics\n"
+
+-- a list that is none is told, if memory is there for it
+abbrev pub IsBadListTold : Usage → Type 0
+IsBadListTold (Help text) = ⊥
+IsBadListTold (Bad text) = string_bytes text ≡ bad_topics
+IsBadListTold Memory = ⊤
+
+-- Why words name no job: clap refuses them, and help and the version are told as help, another fault
+-- as bad words; or it takes them, and their list of topics is none.
+abbrev pub IsRefusal : List Text → Usage → Type 0
+IsRefusal words (Help text) = (k : ErrorKind) × IsAmong k (fault_of keycount_app words) × IsRequest k
+IsRefusal words (Bad text) =
+    AreNotUnderstood words ⊎ (HaveBadList words × (string_bytes text ≡ bad_topics))
+IsRefusal words Memory = ⊤

@@ -22,9 +22,10 @@ Faults ('fault CODE', before anything is printed but for 26):
   24 at record N           the record has another number of fields than the first
   25                       the file could not be opened or read
   26                       the output could not be written
+  32 at record N           the topic of the record is none of --topics
   90                       memory was refused
 
-Status: 0 done, 1 faults 20 to 24, 2 words that are not understood, 3 other faults
+Status: 0 done, 1 faults 20 to 24 and 32, 2 words that are not understood, 3 other faults
 
 Example:
   printf '21\\n4\\nfoobar\\nabc\\n21\\n' > keys.csv
@@ -35,6 +36,10 @@ pub const AFTER_REPLAY: &str = "\
 Lines of a script:
   join NAME, rejoin NAME, sync NAME, leave NAME, lose NAME, poll NAME P N, send NAME P,
   deliver C, unanswered C, append KEY, settle, drain; # begins a comment
+  keep NAME                joins as 'join' does, and keeps its place under the name
+  return NAME              a new member takes over the place that is kept under the name; refused
+                           by 33 where nobody present keeps one under it
+  With --topics: append TOPIC KEY, poll NAME TOPIC P N, send NAME TOPIC P
 
 Rows:
   move,GEN,P,OLD,NEW       at the completion of generation GEN partition P went from OLD to NEW
@@ -43,6 +48,8 @@ Rows:
   offset,P,COMMITTED,END   at the end: how many of its records are committed, and how many it has
   count,KEY,N              at the end: how many records of the key are committed
   total,COMMITTED,ALL      at the end: the records that are committed, and all
+  With --topics, where P is counted in its topic: move,GEN,TOPIC,P,OLD,NEW, owner,TOPIC,P,NAME,
+  offset,TOPIC,P,COMMITTED,END
 
 Faults ('fault CODE', before anything is printed but for 26):
   20                       a key is longer than 65,535 bytes
@@ -53,13 +60,16 @@ Faults ('fault CODE', before anything is printed but for 26):
   25                       a file could not be opened or read
   26                       the output could not be written
   31                       a line would pass generation 4,294,967,295
+  32 at record N           the topic of the record is none of --topics
   90                       memory was refused
 
-Status: 0 done, 1 faults 20 to 24, 2 words that are not understood, 3 other faults
+Status: 0 done, 1 faults 20 to 24 and 32, 2 words that are not understood, 3 other faults
 
-Example:
+Examples:
   printf '21\\n4\\nfoobar\\nabc\\n21\\n' > keys.csv
-  printf 'join A\\njoin B\\nsettle\\ndrain\\n' | keycount replay keys.csv -";
+  printf 'join A\\njoin B\\nsettle\\ndrain\\n' | keycount replay keys.csv -
+  printf '21,a\\nabc,b\\n21,b\\n4,a\\n4,b\\n' > topics.csv
+  printf 'join A\\nsettle\\njoin B\\ndrain\\n' | keycount replay --topics a:2,b:3 topics.csv -";
 
 /// Of `run`.
 pub const AFTER_RUN: &str = "\
@@ -72,6 +82,8 @@ Rows, the same however the threads fall:
   offset,P,END,END         at the end: how many records the partition has, all of them committed
   count,KEY,N              how many records of the key were counted
   total,N,N                the records, twice
+  With --topics, where P is counted in its topic: move,GEN,TOPIC,P,OLD,NEW, owner,TOPIC,P,NAME,
+  offset,TOPIC,P,END,END
 
 Faults ('fault CODE', before anything is printed but for 26):
   20                       a key is longer than 65,535 bytes
@@ -83,9 +95,10 @@ Faults ('fault CODE', before anything is printed but for 26):
   26                       the output could not be written
   27 at line N             after line N of the plan nobody is there; 0: the plan says nothing
   28                       what the threads shared differed from what was read
+  32 at record N           the topic of the record is none of --topics
   90                       memory, or a thread, was refused
 
-Status: 0 done, 1 faults 20 to 24 and 27, 2 words that are not understood, 3 other faults
+Status: 0 done, 1 faults 20 to 24, 27 and 32, 2 words that are not understood, 3 other faults
 
 Example:
   printf '21\\n4\\nfoobar\\nabc\\n21\\n' > keys.csv

@@ -3,6 +3,7 @@
 
 mod help;
 mod options;
+mod topics;
 mod words;
 
 pub use options::Options;

@@ -1,9 +1,11 @@
 //! The options of a job, and their bounds.
 
+use script::Topic;
+
 /// How the records of a file are counted.
-#[derive(Clone, Copy, Debug, PartialEq, Eq)]
+#[derive(Debug, Drop)]
 pub struct Options {
-    /// The partitions that the keys are spread over, from 1 to 4096.
+    /// The partitions that the keys are spread over where there are no topics, from 1 to 4096.
     pub partitions: u32,
     /// The column of the key, counted from 1.
     pub column: u32,
@@ -11,6 +13,10 @@ pub struct Options {
     pub header: bool,
     /// The most records of one poll.
     pub batch: u32,
+    /// The topics, each with partitions of its own; none where the records are of no topic.
+    pub topics: Vec<Topic>,
+    /// The column of the topic, counted from 1, where there are topics.
+    pub topic_column: u32,
 }
 
 /// The records of one poll where the words do not say, as many as Kafka's consumers take.

@@ -1,21 +1,24 @@
 //! The words of a command line: a subcommand, its options and its files.
 
-ghost use Rattle.std.specs.Prelude.{◌≡◌, ◌≤◌, ◌-◌, ◌^◌, false, IfOk, IfErr, IsSome, Some, map, codes};
+ghost use Rattle.std.specs.Prelude.{◌≡◌, ◌≤◌, ◌-◌, ◌^◌, false, IfOk, IfErr, IsErrAnd, IsSome, Some, map, codes};
 ghost use Rattle.clap.specs.Words.{app_of, fault_of, first_of, found_of, kind_of, rows_of, rule_of};
 ghost use Rattle.clap.specs.Simple.{App};
-ghost use Rattle.command_line.specs.CommandLine.{HasJob, HasOptions, HasScript, IsJobOf, IsNumber, IsRefusal, name_of};
-ghost use Rattle.command_line.specs.Private.CommandLine.{IsCommand, ReadsNumber, TakesCount, TakesOptions, TakesScript, Tells};
-ghost use Rattle.command_line.specs.CommandLine.{count_app, flag, keycount_app, number_option, path, replay_app, run_app, with_options, with_script};
+ghost use Rattle.command_line.specs.CommandLine.{HasOptions, HasScript, HaveBadList, IsBadListTold, IsJobOf, IsNumber, IsRefusal};
+ghost use Rattle.command_line.specs.Topics.{AreTopicsOf};
+ghost use Rattle.command_line.specs.Private.CommandLine.{IsCommand, IsJobOfRows, ReadsNumber, TakesCount, TakesOptions, TakesScript, Tells, TellsBadList};
+ghost use Rattle.command_line.specs.CommandLine.{count_app, flag, keycount_app, number_option, path, replay_app, run_app, text_option, with_options, with_script};
 
 use crate::help::{AFTER_COUNT, AFTER_KEYCOUNT, AFTER_REPLAY, AFTER_RUN};
 use crate::options::{DEFAULT_BATCH, LAST_COLUMN, MOST_BATCH, Options};
+use crate::topics;
 use clap::error::ErrorKind;
 use clap::{Arg, ArgAction, ArgMatches, Command, Error, value_parser};
 use lane_words::MOST_PARTITIONS;
+use script::Topic;
 use std::alloc::{AllocError, Global};
 
 /// What the program is to do.
-#[derive(Clone, Copy, Debug, PartialEq, Eq)]
+#[derive(Debug, Drop)]
 pub enum Job<'a> {
     /// Counts the keys of a file.
     Count {
@@ -56,6 +59,16 @@ const PARTITIONS_HELP: &str =
 
 /// What the help says of the option for the column.
 const COLUMN_HELP: &str = "Which column has the key, 1 to 65535 [default: 1]";
+
+/// What the help says of the option for topics.
+const TOPICS_HELP: &str = "1 to 8 topics, NAME:N,NAME:N, each of N partitions, at most 4096 in all";
+
+/// What the help says of the option for the column of the topic.
+const TOPIC_COLUMN_HELP: &str =
+    "Which column has the topic, 1 to 65535, with --topics [default: 2]";
+
+/// What is told of a list of topics that is none.
+const BAD_TOPICS: &str = "bad topics\n";
 
 /// What the help says of the option for the batch.
 const BATCH_HELP: &str = "The most records of one poll, 1 to 1000000 [default: 500]";
@@ -98,6 +111,18 @@ fn number_option<'a>(alloc: Global, name: &'a str, help: &'a str, most: u32) -> 
         .action(ArgAction::Set)
 }
 
+/// The option for a list of topics.
+fn topics_option<'a>(alloc: Global) -> Arg<'a>
+    ensures rule { rule_of result ≡ text_option (codes "topics") }
+    ensures local { result.global ≡ false }
+{
+    Arg::new(alloc, "topics")
+        .long("topics")
+        .value_name("LIST")
+        .help(TOPICS_HELP)
+        .action(ArgAction::Set)
+}
+
 /// The flag that the file has a header.
 fn header_flag<'a>(alloc: Global) -> Arg<'a>
     ensures rule { rule_of result ≡ flag (codes "header") }
@@ -117,7 +142,9 @@ fn with_options<'a>(alloc: Global, command: Command<'a>) -> Result<Command<'a>, 
     command
         .arg(number_option(alloc, "partitions", PARTITIONS_HELP, MOST_PARTITIONS))?
         .arg(number_option(alloc, "column", COLUMN_HELP, LAST_COLUMN))?
-        .arg(header_flag(alloc))
+        .arg(header_flag(alloc))?
+        .arg(topics_option(alloc))?
+        .arg(number_option(alloc, "topic-column", TOPIC_COLUMN_HELP, LAST_COLUMN))
 }
 
 /// The subcommand `count`.
@@ -214,69 +241,102 @@ fn number_of(given: &ArgMatches, id: &str, default: u32) -> u32
     number
 }
 
+/// What is told of a list of topics that is none.
+fn bad_list(alloc: Global) -> Usage
+    ensures { IsBadListTold result }
+{
+    match String::from_str(alloc, BAD_TOPICS) {
+        Ok(line) => Usage::Bad(line),
+        Err(_) => Usage::Memory,
+    }
+}
+
+/// The topics that an option gives, none where it is not given.
+fn topics_of(alloc: Global, given: &ArgMatches) -> Result<Vec<Topic>, Usage>
+    ensures topics { let list = first_of (codes "topics") (rows_of (found_of given.now)) in
+        IfOk result (λ topics. AreTopicsOf list topics.items) }
+    ensures bad { IfErr result (TellsBadList (rows_of (found_of given.now))) }
+{
+    let Some(list) = given.get_str("topics") else {
+        return Ok(Vec::new(alloc));
+    };
+    match topics::topics_said(alloc, list) {
+        Ok(Some(topics)) => Ok(topics),
+        Ok(None) => Err(bad_list(alloc)),
+        Err(_) => Err(Usage::Memory),
+    }
+}
+
 /// The options of all subcommands, from what clap found, with this batch.
-fn options_of(given: &ArgMatches, batch: u32) -> Options
+fn options_of(alloc: Global, given: &ArgMatches, batch: u32) -> Result<Options, Usage>
     requires tested { TakesOptions (rows_of (found_of given.now)) }
     requires batch { (1 ≤ batch) × (batch ≤ MOST_BATCH) }
-    ensures options { HasOptions (rows_of (found_of given.now)) result }
-    ensures batch { result.batch ≡ batch }
+    ensures options { IfOk result
+        (λ options. HasOptions (rows_of (found_of given.now)) options × (options.batch ≡ batch)) }
+    ensures bad { IfErr result (TellsBadList (rows_of (found_of given.now))) }
 {
-    Options {
+    let topics = topics_of(alloc, given)?;
+    Ok(Options {
         partitions: number_of(given, "partitions", 4),
         column: number_of(given, "column", 1),
         header: given.get_flag("header"),
         batch,
-    }
+        topics,
+        topic_column: number_of(given, "topic-column", 2),
+    })
 }
 
 /// The job of `count`, from what clap found after it.
-fn count_job<'a>(given: &ArgMatches<'a>) -> Job<'a>
+fn count_job<'a>(alloc: Global, given: &ArgMatches<'a>) -> Result<Job<'a>, Usage>
     requires { TakesCount (rows_of (found_of given.now)) }
-    ensures name { name_of result ≡ codes "count" }
-    ensures job { HasJob (rows_of (found_of given.now)) result }
+    ensures job { IfOk result (IsJobOfRows (codes "count") (rows_of (found_of given.now))) }
+    ensures bad { IfErr result (TellsBadList (rows_of (found_of given.now))) }
 {
     let file = text_of(given, "file");
-    let options = options_of(given, DEFAULT_BATCH);
-    Job::Count { file, options }
+    let options = options_of(alloc, given, DEFAULT_BATCH)?;
+    Ok(Job::Count { file, options })
 }
 
 /// The paths and the options of a job with a script, from what clap found.
-fn scripted<'a>(given: &ArgMatches<'a>) -> (&'a str, &'a str, Options)
+fn scripted<'a>(alloc: Global, given: &ArgMatches<'a>) -> Result<(&'a str, &'a str, Options), Usage>
     requires { TakesScript (rows_of (found_of given.now)) }
-    ensures { HasScript (rows_of (found_of given.now)) result.0.now result.1.now result.2 }
+    ensures script { IfOk result
+        (λ parts. HasScript (rows_of (found_of given.now)) parts.0.now parts.1.now parts.2) }
+    ensures bad { IfErr result (TellsBadList (rows_of (found_of given.now))) }
 {
     let file = text_of(given, "file");
     let script = text_of(given, "script");
-    let options = options_of(given, number_of(given, "batch", DEFAULT_BATCH));
-    (file, script, options)
+    let batch = number_of(given, "batch", DEFAULT_BATCH);
+    let options = options_of(alloc, given, batch)?;
+    Ok((file, script, options))
 }
 
 /// The job of `replay`, from what clap found after it.
-fn replay_job<'a>(given: &ArgMatches<'a>) -> Job<'a>
+fn replay_job<'a>(alloc: Global, given: &ArgMatches<'a>) -> Result<Job<'a>, Usage>
     requires { TakesScript (rows_of (found_of given.now)) }
-    ensures name { name_of result ≡ codes "replay" }
-    ensures job { HasJob (rows_of (found_of given.now)) result }
+    ensures job { IfOk result (IsJobOfRows (codes "replay") (rows_of (found_of given.now))) }
+    ensures bad { IfErr result (TellsBadList (rows_of (found_of given.now))) }
 {
-    let (file, script, options) = scripted(given);
-    Job::Replay {
+    let (file, script, options) = scripted(alloc, given)?;
+    Ok(Job::Replay {
         file,
         script,
         options,
-    }
+    })
 }
 
 /// The job of `run`, from what clap found after it.
-fn run_job<'a>(given: &ArgMatches<'a>) -> Job<'a>
+fn run_job<'a>(alloc: Global, given: &ArgMatches<'a>) -> Result<Job<'a>, Usage>
     requires { TakesScript (rows_of (found_of given.now)) }
-    ensures name { name_of result ≡ codes "run" }
-    ensures job { HasJob (rows_of (found_of given.now)) result }
+    ensures job { IfOk result (IsJobOfRows (codes "run") (rows_of (found_of given.now))) }
+    ensures bad { IfErr result (TellsBadList (rows_of (found_of given.now))) }
 {
-    let (file, script, options) = scripted(given);
-    Job::Run {
+    let (file, script, options) = scripted(alloc, given)?;
+    Ok(Job::Run {
         file,
         script,
         options,
-    }
+    })
 }
 
 /// What is answered to an error of clap's.
@@ -294,11 +354,14 @@ fn usage_of(alloc: Global, error: Error) -> Usage
     }
 }
 
-/// Reads the words after the program's name. A job comes only of words that clap takes, help and the
-/// version only where they ask for one of them, and `Bad` only where they have another fault.
+/// Reads the words after the program's name. A job comes only of words that clap takes and whose list
+/// of topics is one, help and the version only where they ask for one of them, and `Bad` only where
+/// they have another fault, or where clap takes them and their list is none: that is told as
+/// `bad topics`, and never gives a job.
 pub fn read_words<'a>(alloc: Global, words: &'a [&'a str]) -> Result<Job<'a>, Usage>
     ensures job { IfOk result (IsJobOf (map (λ w. w.now) words.now)) }
-    ensures usage { IfErr result (IsRefusal (fault_of keycount_app (map (λ w. w.now) words.now))) }
+    ensures usage { IfErr result (IsRefusal (map (λ w. w.now) words.now)) }
+    ensures list { HaveBadList (map (λ w. w.now) words.now) → IsErrAnd result IsBadListTold }
 {
     let Ok(command) = keycount_command(alloc) else {
         return Err(Usage::Memory);
@@ -311,9 +374,9 @@ pub fn read_words<'a>(alloc: Global, words: &'a [&'a str]) -> Result<Job<'a>, Us
         unreachable!();
     };
     match name {
-        "count" => Ok(count_job(given)),
-        "replay" => Ok(replay_job(given)),
-        "run" => Ok(run_job(given)),
+        "count" => count_job(alloc, given),
+        "replay" => replay_job(alloc, given),
+        "run" => run_job(alloc, given),
         _ => unreachable!(),
     }
 }

@@ -8,10 +8,8 @@ use Rattle.std.proofs.lemmas.Nat.{mul-le}
 use Rattle.keyed_table.specs.Counts as table
 use Rattle.keyed_table.proofs.Elements.{stands-somewhere}
 use Rattle.keyed_table.proofs.Raised.{counter-raised, length-raised}
-use Rattle.partition_log.specs.Appends.{in_first}
-use Rattle.partition_log.specs.Keys.{Key, distinct, key_at, plain}
+use Rattle.partition_log.specs.Keys.{Keyed, distinct, key_at, keys_in, plain}
 use Rattle.partition_log.specs.Logs.{IsValidLogs, AreLogsOf, PartitionLogs, keys_of_log, log_at}
-use Rattle.partition_log.proofs.Appended.{first-keys}
 use Rattle.partition_log.proofs.Numbered.{by_number, number-back}
 use Rattle.partition_log.proofs.Parted.{in_one_log, sum-same}
 use Rattle.count_report.specs.CountReport.{counts_of}
@@ -67,14 +65,15 @@ all-logs l p counts a e h = record {
       (λ q below. ap (table.plain (log_at l q)) (sym (number-back l.keys n a.without_repeats lt)) ∙ sym (by_number l.keys (log_at l q) (key_at l.keys n) a.without_repeats (λ i within. (a.entries q i within).numbered)));
 }
 
--- in the logs of some keys of one topic the counts are those of the keys
-pub counts-are : (keys : List Key) (l : PartitionLogs) (counts : List ℕ) → IsValidLogs l → AreLogsOf (in_first keys) l → AreCountsByNumber l counts → counts ≡ counts_of keys
+-- in the logs of some records the counts are those of their keys
+pub counts-are : (records : List Keyed) (l : PartitionLogs) (counts : List ℕ) → IsValidLogs l → AreLogsOf records l → AreCountsByNumber l counts → counts ≡ counts_of (keys_in records)
 unfolding counts_of
-counts-are keys l counts a h c =
-    let numbers : l.keys ≡ distinct keys = h.numbers ∙ ap distinct (first-keys keys) in
+counts-are records l counts a h c =
+    let keys = keys_in records in
+    let numbers : l.keys ≡ distinct keys = h.numbers in
     let long : length counts ≡ length (map (plain keys) (distinct keys)) = c.one_each ∙ ap length numbers ∙ sym (length-map (distinct keys) (plain keys)) in
     same_lists counts (map (plain keys) (distinct keys)) long (λ n d lt.
     let numbered : n < length l.keys = omega (arith, lt, c.one_each) in
     let listed : n < length (distinct keys) = omega (arith, numbered, ap length numbers) in
-    get_or_default counts n d 0 lt ∙ c.counted n numbered ∙ in_one_log (in_first keys) l (key_at l.keys n) a h ∙ ap (λ ks. plain ks (key_at l.keys n)) (first-keys keys)
+    get_or_default counts n d 0 lt ∙ c.counted n numbered ∙ in_one_log records l (key_at l.keys n) a h
     ∙ ap (λ ks. plain keys (key_at ks n)) numbers ∙ sym (get_or-map (plain keys) (distinct keys) n [] d listed))

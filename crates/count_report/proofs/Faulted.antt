@@ -1,18 +1,17 @@
--- The first key that can't be appended, as the logs tell it.
+-- The first record that can't be appended, as the logs tell it.
 use Rattle.std.proofs.Common.{◌≡◌, ◌∙◌, ℕ, Bool, true, false, List, [], ◌∷◌, ◌++◌, length, sym, ap, refl, inl, inr, subst}
 use Rattle.std.specs.Prelude.{◌==◌, if◌then◌else◌, ◌⊎◌, filter, nat_lt, Option, Some, None, Result, Ok, Err, IsOk}
 use Rattle.lane_words.specs.Answers.{Answers}
 use Rattle.lane_words.specs.declared.limits.TheConstants.{LONGEST_KEY}
 use Rattle.lane_words.specs.declared.Refusal.{Refusal}
 use Rattle.lane_words.specs.declared.Refusal.TheVariants as r
-use Rattle.partition_log.specs.Appends.{in_first}
-use Rattle.partition_log.specs.Keys.{Key, Keyed, distinct, of_first}
-use Rattle.partition_log.specs.Logs.{IsValidLogs, AreLogsOf, PartitionLogs, append_answer, finds_no_room, is_full_for, log_at, place_in, place_of}
-use Rattle.partition_log.proofs.Appended.{first-keys}
-use Rattle.partition_log.proofs.Stored.{first-below}
-use Rattle.count_report.specs.CountReport.{first_fault, key_fault, records_beside}
+use Rattle.partition_log.specs.Keys.{Keyed}
+use Rattle.partition_log.specs.Logs.{AreLogsOf, IsOfTopic, IsValidLogs, PartitionLogs, append_answer, finds_no_room, is_full_for, log_at, place_in}
+use Rattle.partition_log.proofs.Valid.{place-below}
+use Rattle.count_report.specs.CountReport.{first_fault, record_fault, records_beside}
+use Rattle.count_report.specs.Records.{place_of_record}
 use Rattle.count_report.specs.Tally.{IsKeyFault}
-use Rattle.count_report.proofs.FirstTopic.{log-long, place-first}
+use Rattle.count_report.proofs.Placed.{log-long, place-is}
 
 -- the fault that an answer tells
 abbrev pub fault_in : {T : Type 0} → Result T Refusal → Option Refusal
@@ -24,47 +23,47 @@ told true b v = refl
 told false true v = refl
 told false false v = refl
 
--- what an append to the logs of some keys, of one topic of n partitions, answers is what the keys tell
-pub key_fault-is : (n : ℕ) (l : PartitionLogs) (before : List Key) (key : Key) → IsValidLogs l → AreLogsOf (in_first before) l → l.counts ≡ n ∷ []
-    → fault_in (append_answer l (of_first key)) ≡ key_fault n before key
-key_fault-is n l before key a h same =
-    let place = place_in l (of_first key) in
-    let records : length (log_at l place) ≡ records_beside n before key =
-    log-long l n before place same h (first-below l key a) ∙ ap (λ p. length (filter (λ k. place_of n k == p) before)) (place-first l n key same) in
-    let numbers : l.keys ≡ distinct before = h.numbers ∙ ap distinct (first-keys before) in
+-- what an append to the logs of some records answers is what the records tell
+pub record_fault-is : (counts : List ℕ) (l : PartitionLogs) (before : List Keyed) (keyed : Keyed) → IsValidLogs l → AreLogsOf before l → l.counts ≡ counts → IsOfTopic l keyed
+    → fault_in (append_answer l keyed) ≡ record_fault counts before keyed
+record_fault-is counts l before keyed a h same topic =
+    let place = place_in l keyed in
+    let key = keyed.1 in
+    let records : length (log_at l place) ≡ records_beside counts before keyed =
+    log-long l counts before place same h (place-below l keyed a topic) ∙ ap (λ p. length (filter (λ other. place_of_record counts other == p) before)) (place-is l counts keyed same) in
     told (nat_lt LONGEST_KEY (length key)) (finds_no_room l.keys (length (log_at l place)) key) _
     ∙ ap (λ m. if nat_lt LONGEST_KEY (length key) then Some r.KeyTooLong else if finds_no_room l.keys m key then Some r.LogFull else None) records
-    ∙ ap (λ keys. if nat_lt LONGEST_KEY (length key) then Some r.KeyTooLong else if finds_no_room keys (records_beside n before key) key then Some r.LogFull else None) numbers
+    ∙ ap (λ keys. if nat_lt LONGEST_KEY (length key) then Some r.KeyTooLong else if finds_no_room keys (records_beside counts before keyed) key then Some r.LogFull else None) h.numbers
 
--- no key is left
-pub first_fault-nil : (partitions : ℕ) (before : List Key) → first_fault partitions before [] ≡ None
+-- no record is left
+pub first_fault-nil : (counts : List ℕ) (before : List Keyed) → first_fault counts before [] ≡ None
 unfolding first_fault
-first_fault-nil partitions before = refl
+first_fault-nil counts before = refl
 
--- the next key can be appended
-pub first_fault-later : (partitions : ℕ) (before : List Key) (key : Key) (keys : List Key) → key_fault partitions before key ≡ None
-    → first_fault partitions before (key ∷ keys) ≡ first_fault partitions (before ++ key ∷ []) keys
+-- the next record can be appended
+pub first_fault-later : (counts : List ℕ) (before : List Keyed) (keyed : Keyed) (records : List Keyed) → record_fault counts before keyed ≡ None
+    → first_fault counts before (keyed ∷ records) ≡ first_fault counts (before ++ keyed ∷ []) records
 unfolding first_fault
-first_fault-later partitions before key keys h = rw h refl
+first_fault-later counts before keyed records h = rw h refl
 
--- the next key can't
-pub first_fault-now : (partitions : ℕ) (before : List Key) (key : Key) (keys : List Key) (fault : Refusal) → key_fault partitions before key ≡ Some fault
-    → first_fault partitions before (key ∷ keys) ≡ Some fault
+-- the next record can't
+pub first_fault-now : (counts : List ℕ) (before : List Keyed) (keyed : Keyed) (records : List Keyed) (fault : Refusal) → record_fault counts before keyed ≡ Some fault
+    → first_fault counts before (keyed ∷ records) ≡ Some fault
 unfolding first_fault
-first_fault-now partitions before key keys fault h = rw h refl
+first_fault-now counts before keyed records fault h = rw h refl
 
 none_in : {T : Type 0} (answer : Result T Refusal) → IsOk answer → fault_in answer ≡ None
 none_in (Ok v) h = refl
 none_in (Err fault) h = absurd (cc h)
 
--- a key that the logs take is at no fault
-pub taken : (n : ℕ) (l : PartitionLogs) (before : List Key) (key : Key) → IsValidLogs l → AreLogsOf (in_first before) l → l.counts ≡ n ∷ [] → IsOk (append_answer l (of_first key)) → key_fault n before key ≡ None
-taken n l before key a h same ok = sym (key_fault-is n l before key a h same) ∙ none_in (append_answer l (of_first key)) ok
+-- a record that the logs take is at no fault
+pub taken : (counts : List ℕ) (l : PartitionLogs) (before : List Keyed) (keyed : Keyed) → IsValidLogs l → AreLogsOf before l → l.counts ≡ counts → IsOfTopic l keyed → IsOk (append_answer l keyed) → record_fault counts before keyed ≡ None
+taken counts l before keyed a h same topic ok = sym (record_fault-is counts l before keyed a h same topic) ∙ none_in (append_answer l keyed) ok
 
--- a key that the logs refuse is at that fault
-pub refused : (n : ℕ) (l : PartitionLogs) (before : List Key) (key : Key) (fault : Refusal) → IsValidLogs l → AreLogsOf (in_first before) l → l.counts ≡ n ∷ [] → append_answer l (of_first key) ≡ Err fault
-    → key_fault n before key ≡ Some fault
-refused n l before key fault a h same e = sym (key_fault-is n l before key a h same) ∙ ap fault_in e
+-- a record that the logs refuse is at that fault
+pub refused : (counts : List ℕ) (l : PartitionLogs) (before : List Keyed) (keyed : Keyed) (fault : Refusal) → IsValidLogs l → AreLogsOf before l → l.counts ≡ counts → IsOfTopic l keyed → append_answer l keyed ≡ Err fault
+    → record_fault counts before keyed ≡ Some fault
+refused counts l before keyed fault a h same topic e = sym (record_fault-is counts l before keyed a h same topic) ∙ ap fault_in e
 
 kind-at : {T : Type 0} (a b : Bool) (v : T) (fault : Refusal) → (if a then Err r.KeyTooLong else if b then Err r.LogFull else Ok v) ≡ Err fault → IsKeyFault fault
 kind-at true b v fault e = let is : r.KeyTooLong ≡ fault = cc e in subst IsKeyFault is tt
@@ -72,9 +71,9 @@ kind-at false true v fault e = let is : r.LogFull ≡ fault = cc e in subst IsKe
 kind-at false false v fault e = absurd (cc e)
 
 -- what an append is refused for
-pub key_fault-kind : (l : PartitionLogs) (keyed : Keyed) (fault : Refusal) → (fault ≡ r.Memory) ⊎ (append_answer l keyed ≡ Err fault) → IsKeyFault fault
-key_fault-kind l keyed fault (inl e) = subst IsKeyFault (sym e) tt
-key_fault-kind l keyed fault (inr e) = kind-at (nat_lt LONGEST_KEY (length keyed.1)) (is_full_for l (place_in l keyed) keyed.1) _ fault e
+pub record_fault-kind : (l : PartitionLogs) (keyed : Keyed) (fault : Refusal) → (fault ≡ r.Memory) ⊎ (append_answer l keyed ≡ Err fault) → IsKeyFault fault
+record_fault-kind l keyed fault (inl e) = subst IsKeyFault (sym e) tt
+record_fault-kind l keyed fault (inr e) = kind-at (nat_lt LONGEST_KEY (length keyed.1)) (is_full_for l (place_in l keyed) keyed.1) _ fault e
 
 -- an append that is refused is refused for want of memory, or as is told
 pub refused_as_told : {T : Type 0} (expected : Result T Refusal) (fault : Refusal) → Answers expected (Err fault) → (fault ≡ r.Memory) ⊎ (expected ≡ Err fault)

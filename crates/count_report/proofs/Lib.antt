@@ -1,5 +1,6 @@
 pub mod Appended
 pub mod Counted
 pub mod Faulted
-pub mod FirstTopic
+pub mod Placed
+pub mod Taken
 pub mod Told

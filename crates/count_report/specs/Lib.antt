@@ -1,4 +1,5 @@
 pub mod CountReport
 pub mod Private
+pub mod Records
 pub mod Reports
 pub mod Tally

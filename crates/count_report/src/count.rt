@@ -2,61 +2,63 @@
 
 ghost use Rattle.std.specs.Prelude.{◌≡◌, ◌≤◌, ◌<◌, ◌+◌, ◌-◌, ◌^◌, ◌⊎◌, Err, Ok, IfOk, IfErr, IfSome};
 ghost use Rattle.lane_words.specs.declared.Refusal.TheVariants as refusal;
-ghost use Rattle.count_report.specs.CountReport.{report_of_count, report_of_keys};
+ghost use Rattle.count_report.specs.CountReport.{report_of_count, report_of_records};
+ghost use Rattle.count_report.specs.Records.{AreOfTopics, partition_counts, records_in};
 ghost use Rattle.count_report.specs.Reports.{AreInRange, IsFaultOf, IsNoWrite, WritesAtEndAlone, WritesReport, failed_reads, failed_writes};
 ghost use Rattle.count_report.specs.Tally.{IsKeyFault};
 
-use crate::reading::file_keys;
+use crate::reading::{FileRecords, file_records};
 use crate::tally::{counts_in, logs_of};
 use command_line::Options;
 use devices::{Sink, Source, write_all};
-use key_file::FileKeys;
-use lane_words::{MOST_PARTITIONS, Refusal};
+use lane_words::Refusal;
 use report_rows::count_rows::count_rows_text;
 use std::alloc::Global;
 use std::random::RandomSource;
 use std::thread::Threads;
 
-/// The text of the plain count of some keys.
+/// The text of the plain count of some records.
 fn plain_report<R: Threads + Sync + RandomSource>(
     rt: &R,
     alloc: Global,
-    keys: FileKeys,
-    partitions: u32,
+    records: FileRecords,
+    options: &Options,
 ) -> Result<Vec<u8>, Refusal>
-    requires { (1 ≤ partitions) × (partitions ≤ MOST_PARTITIONS) }
-    ensures text { IfOk result (λ text. report_of_keys partitions keys ≡ Ok text.items) }
+    requires options { AreInRange options.now }
+    requires topics { AreOfTopics (partition_counts options.now) (records_in records) }
+    ensures text { IfOk result (λ text.
+        report_of_records (partition_counts options.now) (records_in records) ≡ Ok text.items) }
     ensures kind { IfErr result IsKeyFault }
-    ensures refused { IfErr result
-        (λ e. (e ≡ refusal.Memory) ⊎ (report_of_keys partitions keys ≡ Err e)) }
+    ensures refused { IfErr result (λ e. (e ≡ refusal.Memory)
+        ⊎ (report_of_records (partition_counts options.now) (records_in records) ≡ Err e)) }
 {
-    let logs = logs_of(rt, alloc, &keys, partitions)?;
-    let total = keys.len() as u64;
+    let logs = logs_of(rt, alloc, &records, options)?;
+    let total = records.len() as u64;
     // The logs have a copy of each key that the text needs.
-    drop(keys);
+    drop(records);
     let counts = counts_in(rt, alloc, &logs)?;
     let text = count_rows_text(alloc, &logs, counts.counts(), total, total)?;
     Ok(text)
 }
 
-/// The text of the plain count of a file's keys.
+/// The text of the plain count of a file's records.
 fn file_report<R: Threads + Sync + RandomSource, S: Source>(
     rt: &R,
     alloc: Global,
     file: &mut S,
-    options: Options,
+    options: &Options,
 ) -> Result<Vec<u8>, Refusal>
     requires source { S.failures file.old < 2 ^ 64 - 1 }
-    requires options { AreInRange options }
+    requires options { AreInRange options.now }
     ensures text { IfOk result (λ text. IfSome (S.left file.old)
-        (λ bytes. report_of_count options bytes ≡ Ok text.items)) }
+        (λ bytes. report_of_count options.now bytes ≡ Ok text.items)) }
     ensures refused { IfErr result (λ e. IfSome (S.left file.old)
-        (λ bytes. IsFaultOf (report_of_count options bytes) e)) }
+        (λ bytes. IsFaultOf (report_of_count options.now bytes) e)) }
     ensures kind { IfErr result IsNoWrite }
     ensures reads { S.failures file.new ≡ S.failures file.old + failed_reads result }
 {
-    let keys = file_keys(rt, alloc, file, options)?;
-    plain_report(rt, alloc, keys, options.partitions)
+    let records = file_records(rt, alloc, file, options)?;
+    plain_report(rt, alloc, records, options)
 }
 
 /// Counts how often each key occurs in a file of comma-separated records, and writes a row for each
@@ -67,20 +69,22 @@ fn file_report<R: Threads + Sync + RandomSource, S: Source>(
 /// `WriteFailed` a beginning of the text.
 ///
 /// Refused: a read that failed (`ReadFailed`); the first record of another length than the first
-/// one (`BadCsv`) or without the column (`NoSuchColumn`); only where there is none, the first key
-/// that can't be appended (`KeyTooLong`, `LogFull`); a write that failed; want of memory, or of the
-/// random bytes for a hasher (`Memory`).
+/// one (`BadCsv`), without a column that is read (`NoSuchColumn`) or, where there are topics, of
+/// none of them (`NoSuchTopic`); only where there is none, the first key that can't be appended
+/// (`KeyTooLong`, `LogFull`); a write that failed; want of memory, or of the random bytes for a
+/// hasher (`Memory`).
 pub fn count_text<R: Threads + Sync + RandomSource, S: Source, K: Sink>(
     rt: &R,
     alloc: Global,
     file: &mut S,
-    options: Options,
+    options: &Options,
     out: &mut K,
 ) -> Result<(), Refusal>
     requires source { S.failures file.old < 2 ^ 64 - 1 }
     requires sink { K.failures out.old < 2 ^ 64 - 1 }
-    requires options { AreInRange options }
-    ensures report { IfSome (S.left file.old) (λ bytes. WritesReport (report_of_count options bytes)
+    requires options { AreInRange options.now }
+    ensures report { IfSome (S.left file.old) (λ bytes.
+        WritesReport (report_of_count options.now bytes)
         (K.written out.old) (K.written out.new) result) }
     ensures nothing_before { WritesAtEndAlone (K.written out.old) (K.written out.new) result }
     ensures reads { S.failures file.new ≡ S.failures file.old + failed_reads result }

@@ -1,5 +1,5 @@
-//! The report of a count, and what the other reports share with it: the keys of a file, and their
-//! logs.
+//! The report of a count, and what the other reports share with it: the records of a file, and
+//! their logs.
 #![tactic(auto)]
 
 mod count;
@@ -7,5 +7,5 @@ mod reading;
 mod tally;
 
 pub use count::count_text;
-pub use reading::file_keys;
+pub use reading::{FileRecords, file_records, partition_counts};
 pub use tally::{counts_in, logs_of};

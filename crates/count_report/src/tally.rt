@@ -1,14 +1,19 @@
 //! Keys in logs, and how often each key is in them.
 
-ghost use Rattle.std.specs.Prelude.{◌≡◌, ◌≤◌, ◌<◌, ◌+◌, ◌-◌, ◌⊎◌, ◌∷◌, [], ℕ, None, Some, IfOk, IfErr, OnOk, length, slice_index_or, vec_len};
+ghost use Rattle.std.specs.Prelude.{◌≡◌, ◌≤◌, ◌<◌, ◌+◌, ◌-◌, ◌⊎◌, [], ℕ, None, Some, IfOk, IfErr, OnOk, length, map, slice_index_or, vec_len};
 ghost use Rattle.lane_words.specs.declared.Refusal.TheVariants as refusal;
-ghost use Rattle.partition_log.specs.Appends.{in_first};
+ghost use Rattle.partition_log.specs.Appends.{AreAppended, in_first, placed};
 ghost use Rattle.partition_log.specs.Logs.{IsValidLogs, AreLogsOf, log_at};
 ghost use Rattle.count_report.specs.CountReport.{first_fault};
+ghost use Rattle.count_report.specs.Private.Appending.{EndsAppends};
 ghost use Rattle.count_report.specs.Private.Counted.{AreCountsBelow};
+ghost use Rattle.count_report.specs.Records.{AreOfTopics, partition_counts, record_of, records_in};
+ghost use Rattle.count_report.specs.Reports.{AreInRange};
 ghost use Rattle.count_report.specs.Tally.{AreCountsByNumber, IsKeyFault};
 
-use key_file::FileKeys;
+use crate::reading::{FileRecords, partition_counts};
+use command_line::Options;
+use key_file::{FileKeys, TopicKeys};
 use keyed_table::{Partial, Table};
 use lane_words::{MOST_PARTITIONS, Memory, Refusal};
 use partition_log::{LogRead, Logs};
@@ -23,30 +28,90 @@ const LEAST_RECORDS: u64 = 4096;
 /// How many logs are counted at a time where it can't be told how many processors there are.
 const GROUP: u32 = 8;
 
-/// The logs of the keys of a file, of one topic, appended one after the other.
+/// The logs of the records of a file, appended one after the other.
 ///
-/// Refused by the first key that can't be appended, and for want of memory or of the random bytes
-/// for a hasher.
+/// Refused by the first record that can't be appended, and for want of memory or of the random
+/// bytes for a hasher.
 pub fn logs_of<R: Threads + Sync + RandomSource>(
     rt: &R,
     alloc: Global,
-    keys: &FileKeys,
-    partitions: u32,
+    records: &FileRecords,
+    options: &Options,
 ) -> Result<Logs, Refusal>
-    requires { (1 ≤ partitions) × (partitions ≤ MOST_PARTITIONS) }
-    ensures logs { IfOk result (AreLogsOf (in_first keys.now)) }
-    ensures counts { IfOk result (λ logs. logs.counts ≡ partitions ∷ []) }
-    ensures partitions { IfOk result (λ logs. logs.partitions ≡ partitions) }
+    requires options { AreInRange options.now }
+    requires topics { AreOfTopics (partition_counts options.now) (records_in records.now) }
+    ensures logs { IfOk result (AreLogsOf (records_in records.now)) }
+    ensures counts { IfOk result (λ logs. logs.counts ≡ partition_counts options.now) }
     ensures valid { IfOk result IsValidLogs }
-    ensures accepted { OnOk result (first_fault partitions [] keys.now ≡ None) }
+    ensures accepted { OnOk result
+        (first_fault (partition_counts options.now) [] (records_in records.now) ≡ None) }
     ensures kind { IfErr result IsKeyFault }
-    ensures refused { IfErr result
-        (λ e. (e ≡ refusal.Memory) ⊎ (first_fault partitions [] keys.now ≡ Some e)) }
+    ensures refused { IfErr result (λ e. (e ≡ refusal.Memory)
+        ⊎ (first_fault (partition_counts options.now) [] (records_in records.now) ≡ Some e)) }
 {
-    let mut logs = Logs::new(rt, alloc, partitions)?;
+    let counts = partition_counts(alloc, options)?;
+    let mut logs = Logs::with_topics(rt, alloc, counts.as_slice())?;
+    append_records(rt, alloc, &mut logs, records)?;
+    Ok(logs)
+}
+
+/// Appends the records of a file, one after the other.
+fn append_records<R: Threads + Sync>(
+    rt: &R,
+    alloc: Global,
+    logs: &mut Logs,
+    records: &FileRecords,
+) -> Result<(), Refusal>
+    requires valid { IsValidLogs logs.old }
+    requires topics { AreOfTopics logs.old.counts (records_in records.now) }
+    ensures ok { OnOk result
+        (AreAppended logs.old (placed logs.old (records_in records.now)) logs.new) }
+    ensures err { IfErr result (EndsAppends logs.old (records_in records.now) logs.new) }
+    ensures valid { IsValidLogs logs.new }
+{
+    match records {
+        FileRecords::Keys(keys) => append_keys(rt, alloc, logs, keys),
+        FileRecords::InTopics(keys) => append_topic_keys(rt, alloc, logs, keys),
+    }
+}
+
+/// Appends records of these keys to the first topic.
+fn append_keys<R: Threads + Sync>(
+    rt: &R,
+    alloc: Global,
+    logs: &mut Logs,
+    keys: &FileKeys,
+) -> Result<(), Refusal>
+    requires { IsValidLogs logs.old }
+    ensures ok { OnOk result
+        (AreAppended logs.old (placed logs.old (in_first keys.now)) logs.new) }
+    ensures err { IfErr result (EndsAppends logs.old (in_first keys.now) logs.new) }
+    ensures valid { IsValidLogs logs.new }
+{
     let slices = keys.slices(alloc)?;
     match logs.append_all(rt, slices.as_slice()) {
-        Ok(()) => Ok(logs),
+        Ok(()) => Ok(()),
+        Err((_, why)) => Err(why),
+    }
+}
+
+/// Appends records of these keys, each to its topic.
+fn append_topic_keys<R: Threads + Sync>(
+    rt: &R,
+    alloc: Global,
+    logs: &mut Logs,
+    keys: &TopicKeys,
+) -> Result<(), Refusal>
+    requires valid { IsValidLogs logs.old }
+    requires topics { AreOfTopics logs.old.counts (map record_of keys.now) }
+    ensures ok { OnOk result
+        (AreAppended logs.old (placed logs.old (map record_of keys.now)) logs.new) }
+    ensures err { IfErr result (EndsAppends logs.old (map record_of keys.now) logs.new) }
+    ensures valid { IsValidLogs logs.new }
+{
+    let (topics, slices) = keys.topics_and_slices(alloc)?;
+    match logs.append_all_in(rt, topics.as_slice(), slices.as_slice()) {
+        Ok(()) => Ok(()),
         Err((_, why)) => Err(why),
     }
 }

@@ -20,7 +20,7 @@ use Rattle.group_machine.proofs.FinishLemmas.{end_of, end_same, completed_finish
 use Rattle.group_machine.proofs.PassLemmas.{completed_present}
 
 -- ---- an end sees no flags
-settled_bare : (g : GroupState) → is_settled (bare g) ≡ is_settled g
+pub settled_bare : (g : GroupState) → is_settled (bare g) ≡ is_settled g
 settled_bare g = ap (λ t. is_stable g.phase && t) (all_each agrees (λ m. bare_seat) (λ m x. refl) g.slots)
 
 pub finish_bare : (g : GroupState) → finish (bare g) ≡ finish g
@@ -44,7 +44,7 @@ reseated_more : (m : ℕ) (f : Option Seat → Option Seat) (slots : List Slot) 
 reseated_more m f [] s = refl
 reseated_more m f (t ∷ slots) s = ap (λ r. slot_with t.name (f t.seat) ∷ r) (reseated_more (suc m) f slots s)
 
-bare_more : (slots : List Slot) (s : Slot) → each_changed (λ m. bare_seat) (slots ++ s ∷ []) ≡ each_changed (λ m. bare_seat) slots ++ slot_with s.name (option_map bare_seat s.seat) ∷ []
+pub bare_more : (slots : List Slot) (s : Slot) → each_changed (λ m. bare_seat) (slots ++ s ∷ []) ≡ each_changed (λ m. bare_seat) slots ++ slot_with s.name (option_map bare_seat s.seat) ∷ []
 bare_more slots s = reseated_more 1 (option_map bare_seat) slots s
 
 bare_joining : (g : GroupState) (name : List ℕ) → bare (joining (bare g) name) ≡ bare (joining g name)
@@ -70,7 +70,7 @@ none_on : (f : Seat → Seat) (b : Bool) (o : Option Seat) → cond b None (opti
 none_on f true o = refl
 none_on f false o = refl
 
-without_bare : (slots : List Slot) (member : ℕ) → without_seat (each_changed (λ m. bare_seat) slots) member ≡ each_changed (λ m. bare_seat) (without_seat slots member)
+pub without_bare : (slots : List Slot) (member : ℕ) → without_seat (each_changed (λ m. bare_seat) slots) member ≡ each_changed (λ m. bare_seat) (without_seat slots member)
 without_bare slots member =
     let gone : ℕ → Option Seat → Option Seat = only_of member (λ before. None) in
     reseated_two 1 gone (λ m. option_map bare_seat) slots

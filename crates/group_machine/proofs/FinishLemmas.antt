@@ -111,13 +111,13 @@ two_rounds g has any fit apart =
     all_of agrees (round (round g)).slots (λ m x is. settled_by (next_rows (granted_rows (yielded (round g)))) refl now m x is)
 
 -- ---- a completion where all have joined is a round
-abbrev seat_with : PartitionSet → PartitionSet → Seat
-seat_with s t = record { joined = false; synced = false; granted = s; assigned = t }
+abbrev seat_with : Seat → PartitionSet → Seat
+seat_with x s = record x { joined = false; synced = false; granted = s }
 
 yields_nothing : (g : GroupState) → AllFit g → all_joined g ≡ true → each_changed (λ m. yielded_seat) g.slots ≡ each_changed (λ m. bare_seat) g.slots
 yields_nothing g fit joined = each_same (λ m. yielded_seat) (λ m. bare_seat) g.slots (λ m x is.
     let same : x.assigned ≡ x.granted = (fit m x is).equal (all_says (λ y. y.joined) g.slots m x joined is) in
-    ap (λ (s : PartitionSet). seat_with s x.assigned) same)
+    ap (λ (s : PartitionSet). seat_with x s) same)
 
 complete_parts : ℕ → ℕ → List Slot → List (Option ℕ) → List Move → GroupState
 complete_parts generation p slots last moves = record { generation = generation; phase = Stable; partitions = p; slots = slots; last = last; moves = moves }

@@ -6,6 +6,7 @@ pub mod CompletionLemmas
 pub mod EndLemmas
 pub mod FinishLemmas
 pub mod GroupLemmas
+pub mod HandedLemmas
 pub mod MovesLemmas
 pub mod NameLemmas
 pub mod NearLemmas
@@ -16,6 +17,7 @@ pub mod Rows
 pub mod SlotsLemmas
 pub mod StepLemmas
 pub mod TableLemmas
+pub mod TakeOverLemmas
 pub mod TakenLemmas
 pub mod TakerLemmas
 pub mod WalkLemmas

@@ -1,53 +1,136 @@
 -- Numbers by their names.
-use Rattle.std.proofs.Common.{ℕ, zero, suc, ◌≡◌, ◌+◌, ◌<◌, Bool, true, false, not, List, [], ◌∷◌, Some, None, length, map, slice_get, refl, ap, sym, ◌∙◌, arith, cond, nat_lt}
+use Rattle.std.proofs.Common.{ℕ, zero, suc, ◌≡◌, ◌+◌, ◌<◌, ◌≤◌, Bool, true, false, ◌⊎◌, inl, inr, List, [], ◌∷◌, Option, Some, None, length, map, get_or, slice_get, drop, refl, ap, sym, ◌∙◌, arith, cond}
 use Rattle.std.proofs.lemmas.Bool.{false≢true}
-use Rattle.std.proofs.lemmas.Bool.Decides.{nat_tests}
 use Rattle.std.proofs.lemmas.Slice.Eq.{bytes_eq-Decides}
-use Rattle.std.specs.List.{position_or_len}
-use Rattle.std.specs.Option.{option_map}
+use Rattle.std.specs.Option.{option_or}
 use Rattle.std.specs.Str.{bytes_eq}
 use Rattle.group_machine.specs.declared.group.Slot.{Slot}
-use Rattle.group_machine.specs.State.{GroupState, HasNumber, names}
+use Rattle.group_machine.specs.declared.group.Seat.{Seat}
+use Rattle.group_machine.specs.Slots.{reseated_from}
+use Rattle.group_machine.specs.State.{GroupState, HasNumber, names, number_from}
 
 abbrev name_list : List Slot → List (List ℕ)
 name_list slots = map (λ s. s.name) slots
 
-abbrev first_named : List ℕ → List Slot → ℕ
-first_named name slots = position_or_len (λ s. bytes_eq s.name name) slots
-
--- this slot is there, and has the name
-abbrev IsNamedAt : List Slot → List ℕ → ℕ → Type 0
-IsNamedAt slots name k = (k < length slots) × (slice_get (name_list slots) k ≡ Some name)
-
 some_same : (xs ys : List ℕ) → Some xs ≡ Some ys → xs ≡ ys
 some_same xs ys e = cc
 
-later : (s : Slot) (slots : List Slot) (name : List ℕ) (i : ℕ) → bytes_eq s.name name ≡ false → slice_get (name_list (s ∷ slots)) i ≡ Some name → (j : ℕ) × (slice_get (name_list slots) j ≡ Some name)
-later s slots name zero other is = absurd (false≢true (sym other ∙ (bytes_eq-Decides s.name name).1 (some_same s.name name is)))
-later s slots name (suc j) other is = (j, is)
+-- no slot has this name from this index on
+abbrev HasNoneFrom : List Slot → List ℕ → ℕ → Type 0
+HasNoneFrom slots name from = (k : ℕ) → from ≤ k → slice_get (name_list slots) k ≡ Some name → ⊥
 
-first_after : (s : Slot) (slots : List Slot) (name : List ℕ) (i : ℕ) → ((j : ℕ) → slice_get (name_list slots) j ≡ Some name → IsNamedAt slots name (first_named name slots)) → slice_get (name_list (s ∷ slots)) i ≡ Some name
-    → (b : Bool) → bytes_eq s.name name ≡ b → IsNamedAt (s ∷ slots) name (cond (not b) (1 + first_named name slots) 0)
-first_after s slots name i rest e true same = (omega arith, ap (λ n. Some n) ((bytes_eq-Decides s.name name).0 same))
-first_after s slots name i rest e false other =
-    let j = later s slots name i other e in
-    let found = rest j.0 j.1 in
-    let next : 1 + first_named name slots ≡ suc (first_named name slots) = omega arith in
-    (omega (arith, found.0), rw next found.1)
+-- the number that is found is of the last slot with the name
+record IsFound (m : ℕ) (slots : List Slot) (name : List ℕ) (k : ℕ) : Type 0 where
+  found : number_from m slots name ≡ Some (m + k)
+  named : slice_get (name_list slots) k ≡ Some name
+  newest : HasNoneFrom slots name (suc k)
 
-named_first : (slots : List Slot) (name : List ℕ) (i : ℕ) → slice_get (name_list slots) i ≡ Some name → IsNamedAt slots name (first_named name slots)
-named_first [] name i e = cc
-named_first (s ∷ slots) name i e = first_after s slots name i (λ j. named_first slots name j) e (bytes_eq s.name name) refl
+record IsMissing (m : ℕ) (slots : List Slot) (name : List ℕ) : Type 0 where
+  found : number_from m slots name ≡ None
+  none : HasNoneFrom slots name 0
 
-below_true : (m n : ℕ) → m < n → nat_lt m n ≡ true
-below_true m n lt = grind (arith, nat_tests)
+found_later : (m : ℕ) (s : Slot) (slots : List Slot) (name : List ℕ) (k : ℕ) → IsFound (suc m) slots name k → IsFound m (s ∷ slots) name (suc k)
+found_later m s slots name k f = record {
+  found = ap (λ o. option_or o (cond (bytes_eq s.name name) (Some m) None)) f.found ∙ ap (λ n. Some n) (let e : suc m + k ≡ m + suc k = omega arith in e);
+  named = f.named;
+  newest = later;
+}
+  where
+    later : HasNoneFrom (s ∷ slots) name (suc (suc k))
+    later zero le e = omega arith
+    later (suc j) le e = f.newest j (omega arith) e
+
+found_first : (m : ℕ) (s : Slot) (slots : List Slot) (name : List ℕ) → IsMissing (suc m) slots name → (b : Bool) → bytes_eq s.name name ≡ b → ((k : ℕ) × IsFound m (s ∷ slots) name k) ⊎ IsMissing m (s ∷ slots) name
+found_first m s slots name r true same =
+    let z : m ≡ m + 0 = omega arith in
+    inl (
+      0,
+      record {
+        found = ap (λ o. option_or o (cond (bytes_eq s.name name) (Some m) None)) r.found ∙ ap (λ b. cond b (Some m) None) same ∙ ap (λ n. Some n) z;
+        named = ap (λ n. Some n) ((bytes_eq-Decides s.name name).0 same);
+        newest = later;
+      },
+    )
+  where
+    later : HasNoneFrom (s ∷ slots) name 1
+    later zero le e = omega arith
+    later (suc j) le e = r.none j (omega arith) e
+found_first m s slots name r false other = inr (record {
+  found = ap (λ o. option_or o (cond (bytes_eq s.name name) (Some m) None)) r.found ∙ ap (λ b. cond b (Some m) None) other;
+  none = none;
+})
+  where
+    none : HasNoneFrom (s ∷ slots) name 0
+    none zero le e = false≢true (sym other ∙ (bytes_eq-Decides s.name name).1 (some_same s.name name e))
+    none (suc j) le e = r.none j (omega arith) e
+
+find_named : (m : ℕ) (slots : List Slot) (name : List ℕ) → ((k : ℕ) × IsFound m slots name k) ⊎ IsMissing m slots name
+find_named m [] name = inr (record { found = refl; none = λ k le e. cc })
+find_named m (s ∷ slots) name = elim (find_named (suc m) slots name) [
+  | inl f ↦ inl (suc f.0, found_later m s slots name f.0 f.1)
+  | inr r ↦ found_first m s slots name r (bytes_eq s.name name) refl
+]
 
 pub name_has_number : (g : GroupState) (name : List ℕ) (i : ℕ) → slice_get (names g) i ≡ Some name → HasNumber g name
-name_has_number g name i e =
-    let first : ℕ = first_named name g.slots in
-    let found = named_first g.slots name i e in
-    record {
-      index = first;
-      number = ap (λ b. option_map (λ k. k + 1) (cond b (Some first) None)) (below_true first (length g.slots) found.0);
-      named = found.1;
-    }
+name_has_number g name i e = elim (find_named 1 g.slots name) [
+  | inl f ↦ record {
+    index = f.0;
+    number = f.1.found ∙ ap (λ n. Some n) (let c : 1 + f.0 ≡ f.0 + 1 = omega arith in c);
+    named = f.1.named;
+    newest = λ later lt is. f.1.newest later (omega arith) is;
+  }
+  | inr r ↦ absurd (r.none i (omega arith) e)
+]
+
+-- names stand for the same numbers after any change of seats
+pub number_reseated : (m n : ℕ) (f : ℕ → Option Seat → Option Seat) (slots : List Slot) (name : List ℕ) → number_from m (reseated_from n f slots) name ≡ number_from m slots name
+number_reseated m n f [] name = refl
+number_reseated m n f (s ∷ slots) name = ap (λ o. option_or o (cond (bytes_eq s.name name) (Some m) None)) (number_reseated (suc m) (suc n) f slots name)
+
+-- ---- a walk over the slots, which keeps the last number that it found
+drop_here : (slots : List Slot) (i : ℕ) (s : Slot) → i < length slots → s ≡ get_or slots i s → drop i slots ≡ s ∷ drop (suc i) slots
+drop_here [] i s lt e = absurd (omega arith)
+drop_here (t ∷ slots) zero s lt e = ap (λ u. u ∷ slots) (sym e)
+drop_here (t ∷ slots) (suc i) s lt e = drop_here slots i s (omega arith) e
+
+or_here : (later : Option ℕ) (n : ℕ) (before : Option ℕ) (b : Bool) → b ≡ true → option_or (option_or later (cond b (Some n) None)) before ≡ option_or later (Some n)
+or_here None n before b e = rw e refl
+or_here (Some k) n before b e = refl
+
+or_past : (later : Option ℕ) (n : ℕ) (before : Option ℕ) (b : Bool) → b ≡ false → option_or (option_or later (cond b (Some n) None)) before ≡ option_or later before
+or_past None n before b e = rw e refl
+or_past (Some k) n before b e = refl
+
+or_none : (o : Option ℕ) → o ≡ option_or o None
+or_none None = refl
+or_none (Some n) = refl
+
+-- the number by the walk so far, which has found this one
+abbrev pub found_by : List Slot → List ℕ → ℕ → Option ℕ → Option ℕ
+found_by slots name i found = option_or (number_from (i + 1) (drop i slots) name) found
+
+walk_step : (slots : List Slot) (name : List ℕ) (i : ℕ) (s : Slot) (found : Option ℕ) → i < length slots → s ≡ get_or slots i s → found_by slots name i found ≡ option_or (option_or (number_from (i + 1 + 1) (drop (i + 1) slots) name) (cond (bytes_eq s.name name) (Some (i + 1)) None)) found
+walk_step slots name i s found lt e =
+    let a : suc (i + 1) ≡ i + 1 + 1 = omega arith in
+    let b : suc i ≡ i + 1 = omega arith in
+    ap (λ rest. option_or (number_from (i + 1) rest name) found) (drop_here slots i s lt e)
+    ∙ ap (λ n. option_or (option_or (number_from n (drop (suc i) slots) name) (cond (bytes_eq s.name name) (Some (i + 1)) None)) found) a
+    ∙ ap (λ k. option_or (option_or (number_from (i + 1 + 1) (drop k slots) name) (cond (bytes_eq s.name name) (Some (i + 1)) None)) found) b
+
+pub walk_start : (slots : List Slot) (name : List ℕ) → number_from 1 slots name ≡ found_by slots name 0 None
+walk_start slots name = or_none (number_from 1 slots name)
+
+pub walk_found : (slots : List Slot) (name : List ℕ) (i : ℕ) (s : Slot) (found : Option ℕ) → i < length slots → s ≡ get_or slots i s → bytes_eq s.name name ≡ true → found_by slots name i found ≡ found_by slots name (i + 1) (Some (i + 1))
+walk_found slots name i s found lt e same = walk_step slots name i s found lt e ∙ or_here (number_from (i + 1 + 1) (drop (i + 1) slots) name) (i + 1) found (bytes_eq s.name name) same
+
+pub walk_past : (slots : List Slot) (name : List ℕ) (i : ℕ) (s : Slot) (found : Option ℕ) → i < length slots → s ≡ get_or slots i s → bytes_eq s.name name ≡ false → found_by slots name i found ≡ found_by slots name (i + 1) found
+walk_past slots name i s found lt e other = walk_step slots name i s found lt e ∙ or_past (number_from (i + 1 + 1) (drop (i + 1) slots) name) (i + 1) found (bytes_eq s.name name) other
+
+drop_past : (slots : List Slot) (i : ℕ) → length slots ≤ i → drop i slots ≡ []
+drop_past [] zero le = refl
+drop_past [] (suc i) le = refl
+drop_past (s ∷ slots) zero le = absurd (omega arith)
+drop_past (s ∷ slots) (suc i) le = drop_past slots i (omega arith)
+
+pub walk_end : (slots : List Slot) (name : List ℕ) (i : ℕ) (found : Option ℕ) → length slots ≤ i → found_by slots name i found ≡ found
+walk_end slots name i found le = ap (λ rest. option_or (number_from (i + 1) rest name) found) (drop_past slots i le)

@@ -52,7 +52,7 @@ completion_leaves g c ready n =
       either = inr (record { generation = refl; joined = ap seat_joined at ∙ flags.0; synced = ap seat_synced at ∙ flags.1 });
     }
 
-as_before : (g : GroupState) (n : ℕ) → LeavesMember g g n
+pub as_before : (g : GroupState) (n : ℕ) → LeavesMember g g n
 as_before g n = record { present = refl; granted = λ q e. e; either = inl (record { generation = refl; joined = refl; synced = refl; granted = refl; assigned = refl }) }
 
 completed_leaves : (g : GroupState) → IsChanged g → (n : ℕ) → LeavesMember g (completed g) n
@@ -87,7 +87,7 @@ same_either old during new n generation partitions seat (inl b) = inl (record {
 })
 same_either old during new n generation partitions seat (inr b) = inr (record { generation = b.generation ∙ ap (λ k. k + 1) generation; joined = b.joined; synced = b.synced })
 
-leaves_before : (old during new : GroupState) (n : ℕ) → during.generation ≡ old.generation → during.partitions ≡ old.partitions → member_of during n ≡ member_of old n → LeavesMember during new n → LeavesMember old new n
+pub leaves_before : (old during new : GroupState) (n : ℕ) → during.generation ≡ old.generation → during.partitions ≡ old.partitions → member_of during n ≡ member_of old n → LeavesMember during new n → LeavesMember old new n
 leaves_before old during new n generation partitions seat l = record {
   present = l.present ∙ ap is_some seat;
   granted = λ q e. l.granted q (ap (λ p. is_in (seat_granted p (member_of during n)) q) partitions ∙ ap (λ o. is_in (seat_granted old.partitions o) q) seat ∙ e);
@@ -103,7 +103,7 @@ step_leaves old during about c generation partitions seats = record {
 }
 
 -- ---- joining
-seat_before : (slots : List Slot) (s : Slot) (k : ℕ) → (k ≡ length slots → ⊥) → seat_in (slice_get (slots ++ s ∷ []) k) ≡ seat_in (slice_get slots k)
+pub seat_before : (slots : List Slot) (s : Slot) (k : ℕ) → (k ≡ length slots → ⊥) → seat_in (slice_get (slots ++ s ∷ []) k) ≡ seat_in (slice_get slots k)
 seat_before [] s zero ne = absurd (ne refl)
 seat_before [] s (suc k) ne = refl
 seat_before (t ∷ slots) s zero ne = refl
@@ -113,7 +113,7 @@ pub seat_last : (slots : List Slot) (s : Slot) → seat_in (slice_get (slots ++ 
 seat_last [] s = refl
 seat_last (t ∷ slots) s = seat_last slots s
 
-seat_past : (slots : List Slot) → seat_in (slice_get slots (length slots)) ≡ None
+pub seat_past : (slots : List Slot) → seat_in (slice_get slots (length slots)) ≡ None
 seat_past [] = refl
 seat_past (t ∷ slots) = seat_past slots
 

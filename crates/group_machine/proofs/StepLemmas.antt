@@ -4,16 +4,16 @@ use Rattle.std.proofs.lemmas.Bool.{false≢true}
 use Rattle.std.specs.List.{list_any, list_all}
 use Rattle.std.specs.Option.{option_map}
 use Rattle.lane_words.specs.declared.limits.TheConstants.{MOST_MEMBERS, MOST_PARTITIONS}
-use Rattle.bit_planes.specs.PartitionSet.{is_in, is_within, empty_set}
+use Rattle.bit_planes.specs.PartitionSet.{partitions_of, is_in, is_within, is_same, empty_set}
 use Rattle.bit_planes.proofs.Sets.{in_empty, partitions_empty, within_of, within_says}
 use Rattle.sticky_assignor.specs.Balanced.{IsBalanced}
 use Rattle.group_machine.specs.declared.group.Slot.{Slot}
 use Rattle.group_machine.specs.declared.group.Seat.{Seat}
-use Rattle.group_machine.specs.Slots.{seat_in, seat_of, each_changed, only_of, present}
+use Rattle.group_machine.specs.Slots.{seat_in, seat_of, each_changed, one_changed, only_of, present}
 use Rattle.group_machine.specs.State.{GroupState, opening, member_of, members, is_present, is_anybody, is_joined, seat_joined, seat_granted, seat_assigned, granted_of, assigned_of}
 use Rattle.group_machine.specs.Completion.{all_joined}
 use Rattle.group_machine.specs.Rounds.{is_stable, agrees, is_settled}
-use Rattle.group_machine.specs.Steps.{new_seat, newcomer, joining, joined_by, rejoined_seat, rejoining, rejoined_by, synced_seat, synced_by, leaving, left_by}
+use Rattle.group_machine.specs.Steps.{new_seat, newcomer, joining, joined_by, rejoined_seat, rejoining, rejoined_by, synced_seat, synced_by, kept_seat, keeping, leaving, left_by}
 use Rattle.group_machine.specs.Good.{IsApart, IsFit, AllFit, IsValidGroup}
 use Rattle.group_machine.specs.Private.Changes.{IsChanged}
 use Rattle.group_machine.proofs.SlotsLemmas.{seat_each, seat_without, one_is_each, at_only}
@@ -221,7 +221,7 @@ leaving_changed g member good here =
 pub leave_good : (g : GroupState) (member : ℕ) → IsValidGroup g → is_present g member ≡ true → IsValidGroup (left_by g member)
 leave_good g member good here = completed_good (leaving g member) (leaving_changed g member good here)
 
--- ---- syncing
+-- ---- flags
 all_map : (p : Seat → Bool) (f : ℕ → Seat → Seat) → ((m : ℕ) (x : Seat) → p (f m x) ≡ p x) → (xs : List (ℕ × Seat)) → list_all {X = ℕ × Seat} (λ r. p r.1) (map (λ r. (r.0, f r.0 r.1)) xs) ≡ list_all (λ r. p r.1) xs
 all_map p f same [] = refl
 all_map p f same (x ∷ xs) = rw (same x.0 x.1, all_map p f same xs) refl
@@ -233,48 +233,68 @@ seat_same : {X : Type 0} (h : Option Seat → X) (f : Seat → Seat) → ((x : S
 seat_same h f same None = refl
 seat_same h f same (Some x) = same x
 
--- what does not look at a member's synced flag is as it was
-pub synced_same : {X : Type 0} (h : Option Seat → X) → ((x : Seat) → h (Some (synced_seat x)) ≡ h (Some x)) → (g : GroupState) (member m : ℕ) → h (member_of (synced_by g member) m) ≡ h (member_of g m)
-synced_same h same g member m =
-    ap (λ slots. h (seat_of slots m)) (one_is_each synced_seat g.slots member)
-    ∙ ap h (seat_each (at_only member synced_seat) g.slots m)
-    ∙ seat_same h (at_only member synced_seat m) (λ x. only_same (λ y. h (Some y)) synced_seat same member m x) (member_of g m)
+-- a change of one member's seat that leaves whether it has joined, and its sets
+pub record IsFlag (f : Seat → Seat) : Type 0 where
+  pub joined : (x : Seat) → (f x).joined ≡ x.joined
+  pub granted : (x : Seat) → (f x).granted ≡ x.granted
+  pub assigned : (x : Seat) → (f x).assigned ≡ x.assigned
 
-pub any_synced : (g : GroupState) (member : ℕ) → is_anybody (synced_by g member) ≡ is_anybody g
-any_synced g member = ap (λ slots. list_any (λ s. is_some s.seat) slots) (one_is_each synced_seat g.slots member) ∙ any_each (at_only member synced_seat) g.slots
+abbrev pub flagged : GroupState → (Seat → Seat) → ℕ → GroupState
+flagged g f member = with_slots g (one_changed f g.slots member)
 
-pub members_synced : (g : GroupState) (member : ℕ) → members (synced_by g member) ≡ members g
-members_synced g member = ap (λ slots. map {A = ℕ × Seat} (λ r. r.0) (present slots)) (one_is_each synced_seat g.slots member) ∙ numbers_each (at_only member synced_seat) g.slots
+-- what does not look at what is changed is as it was
+pub flag_same : {X : Type 0} (f : Seat → Seat) (h : Option Seat → X) → ((x : Seat) → h (Some (f x)) ≡ h (Some x)) → (g : GroupState) (member m : ℕ) → h (member_of (flagged g f member) m) ≡ h (member_of g m)
+flag_same f h same g member m =
+    ap (λ slots. h (seat_of slots m)) (one_is_each f g.slots member)
+    ∙ ap h (seat_each (at_only member f) g.slots m)
+    ∙ seat_same h (at_only member f m) (λ x. only_same (λ y. h (Some y)) f same member m x) (member_of g m)
 
-pub settled_synced : (g : GroupState) (member : ℕ) → is_settled (synced_by g member) ≡ is_settled g
-settled_synced g member =
+pub any_flag : (f : Seat → Seat) (g : GroupState) (member : ℕ) → is_anybody (flagged g f member) ≡ is_anybody g
+any_flag f g member = ap (λ slots. list_any (λ s. is_some s.seat) slots) (one_is_each f g.slots member) ∙ any_each (at_only member f) g.slots
+
+pub members_flag : (f : Seat → Seat) (g : GroupState) (member : ℕ) → members (flagged g f member) ≡ members g
+members_flag f g member = ap (λ slots. map {A = ℕ × Seat} (λ r. r.0) (present slots)) (one_is_each f g.slots member) ∙ numbers_each (at_only member f) g.slots
+
+flag_agrees : (f : Seat → Seat) → IsFlag f → (x : Seat) → agrees (f x) ≡ agrees x
+flag_agrees f flag x = ap (λ s. is_same s (f x).assigned) (flag.granted x) ∙ ap (is_same x.granted) (flag.assigned x)
+
+pub settled_flag : (f : Seat → Seat) → IsFlag f → (g : GroupState) (member : ℕ) → is_settled (flagged g f member) ≡ is_settled g
+settled_flag f flag g member =
     ap (λ t. is_stable g.phase && t)
-    (ap (λ slots. list_all {X = ℕ × Seat} (λ r. agrees r.1) (present slots)) (one_is_each synced_seat g.slots member)
-    ∙ all_each agrees (at_only member synced_seat) (λ m x. only_same agrees synced_seat (λ y. refl) member m x) g.slots)
+    (ap (λ slots. list_all {X = ℕ × Seat} (λ r. agrees r.1) (present slots)) (one_is_each f g.slots member)
+    ∙ all_each agrees (at_only member f) (λ m x. only_same agrees f (flag_agrees f flag) member m x) g.slots)
 
-pub sync_good : (g : GroupState) (member : ℕ) → IsValidGroup g → IsValidGroup (synced_by g member)
-sync_good g member good =
+pub fit_flag : (p : ℕ) (f : Seat → Seat) → IsFlag f → (x : Seat) → IsFit p x → IsFit p (f x)
+fit_flag p f flag x fit = record {
+  granted_below = ap partitions_of (flag.granted x) ∙ fit.granted_below;
+  assigned_below = ap partitions_of (flag.assigned x) ∙ fit.assigned_below;
+  within = ap (λ s. is_within s (f x).granted) (flag.assigned x) ∙ ap (is_within x.assigned) (flag.granted x) ∙ fit.within;
+  equal = λ e. flag.assigned x ∙ fit.equal (sym (flag.joined x) ∙ e) ∙ sym (flag.granted x);
+}
+
+pub flag_good : (f : Seat → Seat) → IsFlag f → (g : GroupState) (member : ℕ) → IsValidGroup g → IsValidGroup (flagged g f member)
+flag_good f flag g member good =
     let p : ℕ = g.partitions in
-    let granted : (m : ℕ) → granted_of (synced_by g member) m ≡ granted_of g m = λ m. synced_same (seat_granted p) (λ x. refl) g member m in
-    let assigned : (m : ℕ) → assigned_of (synced_by g member) m ≡ assigned_of g m = λ m. synced_same (seat_assigned p) (λ x. refl) g member m in
-    let joined : (m : ℕ) → is_joined (synced_by g member) m ≡ is_joined g m = λ m. synced_same seat_joined (λ x. refl) g member m in
-    let here : (m : ℕ) → is_present (synced_by g member) m ≡ is_present g m = λ m. synced_same is_some (λ x. refl) g member m in
-    let same : members (synced_by g member) ≡ members g = members_synced g member in
-    let fit_synced : (x : Seat) → IsFit p x → IsFit p (synced_seat x) = λ x f. record { granted_below = f.granted_below; assigned_below = f.assigned_below; within = f.within; equal = f.equal } in
+    let now : GroupState = flagged g f member in
+    let granted : (m : ℕ) → granted_of now m ≡ granted_of g m = λ m. flag_same f (seat_granted p) (λ x. flag.granted x) g member m in
+    let assigned : (m : ℕ) → assigned_of now m ≡ assigned_of g m = λ m. flag_same f (seat_assigned p) (λ x. flag.assigned x) g member m in
+    let joined : (m : ℕ) → is_joined now m ≡ is_joined g m = λ m. flag_same f seat_joined (λ x. flag.joined x) g member m in
+    let here : (m : ℕ) → is_present now m ≡ is_present g m = λ m. flag_same f is_some (λ x. refl) g member m in
+    let same : members now ≡ members g = members_flag f g member in
     record {
       sized = record {
         some_partitions = good.sized.some_partitions;
         few_partitions = good.sized.few_partitions;
-        few_members = omega (arith, length_reseated (only_of member (option_map synced_seat)) g.slots, good.sized.few_members);
+        few_members = omega (arith, length_reseated (only_of member (option_map f)) g.slots, good.sized.few_members);
         a_holder_each = good.sized.a_holder_each;
       };
       apart = λ m n q e h. good.apart m n q (ap (λ s. is_in s q) (sym (granted m)) ∙ e) (ap (λ s. is_in s q) (sym (granted n)) ∙ h);
-      fit = subst (λ (slots : List Slot). AllFit (with_slots g slots)) (sym (one_is_each synced_seat g.slots member)) (fit_each g (at_only member synced_seat) (only_fit p synced_seat fit_synced member) good.fit);
+      fit = subst (λ (slots : List Slot). AllFit (with_slots g slots)) (sym (one_is_each f g.slots member)) (fit_each g (at_only member f) (only_fit p f (fit_flag p f flag) member) good.fit);
       held = λ m q e. good.held m q (ap (λ s. is_in s q) (sym (granted m)) ∙ e);
       balanced = λ s.
-          let was = good.balanced (sym (settled_synced g member) ∙ s) in
-          let rows : map (granted_of g) (members g) ≡ map (granted_of (synced_by g member)) (members g) = map_same (granted_of g) (granted_of (synced_by g member)) (members g) (λ m listed. sym (granted m)) in
-          subst (λ (ms : List ℕ). IsBalanced p (map (granted_of (synced_by g member)) ms)) (sym same) (subst (IsBalanced p) rows was);
+          let was = good.balanced (sym (settled_flag f flag g member) ∙ s) in
+          let rows : map (granted_of g) (members g) ≡ map (granted_of now) (members g) = map_same (granted_of g) (granted_of now) (members g) (λ m listed. sym (granted m)) in
+          subst (λ (ms : List ℕ). IsBalanced p (map (granted_of now) ms)) (sym same) (subst (IsBalanced p) rows was);
       stable = λ s m. joined m ∙ good.stable s m;
       near = λ s.
           let was = good.near s in (
@@ -286,9 +306,35 @@ sync_good g member good =
             },
           );
       preparing = λ s. let was = good.preparing s in (was.0, here was.0 ∙ was.1, joined was.0 ∙ was.2);
-      empty = (λ s. any_synced g member ∙ good.empty.0 s, λ s. good.empty.1 (sym (any_synced g member) ∙ s));
-      counted = λ a. good.counted (sym (any_synced g member) ∙ a);
+      empty = (λ s. any_flag f g member ∙ good.empty.0 s, λ s. good.empty.1 (sym (any_flag f g member) ∙ s));
+      counted = λ a. good.counted (sym (any_flag f g member) ∙ a);
     }
+
+-- ---- syncing
+sync_flag : IsFlag synced_seat
+sync_flag = record { joined = λ x. refl; granted = λ x. refl; assigned = λ x. refl }
+
+pub synced_same : {X : Type 0} (h : Option Seat → X) → ((x : Seat) → h (Some (synced_seat x)) ≡ h (Some x)) → (g : GroupState) (member m : ℕ) → h (member_of (synced_by g member) m) ≡ h (member_of g m)
+synced_same h same g member m = flag_same synced_seat h same g member m
+
+pub any_synced : (g : GroupState) (member : ℕ) → is_anybody (synced_by g member) ≡ is_anybody g
+any_synced g member = any_flag synced_seat g member
+
+pub members_synced : (g : GroupState) (member : ℕ) → members (synced_by g member) ≡ members g
+members_synced g member = members_flag synced_seat g member
+
+pub settled_synced : (g : GroupState) (member : ℕ) → is_settled (synced_by g member) ≡ is_settled g
+settled_synced g member = settled_flag synced_seat sync_flag g member
+
+pub sync_good : (g : GroupState) (member : ℕ) → IsValidGroup g → IsValidGroup (synced_by g member)
+sync_good g member good = flag_good synced_seat sync_flag g member good
+
+-- ---- keeping a place
+keep_flag : IsFlag kept_seat
+keep_flag = record { joined = λ x. refl; granted = λ x. refl; assigned = λ x. refl }
+
+pub keep_good : (g : GroupState) (member : ℕ) → IsValidGroup g → IsValidGroup (keeping g member)
+keep_good g member good = flag_good kept_seat keep_flag g member good
 
 -- ---- nobody
 nobody_at : (m : ℕ) → seat_of [] m ≡ None

@@ -19,10 +19,10 @@ is_ready g = is_ready_in g.slots
 
 -- a member keeps its row of the next assignment. What it is granted it may go on reading until it
 -- gives it up, and what it is to keep it is granted at once (KIP-429: kept partitions are read
--- during a rebalance, a partition that moves is revoked before it is assigned). Its flags are
--- cleared
+-- during a rebalance, a partition that moves is revoked before it is assigned). It has neither
+-- joined nor synced
 abbrev pub completed_seat : SetRows → ℕ → Seat → Seat
-completed_seat next member seat = record {
+completed_seat next member seat = record seat {
   joined = false;
   synced = false;
   granted = union seat.granted (set_of next member);

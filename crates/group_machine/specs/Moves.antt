@@ -1,5 +1,5 @@
 -- Moves: which partitions come to a member at a completion.
-use Rattle.std.specs.Prelude.{ℕ, ◌+◌, Bool, ◌&&◌, not, List, Option, None, find, map, filter_map, length, slice_index_or}
+use Rattle.std.specs.Prelude.{ℕ, ◌+◌, Bool, ◌&&◌, not, List, Option, Some, None, find, map, filter_map, length, slice_index_or, if◌then◌else◌}
 use Rattle.std.specs.List.{range_with_len}
 use Rattle.std.specs.Option.{option_map, option_or}
 use Rattle.bit_planes.specs.PartitionSet.{PartitionSet, is_in}
@@ -50,6 +50,12 @@ moves_by generation takers last =
 abbrev pub last_by : List (Option ℕ) → List (Option ℕ) → List (Option ℕ)
 last_by takers last =
     map (λ q. option_or (slice_index_or takers q None) (slice_index_or last q None))
+    (range_with_len 0 (length last))
+
+-- for each partition the last holder, where these partitions have come to a member
+abbrev pub held_by : ℕ → PartitionSet → List (Option ℕ) → List (Option ℕ)
+held_by member granted last =
+    map (λ q. if is_in granted q then Some member else slice_index_or last q None)
     (range_with_len 0 (length last))
 
 -- the moves of a completion that gives these rows

@@ -1,7 +1,7 @@
 -- What a step leaves of the members that it is not about.
 use Rattle.std.specs.Prelude.{◌≡◌, ℕ, ◌+◌, ◌≤◌, ◌⊎◌, true, false, Ok}
 use Rattle.bit_planes.specs.PartitionSet.{PartitionSet, is_in}
-use Rattle.group_machine.specs.State.{GroupState, is_present, is_joined, is_synced, granted_of, assigned_of}
+use Rattle.group_machine.specs.State.{GroupState, member_of, is_present, is_joined, is_synced, is_kept, granted_of, assigned_of, name_of}
 use Rattle.group_machine.specs.Good.{IsValidGroup}
 use Rattle.group_machine.specs.Steps.{rejoin_answer}
 
@@ -37,6 +37,26 @@ pub record IsNewcomer (old new : GroupState) (n : ℕ) : Type 0 where
   pub new_number : is_present old n ≡ false
   pub present : is_present new n ≡ true
   pub unsynced : is_synced new n ≡ false
+
+-- the member n has the place of m, which is gone, under the same name: it has joined where m had,
+-- and is granted and is to keep what m was
+pub record HasPlaceOf (old new : GroupState) (m n : ℕ) : Type 0 where
+  pub was_present : is_present old m ≡ true
+  pub gone : is_present new m ≡ false
+  pub named : name_of new n ≡ name_of old m
+  pub kept : is_kept new n ≡ true
+  pub joined : is_joined new n ≡ is_joined old m
+  pub granted : granted_of new n ≡ granted_of old m
+  pub assigned : assigned_of new n ≡ assigned_of old m
+
+-- the place of m was handed on to n, which is new, and each other member is as it was, in the
+-- generation as it was
+pub record IsHandedOn (old new : GroupState) (m n : ℕ) : Type 0 where
+  pub partitions : new.partitions ≡ old.partitions
+  pub generation : new.generation ≡ old.generation
+  pub newcomer : IsNewcomer old new n
+  pub place : HasPlaceOf old new m n
+  pub others : (k : ℕ) → (k ≡ m → ⊥) → (k ≡ n → ⊥) → member_of new k ≡ member_of old k
 
 -- a rejoin that is accepted, in a valid group
 pub record IsAcceptedRejoin

@@ -26,24 +26,14 @@ abbrev pub is_settled : GroupState → Bool
 is_settled g = is_stable g.phase && all_agree g
 
 abbrev pub bare_seat : Seat → Seat
-bare_seat seat = record {
-  joined = false;
-  synced = false;
-  granted = seat.granted;
-  assigned = seat.assigned;
-}
+bare_seat seat = record seat { joined = false; synced = false }
 
 -- the group without its flags: the same, with nobody joined or synced
 abbrev pub bare : GroupState → GroupState
 bare g = record g { slots = each_changed (λ m. bare_seat) g.slots }
 
 abbrev pub yielded_seat : Seat → Seat
-yielded_seat seat = record {
-  joined = false;
-  synced = false;
-  granted = seat.assigned;
-  assigned = seat.assigned;
-}
+yielded_seat seat = record seat { joined = false; synced = false; granted = seat.assigned }
 
 -- each member gives up what it is not to keep
 abbrev pub yielded : GroupState → GroupState

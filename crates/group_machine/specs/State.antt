@@ -1,7 +1,7 @@
 -- What contracts see of a group.
-use Rattle.std.specs.Prelude.{◌≡◌, ℕ, ◌+◌, zero, suc, Bool, false, List, [], Option, Some, None, is_some, map, replicate, slice_index_or, slice_get}
+use Rattle.std.specs.Prelude.{◌≡◌, ℕ, ◌+◌, ◌<◌, zero, suc, Bool, false, List, [], ◌∷◌, Option, Some, None, is_some, map, replicate, slice_index_or, slice_get, ◌&&◌, if◌then◌else◌}
 use Rattle.std.specs.List.{position}
-use Rattle.std.specs.Option.{option_map, option_map_or}
+use Rattle.std.specs.Option.{option_map, option_map_or, option_or}
 use Rattle.std.specs.Str.{bytes_eq}
 use Rattle.bit_planes.specs.PartitionSet.{PartitionSet, empty_set}
 use Rattle.bit_planes.specs.SetRows.{SetRows}
@@ -53,12 +53,19 @@ seat_joined seat = option_map_or (λ s. s.joined) seat false
 abbrev pub seat_synced : Option Seat → Bool
 seat_synced seat = option_map_or (λ s. s.synced) seat false
 
+abbrev pub seat_kept : Option Seat → Bool
+seat_kept seat = option_map_or (λ s. s.kept) seat false
+
 -- the flags of a member; those of one that is not present are false
 abbrev pub is_joined : GroupState → ℕ → Bool
 is_joined g member = seat_joined (member_of g member)
 
 abbrev pub is_synced : GroupState → ℕ → Bool
 is_synced g member = seat_synced (member_of g member)
+
+-- it keeps its place under its name
+abbrev pub is_kept : GroupState → ℕ → Bool
+is_kept g member = seat_kept (member_of g member)
 
 abbrev pub seat_granted : ℕ → Option Seat → PartitionSet
 seat_granted partitions seat = option_map_or (λ s. s.granted) seat (empty_set partitions)
@@ -105,15 +112,34 @@ name_of g member = name_at g.slots member
 abbrev pub names : GroupState → List (List ℕ)
 names g = map (λ s. s.name) g.slots
 
-abbrev pub number_in : List Slot → List ℕ → Option ℕ
-number_in slots name = option_map (λ k. k + 1) (position (λ s. bytes_eq s.name name) slots)
+-- the number of the last slot with a name, of those from number m on
+abbrev pub number_from : ℕ → List Slot → List ℕ → Option ℕ
+number_from m [] name = None
+number_from m (s ∷ slots) name =
+    option_or (number_from (suc m) slots name) (if bytes_eq s.name name then Some m else None)
 
--- the number of the member that joined under a name, present or not; none where nobody did
+abbrev pub number_in : List Slot → List ℕ → Option ℕ
+number_in slots name = number_from 1 slots name
+
+-- the number that a name stands for: the newest of those that it was given to, present or not; none
+-- where it was given to nobody
 abbrev pub member_named : GroupState → List ℕ → Option ℕ
 member_named g name = number_in g.slots name
 
--- a name has a number, and is the name of that number
+-- a name has a number, is the name of that number, and of no later one
 pub record HasNumber (g : GroupState) (name : List ℕ) : Type 0 where
   pub index : ℕ
   pub number : member_named g name ≡ Some (index + 1)
   pub named : slice_get (names g) index ≡ Some name
+  pub newest : (later : ℕ) → index < later → slice_get (names g) later ≡ Some name → ⊥
+
+-- a slot is of a present member that keeps its place under this name
+abbrev pub is_kept_as : List ℕ → Slot → Bool
+is_kept_as name slot = bytes_eq slot.name name && seat_kept slot.seat
+
+abbrev pub kept_in : List Slot → List ℕ → Option ℕ
+kept_in slots name = option_map (λ k. k + 1) (position (is_kept_as name) slots)
+
+-- the present member that keeps its place under a name
+abbrev pub kept_member : GroupState → List ℕ → Option ℕ
+kept_member g name = kept_in g.slots name

@@ -1,8 +1,8 @@
 -- The steps of a group. Each answers what its table of refusals says, in the table's order, and a
 -- refused one changes nothing.
-use Rattle.std.specs.Prelude.{ℕ, ◌+◌, Bool, true, false, not, ◌&&◌, ◌==◌, List, [], ◌∷◌, ◌++◌, Option, Some, None, Result, Ok, Err, length, nat_le, if◌then◌else◌}
+use Rattle.std.specs.Prelude.{ℕ, ◌+◌, Bool, true, false, not, ◌&&◌, ◌==◌, List, [], ◌∷◌, ◌++◌, Option, Some, None, Result, Ok, Err, is_some, length, nat_le, if◌then◌else◌}
 use Rattle.std.specs.List.{list_any}
-use Rattle.std.specs.Option.{option_map_or}
+use Rattle.std.specs.Option.{option_map, option_map_or}
 use Rattle.std.specs.Str.{bytes_eq}
 use Rattle.lane_words.specs.declared.limits.TheConstants.{MOST_MEMBERS}
 use Rattle.lane_words.specs.declared.Refusal.{Refusal}
@@ -13,7 +13,8 @@ use Rattle.group_machine.specs.declared.group.Slot.{Slot}
 use Rattle.group_machine.specs.declared.group.Phase.{Phase}
 use Rattle.group_machine.specs.declared.group.Phase.TheVariants.{Empty, Preparing}
 use Rattle.group_machine.specs.Slots.{is_anybody_in, one_changed, without_seat}
-use Rattle.group_machine.specs.State.{GroupState, member_of, is_present}
+use Rattle.group_machine.specs.State.{GroupState, member_of, granted_of, is_present, kept_member}
+use Rattle.group_machine.specs.Moves.{held_by}
 use Rattle.group_machine.specs.Completion.{is_over, completed}
 use Rattle.group_machine.specs.Rounds.{is_stable, agrees}
 
@@ -30,6 +31,7 @@ abbrev pub new_seat : ℕ → Seat
 new_seat partitions = record {
   joined = true;
   synced = false;
+  kept = false;
   granted = empty_set partitions;
   assigned = empty_set partitions;
 }
@@ -54,15 +56,22 @@ join_answer g name =
 abbrev pub joined_by : GroupState → List ℕ → GroupState
 joined_by g name = completed (joining g name)
 
+-- ---- join of a member that keeps its place
+abbrev pub kept_seat : Seat → Seat
+kept_seat seat = record seat { kept = true }
+
+-- the group with this member's place kept under its name
+abbrev pub keeping : GroupState → ℕ → GroupState
+keeping g member = record g { slots = one_changed kept_seat g.slots member }
+
+-- a join, and the member that joined keeps its place
+abbrev pub joined_kept_by : GroupState → List ℕ → GroupState
+joined_kept_by g name = keeping (joined_by g name) (length g.slots + 1)
+
 -- ---- rejoin
 -- what it was not to keep it gives up
 abbrev pub rejoined_seat : Seat → Seat
-rejoined_seat seat = record {
-  joined = true;
-  synced = seat.synced;
-  granted = seat.assigned;
-  assigned = seat.assigned;
-}
+rejoined_seat seat = record seat { joined = true; granted = seat.assigned }
 
 -- the group with this member joined again, before a completion
 abbrev pub rejoining : GroupState → ℕ → GroupState
@@ -92,12 +101,7 @@ rejoined_by g member = completed (rejoining g member)
 
 -- ---- sync
 abbrev pub synced_seat : Seat → Seat
-synced_seat seat = record {
-  joined = seat.joined;
-  synced = true;
-  granted = seat.granted;
-  assigned = seat.assigned;
-}
+synced_seat seat = record seat { synced = true }
 
 abbrev pub sync_seat_answer : Option Seat → Result (Unit {0}) Refusal
 sync_seat_answer None = Err r.UnknownMember
@@ -126,3 +130,33 @@ leave_answer g member =
 
 abbrev pub left_by : GroupState → ℕ → GroupState
 left_by g member = completed (leaving g member)
+
+-- ---- take over
+-- a place that is handed on: who takes it has not synced
+abbrev pub handed_seat : Seat → Seat
+handed_seat seat = record seat { synced = false }
+
+-- who takes a member's place over, under the same name
+abbrev pub successor : GroupState → List ℕ → ℕ → Slot
+successor g name member = record {
+  name = name;
+  seat = option_map handed_seat (member_of g member);
+}
+
+-- a member's place is handed on to the next number, which is the last holder of what it is granted
+-- with it. Nothing of the group moves by that
+abbrev pub handing_on : GroupState → List ℕ → ℕ → GroupState
+handing_on g name member = record g {
+  slots = without_seat g.slots member ++ successor g name member ∷ [];
+  last = held_by (length g.slots + 1) (granted_of g member) g.last;
+}
+
+-- the number that takes the place over, which is the next one
+abbrev pub take_over_answer : GroupState → List ℕ → Result ℕ Refusal
+take_over_answer g name =
+    if not (is_some (kept_member g name)) then Err r.NotKept
+    else if nat_le MOST_MEMBERS (length g.slots) then Err r.TooManyMembers
+    else Ok (length g.slots + 1)
+
+abbrev pub taken_over_by : GroupState → List ℕ → GroupState
+taken_over_by g name = option_map_or (handing_on g name) (kept_member g name) g

@@ -3,8 +3,8 @@
 ghost use Rattle.std.specs.Prelude.{◌≡◌, ◌+◌, ◌≤◌, ◌∷◌, ℕ, [], Ok, Some, None, MatchOption, IfOk, IfSome, OnOk, OnErr, is_some, length, replicate};
 ghost use Rattle.std.specs.List.{sum};
 ghost use Rattle.lane_words.specs.Answers.{Answers};
-ghost use Rattle.group_machine.specs.State.{assigned_of, granted_of, is_joined, is_present, is_synced, member_named, member_of, members, name_of, opening, owner_of};
-ghost use Rattle.group_machine.specs.Steps.{join_answer, joined_by, leave_answer, left_by, rejoin_answer, rejoined_by, synced_by};
+ghost use Rattle.group_machine.specs.State.{assigned_of, granted_of, is_joined, is_kept, is_present, is_synced, member_named, member_of, members, name_of, opening, owner_of};
+ghost use Rattle.group_machine.specs.Steps.{join_answer, joined_by, joined_kept_by, leave_answer, left_by, rejoin_answer, rejoined_by, synced_by, take_over_answer, taken_over_by};
 ghost use Rattle.group_machine.specs.Rounds.{is_settled};
 ghost use Rattle.group_machine.specs.Cluster.{AreCounts, AreLogsOf, ClusterState, GrowByRecords, IsDue, IsOfTopic, IsPlaceOf, IsValidCluster, answer_at, append_answer, appended_at, appended_to, cluster_commit_answer, cluster_sync_answer, committed_at, committed_by, fence, of_first, place_in, with_group, without_room};
 
@@ -115,6 +115,33 @@ impl Cluster {
         ensures err { OnErr result (self.new ≡ self.old) }
     {
         self.group.join(self.alloc, name)
+    }
+
+    /// A new member joins as by `join`, and keeps its place under its name: if its process ends
+    /// unnoticed, `take_over` gives the place to another number. Refused as `join` is.
+    pub fn join_kept(&mut self, name: Name) -> Result<u32, Refusal>
+        ensures answer { Answers (join_answer self.old.group name) result }
+        ensures ok { OnOk result (self.new
+            ≡ with_group self.old (joined_kept_by self.old.group name)) }
+        ensures err { OnErr result (self.new ≡ self.old) }
+    {
+        self.group.join_kept(self.alloc, name)
+    }
+
+    /// The place that is kept under a name goes to a new member, which gets the next number and has
+    /// not synced: it is granted and is to keep what the old one was, which is no longer present.
+    /// The generation, the phase and the moves stay (KIP-345: a member that comes back under its
+    /// name starts no rebalance).
+    ///
+    /// Refused, with everything as it was: no present member keeps its place under this name
+    /// (`NotKept`); a 513th member (`TooManyMembers`); want of memory.
+    pub fn take_over(&mut self, name: &Name) -> Result<u32, Refusal>
+        ensures answer { Answers (take_over_answer self.old.group name.now) result }
+        ensures ok { OnOk result (self.new
+            ≡ with_group self.old (taken_over_by self.old.group name.now)) }
+        ensures err { OnErr result (self.new ≡ self.old) }
+    {
+        self.group.take_over(name)
     }
 
     /// A member gives up what it was not to keep, tells what it keeps, and joins the rebalance.
@@ -296,6 +323,13 @@ impl Cluster {
         self.seat(member).is_some_and(|seat| seat.synced)
     }
 
+    /// Whether a member keeps its place under its name; false where it is not present.
+    pub fn is_kept(&self, member: u32) -> bool
+        ensures { result ≡ is_kept self.now.group member }
+    {
+        self.seat(member).is_some_and(|seat| seat.kept)
+    }
+
     /// What a member may read and commit; nothing where it is not present.
     pub fn granted(&self, member: u32) -> Option<&Plane>
         ensures present { is_some result ≡ is_present self.now.group member }
@@ -329,7 +363,8 @@ impl Cluster {
         members::name_of(&self.group.slots, member)
     }
 
-    /// The number of the member that joined under a name, present or not; none where nobody did.
+    /// The number that a name stands for, present or not: the newest that has it; none where nobody
+    /// joined under it.
     pub fn member_named(&self, name: &Name) -> Option<u32>
         ensures { result ≡ member_named self.now.group name.now }
     {

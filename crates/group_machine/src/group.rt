@@ -7,7 +7,7 @@ ghost use Rattle.bit_planes.specs.PartitionSet.{is_same};
 ghost use Rattle.group_machine.specs.State.{opening, is_present, member_of, is_anybody};
 ghost use Rattle.group_machine.specs.Completion.{complete, completed};
 ghost use Rattle.group_machine.specs.Rounds.{is_settled, is_stable};
-ghost use Rattle.group_machine.specs.Steps.{newcomer, join_answer, joined_by, rejoin_refusal, rejoin_answer, rejoined_by, sync_answer, synced_by, leave_answer, left_by};
+ghost use Rattle.group_machine.specs.Steps.{newcomer, join_answer, joined_by, joined_kept_by, handing_on, take_over_answer, taken_over_by, rejoin_refusal, rejoin_answer, rejoined_by, sync_answer, synced_by, leave_answer, left_by};
 ghost use Rattle.group_machine.specs.Good.{IsValidGroup};
 ghost use Rattle.group_machine.specs.Private.Changes.{after, HasRoom, IsChanged, IsCompletion, IsLeasable, IsPlanned, IsRefused};
 ghost use Rattle.group_machine.specs.Private.GroupView.{group_view};
@@ -57,6 +57,8 @@ pub struct Seat {
     pub joined: bool,
     /// Whether it has synced in this generation.
     pub synced: bool,
+    /// Whether it keeps its place under its name, for another number to take over.
+    pub kept: bool,
     /// What it may read and commit.
     pub granted: Plane,
     /// What the last completion gave it to keep.
@@ -66,7 +68,8 @@ pub struct Seat {
 /// A member number that was given: its name, and its seat while it is present.
 #[derive(Debug, Drop)]
 pub struct Slot {
-    /// Its name, which nobody else ever has.
+    /// Its name, which stands for the newest of the numbers that have it: a later one has it where
+    /// this one's place was taken over.
     pub name: Name,
     /// What it has, while it is present.
     pub seat: Option<Seat>,
@@ -131,6 +134,40 @@ impl Group {
         self.slots.push_reserved(newcomer(self.partitions, name));
         self.phase = Phase::Preparing;
         self.complete(planned);
+        Ok(number)
+    }
+
+    /// A member joins as by `join`, and keeps its place under its name.
+    pub fn join_kept(&mut self, alloc: Global, name: Name) -> Result<u32, Refusal>
+        requires { IsValidGroup (group_view self.old) }
+        ensures answer { Answers (join_answer (group_view self.old) name) result }
+        ensures ok { OnOk result (group_view self.new ≡ joined_kept_by (group_view self.old) name) }
+        ensures err { OnErr result (group_view self.new ≡ group_view self.old) }
+        ensures valid { IsValidGroup (group_view self.new) }
+    {
+        let number = self.join(alloc, name)?;
+        slots::keep(&mut self.slots, number);
+        Ok(number)
+    }
+
+    /// The place that is kept under a name goes to the next number, which is answered.
+    pub fn take_over(&mut self, name: &Name) -> Result<u32, Refusal>
+        requires { IsValidGroup (group_view self.old) }
+        ensures answer { Answers (take_over_answer (group_view self.old) name.now) result }
+        ensures ok { OnOk result
+            (group_view self.new ≡ taken_over_by (group_view self.old) name.now) }
+        ensures err { OnErr result (group_view self.new ≡ group_view self.old) }
+        ensures valid { IsValidGroup (group_view self.new) }
+    {
+        let Some(member) = members::kept_member(&self.slots, name) else {
+            return Err(Refusal::NotKept);
+        };
+        if self.slots.len() >= MOST_MEMBERS {
+            return Err(Refusal::TooManyMembers);
+        }
+        self.slots.reserve(1)?;
+        let number = self.slots.len() as u32 + 1;
+        self.hand_on(name, member);
         Ok(number)
     }
 
@@ -208,6 +245,23 @@ impl Group {
         ensures { result ≡ is_settled (group_view self.now) }
     {
         is_stable(self.phase) && slots::all_agree(&self.slots)
+    }
+
+    /// A member's place is handed on to the next number, under this name. It takes no memory.
+    fn hand_on(&mut self, name: &Name, member: u32)
+        requires valid { IsValidGroup (group_view self.old) }
+        requires here { is_present (group_view self.old) member ≡ true }
+        requires few { length self.old.slots.items < MOST_MEMBERS }
+        requires room { vec_len self.old.slots + 1 ≤ vec_capacity self.old.slots }
+        ensures { group_view self.new ≡ handing_on (group_view self.old) name.now member }
+    {
+        let number = self.slots.len() as u32 + 1;
+        if let Some(seat) = slots::seat_of(&self.slots, member) {
+            moves::take(&mut self.last, number, &seat.granted);
+        }
+        let seat = slots::hand_out(&mut self.slots, member);
+        let name = name.copy();
+        self.slots.push_reserved(Slot { name, seat });
     }
 
     /// Why a rejoin is refused, but for the last generation.
@@ -329,6 +383,7 @@ fn newcomer(partitions: u32, name: Name) -> Slot
         seat: Some(Seat {
             joined: true,
             synced: false,
+            kept: false,
             granted: Plane::new(partitions),
             assigned: Plane::new(partitions),
         }),

@@ -2,14 +2,14 @@
 
 ghost use Rattle.std.specs.Prelude.{◌≡◌, ◌≤◌, ◌+◌, ◌++◌, ◌∷◌, [], ℕ, List, true, false, Ok, Some, length, slice_get};
 ghost use Rattle.bit_planes.specs.PartitionSet.{PartitionSet};
-ghost use Rattle.group_machine.specs.State.{GroupState, HasNumber, is_anybody, is_present, names};
+ghost use Rattle.group_machine.specs.State.{GroupState, HasNumber, is_anybody, is_kept, is_present, kept_member, names};
 ghost use Rattle.group_machine.specs.Completion.{next_rows_of};
 ghost use Rattle.group_machine.specs.Moves.{takes, taker};
 ghost use Rattle.group_machine.specs.Rounds.{bare, is_settled, round, finish};
-ghost use Rattle.group_machine.specs.Steps.{join_answer, joined_by, leave_answer, left_by, rejoined_by, synced_by};
+ghost use Rattle.group_machine.specs.Steps.{join_answer, joined_by, joined_kept_by, leave_answer, left_by, rejoined_by, synced_by, take_over_answer, taken_over_by};
 ghost use Rattle.group_machine.specs.Good.{IsSound, IsValidGroup};
 ghost use Rattle.group_machine.specs.Passes.{turned, passed, is_calm};
-ghost use Rattle.group_machine.specs.Others.{IsAcceptedRejoin, IsNewcomer, LeavesOthers, LeavesRejoined, LeavesSynced};
+ghost use Rattle.group_machine.specs.Others.{IsAcceptedRejoin, IsHandedOn, IsNewcomer, LeavesOthers, LeavesRejoined, LeavesSynced};
 
 /// After two rounds a group with a member is settled, where no partition is granted to two members
 /// and each member's sets are fit.
@@ -59,6 +59,37 @@ pub fn join_leaves_others()
 pub fn join_brings_a_newcomer()
     ensures { (g : GroupState) (name : List ℕ) (number : ℕ) → IsValidGroup g
         → join_answer g name ≡ Ok number → IsNewcomer g (joined_by g name) number }
+{}
+
+/// The same two of a join of a member that keeps its place, which it does then.
+pub fn a_kept_join_is_a_join()
+    ensures others { (g : GroupState) (name : List ℕ) (number : ℕ) → IsValidGroup g
+        → join_answer g name ≡ Ok number → LeavesOthers g (joined_kept_by g name) number }
+    ensures newcomer { (g : GroupState) (name : List ℕ) (number : ℕ) → IsValidGroup g
+        → join_answer g name ≡ Ok number → IsNewcomer g (joined_kept_by g name) number }
+    ensures kept { (g : GroupState) (name : List ℕ) (number : ℕ) → IsValidGroup g
+        → join_answer g name ≡ Ok number → is_kept (joined_kept_by g name) number ≡ true }
+{}
+
+/// A place that is taken over is handed on from the member that kept it to the next number.
+pub fn take_over_hands_on()
+    ensures { (g : GroupState) (name : List ℕ) (member number : ℕ) → IsValidGroup g
+        → kept_member g name ≡ Some member → take_over_answer g name ≡ Ok number
+        → IsHandedOn g (taken_over_by g name) member number }
+{}
+
+/// A take-over leaves whether the group is settled, and goes the same way without the flags.
+pub fn take_over_starts_nothing()
+    ensures settled { (g : GroupState) (name : List ℕ)
+        → is_settled (taken_over_by g name) ≡ is_settled g }
+    ensures without_flags { (g : GroupState) (name : List ℕ)
+        → bare (taken_over_by g name) ≡ taken_over_by (bare g) name }
+{}
+
+/// A settled group whose place is taken over ends as it is, with the place taken over.
+pub fn take_over_keeps_the_end()
+    ensures { (g : GroupState) (name : List ℕ) → is_settled g ≡ true
+        → finish (taken_over_by g name) ≡ taken_over_by (finish g) name }
 {}
 
 /// An accepted rejoin leaves the other members.
@@ -138,7 +169,7 @@ pub fn a_leave_takes_one_out()
         → is_present (left_by g member) m ≡ is_present g m }
 {}
 
-/// A name that was given has a number, and that number's name it is.
+/// A name that was given has a number: the last whose name it is.
 pub fn a_name_has_its_number()
     ensures { (g : GroupState) (name : List ℕ) (i : ℕ) → slice_get (names g) i ≡ Some name
         → HasNumber g name }

@@ -53,27 +53,35 @@ impl TopicKeys {
         self.keys.len()
     }
 
-    /// The index of the topic of each key, in the order of the keys.
-    pub fn topics(&self, alloc: Global) -> Result<Vec<u8>, Memory>
-        ensures { IfOk result (λ topics. topics.items ≡ map topic_of self.now) }
+    /// The index of the topic of each key, and the bytes of each key, in the order of the keys.
+    pub fn topics_and_slices(&self, alloc: Global) -> Result<(Vec<u8>, Vec<&[u8]>), Memory>
+        ensures topics { IfOk result (λ parts. parts.0.items ≡ map topic_of self.now) }
+        ensures slices { IfOk result
+            (λ parts. map (λ key. key.now) parts.1.items ≡ map key_behind self.now) }
     {
-        let keys = self.keys.slices(alloc)?;
-        let mut topics = Vec::with_capacity(alloc, keys.len())?;
-        for i in 0..keys.len() {
-            topics.push(topic_of(keys[i]))?;
-        }
-        Ok(topics)
+        let mut keys = self.keys.slices(alloc)?;
+        let topics = topics_of(alloc, &keys)?;
+        drop_topics(&mut keys);
+        Ok((topics, keys))
     }
+}
 
-    /// The bytes of each key, in the order of the keys.
-    pub fn slices(&self, alloc: Global) -> Result<Vec<&[u8]>, Memory>
-        ensures { IfOk result (λ slices. map (λ key. key.now) slices.items ≡ map key_behind self.now) }
-    {
-        let keys = self.keys.slices(alloc)?;
-        let mut slices = Vec::with_capacity(alloc, keys.len())?;
-        for i in 0..keys.len() {
-            slices.push(key_behind(keys[i]))?;
-        }
-        Ok(slices)
+/// The index of the topic that each of these keys stands behind.
+fn topics_of(alloc: Global, keys: &[&[u8]]) -> Result<Vec<u8>, Memory>
+    ensures { IfOk result (λ topics. topics.items ≡ map topic_of (map (λ key. key.now) keys.now)) }
+{
+    let mut topics = Vec::with_capacity(alloc, keys.len())?;
+    for i in 0..keys.len() {
+        topics.push(topic_of(keys[i]))?;
+    }
+    Ok(topics)
+}
+
+/// Leaves of each key what stands behind the index of its topic.
+fn drop_topics(keys: &mut [&[u8]])
+    ensures { map (λ key. key.now) keys.new ≡ map key_behind (map (λ key. key.now) keys.old) }
+{
+    for i in 0..keys.len() {
+        keys[i] = key_behind(keys[i]);
     }
 }

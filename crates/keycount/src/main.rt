@@ -35,9 +35,9 @@ fn count<R: Threads + Sync + RandomSource, F: Read + Drop>(
     rt: &HostRuntime,
     threads: &R,
     file: F,
-    options: Options,
+    options: &Options,
 ) -> Result<(), Refusal>
-    requires { AreInRange options }
+    requires { AreInRange options.now }
 {
     let mut source = FromRead::new(file);
     let mut sink = FromWrite::new(rt.stdout());
@@ -49,9 +49,9 @@ fn count_file<R: Threads + Sync + RandomSource>(
     rt: &HostRuntime,
     threads: &R,
     path: &str,
-    options: Options,
+    options: &Options,
 ) -> Result<(), Refusal>
-    requires { AreInRange options }
+    requires { AreInRange options.now }
 {
     match path {
         "-" => count(rt, threads, rt.stdin(), options),
@@ -65,9 +65,9 @@ fn replay<R: Threads + Sync + RandomSource, F: Read + Drop, S: Read + Drop>(
     threads: &R,
     file: F,
     script: S,
-    options: Options,
+    options: &Options,
 ) -> Result<(), Refusal>
-    requires { AreInRange options }
+    requires { AreInRange options.now }
 {
     let mut file = FromRead::new(file);
     let mut script = FromRead::new(script);
@@ -89,9 +89,9 @@ fn replay_files<R: Threads + Sync + RandomSource>(
     threads: &R,
     file: &str,
     script: &str,
-    options: Options,
+    options: &Options,
 ) -> Result<(), Refusal>
-    requires { AreInRange options }
+    requires { AreInRange options.now }
 {
     match (file, script) {
         ("-", _) => replay(rt, threads, rt.stdin(), opened(rt, script)?, options),
@@ -115,9 +115,9 @@ fn run<R: Threads + Wait + RandomSource + Sync, F: Read + Drop, S: Read + Drop>(
     threads: &R,
     file: F,
     script: S,
-    options: Options,
+    options: &Options,
 ) -> Result<(), Refusal>
-    requires { AreInRange options }
+    requires { AreInRange options.now }
 {
     let mut file = FromRead::new(file);
     let mut script = FromRead::new(script);
@@ -139,9 +139,9 @@ fn run_files<R: Threads + Wait + RandomSource + Sync>(
     threads: &R,
     file: &str,
     script: &str,
-    options: Options,
+    options: &Options,
 ) -> Result<(), Refusal>
-    requires { AreInRange options }
+    requires { AreInRange options.now }
 {
     match (file, script) {
         ("-", _) => run(rt, threads, rt.stdin(), opened(rt, script)?, options),
@@ -177,8 +177,9 @@ fn act<R: Threads + Wait + RandomSource + Sync>(
     threads: &R,
     words: &[&str],
 ) -> ExitCode {
-    match read_words(rt.alloc(), words) {
-        Ok(job) if reads_input_twice(&job) => refused_words(rt, TWICE),
+    let answer = read_words(rt.alloc(), words);
+    match &answer {
+        Ok(job) if reads_input_twice(job) => refused_words(rt, TWICE),
         Ok(Job::Count { file, options }) => ended(rt, count_file(rt, threads, file, options)),
         Ok(
             Job::Replay {

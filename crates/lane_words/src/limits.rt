@@ -3,6 +3,9 @@
 /// The most partitions.
 pub const MOST_PARTITIONS: u32 = 4096;
 
+/// The most topics.
+pub const MOST_TOPICS: usize = 8;
+
 /// The most members of a group over its time.
 pub const MOST_MEMBERS: usize = 512;
 

@@ -4,9 +4,8 @@
 -- those of a topic after those of the topics before.
 use Rattle.std.specs.Prelude.{ℕ, ◌≡◌, ◌+◌, ◌<◌, ◌≤◌, ◌^◌, ◌%◌, All, List, length, slice_index_or, take}
 use Rattle.std.specs.List.{sum}
-use Rattle.lane_words.specs.declared.limits.TheConstants.{MOST_PARTITIONS}
+use Rattle.lane_words.specs.declared.limits.TheConstants.{MOST_PARTITIONS, MOST_TOPICS}
 use Rattle.murmur_lanes.specs.Murmur.{hash_of}
-use Rattle.partitioner.specs.declared.limits.TheConstants.{MOST_TOPICS}
 
 -- the hash of a key without its highest bit
 unfoldable pub positive_hash : List ℕ → ℕ

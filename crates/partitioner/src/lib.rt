@@ -8,11 +8,9 @@ ghost use Rattle.partitioner.specs.Private.Counts.{ArePlaces, place_of_hash};
 ghost use Rattle.partitioner.specs.Private.Groups.{ArePlacedFrom, AreUnhashed};
 
 mod hashing;
-mod limits;
 
 use hashing::{UNHASHED, hash_key, hash_keys};
-use lane_words::{MOST_PARTITIONS, Memory};
-pub use limits::MOST_TOPICS;
+use lane_words::{MOST_PARTITIONS, MOST_TOPICS, Memory};
 use rayon::prelude::*;
 use std::alloc::Global;
 use std::marker::Model;

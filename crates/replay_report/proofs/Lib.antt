@@ -1,5 +1,4 @@
 pub mod LineFaults
 pub mod Lines
 pub mod Loaded
-pub mod Named
 pub mod Opening

@@ -1,14 +1,15 @@
 -- The faults of the lines of a replay.
-use Rattle.std.proofs.Common.{◌≡◌, ℕ, List, [], Option, Some, None, Result, Ok, Err, IfErr, refl, subst}
+use Rattle.std.proofs.Common.{◌≡◌, ℕ, List, Option, Some, None, Result, Ok, Err, IfErr, refl, subst}
 use Rattle.std.specs.Prelude.{Vec}
 use Rattle.std.specs.Global.{Global}
 use Rattle.std.specs.List.{filter_map, find}
 use Rattle.std.specs.Option.{option_map_or}
 use Rattle.lane_words.specs.declared.Refusal.{Refusal}
 use Rattle.lane_words.specs.declared.Refusal.TheVariants as r
-use Rattle.script.specs.Replay.{answer_of, is_bad, lines_seen, read_answer, said}
+use Rattle.script.specs.Replay.{answer_of, is_bad, lines_seen, read_answer_in, said}
 use Rattle.script.specs.Grammar.{lines_from}
 use Rattle.script.specs.declared.replay.Line.{Line}
+use Rattle.script.specs.declared.topics.Topic.{Topic}
 use Rattle.count_report.specs.Reports.{failed_reads}
 use Rattle.count_report.proofs.Told.{IsLineFault, TellsLines}
 
@@ -16,9 +17,9 @@ bad_line : (bad : Option (ℕ × List ℕ)) (lines : List Line) (e : Refusal) �
 bad_line None lines e h = absurd (cc h)
 bad_line (Some bad) lines e h = let is : r.BadLine bad.0 ≡ e = cc h in subst IsLineFault is tt
 
-pub lines_tell : TellsLines read_answer
+pub lines_tell : (topics : List Topic) → TellsLines (read_answer_in topics)
 unfolding answer_of
-lines_tell bytes e h = bad_line (find (λ line. is_bad [] line.1) (lines_from 1 bytes)) (filter_map (said []) (lines_from 1 bytes)) e h
+lines_tell topics bytes e h = bad_line (find (λ line. is_bad topics line.1) (lines_from 1 bytes)) (filter_map (said topics) (lines_from 1 bytes)) e h
 
 -- what is said of the lines that were read is said of the answer
 pub lines_err : (P : Refusal → Type 0) (result : Result (Vec Line Global) Refusal) → IfErr (lines_seen result) P → IfErr result P

@@ -5,6 +5,7 @@ use Rattle.std.proofs.lemmas.List.{drop_all}
 use Rattle.lane_words.specs.declared.Refusal.{Refusal}
 use Rattle.lane_words.specs.declared.Refusal.TheVariants as r
 use Rattle.script.specs.declared.replay.Line.{Line}
+use Rattle.script.specs.declared.topics.Topic.{Topic}
 use Rattle.world.specs.World.{WorldState}
 use Rattle.replay_report.specs.ReplayReport.{LineOutcome, outcome_of_line, rows_of_answer, rows_of_line, text_before, text_of_lines, unless_over}
 use Rattle.group_machine.specs.Cluster.{ClusterState}
@@ -16,20 +17,20 @@ goes_on (Err r.GenerationsOver) text h = absurd (h refl)
 goes_on answer text h = refl
 
 -- no line is left
-pub text_of_lines-nil : (batch : ℕ) (w : WorldState) → text_of_lines batch w [] ≡ Ok (closing_rows w.cluster)
+pub text_of_lines-nil : (topics : List Topic) (batch : ℕ) (w : WorldState) → text_of_lines topics batch w [] ≡ Ok (closing_rows topics w.cluster)
 unfolding text_of_lines
-text_of_lines-nil batch w = refl
+text_of_lines-nil topics batch w = refl
 
 -- a line that goes on
-pub text_of_lines-next : (batch : ℕ) (w : WorldState) (line : Line) (lines : List Line) → (outcome_of_line batch w line.action).answer ≢ Err r.GenerationsOver
-    → text_of_lines batch w (line ∷ lines) ≡ text_before (rows_of_line line.number w (outcome_of_line batch w line.action)) (text_of_lines batch (outcome_of_line batch w line.action).after lines)
+pub text_of_lines-next : (topics : List Topic) (batch : ℕ) (w : WorldState) (line : Line) (lines : List Line) → (outcome_of_line batch w line.action).answer ≢ Err r.GenerationsOver
+    → text_of_lines topics batch w (line ∷ lines) ≡ text_before (rows_of_line topics line.number w (outcome_of_line batch w line.action)) (text_of_lines topics batch (outcome_of_line batch w line.action).after lines)
 unfolding text_of_lines
-text_of_lines-next batch w line lines h = goes_on _ _ h
+text_of_lines-next topics batch w line lines h = goes_on _ _ h
 
 -- a line that ends all
-pub text_of_lines-over : (batch : ℕ) (w : WorldState) (line : Line) (lines : List Line) → (outcome_of_line batch w line.action).answer ≡ Err r.GenerationsOver → text_of_lines batch w (line ∷ lines) ≡ Err r.GenerationsOver
+pub text_of_lines-over : (topics : List Topic) (batch : ℕ) (w : WorldState) (line : Line) (lines : List Line) → (outcome_of_line batch w line.action).answer ≡ Err r.GenerationsOver → text_of_lines topics batch w (line ∷ lines) ≡ Err r.GenerationsOver
 unfolding text_of_lines
-text_of_lines-over batch w line lines h = rw h refl
+text_of_lines-over topics batch w line lines h = rw h refl
 
 pub text_before-both : (a b : List ℕ) (text : Result (List ℕ) Refusal) → text_before a (text_before b text) ≡ text_before (a ++ b) text
 text_before-both a b (Ok rest) = ap Ok (sym (append_assoc a b rest))
@@ -45,43 +46,43 @@ written Written text now more (Err fault) e h = absurd (cc e)
 
 -- ---- one line
 -- the moves and the refusal that were written are the rows of the line
-pub rows_written : (Written : List ℕ → Type 0) (text rows : List ℕ) (line from : ℕ) (w w2 : WorldState) (s : ClusterState) (outcome : LineOutcome) (answer : Result (Unit {0}) Refusal) → GoesOn outcome answer w2 → s ≡ w2.cluster
-    → from ≡ length w.cluster.group.moves → rows ≡ rows_of_answer line answer → Written ((text ++ move_rows s.group (drop from s.group.moves)) ++ rows) → Written (text ++ rows_of_line line w outcome)
+pub rows_written : (topics : List Topic) (Written : List ℕ → Type 0) (text rows : List ℕ) (line from : ℕ) (w w2 : WorldState) (s : ClusterState) (outcome : LineOutcome) (answer : Result (Unit {0}) Refusal) → GoesOn outcome answer w2 → s ≡ w2.cluster
+    → from ≡ length w.cluster.group.moves → rows ≡ rows_of_answer line answer → Written ((text ++ move_rows topics s.group (drop from s.group.moves)) ++ rows) → Written (text ++ rows_of_line topics line w outcome)
 unfolding rows_of_line
-rows_written Written text rows line from w w2 s outcome answer goes s_is from_is rows_is h =
+rows_written topics Written text rows line from w w2 s outcome answer goes s_is from_is rows_is h =
     let after : s ≡ outcome.after.cluster = s_is ∙ ap (λ (x : WorldState). x.cluster) goes.after_is in
     let told : rows ≡ rows_of_answer line outcome.answer = rows_is ∙ ap (rows_of_answer line) goes.answer_is in
-    subst Written (append_assoc text (move_rows s.group (drop from s.group.moves)) rows
-    ∙ ap (λ (x : ClusterState). text ++ (move_rows x.group (drop from x.group.moves) ++ rows)) after
-    ∙ ap (λ n. text ++ (move_rows outcome.after.cluster.group (drop n outcome.after.cluster.group.moves) ++ rows)) from_is
-    ∙ ap (λ rs. text ++ (move_rows outcome.after.cluster.group (drop (length w.cluster.group.moves) outcome.after.cluster.group.moves) ++ rs)) told) h
+    subst Written (append_assoc text (move_rows topics s.group (drop from s.group.moves)) rows
+    ∙ ap (λ (x : ClusterState). text ++ (move_rows topics x.group (drop from x.group.moves) ++ rows)) after
+    ∙ ap (λ n. text ++ (move_rows topics outcome.after.cluster.group (drop n outcome.after.cluster.group.moves) ++ rows)) from_is
+    ∙ ap (λ rs. text ++ (move_rows topics outcome.after.cluster.group (drop (length w.cluster.group.moves) outcome.after.cluster.group.moves) ++ rs)) told) h
 
 -- ---- a line of many
 next_line : (lines : List Line) (i : ℕ) (line : Line) → i < length lines → line ≡ get_or lines i line → drop i lines ≡ line ∷ drop (i + 1) lines
 next_line lines i line lt is = drop-cons lines i line lt ∙ ap (λ x. x ∷ drop (suc i) lines) (sym is) ∙ rw add-one refl
 
 -- the rows of the next line stand before the text of the rest
-pub lines_step : (batch : ℕ) (w w2 : WorldState) (lines : List Line) (i : ℕ) (line : Line) → i < length lines → line ≡ get_or lines i line → (outcome_of_line batch w line.action).answer ≢ Err r.GenerationsOver
+pub lines_step : (topics : List Topic) (batch : ℕ) (w w2 : WorldState) (lines : List Line) (i : ℕ) (line : Line) → i < length lines → line ≡ get_or lines i line → (outcome_of_line batch w line.action).answer ≢ Err r.GenerationsOver
     → w2 ≡ (outcome_of_line batch w line.action).after
-    → text_of_lines batch w (drop i lines) ≡ text_before (rows_of_line line.number w (outcome_of_line batch w line.action)) (text_of_lines batch w2 (drop (i + 1) lines))
-lines_step batch w w2 lines i line lt is goes after =
-    ap (text_of_lines batch w) (next_line lines i line lt is) ∙ text_of_lines-next batch w line (drop (i + 1) lines) goes
-    ∙ ap (λ x. text_before (rows_of_line line.number w (outcome_of_line batch w line.action)) (text_of_lines batch x (drop (i + 1) lines))) (sym after)
+    → text_of_lines topics batch w (drop i lines) ≡ text_before (rows_of_line topics line.number w (outcome_of_line batch w line.action)) (text_of_lines topics batch w2 (drop (i + 1) lines))
+lines_step topics batch w w2 lines i line lt is goes after =
+    ap (text_of_lines topics batch w) (next_line lines i line lt is) ∙ text_of_lines-next topics batch w line (drop (i + 1) lines) goes
+    ∙ ap (λ x. text_before (rows_of_line topics line.number w (outcome_of_line batch w line.action)) (text_of_lines topics batch x (drop (i + 1) lines))) (sym after)
 
 -- the text so far with the text of the lines that are left, after one more line
 pub text_step : (now rows : List ℕ) (left before after : Result (List ℕ) Refusal) → before ≡ text_before rows after → text_before now before ≡ left → text_before (now ++ rows) after ≡ left
 text_step now rows left before after step h = sym (text_before-both now rows after) ∙ ap (text_before now) (sym step) ∙ h
 
 -- the fault of the next line is that of all lines
-pub lines_fault : (batch : ℕ) (w : WorldState) (lines : List Line) (i : ℕ) (line : Line) (whole : Result (List ℕ) Refusal) (e : Refusal) → i < length lines → line ≡ get_or lines i line
-    → ((x : Refusal) → text_of_lines batch w (drop i lines) ≡ Err x → whole ≡ Err x) → (e ≡ r.Memory) ⊎ IsOver e (outcome_of_line batch w line.action).answer → (e ≡ r.Memory) ⊎ (whole ≡ Err e)
-lines_fault batch w lines i line whole e lt is told (inl m) = inl m
-lines_fault batch w lines i line whole e lt is told (inr over) =
-    inr (told e (ap (text_of_lines batch w) (next_line lines i line lt is) ∙ text_of_lines-over batch w line (drop (i + 1) lines) over.1 ∙ ap Err (sym over.0)))
+pub lines_fault : (topics : List Topic) (batch : ℕ) (w : WorldState) (lines : List Line) (i : ℕ) (line : Line) (whole : Result (List ℕ) Refusal) (e : Refusal) → i < length lines → line ≡ get_or lines i line
+    → ((x : Refusal) → text_of_lines topics batch w (drop i lines) ≡ Err x → whole ≡ Err x) → (e ≡ r.Memory) ⊎ IsOver e (outcome_of_line batch w line.action).answer → (e ≡ r.Memory) ⊎ (whole ≡ Err e)
+lines_fault topics batch w lines i line whole e lt is told (inl m) = inl m
+lines_fault topics batch w lines i line whole e lt is told (inr over) =
+    inr (told e (ap (text_of_lines topics batch w) (next_line lines i line lt is) ∙ text_of_lines-over topics batch w line (drop (i + 1) lines) over.1 ∙ ap Err (sym over.0)))
 
 -- no line is left
-pub lines_end : (batch : ℕ) (w : WorldState) (s : ClusterState) (lines : List Line) (i : ℕ) (now text : List ℕ) (whole : Result (List ℕ) Refusal) (Written : List ℕ → Type 0) → length lines ≤ i → s ≡ w.cluster
-    → text_before now (text_of_lines batch w (drop i lines)) ≡ text_before text whole → Written (now ++ closing_rows s) → WritesText whole text Written
-lines_end batch w s lines i now text whole Written h s_is e done =
-    let last : text_of_lines batch w (drop i lines) ≡ Ok (closing_rows s) = ap (text_of_lines batch w) (drop_all i lines h) ∙ text_of_lines-nil batch w ∙ ap (λ (x : ClusterState). Ok (closing_rows x)) (sym s_is) in
-    written Written text now (closing_rows s) whole (ap (text_before now) (sym last) ∙ e) done
+pub lines_end : (topics : List Topic) (batch : ℕ) (w : WorldState) (s : ClusterState) (lines : List Line) (i : ℕ) (now text : List ℕ) (whole : Result (List ℕ) Refusal) (Written : List ℕ → Type 0) → length lines ≤ i → s ≡ w.cluster
+    → text_before now (text_of_lines topics batch w (drop i lines)) ≡ text_before text whole → Written (now ++ closing_rows topics s) → WritesText whole text Written
+lines_end topics batch w s lines i now text whole Written h s_is e done =
+    let last : text_of_lines topics batch w (drop i lines) ≡ Ok (closing_rows topics s) = ap (text_of_lines topics batch w) (drop_all i lines h) ∙ text_of_lines-nil topics batch w ∙ ap (λ (x : ClusterState). Ok (closing_rows topics x)) (sym s_is) in
+    written Written text now (closing_rows topics s) whole (ap (text_before now) (sym last) ∙ e) done

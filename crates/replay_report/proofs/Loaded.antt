@@ -1,146 +1,196 @@
--- A load of keys to one topic, and the first of them that can't be appended.
-use Rattle.std.proofs.Common.{◌≡◌, ◌∙◌, ℕ, List, [], ◌∷◌, ◌++◌, append_assoc, sym, ap, refl, inl, inr, subst}
-use Rattle.std.specs.Prelude.{◌⊎◌, Some, None, Result, Ok, Err, IsOk, take, drop}
+-- A load of records, and the first of them that can't be appended.
+use Rattle.std.proofs.Common.{◌≡◌, ◌∙◌, ◌<◌, ℕ, suc, zero, List, [], ◌∷◌, ◌++◌, append_assoc, sym, ap, refl, inl, inr, subst}
+use Rattle.std.specs.Prelude.{◌⊎◌, Some, None, Result, Ok, Err, IsOk, take, drop, length, zip}
 use Rattle.std.specs.Borrow.{Bor}
-use Rattle.std.proofs.lemmas.List.{append-nil, map-append, take-append-drop}
+use Rattle.std.proofs.lemmas.Bool.{lt-ltb}
+use Rattle.std.proofs.lemmas.List.{append-nil, take-append-drop}
+use Rattle.std.proofs.lemmas.List.Elements.{All-drop, All-head, All-tail, All-take}
 use Rattle.lane_words.specs.declared.Refusal.{Refusal}
 use Rattle.lane_words.specs.declared.Refusal.TheVariants as r
 use Rattle.partition_log.specs.Appends.{in_first, lent}
-use Rattle.partition_log.specs.Keys.{Key, of_first}
-use Rattle.partition_log.specs.Logs.{AreLogsOf, append_answer}
+use Rattle.partition_log.specs.Keys.{Key, Keyed}
+use Rattle.partition_log.specs.Logs.{AreLogsOf, IsOfTopic, append_answer}
+use Rattle.world.specs.declared.event.Event.{Event}
 use Rattle.world.specs.declared.event.Event.TheVariants as event
 use Rattle.world.specs.declared.event.Reply.{Reply}
 use Rattle.world.specs.declared.event.Reply.TheVariants as reply
-use Rattle.world.specs.Runs.{AreAppended, Appends, IsRefusedNext, Loads, Run, StopsLoad, appends_of}
-use Rattle.world.specs.Steps.{Comes, Outcome, Step, append_event, append_outcome}
+use Rattle.world.specs.Runs.{AreAppended, Appends, IsRefusedNext, Run, StopsLoad, appended_by, appends_in, appends_of}
+use Rattle.world.specs.Steps.{Comes, MayCome, Outcome, Step, append_event, append_in_event, append_outcome}
 use Rattle.world.specs.Valid.{IsValidWorld}
 use Rattle.world.specs.World.{WorldState}
 use Rattle.world.proofs.Events.{valid_after}
 use Rattle.world.proofs.Runs.{history_after}
-use Rattle.count_report.specs.CountReport.{first_fault, key_fault}
+use Rattle.count_report.specs.CountReport.{first_fault, record_fault}
+use Rattle.count_report.specs.Records.{AreOfTopics}
 use Rattle.count_report.specs.Tally.{IsKeyFault}
+use Rattle.replay_report.specs.Private.Loading.{AreAppendsOf, IsAppendOf, LoadsRecords}
 use Rattle.replay_report.specs.ReplayReport.{loaded}
-use Rattle.count_report.proofs.Faulted.{first_fault-later, first_fault-nil, first_fault-now, key_fault-kind, refused, taken}
+use Rattle.count_report.proofs.Faulted.{first_fault-later, first_fault-nil, first_fault-now, record_fault-kind, refused, taken}
 
--- ---- one key
--- what a step that appended a key tells
-record IsAppended (w : WorldState) (key : Key) (w2 : WorldState) : Type 0 where
-  pub accepted : IsOk (append_answer w.cluster.logs (of_first key))
-  pub after : w2 ≡ (append_event w (of_first key)).after
+-- ---- one record
+-- what a step that appended a record tells
+record IsAppended (w : WorldState) (keyed : Keyed) (w2 : WorldState) : Type 0 where
+  pub accepted : IsOk (append_answer w.cluster.logs keyed)
+  pub after : w2 ≡ (append_event w keyed).after
   pub counts : w2.cluster.logs.counts ≡ w.cluster.logs.counts
 
-appended_step : (w : WorldState) (key : Bor Key) (p offset : ℕ) (w2 : WorldState) → Step w (event.Append key) (reply.Appended p offset) w2 → IsAppended w key.now w2
-appended_step w key p offset w2 (inr comes) = absurd (cc comes.0)
-appended_step w key p offset w2 (inl comes) = go (append_answer w.cluster.logs (of_first key.now)) refl comes
+-- an append to a topic that there is
+in_topic : (w : WorldState) (keyed : Keyed) → IsOfTopic w.cluster.logs keyed → append_in_event w keyed ≡ append_event w keyed
+in_topic w keyed topic = rw (lt-ltb keyed.0 (length w.cluster.logs.counts) topic) refl
+
+-- a step of an event that appends a record is an append of it
+append_step : (w : WorldState) (e : Event) (keyed : Keyed) (told : Reply) (w2 : WorldState) → IsAppendOf e keyed → IsOfTopic w.cluster.logs keyed → Step w e told w2 → MayCome w (append_event w keyed) told w2
+append_step w (event.Append key) keyed told w2 is topic step = subst (λ k. MayCome w (append_event w k) told w2) (sym is) step
+append_step w (event.AppendIn t key) keyed told w2 is topic step =
+    subst (λ (o : Outcome). MayCome w o told w2) (in_topic w keyed topic) (subst (λ k. MayCome w (append_in_event w k) told w2) (sym is) step)
+append_step w e keyed told w2 is topic step = absurd is
+
+appended_step : (w : WorldState) (keyed : Keyed) (p offset : ℕ) (w2 : WorldState) → MayCome w (append_event w keyed) (reply.Appended p offset) w2 → IsAppended w keyed w2
+appended_step w keyed p offset w2 (inr comes) = absurd (cc comes.0)
+appended_step w keyed p offset w2 (inl comes) = go (append_answer w.cluster.logs keyed) refl comes
   where
-    go : (a : Result (ℕ × ℕ) Refusal) → append_answer w.cluster.logs (of_first key.now) ≡ a → Comes (append_outcome w (of_first key.now) a) (reply.Appended p offset) w2 → IsAppended w key.now w2
+    go : (a : Result (ℕ × ℕ) Refusal) → append_answer w.cluster.logs keyed ≡ a → Comes (append_outcome w keyed a) (reply.Appended p offset) w2 → IsAppended w keyed w2
     go (Err why) is c = absurd (cc c.0)
     go (Ok at) is c = record {
       accepted = rw is refl;
-      after = c.1 ∙ ap (λ (x : Result (ℕ × ℕ) Refusal). let o : Outcome = append_outcome w (of_first key.now) x in o.after) (sym is);
+      after = c.1 ∙ ap (λ (x : Result (ℕ × ℕ) Refusal). let o : Outcome = append_outcome w keyed x in o.after) (sym is);
       counts = ap (λ (x : WorldState). x.cluster.logs.counts) c.1;
     }
 
--- a refused append tells the fault of the key, or that memory was refused
-refused_step : (w : WorldState) (key : Bor Key) (why : Refusal) → Step w (event.Append key) (reply.Refused why) w → (why ≡ r.Memory) ⊎ (append_answer w.cluster.logs (of_first key.now) ≡ Err why)
-refused_step w key why (inr comes) = inl (cc comes.0)
-refused_step w key why (inl comes) = go (append_answer w.cluster.logs (of_first key.now)) refl comes
+-- a refused append tells the fault of the record, or that memory was refused
+refused_step : (w : WorldState) (keyed : Keyed) (why : Refusal) → MayCome w (append_event w keyed) (reply.Refused why) w → (why ≡ r.Memory) ⊎ (append_answer w.cluster.logs keyed ≡ Err why)
+refused_step w keyed why (inr comes) = inl (cc comes.0)
+refused_step w keyed why (inl comes) = go (append_answer w.cluster.logs keyed) refl comes
   where
-    go : (a : Result (ℕ × ℕ) Refusal) → append_answer w.cluster.logs (of_first key.now) ≡ a → Comes (append_outcome w (of_first key.now) a) (reply.Refused why) w → (why ≡ r.Memory) ⊎ (append_answer w.cluster.logs (of_first key.now) ≡ Err why)
+    go : (a : Result (ℕ × ℕ) Refusal) → append_answer w.cluster.logs keyed ≡ a → Comes (append_outcome w keyed a) (reply.Refused why) w → (why ≡ r.Memory) ⊎ (append_answer w.cluster.logs keyed ≡ Err why)
     go (Err told) is c = inr (is ∙ (let same : told ≡ why = cc c.0 in ap Err same))
     go (Ok at) is c = absurd (cc c.0)
 
--- ---- keys, one after the other
--- where keys were appended to the logs of others, what is known of the world after them: any keys
+-- it appends that record
+appends-one : (e : Event) (keyed : Keyed) (p offset : ℕ) → IsAppendOf e keyed → appended_by e (reply.Appended p offset) ≡ keyed ∷ []
+appends-one (event.Append key) keyed p offset is = ap (λ (k : Keyed). k ∷ []) (sym is)
+appends-one (event.AppendIn t key) keyed p offset is = ap (λ (k : Keyed). k ∷ []) (sym is)
+appends-one e keyed p offset is = absurd is
+
+-- ---- records, one after the other
+-- where records were appended to the logs of others, what is known of the world after them: any records
 -- after these have the fault that they have after all
-pub record IsLoaded (n : ℕ) (before : List Key) (w : WorldState) (keys : List Key) (w2 : WorldState) : Type 0 where
-  pub after : w2 ≡ loaded w keys
+pub record IsLoaded (counts : List ℕ) (before : List Keyed) (w : WorldState) (records : List Keyed) (w2 : WorldState) : Type 0 where
+  pub after : w2 ≡ loaded w records
   pub valid : IsValidWorld w2
-  pub logs : AreLogsOf (in_first (before ++ keys)) w2.cluster.logs
-  pub counts : w2.cluster.logs.counts ≡ n ∷ []
-  pub faults : (rest : List Key) → first_fault n before (keys ++ rest) ≡ first_fault n (before ++ keys) rest
+  pub logs : AreLogsOf (before ++ records) w2.cluster.logs
+  pub counts_are : w2.cluster.logs.counts ≡ counts
+  pub faults : (rest : List Keyed) → first_fault counts before (records ++ rest) ≡ first_fault counts (before ++ records) rest
 
 loaded-nil : (w : WorldState) → loaded w [] ≡ w
 unfolding loaded
 loaded-nil w = refl
 
-loaded-cons : (w : WorldState) (key : Key) (keys : List Key) → loaded w (key ∷ keys) ≡ loaded (append_event w (of_first key)).after keys
+loaded-cons : (w : WorldState) (keyed : Keyed) (records : List Keyed) → loaded w (keyed ∷ records) ≡ loaded (append_event w keyed).after records
 unfolding loaded
-loaded-cons w key keys = refl
+loaded-cons w keyed records = refl
 
--- the logs after one key more are those of the keys with this one
-logs_more : (before : List Key) (w : WorldState) (key : Bor Key) (p offset : ℕ) (w2 : WorldState) → IsValidWorld w → AreLogsOf (in_first before) w.cluster.logs → Step w (event.Append key) (reply.Appended p offset) w2
-    → AreLogsOf (in_first (before ++ key.now ∷ [])) w2.cluster.logs
-logs_more before w key p offset w2 v h step =
-    subst (λ records. AreLogsOf records w2.cluster.logs) (sym (map-append of_first before (key.now ∷ []))) (history_after w (event.Append key) (reply.Appended p offset) w2 v step (in_first before) h)
+-- a record of a topic of worlds that have as many
+of-topic : (counts : List ℕ) (w : WorldState) (keyed : Keyed) → w.cluster.logs.counts ≡ counts → keyed.0 < length counts → IsOfTopic w.cluster.logs keyed
+of-topic counts w keyed same lt = subst (λ (cs : List ℕ). keyed.0 < length cs) (sym same) lt
 
-runs_loaded : (partitions : ℕ) (before : List Key) (w : WorldState) (keys : List (Bor Key)) (replies : List Reply) (w2 : WorldState) → IsValidWorld w → AreLogsOf (in_first before) w.cluster.logs → w.cluster.logs.counts ≡ partitions ∷ []
-    → Run w (appends_of keys) replies w2 → AreAppended replies → IsLoaded partitions before w (lent keys) w2
-runs_loaded partitions before w [] [] w2 v h same run all = record {
+runs_loaded : (counts : List ℕ) (before : List Keyed) (w : WorldState) (events : List Event) (records : List Keyed) (replies : List Reply) (w2 : WorldState) → IsValidWorld w → AreLogsOf before w.cluster.logs → w.cluster.logs.counts ≡ counts
+    → AreAppendsOf events records → AreOfTopics counts records → Run w events replies w2 → AreAppended replies → IsLoaded counts before w records w2
+runs_loaded counts before w [] [] [] w2 v h same are topics run all = record {
   after = run ∙ sym (loaded-nil w);
   valid = subst IsValidWorld (sym run) v;
-  logs = subst (λ (x : WorldState). AreLogsOf (in_first (before ++ [])) x.cluster.logs) (sym run) (rw append-nil h);
-  counts = ap (λ (x : WorldState). x.cluster.logs.counts) run ∙ same;
-  faults = λ rest. ap (λ b. first_fault partitions b rest) (sym (append-nil before));
+  logs = subst (λ (x : WorldState). AreLogsOf (before ++ []) x.cluster.logs) (sym run) (rw append-nil h);
+  counts_are = ap (λ (x : WorldState). x.cluster.logs.counts) run ∙ same;
+  faults = λ rest. ap (λ b. first_fault counts b rest) (sym (append-nil before));
 }
-runs_loaded partitions before w [] (told ∷ replies) w2 v h same run all = absurd run
-runs_loaded partitions before w (key ∷ keys) [] w2 v h same run all = absurd run
-runs_loaded partitions before w (key ∷ keys) (reply.Appended p offset ∷ replies) w2 v h same run all =
-    let step = appended_step w key p offset run.0 run.1 in
-    let fine : key_fault partitions before key.now ≡ None = taken partitions w.cluster.logs before key.now v.cluster.logs h same step.accepted in
-    let rest = runs_loaded partitions (before ++ key.now ∷ []) run.0 keys replies w2 (valid_after w (event.Append key) (reply.Appended p offset) run.0 v run.1)
-    (logs_more before w key p offset run.0 v h run.1) (step.counts ∙ same) run.2 all in
-    let joined : (before ++ key.now ∷ []) ++ lent keys ≡ before ++ key.now ∷ lent keys = append_assoc before (key.now ∷ []) (lent keys) in
+runs_loaded counts before w [] [] (told ∷ replies) w2 v h same are topics run all = absurd run
+runs_loaded counts before w [] (keyed ∷ records) replies w2 v h same are topics run all = absurd are
+runs_loaded counts before w (e ∷ events) [] replies w2 v h same are topics run all = absurd are
+runs_loaded counts before w (e ∷ events) (keyed ∷ records) [] w2 v h same are topics run all = absurd run
+runs_loaded counts before w (e ∷ events) (keyed ∷ records) (reply.Appended p offset ∷ replies) w2 v h same are topics run all =
+    let topic = of-topic counts w keyed same (All-head (λ (k : Keyed). k.0 < length counts) keyed records topics) in
+    let step = appended_step w keyed p offset run.0 (append_step w e keyed (reply.Appended p offset) run.0 are.0 topic run.1) in
+    let fine : record_fault counts before keyed ≡ None = taken counts w.cluster.logs before keyed v.cluster.logs h same topic step.accepted in
+    let more : AreLogsOf (before ++ keyed ∷ []) run.0.cluster.logs =
+    subst (λ ks. AreLogsOf (before ++ ks) run.0.cluster.logs) (appends-one e keyed p offset are.0) (history_after w e (reply.Appended p offset) run.0 v run.1 before h) in
+    let rest = runs_loaded counts (before ++ keyed ∷ []) run.0 events records replies w2 (valid_after w e (reply.Appended p offset) run.0 v run.1)
+    more (step.counts ∙ same) are.1 (All-tail (λ (k : Keyed). k.0 < length counts) keyed records topics) run.2 all in
+    let joined : (before ++ keyed ∷ []) ++ records ≡ before ++ keyed ∷ records = append_assoc before (keyed ∷ []) records in
     record {
-      after = rest.after ∙ ap (λ x. loaded x (lent keys)) step.after ∙ sym (loaded-cons w key.now (lent keys));
+      after = rest.after ∙ ap (λ x. loaded x records) step.after ∙ sym (loaded-cons w keyed records);
       valid = rest.valid;
-      logs = subst (λ ks. AreLogsOf (in_first ks) w2.cluster.logs) joined rest.logs;
-      counts = rest.counts;
-      faults = λ more. first_fault-later partitions before key.now (lent keys ++ more) fine ∙ rest.faults more ∙ ap (λ b. first_fault partitions b more) joined;
+      logs = subst (λ ks. AreLogsOf ks w2.cluster.logs) joined rest.logs;
+      counts_are = rest.counts_are;
+      faults = λ others. first_fault-later counts before keyed (records ++ others) fine ∙ rest.faults others ∙ ap (λ b. first_fault counts b others) joined;
     }
-runs_loaded partitions before w (key ∷ keys) (told ∷ replies) w2 v h same run all = absurd all
+runs_loaded counts before w (e ∷ events) (keyed ∷ records) (told ∷ replies) w2 v h same are topics run all = absurd all
 
--- all keys were appended
-pub load_done : (partitions : ℕ) (w : WorldState) (keys : List (Bor Key)) (all : List Key) (w2 : WorldState) → IsValidWorld w → AreLogsOf [] w.cluster.logs → w.cluster.logs.counts ≡ partitions ∷ [] → lent keys ≡ all
-    → Appends w keys w2 → (w2 ≡ loaded w all) × (first_fault partitions [] all ≡ None)
-load_done partitions w keys all w2 v h same is done =
-    let known = runs_loaded partitions [] w keys done.0 w2 v h same done.1 done.2 in (
-      known.after ∙ ap (loaded w) is,
-      ap (first_fault partitions []) (sym is ∙ sym (append-nil (lent keys))) ∙ known.faults [] ∙ first_fault-nil partitions (lent keys),
+-- a record was refused
+next_refused : (counts : List ℕ) (before : List Keyed) (w : WorldState) (events : List Event) (records : List Keyed) (why : Refusal) → IsValidWorld w → AreLogsOf before w.cluster.logs → w.cluster.logs.counts ≡ counts
+    → AreAppendsOf events records → AreOfTopics counts records → IsRefusedNext w events why → IsKeyFault why × ((why ≡ r.Memory) ⊎ (first_fault counts before records ≡ Some why))
+next_refused counts before w [] records why v h same are topics stop = absurd stop
+next_refused counts before w (e ∷ events) [] why v h same are topics stop = absurd are
+next_refused counts before w (e ∷ events) (keyed ∷ records) why v h same are topics stop = (record_fault-kind w.cluster.logs keyed why told, go told)
+  where
+    topic : IsOfTopic w.cluster.logs keyed
+    topic = of-topic counts w keyed same (All-head (λ (k : Keyed). k.0 < length counts) keyed records topics)
+
+    told : (why ≡ r.Memory) ⊎ (append_answer w.cluster.logs keyed ≡ Err why)
+    told = refused_step w keyed why (append_step w e keyed (reply.Refused why) w are.0 topic stop)
+
+    go : (why ≡ r.Memory) ⊎ (append_answer w.cluster.logs keyed ≡ Err why) → (why ≡ r.Memory) ⊎ (first_fault counts before (keyed ∷ records) ≡ Some why)
+    go (inl e) = inl e
+    go (inr e) = inr (first_fault-now counts before keyed records why (refused counts w.cluster.logs before keyed why v.cluster.logs h same topic e))
+
+take_appends : (n : ℕ) (events : List Event) (records : List Keyed) → AreAppendsOf events records → AreAppendsOf (take n events) (take n records)
+take_appends zero events records h = tt
+take_appends (suc n) [] [] h = tt
+take_appends (suc n) [] (keyed ∷ records) h = absurd h
+take_appends (suc n) (e ∷ events) [] h = absurd h
+take_appends (suc n) (e ∷ events) (keyed ∷ records) h = (h.0, take_appends n events records h.1)
+
+drop_appends : (n : ℕ) (events : List Event) (records : List Keyed) → AreAppendsOf events records → AreAppendsOf (drop n events) (drop n records)
+drop_appends zero events records h = h
+drop_appends (suc n) [] [] h = tt
+drop_appends (suc n) [] (keyed ∷ records) h = absurd h
+drop_appends (suc n) (e ∷ events) [] h = absurd h
+drop_appends (suc n) (e ∷ events) (keyed ∷ records) h = drop_appends n events records h.1
+
+-- all records were appended
+pub load_done : (counts : List ℕ) (w : WorldState) (records : List Keyed) (w2 : WorldState) → IsValidWorld w → AreLogsOf [] w.cluster.logs → w.cluster.logs.counts ≡ counts → AreOfTopics counts records
+    → LoadsRecords w records (Ok tt) w2 → (w2 ≡ loaded w records) × (first_fault counts [] records ≡ None)
+load_done counts w records w2 v h same topics done =
+    let known = runs_loaded counts [] w done.0 records done.2.0 w2 v h same done.1 topics done.2.1 done.2.2 in (
+      known.after,
+      ap (first_fault counts []) (sym (append-nil records)) ∙ known.faults [] ∙ first_fault-nil counts records,
     )
 
--- a key was refused
-next_refused : (partitions : ℕ) (before : List Key) (w : WorldState) (keys : List (Bor Key)) (why : Refusal) → IsValidWorld w → AreLogsOf (in_first before) w.cluster.logs → w.cluster.logs.counts ≡ partitions ∷ []
-    → IsRefusedNext w (appends_of keys) why → IsKeyFault why × ((why ≡ r.Memory) ⊎ (first_fault partitions before (lent keys) ≡ Some why))
-next_refused partitions before w [] why v h same stop = absurd stop
-next_refused partitions before w (key ∷ keys) why v h same stop = (key_fault-kind w.cluster.logs (of_first key.now) why told, go told)
+load_stopped-at : (counts : List ℕ) (w : WorldState) (events : List Event) (records : List Keyed) (n : ℕ) (why : Refusal) (w2 : WorldState) → IsValidWorld w → AreLogsOf [] w.cluster.logs → w.cluster.logs.counts ≡ counts
+    → AreAppendsOf events records → AreOfTopics counts records → Appends w (take n events) w2 → StopsLoad w2 (drop n events) n why → IsKeyFault why × ((why ≡ r.Memory) ⊎ (first_fault counts [] records ≡ Some why))
+load_stopped-at counts w events records n why w2 v h same are topics done (inr none) = (subst IsKeyFault (sym none.1) tt, inl none.1)
+load_stopped-at counts w events records n why w2 v h same are topics done (inl stop) =
+    let known = runs_loaded counts [] w (take n events) (take n records) done.0 w2 v h same (take_appends n events records are) (All-take (λ (k : Keyed). k.0 < length counts) n records topics) done.1 done.2 in
+    let next = next_refused counts (take n records) w2 (drop n events) (drop n records) why known.valid known.logs known.counts_are (drop_appends n events records are) (All-drop (λ (k : Keyed). k.0 < length counts) n records topics) stop in
+    (next.0, go (take-append-drop n records) (known.faults (drop n records)) next.1)
   where
-    told : (why ≡ r.Memory) ⊎ (append_answer w.cluster.logs (of_first key.now) ≡ Err why)
-    told = refused_step w key why stop
-
-    go : (why ≡ r.Memory) ⊎ (append_answer w.cluster.logs (of_first key.now) ≡ Err why) → (why ≡ r.Memory) ⊎ (first_fault partitions before (key.now ∷ lent keys) ≡ Some why)
-    go (inl e) = inl e
-    go (inr e) =
-        inr (first_fault-now partitions before key.now (lent keys) why (refused partitions w.cluster.logs before key.now why v.cluster.logs h same e))
-
-load_stopped-at : (partitions : ℕ) (w : WorldState) (keys : List (Bor Key)) (n : ℕ) (why : Refusal) (w2 : WorldState) → IsValidWorld w → AreLogsOf [] w.cluster.logs → w.cluster.logs.counts ≡ partitions ∷ []
-    → Appends w (take n keys) w2 → StopsLoad w2 (drop n keys) n why → IsKeyFault why × ((why ≡ r.Memory) ⊎ (first_fault partitions [] (lent keys) ≡ Some why))
-load_stopped-at partitions w keys n why w2 v h same done (inr none) = (subst IsKeyFault (sym none.1) tt, inl none.1)
-load_stopped-at partitions w keys n why w2 v h same done (inl stop) =
-    let known = runs_loaded partitions [] w (take n keys) done.0 w2 v h same done.1 done.2 in
-    let next = next_refused partitions (lent (take n keys)) w2 (drop n keys) why known.valid known.logs known.counts stop in
-    let whole : lent (take n keys) ++ lent (drop n keys) ≡ lent keys = sym (map-append (λ (key : Bor Key). key.now) (take n keys) (drop n keys)) ∙ ap lent (take-append-drop n keys) in
-    (next.0, go whole (known.faults (lent (drop n keys))) next.1)
-  where
-    go : lent (take n keys) ++ lent (drop n keys) ≡ lent keys → first_fault partitions [] (lent (take n keys) ++ lent (drop n keys)) ≡ first_fault partitions (lent (take n keys)) (lent (drop n keys))
-        → (why ≡ r.Memory) ⊎ (first_fault partitions (lent (take n keys)) (lent (drop n keys)) ≡ Some why) → (why ≡ r.Memory) ⊎ (first_fault partitions [] (lent keys) ≡ Some why)
+    go : take n records ++ drop n records ≡ records → first_fault counts [] (take n records ++ drop n records) ≡ first_fault counts (take n records) (drop n records)
+        → (why ≡ r.Memory) ⊎ (first_fault counts (take n records) (drop n records) ≡ Some why) → (why ≡ r.Memory) ⊎ (first_fault counts [] records ≡ Some why)
     go whole faults (inl e) = inl e
-    go whole faults (inr e) = inr (ap (first_fault partitions []) (sym whole) ∙ faults ∙ e)
+    go whole faults (inr e) = inr (ap (first_fault counts []) (sym whole) ∙ faults ∙ e)
 
--- a key was refused, or memory was
-pub load_stopped : (partitions : ℕ) (w : WorldState) (keys : List (Bor Key)) (all : List Key) (stop : ℕ × Refusal) (why : Refusal) (w2 : WorldState) → IsValidWorld w → AreLogsOf [] w.cluster.logs → w.cluster.logs.counts ≡ partitions ∷ []
-    → lent keys ≡ all → why ≡ stop.1 → Loads w keys (Err stop) w2 → IsKeyFault why × ((why ≡ r.Memory) ⊎ (first_fault partitions [] all ≡ Some why))
-load_stopped partitions w keys all stop why w2 v h same is told loads =
-    let known = load_stopped-at partitions w keys stop.0 stop.1 w2 v h same loads.1 loads.2 in
-    let same_keys = subst (λ ks. IsKeyFault stop.1 × ((stop.1 ≡ r.Memory) ⊎ (first_fault partitions [] ks ≡ Some stop.1))) is known in
-    subst (λ e. IsKeyFault e × ((e ≡ r.Memory) ⊎ (first_fault partitions [] all ≡ Some e))) (sym told) same_keys
+-- a record was refused, or memory was
+pub load_stopped : (counts : List ℕ) (w : WorldState) (records : List Keyed) (why : Refusal) (w2 : WorldState) → IsValidWorld w → AreLogsOf [] w.cluster.logs → w.cluster.logs.counts ≡ counts → AreOfTopics counts records
+    → LoadsRecords w records (Err why) w2 → IsKeyFault why × ((why ≡ r.Memory) ⊎ (first_fault counts [] records ≡ Some why))
+load_stopped counts w records why w2 v h same topics (inl m) = (subst IsKeyFault (sym m) tt, inl m)
+load_stopped counts w records why w2 v h same topics (inr loads) =
+    load_stopped-at counts w loads.1 records loads.0 why w2 v h same loads.2 topics loads.3.1 loads.3.2
+
+-- ---- the events of both loads
+pub first_appends : (keys : List (Bor Key)) → AreAppendsOf (appends_of keys) (in_first (lent keys))
+first_appends [] = tt
+first_appends (key ∷ keys) = (refl, first_appends keys)
+
+pub topic_appends : (topics : List ℕ) (keys : List (Bor Key)) → AreAppendsOf (appends_in topics keys) (zip topics (lent keys))
+topic_appends [] keys = tt
+topic_appends (topic ∷ topics) [] = tt
+topic_appends (topic ∷ topics) (key ∷ keys) = (refl, topic_appends topics keys)

@@ -1,10 +1,11 @@
 -- The world in which a replay begins.
-use Rattle.std.proofs.Common.{◌≡◌, ◌∙◌, ◌<◌, ℕ, List, [], ◌∷◌, length, map, replicate, sym, ap, refl, arith}
+use Rattle.std.proofs.Common.{◌≡◌, ◌∙◌, ◌<◌, ℕ, List, [], length, map, replicate, sym, ap, refl, arith}
 use Rattle.std.specs.Prelude.{slice_index_or}
+use Rattle.std.specs.List.{sum}
 use Rattle.std.proofs.lemmas.List.{get_or-replicate, get_or_default, length-map, length-replicate, nil_from_length, same_lists}
 use Rattle.partition_log.specs.Keys.{distinct, key_at}
 use Rattle.partition_log.specs.Logs.{IsValidLogs, AreLogsOf, PartitionLogs, log_at}
-use Rattle.count_report.proofs.FirstTopic.{partitions-first}
+use Rattle.count_report.proofs.Placed.{partitions-are}
 use Rattle.commit_store.specs.Commits.{Commits, committed_at}
 use Rattle.group_machine.specs.Cluster.{ClusterState}
 use Rattle.group_machine.specs.State.{GroupState, opening}
@@ -23,23 +24,24 @@ no_keys : distinct [] ≡ []
 unfolding distinct
 no_keys = refl
 
-abbrev empty_logs : ℕ → PartitionLogs
-empty_logs partitions = record { counts = partitions ∷ []; partitions = partitions; keys = []; logs = replicate partitions [] }
+abbrev empty_logs : List ℕ → PartitionLogs
+empty_logs counts = record { counts = counts; partitions = sum counts; keys = []; logs = replicate (sum counts) [] }
 
 abbrev empty_store : ℕ → Commits
 empty_store partitions = record { offsets = replicate partitions 0; counts = []; room = 0 }
 
-logs_opening : (partitions : ℕ) (l : PartitionLogs) → IsValidLogs l → AreLogsOf [] l → l.counts ≡ partitions ∷ [] → l ≡ empty_logs partitions
-logs_opening partitions l a h counts =
-    let same = partitions-first l partitions a counts in
+logs_opening : (counts : List ℕ) (l : PartitionLogs) → IsValidLogs l → AreLogsOf [] l → l.counts ≡ counts → l ≡ empty_logs counts
+logs_opening counts l a h is =
+    let n = sum counts in
+    let same = partitions-are l counts a is in
     let keys : l.keys ≡ [] = h.numbers ∙ no_keys in
-    let logs : l.logs ≡ replicate partitions [] =
-    all_alike l.logs partitions [] [] (a.a_log_each ∙ same) (λ p lt.
+    let logs : l.logs ≡ replicate n [] =
+    all_alike l.logs n [] [] (a.a_log_each ∙ same) (λ p lt.
     nil_from_length (log_at l p) (sym (length-map (log_at l p) (key_at l.keys)) ∙ ap length (h.records p (omega (arith, lt, same))))) in
-    ap (λ cs. let r : PartitionLogs = record { counts = cs; partitions = l.partitions; keys = l.keys; logs = l.logs } in r) counts
-    ∙ ap (λ n. let r : PartitionLogs = record { counts = partitions ∷ []; partitions = n; keys = l.keys; logs = l.logs } in r) same
-    ∙ ap (λ ks. let r : PartitionLogs = record { counts = partitions ∷ []; partitions = partitions; keys = ks; logs = l.logs } in r) keys
-    ∙ ap (λ ls. let r : PartitionLogs = record { counts = partitions ∷ []; partitions = partitions; keys = []; logs = ls } in r) logs
+    ap (λ cs. let r : PartitionLogs = record { counts = cs; partitions = l.partitions; keys = l.keys; logs = l.logs } in r) is
+    ∙ ap (λ m. let r : PartitionLogs = record { counts = counts; partitions = m; keys = l.keys; logs = l.logs } in r) same
+    ∙ ap (λ ks. let r : PartitionLogs = record { counts = counts; partitions = n; keys = ks; logs = l.logs } in r) keys
+    ∙ ap (λ ls. let r : PartitionLogs = record { counts = counts; partitions = n; keys = []; logs = ls } in r) logs
 
 store_opening : (partitions : ℕ) (s : Commits) → length s.offsets ≡ partitions → ((p : ℕ) → committed_at s p ≡ 0) → s.counts ≡ [] → s.room ≡ 0 → s ≡ empty_store partitions
 store_opening partitions s long offsets counts room =
@@ -48,33 +50,34 @@ store_opening partitions s long offsets counts room =
     ∙ ap (λ cs. let r : Commits = record { offsets = replicate partitions 0; counts = cs; room = s.room } in r) counts
     ∙ ap (λ n. let r : Commits = record { offsets = replicate partitions 0; counts = []; room = n } in r) room
 
-cluster_opening : (partitions : ℕ) (s : ClusterState) → s.group ≡ opening partitions → s.logs ≡ empty_logs partitions → s.store ≡ empty_store partitions → s ≡ record { group = opening partitions; logs = empty_logs partitions; store = empty_store partitions }
-cluster_opening partitions s group logs store =
+cluster_opening : (counts : List ℕ) (s : ClusterState) → s.group ≡ opening (sum counts) → s.logs ≡ empty_logs counts → s.store ≡ empty_store (sum counts)
+    → s ≡ record { group = opening (sum counts); logs = empty_logs counts; store = empty_store (sum counts) }
+cluster_opening counts s group logs store =
     ap (λ g. let r : ClusterState = record { group = g; logs = s.logs; store = s.store } in r) group
-    ∙ ap (λ l. let r : ClusterState = record { group = opening partitions; logs = l; store = s.store } in r) logs
-    ∙ ap (λ x. let r : ClusterState = record { group = opening partitions; logs = empty_logs partitions; store = x } in r) store
+    ∙ ap (λ l. let r : ClusterState = record { group = opening (sum counts); logs = l; store = s.store } in r) logs
+    ∙ ap (λ x. let r : ClusterState = record { group = opening (sum counts); logs = empty_logs counts; store = x } in r) store
 
--- there is one world of one topic in which nothing has happened
-pub opening_is : (partitions : ℕ) (w : WorldState) → IsOpening partitions w → w.cluster.logs.counts ≡ partitions ∷ [] → ((p : ℕ) → committed_at w.cluster.store p ≡ 0) → IsValidWorld w → w.cluster.store.room ≡ 0 → w ≡ opening_world partitions
+-- there is one world of these topics in which nothing has happened
+pub opening_is : (counts : List ℕ) (w : WorldState) → IsOpening (sum counts) w → w.cluster.logs.counts ≡ counts → ((p : ℕ) → committed_at w.cluster.store p ≡ 0) → IsValidWorld w → w.cluster.store.room ≡ 0 → w ≡ opening_world counts
 unfolding opening_world
-opening_is partitions w o counts offsets v room =
-    let sized : w.cluster.group.partitions ≡ partitions = ap (λ (g : GroupState). g.partitions) o.group in
-    let logs = logs_opening partitions w.cluster.logs v.cluster.logs o.logs counts in
-    let store = store_opening partitions w.cluster.store (v.cluster.store_partitions ∙ sized) offsets o.counts room in
-    let cluster = cluster_opening partitions w.cluster o.group logs store in
+opening_is counts w o same offsets v room =
+    let sized : w.cluster.group.partitions ≡ sum counts = ap (λ (g : GroupState). g.partitions) o.group in
+    let logs = logs_opening counts w.cluster.logs v.cluster.logs o.logs same in
+    let store = store_opening (sum counts) w.cluster.store (v.cluster.store_partitions ∙ sized) offsets o.counts room in
+    let cluster = cluster_opening counts w.cluster o.group logs store in
     ap (λ s. let r : WorldState = record { cluster = s; consumers = w.consumers; mail = w.mail } in r) cluster
-    ∙ ap (λ cs. let r : WorldState = record { cluster = (opening_world partitions).cluster; consumers = cs; mail = w.mail } in r) o.consumers
-    ∙ ap (λ m. let r : WorldState = record { cluster = (opening_world partitions).cluster; consumers = []; mail = m } in r) o.mail
+    ∙ ap (λ cs. let r : WorldState = record { cluster = (opening_world counts).cluster; consumers = cs; mail = w.mail } in r) o.consumers
+    ∙ ap (λ m. let r : WorldState = record { cluster = (opening_world counts).cluster; consumers = []; mail = m } in r) o.mail
 
--- no key is in its logs
-pub opening_logs : (partitions : ℕ) → AreLogsOf [] (opening_world partitions).cluster.logs
+-- no record is in its logs
+pub opening_logs : (counts : List ℕ) → AreLogsOf [] (opening_world counts).cluster.logs
 unfolding opening_world distinct
-opening_logs partitions = record {
+opening_logs counts = record {
   topics = λ i d lt. absurd (omega (arith, lt));
   numbers = refl;
-  records = λ p lt. ap (map (key_at [])) (get_or-replicate partitions p [] [] lt);
+  records = λ p lt. ap (map (key_at [])) (get_or-replicate (sum counts) p [] [] lt);
 }
 
-pub opening_counts : (partitions : ℕ) → (opening_world partitions).cluster.logs.counts ≡ partitions ∷ []
+pub opening_counts : (counts : List ℕ) → (opening_world counts).cluster.logs.counts ≡ counts
 unfolding opening_world
-opening_counts partitions = refl
+opening_counts counts = refl

@@ -1,49 +1,49 @@
 -- The report of a replay: a text, or a fault.
-use Rattle.std.specs.Prelude.{ℕ, suc, List, [], ◌∷◌, ◌++◌, length, drop, replicate, fold, if◌then◌else◌, Result, Ok, Err}
+use Rattle.std.specs.Prelude.{ℕ, List, [], ◌∷◌, ◌++◌, length, drop, replicate, fold, unwrap_or, Result, Ok, Err}
+use Rattle.std.specs.List.{sum}
 use Rattle.std.specs.Option.{option_map_or}
-use Rattle.std.specs.Str.{bytes_eq}
 use Rattle.lane_words.specs.Refusal.{code_of}
 use Rattle.lane_words.specs.declared.Refusal.{Refusal}
 use Rattle.lane_words.specs.declared.Refusal.TheVariants as r
-use Rattle.partition_log.specs.Keys.{Key, of_first}
-use Rattle.group_machine.specs.State.{GroupState, opening}
-use Rattle.group_machine.specs.declared.group.Slot.{Slot}
+use Rattle.partition_log.specs.Keys.{Keyed, of_first}
+use Rattle.group_machine.specs.State.{GroupState, member_named, opening}
 use Rattle.world.specs.Courses.{Course, answer_in}
 use Rattle.world.specs.Draining.{draining}
 use Rattle.world.specs.Settling.{settling}
-use Rattle.world.specs.Steps.{Outcome, append_event, append_in_event, deliver_event, deliver_unanswered_event, join_event, leave_event, lose_event, poll_event, rejoin_event, send_event, sync_event}
+use Rattle.world.specs.Steps.{Outcome, append_event, append_in_event, deliver_event, deliver_unanswered_event, join_event, join_kept_event, leave_event, lose_event, poll_event, rejoin_event, send_event, sync_event, take_over_event}
 use Rattle.world.specs.World.{WorldState}
-use Rattle.script.specs.Replay.{read_answer}
+use Rattle.script.specs.Replay.{read_answer_in}
 use Rattle.script.specs.declared.action.Action.{Action}
-use Rattle.script.specs.declared.action.Action.TheVariants.{Append, AppendIn, Join, Rejoin, Sync, Leave, Lose, Poll, Send, Deliver, Unanswered, Settle, Drain}
+use Rattle.script.specs.declared.action.Action.TheVariants.{Append, AppendIn, Join, Keep, Return, Rejoin, Sync, Leave, Lose, Poll, Send, Deliver, Unanswered, Settle, Drain}
 use Rattle.script.specs.declared.replay.Line.{Line}
+use Rattle.script.specs.declared.topics.Topic.{Topic}
 use Rattle.command_line.specs.declared.options.Options.{Options}
 use Rattle.count_report.specs.CountReport.{first_fault}
-use Rattle.key_file.specs.KeyFile.{keys_of}
+use Rattle.count_report.specs.Records.{partition_counts, records_of}
 use Rattle.replay_rows.specs.ReplayRows.{closing_rows, move_rows, refused_row}
 use Rattle.count_report.specs.Reports.{report_of_read}
 
 -- ---- the world before the first line
--- nothing has happened in it, and its partitions are those of one topic
-unfoldable pub opening_world : ℕ → WorldState
-opening_world partitions = record {
+-- nothing has happened in it, and its topics have so many partitions each
+unfoldable pub opening_world : List ℕ → WorldState
+opening_world counts = record {
   cluster = record {
-    group = opening partitions;
+    group = opening (sum counts);
     logs = record {
-      counts = partitions ∷ [];
-      partitions = partitions;
+      counts = counts;
+      partitions = sum counts;
       keys = [];
-      logs = replicate partitions [];
+      logs = replicate (sum counts) [];
     };
-    store = record { offsets = replicate partitions 0; counts = []; room = 0 };
+    store = record { offsets = replicate (sum counts) 0; counts = []; room = 0 };
   };
   consumers = [];
   mail = [];
 }
 
--- these keys were appended, one after the other
-unfoldable pub loaded : WorldState → List Key → WorldState
-loaded w keys = fold (λ so_far key. (append_event so_far (of_first key)).after) w keys
+-- these records were appended, one after the other
+unfoldable pub loaded : WorldState → List Keyed → WorldState
+loaded w records = fold (λ so_far keyed. (append_event so_far keyed).after) w records
 
 -- ---- one line
 -- what comes of a line: its answer, and the world after it
@@ -57,24 +57,19 @@ outcome_of_event outcome = record { answer = answer_in outcome.reply; after = ou
 abbrev pub outcome_of_course : Course → LineOutcome
 outcome_of_course course = record { answer = course.answer; after = course.after }
 
--- the number of the first of these slots that has the name, where their numbers go from m on; 0
--- where none has it
-abbrev pub number_from : ℕ → List Slot → List ℕ → ℕ
-number_from m [] name = 0
-number_from m (slot ∷ slots) name =
-    if bytes_eq slot.name name then m else number_from (suc m) slots name
-
--- the number of the member that joined under a name; 0, which is nobody's, where none did
-unfoldable pub number_named : GroupState → List ℕ → ℕ
-number_named g name = number_from 1 g.slots name
+-- the number that a name stands for; 0, which is nobody's, where it stands for none
+abbrev pub number_named : GroupState → List ℕ → ℕ
+number_named g name = unwrap_or (member_named g name) 0
 
 -- what comes of what a line says, where there is memory for it: a poll of a drain takes at most
--- `batch` records, and a name stands for the member that joined under it
+-- `batch` records, and a member is told by its name
 unfoldable pub outcome_of_line : ℕ → WorldState → Action → LineOutcome
 outcome_of_line batch w (Append key) = outcome_of_event (append_event w (of_first key))
 outcome_of_line batch w (AppendIn topic key) =
     outcome_of_event (append_in_event w (topic, key))
 outcome_of_line batch w (Join name) = outcome_of_event (join_event w name)
+outcome_of_line batch w (Keep name) = outcome_of_event (join_kept_event w name)
+outcome_of_line batch w (Return name) = outcome_of_event (take_over_event w name)
 outcome_of_line batch w (Rejoin name) =
     outcome_of_event (rejoin_event w (number_named w.cluster.group name))
 outcome_of_line batch w (Sync name) =
@@ -100,9 +95,9 @@ rows_of_answer line (Err why) = refused_row line (code_of why)
 
 -- the rows of a line in a world: the moves that it made, by the names of the group after it, and
 -- then its refusal
-unfoldable pub rows_of_line : ℕ → WorldState → LineOutcome → List ℕ
-rows_of_line line w outcome =
-    move_rows outcome.after.cluster.group
+unfoldable pub rows_of_line : List Topic → ℕ → WorldState → LineOutcome → List ℕ
+rows_of_line topics line w outcome =
+    move_rows topics outcome.after.cluster.group
     (drop (length w.cluster.group.moves) outcome.after.cluster.group.moves)
     ++ rows_of_answer line outcome.answer
 
@@ -119,24 +114,29 @@ unless_over answer text = text
 
 -- the rows of lines, one line after the other, and then the closing rows; or the fault that ends
 -- them
-unfoldable pub text_of_lines : ℕ → WorldState → List Line → Result (List ℕ) Refusal
-text_of_lines batch w [] = Ok (closing_rows w.cluster)
-text_of_lines batch w (line ∷ lines) =
+unfoldable pub text_of_lines : List Topic → ℕ → WorldState → List Line
+    → Result (List ℕ) Refusal
+text_of_lines topics batch w [] = Ok (closing_rows topics w.cluster)
+text_of_lines topics batch w (line ∷ lines) =
     let outcome : LineOutcome = outcome_of_line batch w line.action in
     unless_over outcome.answer
-    (text_before (rows_of_line line.number w outcome) (text_of_lines batch outcome.after lines))
+    (text_before (rows_of_line topics line.number w outcome)
+    (text_of_lines topics batch outcome.after lines))
 
 -- ---- the report
--- what a replay of lines over keys writes, or the fault that it tells: the first key that can't be
--- appended, and only then that of a line
-unfoldable pub report_of_lines : Options → List Key → List Line → Result (List ℕ) Refusal
-report_of_lines options keys lines =
-    option_map_or Err (first_fault options.partitions [] keys)
-    (text_of_lines options.batch (loaded (opening_world options.partitions) keys) lines)
+-- what a replay of lines over records writes, or the fault that it tells: the first record that
+-- can't be appended, and only then that of a line
+unfoldable pub report_of_lines : Options → List Keyed → List Line → Result (List ℕ) Refusal
+report_of_lines options records lines =
+    option_map_or Err (first_fault (partition_counts options) [] records)
+    (text_of_lines options.topics.items options.batch
+    (loaded (opening_world (partition_counts options)) records) lines)
 
 -- what a replay of a script over a file writes, or the fault that it tells: the first bad record,
--- then the first bad line, then the first key that can't be appended, then that of a line
+-- then the first bad line, then the first record that can't be appended, then that of a line
 abbrev pub report_of_replay : Options → List ℕ → List ℕ → Result (List ℕ) Refusal
 report_of_replay options file script =
-    report_of_read (λ keys. report_of_read (report_of_lines options keys) (read_answer script))
-    (keys_of options.column options.header file)
+    report_of_read
+    (λ records. report_of_read (report_of_lines options records)
+    (read_answer_in options.topics.items script))
+    (records_of options file)

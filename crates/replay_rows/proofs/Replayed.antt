@@ -1,32 +1,74 @@
 -- The rows of a replay, one more at a time.
-use Rattle.std.proofs.Common.{◌≡◌, ◌∙◌, ◌+◌, ◌-◌, ◌*◌, ◌^◌, ◌<◌, ◌≤◌, ℕ, zero, suc, List, [], ◌++◌, length, drop, get_or, sym, ap, refl, arith, drop-cons, append_assoc, add-one, suc-mul}
-use Rattle.std.proofs.lemmas.Bool.{ne_eqb}
+use Rattle.std.proofs.Common.{◌≡◌, ◌∙◌, ◌+◌, ◌-◌, ◌*◌, ◌^◌, ◌<◌, ◌≤◌, ℕ, zero, suc, cond, ltb, List, [], ◌∷◌, ◌++◌, length, drop, get_or, sym, ap, refl, arith, drop-cons, append_assoc, add-one, suc-mul}
+use Rattle.std.specs.Prelude.{Some, codes, decimal}
+use Rattle.std.proofs.lemmas.Bool.{le-ltb, lt-ltb, ne_eqb}
 use Rattle.std.proofs.lemmas.List.{append-nil, drop_all}
 use Rattle.std.proofs.lemmas.Nat.{mul-le}
 use Rattle.lane_words.specs.Sums.{sum_below}
 use Rattle.commit_store.specs.Commits.{committed_at}
 use Rattle.group_machine.specs.declared.group.Move.{Move}
-use Rattle.group_machine.specs.State.{GroupState}
+use Rattle.group_machine.specs.State.{GroupState, owner_of}
 use Rattle.group_machine.specs.Cluster.{ClusterState, IsValidCluster}
+use Rattle.csv.specs.Writing.{row_text}
 use Rattle.report_rows.specs.CountRows.{count_row}
-use Rattle.replay_rows.specs.ReplayRows.{committed_count_rows, counted_row, end_of, move_row, move_rows, rows_below}
+use Rattle.report_rows.specs.Rows.{row_writer}
+use Rattle.script.specs.declared.topics.Topic.{Topic}
+use Rattle.replay_rows.specs.ReplayRows.{committed_count_rows, counted_row, end_of, move_row, move_rows, name_or_empty, offset_row, owner_row, partition_fields, rows_below}
+
+-- ---- where a partition stands
+fields-first : (topics : List Topic) (i p : ℕ) (topic : Topic) → i < length topics → topic ≡ get_or topics i topic
+    → partition_fields (drop i topics) p ≡ cond (ltb p topic.partitions) (topic.name ∷ decimal p ∷ []) (partition_fields (drop (i + 1) topics) (p - topic.partitions))
+unfolding partition_fields
+fields-first topics i p topic h is =
+    rw (add-one, drop-cons topics i topic)
+    (ap (λ (t : Topic). cond (ltb p t.partitions) (t.name ∷ decimal p ∷ []) (partition_fields (drop (suc i) topics) (p - t.partitions))) (sym is))
+
+-- the next topic has it
+pub fields_here : (topics : List Topic) (i p : ℕ) (topic : Topic) → i < length topics → topic ≡ get_or topics i topic → p < topic.partitions → partition_fields (drop i topics) p ≡ topic.name ∷ decimal p ∷ []
+fields_here topics i p topic h is lt = fields-first topics i p topic h is ∙ rw (lt-ltb p topic.partitions lt) refl
+
+-- the next topic does not have it
+pub fields_later : (topics : List Topic) (i p : ℕ) (topic : Topic) → i < length topics → topic ≡ get_or topics i topic → topic.partitions ≤ p
+    → partition_fields (drop i topics) p ≡ partition_fields (drop (i + 1) topics) (p - topic.partitions)
+fields_later topics i p topic h is le = fields-first topics i p topic h is ∙ rw (le-ltb p topic.partitions le) refl
+
+-- no topic is left
+pub fields_end : (topics : List Topic) (i p : ℕ) → length topics ≤ i → partition_fields (drop i topics) p ≡ decimal p ∷ []
+unfolding partition_fields
+fields_end topics i p h = ap (λ ts. partition_fields ts p) (drop_all i topics h)
+
+-- ---- rows by the fields of a partition
+pub move_row-is : (topics : List Topic) (g : GroupState) (move : Move) (fields : List (List ℕ)) → partition_fields topics move.partition ≡ fields
+    → move_row topics g move ≡ row_text row_writer (codes "move" ∷ decimal move.generation ∷ fields ++ name_or_empty g move.last ∷ name_or_empty g (Some move.holder) ∷ [])
+unfolding move_row
+move_row-is topics g move fields e = ap (λ fs. row_text row_writer (codes "move" ∷ decimal move.generation ∷ fs ++ name_or_empty g move.last ∷ name_or_empty g (Some move.holder) ∷ [])) e
+
+pub owner_row-is : (topics : List Topic) (g : GroupState) (p : ℕ) (fields : List (List ℕ)) → partition_fields topics p ≡ fields
+    → owner_row topics g p ≡ row_text row_writer (codes "owner" ∷ fields ++ name_or_empty g (owner_of g p) ∷ [])
+unfolding owner_row
+owner_row-is topics g p fields e = ap (λ fs. row_text row_writer (codes "owner" ∷ fs ++ name_or_empty g (owner_of g p) ∷ [])) e
+
+pub offset_row-is : (topics : List Topic) (p committed end : ℕ) (fields : List (List ℕ)) → partition_fields topics p ≡ fields
+    → offset_row topics p committed end ≡ row_text row_writer (codes "offset" ∷ fields ++ decimal committed ∷ decimal end ∷ [])
+unfolding offset_row
+offset_row-is topics p committed end fields e = ap (λ fs. row_text row_writer (codes "offset" ∷ fs ++ decimal committed ∷ decimal end ∷ [])) e
 
 -- ---- moves
-moves-first : (g : GroupState) (moves : List Move) (i : ℕ) (d : Move) → i < length moves
-    → move_rows g (drop i moves) ≡ move_row g (get_or moves i d) ++ move_rows g (drop (i + 1) moves)
+moves-first : (topics : List Topic) (g : GroupState) (moves : List Move) (i : ℕ) (d : Move) → i < length moves
+    → move_rows topics g (drop i moves) ≡ move_row topics g (get_or moves i d) ++ move_rows topics g (drop (i + 1) moves)
 unfolding move_rows
-moves-first g moves i d h = rw (add-one, drop-cons moves i d) refl
+moves-first topics g moves i d h = rw (add-one, drop-cons moves i d) refl
 
 -- the text so far with the rows that are left, after the row of one more move
-pub moves_step : (text : List ℕ) (g : GroupState) (moves : List Move) (i : ℕ) (d : Move) (all : List ℕ) → i < length moves
-    → text ++ move_rows g (drop i moves) ≡ all
-    → (text ++ move_row g (get_or moves i d)) ++ move_rows g (drop (i + 1) moves) ≡ all
-moves_step text g moves i d all h e = append_assoc text _ _ ∙ ap (λ t. text ++ t) (sym (moves-first g moves i d h)) ∙ e
+pub moves_step : (text : List ℕ) (topics : List Topic) (g : GroupState) (moves : List Move) (i : ℕ) (d : Move) (all : List ℕ) → i < length moves
+    → text ++ move_rows topics g (drop i moves) ≡ all
+    → (text ++ move_row topics g (get_or moves i d)) ++ move_rows topics g (drop (i + 1) moves) ≡ all
+moves_step text topics g moves i d all h e = append_assoc text _ _ ∙ ap (λ t. text ++ t) (sym (moves-first topics g moves i d h)) ∙ e
 
 -- no move is left
-pub moves_end : (text : List ℕ) (g : GroupState) (moves : List Move) (i : ℕ) (all : List ℕ) → length moves ≤ i → text ++ move_rows g (drop i moves) ≡ all → text ≡ all
+pub moves_end : (text : List ℕ) (topics : List Topic) (g : GroupState) (moves : List Move) (i : ℕ) (all : List ℕ) → length moves ≤ i → text ++ move_rows topics g (drop i moves) ≡ all → text ≡ all
 unfolding move_rows
-moves_end text g moves i all h e = sym (append-nil text) ∙ rw (drop_all i moves h) at e
+moves_end text topics g moves i all h e = sym (append-nil text) ∙ rw (drop_all i moves h) at e
 
 -- ---- counts
 counted-first : (ks : List (List ℕ)) (ns : List ℕ) (i : ℕ) → i < length ks → i < length ns

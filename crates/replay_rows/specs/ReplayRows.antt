@@ -1,5 +1,5 @@
 -- The text of the rows of a replay and of a run.
-use Rattle.std.specs.Prelude.{ℕ, zero, suc, ◌==◌, List, [], ◌∷◌, ◌++◌, Option, Some, None, codes, decimal, length, unwrap_or, if◌then◌else◌}
+use Rattle.std.specs.Prelude.{ℕ, zero, suc, ◌-◌, ◌==◌, nat_lt, List, [], ◌∷◌, ◌++◌, Option, Some, None, codes, decimal, length, unwrap_or, if◌then◌else◌}
 use Rattle.csv.specs.Writing.{row_text}
 use Rattle.lane_words.specs.Sums.{sum_below}
 use Rattle.partition_log.specs.Logs.{PartitionLogs, log_at}
@@ -7,6 +7,7 @@ use Rattle.commit_store.specs.Commits.{committed_at}
 use Rattle.group_machine.specs.declared.group.Move.{Move}
 use Rattle.group_machine.specs.State.{GroupState, name_of, owner_of}
 use Rattle.group_machine.specs.Cluster.{ClusterState}
+use Rattle.script.specs.declared.topics.Topic.{Topic}
 use Rattle.report_rows.specs.Rows.{row_writer, total_row}
 use Rattle.report_rows.specs.CountRows.{count_row}
 
@@ -15,18 +16,27 @@ abbrev pub name_or_empty : GroupState → Option ℕ → List ℕ
 name_or_empty g None = []
 name_or_empty g (Some member) = unwrap_or (name_of g member) []
 
+-- How a row tells a partition: without topics by its number, and with them by the name of the topic
+-- that has it and its number there. Partitions are counted over all topics, in the order of the
+-- topics.
+unfoldable pub partition_fields : List Topic → ℕ → List (List ℕ)
+partition_fields [] p = decimal p ∷ []
+partition_fields (topic ∷ topics) p =
+    if nat_lt p topic.partitions then topic.name ∷ decimal p ∷ []
+    else partition_fields topics (p - topic.partitions)
+
 -- the row of a move: the generation that was completed, the partition, and the names of the member
 -- that was last granted it, which is empty at first, and of the one that has it now
-unfoldable pub move_row : GroupState → Move → List ℕ
-move_row g move =
+unfoldable pub move_row : List Topic → GroupState → Move → List ℕ
+move_row topics g move =
     row_text row_writer
-    (codes "move" ∷ decimal move.generation ∷ decimal move.partition ∷ name_or_empty g move.last
-    ∷ name_or_empty g (Some move.holder) ∷ [])
+    (codes "move" ∷ decimal move.generation ∷ partition_fields topics move.partition
+    ++ name_or_empty g move.last ∷ name_or_empty g (Some move.holder) ∷ [])
 
 -- the rows of moves, in their order
-unfoldable pub move_rows : GroupState → List Move → List ℕ
-move_rows g [] = []
-move_rows g (move ∷ moves) = move_row g move ++ move_rows g moves
+unfoldable pub move_rows : List Topic → GroupState → List Move → List ℕ
+move_rows topics g [] = []
+move_rows topics g (move ∷ moves) = move_row topics g move ++ move_rows topics g moves
 
 -- the row of a line of a script that was refused: its number, and the number of the refusal
 unfoldable pub refused_row : ℕ → ℕ → List ℕ
@@ -39,28 +49,30 @@ rows_below (suc n) row = rows_below n row ++ row n
 
 -- the row of a partition and the present member that is granted it, which is empty where there is
 -- none
-unfoldable pub owner_row : GroupState → ℕ → List ℕ
-owner_row g p =
+unfoldable pub owner_row : List Topic → GroupState → ℕ → List ℕ
+owner_row topics g p =
     row_text row_writer
-    (codes "owner" ∷ decimal p ∷ name_or_empty g (owner_of g p) ∷ [])
+    (codes "owner" ∷ partition_fields topics p ++ name_or_empty g (owner_of g p) ∷ [])
 
 -- the row of each partition and its owner
-abbrev pub owner_rows : GroupState → List ℕ
-owner_rows g = rows_below g.partitions (owner_row g)
+abbrev pub owner_rows : List Topic → GroupState → List ℕ
+owner_rows topics g = rows_below g.partitions (owner_row topics g)
 
 -- the row of a partition, its committed offset and the end of its log
-unfoldable pub offset_row : ℕ → ℕ → ℕ → List ℕ
-offset_row p committed end =
-    row_text row_writer (codes "offset" ∷ decimal p ∷ decimal committed ∷ decimal end ∷ [])
+unfoldable pub offset_row : List Topic → ℕ → ℕ → ℕ → List ℕ
+offset_row topics p committed end =
+    row_text row_writer
+    (codes "offset" ∷ partition_fields topics p ++ decimal committed ∷ decimal end ∷ [])
 
 -- the end of the log of a partition, which is the number of its records
 abbrev pub end_of : PartitionLogs → ℕ → ℕ
 end_of l p = length (log_at l p)
 
 -- the row of each partition, its committed offset and the end of its log
-abbrev pub offset_rows : ClusterState → List ℕ
-offset_rows s =
-    rows_below s.group.partitions (λ p. offset_row p (committed_at s.store p) (end_of s.logs p))
+abbrev pub offset_rows : List Topic → ClusterState → List ℕ
+offset_rows topics s =
+    rows_below s.group.partitions
+    (λ p. offset_row topics p (committed_at s.store p) (end_of s.logs p))
 
 -- the row of a key that was counted, and nothing where its count is 0
 abbrev pub counted_row : List ℕ → ℕ → List ℕ
@@ -83,7 +95,8 @@ appended_total s = sum_below s.group.partitions (end_of s.logs)
 
 -- the rows after the last line of a script or of a plan: who owns each partition, how far it is
 -- committed, the counts of the committed keys, and the totals
-abbrev pub closing_rows : ClusterState → List ℕ
-closing_rows s =
-    owner_rows s.group ++ offset_rows s ++ committed_count_rows s.logs.keys s.store.counts
+abbrev pub closing_rows : List Topic → ClusterState → List ℕ
+closing_rows topics s =
+    owner_rows topics s.group ++ offset_rows topics s
+    ++ committed_count_rows s.logs.keys s.store.counts
     ++ total_row (committed_total s) (appended_total s)

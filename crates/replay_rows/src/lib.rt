@@ -1,11 +1,11 @@
 //! The rows of a replay and of a run, as text.
 #![tactic(auto)]
 
-ghost use Rattle.std.specs.Prelude.{◌≡◌, ◌++◌, ◌<◌, ℕ, List, OnOk, drop, length};
+ghost use Rattle.std.specs.Prelude.{◌≡◌, ◌++◌, ◌<◌, ◌∷◌, [], ℕ, List, IfNone, IfSome, OnOk, decimal, drop, length};
 ghost use Rattle.lane_words.specs.Refusal.{code_of};
 ghost use Rattle.group_machine.specs.Cluster.{IsValidCluster};
 ghost use Rattle.report_rows.specs.Rows.{HasText};
-ghost use Rattle.replay_rows.specs.ReplayRows.{appended_total, closing_rows, committed_count_rows, committed_total, counted_row, move_row, move_rows, name_or_empty, offset_row, offset_rows, owner_row, owner_rows, refused_row};
+ghost use Rattle.replay_rows.specs.ReplayRows.{appended_total, closing_rows, committed_count_rows, committed_total, counted_row, move_row, move_rows, name_or_empty, offset_row, offset_rows, owner_row, owner_rows, partition_fields, refused_row};
 
 use csv::Writer;
 use group_machine::{Cluster, Move};
@@ -13,6 +13,7 @@ use itoa::Buffer;
 use lane_words::{Memory, Refusal};
 use partition_log::LogRead;
 use report_rows::{count_rows, rows};
+use script::Topic;
 
 /// The name of a member, and nothing where there is none.
 fn name_or_empty(cluster: &Cluster, member: Option<u32>) -> &[u8]
@@ -27,37 +28,64 @@ fn name_or_empty(cluster: &Cluster, member: Option<u32>) -> &[u8]
     }
 }
 
-/// Writes the row of a move.
-fn write_move(writer: &mut Writer<Vec<u8>>, cluster: &Cluster, made: &Move) -> Result<(), Memory>
-    ensures { OnOk result ((text : List ℕ) → HasText writer.old text
-        → HasText writer.new (text ++ move_row cluster.now.group made.now)) }
+/// The name of the topic that has a partition, and the partition's number in it; no name, and the
+/// partition as it is, where there are no topics.
+fn place_among(topics: &[Topic], partition: u32) -> (Option<&[u8]>, u32)
+    ensures named { IfSome result.0 (λ name. partition_fields topics.now partition
+        ≡ name.now ∷ decimal result.1 ∷ []) }
+    ensures bare { IfNone result.0
+        (partition_fields topics.now partition ≡ decimal result.1 ∷ []) }
 {
-    let (mut generation, mut partition) = (Buffer::new(), Buffer::new());
-    rows::write_row(
-        writer,
-        &[
-            b"move",
-            generation.format(made.generation).as_bytes(),
-            partition.format(made.partition).as_bytes(),
-            name_or_empty(cluster, made.last),
-            name_or_empty(cluster, Some(made.holder)),
-        ],
-    )
+    let mut number = partition;
+    for topic in topics {
+        if number < topic.partitions {
+            return (Some(topic.name.text()), number);
+        }
+        number -= topic.partitions;
+    }
+    (None, number)
 }
 
-/// Writes the rows of the moves of a cluster from this index on.
+/// Writes the row of a move.
+fn write_move(
+    writer: &mut Writer<Vec<u8>>,
+    topics: &[Topic],
+    cluster: &Cluster,
+    made: &Move,
+) -> Result<(), Memory>
+    ensures { OnOk result ((text : List ℕ) → HasText writer.old text
+        → HasText writer.new (text ++ move_row topics.now cluster.now.group made.now)) }
+{
+    let (mut first, mut second) = (Buffer::new(), Buffer::new());
+    let (topic, number) = place_among(topics, made.partition);
+    let generation = first.format(made.generation).as_bytes();
+    let partition = second.format(number).as_bytes();
+    let last = name_or_empty(cluster, made.last);
+    let holder = name_or_empty(cluster, Some(made.holder));
+    match topic {
+        Some(name) => rows::write_row(
+            writer,
+            &[b"move", generation, name, partition, last, holder],
+        ),
+        None => rows::write_row(writer, &[b"move", generation, partition, last, holder]),
+    }
+}
+
+/// Writes the rows of the moves of a cluster from this index on. With topics, each partition is
+/// told by its topic.
 pub fn write_moves(
     writer: &mut Writer<Vec<u8>>,
+    topics: &[Topic],
     cluster: &Cluster,
     from: usize,
 ) -> Result<(), Memory>
     ensures { OnOk result ((text : List ℕ) → HasText writer.old text
         → HasText writer.new
-        (text ++ move_rows cluster.now.group (drop from cluster.now.group.moves))) }
+        (text ++ move_rows topics.now cluster.now.group (drop from cluster.now.group.moves))) }
 {
     let moves = cluster.moves();
     for i in from..moves.len() {
-        write_move(writer, cluster, &moves[i])?;
+        write_move(writer, topics, cluster, &moves[i])?;
     }
     Ok(())
 }
@@ -83,28 +111,36 @@ pub fn write_refused(
 }
 
 /// Writes the row of a partition and its owner.
-fn write_owner(writer: &mut Writer<Vec<u8>>, cluster: &Cluster, p: u32) -> Result<(), Memory>
+fn write_owner(
+    writer: &mut Writer<Vec<u8>>,
+    topics: &[Topic],
+    cluster: &Cluster,
+    p: u32,
+) -> Result<(), Memory>
     ensures { OnOk result ((text : List ℕ) → HasText writer.old text
-        → HasText writer.new (text ++ owner_row cluster.now.group p)) }
+        → HasText writer.new (text ++ owner_row topics.now cluster.now.group p)) }
 {
-    let mut partition = Buffer::new();
-    rows::write_row(
-        writer,
-        &[
-            b"owner",
-            partition.format(p).as_bytes(),
-            name_or_empty(cluster, cluster.owner(p)),
-        ],
-    )
+    let mut digits = Buffer::new();
+    let (topic, number) = place_among(topics, p);
+    let partition = digits.format(number).as_bytes();
+    let owner = name_or_empty(cluster, cluster.owner(p));
+    match topic {
+        Some(name) => rows::write_row(writer, &[b"owner", name, partition, owner]),
+        None => rows::write_row(writer, &[b"owner", partition, owner]),
+    }
 }
 
 /// Writes the row of each partition and its owner.
-fn write_owners(writer: &mut Writer<Vec<u8>>, cluster: &Cluster) -> Result<(), Memory>
+fn write_owners(
+    writer: &mut Writer<Vec<u8>>,
+    topics: &[Topic],
+    cluster: &Cluster,
+) -> Result<(), Memory>
     ensures { OnOk result ((text : List ℕ) → HasText writer.old text
-        → HasText writer.new (text ++ owner_rows cluster.now.group)) }
+        → HasText writer.new (text ++ owner_rows topics.now cluster.now.group)) }
 {
     for p in 0..cluster.partitions() {
-        write_owner(writer, cluster, p)?;
+        write_owner(writer, topics, cluster, p)?;
     }
     Ok(())
 }
@@ -112,33 +148,37 @@ fn write_owners(writer: &mut Writer<Vec<u8>>, cluster: &Cluster) -> Result<(), M
 /// Writes the row of a partition, its committed offset and the end of its log.
 fn write_offset(
     writer: &mut Writer<Vec<u8>>,
+    topics: &[Topic],
     p: u32,
     committed: u32,
     end: u32,
 ) -> Result<(), Memory>
     ensures { OnOk result ((text : List ℕ) → HasText writer.old text
-        → HasText writer.new (text ++ offset_row p committed end)) }
+        → HasText writer.new (text ++ offset_row topics.now p committed end)) }
 {
-    let (mut partition, mut first, mut second) = (Buffer::new(), Buffer::new(), Buffer::new());
-    rows::write_row(
-        writer,
-        &[
-            b"offset",
-            partition.format(p).as_bytes(),
-            first.format(committed).as_bytes(),
-            second.format(end).as_bytes(),
-        ],
-    )
+    let (mut digits, mut first, mut second) = (Buffer::new(), Buffer::new(), Buffer::new());
+    let (topic, number) = place_among(topics, p);
+    let partition = digits.format(number).as_bytes();
+    let committed = first.format(committed).as_bytes();
+    let end = second.format(end).as_bytes();
+    match topic {
+        Some(name) => rows::write_row(writer, &[b"offset", name, partition, committed, end]),
+        None => rows::write_row(writer, &[b"offset", partition, committed, end]),
+    }
 }
 
 /// Writes the row of each partition, its committed offset and the end of its log.
-fn write_offsets(writer: &mut Writer<Vec<u8>>, cluster: &Cluster) -> Result<(), Memory>
+fn write_offsets(
+    writer: &mut Writer<Vec<u8>>,
+    topics: &[Topic],
+    cluster: &Cluster,
+) -> Result<(), Memory>
     ensures { OnOk result ((text : List ℕ) → HasText writer.old text
-        → HasText writer.new (text ++ offset_rows cluster.now)) }
+        → HasText writer.new (text ++ offset_rows topics.now cluster.now)) }
 {
     let (store, logs) = (cluster.store(), cluster.logs());
     for p in 0..cluster.partitions() {
-        write_offset(writer, p, store.committed(p), logs.len(p))?;
+        write_offset(writer, topics, p, store.committed(p), logs.len(p))?;
     }
     Ok(())
 }
@@ -195,13 +235,18 @@ fn appended_total(cluster: &Cluster) -> u64
     total
 }
 
-/// Writes the rows after the last line of a script or of a plan.
-pub fn write_closing(writer: &mut Writer<Vec<u8>>, cluster: &Cluster) -> Result<(), Memory>
+/// Writes the rows after the last line of a script or of a plan. With topics, each partition is
+/// told by its topic.
+pub fn write_closing(
+    writer: &mut Writer<Vec<u8>>,
+    topics: &[Topic],
+    cluster: &Cluster,
+) -> Result<(), Memory>
     ensures { OnOk result ((text : List ℕ) → HasText writer.old text
-        → HasText writer.new (text ++ closing_rows cluster.now)) }
+        → HasText writer.new (text ++ closing_rows topics.now cluster.now)) }
 {
-    write_owners(writer, cluster)?;
-    write_offsets(writer, cluster)?;
+    write_owners(writer, topics, cluster)?;
+    write_offsets(writer, topics, cluster)?;
     write_committed_counts(writer, cluster.logs(), cluster.store().counts())?;
     rows::write_total(writer, committed_total(cluster), appended_total(cluster))
 }

@@ -33,6 +33,7 @@ enum Step<'a> {
 fn is_so(
     rt: &impl Abort,
     alloc: Global,
+    topics: &[Topic],
     cluster: &mut Cluster,
     step: &Step<'_>,
 ) -> Result<bool, Memory> {
@@ -42,8 +43,8 @@ fn is_so(
         }
         Step::Lose(member) => cluster.lose(*member) == Ok(()),
         Step::Commit(partition, ids) => commit(alloc, cluster, *partition, ids)?,
-        Step::Moves(from, wanted) => has_moves(alloc, cluster, *from, wanted)?,
-        Step::Closing(wanted) => has_closing(alloc, cluster, wanted)?,
+        Step::Moves(from, wanted) => has_moves(alloc, topics, cluster, *from, wanted)?,
+        Step::Closing(wanted) => has_closing(alloc, topics, cluster, wanted)?,
     };
     Ok(is_so)
 }
@@ -52,11 +53,12 @@ fn is_so(
 fn first_other(
     rt: &impl Abort,
     alloc: Global,
+    topics: &[Topic],
     cluster: &mut Cluster,
     steps: &[Step<'_>],
 ) -> Result<Option<usize>, Memory> {
     for (index, step) in steps.iter().enumerate() {
-        if !is_so(rt, alloc, cluster, step)? {
+        if !is_so(rt, alloc, topics, cluster, step)? {
             return Ok(Some(index));
         }
     }
@@ -64,17 +66,28 @@ fn first_other(
 }
 
 /// Whether a cluster has these rows of moves from an index on.
-fn has_moves(alloc: Global, cluster: &Cluster, from: usize, wanted: &[u8]) -> Result<bool, Memory> {
+fn has_moves(
+    alloc: Global,
+    topics: &[Topic],
+    cluster: &Cluster,
+    from: usize,
+    wanted: &[u8],
+) -> Result<bool, Memory> {
     let mut writer = rows::new_writer(alloc);
-    write_moves(&mut writer, cluster, from)?;
+    write_moves(&mut writer, topics, cluster, from)?;
     let text = rows::text_of(writer)?;
     Ok(text.as_slice() == wanted)
 }
 
 /// Whether a cluster has these closing rows.
-fn has_closing(alloc: Global, cluster: &Cluster, wanted: &[u8]) -> Result<bool, Memory> {
+fn has_closing(
+    alloc: Global,
+    topics: &[Topic],
+    cluster: &Cluster,
+    wanted: &[u8],
+) -> Result<bool, Memory> {
     let mut writer = rows::new_writer(alloc);
-    write_closing(&mut writer, cluster)?;
+    write_closing(&mut writer, topics, cluster)?;
     let text = rows::text_of(writer)?;
     Ok(text.as_slice() == wanted)
 }
@@ -127,7 +140,10 @@ fn a_first_member_is_given_all_partitions(rt: HostRuntime) -> Result<(), Fail> {
         Step::Moves(9, b""),
         Step::Closing(FIRST_CLOSING),
     ];
-    assert_eq!(rt; first_other(&rt, rt.alloc(), &mut cluster, &steps)?, None);
+    assert_eq!(rt;
+        first_other(&rt, rt.alloc(), &[], &mut cluster, &steps)?,
+        None
+    );
     Ok(())
 }
 
@@ -145,7 +161,10 @@ fn a_move_names_the_last_holder(rt: HostRuntime) -> Result<(), Fail> {
         Step::Join(b"worker-2_B", 2),
         Step::Moves(2, SECOND_MOVES),
     ];
-    assert_eq!(rt; first_other(&rt, rt.alloc(), &mut cluster, &steps)?, None);
+    assert_eq!(rt;
+        first_other(&rt, rt.alloc(), &[], &mut cluster, &steps)?,
+        None
+    );
     Ok(())
 }
 
@@ -163,7 +182,42 @@ fn committed_keys_are_counted(rt: HostRuntime) -> Result<(), Fail> {
         Step::Commit(3, &[3]),
         Step::Closing(COUNTED_CLOSING),
     ];
-    assert_eq!(rt; first_other(&rt, rt.alloc(), &mut cluster, &steps)?, None);
+    assert_eq!(rt;
+        first_other(&rt, rt.alloc(), &[], &mut cluster, &steps)?,
+        None
+    );
+    Ok(())
+}
+
+const TOPIC_MOVES: &[u8] = b"move,1,a,0,,A\nmove,1,a,1,,A\nmove,1,b,0,,A\n";
+
+const TOPIC_CLOSING: &[u8] = b"owner,a,0,A\nowner,a,1,A\nowner,b,0,A\n\
+    offset,a,0,0,0\noffset,a,1,0,0\noffset,b,0,0,0\ntotal,0,0\n";
+
+/// A topic of this name, which is one, and of this many partitions.
+fn topic(rt: &impl Abort, name: &[u8], partitions: u32) -> Topic {
+    let name = Name::new(name).expect(rt, "a name");
+    Topic { name, partitions }
+}
+
+/// The topic a of two partitions, and b of one.
+fn a_and_b(rt: &impl Abort) -> [Topic; 2] {
+    [topic(rt, b"a", 2), topic(rt, b"b", 1)]
+}
+
+#[test]
+fn a_partition_is_told_by_its_topic(rt: HostRuntime) -> Result<(), Fail> {
+    let topics = a_and_b(&rt);
+    let mut cluster = cluster_of(&rt, rt.alloc(), 3)?;
+    let steps = [
+        Step::Join(b"A", 1),
+        Step::Moves(0, TOPIC_MOVES),
+        Step::Closing(TOPIC_CLOSING),
+    ];
+    assert_eq!(rt;
+        first_other(&rt, rt.alloc(), &topics, &mut cluster, &steps)?,
+        None
+    );
     Ok(())
 }
 

@@ -1,6 +1,7 @@
 pub mod Input
 pub use Rattle.command_line.specs.CommandLine
 pub use Rattle.command_line.specs.Options
+pub use Rattle.command_line.specs.Topics
 pub use Rattle.count_report.specs.CountReport
 pub use Rattle.count_report.specs.Reports
 pub use Rattle.devices.specs.Devices

@@ -1,5 +1,5 @@
 -- The faults of the lines of a plan.
-use Rattle.std.proofs.Common.{◌≡◌, not, cond, ℕ, Bool, true, false, List, [], ◌∷◌, ◌++◌, length, Option, Some, None, Result, Ok, Err, ap, subst}
+use Rattle.std.proofs.Common.{◌≡◌, not, cond, ℕ, Bool, true, false, List, [], ◌∷◌, ◌++◌, length, Option, Some, None, Ok, Err, ap, subst}
 use Rattle.std.specs.Prelude.{◌==◌}
 use Rattle.std.specs.Option.{option_map_or, option_or, option_to_list}
 use Rattle.lane_words.specs.declared.Refusal.{Refusal}

@@ -1,23 +1,23 @@
--- The rows of the end of a run are those of the keys and of the plan.
+-- The rows of the end of a run are those of the records and of the plan.
 use Rattle.std.proofs.Common.{◌≡◌, ◌∙◌, ◌+◌, ◌<◌, ◌≤◌, ℕ, zero, suc, Bool, true, false, ◌||◌, List, [], ◌∷◌, ◌++◌, length, map, cond, get_or, Option, Some, None, sym, ap, ap₂, refl, arith, inl, inr, subst, append_assoc, slice_get}
-use Rattle.std.specs.Prelude.{◌==◌, ◌⊎◌, filter, find, unwrap_or, Result, Ok, Err, IsOk, fold, count_by}
-use Rattle.std.specs.List.{list_any}
+use Rattle.std.specs.Prelude.{◌==◌, ◌⊎◌, All, filter, find, unwrap_or, Result, Ok, Err, IsOk, fold}
+use Rattle.std.specs.List.{sum}
 use Rattle.std.specs.Option.{option_map}
 use Rattle.std.specs.Str.{bytes_eq}
 use Rattle.std.proofs.lemmas.Bool.Decides.{eqb_tells}
+use Rattle.std.proofs.lemmas.List.{length-map}
+use Rattle.std.proofs.lemmas.List.Elements.{All-head, All-tail, All-weaker}
 use Rattle.std.proofs.lemmas.List.Folds.{list_any-append}
 use Rattle.std.proofs.lemmas.List.Sums.{sum_by-cons}
 use Rattle.std.proofs.lemmas.Slice.Eq.{bytes_eq-Decides}
 use Rattle.lane_words.specs.Sums.{sum_below}
 use Rattle.lane_words.specs.declared.Refusal.{Refusal}
 use Rattle.lane_words.specs.declared.Refusal.TheVariants as r
-use Rattle.partition_log.specs.Appends.{in_first}
-use Rattle.partition_log.specs.Keys.{Key, distinct, id_of, is_known, key_at, plain, with_key}
-use Rattle.partition_log.specs.Logs.{AreLogsOf, PartitionLogs, place_of}
+use Rattle.partition_log.specs.Keys.{Key, Keyed, distinct, is_known, key_at, keys_in, plain, with_key}
+use Rattle.partition_log.specs.Logs.{AreLogsOf, IsOfTopic, PartitionLogs}
 use Rattle.partition_log.proofs.Numbered.{number-back}
 use Rattle.partition_log.proofs.Parted.{sum-plus, sum-same, sum-zero}
-use Rattle.partition_log.proofs.Appended.{first-keys}
-use Rattle.partition_log.proofs.Stored.{first-below}
+use Rattle.partition_log.proofs.Valid.{place-below}
 use Rattle.commit_store.specs.Commits.{committed_at}
 use Rattle.group_machine.specs.Cluster.{ClusterState, IsValidCluster}
 use Rattle.group_machine.specs.Rounds.{bare, bare_seat}
@@ -28,19 +28,21 @@ use Rattle.group_machine.specs.declared.group.Seat.{Seat}
 use Rattle.group_machine.specs.declared.group.Slot.{Slot}
 use Rattle.group_machine.proofs.PresentLemmas.{present_each}
 use Rattle.script.specs.declared.plan.Change.{Change}
+use Rattle.script.specs.declared.topics.Topic.{Topic}
 use Rattle.workers.specs.Plans.{settled}
 use Rattle.workers.specs.Runs.{IsRunOf, IsRunRefusal}
 use Rattle.command_line.specs.declared.options.Options.{Options}
-use Rattle.count_report.specs.CountReport.{counts_of, fault_or, first_fault, plain_text}
+use Rattle.count_report.specs.CountReport.{counts_of, fault_or, first_fault}
 use Rattle.report_rows.specs.CountRows.{count_rows}
 use Rattle.report_rows.specs.Rows.{total_row}
-use Rattle.replay_rows.specs.ReplayRows.{closing_rows, committed_count_rows, committed_total, appended_total, counted_row, end_of, move_row, move_rows, name_or_empty, offset_row, offset_rows, owner_row, owner_rows, rows_below}
+use Rattle.replay_rows.specs.ReplayRows.{closing_rows, committed_count_rows, committed_total, appended_total, end_of, move_row, move_rows, name_or_empty, offset_row, offset_rows, owner_row, owner_rows, rows_below}
 use Rattle.run_report.specs.RunReport.{ended_rows, group_rows, records_to, report_of_plan, text_of_run}
-use Rattle.count_report.specs.Reports.{IsFaultOf, IsNoDeviceFault}
+use Rattle.count_report.specs.Reports.{IsNoDeviceFault}
 use Rattle.run_report.specs.Private.Runs.{EndsRun, IsRunOver}
 use Rattle.count_report.specs.Tally.{AreCountsByNumber, IsKeyFault}
 use Rattle.count_report.proofs.Counted.{counts-are}
-use Rattle.count_report.proofs.FirstTopic.{log-long, partitions-first, place-first}
+use Rattle.count_report.specs.Records.{partition_counts, place_of_record}
+use Rattle.count_report.proofs.Placed.{log-long, partitions-are}
 use Rattle.replay_rows.proofs.Replayed.{counted_is}
 
 -- ---- rows see no flags
@@ -75,45 +77,45 @@ present_bare p same slots = ap (λ ms. option_map (λ (m : ℕ × Seat). m.0) (f
 owner_bare : (g : GroupState) (q : ℕ) → owner_of (bare g) q ≡ owner_of g q
 owner_bare g q = present_bare _ (λ m x. refl) g.slots
 
-move_bare : (g : GroupState) (move : Move) → move_row (bare g) move ≡ move_row g move
+move_bare : (topics : List Topic) (g : GroupState) (move : Move) → move_row topics (bare g) move ≡ move_row topics g move
 unfolding move_row
-move_bare g move = rw (named_bare g move.last, named_bare g (Some move.holder)) refl
+move_bare topics g move = rw (named_bare g move.last, named_bare g (Some move.holder)) refl
 
-moves_bare : (g : GroupState) (moves : List Move) → move_rows (bare g) moves ≡ move_rows g moves
+moves_bare : (topics : List Topic) (g : GroupState) (moves : List Move) → move_rows topics (bare g) moves ≡ move_rows topics g moves
 unfolding move_rows
-moves_bare g [] = refl
-moves_bare g (move ∷ moves) = ap₂ (λ a b. a ++ b) (move_bare g move) (moves_bare g moves)
+moves_bare topics g [] = refl
+moves_bare topics g (move ∷ moves) = ap₂ (λ a b. a ++ b) (move_bare topics g move) (moves_bare topics g moves)
 
-owner_row_bare : (g : GroupState) (p : ℕ) → owner_row (bare g) p ≡ owner_row g p
+owner_row_bare : (topics : List Topic) (g : GroupState) (p : ℕ) → owner_row topics (bare g) p ≡ owner_row topics g p
 unfolding owner_row
-owner_row_bare g p = rw (owner_bare g p, named_bare g (owner_of g p)) refl
+owner_row_bare topics g p = rw (owner_bare g p, named_bare g (owner_of g p)) refl
 
 rows_same : (n : ℕ) (row other : ℕ → List ℕ) → ((p : ℕ) → p < n → row p ≡ other p) → rows_below n row ≡ rows_below n other
 rows_same zero row other h = refl
 rows_same (suc n) row other h = ap₂ (λ a b. a ++ b) (rows_same n row other (λ p lt. h p (omega (arith, lt)))) (h n (omega arith))
 
-group_bare : (g : GroupState) → group_rows (bare g) ≡ group_rows g
-group_bare g = ap₂ (λ a b. a ++ b) (moves_bare g g.moves) (rows_same g.partitions (owner_row (bare g)) (owner_row g) (λ p lt. owner_row_bare g p))
+group_bare : (topics : List Topic) (g : GroupState) → group_rows topics (bare g) ≡ group_rows topics g
+group_bare topics g = ap₂ (λ a b. a ++ b) (moves_bare topics g g.moves) (rows_same g.partitions (owner_row topics (bare g)) (owner_row topics g) (λ p lt. owner_row_bare topics g p))
 
 -- ---- the ends of the logs
-partitions_are : (partitions : ℕ) (keys : List Key) (plan : List Change) (s : ClusterState) → IsRunOver partitions keys plan s → s.logs.partitions ≡ partitions
-partitions_are partitions keys plan s h = partitions-first s.logs partitions h.valid.logs h.counts
+partitions_are : (counts : List ℕ) (records : List Keyed) (plan : List Change) (s : ClusterState) → IsRunOver counts records plan s → s.logs.partitions ≡ sum counts
+partitions_are counts records plan s h = partitions-are s.logs counts h.valid.logs h.counts_are
 
-ends_are : (partitions : ℕ) (keys : List Key) (plan : List Change) (s : ClusterState) → IsRunOver partitions keys plan s → (p : ℕ) → p < s.group.partitions
-    → (committed_at s.store p ≡ records_to partitions keys p) × (end_of s.logs p ≡ records_to partitions keys p)
-ends_are partitions keys plan s h p lt =
+ends_are : (counts : List ℕ) (records : List Keyed) (plan : List Change) (s : ClusterState) → IsRunOver counts records plan s → (p : ℕ) → p < s.group.partitions
+    → (committed_at s.store p ≡ records_to counts records p) × (end_of s.logs p ≡ records_to counts records p)
+ends_are counts records plan s h p lt =
     let below : p < s.logs.partitions = omega (arith, lt, h.valid.logs_partitions) in
-    let long : end_of s.logs p ≡ records_to partitions keys p = log-long s.logs partitions keys p h.counts h.logs below in
+    let long : end_of s.logs p ≡ records_to counts records p = log-long s.logs counts records p h.counts_are h.logs below in
     (h.run.ends p below ∙ long, long)
 
-offsets_are : (partitions : ℕ) (keys : List Key) (plan : List Change) (s : ClusterState) → IsRunOver partitions keys plan s → offset_rows s ≡ ended_rows partitions keys
-offsets_are partitions keys plan s h =
-    let n : s.group.partitions ≡ partitions = sym h.valid.logs_partitions ∙ partitions_are partitions keys plan s h in
-    rows_same s.group.partitions (λ p. offset_row p (committed_at s.store p) (end_of s.logs p)) (λ p. offset_row p (records_to partitions keys p) (records_to partitions keys p))
-    (λ p lt. let ends = ends_are partitions keys plan s h p lt in ap₂ (offset_row p) ends.0 ends.1)
-    ∙ ap (λ m. rows_below m (λ p. offset_row p (records_to partitions keys p) (records_to partitions keys p))) n
+offsets_are : (topics : List Topic) (counts : List ℕ) (records : List Keyed) (plan : List Change) (s : ClusterState) → IsRunOver counts records plan s → offset_rows topics s ≡ ended_rows topics counts records
+offsets_are topics counts records plan s h =
+    let n : s.group.partitions ≡ sum counts = sym h.valid.logs_partitions ∙ partitions_are counts records plan s h in
+    rows_same s.group.partitions (λ p. offset_row topics p (committed_at s.store p) (end_of s.logs p)) (λ p. offset_row topics p (records_to counts records p) (records_to counts records p))
+    (λ p lt. let ends = ends_are counts records plan s h p lt in ap₂ (offset_row topics p) ends.0 ends.1)
+    ∙ ap (λ m. rows_below m (λ p. offset_row topics p (records_to counts records p) (records_to counts records p))) n
 
--- ---- the totals: each key goes to one partition
+-- ---- the totals: each record goes to one partition
 at_place : ℕ → ℕ → ℕ
 at_place place p = cond (place == p) 1 0
 
@@ -136,27 +138,30 @@ there place (suc n) lt =
       | inr f ↦ rw f.0 (omega (arith, there place n (omega (arith, lt, f.1))))
     ]
 
-one_key : (b : Bool) (key : Key) (keys : List Key) → length (cond b (key ∷ keys) keys) ≡ cond b 1 0 + length keys
-one_key true key keys = omega arith
-one_key false key keys = omega arith
+one_record : (b : Bool) (keyed : Keyed) (records : List Keyed) → length (cond b (keyed ∷ records) records) ≡ cond b 1 0 + length records
+one_record true keyed records = omega arith
+one_record false keyed records = omega arith
 
-parted : (partitions : ℕ) (keys : List Key) → ((key : Key) → place_of partitions key < partitions) → sum_below partitions (records_to partitions keys) ≡ length keys
+parted : (n : ℕ) (counts : List ℕ) (records : List Keyed) → All (λ keyed. place_of_record counts keyed < n) records → sum_below n (records_to counts records) ≡ length records
 unfolding at_place
-parted partitions [] placed = sum-zero partitions
-parted partitions (key ∷ keys) placed =
-    sum-same partitions (records_to partitions (key ∷ keys)) (λ p. at_place (place_of partitions key) p + records_to partitions keys p)
-    (λ p lt. one_key (place_of partitions key == p) key (filter (λ k. place_of partitions k == p) keys))
-    ∙ sum-plus partitions (at_place (place_of partitions key)) (records_to partitions keys)
-    ∙ ap (λ m. m + sum_below partitions (records_to partitions keys)) (there (place_of partitions key) partitions (placed key))
-    ∙ omega (arith, parted partitions keys placed)
+parted n counts [] placed = sum-zero n
+parted n counts (keyed ∷ records) placed =
+    let place = place_of_record counts keyed in
+    sum-same n (records_to counts (keyed ∷ records)) (λ p. at_place place p + records_to counts records p)
+    (λ p lt. one_record (place_of_record counts keyed == p) keyed (filter (λ (k : Keyed). place_of_record counts k == p) records))
+    ∙ sum-plus n (at_place place) (records_to counts records)
+    ∙ ap (λ m. m + sum_below n (records_to counts records)) (there place n (All-head (λ (k : Keyed). place_of_record counts k < n) keyed records placed))
+    ∙ omega (arith, parted n counts records (All-tail (λ (k : Keyed). place_of_record counts k < n) keyed records placed))
 
-totals_are : (partitions : ℕ) (keys : List Key) (plan : List Change) (s : ClusterState) → IsRunOver partitions keys plan s → (committed_total s ≡ length keys) × (appended_total s ≡ length keys)
-totals_are partitions keys plan s h =
-    let n : s.group.partitions ≡ partitions = sym h.valid.logs_partitions ∙ partitions_are partitions keys plan s h in
-    let placed : (key : Key) → place_of partitions key < partitions = λ key. omega (arith, first-below s.logs key h.valid.logs, place-first s.logs partitions key h.counts, partitions_are partitions keys plan s h) in
-    let all : sum_below s.group.partitions (records_to partitions keys) ≡ length keys = ap (λ m. sum_below m (records_to partitions keys)) n ∙ parted partitions keys placed in (
-      sum-same s.group.partitions (committed_at s.store) (records_to partitions keys) (λ p lt. (ends_are partitions keys plan s h p lt).0) ∙ all,
-      sum-same s.group.partitions (end_of s.logs) (records_to partitions keys) (λ p lt. (ends_are partitions keys plan s h p lt).1) ∙ all,
+totals_are : (counts : List ℕ) (records : List Keyed) (plan : List Change) (s : ClusterState) → IsRunOver counts records plan s → (committed_total s ≡ length records) × (appended_total s ≡ length records)
+totals_are counts records plan s h =
+    let n : s.group.partitions ≡ s.logs.partitions = sym h.valid.logs_partitions in
+    let placed : All (λ keyed. place_of_record counts keyed < s.logs.partitions) records =
+    All-weaker (IsOfTopic s.logs) (λ keyed. place_of_record counts keyed < s.logs.partitions) (λ keyed topic.
+    subst (λ cs. place_of_record cs keyed < s.logs.partitions) h.counts_are (place-below s.logs keyed h.valid.logs topic)) records h.logs.topics in
+    let all : sum_below s.group.partitions (records_to counts records) ≡ length records = ap (λ m. sum_below m (records_to counts records)) n ∙ parted s.logs.partitions counts records placed in (
+      sum-same s.group.partitions (committed_at s.store) (records_to counts records) (λ p lt. (ends_are counts records plan s h p lt).0) ∙ all,
+      sum-same s.group.partitions (end_of s.logs) (records_to counts records) (λ p lt. (ends_are counts records plan s h p lt).1) ∙ all,
     )
 
 -- ---- the counts: each of the distinct keys was counted at least once
@@ -222,18 +227,18 @@ counted_rows keys (k ∷ some) h =
     later true d e = refl
     later false d e = e
 
-by_number : (partitions : ℕ) (keys : List Key) (plan : List Change) (s : ClusterState) → IsRunOver partitions keys plan s → AreCountsByNumber s.logs s.store.counts
-by_number partitions keys plan s h = record {
+by_number : (counts : List ℕ) (records : List Keyed) (plan : List Change) (s : ClusterState) → IsRunOver counts records plan s → AreCountsByNumber s.logs s.store.counts
+by_number counts records plan s h = record {
   one_each = h.valid.a_counter_each;
   counted = λ n lt. ap (λ m. get_or s.store.counts m 0) (sym (number-back s.logs.keys n h.valid.logs.without_repeats lt)) ∙ h.run.counts (key_at s.logs.keys n);
 }
 
-counts_are : (partitions : ℕ) (keys : List Key) (plan : List Change) (s : ClusterState) → IsRunOver partitions keys plan s
-    → committed_count_rows s.logs.keys s.store.counts ≡ count_rows (distinct keys) (counts_of keys)
+counts_are : (counts : List ℕ) (records : List Keyed) (plan : List Change) (s : ClusterState) → IsRunOver counts records plan s
+    → committed_count_rows s.logs.keys s.store.counts ≡ count_rows (distinct (keys_in records)) (counts_of (keys_in records))
 unfolding counts_of
-counts_are partitions keys plan s h =
-    ap₂ committed_count_rows (h.logs.numbers ∙ ap distinct (first-keys keys)) (counts-are keys s.logs s.store.counts h.valid.logs h.logs (by_number partitions keys plan s h))
-    ∙ counted_rows keys (distinct keys) (distinct_counted keys)
+counts_are counts records plan s h =
+    ap₂ committed_count_rows h.logs.numbers (counts-are records s.logs s.store.counts h.valid.logs h.logs (by_number counts records plan s h))
+    ∙ counted_rows (keys_in records) (distinct (keys_in records)) (distinct_counted (keys_in records))
 
 -- ---- the text
 joined : (m o f c t : List ℕ) → m ++ (((o ++ f) ++ c) ++ t) ≡ ((m ++ o) ++ f) ++ (c ++ t)
@@ -242,38 +247,43 @@ joined m o f c t =
     ∙ append_assoc ((m ++ o) ++ f) c t
 
 -- the moves and the closing rows of the end of a run
-pub text_is : (partitions : ℕ) (keys : List Key) (plan : List Change) (s : ClusterState) → IsRunOver partitions keys plan s → move_rows s.group s.group.moves ++ closing_rows s ≡ text_of_run partitions keys plan
+pub text_is : (topics : List Topic) (counts : List ℕ) (records : List Keyed) (plan : List Change) (s : ClusterState) → IsRunOver counts records plan s
+    → move_rows topics s.group s.group.moves ++ closing_rows topics s ≡ text_of_run topics counts records plan
 unfolding text_of_run
-text_is partitions keys plan s h =
-    let group : group_rows s.group ≡ group_rows (settled partitions plan) = sym (group_bare s.group) ∙ ap group_rows (h.run.group ∙ ap (λ n. settled n plan) (partitions_are partitions keys plan s h)) in
-    let totals = totals_are partitions keys plan s h in
-    joined (move_rows s.group s.group.moves) (owner_rows s.group) (offset_rows s) (committed_count_rows s.logs.keys s.store.counts) (total_row (committed_total s) (appended_total s))
-    ∙ ap (λ g. (g ++ offset_rows s) ++ (committed_count_rows s.logs.keys s.store.counts ++ total_row (committed_total s) (appended_total s))) group
-    ∙ ap (λ o. (group_rows (settled partitions plan) ++ o) ++ (committed_count_rows s.logs.keys s.store.counts ++ total_row (committed_total s) (appended_total s))) (offsets_are partitions keys plan s h)
-    ∙ ap (λ c. (group_rows (settled partitions plan) ++ ended_rows partitions keys) ++ (c ++ total_row (committed_total s) (appended_total s))) (counts_are partitions keys plan s h)
-    ∙ ap₂ (λ c t. (group_rows (settled partitions plan) ++ ended_rows partitions keys) ++ (count_rows (distinct keys) (counts_of keys) ++ total_row c t)) totals.0 totals.1
+text_is topics counts records plan s h =
+    let keys = keys_in records in
+    let n = sum counts in
+    let group : group_rows topics s.group ≡ group_rows topics (settled n plan) = sym (group_bare topics s.group) ∙ ap (group_rows topics) (h.run.group ∙ ap (λ m. settled m plan) (partitions_are counts records plan s h)) in
+    let long : length records ≡ length keys = sym (length-map records (λ (keyed : Keyed). keyed.1)) in
+    let totals = totals_are counts records plan s h in
+    joined (move_rows topics s.group s.group.moves) (owner_rows topics s.group) (offset_rows topics s) (committed_count_rows s.logs.keys s.store.counts) (total_row (committed_total s) (appended_total s))
+    ∙ ap (λ g. (g ++ offset_rows topics s) ++ (committed_count_rows s.logs.keys s.store.counts ++ total_row (committed_total s) (appended_total s))) group
+    ∙ ap (λ o. (group_rows topics (settled n plan) ++ o) ++ (committed_count_rows s.logs.keys s.store.counts ++ total_row (committed_total s) (appended_total s))) (offsets_are topics counts records plan s h)
+    ∙ ap (λ c. (group_rows topics (settled n plan) ++ ended_rows topics counts records) ++ (c ++ total_row (committed_total s) (appended_total s))) (counts_are counts records plan s h)
+    ∙ ap₂ (λ c t. (group_rows topics (settled n plan) ++ ended_rows topics counts records) ++ (count_rows (distinct keys) (counts_of keys) ++ total_row c t)) (totals.0 ∙ long) (totals.1 ∙ long)
 
 -- ---- the report
--- a run over the logs of some keys
-pub run_over : (partitions : ℕ) (keys : List Key) (plan : List Change) (l : PartitionLogs) (s : ClusterState) → IsValidCluster s → l.counts ≡ partitions ∷ [] → AreLogsOf (in_first keys) l → IsRunOf l plan s → IsRunOver partitions keys plan s
-run_over partitions keys plan l s valid same logs run =
+-- a run over the logs of some records
+pub run_over : (counts : List ℕ) (records : List Keyed) (plan : List Change) (l : PartitionLogs) (s : ClusterState) → IsValidCluster s → l.counts ≡ counts → AreLogsOf records l → IsRunOf l plan s → IsRunOver counts records plan s
+run_over counts records plan l s valid same logs run =
     let is : l ≡ s.logs = sym run.logs_are in
     record {
       valid = valid;
-      counts = sym (ap (λ (x : PartitionLogs). x.counts) is) ∙ same;
-      logs = subst (AreLogsOf (in_first keys)) is logs;
+      counts_are = sym (ap (λ (x : PartitionLogs). x.counts) is) ∙ same;
+      logs = subst (AreLogsOf records) is logs;
       run = subst (λ (x : PartitionLogs). IsRunOf x plan s) is run;
     }
 
--- all keys can be appended
-pub text_told : (options : Options) (keys : List Key) (plan : List Change) (text : List ℕ) → first_fault options.partitions [] keys ≡ None → text ≡ text_of_run options.partitions keys plan → report_of_plan options keys plan ≡ Ok text
+-- all records can be appended
+pub text_told : (options : Options) (records : List Keyed) (plan : List Change) (text : List ℕ) → first_fault (partition_counts options) [] records ≡ None
+    → text ≡ text_of_run options.topics.items (partition_counts options) records plan → report_of_plan options records plan ≡ Ok text
 unfolding report_of_plan
-text_told options keys plan text none is = ap (λ fault. fault_or fault (text_of_run options.partitions keys plan)) none ∙ ap Ok (sym is)
+text_told options records plan text none is = ap (λ fault. fault_or fault (text_of_run options.topics.items (partition_counts options) records plan)) none ∙ ap Ok (sym is)
 
--- a key can't
-fault_told : (options : Options) (keys : List Key) (plan : List Change) (fault : Refusal) → first_fault options.partitions [] keys ≡ Some fault → report_of_plan options keys plan ≡ Err fault
+-- a record can't
+fault_told : (options : Options) (records : List Keyed) (plan : List Change) (fault : Refusal) → first_fault (partition_counts options) [] records ≡ Some fault → report_of_plan options records plan ≡ Err fault
 unfolding report_of_plan
-fault_told options keys plan fault some = ap (λ o. fault_or o (text_of_run options.partitions keys plan)) some
+fault_told options records plan fault some = ap (λ o. fault_or o (text_of_run options.topics.items (partition_counts options) records plan)) some
 
 is_ok : {T : Type 0} (expected : Result T Refusal) (text : T) → expected ≡ Ok text → IsOk expected
 is_ok expected text e = rw e refl
@@ -286,22 +296,22 @@ key_ends report r.KeyTooLong k (inl m) = absurd (cc m)
 key_ends report r.LogFull k (inl m) = absurd (cc m)
 key_ends report e k h = absurd k
 
--- a key that can't be appended ends a run
-pub key_ends_run : (options : Options) (keys : List Key) (plan : List Change) (e : Refusal) → IsKeyFault e → (e ≡ r.Memory) ⊎ (first_fault options.partitions [] keys ≡ Some e) → EndsRun (report_of_plan options keys plan) e
-key_ends_run options keys plan e k (inl m) = key_ends (report_of_plan options keys plan) e k (inl m)
-key_ends_run options keys plan e k (inr h) = key_ends (report_of_plan options keys plan) e k (inr (fault_told options keys plan e h))
+-- a record that can't be appended ends a run
+pub key_ends_run : (options : Options) (records : List Keyed) (plan : List Change) (e : Refusal) → IsKeyFault e → (e ≡ r.Memory) ⊎ (first_fault (partition_counts options) [] records ≡ Some e) → EndsRun (report_of_plan options records plan) e
+key_ends_run options records plan e k (inl m) = key_ends (report_of_plan options records plan) e k (inl m)
+key_ends_run options records plan e k (inr h) = key_ends (report_of_plan options records plan) e k (inr (fault_told options records plan e h))
 
 -- so does what a run is refused for
-pub refusal_ends_run : (options : Options) (keys : List Key) (plan : List Change) (e : Refusal) → first_fault options.partitions [] keys ≡ None → IsRunRefusal e → EndsRun (report_of_plan options keys plan) e
-refusal_ends_run options keys plan e none h = go h
+pub refusal_ends_run : (options : Options) (records : List Keyed) (plan : List Change) (e : Refusal) → first_fault (partition_counts options) [] records ≡ None → IsRunRefusal e → EndsRun (report_of_plan options records plan) e
+refusal_ends_run options records plan e none h = go h
   where
-    told : IsOk (report_of_plan options keys plan)
-    told = is_ok (report_of_plan options keys plan) _ (text_told options keys plan _ none refl)
+    told : IsOk (report_of_plan options records plan)
+    told = is_ok (report_of_plan options records plan) _ (text_told options records plan _ none refl)
 
-    go : IsRunRefusal e → EndsRun (report_of_plan options keys plan) e
-    go (inl m) = subst (EndsRun (report_of_plan options keys plan)) (sym m) tt
-    go (inr (inl m)) = subst (EndsRun (report_of_plan options keys plan)) (sym m) told
-    go (inr (inr m)) = subst (EndsRun (report_of_plan options keys plan)) (sym m) told
+    go : IsRunRefusal e → EndsRun (report_of_plan options records plan) e
+    go (inl m) = subst (EndsRun (report_of_plan options records plan)) (sym m) tt
+    go (inr (inl m)) = subst (EndsRun (report_of_plan options records plan)) (sym m) told
+    go (inr (inr m)) = subst (EndsRun (report_of_plan options records plan)) (sym m) told
 
 pub run_no_device : (e : Refusal) → IsRunRefusal e → IsNoDeviceFault e
 run_no_device e (inl m) = subst IsNoDeviceFault (sym m) tt

@@ -1,53 +1,58 @@
--- The report of a run: a text, or a fault. It is one of the keys and of the plan alone: however the
--- threads fall, each record is committed and counted once.
-use Rattle.std.specs.Prelude.{◌==◌, ℕ, List, [], ◌++◌, length, filter, Option, Result, Ok, Err, IsOk}
+-- The report of a run: a text, or a fault. It is one of the records and of the plan alone: however
+-- the threads fall, each record is committed and counted once.
+use Rattle.std.specs.Prelude.{◌==◌, ℕ, List, [], ◌++◌, length, filter, Option, Result, Err, IsOk}
 use Rattle.std.specs.Io.KnownBytes.{Keeps}
+use Rattle.std.specs.List.{sum}
 use Rattle.lane_words.specs.declared.Refusal.{Refusal}
 use Rattle.lane_words.specs.declared.Refusal.TheVariants as r
-use Rattle.partition_log.specs.Keys.{Key}
-use Rattle.partition_log.specs.Logs.{place_of}
+use Rattle.partition_log.specs.Keys.{Keyed, keys_in}
 use Rattle.group_machine.specs.State.{GroupState}
 use Rattle.script.specs.Plan.{plan_answer}
 use Rattle.script.specs.declared.plan.Change.{Change}
+use Rattle.script.specs.declared.topics.Topic.{Topic}
 use Rattle.workers.specs.Plans.{settled}
 use Rattle.command_line.specs.declared.options.Options.{Options}
 use Rattle.count_report.specs.CountReport.{fault_or, first_fault, plain_text}
-use Rattle.key_file.specs.KeyFile.{keys_of}
+use Rattle.count_report.specs.Records.{partition_counts, place_of_record, records_of}
 use Rattle.replay_rows.specs.ReplayRows.{move_rows, offset_row, owner_rows, rows_below}
 use Rattle.count_report.specs.Reports.{WritesReport, report_of_read}
 
--- how many of these keys go to a partition, which is how long its log is
-abbrev pub records_to : ℕ → List Key → ℕ → ℕ
-records_to partitions keys p = length (filter (λ key. place_of partitions key == p) keys)
+-- how many of these records go to a partition, which is how long its log is
+abbrev pub records_to : List ℕ → List Keyed → ℕ → ℕ
+records_to counts records p =
+    length (filter (λ keyed. place_of_record counts keyed == p) records)
 
 -- the row of each partition of which the end is committed
-abbrev pub ended_rows : ℕ → List Key → List ℕ
-ended_rows partitions keys =
-    rows_below partitions
-    (λ p. offset_row p (records_to partitions keys p) (records_to partitions keys p))
+abbrev pub ended_rows : List Topic → List ℕ → List Keyed → List ℕ
+ended_rows topics counts records =
+    rows_below (sum counts)
+    (λ p. offset_row topics p (records_to counts records p) (records_to counts records p))
 
 -- the moves of a group and its owners
-abbrev pub group_rows : GroupState → List ℕ
-group_rows g = move_rows g g.moves ++ owner_rows g
+abbrev pub group_rows : List Topic → GroupState → List ℕ
+group_rows topics g = move_rows topics g g.moves ++ owner_rows topics g
 
 -- the moves and the owners that a plan comes to, the ends of the logs, and what a count of the keys
--- writes
-unfoldable pub text_of_run : ℕ → List Key → List Change → List ℕ
-text_of_run partitions keys plan =
-    group_rows (settled partitions plan) ++ ended_rows partitions keys ++ plain_text keys
+-- writes, where the topics have so many partitions each
+unfoldable pub text_of_run : List Topic → List ℕ → List Keyed → List Change → List ℕ
+text_of_run topics counts records plan =
+    group_rows topics (settled (sum counts) plan) ++ ended_rows topics counts records
+    ++ plain_text (keys_in records)
 
--- what a run of a plan over keys writes, or the fault that it tells: the first key that can't be
--- appended
-unfoldable pub report_of_plan : Options → List Key → List Change → Result (List ℕ) Refusal
-report_of_plan options keys plan =
-    fault_or (first_fault options.partitions [] keys) (text_of_run options.partitions keys plan)
+-- what a run of a plan over records writes, or the fault that it tells: the first record that can't
+-- be appended
+unfoldable pub report_of_plan : Options → List Keyed → List Change → Result (List ℕ) Refusal
+report_of_plan options records plan =
+    fault_or (first_fault (partition_counts options) [] records)
+    (text_of_run options.topics.items (partition_counts options) records plan)
 
 -- what a run of a script over a file writes, or the fault that it tells: the first bad record, then
--- the first bad line, and only then the first key that can't be appended
+-- the first bad line, and only then the first record that can't be appended
 abbrev pub report_of_run : Options → List ℕ → List ℕ → Result (List ℕ) Refusal
 report_of_run options file script =
-    report_of_read (λ keys. report_of_read (report_of_plan options keys) (plan_answer script))
-    (keys_of options.column options.header file)
+    report_of_read
+    (λ records. report_of_read (report_of_plan options records) (plan_answer script))
+    (records_of options file)
 
 -- what an answer says of the bytes that were written, where this is the report. A run that was
 -- stopped, or that differed from what was given, has written nothing, and its report is a text

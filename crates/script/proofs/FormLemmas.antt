@@ -10,7 +10,7 @@ use Rattle.script.specs.Forms.{◌⎵◌, IsAppend, IsNumbered, IsPoll, IsSend, 
 use Rattle.script.specs.Grammar.{action_of, append_action, appended, bare_action, command_action, is_space, mail_action, member_action, name_of, poll_action, send_action, single_action, split_word}
 use Rattle.script.specs.Topics.{MayBeTopics}
 use Rattle.script.specs.declared.action.Action.{Action}
-use Rattle.script.specs.declared.action.Action.TheVariants.{Append, AppendIn, Join, Rejoin, Sync, Leave, Lose, Poll, Send, Deliver, Unanswered, Settle, Drain}
+use Rattle.script.specs.declared.action.Action.TheVariants.{Append, AppendIn, Join, Keep, Return, Rejoin, Sync, Leave, Lose, Poll, Send, Deliver, Unanswered, Settle, Drain}
 use Rattle.script.specs.declared.topics.Topic.{Topic}
 
 named : (name : List ℕ) → is_name name ≡ true → name_of name ≡ Some name
@@ -93,6 +93,10 @@ written_is_read topics (AppendIn i key) line known h =
     by_append topics (Some i) key line known h
 written_is_read topics (Join name) line known h =
     by_name topics (codes "join") name line (Join name) refl refl refl h
+written_is_read topics (Keep name) line known h =
+    by_name topics (codes "keep") name line (Keep name) refl refl refl h
+written_is_read topics (Return name) line known h =
+    by_name topics (codes "return") name line (Return name) refl refl refl h
 written_is_read topics (Rejoin name) line known h =
     by_name topics (codes "rejoin") name line (Rejoin name) refl refl refl h
 written_is_read topics (Sync name) line known h =

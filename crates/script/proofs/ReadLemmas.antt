@@ -62,11 +62,13 @@ member_said : (topics : List Topic) (command name line : List ℕ) → is_name n
 unfolding member_action
 member_said topics command name line h e =
     if_some (λ action. IsWritten topics action line) _ _ _ (named_by command (codes "join") name line h e)
+    (if_some (λ action. IsWritten topics action line) _ _ _ (named_by command (codes "keep") name line h e)
+    (if_some (λ action. IsWritten topics action line) _ _ _ (named_by command (codes "return") name line h e)
     (if_some (λ action. IsWritten topics action line) _ _ _ (named_by command (codes "rejoin") name line h e)
     (if_some (λ action. IsWritten topics action line) _ _ _ (named_by command (codes "sync") name line h e)
     (if_some (λ action. IsWritten topics action line) _ _ _ (named_by command (codes "leave") name line h e)
     (if_some (λ action. IsWritten topics action line) _ _ _ (named_by command (codes "lose") name line h e)
-    tt))))
+    tt))))))
 
 mail_said : (topics : List Topic) (command word : List ℕ) (n : ℕ) (line : List ℕ) → number_of word ≡ Some n → line ≡ command ⎵ word
     → IfSome (mail_action command n) (λ action. IsWritten topics action line)

@@ -5,7 +5,7 @@ use Rattle.group_machine.specs.Name.{is_name}
 use Rattle.script.specs.Grammar.{number_of}
 use Rattle.script.specs.Topics.{partition_at}
 use Rattle.script.specs.declared.action.Action.{Action}
-use Rattle.script.specs.declared.action.Action.TheVariants.{Append, AppendIn, Join, Rejoin, Sync, Leave, Lose, Poll, Send, Deliver, Unanswered, Settle, Drain}
+use Rattle.script.specs.declared.action.Action.TheVariants.{Append, AppendIn, Join, Keep, Return, Rejoin, Sync, Leave, Lose, Poll, Send, Deliver, Unanswered, Settle, Drain}
 use Rattle.script.specs.declared.topics.Topic.{Topic}
 
 -- a word and a text behind one space
@@ -71,6 +71,8 @@ abbrev pub IsWritten : List Topic → Action → List ℕ → Type 0
 IsWritten topics (Append key) line = IsAppend topics None key line
 IsWritten topics (AppendIn i key) line = IsAppend topics (Some i) key line
 IsWritten topics (Join name) line = IsNamed (codes "join") name line
+IsWritten topics (Keep name) line = IsNamed (codes "keep") name line
+IsWritten topics (Return name) line = IsNamed (codes "return") name line
 IsWritten topics (Rejoin name) line = IsNamed (codes "rejoin") name line
 IsWritten topics (Sync name) line = IsNamed (codes "sync") name line
 IsWritten topics (Leave name) line = IsNamed (codes "leave") name line

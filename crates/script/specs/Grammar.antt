@@ -8,7 +8,7 @@ use Rattle.std.specs.Str.Lines.{strip_carriage_return}
 use Rattle.std.specs.Str.Parse.{digits_value}
 use Rattle.group_machine.specs.Name.{is_name}
 use Rattle.script.specs.declared.action.Action.{Action}
-use Rattle.script.specs.declared.action.Action.TheVariants.{Append, AppendIn, Join, Rejoin, Sync, Leave, Lose, Poll, Send, Deliver, Unanswered, Settle, Drain}
+use Rattle.script.specs.declared.action.Action.TheVariants.{Append, AppendIn, Join, Keep, Return, Rejoin, Sync, Leave, Lose, Poll, Send, Deliver, Unanswered, Settle, Drain}
 use Rattle.script.specs.Topics.{partition_at, topic_named}
 use Rattle.script.specs.declared.limits.TheConstants.{MOST_DIGITS}
 use Rattle.script.specs.declared.topics.Topic.{Topic}
@@ -80,10 +80,12 @@ bare_action command =
     else if bytes_eq command (codes "drain") then Some Drain
     else None
 
--- join NAME, rejoin NAME, sync NAME, leave NAME, lose NAME
+-- join NAME, keep NAME, return NAME, rejoin NAME, sync NAME, leave NAME, lose NAME
 unfoldable pub member_action : List ℕ → List ℕ → Option Action
 member_action command name =
     if bytes_eq command (codes "join") then Some (Join name)
+    else if bytes_eq command (codes "keep") then Some (Keep name)
+    else if bytes_eq command (codes "return") then Some (Return name)
     else if bytes_eq command (codes "rejoin") then Some (Rejoin name)
     else if bytes_eq command (codes "sync") then Some (Sync name)
     else if bytes_eq command (codes "leave") then Some (Leave name)

@@ -5,7 +5,8 @@ use Rattle.std.specs.Option.{option_map_or}
 use Rattle.std.specs.Str.{bytes_eq}
 use Rattle.lane_words.specs.declared.limits.TheConstants.{MOST_PARTITIONS}
 use Rattle.group_machine.specs.Name.{is_name}
-use Rattle.script.specs.declared.limits.TheConstants.{MOST_TOPICS, NO_PARTITION}
+use Rattle.lane_words.specs.declared.limits.TheConstants.{MOST_TOPICS}
+use Rattle.script.specs.declared.limits.TheConstants.{NO_PARTITION}
 use Rattle.script.specs.declared.topics.Topic.{Topic}
 
 -- how many partitions topics have

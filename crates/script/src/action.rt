@@ -61,6 +61,10 @@ pub enum Action {
     },
     /// A member of this name joins.
     Join(Name),
+    /// A member of this name joins, and keeps its place under it.
+    Keep(Name),
+    /// A new member takes the place that is kept under this name.
+    Return(Name),
     /// The member joins the rebalance.
     Rejoin(Name),
     /// The member takes its lease.
@@ -174,6 +178,10 @@ fn member_action(command: &[u8], name: Name) -> Option<Action>
 {
     if command == b"join".as_slice() {
         Some(Action::Join(name))
+    } else if command == b"keep".as_slice() {
+        Some(Action::Keep(name))
+    } else if command == b"return".as_slice() {
+        Some(Action::Return(name))
     } else if command == b"rejoin".as_slice() {
         Some(Action::Rejoin(name))
     } else if command == b"sync".as_slice() {

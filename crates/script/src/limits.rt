@@ -6,8 +6,5 @@ pub const LONGEST_LINE: usize = 256;
 /// The most digits of a number.
 pub const MOST_DIGITS: usize = 10;
 
-/// The most topics.
-pub const MOST_TOPICS: usize = 8;
-
 /// The partition that one past its topic's is read as. It is never held.
 pub const NO_PARTITION: u32 = u32::MAX;

@@ -269,6 +269,3 @@ fn is_among(names: &[Name], name: &Name) -> bool
 {
     names.iter().any(|other| other.text() == name.text())
 }
-
-#[cfg(test)]
-mod tests;

@@ -63,6 +63,3 @@ fn lines_in(alloc: Global, topics: &[Topic], bytes: &[u8]) -> Result<Vec<Line>, 
     }
     Ok(lines)
 }
-
-#[cfg(test)]
-mod tests;

@@ -29,6 +29,7 @@ use Rattle.script.specs.declared.plan.Change.TheVariants.{Join, Leave, Lose}
 use Rattle.workers.specs.Plans.{changed_by, number_of, settled, settled_from}
 use Rattle.workers.specs.Progress.{is_at_rest, is_empty}
 use Rattle.workers.specs.Private.Applied.{change_answer}
+use Rattle.group_machine.proofs.NameLemmas.{number_reseated}
 use Rattle.workers.proofs.Rosters.{HasRoster, next_settled, present_there, progress_roster, slots_are}
 
 -- ---- at rest
@@ -55,15 +56,8 @@ rest_is_end g valid rest = go (is_anybody g) (is_settled g) refl refl
     go false now some here = refl
 
 -- ---- numbers without flags
-position_reseated : (m : ℕ) (f : ℕ → Option Seat → Option Seat) (name : List ℕ) (slots : List Slot) → position_or_len (λ s. bytes_eq s.name name) (reseated_from m f slots) ≡ position_or_len (λ s. bytes_eq s.name name) slots
-position_reseated m f name [] = refl
-position_reseated m f name (s ∷ slots) = ap (λ k. cond (not (bytes_eq s.name name)) (1 + k) 0) (position_reseated (suc m) f name slots)
-
 number_bare : (g : GroupState) (name : List ℕ) → number_of (bare g) name ≡ number_of g name
-number_bare g name =
-    ap (λ o. unwrap_or (option_map (λ k. k + 1) o) 0)
-    (ap (λ k. cond (nat_lt k (length (bare g).slots)) (Some k) None) (position_reseated 1 (λ m. option_map bare_seat) name g.slots)
-    ∙ ap (λ n. cond (nat_lt (position_or_len (λ s. bytes_eq s.name name) g.slots) n) (Some (position_or_len (λ s. bytes_eq s.name name) g.slots)) None) (length_reseated (λ m. option_map bare_seat) g.slots))
+number_bare g name = ap (λ o. unwrap_or o 0) (number_reseated 1 1 (λ m. option_map bare_seat) g.slots name)
 
 -- ---- a line, and the line of the group without its flags
 changed_bare : (g : GroupState) (line : Change) → IsValidGroup g → finish (changed_by g line) ≡ finish (changed_by (bare g) line)

@@ -145,6 +145,7 @@ answered_within c l p (Err (r.NoSuchColumn nth)) was told = was
 answered_within c l p (Err (r.BadCsv nth)) was told = was
 answered_within c l p (Err (r.NobodyLeft line)) was told = was
 answered_within c l p (Err (r.NoSuchTopic nth)) was told = was
+answered_within c l p (Err r.NotKept) was told = was
 
 -- an answer leaves the number of partitions
 pub answered_partitions : (c : ConsumerState) (p : ℕ) (reply : Result ℕ Refusal) → (answered_by c p reply).partitions ≡ c.partitions
@@ -182,3 +183,4 @@ answered_partitions c p (Err (r.NoSuchColumn nth)) = refl
 answered_partitions c p (Err (r.BadCsv nth)) = refl
 answered_partitions c p (Err (r.NobodyLeft line)) = refl
 answered_partitions c p (Err (r.NoSuchTopic nth)) = refl
+answered_partitions c p (Err r.NotKept) = refl

@@ -8,7 +8,7 @@ use Rattle.group_machine.specs.Steps.{joined_by, left_by}
 use Rattle.script.specs.declared.plan.Change.{Change}
 use Rattle.script.specs.declared.plan.Change.TheVariants.{Join, Leave, Lose}
 
--- the member that joined under a name; 0, which is nobody's number, where none did
+-- the newest member of a name; 0, which is nobody's number, where there is none
 abbrev pub number_of : GroupState → List ℕ → ℕ
 number_of g name = unwrap_or (member_named g name) 0
 

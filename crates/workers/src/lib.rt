@@ -10,6 +10,3 @@ mod run;
 pub use gate::{Gate, GateAnswer};
 pub use planned::Planned;
 pub use run::{Outcome, run_cluster};
-
-#[cfg(test)]
-mod tests;

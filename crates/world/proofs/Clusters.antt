@@ -1,9 +1,9 @@
 -- Clusters stay valid, and what a step of the cluster leaves for consumers and mail.
-use Rattle.std.proofs.Common.{◌≡◌, ◌∙◌, ◌+◌, ◌<◌, ◌≤◌, ℕ, Bool, true, false, List, [], ◌∷◌, ◌++◌, Result, Ok, Err, length, slice_index_or, refl, sym, ap, inl, inr, arith}
+use Rattle.std.proofs.Common.{◌≡◌, ◌∙◌, ◌+◌, ◌<◌, ◌≤◌, ◌⊎◌, ℕ, Bool, true, false, List, [], ◌∷◌, ◌++◌, Some, Result, Ok, Err, length, slice_index_or, refl, sym, ap, inl, inr, arith}
 use Rattle.std.specs.Prelude.{nat_lt, is_some, slice_set, if◌then◌else◌}
 use Rattle.std.specs.Result.{result_and}
 use Rattle.std.proofs.Math.ListN.{length-set}
-use Rattle.std.proofs.lemmas.Bool.Decides.{nat_tests}
+use Rattle.std.proofs.lemmas.Bool.Decides.{eqb_tells, nat_tests}
 use Rattle.std.proofs.lemmas.List.{append-nil, get_or-set_other, get_or-set_same}
 use Rattle.lane_words.specs.declared.limits.TheConstants.{LONGEST_KEY}
 use Rattle.lane_words.specs.declared.Refusal.{Refusal}
@@ -16,19 +16,28 @@ use Rattle.partition_log.proofs.Valid.{is_place, log-other, log-same, place-belo
 use Rattle.commit_store.specs.Commits.{Commits, Fits, commit_answer, committed_at, raised}
 use Rattle.commit_store.proofs.Answered.{accepted}
 use Rattle.commit_store.proofs.Exact.{commit-exact}
-use Rattle.group_machine.specs.State.{GroupState, is_present}
-use Rattle.group_machine.specs.Steps.{join_answer, joined_by, leave_answer, left_by, rejoin_answer, rejoined_by, synced_by}
-use Rattle.group_machine.specs.Others.{LeavesMember, LeavesOthers}
+use Rattle.group_machine.specs.State.{GroupState, is_present, kept_member}
+use Rattle.group_machine.specs.Steps.{join_answer, joined_by, joined_kept_by, leave_answer, left_by, rejoin_answer, rejoined_by, synced_by, take_over_answer, taken_over_by}
+use Rattle.group_machine.specs.Others.{IsHandedOn, LeavesMember, LeavesOthers}
 use Rattle.group_machine.specs.Cluster.{ClusterState, CommitTerms, IsValidCluster, IsValidLogs, append_answer, appended_to, cluster_commit_answer, committed_by, fence, with_group}
 use Rattle.group_machine.proofs.ClusterLemmas.{append-kept, partition-below, regrouped}
 use Rattle.group_machine.proofs.FinishLemmas as finish
 use Rattle.group_machine.proofs.OtherLemmas.{accepted_join, accepted_leave, join_leaves, leave_leaves, rejoin_leaves}
 use Rattle.group_machine.proofs.StepLemmas.{join_good, leave_good, rejoin_good, sync_good}
+use Rattle.group_machine.proofs.TakeOverLemmas.{handed_leaves, kept_join_good, kept_join_leaves, take_over_good, take_over_hands}
 
 -- ---- steps of the group
 pub joined_valid : (s : ClusterState) (name : List ℕ) (n : ℕ) → IsValidCluster s → join_answer s.group name ≡ Ok n → IsValidCluster (with_group s (joined_by s.group name))
 joined_valid s name n v ok =
     regrouped s (joined_by s.group name) v (join_good s.group name v.good (accepted_join s.group name n ok).0) (join_leaves s.group name n v.good ok).partitions
+
+pub joined_kept_valid : (s : ClusterState) (name : List ℕ) (n : ℕ) → IsValidCluster s → join_answer s.group name ≡ Ok n → IsValidCluster (with_group s (joined_kept_by s.group name))
+joined_kept_valid s name n v ok =
+    regrouped s (joined_kept_by s.group name) v (kept_join_good s.group name v.good (accepted_join s.group name n ok).0) (kept_join_leaves s.group name n v.good ok).partitions
+
+pub taken_over_valid : (s : ClusterState) (name : List ℕ) (m n : ℕ) → IsValidCluster s → kept_member s.group name ≡ Some m → take_over_answer s.group name ≡ Ok n → IsValidCluster (with_group s (taken_over_by s.group name))
+taken_over_valid s name m n v kept ok =
+    regrouped s (taken_over_by s.group name) v (take_over_good s.group name m n v.good kept ok) (take_over_hands s.group name m n kept ok).partitions
 
 pub rejoined_valid : (s : ClusterState) (m generation : ℕ) (claim : PartitionSet) → IsValidCluster s → rejoin_answer s.group m generation claim ≡ Ok tt → IsValidCluster (with_group s (rejoined_by s.group m))
 rejoined_valid s m generation claim v ok =
@@ -90,10 +99,12 @@ committed_valid s c end v ok =
       };
     }
 
--- ---- what a step of the cluster leaves
+-- ---- what a step of the cluster leaves of consumers and mail: the members that are still present, but
+-- for the one that the step is about
 pub record Leaves (s new : ClusterState) (about : ℕ) : Type 0 where
   pub valid : IsValidCluster new
-  pub others : LeavesOthers s.group new.group about
+  pub partitions : new.group.partitions ≡ s.group.partitions
+  pub others : (n : ℕ) → (n ≡ about → ⊥) → is_present new.group n ≡ true → LeavesMember s.group new.group n
   pub committed : (p : ℕ) → committed_at s.store p ≤ committed_at new.store p
   pub logs : (p : ℕ) → (more : List ℕ) × (log_at new.logs p ≡ log_at s.logs p ++ more)
 
@@ -104,16 +115,34 @@ same_member g n = record {
   either = inl (record { generation = refl; joined = refl; synced = refl; granted = refl; assigned = refl });
 }
 
-pub same_group : (g : GroupState) (about : ℕ) → LeavesOthers g g about
-same_group g about = record { partitions = refl; rises = omega arith; others = λ n ne. same_member g n }
-
 same_log : (xs : List ℕ) → (more : List ℕ) × (xs ≡ xs ++ more)
 same_log xs = ([], sym (append-nil xs))
 
 pub leaves_by_group : (s : ClusterState) (g : GroupState) (about : ℕ) → IsValidCluster (with_group s g) → LeavesOthers s.group g about → Leaves s (with_group s g) about
-leaves_by_group s g about valid others = record {
+leaves_by_group s g about valid left = record {
   valid = valid;
-  others = others;
+  partitions = left.partitions;
+  others = λ n ne here. left.others n ne;
+  committed = λ p. omega arith;
+  logs = λ p. same_log (log_at s.logs p);
+}
+
+pub is_it : (m n : ℕ) → (n ≡ m) ⊎ (n ≡ m → ⊥)
+is_it m n =
+    elim (eqb_tells n m) [
+      | inl t ↦ inl t.1
+      | inr f ↦ inr (λ e. f.1 e)
+    ]
+
+-- a place that is handed on: whose it was is gone
+pub leaves_handed_on : (s : ClusterState) (g : GroupState) (m n : ℕ) → IsValidCluster (with_group s g) → IsHandedOn s.group g m n → Leaves s (with_group s g) n
+leaves_handed_on s g m n valid on = record {
+  valid = valid;
+  partitions = on.partitions;
+  others = λ k ne here. elim (is_it m k) [
+    | inl old ↦ absurd (let gone : is_present g k ≡ false = ap (is_present g) old ∙ on.place.gone in cc)
+    | inr other ↦ handed_leaves s.group g m n on k other ne
+  ];
   committed = λ p. omega arith;
   logs = λ p. same_log (log_at s.logs p);
 }
@@ -121,7 +150,8 @@ leaves_by_group s g about valid others = record {
 pub nothing_leaves : (s : ClusterState) (about : ℕ) → IsValidCluster s → Leaves s s about
 nothing_leaves s about valid = record {
   valid = valid;
-  others = same_group s.group about;
+  partitions = refl;
+  others = λ n ne here. same_member s.group n;
   committed = λ p. omega arith;
   logs = λ p. same_log (log_at s.logs p);
 }
@@ -136,7 +166,8 @@ offset_rises xs i n j lt =
 pub commit_leaves : (s : ClusterState) (c : CommitTerms) (end about : ℕ) → IsAccepted s c end → Leaves s (committed_by s c) about
 commit_leaves s c end about a = record {
   valid = a.valid;
-  others = same_group s.group about;
+  partitions = refl;
+  others = λ n ne here. same_member s.group n;
   committed = λ p. offset_rises s.store.offsets c.partition (length c.ids) p a.below;
   logs = λ p. same_log (log_at s.logs p);
 }
@@ -157,7 +188,8 @@ offsets_same false store = refl
 pub append_leaves : (s : ClusterState) (keyed : Keyed) (at : ℕ × ℕ) (about : ℕ) → IsValidCluster s → IsOfTopic s.logs keyed → append_answer s.logs keyed ≡ Ok at → Leaves s (appended_to s keyed) about
 append_leaves s keyed at about v topic ok = record {
   valid = appended_valid s keyed at v topic ok;
-  others = same_group s.group about;
+  partitions = refl;
+  others = λ n ne here. same_member s.group n;
   committed = λ p. omega (arith, ap (λ (os : List ℕ). slice_index_or os p 0) (offsets_same (is_known s.logs.keys keyed.1) s.store));
   logs = λ p. log_grows s.logs keyed p v.logs topic;
 }

@@ -1,22 +1,25 @@
 -- A world stays valid, whatever event comes and whatever is replied to it.
-use Rattle.std.proofs.Common.{◌≡◌, ◌⊎◌, ◌∙◌, ◌+◌, ◌-◌, ◌<◌, ◌≤◌, ℕ, zero, suc, Bool, true, false, List, [], ◌∷◌, ◌++◌, Option, Some, None, Result, Ok, Err, length, drop, refl, sym, ap, subst, inl, inr, arith, length-append, length-drop}
-use Rattle.std.specs.Prelude.{is_none, nat_le, nat_lt, ◌==◌, slice_range, if◌then◌else◌}
+use Rattle.std.proofs.Common.{◌≡◌, ◌∙◌, ◌+◌, ◌-◌, ◌<◌, ◌≤◌, ℕ, zero, suc, Bool, true, false, List, [], ◌∷◌, ◌++◌, Option, Some, None, Result, Ok, Err, length, drop, refl, sym, ap, subst, inl, inr, arith, length-append, length-drop}
+use Rattle.std.specs.Prelude.{is_none, is_some, not, nat_le, nat_lt, ◌==◌, slice_range, if◌then◌else◌}
 use Rattle.std.specs.Result.{result_and}
 use Rattle.std.proofs.lemmas.Bool.{cases_lt}
-use Rattle.std.proofs.lemmas.Bool.Decides.{eqb_tells, nat_tests}
+use Rattle.std.proofs.lemmas.Bool.Decides.{nat_tests}
 use Rattle.std.proofs.lemmas.List.{get_or-set_same, length-take-le}
 use Rattle.std.proofs.lemmas.Option.{slice_get_within}
 use Rattle.lane_words.specs.Answers.{Answers}
+use Rattle.lane_words.specs.declared.limits.TheConstants.{MOST_MEMBERS}
 use Rattle.lane_words.specs.declared.Refusal.{Refusal}
 use Rattle.lane_words.specs.declared.Refusal.TheVariants as r
 use Rattle.partition_log.specs.Keys.{Keyed, of_first}
 use Rattle.partition_log.specs.Logs.{PartitionLogs, log_at}
 use Rattle.commit_store.specs.Commits.{committed_at}
-use Rattle.group_machine.specs.State.{is_present}
-use Rattle.group_machine.specs.Steps.{join_answer, joined_by, leave_answer, left_by, rejoin_answer, rejoined_by, synced_by}
+use Rattle.group_machine.specs.State.{GroupState, is_present, kept_member}
+use Rattle.group_machine.specs.Others.{IsNewcomer}
+use Rattle.group_machine.specs.Steps.{join_answer, joined_by, joined_kept_by, leave_answer, left_by, rejoin_answer, rejoined_by, synced_by, take_over_answer, taken_over_by}
 use Rattle.group_machine.specs.Cluster.{ClusterState, CommitTerms, LeaseTerms, append_answer, appended_to, cluster_commit_answer, cluster_sync_answer, committed_by, lease_of, with_group}
 use Rattle.group_machine.proofs.OtherLemmas.{accepted_join, join_brings, join_leaves, leave_leaves, leave_takes_out, rejoin_leaves, sync_leaves}
 use Rattle.group_machine.proofs.StepLemmas.{any_of_present}
+use Rattle.group_machine.proofs.TakeOverLemmas.{accepted_take_over, kept_join_brings, kept_join_leaves, take_over_hands}
 use Rattle.consumer.specs.Consumer.{ConsumerState, answered_by, base_of, commit_of, given_up, hold_answer, joined_as, leased, out_of_group, poll_answer, polled, position_of, sendable_answer}
 use Rattle.consumer.proofs.Changed.{poll_leaves, realign_leaves}
 use Rattle.world.specs.declared.event.Event.{Event}
@@ -25,27 +28,20 @@ use Rattle.world.specs.declared.event.Reply.{Reply}
 use Rattle.world.specs.declared.event.Reply.TheVariants as reply
 use Rattle.world.specs.declared.event.TheConstants.{MOST_COMMITS}
 use Rattle.world.specs.World.{WorldState, commit_at, consumer_of, with_cluster}
-use Rattle.world.specs.Steps.{Comes, MayCome, NeverFaults, Outcome, Step, append_event, append_in_event, append_outcome, asked, deliver_event, deliver_unanswered_event, delivered, delivered_unanswered, delivery, dropped, join_event, join_outcome, leave_event, leave_outcome, lose_event, lose_outcome, mail_answer, poll_event, poll_known, poll_outcome, refused_by_cluster, refused, rejoin_event, rejoin_outcome, send_event, send_known, send_outcome, sync_event, sync_outcome}
+use Rattle.world.specs.Steps.{Comes, MayCome, NeverFaults, Outcome, Step, append_event, append_in_event, append_outcome, asked, deliver_event, deliver_unanswered_event, delivered, delivered_unanswered, delivery, dropped, entry_outcome, join_event, join_kept_event, joined_outcome, leave_event, leave_outcome, lose_event, lose_outcome, mail_answer, poll_event, poll_known, poll_outcome, refused_by_cluster, refused, rejoin_event, rejoin_outcome, send_event, send_known, send_outcome, sync_event, sync_outcome, take_over_event}
 use Rattle.world.specs.Valid.{IsSent, IsValidWorld}
 use Rattle.std.proofs.lemmas.Bool.Decides.{nat_tests}
 use Rattle.partition_log.specs.Logs.{IsOfTopic}
 use Rattle.partition_log.proofs.Stored.{first-topic}
-use Rattle.world.proofs.Clusters.{Leaves, append_leaves, commit_leaves, committed_valid, joined_valid, leaves_by_group, left_valid, nothing_leaves, rejoined_valid, synced_valid}
+use Rattle.world.proofs.Clusters.{Leaves, append_leaves, commit_leaves, committed_valid, is_it, joined_kept_valid, joined_valid, leaves_by_group, leaves_handed_on, left_valid, nothing_leaves, rejoined_valid, synced_valid, taken_over_valid}
 use Rattle.world.proofs.Fine.{join_fine, rejoin_fine, sync_fine}
 use Rattle.world.proofs.Groups.{in_step_same}
 use Rattle.world.proofs.Lists.{get_push}
 use Rattle.world.proofs.Lookups.{consumer_more}
 use Rattle.world.proofs.Outcomes.{leased_to}
 use Rattle.world.proofs.Refusals.{commit_mismatch, commit_never_faults, commit_unknown, leave_unknown, rejoin_accepted, rejoin_never_faults, rejoin_unknown, sync_present, sync_unknown}
-use Rattle.world.proofs.Slots.{joined_slots, left_slots, rejoined_slots, synced_slots}
+use Rattle.world.proofs.Slots.{joined_kept_slots, joined_slots, left_slots, rejoined_slots, synced_slots, taken_over_slots}
 use Rattle.world.proofs.Stays.{IsFine, both_stay, consumer_stays, out_fine, stays}
-
-is_it : (m n : ℕ) → (n ≡ m) ⊎ (n ≡ m → ⊥)
-is_it m n =
-    elim (eqb_tells n m) [
-      | inl t ↦ inl t.1
-      | inr f ↦ inr (λ e. f.1 e)
-    ]
 
 -- a step of the cluster that no consumer is told of
 alone_stays : (w : WorldState) (new : ClusterState) (m : ℕ) → IsValidWorld w → Leaves w.cluster new m → length new.group.slots ≡ length w.cluster.group.slots
@@ -91,24 +87,22 @@ number_within : (w : WorldState) (n : ℕ) (c : ConsumerState) → consumer_of w
 number_within w zero c e = omega arith
 number_within w (suc i) c e = omega (arith, slice_get_within w.consumers i c e)
 
-joined_world : (w : WorldState) (name : List ℕ) (m : ℕ) → IsValidWorld w → join_answer w.cluster.group name ≡ Ok m → IsValidWorld (join_outcome w name (Ok m)).after
-joined_world w name m v is =
+entered_world : (told : ℕ → Reply) (group : GroupState) (w : WorldState) (m : ℕ) → IsValidWorld w → Leaves w.cluster (with_group w.cluster group) m → IsNewcomer w.cluster.group group m → m ≡ length w.cluster.group.slots + 1
+    → length group.slots ≡ length w.cluster.group.slots + 1 → IsValidWorld (entry_outcome told group w (Ok m)).after
+entered_world told group w m v leaves brings next slots =
     let g = w.cluster.group in
-    let new : ClusterState = with_group w.cluster (joined_by g name) in
-    let valid = joined_valid w.cluster name m v.cluster is in
-    let brings = join_brings g name m v.cluster.good is in
-    let left = join_leaves g name m v.cluster.good is in
-    let fine = join_fine w.cluster new m valid left.partitions brings (valid.good.counted (any_of_present new.group m brings.present)) in
-    let number : m ≡ length w.consumers + 1 = omega (arith, (accepted_join g name m is).1, v.a_consumer_each) in
+    let new : ClusterState = with_group w.cluster group in
+    let fine = join_fine w.cluster new m leaves.valid leaves.partitions brings (leaves.valid.good.counted (any_of_present group m brings.present)) in
+    let number : m ≡ length w.consumers + 1 = omega (arith, next, v.a_consumer_each) in
     let newcomer : ConsumerState = joined_as (out_of_group g.partitions) m in
-    stays w (join_outcome w name (Ok m)).after m v (leaves_by_group w.cluster (joined_by g name) m valid left) refl
-    (length-append w.consumers (newcomer ∷ []) ∙ ap (λ n. n + 1) v.a_consumer_each ∙ sym (joined_slots g name))
+    stays w (entry_outcome told group w (Ok m)).after m v leaves refl
+    (length-append w.consumers (newcomer ∷ []) ∙ ap (λ n. n + 1) v.a_consumer_each ∙ sym slots)
     (λ n c e. elim (consumer_more w n newcomer c (lookup n c e)) [
       | inl at ↦ inl (at.0 ∙ sym number, subst (IsFine new m) (sym at.1) fine)
       | inr old ↦ inr ((λ same. omega (arith, same, number, number_within w n c old)), old)
     ])
   where
-    lookup : (n : ℕ) (c : ConsumerState) → consumer_of (join_outcome w name (Ok m)).after n ≡ Some c
+    lookup : (n : ℕ) (c : ConsumerState) → consumer_of (entry_outcome told group w (Ok m)).after n ≡ Some c
         → consumer_of (record w { consumers = w.consumers ++ joined_as (out_of_group w.cluster.group.partitions) m ∷ [] }) n ≡ Some c
     lookup zero c e = e
     lookup (suc i) c e = e
@@ -116,8 +110,43 @@ joined_world w name m v is =
 join_stays : (w : WorldState) (name : List ℕ) → IsValidWorld w → IsValidWorld (join_event w name).after
 join_stays w name v = go (join_answer w.cluster.group name) refl
   where
-    go : (a : Result ℕ Refusal) → join_answer w.cluster.group name ≡ a → IsValidWorld (join_outcome w name a).after
-    go (Ok m) is = joined_world w name m v is
+    go : (a : Result ℕ Refusal) → join_answer w.cluster.group name ≡ a → IsValidWorld (joined_outcome (joined_by w.cluster.group name) w a).after
+    go (Ok m) is =
+        let g = w.cluster.group in
+        let leaves = leaves_by_group w.cluster (joined_by g name) m (joined_valid w.cluster name m v.cluster is) (join_leaves g name m v.cluster.good is) in
+        entered_world (λ n. reply.Joined n) (joined_by g name) w m v leaves (join_brings g name m v.cluster.good is) (accepted_join g name m is).1 (joined_slots g name)
+    go (Err why) is = v
+
+join_kept_stays : (w : WorldState) (name : List ℕ) → IsValidWorld w → IsValidWorld (join_kept_event w name).after
+join_kept_stays w name v = go (join_answer w.cluster.group name) refl
+  where
+    go : (a : Result ℕ Refusal) → join_answer w.cluster.group name ≡ a → IsValidWorld (joined_outcome (joined_kept_by w.cluster.group name) w a).after
+    go (Ok m) is =
+        let g = w.cluster.group in
+        let leaves = leaves_by_group w.cluster (joined_kept_by g name) m (joined_kept_valid w.cluster name m v.cluster is) (kept_join_leaves g name m v.cluster.good is) in
+        entered_world (λ n. reply.Joined n) (joined_kept_by g name) w m v leaves (kept_join_brings g name m v.cluster.good is) (accepted_join g name m is).1 (joined_kept_slots g name)
+    go (Err why) is = v
+
+-- ---- take-overs
+-- somebody kept the place that is taken over
+keeper_of : (g : GroupState) (name : List ℕ) (n : ℕ) → take_over_answer g name ≡ Ok n → (m : ℕ) × (kept_member g name ≡ Some m)
+keeper_of g name n ok = go (kept_member g name) refl ok
+  where
+    go : (o : Option ℕ) → kept_member g name ≡ o → ◌≡◌ {A = Result ℕ Refusal} (if not (is_some o) then Err r.NotKept else if nat_le MOST_MEMBERS (length g.slots) then Err r.TooManyMembers else Ok (length g.slots + 1)) (Ok n)
+        → (m : ℕ) × (kept_member g name ≡ Some m)
+    go None is e = absurd (cc e)
+    go (Some m) is e = (m, is)
+
+take_over_stays : (w : WorldState) (name : List ℕ) → IsValidWorld w → IsValidWorld (take_over_event w name).after
+take_over_stays w name v = go (take_over_answer w.cluster.group name) refl
+  where
+    go : (a : Result ℕ Refusal) → take_over_answer w.cluster.group name ≡ a → IsValidWorld (entry_outcome (λ n. reply.TakenOver n) (taken_over_by w.cluster.group name) w a).after
+    go (Ok n) is =
+        let g = w.cluster.group in
+        let keeper = keeper_of g name n is in
+        let hands = take_over_hands g name keeper.0 n keeper.1 is in
+        let leaves = leaves_handed_on w.cluster (taken_over_by g name) keeper.0 n (taken_over_valid w.cluster name keeper.0 n v.cluster keeper.1 is) hands in
+        entered_world (λ k. reply.TakenOver k) (taken_over_by g name) w n v leaves hands.newcomer (omega (arith, (accepted_take_over g name n is).1)) (taken_over_slots g name keeper.0 keeper.1)
     go (Err why) is = v
 
 -- ---- losses
@@ -349,6 +378,8 @@ pub valid_after : (w : WorldState) (e : Event) (told : Reply) (w2 : WorldState) 
 valid_after w (event.Append key) told w2 v step = may_come w (append_event w (of_first key.now)) told w2 v step (append_stays w (of_first key.now) v (first-topic w.cluster.logs key.now v.cluster.logs))
 valid_after w (event.AppendIn topic key) told w2 v step = may_come w (append_in_event w (topic, key.now)) told w2 v step (append_in_stays w (topic, key.now) v)
 valid_after w (event.Join name) told w2 v step = may_come w (join_event w name.now) told w2 v step (join_stays w name.now v)
+valid_after w (event.JoinKept name) told w2 v step = may_come w (join_kept_event w name.now) told w2 v step (join_kept_stays w name.now v)
+valid_after w (event.TakeOver name) told w2 v step = may_come w (take_over_event w name.now) told w2 v step (take_over_stays w name.now v)
 valid_after w (event.Sync m) told w2 v step = may_come w (sync_event w m) told w2 v step (sync_stays w m v)
 valid_after w (event.Rejoin m) told w2 v step = may_come w (rejoin_event w m) told w2 v step (rejoin_stays w m v)
 valid_after w (event.Leave m) told w2 v step = may_come w (leave_event w m) told w2 v step (leave_stays w m v)
@@ -369,6 +400,8 @@ pub never_faults : (w : WorldState) (e : Event) → IsValidWorld w → NeverFaul
 never_faults w (event.Append key) v = tt
 never_faults w (event.AppendIn topic key) v = tt
 never_faults w (event.Join name) v = tt
+never_faults w (event.JoinKept name) v = tt
+never_faults w (event.TakeOver name) v = tt
 never_faults w (event.Sync m) v = tt
 never_faults w (event.Rejoin m) v = λ c known. rejoin_never_faults w.cluster.group m c.generation c.assigned
     (λ here same. (v.present m c here known).synced.0 same)

@@ -108,6 +108,8 @@ step_comes : (w : WorldState) (e : Event) (told : Reply) (w2 : WorldState) → S
 step_comes w (event.Append key) told w2 s = s
 step_comes w (event.AppendIn topic key) told w2 s = s
 step_comes w (event.Join name) told w2 s = s
+step_comes w (event.JoinKept name) told w2 s = s
+step_comes w (event.TakeOver name) told w2 s = s
 step_comes w (event.Sync m) told w2 s = s
 step_comes w (event.Rejoin m) told w2 s = s
 step_comes w (event.Leave m) told w2 s = s
@@ -316,6 +318,7 @@ draining_is batch w result w2 f = f
 pub no_refusal : (told : Reply) → ((why : Refusal) → told ≡ reply.Refused why → ⊥) → answer_in told ≡ Ok tt
 no_refusal (reply.Appended p o) h = refl
 no_refusal (reply.Joined m) h = refl
+no_refusal (reply.TakenOver m) h = refl
 no_refusal (reply.Leased g) h = refl
 no_refusal reply.Rejoined h = refl
 no_refusal reply.Left h = refl

@@ -7,6 +7,7 @@ pub mod Following
 pub mod Groups
 pub mod Kept
 pub mod Lists
+pub mod Loading
 pub mod Lookups
 pub mod Outcomes
 pub mod Refusals

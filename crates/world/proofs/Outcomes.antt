@@ -10,12 +10,13 @@ use Rattle.lane_words.specs.declared.Refusal.{Refusal}
 use Rattle.lane_words.specs.declared.Refusal.TheVariants as r
 use Rattle.consumer.specs.Consumer.{ConsumerState, commit_of, joined_as, leased, out_of_group, poll_answer, polled, send_answer, sendable_answer}
 use Rattle.group_machine.specs.Cluster.{ClusterState, CommitTerms, LeaseTerms, cluster_sync_answer, lease_of, with_group}
-use Rattle.group_machine.specs.Steps.{join_answer, joined_by, rejoin_answer, sync_answer, synced_by}
+use Rattle.group_machine.specs.State.{GroupState}
+use Rattle.group_machine.specs.Steps.{rejoin_answer, sync_answer, synced_by}
 use Rattle.world.specs.declared.event.TheConstants.{MOST_COMMITS}
 use Rattle.world.specs.declared.event.Reply.{Reply}
 use Rattle.world.specs.declared.event.Reply.TheVariants as reply
 use Rattle.world.specs.World.{WorldState, consumer_of, on_consumer, with_cluster}
-use Rattle.world.specs.Steps.{Comes, MayCome, Outcome, asked, both, join_event, join_outcome, poll_event, poll_known, poll_outcome, refused, refused_by_cluster, rejoin_event, rejoin_outcome, send_event, send_known, send_outcome, sync_event, sync_outcome}
+use Rattle.world.specs.Steps.{Comes, MayCome, Outcome, asked, both, entry_outcome, poll_event, poll_known, poll_outcome, refused, refused_by_cluster, rejoin_event, rejoin_outcome, send_event, send_known, send_outcome, sync_event, sync_outcome}
 use Rattle.world.specs.Private.Lookups.{IsAsking}
 
 -- the world with this consumer at an index
@@ -128,15 +129,14 @@ pub is_in_as : (member : Option ℕ) (m : ℕ) → is_none member ≡ false → 
 is_in_as None m some number = absurd (cc some)
 is_in_as (Some n) m some number = ap (λ k. Some k) (number n refl)
 
--- ---- joins
-pub join_ok : (w : WorldState) (name : List ℕ) (member : ℕ) (c new : ConsumerState) (s : ClusterState) (consumers : List ConsumerState) → Answers (join_answer w.cluster.group name) (Ok member)
-    → s ≡ with_group w.cluster (joined_by w.cluster.group name) → c ≡ out_of_group w.cluster.group.partitions → new ≡ joined_as c member → consumers ≡ w.consumers ++ new ∷ []
-    → MayCome w (join_event w name) (reply.Joined member) (record { cluster = s; consumers = consumers; mail = w.mail })
-join_ok w name member c new s consumers (inr wrong) stepped out is grown = absurd (cc wrong)
-join_ok w name member c new s consumers (inl answer) stepped out is grown =
-    let event : join_event w name ≡ join_outcome w name (Ok member) = ap (join_outcome w name) (sym answer) in
-    let made : new ≡ joined_as (out_of_group w.cluster.group.partitions) member = is ∙ ap (λ (x : ConsumerState). joined_as x member) out in
-    let after : ◌≡◌ {A = WorldState} (record { cluster = s; consumers = consumers; mail = w.mail }) (join_outcome w name (Ok member)).after =
+-- ---- members that come in
+pub entered : (told : ℕ → Reply) (group : GroupState) (w : WorldState) (answer : Result ℕ Refusal) (member : ℕ) (s : ClusterState) (consumers : List ConsumerState) → Answers answer (Ok member)
+    → s ≡ with_group w.cluster group → consumers ≡ w.consumers ++ joined_as (out_of_group w.cluster.group.partitions) member ∷ []
+    → MayCome w (entry_outcome told group w answer) (told member) (record { cluster = s; consumers = consumers; mail = w.mail })
+entered told group w answer member s consumers (inr wrong) stepped grown = absurd (cc wrong)
+entered told group w answer member s consumers (inl same) stepped grown =
+    let event : entry_outcome told group w answer ≡ entry_outcome told group w (Ok member) = ap (entry_outcome told group w) (sym same) in
+    let after : ◌≡◌ {A = WorldState} (record { cluster = s; consumers = consumers; mail = w.mail }) (entry_outcome told group w (Ok member)).after =
     ap (λ (t : ClusterState). record w { cluster = t; consumers = consumers }) stepped
-    ∙ ap (λ (cs : List ConsumerState). record w { cluster = with_group w.cluster (joined_by w.cluster.group name); consumers = cs }) (grown ∙ ap (λ x. w.consumers ++ x ∷ []) made) in
+    ∙ ap (λ (cs : List ConsumerState). record w { cluster = with_group w.cluster group; consumers = cs }) grown in
     inl (ap (λ (o : Outcome). o.reply) (sym event), after ∙ ap (λ (o : Outcome). o.after) (sym event))

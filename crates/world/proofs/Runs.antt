@@ -1,28 +1,25 @@
 -- Runs of events: one step more, and what they append.
-use Rattle.std.proofs.Common.{◌≡◌, ◌∙◌, ◌+◌, ◌<◌, ℕ, suc, List, [], ◌∷◌, ◌++◌, Option, Some, None, Result, Ok, Err, length, take, drop, map, get_or, append_assoc, refl, sym, ap, subst, inl, inr}
-use Rattle.std.specs.Borrow.{Bor}
-use Rattle.std.proofs.lemmas.List.{append-nil, map-append, take_more}
-use Rattle.std.proofs.Math.Seq.{drop-cons}
-use Rattle.lane_words.specs.Answers.{Answers}
+use Rattle.std.proofs.Common.{◌≡◌, ◌∙◌, ◌+◌, ◌<◌, ℕ, List, [], ◌∷◌, ◌++◌, Option, Some, None, Result, Ok, Err, length, take, get_or, append_assoc, refl, sym, ap, subst, inl, inr}
+use Rattle.std.proofs.lemmas.List.{append-nil, take_more}
 use Rattle.lane_words.specs.declared.Refusal.{Refusal}
 use Rattle.lane_words.specs.declared.Refusal.TheVariants as r
-use Rattle.std.proofs.lemmas.List.{get_or-map}
 use Rattle.std.specs.Prelude.{nat_lt, if◌then◌else◌}
 use Rattle.std.proofs.Common.{Bool, true, false}
-use Rattle.partition_log.specs.Keys.{Key, Keyed, of_first}
-use Rattle.partition_log.specs.Logs.{IsOfTopic, PartitionLogs, place_in, place_in_topic}
+use Rattle.partition_log.specs.Keys.{Keyed, of_first}
+use Rattle.partition_log.specs.Logs.{IsOfTopic}
 use Rattle.partition_log.proofs.Stored.{first-topic}
 use Rattle.partition_log.proofs.History.{history}
-use Rattle.group_machine.specs.Cluster.{AreLogsOf, ClusterState, GrowByRecords, CommitTerms, LeaseTerms, append_answer, appended_to, cluster_commit_answer, cluster_sync_answer}
-use Rattle.group_machine.specs.Steps.{join_answer, leave_answer, rejoin_answer}
+use Rattle.group_machine.specs.Cluster.{AreLogsOf, ClusterState, CommitTerms, LeaseTerms, append_answer, cluster_commit_answer, cluster_sync_answer}
+use Rattle.group_machine.specs.State.{GroupState}
+use Rattle.group_machine.specs.Steps.{join_answer, joined_by, joined_kept_by, leave_answer, rejoin_answer, take_over_answer, taken_over_by}
 use Rattle.consumer.specs.Consumer.{ConsumerState, poll_answer}
 use Rattle.world.specs.declared.event.Event.{Event}
 use Rattle.world.specs.declared.event.Event.TheVariants as event
 use Rattle.world.specs.declared.event.Reply.{Reply}
 use Rattle.world.specs.declared.event.Reply.TheVariants as reply
 use Rattle.world.specs.World.{WorldState, commit_at, consumer_of, on_consumer, with_cluster}
-use Rattle.world.specs.Steps.{Comes, MayCome, Outcome, Step, append_event, append_in_event, append_outcome, asked, deliver_event, deliver_unanswered_event, delivered, delivered_unanswered, delivery, dropped, given, join_event, join_outcome, leave_event, leave_outcome, lose_event, lose_outcome, mail_answer, poll_event, poll_known, poll_outcome, refused, refused_by_cluster, rejoin_event, rejoin_outcome, send_event, send_known, send_outcome, sync_event, sync_outcome}
-use Rattle.world.specs.Runs.{AppendsRecords, AreAppended, Appends, IsRefusedNext, Run, StopsLoad, appended_by, appended_in, appends_of, if_appended}
+use Rattle.world.specs.Steps.{Comes, MayCome, Outcome, Step, append_event, append_in_event, append_outcome, asked, deliver_event, deliver_unanswered_event, delivered, delivered_unanswered, delivery, dropped, entry_outcome, given, join_event, join_kept_event, leave_event, leave_outcome, lose_event, lose_outcome, mail_answer, poll_event, poll_known, poll_outcome, refused, refused_by_cluster, rejoin_event, rejoin_outcome, send_event, send_known, send_outcome, sync_event, sync_outcome, take_over_event}
+use Rattle.world.specs.Runs.{AppendsRecords, Run, appended_by, appended_in, if_appended}
 use Rattle.world.specs.Valid.{IsValidWorld}
 use Rattle.world.proofs.Events.{of_topic}
 use Rattle.world.proofs.Stays.{on_cluster}
@@ -34,9 +31,9 @@ KeepsLogs w o = o.after.cluster.logs ≡ w.cluster.logs
 changed_logs : (w : WorldState) (m : ℕ) (f : ConsumerState → ConsumerState) → (on_consumer w m f).cluster.logs ≡ w.cluster.logs
 changed_logs w m f = ap (λ (s : ClusterState). s.logs) (on_cluster w m f (consumer_of w m))
 
-join_logs : (w : WorldState) (name : List ℕ) (a : Result ℕ Refusal) → KeepsLogs w (join_outcome w name a)
-join_logs w name (Ok m) = refl
-join_logs w name (Err why) = refl
+entry_logs : (told : ℕ → Reply) (group : GroupState) (w : WorldState) (a : Result ℕ Refusal) → KeepsLogs w (entry_outcome told group w a)
+entry_logs told group w (Ok m) = refl
+entry_logs told group w (Err why) = refl
 
 lose_logs : (w : WorldState) (m : ℕ) (a : Result (Unit {0}) Refusal) → KeepsLogs w (lose_outcome w m a)
 lose_logs w m (Ok u) = refl
@@ -97,7 +94,7 @@ unanswered_logs : (w : WorldState) (c : CommitTerms) (a : Result ℕ Refusal) �
 unanswered_logs w c a = given_logs w.cluster c a
 
 -- ---- what an event appends
-nothing_more : (w w2 : WorldState) → w2.cluster.logs ≡ w.cluster.logs → AppendsRecords [] w w2
+pub nothing_more : (w w2 : WorldState) → w2.cluster.logs ≡ w.cluster.logs → AppendsRecords [] w w2
 nothing_more w w2 same appended h = rw append-nil (subst (AreLogsOf appended) (sym same) h)
 
 came_same : (w : WorldState) (o : Outcome) (told : Reply) (w2 : WorldState) → Comes o told w2 → KeepsLogs w o → AppendsRecords [] w w2
@@ -136,7 +133,12 @@ append_in_history w keyed told w2 v (inl comes) = go (nat_lt keyed.0 (length w.c
 pub history_after : (w : WorldState) (e : Event) (told : Reply) (w2 : WorldState) → IsValidWorld w → Step w e told w2 → AppendsRecords (appended_by e told) w w2
 history_after w (event.Append key) told w2 v step = append_history w (of_first key.now) told w2 v (first-topic w.cluster.logs key.now v.cluster.logs) step
 history_after w (event.AppendIn topic key) told w2 v step = append_in_history w (topic, key.now) told w2 v step
-history_after w (event.Join name) told w2 v step = may_come_same w (join_event w name.now) told w2 step (join_logs w name.now (join_answer w.cluster.group name.now))
+history_after w (event.Join name) told w2 v step =
+    may_come_same w (join_event w name.now) told w2 step (entry_logs (λ m. reply.Joined m) (joined_by w.cluster.group name.now) w (join_answer w.cluster.group name.now))
+history_after w (event.JoinKept name) told w2 v step =
+    may_come_same w (join_kept_event w name.now) told w2 step (entry_logs (λ m. reply.Joined m) (joined_kept_by w.cluster.group name.now) w (join_answer w.cluster.group name.now))
+history_after w (event.TakeOver name) told w2 v step =
+    may_come_same w (take_over_event w name.now) told w2 step (entry_logs (λ m. reply.TakenOver m) (taken_over_by w.cluster.group name.now) w (take_over_answer w.cluster.group name.now))
 history_after w (event.Sync m) told w2 v step = may_come_same w (sync_event w m) told w2 step (asked_logs w _ (λ c. sync_logs w m (cluster_sync_answer w.cluster m)) (consumer_of w m))
 history_after w (event.Rejoin m) told w2 v step =
     may_come_same w (rejoin_event w m) told w2 step (asked_logs w _ (λ c. rejoin_logs w m (rejoin_answer w.cluster.group m c.generation c.assigned)) (consumer_of w m))
@@ -177,60 +179,3 @@ history_more events replies all w w2 w3 i d e told run before now at lt is =
     ap (appended_in (take (i + 1) events)) is ∙ ap (λ es. appended_in es (replies ++ told ∷ [])) (take_more events i d lt ∙ ap (λ x. take i events ++ x ∷ []) (sym at))
     ∙ appended_push (take i events) replies w w2 e told run in
     subst (λ ks. AppendsRecords ks w w3) (sym grown) (appends_both (appended_in (take i events) replies) (appended_by e told) w w2 w3 before now)
-
--- ---- loads
-pub no_appends : (w : WorldState) → Appends w [] w
-no_appends w = ([], refl, tt)
-
-appended_last : (replies : List Reply) (p offset : ℕ) → AreAppended replies → AreAppended (replies ++ reply.Appended p offset ∷ [])
-appended_last [] p offset h = tt
-appended_last (reply.Appended q o ∷ replies) p offset h = appended_last replies p offset h
-appended_last (told ∷ replies) p offset h = absurd h
-
--- one key more is appended
-pub append_more : (w w2 : WorldState) (keys : List (Bor Key)) (i : ℕ) (d : Bor Key) (s : ClusterState) (at : ℕ × ℕ) → Appends w (take i keys) w2 → i < length keys
-    → Answers (append_answer w2.cluster.logs (of_first (get_or keys i d).now)) (Ok at) → s ≡ appended_to w2.cluster (of_first (get_or keys i d).now) → Appends w (take (i + 1) keys) (with_cluster w2 s)
-append_more w w2 keys i d s at before lt (inr wrong) is = absurd (cc wrong)
-append_more w w2 keys i d s at before lt (inl answer) is =
-    let key = get_or keys i d in
-    let events : appends_of (take (i + 1) keys) ≡ appends_of (take i keys) ++ event.Append key ∷ [] =
-    ap appends_of (take_more keys i d lt) ∙ map-append (λ k. event.Append k) (take i keys) (key ∷ []) in
-    let comes : append_event w2 (of_first key.now) ≡ append_outcome w2 (of_first key.now) (Ok at) = ap (append_outcome w2 (of_first key.now)) (sym answer) in
-    let step : Step w2 (event.Append key) (reply.Appended at.0 at.1) (with_cluster w2 s) =
-    inl (ap (λ (o : Outcome). o.reply) (sym comes), ap (with_cluster w2) is ∙ ap (λ (o : Outcome). o.after) (sym comes)) in (
-      before.0 ++ reply.Appended at.0 at.1 ∷ [],
-      subst (λ es. Run w es (before.0 ++ reply.Appended at.0 at.1 ∷ []) (with_cluster w2 s)) (sym events) (run_push (appends_of (take i keys)) before.0 w w2 (with_cluster w2 s) (event.Append key) (reply.Appended at.0 at.1) before.1 step),
-      appended_last before.0 at.0 at.1 before.2,
-    )
-
--- the append of the next key is refused
-pub append_stops : (w : WorldState) (keys : List (Bor Key)) (i : ℕ) (d : Bor Key) (why : Refusal) → i < length keys → Answers (append_answer w.cluster.logs (of_first (get_or keys i d).now)) (Err why) → StopsLoad w (drop i keys) i why
-append_stops w keys i d why lt answer =
-    let key = get_or keys i d in
-    let rest : drop i keys ≡ key ∷ drop (suc i) keys = drop-cons keys i d lt in
-    inl (subst (λ ks. IsRefusedNext w (appends_of ks) why) (sym rest) (go answer))
-  where
-    go : Answers (append_answer w.cluster.logs (of_first (get_or keys i d).now)) (Err why) → Step w (event.Append (get_or keys i d)) (reply.Refused why) w
-    go (inl same) =
-        let comes : append_event w (of_first (get_or keys i d).now) ≡ append_outcome w (of_first (get_or keys i d).now) (Err why) = ap (append_outcome w (of_first (get_or keys i d).now)) (sym same) in
-        inl (ap (λ (o : Outcome). o.reply) (sym comes), ap (λ (o : Outcome). o.after) (sym comes))
-    go (inr same) = inr (let e : why ≡ r.Memory = cc in ap (λ x. reply.Refused x) e, refl)
-
-abbrev pub first_of : Bor Key → Keyed
-first_of key = of_first key.now
-
--- what the keys so far and the next one append
-pub keys_more : (w w2 w3 : WorldState) (keys : List (Bor Key)) (i : ℕ) (d : Bor Key) → i < length keys → AppendsRecords (map first_of (take i keys)) w w2 → GrowByRecords (first_of (get_or keys i d) ∷ []) w2.cluster.logs w3.cluster.logs
-    → AppendsRecords (map first_of (take (i + 1) keys)) w w3
-keys_more w w2 w3 keys i d lt before now =
-    let grown : map first_of (take (i + 1) keys) ≡ map first_of (take i keys) ++ first_of (get_or keys i d) ∷ [] =
-    ap (map first_of) (take_more keys i d lt) ∙ map-append first_of (take i keys) (get_or keys i d ∷ []) in
-    subst (λ ks. AppendsRecords ks w w3) (sym grown) (appends_both (map first_of (take i keys)) (first_of (get_or keys i d) ∷ []) w w2 w3 before now)
-
--- the place of a key among those of all keys
-pub place_among : (l l2 : PartitionLogs) (places : List ℕ) (keys : List (Bor Key)) (i e : ℕ) (d : Bor Key) → places ≡ map (λ key. place_in l (of_first key.now)) keys → i < length keys → l2.counts ≡ l.counts
-    → get_or places i e ≡ place_in l2 (first_of (get_or keys i d))
-place_among l l2 places keys i e d is lt same =
-    ap (λ (ps : List ℕ). get_or ps i e) is
-    ∙ get_or-map (λ (key : Bor Key). place_in l (of_first key.now)) keys i d e lt
-    ∙ ap (λ (counts : List ℕ). place_in_topic counts 0 (get_or keys i d).now) (sym same)

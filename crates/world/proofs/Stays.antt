@@ -33,7 +33,7 @@ sent_stays s new about c leaves sent =
 pub consumer_stays : (s new : ClusterState) (about n : ℕ) (c : ConsumerState) → Leaves s new about → IsConsumerOf s n c → IsConsumerOf new n c
 consumer_stays s new about n c leaves was = record {
   valid = was.valid;
-  partitions = was.partitions ∙ sym leaves.others.partitions;
+  partitions = was.partitions ∙ sym leaves.partitions;
   number = was.number;
   committed = λ p. omega (arith, was.committed p, leaves.committed p);
   within = λ p. let more = leaves.logs p in omega (arith, was.within p, ap length more.1, length-append (log_at s.logs p) more.0);
@@ -60,7 +60,7 @@ stays w w2 m v leaves mail each from = record {
   present = λ n c here e. elim (from n c e) [
     | inl about ↦ subst (λ k. IsInStep w2.cluster.group k c) (sym about.0) (about.1.step (ap (is_present w2.cluster.group) (sym about.0) ∙ here))
     | inr other ↦
-        let left = leaves.others.others n other.0 in
+        let left = leaves.others n other.0 here in
         in_step_left w.cluster.group w2.cluster.group n c left (v.present n c (sym left.present ∙ here) other.1)
   ];
   mail = λ i c e. sent_stays w.cluster w2.cluster m c leaves (v.mail i c (ap (λ (xs : List CommitTerms). slice_get xs i) (sym mail) ∙ e));

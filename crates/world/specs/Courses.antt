@@ -8,7 +8,7 @@ use Rattle.world.specs.declared.event.Event.TheVariants as event
 use Rattle.world.specs.declared.event.Reply.{Reply}
 use Rattle.world.specs.declared.event.Reply.TheVariants as reply
 use Rattle.partition_log.specs.Keys.{of_first}
-use Rattle.world.specs.Steps.{Outcome, append_event, append_in_event, deliver_event, deliver_unanswered_event, join_event, leave_event, lose_event, poll_event, rejoin_event, send_event, sync_event}
+use Rattle.world.specs.Steps.{Outcome, append_event, append_in_event, deliver_event, deliver_unanswered_event, join_event, join_kept_event, leave_event, lose_event, poll_event, rejoin_event, send_event, sync_event, take_over_event}
 use Rattle.world.specs.World.{WorldState}
 
 -- what comes of an event where there is memory for it
@@ -16,6 +16,8 @@ abbrev pub outcome_of : WorldState → Event → Outcome
 outcome_of w (event.Append key) = append_event w (of_first key.now)
 outcome_of w (event.AppendIn topic key) = append_in_event w (topic, key.now)
 outcome_of w (event.Join name) = join_event w name.now
+outcome_of w (event.JoinKept name) = join_kept_event w name.now
+outcome_of w (event.TakeOver name) = take_over_event w name.now
 outcome_of w (event.Sync m) = sync_event w m
 outcome_of w (event.Rejoin m) = rejoin_event w m
 outcome_of w (event.Leave m) = leave_event w m

@@ -1,5 +1,6 @@
 -- Events, one after another.
 use Rattle.std.specs.Prelude.{◌≡◌, ◌⊎◌, ◌≤◌, ℕ, List, [], ◌∷◌, ◌++◌, Result, Ok, Err, length, map, take, drop}
+use Rattle.std.specs.List.{zip}
 use Rattle.std.specs.Borrow.{Bor}
 use Rattle.lane_words.specs.declared.Refusal.{Refusal}
 use Rattle.lane_words.specs.declared.Refusal.TheVariants as r
@@ -53,35 +54,37 @@ abbrev pub AppendsRecords : List Keyed → WorldState → WorldState → Type 0
 AppendsRecords records w w2 = GrowByRecords records w.cluster.logs w2.cluster.logs
 
 -- ---- loading
--- the events that append these keys, in order
+-- the events that append records of these keys, in order
 abbrev pub appends_of : List (Bor Key) → List Event
 appends_of keys = map (λ key. event.Append key) keys
+
+-- the events that append a record of each of these keys to its topic, in order
+abbrev pub appends_in : List ℕ → List (Bor Key) → List Event
+appends_in topics keys = map (λ keyed. event.AppendIn keyed.0 keyed.1) (zip topics keys)
 
 abbrev pub AreAppended : List Reply → Type 0
 AreAppended [] = Unit {0}
 AreAppended (reply.Appended p offset ∷ replies) = AreAppended replies
 AreAppended (reply ∷ replies) = ⊥
 
--- all of these keys were appended, one after the other
-abbrev pub Appends : WorldState → List (Bor Key) → WorldState → Type 0
-Appends w keys w2 =
-    (replies : List Reply) × Run w (appends_of keys) replies w2 × AreAppended replies
+-- each of these events came and appended its record, one after the other
+abbrev pub Appends : WorldState → List Event → WorldState → Type 0
+Appends w events w2 = (replies : List Reply) × Run w events replies w2 × AreAppended replies
 
--- the append of the first of these keys is refused
+-- the first of these events is refused
 abbrev pub IsRefusedNext : WorldState → List Event → Refusal → Type 0
 IsRefusedNext w [] why = ⊥
 IsRefusedNext w (event ∷ events) why = Step w event (reply.Refused why) w
 
--- Why a load stopped after n keys: the append of the next one was refused, or at the beginning
+-- Why a load stopped after n records: the append of the next one was refused, or at the beginning
 -- memory for the places was
-abbrev pub StopsLoad : WorldState → List (Bor Key) → ℕ → Refusal → Type 0
-StopsLoad w rest n why = IsRefusedNext w (appends_of rest) why ⊎ ((n ≡ 0) × (why ≡ r.Memory))
+abbrev pub StopsLoad : WorldState → List Event → ℕ → Refusal → Type 0
+StopsLoad w rest n why = IsRefusedNext w rest why ⊎ ((n ≡ 0) × (why ≡ r.Memory))
 
--- a load of keys: all are appended; or those before the first that is refused, and it is told how
--- many these are
-abbrev pub Loads : WorldState → List (Bor Key) → Result (Unit {0}) (ℕ × Refusal) → WorldState
-    → Type 0
-Loads w keys (Ok _) w2 = Appends w keys w2
-Loads w keys (Err stop) w2 =
-    (stop.0 ≤ length keys) × Appends w (take stop.0 keys) w2
-    × StopsLoad w2 (drop stop.0 keys) stop.0 stop.1
+-- a load of records by the events that append them: all are appended; or those before the first that
+-- is refused, and it is told how many these are
+abbrev pub Loads : WorldState → List Event → Result (Unit {0}) (ℕ × Refusal) → WorldState → Type 0
+Loads w events (Ok _) w2 = Appends w events w2
+Loads w events (Err stop) w2 =
+    (stop.0 ≤ length events) × Appends w (take stop.0 events) w2
+    × StopsLoad w2 (drop stop.0 events) stop.0 stop.1

@@ -5,7 +5,8 @@ use Rattle.lane_words.specs.declared.Refusal.{Refusal}
 use Rattle.lane_words.specs.declared.Refusal.TheVariants as r
 use Rattle.partition_log.specs.Keys.{Keyed, of_first}
 use Rattle.group_machine.specs.Cluster.{ClusterState, CommitTerms, LeaseTerms, append_answer, appended_to, cluster_commit_answer, cluster_sync_answer, committed_by, with_group}
-use Rattle.group_machine.specs.Steps.{join_answer, joined_by, leave_answer, left_by, rejoin_answer, rejoined_by, synced_by}
+use Rattle.group_machine.specs.State.{GroupState}
+use Rattle.group_machine.specs.Steps.{join_answer, joined_by, joined_kept_by, leave_answer, left_by, rejoin_answer, rejoined_by, synced_by, take_over_answer, taken_over_by}
 use Rattle.consumer.specs.Consumer.{ConsumerState, answered_by, commit_of, given_up, joined_as, leased, out_of_group, poll_answer, polled, sendable_answer}
 use Rattle.world.specs.declared.event.Event.{Event}
 use Rattle.world.specs.declared.event.Event.TheVariants as event
@@ -41,17 +42,31 @@ append_in_event w keyed =
     if nat_lt keyed.0 (length w.cluster.logs.counts) then append_event w keyed
     else refused w (r.NoSuchTopic 0)
 
--- a member that joins gets a consumer, which has joined
-abbrev pub join_outcome : WorldState → List ℕ → Result ℕ Refusal → Outcome
-join_outcome w name (Ok member) = done (reply.Joined member) (record {
-  cluster = with_group w.cluster (joined_by w.cluster.group name);
+-- a step of the group that brings in a member, which gets a consumer that has joined
+abbrev pub entry_outcome : (ℕ → Reply) → GroupState → WorldState → Result ℕ Refusal → Outcome
+entry_outcome told group w (Ok member) = done (told member) (record {
+  cluster = with_group w.cluster group;
   consumers = w.consumers ++ joined_as (out_of_group w.cluster.group.partitions) member ∷ [];
   mail = w.mail;
 })
-join_outcome w name (Err why) = refused w why
+entry_outcome told group w (Err why) = refused w why
+
+abbrev pub joined_outcome : GroupState → WorldState → Result ℕ Refusal → Outcome
+joined_outcome group w answer = entry_outcome (λ member. reply.Joined member) group w answer
 
 abbrev pub join_event : WorldState → List ℕ → Outcome
-join_event w name = join_outcome w name (join_answer w.cluster.group name)
+join_event w name =
+    joined_outcome (joined_by w.cluster.group name) w (join_answer w.cluster.group name)
+
+abbrev pub join_kept_event : WorldState → List ℕ → Outcome
+join_kept_event w name =
+    joined_outcome (joined_kept_by w.cluster.group name) w (join_answer w.cluster.group name)
+
+-- the consumer of the member whose place is taken over is not told
+abbrev pub take_over_event : WorldState → List ℕ → Outcome
+take_over_event w name =
+    entry_outcome (λ member. reply.TakenOver member) (taken_over_by w.cluster.group name) w
+    (take_over_answer w.cluster.group name)
 
 -- a member that is lost is not told
 abbrev pub lose_outcome : WorldState → ℕ → Result (Unit {0}) Refusal → Outcome
@@ -186,6 +201,8 @@ Step w (event.Append key) reply w2 = MayCome w (append_event w (of_first key.now
 Step w (event.AppendIn topic key) reply w2 =
     MayCome w (append_in_event w (topic, key.now)) reply w2
 Step w (event.Join name) reply w2 = MayCome w (join_event w name.now) reply w2
+Step w (event.JoinKept name) reply w2 = MayCome w (join_kept_event w name.now) reply w2
+Step w (event.TakeOver name) reply w2 = MayCome w (take_over_event w name.now) reply w2
 Step w (event.Sync m) reply w2 = MayCome w (sync_event w m) reply w2
 Step w (event.Rejoin m) reply w2 = MayCome w (rejoin_event w m) reply w2
 Step w (event.Leave m) reply w2 = MayCome w (leave_event w m) reply w2

@@ -16,6 +16,11 @@ pub enum Event<'a> {
     AppendIn(u32, &'a [u8]),
     /// A member joins under this name, with a consumer of its own.
     Join(&'a Name),
+    /// The same, and the member keeps its place under its name.
+    JoinKept(&'a Name),
+    /// A new member, with a consumer of its own, takes over the place that is kept under this name.
+    /// The consumer of the old one is not told.
+    TakeOver(&'a Name),
     /// A member's consumer takes a lease.
     Sync(u32),
     /// A member's consumer claims what it was leased, and gives up the rest.
@@ -49,6 +54,8 @@ pub enum Reply {
     Appended(u32, u32),
     /// The member's number.
     Joined(u32),
+    /// The new member's number.
+    TakenOver(u32),
     /// The generation of the lease.
     Leased(u32),
     /// The claim was taken.

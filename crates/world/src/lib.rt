@@ -1,5 +1,5 @@
-//! A world of consumers: every schedule of appends, joins, losses, polls and commits, sent late,
-//! repeated or unanswered.
+//! A world of consumers: every schedule of appends, joins, returns, losses, polls and commits, sent
+//! late, repeated or unanswered.
 #![tactic(auto)]
 
 mod event;

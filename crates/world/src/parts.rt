@@ -1,18 +1,23 @@
 //! What a world is made of, and its events.
 
-ghost use Rattle.std.specs.Prelude.{◌≡◌, ◌<◌, ℕ, suc, length, map, IfOk, IfErr, OnOk};
+ghost use Rattle.std.specs.Prelude.{◌≡◌, ◌<◌, ◌≤◌, ◌++◌, ◌∷◌, [], ℕ, suc, length, map, zip, IfOk, IfErr, OnOk};
+ghost use Rattle.std.specs.Vec.{vec_capacity, vec_len};
+ghost use Rattle.partitioner.specs.Place.{AreTopics};
+ghost use Rattle.partition_log.specs.Appends.{lent};
 ghost use Rattle.partition_log.specs.Keys.{of_first};
+ghost use Rattle.consumer.specs.Consumer.{joined_as, out_of_group};
 ghost use Rattle.world.specs.World.{WorldState};
-ghost use Rattle.world.specs.Steps.{Comes, MayCome, Step, append_event, append_in_event, deliver_event, deliver_unanswered_event, join_event, leave_event, lose_event, poll_event, refused_by_cluster, rejoin_event, send_event, sync_event};
-ghost use Rattle.world.specs.Runs.{AppendsRecords, Loads};
+ghost use Rattle.world.specs.Steps.{Comes, MayCome, Step, append_event, append_in_event, deliver_event, deliver_unanswered_event, join_event, join_kept_event, leave_event, lose_event, poll_event, refused_by_cluster, rejoin_event, send_event, sync_event, take_over_event};
+ghost use Rattle.world.specs.Runs.{AppendsRecords, Loads, appends_in, appends_of};
 ghost use Rattle.world.specs.Valid.{IsValidWorld};
+ghost use Rattle.world.specs.Private.Loading.{ArePlaced, LoadsPlaced};
 ghost use Rattle.world.specs.Private.Lookups.{IsAsking, IsIndexOf, IsNotAsking};
 ghost use Rattle.world.specs.Private.View.{world_view};
 
 use crate::event::{Event, MOST_COMMITS, Reply};
 use consumer::Consumer;
 use group_machine::{Cluster, Commit, Name};
-use lane_words::Refusal;
+use lane_words::{MOST_PARTITIONS, Memory, Refusal};
 use std::alloc::Global;
 use std::thread::Threads;
 
@@ -36,6 +41,8 @@ impl Parts {
             Event::Append(key) => self.append(key),
             Event::AppendIn(topic, key) => self.append_in(topic, key),
             Event::Join(name) => self.join(alloc, name),
+            Event::JoinKept(name) => self.join_kept(alloc, name),
+            Event::TakeOver(name) => self.take_over(alloc, name),
             Event::Sync(member) => self.sync(member),
             Event::Rejoin(member) => self.rejoin(member),
             Event::Leave(member) => self.leave(member),
@@ -54,7 +61,8 @@ impl Parts {
     /// Appends records of these keys in order, until one is refused.
     pub fn load<R: Threads + Sync>(&mut self, rt: &R, keys: &[&[u8]]) -> Result<(), (u64, Refusal)>
         requires { IsValidWorld (world_view self.old) }
-        ensures loads { Loads (world_view self.old) keys.now result (world_view self.new) }
+        ensures loads { Loads (world_view self.old) (appends_of keys.now) result
+            (world_view self.new) }
         ensures history { OnOk result (AppendsRecords (map (λ key. of_first key.now) keys.now)
             (world_view self.old) (world_view self.new)) }
         ensures valid { IsValidWorld (world_view self.new) }
@@ -62,6 +70,39 @@ impl Parts {
         let Ok(places) = self.cluster.logs().places_of(rt, keys) else {
             return Err((0, Refusal::Memory));
         };
+        self.append_placed(keys, &places)
+    }
+
+    /// The same, of a record of each key to the topic of its index.
+    pub fn load_in<R: Threads + Sync>(
+        &mut self,
+        rt: &R,
+        topics: &[u8],
+        keys: &[&[u8]],
+    ) -> Result<(), (u64, Refusal)>
+        requires topics { AreTopics (length self.old.cluster.logs.counts) (length keys.now)
+            topics.now }
+        requires valid { IsValidWorld (world_view self.old) }
+        ensures loads { Loads (world_view self.old) (appends_in topics.now keys.now) result
+            (world_view self.new) }
+        ensures history { OnOk result (AppendsRecords (zip topics.now (lent keys.now))
+            (world_view self.old) (world_view self.new)) }
+        ensures valid { IsValidWorld (world_view self.new) }
+    {
+        let Ok(places) = self.cluster.logs().places_of_in(rt, topics, keys) else {
+            return Err((0, Refusal::Memory));
+        };
+        self.append_placed(keys, &places)
+    }
+
+    /// Appends records of these keys, whose places are known, in order, until one is refused.
+    fn append_placed(&mut self, keys: &[&[u8]], places: &[u32]) -> Result<(), (u64, Refusal)>
+        requires placed { ArePlaced self.old.cluster.logs places.now keys.now }
+        requires valid { IsValidWorld (world_view self.old) }
+        ensures loads { LoadsPlaced (world_view self.old) places.now keys.now result
+            (world_view self.new) }
+        ensures valid { IsValidWorld (world_view self.new) }
+    {
         for i in 0..keys.len() {
             if let Err(why) = self.cluster.append_at(places[i], keys[i]) {
                 return Err((i as u64, why));
@@ -93,22 +134,53 @@ impl Parts {
         }
     }
 
-    // All that grows grows before the cluster is asked.
+    // All that grows grows before the cluster is asked, here and in the next two.
     fn join(&mut self, alloc: Global, name: &Name) -> Reply
         ensures { MayCome (world_view self.old) (join_event (world_view self.old) name.now) result
             (world_view self.new) }
     {
-        if self.consumers.reserve(1).is_err() {
-            return Reply::Refused(Refusal::Memory);
-        }
-        let Ok(mut consumer) = Consumer::new(alloc, self.cluster.partitions()) else {
+        let partitions = self.cluster.partitions();
+        let Ok(consumer) = new_consumer(&mut self.consumers, alloc, partitions) else {
             return Reply::Refused(Refusal::Memory);
         };
         match self.cluster.join(name.copy()) {
             Ok(member) => {
-                consumer.joined(member);
-                self.consumers.push_reserved(consumer);
+                enter(&mut self.consumers, consumer, member);
                 return Reply::Joined(member);
+            }
+            Err(why) => return Reply::Refused(why),
+        }
+    }
+
+    fn join_kept(&mut self, alloc: Global, name: &Name) -> Reply
+        ensures { MayCome (world_view self.old) (join_kept_event (world_view self.old) name.now)
+            result (world_view self.new) }
+    {
+        let partitions = self.cluster.partitions();
+        let Ok(consumer) = new_consumer(&mut self.consumers, alloc, partitions) else {
+            return Reply::Refused(Refusal::Memory);
+        };
+        match self.cluster.join_kept(name.copy()) {
+            Ok(member) => {
+                enter(&mut self.consumers, consumer, member);
+                return Reply::Joined(member);
+            }
+            Err(why) => return Reply::Refused(why),
+        }
+    }
+
+    fn take_over(&mut self, alloc: Global, name: &Name) -> Reply
+        ensures { MayCome (world_view self.old) (take_over_event (world_view self.old) name.now)
+            result (world_view self.new) }
+    {
+        let partitions = self.cluster.partitions();
+        let Ok(consumer) = new_consumer(&mut self.consumers, alloc, partitions) else {
+            return Reply::Refused(Refusal::Memory);
+        };
+        match self.cluster.take_over(name) {
+            Ok(member) => {
+                enter(&mut self.consumers, consumer, member);
+                return Reply::TakenOver(member);
             }
             Err(why) => return Reply::Refused(why),
         }
@@ -275,6 +347,30 @@ impl Parts {
         }
         Reply::Refused(why)
     }
+}
+
+/// A consumer for a member that is to come, with room for it behind these.
+fn new_consumer(
+    consumers: &mut Vec<Consumer>,
+    alloc: Global,
+    partitions: u32,
+) -> Result<Consumer, Memory>
+    requires { (1 ≤ partitions) × (partitions ≤ MOST_PARTITIONS) }
+    ensures out { IfOk result (λ consumer. consumer ≡ out_of_group partitions) }
+    ensures room { OnOk result (vec_len consumers.new < vec_capacity consumers.new) }
+    ensures same { consumers.new.items ≡ consumers.old.items }
+{
+    consumers.reserve(1)?;
+    Consumer::new(alloc, partitions)
+}
+
+/// A member has come in: this consumer is its own, for which there is room behind these.
+fn enter(consumers: &mut Vec<Consumer>, mut consumer: Consumer, member: u32)
+    requires { vec_len consumers.old < vec_capacity consumers.old }
+    ensures { consumers.new.items ≡ consumers.old.items ++ joined_as consumer member ∷ [] }
+{
+    consumer.joined(member);
+    consumers.push_reserved(consumer);
 }
 
 /// The index of item number `number` of so many, counted from 1.

@@ -1,12 +1,14 @@
 //! A world: whatever is scheduled in it, what it keeps holds.
 
-ghost use Rattle.std.specs.Prelude.{◌≡◌, ◌≤◌, ◌∷◌, [], ℕ, None, Some, IfOk, MatchOption, OnErr, OnOk, map};
+ghost use Rattle.std.specs.Prelude.{◌≡◌, ◌≤◌, ◌∷◌, [], ℕ, None, Some, IfOk, MatchOption, OnErr, OnOk, length, map, zip};
 ghost use Rattle.std.specs.List.{sum};
 ghost use Rattle.group_machine.specs.Cluster.{AreCounts, committed_at};
+ghost use Rattle.partitioner.specs.Place.{AreTopics};
+ghost use Rattle.partition_log.specs.Appends.{lent};
 ghost use Rattle.partition_log.specs.Keys.{of_first};
 ghost use Rattle.world.specs.World.{consumer_of};
 ghost use Rattle.world.specs.Steps.{NeverFaults, Step};
-ghost use Rattle.world.specs.Runs.{AppendsRecords, IsOpening, Loads, Run, appended_by, appended_in};
+ghost use Rattle.world.specs.Runs.{AppendsRecords, IsOpening, Loads, Run, appended_by, appended_in, appends_in, appends_of};
 ghost use Rattle.world.specs.Valid.{IsValidWorld};
 
 mod drain;
@@ -24,9 +26,9 @@ use std::thread::Threads;
 
 /// A cluster, a consumer for each member that ever joined, and the commits that were sent.
 ///
-/// Any list of events may come: appends, joins, rejoins, syncs, leaves and losses of members,
-/// polls, and commits that are sent, delivered late, again and again, or unanswered. After each of
-/// them no partition is granted to two present members, a settled assignment is balanced, and every
+/// Any list of events may come: appends, joins, returns, rejoins, syncs, leaves and losses of
+/// members, polls, and commits that are sent, delivered late, again and again, or unanswered. After
+/// each of them no partition is granted to two present members, a settled assignment is balanced, and every
 /// key's count is that of the records below the committed offsets, each taken once.
 #[derive(Debug, Drop)]
 pub struct World {
@@ -125,12 +127,29 @@ impl World {
     /// Where one is refused it stops, and answers how many stand before it, with the refusal: those
     /// stand. Where the memory for the places of the keys is refused, that number is 0.
     pub fn load<R: Threads + Sync>(&mut self, rt: &R, keys: &[&[u8]]) -> Result<(), (u64, Refusal)>
-        ensures loads { Loads self.old keys.now result self.new }
+        ensures loads { Loads self.old (appends_of keys.now) result self.new }
         ensures history { OnOk result (AppendsRecords (map (λ key. of_first key.now) keys.now)
             self.old self.new) }
         ensures valid { IsValidWorld self.new }
     {
         self.parts.load(rt, keys)
+    }
+
+    /// The same, of a record of each key to the topic of its index: as many topics as keys, each
+    /// below the number of topics.
+    pub fn load_in<R: Threads + Sync>(
+        &mut self,
+        rt: &R,
+        topics: &[u8],
+        keys: &[&[u8]],
+    ) -> Result<(), (u64, Refusal)>
+        requires { AreTopics (length self.old.cluster.logs.counts) (length keys.now) topics.now }
+        ensures loads { Loads self.old (appends_in topics.now keys.now) result self.new }
+        ensures history { OnOk result (AppendsRecords (zip topics.now (lent keys.now))
+            self.old self.new) }
+        ensures valid { IsValidWorld self.new }
+    {
+        self.parts.load_in(rt, topics, keys)
     }
 
     /// The cluster.
@@ -159,6 +178,3 @@ impl World {
         &self.parts.mail
     }
 }
-
-#[cfg(test)]
-mod tests;

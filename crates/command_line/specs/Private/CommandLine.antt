@@ -1,5 +1,5 @@
 -- What clap has tested of the words, and how its errors are told.
-use Rattle.std.specs.Prelude.{◌≡◌, ℕ, List, Option, Some, None, codes, false, ⊤, ◌≢◌, IsSome, pos}
+use Rattle.std.specs.Prelude.{◌≡◌, ℕ, List, Option, Some, None, codes, false, ⊤, ◌≢◌, IsSome, pos, string_bytes}
 use Rattle.clap.specs.Simple.{App, app_of}
 use Rattle.clap.specs.Values.{IsSignedIn}
 use Rattle.clap.specs.Walk.{Row, Text, first_of}
@@ -8,7 +8,9 @@ use Rattle.clap.specs.declared.builder.command.Command.TheViews.{out-Command}
 use Rattle.clap.specs.declared.error.kind.ErrorKind.{ErrorKind}
 use Rattle.lane_words.specs.declared.limits.TheConstants.{MOST_PARTITIONS}
 use Rattle.clap.specs.declared.error.kind.ErrorKind.TheVariants as kind
-use Rattle.command_line.specs.CommandLine.{IsRequest}
+use Rattle.command_line.specs.CommandLine.{HasJob, IsRequest, bad_topics, name_of}
+use Rattle.command_line.specs.Topics.{IsBadList}
+use Rattle.command_line.specs.declared.words.Job.{Job}
 use Rattle.command_line.specs.declared.words.Usage.{Usage}
 use Rattle.command_line.specs.declared.words.Usage.TheVariants.{Help, Bad, Memory}
 use Rattle.command_line.specs.declared.options.TheConstants.{LAST_COLUMN, MOST_BATCH}
@@ -22,6 +24,7 @@ ReadsNumber (Some text) most = IsSignedIn (pos 1) (pos most) text
 pub record TakesOptions (rows : List Row) : Type 0 where
   pub partitions : ReadsNumber (first_of (codes "partitions") rows) MOST_PARTITIONS
   pub column : ReadsNumber (first_of (codes "column") rows) LAST_COLUMN
+  pub topic_column : ReadsNumber (first_of (codes "topic-column") rows) LAST_COLUMN
 
 -- what clap has tested of the words after `count`
 pub record TakesCount (rows : List Row) : Type 0 where
@@ -47,3 +50,14 @@ Tells (Help text) k = IsRequest k
 Tells (Bad text) k =
     (k ≢ kind.DisplayHelp) × (k ≢ kind.DisplayVersion) × (k ≢ kind.OutOfMemory)
 Tells Memory k = ⊤
+
+-- the job of the subcommand of this name has the files and the options that clap found
+abbrev pub IsJobOfRows : Text → List Row → Job → Type 0
+IsJobOfRows name rows job = (name_of job ≡ name) × HasJob rows job
+
+-- a list of topics that is none is told, and only where the one that clap found is none
+abbrev pub TellsBadList : List Row → Usage → Type 0
+TellsBadList rows (Help text) = ⊥
+TellsBadList rows (Bad text) =
+    IsBadList (first_of (codes "topics") rows) × (string_bytes text ≡ bad_topics)
+TellsBadList rows Memory = ⊤

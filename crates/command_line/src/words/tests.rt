@@ -2,23 +2,27 @@ use super::*;
 use crate::help::{AFTER_COUNT, AFTER_KEYCOUNT, AFTER_REPLAY, AFTER_RUN};
 use std::process::Abort;
 
-const PLAIN: Options = Options {
-    partitions: 4,
-    column: 1,
-    header: false,
-    batch: 500,
-};
+/// The partitions, the column, whether there is a header, and the batch.
+type Plain = (u32, u32, bool, u32);
 
-const FULL: Options = Options {
-    partitions: 4096,
-    column: 65535,
-    header: true,
-    batch: 500,
-};
+/// Those where the words do not say.
+const PLAIN: Plain = (4, 1, false, 500);
+
+const FULL: Plain = (4096, 65535, true, 500);
+
+/// These of options.
+fn plain(options: &Options) -> Plain {
+    (
+        options.partitions,
+        options.column,
+        options.header,
+        options.batch,
+    )
+}
 
 #[test]
 fn options_stand_round_the_path(rt: HostRuntime) {
-    let cases: [(&[&str], &str, Options); 9] = [
+    let cases: [(&[&str], &str, Plain); 9] = [
         (&["count", "f"], "f", PLAIN),
         (&["count", ""], "", PLAIN),
         (&["count", "--", "--header"], "--header", PLAIN),
@@ -78,10 +82,11 @@ fn options_stand_round_the_path(rt: HostRuntime) {
         ),
     ];
     for (i, (words, path, wanted)) in cases.into_iter().enumerate() {
-        match read_words(rt.alloc(), words) {
+        let answer = read_words(rt.alloc(), words);
+        match &answer {
             Ok(Job::Count { file, options }) => {
-                assert_eq!(rt; file, path, "case {i}");
-                assert_eq!(rt; options, wanted, "case {i}");
+                assert_eq!(rt; *file, path, "case {i}");
+                assert_eq!(rt; plain(options), wanted, "case {i}");
             }
             _ => assert!(rt; false, "case {i}"),
         }
@@ -89,24 +94,14 @@ fn options_stand_round_the_path(rt: HostRuntime) {
 }
 
 /// Options of a replay or of a run, column 1 and no header.
-fn replayed(partitions: u32, batch: u32) -> Options {
-    Options {
-        partitions,
-        column: 1,
-        header: false,
-        batch,
-    }
+fn replayed(partitions: u32, batch: u32) -> Plain {
+    (partitions, 1, false, batch)
 }
 
 #[test]
 fn a_replay_has_two_paths_and_a_batch(rt: HostRuntime) {
-    let full = Options {
-        partitions: 1,
-        column: 2,
-        header: true,
-        batch: 1_000_000,
-    };
-    let cases: [(&[&str], (&str, &str), Options); 8] = [
+    let full = (1, 2, true, 1_000_000);
+    let cases: [(&[&str], (&str, &str), Plain); 8] = [
         (&["replay", "f", "s"], ("f", "s"), PLAIN),
         (&["replay", "-", "-"], ("-", "-"), PLAIN),
         (
@@ -127,22 +122,12 @@ fn a_replay_has_two_paths_and_a_batch(rt: HostRuntime) {
         (
             &["replay", "--column=65535", "f", "--", "--header"],
             ("f", "--header"),
-            Options {
-                partitions: 4,
-                column: 65535,
-                header: false,
-                batch: 500,
-            },
+            (4, 65535, false, 500),
         ),
         (
             &["replay", "--header", "f", "s"],
             ("f", "s"),
-            Options {
-                partitions: 4,
-                column: 1,
-                header: true,
-                batch: 500,
-            },
+            (4, 1, true, 500),
         ),
         (
             &[
@@ -161,7 +146,8 @@ fn a_replay_has_two_paths_and_a_batch(rt: HostRuntime) {
         ),
     ];
     for (i, (words, paths, wanted)) in cases.into_iter().enumerate() {
-        match read_words(rt.alloc(), words) {
+        let answer = read_words(rt.alloc(), words);
+        match &answer {
             Ok(
                 Job::Replay {
                     file,
@@ -169,8 +155,8 @@ fn a_replay_has_two_paths_and_a_batch(rt: HostRuntime) {
                     options,
                 },
             ) => {
-                assert!(rt; file == paths.0 && script == paths.1, "case {i}");
-                assert_eq!(rt; options, wanted, "case {i}");
+                assert!(rt; *file == paths.0 && *script == paths.1, "case {i}");
+                assert_eq!(rt; plain(options), wanted, "case {i}");
             }
             _ => assert!(rt; false, "case {i}"),
         }
@@ -179,7 +165,7 @@ fn a_replay_has_two_paths_and_a_batch(rt: HostRuntime) {
 
 #[test]
 fn a_run_has_two_paths_and_a_batch(rt: HostRuntime) {
-    let cases: [(&[&str], (&str, &str), Options); 4] = [
+    let cases: [(&[&str], (&str, &str), Plain); 4] = [
         (&["run", "f", "p"], ("f", "p"), PLAIN),
         (&["run", "-", "-"], ("-", "-"), PLAIN),
         (&["run", "f", "--batch=1", "p"], ("f", "p"), replayed(4, 1)),
@@ -190,7 +176,8 @@ fn a_run_has_two_paths_and_a_batch(rt: HostRuntime) {
         ),
     ];
     for (i, (words, paths, wanted)) in cases.into_iter().enumerate() {
-        match read_words(rt.alloc(), words) {
+        let answer = read_words(rt.alloc(), words);
+        match &answer {
             Ok(
                 Job::Run {
                     file,
@@ -198,17 +185,115 @@ fn a_run_has_two_paths_and_a_batch(rt: HostRuntime) {
                     options,
                 },
             ) => {
-                assert!(rt; file == paths.0 && script == paths.1, "case {i}");
-                assert_eq!(rt; options, wanted, "case {i}");
+                assert!(rt; *file == paths.0 && *script == paths.1, "case {i}");
+                assert_eq!(rt; plain(options), wanted, "case {i}");
             }
             _ => assert!(rt; false, "case {i}"),
         }
     }
 }
 
+/// The topics of a list, each with its number of partitions.
+type Topics<'a> = &'a [(&'a str, u32)];
+
+/// Whether topics are these, in this order.
+fn are_topics(topics: &[Topic], wanted: Topics) -> bool {
+    topics.len() == wanted.len()
+        && topics.iter().zip(wanted).all(|(topic, (name, partitions))| {
+            topic.name.text() == name.as_bytes() && topic.partitions == *partitions
+        })
+}
+
+/// Whether words are answered with these topics and this column of theirs, or, where none are wanted,
+/// with what is told of a list that is none.
+fn tells(answer: &Result<Job, Usage>, wanted: Option<(Topics, u32)>) -> bool {
+    match (answer, wanted) {
+        (
+            Ok(Job::Count { options, .. } | Job::Replay { options, .. } | Job::Run { options, .. }),
+            Some((topics, column)),
+        ) => are_topics(options.topics.as_slice(), topics) && options.topic_column == column,
+        (Err(Usage::Bad(text)), None) => text.as_str() == "bad topics\n",
+        _ => false,
+    }
+}
+
+#[test]
+fn lists_of_topics_are_read(rt: HostRuntime) {
+    let cases: [(&str, Option<Topics>); 24] = [
+        ("a:4", Some(&[("a", 4)])),
+        ("a:2,b:3", Some(&[("a", 2), ("b", 3)])),
+        ("b:0003,a-_9:4", Some(&[("b", 3), ("a-_9", 4)])),
+        ("a:4096", Some(&[("a", 4096)])),
+        ("a:4095,b:1", Some(&[("a", 4095), ("b", 1)])),
+        (
+            "abcdefghijklmnopqrstuvwxyzabcdef:1",
+            Some(&[("abcdefghijklmnopqrstuvwxyzabcdef", 1)]),
+        ),
+        (
+            "a:1,b:1,c:1,d:1,e:1,f:1,g:1,A:1",
+            Some(&[
+                ("a", 1),
+                ("b", 1),
+                ("c", 1),
+                ("d", 1),
+                ("e", 1),
+                ("f", 1),
+                ("g", 1),
+                ("A", 1),
+            ]),
+        ),
+        ("a:1,b:1,c:1,d:1,e:1,f:1,g:1,h:1,i:1", None),
+        ("abcdefghijklmnopqrstuvwxyzabcdefg:1", None),
+        ("a:4096,b:1", None),
+        ("a:1,a:2", None),
+        ("a:0", None),
+        ("a:4097", None),
+        ("a:00004", None),
+        ("a:+1", None),
+        ("a: 1", None),
+        ("a b:1", None),
+        ("a", None),
+        ("a:", None),
+        (":1", None),
+        ("a:1:2", None),
+        ("a:1,", None),
+        (",a:1", None),
+        ("", None),
+    ];
+    for (i, (list, wanted)) in cases.into_iter().enumerate() {
+        let words = ["count", "f", "--topics", list];
+        let answer = read_words(rt.alloc(), &words);
+        let is_told = tells(&answer, wanted.map(|topics| (topics, 2)));
+        assert!(rt; is_told, "case {i}");
+    }
+}
+
+#[test]
+fn each_subcommand_has_topics(rt: HostRuntime) {
+    let one: Topics = &[("-", 1)];
+    let cases: [(&[&str], Option<(Topics, u32)>); 6] = [
+        (&["count", "f"], Some((&[], 2))),
+        (&["count", "--topic-column=65535", "f"], Some((&[], 65535))),
+        (
+            &["count", "--topics=-:1", "f", "--topic-column", "1"],
+            Some((one, 1)),
+        ),
+        (&["replay", "f", "--topics=-:1", "s"], Some((one, 2))),
+        (
+            &["run", "f", "s", "--topics=-:1", "--partitions=4096"],
+            Some((one, 2)),
+        ),
+        (&["run", "f", "s", "--topics=:1"], None),
+    ];
+    for (i, (words, wanted)) in cases.into_iter().enumerate() {
+        let answer = read_words(rt.alloc(), words);
+        assert!(rt; tells(&answer, wanted), "case {i}");
+    }
+}
+
 #[test]
 fn bad_words_are_refused(rt: HostRuntime) {
-    let cases: [&[&str]; 33] = [
+    let cases: [&[&str]; 39] = [
         &[],
         &["count"],
         &["count", "f", "g"],
@@ -221,6 +306,12 @@ fn bad_words_are_refused(rt: HostRuntime) {
         &["count", "f", "--column", "65536"],
         &["count", "f", "--column", "99999999999999999999"],
         &["count", "f", "--column", "1", "--column", "1"],
+        &["count", "f", "--topic-column", "0"],
+        &["count", "f", "--topic-column", "65536"],
+        &["count", "f", "--topic-column", "2", "--topic-column", "2"],
+        &["count", "f", "--topics"],
+        &["count", "f", "--topics", "a:1", "--topics", "b:1"],
+        &["count", "f", "--topics", "a:1", "--partitions", "0"],
         &["count", "f", "--batch", "5"],
         &["count", "f", "--header", "--header"],
         &["count", "f", "--header=1"],
@@ -311,10 +402,12 @@ Arguments:
   <FILE>  The CSV file to read; - is standard input
 
 Options:
-      --partitions <N>  How many partitions the keys are spread over, 1 to 4096 [default: 4]
-      --column <N>      Which column has the key, 1 to 65535 [default: 1]
-      --header          Passes over the first record
-  -h, --help            Print help
+      --partitions <N>    How many partitions the keys are spread over, 1 to 4096 [default: 4]
+      --column <N>        Which column has the key, 1 to 65535 [default: 1]
+      --header            Passes over the first record
+      --topics <LIST>     1 to 8 topics, NAME:N,NAME:N, each of N partitions, at most 4096 in all
+      --topic-column <N>  Which column has the topic, 1 to 65535, with --topics [default: 2]
+  -h, --help              Print help
 
 ";
     assert_asked(&rt, rt.alloc(), &["count", "--help"], wanted, AFTER_COUNT);
@@ -331,11 +424,13 @@ Arguments:
   <SCRIPT>  The script to replay; - is standard input
 
 Options:
-      --partitions <N>  How many partitions the keys are spread over, 1 to 4096 [default: 4]
-      --column <N>      Which column has the key, 1 to 65535 [default: 1]
-      --header          Passes over the first record
-      --batch <N>       The most records of one poll, 1 to 1000000 [default: 500]
-  -h, --help            Print help
+      --partitions <N>    How many partitions the keys are spread over, 1 to 4096 [default: 4]
+      --column <N>        Which column has the key, 1 to 65535 [default: 1]
+      --header            Passes over the first record
+      --topics <LIST>     1 to 8 topics, NAME:N,NAME:N, each of N partitions, at most 4096 in all
+      --topic-column <N>  Which column has the topic, 1 to 65535, with --topics [default: 2]
+      --batch <N>         The most records of one poll, 1 to 1000000 [default: 500]
+  -h, --help              Print help
 
 ";
     assert_asked(&rt, rt.alloc(), &["replay", "--help"], wanted, AFTER_REPLAY);
@@ -352,11 +447,13 @@ Arguments:
   <SCRIPT>  The plan: who joins, leaves and is lost; - is standard input
 
 Options:
-      --partitions <N>  How many partitions the keys are spread over, 1 to 4096 [default: 4]
-      --column <N>      Which column has the key, 1 to 65535 [default: 1]
-      --header          Passes over the first record
-      --batch <N>       The most records of one poll, 1 to 1000000 [default: 500]
-  -h, --help            Print help
+      --partitions <N>    How many partitions the keys are spread over, 1 to 4096 [default: 4]
+      --column <N>        Which column has the key, 1 to 65535 [default: 1]
+      --header            Passes over the first record
+      --topics <LIST>     1 to 8 topics, NAME:N,NAME:N, each of N partitions, at most 4096 in all
+      --topic-column <N>  Which column has the topic, 1 to 65535, with --topics [default: 2]
+      --batch <N>         The most records of one poll, 1 to 1000000 [default: 500]
+  -h, --help              Print help
 
 ";
     assert_asked(&rt, rt.alloc(), &["run", "--help"], wanted, AFTER_RUN);

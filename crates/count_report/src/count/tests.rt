@@ -2,21 +2,29 @@
 
 ghost use Rattle.std.specs.Prelude.{◌≡◌, ◌≤◌, IfOk};
 ghost use Rattle.count_report.specs.Reports.{AreInRange};
+ghost use Rattle.script.specs.Topics.{AreTopics};
 
 mod slow;
 
 use super::*;
 use devices::{FromRead, FromWrite};
+use group_machine::Name;
 use itoa::Buffer;
-use lane_words::Memory;
+use lane_words::{MOST_PARTITIONS, Memory};
+use script::Topic;
 use slow::{Drip, Page};
+use std::process::Abort;
 use std::test::Fail;
 
 const FILE: &[u8] = b"21\n4\nfoobar\nabc\n21\n";
 
+const TOPIC_FILE: &[u8] = b"21,a\nabc,b\n21,b\n4,a\n4,b\n";
+
+const TOPIC_TEXT: &[u8] = b"count,21,2\ncount,abc,1\ncount,4,2\ntotal,5,5\n";
+
 const TEXT: &[u8] = b"count,21,2\ncount,4,1\ncount,foobar,1\ncount,abc,1\ntotal,5,5\n";
 
-fn options(partitions: u32) -> Options
+fn options(alloc: Global, partitions: u32) -> Options
     requires { (1 ≤ partitions) × (partitions ≤ MOST_PARTITIONS) }
     ensures { AreInRange result }
 {
@@ -25,6 +33,8 @@ fn options(partitions: u32) -> Options
         column: 1,
         header: false,
         batch: 500,
+        topics: Vec::new(alloc),
+        topic_column: 2,
     }
 }
 
@@ -55,9 +65,74 @@ fn a_file_is_counted_whatever_the_partitions(rt: HostRuntime) -> Result<(), Fail
         let mut source = FromRead::new(FILE);
         let mut text = [0u8; TEXT.len()];
         let mut sink = FromWrite::new(text.as_mut_slice());
-        count_text(&rt, rt.alloc(), &mut source, options(partitions), &mut sink)?;
+        count_text(
+            &rt,
+            rt.alloc(),
+            &mut source,
+            &options(rt.alloc(), partitions),
+            &mut sink,
+        )?;
         drop(sink);
         assert_eq!(rt; text.as_slice(), TEXT);
+    }
+    Ok(())
+}
+
+/// A topic of this name, which is one, and of this many partitions.
+fn topic(rt: &impl Abort, name: &[u8], partitions: u32) -> Topic
+    ensures { result ≡ record { name = name.now; partitions = partitions } }
+{
+    let name = Name::new(name).expect(rt, "a name");
+    Topic { name, partitions }
+}
+
+/// The topic a of two partitions, and b of three.
+fn a_and_b(rt: &impl Abort) -> [Topic; 2]
+    ensures { AreTopics result }
+{
+    [topic(rt, b"a", 2), topic(rt, b"b", 3)]
+}
+
+/// The options of a file of these topics.
+fn options_of_two(alloc: Global, topics: [Topic; 2]) -> Result<Options, Memory>
+    requires { AreTopics topics }
+    ensures { IfOk result AreInRange }
+{
+    let mut options = options(alloc, 1);
+    options.topics = Vec::from_array(alloc, topics)?;
+    Ok(options)
+}
+
+/// What a count of a file of these topics answers, and whether it has written this.
+fn counted_in_topics<R: Threads + Sync + RandomSource>(
+    rt: &R,
+    alloc: Global,
+    topics: [Topic; 2],
+    bytes: &[u8],
+    wanted: &[u8],
+) -> Result<(Result<(), Refusal>, bool), Memory>
+    requires { AreTopics topics }
+{
+    let options = options_of_two(alloc, topics)?;
+    let mut text = Vec::new(alloc);
+    let mut sink = FromWrite::new(&mut text);
+    let mut file = FromRead::new(bytes);
+    let answer = count_text(rt, alloc, &mut file, &options, &mut sink);
+    drop(sink);
+    Ok((answer, text.as_slice() == wanted))
+}
+
+#[test]
+fn a_file_of_two_topics_is_counted(rt: HostRuntime) -> Result<(), Fail> {
+    let steps: [(&[u8], &[u8], Result<(), Refusal>); 4] = [
+        (TOPIC_FILE, TOPIC_TEXT, Ok(())),
+        (b"21,c\n", b"", Err(Refusal::NoSuchTopic { nth: 1 })),
+        (b"21,a\n21\n", b"", Err(Refusal::BadCsv { nth: 2 })),
+        (b"21\n", b"", Err(Refusal::NoSuchColumn { nth: 1 })),
+    ];
+    for (bytes, wanted, answer) in steps {
+        let counted = counted_in_topics(&rt, rt.alloc(), a_and_b(&rt), bytes, wanted)?;
+        assert_eq!(rt; counted, (answer, true));
     }
     Ok(())
 }
@@ -66,12 +141,24 @@ fn a_file_is_counted_whatever_the_partitions(rt: HostRuntime) -> Result<(), Fail
 fn a_read_that_fails_is_told_and_nothing_is_written(rt: HostRuntime) -> Result<(), Fail> {
     for fails_at in 0..=FILE.len() {
         let (mut source, mut sink) = (drip(&rt, fails_at)?, page(&rt, 100));
-        let answer = count_text(&rt, rt.alloc(), &mut source, options(4), &mut sink);
+        let answer = count_text(
+            &rt,
+            rt.alloc(),
+            &mut source,
+            &options(rt.alloc(), 4),
+            &mut sink,
+        );
         assert_eq!(rt; answer, Err(Refusal::ReadFailed));
         assert_eq!(rt; sink.text.len(), 0);
     }
     let (mut source, mut sink) = (drip(&rt, 100)?, page(&rt, 100));
-    count_text(&rt, rt.alloc(), &mut source, options(4), &mut sink)?;
+    count_text(
+        &rt,
+        rt.alloc(),
+        &mut source,
+        &options(rt.alloc(), 4),
+        &mut sink,
+    )?;
     assert_eq!(rt; sink.text.as_slice(), TEXT);
     Ok(())
 }
@@ -80,7 +167,13 @@ fn a_read_that_fails_is_told_and_nothing_is_written(rt: HostRuntime) -> Result<(
 fn a_write_that_fails_leaves_a_beginning(rt: HostRuntime) -> Result<(), Fail> {
     for calls in 0..=20_u8 {
         let (mut source, mut sink) = (drip(&rt, 100)?, page(&rt, u64::from(calls)));
-        let answer = count_text(&rt, rt.alloc(), &mut source, options(4), &mut sink);
+        let answer = count_text(
+            &rt,
+            rt.alloc(),
+            &mut source,
+            &options(rt.alloc(), 4),
+            &mut sink,
+        );
         let taken = (4 * usize::from(calls)).min(TEXT.len());
         assert_eq!(rt; answer.is_ok(), taken == TEXT.len());
         assert!(rt; answer.is_ok() || answer == Err(Refusal::WriteFailed));
@@ -116,7 +209,13 @@ fn a_file_of_a_few_megabytes_is_counted(rt: HostRuntime) -> Result<(), Fail> {
     let mut source = FromRead::new(file.as_slice());
     let mut text = vec![in rt.alloc(); 0_u8; 8 << 20]?;
     let mut sink = FromWrite::new(text.as_mut_slice());
-    count_text(&rt, rt.alloc(), &mut source, options(4096), &mut sink)?;
+    count_text(
+        &rt,
+        rt.alloc(),
+        &mut source,
+        &options(rt.alloc(), 4096),
+        &mut sink,
+    )?;
     drop(sink);
     assert!(rt; text.as_slice().starts_with(expected.as_slice()));
     assert_eq!(rt; text.as_slice().get(expected.len()), Some(&0));

@@ -6,7 +6,7 @@ use std::test::Fail;
 
 #[test]
 fn a_fault_has_its_line_and_status(rt: HostRuntime) -> Result<(), Fail> {
-    let told: [(Refusal, &[u8], u8); 8] = [
+    let told: [(Refusal, &[u8], u8); 9] = [
         (Refusal::KeyTooLong, b"fault 20\n", 1),
         (Refusal::BadLine { line: 1 }, b"fault 22 at line 1\n", 1),
         (
@@ -26,6 +26,7 @@ fn a_fault_has_its_line_and_status(rt: HostRuntime) -> Result<(), Fail> {
             1,
         ),
         (Refusal::UnknownMember, b"fault 1\n", 3),
+        (Refusal::NotKept, b"fault 33\n", 3),
         (Refusal::Memory, b"fault 90\n", 3),
     ];
     for (fault, line, code) in told {

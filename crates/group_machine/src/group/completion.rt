@@ -69,6 +69,7 @@ fn complete_seat(seat: &mut Seat, row: Plane)
         ≡ record {
           joined = false;
           synced = false;
+          kept = seat.old.kept;
           granted = union seat.old.granted row;
           assigned = row;
         } }

@@ -1,12 +1,11 @@
 //! Readers over slots.
 
 ghost use Rattle.std.specs.Prelude.{◌≡◌, ◌<◌, ◌≤◌, length, position, Some, None, IfSome, MatchOption};
-ghost use Rattle.std.specs.Str.{bytes_eq};
 ghost use Rattle.std.specs.Iterator.{YieldsFirst, item_count};
 ghost use Rattle.group_machine.specs.Slots.{members_in, owner_in};
-ghost use Rattle.group_machine.specs.State.{name_at, number_in};
+ghost use Rattle.group_machine.specs.State.{is_kept_as, kept_in, name_at, number_in};
 
-use super::Slot;
+use super::{Slot, slots};
 use crate::Name;
 use lane_words::MOST_MEMBERS;
 use std::marker::Model;
@@ -87,21 +86,33 @@ pub fn name_of(slots: &[Slot], member: u32) -> Option<&Name>
     Some(&slot.name)
 }
 
-/// The number of the member that joined under a name, present or not.
+/// The number that a name stands for: the newest that has it, present or not.
 pub fn number_named(slots: &[Slot], name: &Name) -> Option<u32>
     requires { length slots.now ≤ MOST_MEMBERS }
     ensures { result ≡ number_in slots.now name.now }
 {
-    let index = index_named(slots, name)?;
+    let mut number = None;
+    for (index, slot) in slots.iter().enumerate() {
+        if slot.name.text() == name.text() {
+            number = Some(index as u32 + 1);
+        }
+    }
+    number
+}
+
+/// The present member that keeps its place under a name.
+pub fn kept_member(slots: &[Slot], name: &Name) -> Option<u32>
+    requires { length slots.now ≤ MOST_MEMBERS }
+    ensures { result ≡ kept_in slots.now name.now }
+{
+    let index = index_kept(slots, name)?;
     Some(index as u32 + 1)
 }
 
-/// Where the slot of the member that joined under a name stands.
-fn index_named(slots: &[Slot], name: &Name) -> Option<usize>
-    ensures value { result ≡ position (λ s. bytes_eq s.name name.now) slots.now }
+/// Where the slot of the present member stands that keeps its place under a name.
+fn index_kept(slots: &[Slot], name: &Name) -> Option<usize>
+    ensures value { result ≡ position (is_kept_as name.now) slots.now }
     ensures within { IfSome result (λ k. k < length slots.now) }
 {
-    slots
-        .iter()
-        .position(|slot| slot.name.text() == name.text())
+    slots.iter().position(|slot| slots::is_kept_as(slot, name))
 }

@@ -4,7 +4,7 @@ ghost use Rattle.std.specs.Prelude.{◌≡◌, ◌^◌, ◌+◌, ◌++◌, ◌<�
 ghost use Rattle.std.specs.Vec.{vec_len, vec_capacity};
 ghost use Rattle.bit_planes.specs.PartitionSet.{is_in, partitions_of};
 ghost use Rattle.bit_planes.specs.SetRows.{set_of};
-ghost use Rattle.group_machine.specs.Moves.{takers_in, moves_by, last_by};
+ghost use Rattle.group_machine.specs.Moves.{held_by, takers_in, moves_by, last_by};
 ghost use Rattle.group_machine.specs.Private.Walks.{taken_by};
 
 use super::Move;
@@ -81,6 +81,14 @@ pub fn hold(last: &mut [Option<u32>], takers: &[Option<u32>])
             last[partition] = Some(*holder);
         }
     }
+}
+
+/// A member is the last holder of these partitions.
+pub fn take(last: &mut [Option<u32>], member: u32, granted: &Plane)
+    requires { partitions_of granted.now ≡ length last.old }
+    ensures { last.new ≡ held_by member granted.now last.old }
+{
+    take_added(last, member, granted);
 }
 
 /// Puts moves after those so far, for which there is room.

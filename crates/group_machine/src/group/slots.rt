@@ -2,10 +2,11 @@
 
 ghost use Rattle.std.specs.Prelude.{◌≡◌, Some, None, MatchOption, true, is_some, ℕ};
 ghost use Rattle.std.specs.List.{list_any, list_all};
-ghost use Rattle.std.specs.Option.{option_map_or};
+ghost use Rattle.std.specs.Option.{option_map, option_map_or};
 ghost use Rattle.std.specs.Str.{bytes_eq};
 ghost use Rattle.group_machine.specs.Slots.{is_anybody_in, seat_of, one_changed, without_seat};
-ghost use Rattle.group_machine.specs.Steps.{phase_left, rejoined_seat, synced_seat};
+ghost use Rattle.group_machine.specs.Steps.{handed_seat, kept_seat, phase_left, rejoined_seat, synced_seat};
+ghost use Rattle.group_machine.specs.State.{is_kept_as};
 ghost use Rattle.group_machine.specs.Rounds.{agrees};
 ghost use Rattle.group_machine.specs.Private.Walks.{AreSeatsOver};
 
@@ -62,6 +63,36 @@ pub fn mark_synced(slots: &mut [Slot], member: u32)
     if let Some(seat) = &mut slots[member as usize - 1].seat {
         seat.synced = true;
     }
+}
+
+/// A present member keeps its place under its name.
+pub fn keep(slots: &mut [Slot], member: u32)
+    requires { is_some (seat_of slots.old member) ≡ true }
+    ensures { slots.new ≡ one_changed kept_seat slots.old member }
+{
+    if let Some(seat) = &mut slots[member as usize - 1].seat {
+        seat.kept = true;
+    }
+}
+
+/// A present member is taken out, and its place is for one that has not synced.
+pub fn hand_out(slots: &mut [Slot], member: u32) -> Option<Seat>
+    requires { is_some (seat_of slots.old member) ≡ true }
+    ensures seat { result ≡ option_map handed_seat (seat_of slots.old member) }
+    ensures slots { slots.new ≡ without_seat slots.old member }
+{
+    let mut place = slots[member as usize - 1].seat.take();
+    if let Some(seat) = &mut place {
+        seat.synced = false;
+    }
+    place
+}
+
+/// Whether a slot is of a present member that keeps its place under this name.
+pub fn is_kept_as(slot: &Slot, name: &Name) -> bool
+    ensures { result ≡ is_kept_as name.now slot.now }
+{
+    slot.name.text() == name.text() && slot.seat.as_ref().is_some_and(|seat| seat.kept)
 }
 
 /// Whether somebody is present.

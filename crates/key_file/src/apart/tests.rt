@@ -267,8 +267,7 @@ fn topics_in<R: Threads + Sync>(
 {
     let names = [b"a".as_slice(), b"b".as_slice()];
     let found = read_topic_keys_apart(rt, alloc, file, 1, topic_column, &names, header)?;
-    let topics = found.topics(alloc)?;
-    let keys = found.slices(alloc)?;
+    let (topics, keys) = found.topics_and_slices(alloc)?;
     let mut text = Vec::new(alloc);
     for (topic, key) in topics.iter().zip(keys.iter()) {
         text.push(b'0'.wrapping_add(*topic))?;

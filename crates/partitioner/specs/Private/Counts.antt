@@ -1,7 +1,7 @@
 -- The numbers of partitions of topics in an array of eight, and places that are made of hashes.
 use Rattle.std.specs.Prelude.{ℕ, ◌≡◌, ◌<◌, ◌+◌, ◌-◌, ◌%◌, ◌++◌, List, length, replicate, slice_index_or, take}
 use Rattle.partitioner.specs.Place.{partitions_before}
-use Rattle.partitioner.specs.declared.limits.TheConstants.{MOST_TOPICS}
+use Rattle.lane_words.specs.declared.limits.TheConstants.{MOST_TOPICS}
 
 -- the array has so many numbers, and then zeros
 pub record IsPadded (counts : List ℕ) (topics : ℕ) : Type 0 where

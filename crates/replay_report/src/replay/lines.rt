@@ -10,26 +10,17 @@ ghost use Rattle.world.specs.Courses.{outcome_of};
 
 use csv::Writer;
 use group_machine::Name;
-use lane_words::{MOST_MEMBERS, Memory, Refusal};
+use lane_words::{Memory, Refusal};
 use report_rows::rows;
-use script::{Action, Line};
+use script::{Action, Line, Topic};
 use std::alloc::Global;
 use world::{Event, Reply, World};
 
-/// The number of the member that joined under a name; 0, which is nobody's, where none did.
+/// The number that a name stands for; 0, which is nobody's, where it stands for none.
 fn number_named(world: &World, name: &Name) -> u32
     ensures { result ≡ number_named world.now.cluster.group name.now }
 {
-    let cluster = world.cluster();
-    for i in 0..MOST_MEMBERS as u32 {
-        let Some(other) = cluster.name(i + 1) else {
-            return 0;
-        };
-        if other.text() == name.text() {
-            return i + 1;
-        }
-    }
-    0
+    world.cluster().member_named(name).unwrap_or(0)
 }
 
 /// One event, and whether it was refused.
@@ -42,7 +33,7 @@ fn happen(world: &mut World, event: Event<'_>) -> Result<(), Refusal>
     }
 }
 
-/// The event that a line names. A name stands for the member that joined under it.
+/// The event that a line names. A member is told by its name.
 #[tactic(auto, unfolding(crate::specs::ReplayReport::outcome_of_line))]
 fn event_of<'a>(world: &World, action: &'a Action) -> Event<'a>
     requires { IsEvent action.now }
@@ -53,6 +44,8 @@ fn event_of<'a>(world: &World, action: &'a Action) -> Event<'a>
         Action::Append(key) => Event::Append(key.bytes()),
         Action::AppendIn { topic, key } => Event::AppendIn(*topic, key.bytes()),
         Action::Join(name) => Event::Join(name),
+        Action::Keep(name) => Event::JoinKept(name),
+        Action::Return(name) => Event::TakeOver(name),
         Action::Rejoin(name) => Event::Rejoin(number_named(world, name)),
         Action::Sync(name) => Event::Sync(number_named(world, name)),
         Action::Leave(name) => Event::Leave(number_named(world, name)),
@@ -130,6 +123,7 @@ fn write_answer(
 /// Does what a line says, and writes its rows: the moves that it made, and its refusal.
 fn write_line(
     writer: &mut Writer<Vec<u8>>,
+    topics: &[Topic],
     world: &mut World,
     line: &Line,
     batch: u32,
@@ -138,7 +132,7 @@ fn write_line(
     ensures world { OnOk result (world.new
         ≡ (outcome_of_line batch world.old line.now.action).after) }
     ensures rows { OnOk result ((text : List ℕ) → HasText writer.old text
-        → HasText writer.new (text ++ rows_of_line line.now.number world.old
+        → HasText writer.new (text ++ rows_of_line topics.now line.now.number world.old
         (outcome_of_line batch world.old line.now.action))) }
     ensures not_over { OnOk result ((outcome_of_line batch world.old line.now.action).answer
         ≢ Err refusal.GenerationsOver) }
@@ -147,7 +141,7 @@ fn write_line(
 {
     let from = world.cluster().moves().len();
     let answer = perform(world, &line.action, batch)?;
-    replay_rows::write_moves(writer, world.cluster(), from)?;
+    replay_rows::write_moves(writer, topics, world.cluster(), from)?;
     write_answer(writer, line.number, answer)?;
     Ok(())
 }
@@ -155,39 +149,44 @@ fn write_line(
 /// Does what the lines say, one after the other, and writes their rows.
 fn write_lines(
     writer: &mut Writer<Vec<u8>>,
+    topics: &[Topic],
     world: &mut World,
     lines: &[Line],
     batch: u32,
 ) -> Result<(), Refusal>
     requires { 1 ≤ batch }
     ensures rows { OnOk result ((text : List ℕ) → HasText writer.old text
-        → WritesText (text_of_lines batch world.old lines.now) text (HasText writer.new)) }
+        → WritesText (text_of_lines topics.now batch world.old lines.now) text
+        (HasText writer.new)) }
     ensures kind { IfErr result IsNoDeviceFault }
     ensures refused { IfErr result
-        (λ e. (e ≡ refusal.Memory) ⊎ (text_of_lines batch world.old lines.now ≡ Err e)) }
+        (λ e. (e ≡ refusal.Memory) ⊎ (text_of_lines topics.now batch world.old lines.now ≡ Err e)) }
 {
     for line in lines {
-        write_line(writer, world, line, batch)?;
+        write_line(writer, topics, world, line, batch)?;
     }
-    replay_rows::write_closing(writer, world.cluster())?;
+    replay_rows::write_closing(writer, topics, world.cluster())?;
     Ok(())
 }
 
-/// The text of lines in a world: their rows, and the closing rows.
+/// The text of lines in a world: their rows, and the closing rows. With topics, each partition is
+/// told by its topic.
 pub fn text_of_lines(
     alloc: Global,
+    topics: &[Topic],
     world: World,
     lines: &[Line],
     batch: u32,
 ) -> Result<Vec<u8>, Refusal>
     requires { 1 ≤ batch }
-    ensures text { IfOk result (λ text. text_of_lines batch world lines.now ≡ Ok text.items) }
+    ensures text { IfOk result
+        (λ text. text_of_lines topics.now batch world lines.now ≡ Ok text.items) }
     ensures kind { IfErr result IsNoDeviceFault }
     ensures refused { IfErr result
-        (λ e. (e ≡ refusal.Memory) ⊎ (text_of_lines batch world lines.now ≡ Err e)) }
+        (λ e. (e ≡ refusal.Memory) ⊎ (text_of_lines topics.now batch world lines.now ≡ Err e)) }
 {
     let mut world = world;
     let mut writer = rows::new_writer(alloc);
-    write_lines(&mut writer, &mut world, lines, batch)?;
+    write_lines(&mut writer, topics, &mut world, lines, batch)?;
     Ok(rows::text_of(writer)?)
 }

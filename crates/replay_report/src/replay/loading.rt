@@ -1,51 +1,111 @@
 //! The world of a replay before the first line of its script.
 
-ghost use Rattle.std.specs.Prelude.{◌≡◌, ◌≤◌, ◌⊎◌, [], None, Some, IfOk, IfErr, OnOk};
+ghost use Rattle.std.specs.Prelude.{◌≡◌, ◌⊎◌, [], None, Some, IfOk, IfErr, OnOk, map};
 ghost use Rattle.lane_words.specs.declared.Refusal.TheVariants as refusal;
+ghost use Rattle.partition_log.specs.Appends.{in_first};
 ghost use Rattle.count_report.specs.CountReport.{first_fault};
+ghost use Rattle.count_report.specs.Records.{AreOfTopics, partition_counts, record_of, records_in};
+ghost use Rattle.count_report.specs.Reports.{AreInRange};
 ghost use Rattle.count_report.specs.Tally.{IsKeyFault};
+ghost use Rattle.replay_report.specs.Private.Loading.{LoadsRecords};
 ghost use Rattle.replay_report.specs.ReplayReport.{loaded, opening_world};
 ghost use Rattle.world.specs.Valid.{IsValidWorld};
 
-use key_file::FileKeys;
-use lane_words::{MOST_PARTITIONS, Memory, Refusal};
+use command_line::Options;
+use count_report::{FileRecords, partition_counts};
+use key_file::{FileKeys, TopicKeys};
+use lane_words::{Memory, Refusal};
 use std::alloc::Global;
 use std::random::RandomSource;
 use std::thread::Threads;
 use world::World;
 
-/// A world of one topic in which nothing has happened.
-fn opened(rt: &impl RandomSource, alloc: Global, partitions: u32) -> Result<World, Memory>
-    requires { (1 ≤ partitions) × (partitions ≤ MOST_PARTITIONS) }
-    ensures opening { IfOk result (λ world. world ≡ opening_world partitions) }
+/// A world in which nothing has happened, of the topics of these options.
+fn opened(rt: &impl RandomSource, alloc: Global, options: &Options) -> Result<World, Memory>
+    requires { AreInRange options.now }
+    ensures opening { IfOk result
+        (λ world. world ≡ opening_world (partition_counts options.now)) }
     ensures valid { IfOk result IsValidWorld }
 {
-    let world = World::new(rt, alloc, partitions)?;
+    let counts = partition_counts(alloc, options)?;
+    let world = World::with_topics(rt, alloc, counts.as_slice())?;
     Ok(world)
 }
 
-/// A world of one topic to which these keys were appended, one after the other, and in which nothing
+/// A world to which the records of a file were appended, one after the other, and in which nothing
 /// else has happened.
 ///
-/// Refused by the first key that can't be appended.
+/// Refused by the first record that can't be appended.
 pub fn loaded<R: Threads + Sync + RandomSource>(
     rt: &R,
     alloc: Global,
-    keys: &FileKeys,
-    partitions: u32,
+    records: &FileRecords,
+    options: &Options,
 ) -> Result<World, Refusal>
-    requires { (1 ≤ partitions) × (partitions ≤ MOST_PARTITIONS) }
-    ensures world { IfOk result (λ world. world ≡ loaded (opening_world partitions) keys.now) }
+    requires options { AreInRange options.now }
+    requires topics { AreOfTopics (partition_counts options.now) (records_in records.now) }
+    ensures world { IfOk result (λ world. world
+        ≡ loaded (opening_world (partition_counts options.now)) (records_in records.now)) }
     ensures valid { IfOk result IsValidWorld }
-    ensures accepted { OnOk result (first_fault partitions [] keys.now ≡ None) }
+    ensures accepted { OnOk result
+        (first_fault (partition_counts options.now) [] (records_in records.now) ≡ None) }
     ensures kind { IfErr result IsKeyFault }
-    ensures refused { IfErr result
-        (λ e. (e ≡ refusal.Memory) ⊎ (first_fault partitions [] keys.now ≡ Some e)) }
+    ensures refused { IfErr result (λ e. (e ≡ refusal.Memory)
+        ⊎ (first_fault (partition_counts options.now) [] (records_in records.now) ≡ Some e)) }
 {
-    let mut world = opened(rt, alloc, partitions)?;
+    let mut world = opened(rt, alloc, options)?;
+    load_records(rt, alloc, &mut world, records)?;
+    Ok(world)
+}
+
+/// Appends the records of a file, one after the other.
+fn load_records<R: Threads + Sync>(
+    rt: &R,
+    alloc: Global,
+    world: &mut World,
+    records: &FileRecords,
+) -> Result<(), Refusal>
+    requires { AreOfTopics world.old.cluster.logs.counts (records_in records.now) }
+    ensures loads { LoadsRecords world.old (records_in records.now) result world.new }
+    ensures valid { OnOk result (IsValidWorld world.new) }
+{
+    match records {
+        FileRecords::Keys(keys) => load_keys(rt, alloc, world, keys),
+        FileRecords::InTopics(keys) => load_topic_keys(rt, alloc, world, keys),
+    }
+}
+
+/// Appends records of these keys to the first topic.
+fn load_keys<R: Threads + Sync>(
+    rt: &R,
+    alloc: Global,
+    world: &mut World,
+    keys: &FileKeys,
+) -> Result<(), Refusal>
+    ensures loads { LoadsRecords world.old (in_first keys.now) result world.new }
+    ensures valid { OnOk result (IsValidWorld world.new) }
+{
     let slices = keys.slices(alloc)?;
     match world.load(rt, slices.as_slice()) {
-        Ok(()) => Ok(world),
+        Ok(()) => Ok(()),
+        Err((_, why)) => Err(why),
+    }
+}
+
+/// Appends records of these keys, each to its topic.
+fn load_topic_keys<R: Threads + Sync>(
+    rt: &R,
+    alloc: Global,
+    world: &mut World,
+    keys: &TopicKeys,
+) -> Result<(), Refusal>
+    requires { AreOfTopics world.old.cluster.logs.counts (map record_of keys.now) }
+    ensures loads { LoadsRecords world.old (map record_of keys.now) result world.new }
+    ensures valid { OnOk result (IsValidWorld world.new) }
+{
+    let (topics, slices) = keys.topics_and_slices(alloc)?;
+    match world.load_in(rt, topics.as_slice(), slices.as_slice()) {
+        Ok(()) => Ok(()),
         Err((_, why)) => Err(why),
     }
 }

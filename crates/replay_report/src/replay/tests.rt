@@ -1,20 +1,31 @@
 //! Worked rows of a replay.
 
-ghost use Rattle.std.specs.Prelude.{◌≡◌};
+ghost use Rattle.std.specs.Prelude.{◌≡◌, IfOk};
 ghost use Rattle.count_report.specs.Reports.{AreInRange};
+ghost use Rattle.script.specs.Topics.{AreTopics};
 
 use super::*;
 use devices::{FromRead, FromWrite};
+use group_machine::Name;
+use lane_words::Memory;
+use std::process::Abort;
 use std::test::Fail;
 
 const FILE: &[u8] = b"21\n4\nfoobar\nabc\n21\n";
 
-const OPTIONS: Options = Options {
-    partitions: 4,
-    column: 1,
-    header: false,
-    batch: 500,
-};
+/// The options of a file without topics.
+fn options(alloc: Global) -> Options
+    ensures { AreInRange result }
+{
+    Options {
+        partitions: 4,
+        column: 1,
+        header: false,
+        batch: 500,
+        topics: Vec::new(alloc),
+        topic_column: 2,
+    }
+}
 
 #[test]
 fn a_join_is_told_by_its_moves(rt: HostRuntime) -> Result<(), Fail> {
@@ -24,7 +35,14 @@ fn a_join_is_told_by_its_moves(rt: HostRuntime) -> Result<(), Fail> {
     let (mut file, mut script) = (FromRead::new(FILE), FromRead::new(b"join A".as_slice()));
     let mut text = [0u8; TEXT.len()];
     let mut sink = FromWrite::new(text.as_mut_slice());
-    replay_text(&rt, rt.alloc(), &mut file, &mut script, OPTIONS, &mut sink)?;
+    replay_text(
+        &rt,
+        rt.alloc(),
+        &mut file,
+        &mut script,
+        &options(rt.alloc()),
+        &mut sink,
+    )?;
     drop(sink);
     assert_eq!(rt; text.as_slice(), TEXT);
     Ok(())
@@ -40,7 +58,14 @@ fn a_commit_that_comes_again_is_told_as_refused(rt: HostRuntime) -> Result<(), F
     let (mut file, mut script) = (FromRead::new(FILE), FromRead::new(SCRIPT));
     let mut text = [0u8; TEXT.len()];
     let mut sink = FromWrite::new(text.as_mut_slice());
-    replay_text(&rt, rt.alloc(), &mut file, &mut script, OPTIONS, &mut sink)?;
+    replay_text(
+        &rt,
+        rt.alloc(),
+        &mut file,
+        &mut script,
+        &options(rt.alloc()),
+        &mut sink,
+    )?;
     drop(sink);
     assert_eq!(rt; text.as_slice(), TEXT);
     Ok(())
@@ -51,9 +76,105 @@ fn a_bad_line_is_told_and_nothing_is_written(rt: HostRuntime) -> Result<(), Fail
     let (mut file, mut script) = (FromRead::new(FILE), FromRead::new(b"jion A".as_slice()));
     let mut text = Vec::new(rt.alloc());
     let mut sink = FromWrite::new(&mut text);
-    let answer = replay_text(&rt, rt.alloc(), &mut file, &mut script, OPTIONS, &mut sink);
+    let answer = replay_text(
+        &rt,
+        rt.alloc(),
+        &mut file,
+        &mut script,
+        &options(rt.alloc()),
+        &mut sink,
+    );
     drop(sink);
     assert_eq!(rt; answer, Err(Refusal::BadLine { line: 1 }));
     assert_eq!(rt; text.len(), 0);
+    Ok(())
+}
+
+/// A topic of this name, which is one, and of this many partitions.
+fn topic(rt: &impl Abort, name: &[u8], partitions: u32) -> Topic
+    ensures { result ≡ record { name = name.now; partitions = partitions } }
+{
+    let name = Name::new(name).expect(rt, "a name");
+    Topic { name, partitions }
+}
+
+/// The topic a of two partitions, and b of three.
+fn a_and_b(rt: &impl Abort) -> [Topic; 2]
+    ensures { AreTopics result }
+{
+    [topic(rt, b"a", 2), topic(rt, b"b", 3)]
+}
+
+/// The options of a file of these topics.
+fn options_of_two(alloc: Global, topics: [Topic; 2]) -> Result<Options, Memory>
+    requires { AreTopics topics }
+    ensures { IfOk result AreInRange }
+{
+    let mut options = options(alloc);
+    options.topics = Vec::from_array(alloc, topics)?;
+    Ok(options)
+}
+
+const TOPIC_FILE: &[u8] = b"21,a\nabc,b\n21,b\n4,a\n4,b\n";
+
+const DRAINED: &[u8] = b"move,1,a,0,,A\nmove,1,a,1,,A\nmove,1,b,0,,A\nmove,1,b,1,,A\n\
+    move,1,b,2,,A\nmove,3,b,1,A,B\nmove,3,b,2,A,B\n\
+    owner,a,0,A\nowner,a,1,A\nowner,b,0,A\nowner,b,1,B\nowner,b,2,B\n\
+    offset,a,0,1,1\noffset,a,1,1,1\noffset,b,0,2,2\noffset,b,1,1,1\noffset,b,2,0,0\n\
+    count,21,2\ncount,abc,1\ncount,4,2\ntotal,5,5\n";
+
+const APPENDED: &[u8] = b"refused,2,1\nowner,a,0,\nowner,a,1,\nowner,b,0,\nowner,b,1,\nowner,b,2,\n\
+    offset,a,0,0,1\noffset,a,1,0,1\noffset,b,0,0,3\noffset,b,1,0,1\noffset,b,2,0,0\n\
+    total,0,6\n";
+
+/// What a replay over a file of these topics answers, and whether it has written this.
+fn replayed_in_topics<R: Threads + Sync + RandomSource>(
+    rt: &R,
+    alloc: Global,
+    topics: [Topic; 2],
+    row: &Row<'_>,
+) -> Result<(Result<(), Refusal>, bool), Memory>
+    requires { AreTopics topics }
+{
+    let options = options_of_two(alloc, topics)?;
+    let mut text = Vec::new(alloc);
+    let mut sink = FromWrite::new(&mut text);
+    let (mut file, mut script) = (FromRead::new(row.0), FromRead::new(row.1));
+    let answer = replay_text(rt, alloc, &mut file, &mut script, &options, &mut sink);
+    drop(sink);
+    Ok((answer, text.as_slice() == row.2))
+}
+
+/// A file, a script, and the text of the replay or its refusal.
+type Row<'a> = (&'a [u8], &'a [u8], &'a [u8], Result<(), Refusal>);
+
+#[test]
+fn a_file_of_two_topics_is_replayed(rt: HostRuntime) -> Result<(), Fail> {
+    let none = b"".as_slice();
+    let rows: [Row<'_>; 4] = [
+        (
+            TOPIC_FILE,
+            b"join A\nsettle\njoin B\ndrain",
+            DRAINED,
+            Ok(()),
+        ),
+        (TOPIC_FILE, b"append b abc\npoll A b 0 1", APPENDED, Ok(())),
+        (
+            TOPIC_FILE,
+            b"append c abc",
+            none,
+            Err(Refusal::BadLine { line: 1 }),
+        ),
+        (
+            b"21,c\n",
+            b"jion A",
+            none,
+            Err(Refusal::NoSuchTopic { nth: 1 }),
+        ),
+    ];
+    for row in &rows {
+        let replayed = replayed_in_topics(&rt, rt.alloc(), a_and_b(&rt), row)?;
+        assert_eq!(rt; replayed, (row.3, true));
+    }
     Ok(())
 }

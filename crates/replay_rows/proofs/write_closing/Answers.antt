@@ -15,4 +15,4 @@ returns c =
     let offsets = c.in_ok-write_offsets.ensures _ owners in
     let counted = rw (keys, counts) at (c.in_ok-write_committed_counts.ensures _ offsets) in
     let total = rw (c.committed_total.ensures, c.appended_total.ensures) at (write _ counted) in
-    rw (joined_rows text (owner_rows s.group) (offset_rows s) (committed_count_rows s.logs.keys s.store.counts) (total_row (committed_total s) (appended_total s))) at total) c.write_total.ensures
+    rw (joined_rows text (owner_rows c.args.topics.now s.group) (offset_rows c.args.topics.now s) (committed_count_rows s.logs.keys s.store.counts) (total_row (committed_total s) (appended_total s))) at total) c.write_total.ensures

@@ -6,4 +6,4 @@ use Rattle.replay_rows.proofs.write_moves.Given as goal
 abbrev pub invariant-loop-i : goal.invariant-loop-i
 invariant-loop-i l = (text : List ℕ) → HasText l.fn.writer text
     → (now : List ℕ) × HasText l.writer now
-    × (now ++ move_rows l.cluster.group (drop l.i l.moves) ≡ text ++ move_rows l.cluster.group (drop l.from l.moves))
+    × (now ++ move_rows l.topics l.cluster.group (drop l.i l.moves) ≡ text ++ move_rows l.topics l.cluster.group (drop l.from l.moves))

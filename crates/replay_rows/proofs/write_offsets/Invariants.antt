@@ -6,4 +6,4 @@ use Rattle.replay_rows.proofs.write_offsets.Given as goal
 
 abbrev pub invariant-loop-p : goal.invariant-loop-p
 invariant-loop-p l = (text : List ℕ) → HasText l.fn.writer text
-    → HasText l.writer (text ++ rows_below l.p (λ p. offset_row p (committed_at l.cluster.store p) (end_of l.cluster.logs p)))
+    → HasText l.writer (text ++ rows_below l.p (λ p. offset_row l.topics p (committed_at l.cluster.store p) (end_of l.cluster.logs p)))

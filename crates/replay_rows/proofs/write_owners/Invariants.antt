@@ -5,4 +5,4 @@ use Rattle.replay_rows.proofs.write_owners.Given as goal
 
 abbrev pub invariant-loop-p : goal.invariant-loop-p
 invariant-loop-p l = (text : List ℕ) → HasText l.fn.writer text
-    → HasText l.writer (text ++ rows_below l.p (owner_row l.cluster.group))
+    → HasText l.writer (text ++ rows_below l.p (owner_row l.topics l.cluster.group))

@@ -1,21 +1,21 @@
 -- A run, before its text is written.
-use Rattle.std.specs.Prelude.{◌≡◌, ℕ, List, [], ◌∷◌, Result, IsOk}
+use Rattle.std.specs.Prelude.{◌≡◌, ℕ, List, Result, IsOk}
 use Rattle.lane_words.specs.declared.Refusal.{Refusal}
 use Rattle.lane_words.specs.declared.Refusal.TheVariants as r
-use Rattle.partition_log.specs.Appends.{in_first}
-use Rattle.partition_log.specs.Keys.{Key}
+use Rattle.partition_log.specs.Keys.{Keyed}
 use Rattle.partition_log.specs.Logs.{AreLogsOf}
 use Rattle.group_machine.specs.Cluster.{ClusterState, IsValidCluster}
 use Rattle.script.specs.declared.plan.Change.{Change}
 use Rattle.workers.specs.Runs.{IsRunOf}
 use Rattle.count_report.specs.Reports.{IsFaultOf}
 
--- the cluster is the end of a run of a plan over the logs of these keys, of one topic of n
--- partitions
-pub record IsRunOver (n : ℕ) (keys : List Key) (plan : List Change) (s : ClusterState) : Type 0 where
+-- the cluster is the end of a run of a plan over the logs of these records, of topics with so many
+-- partitions each
+pub record IsRunOver
+    (counts : List ℕ) (records : List Keyed) (plan : List Change) (s : ClusterState) : Type 0 where
   pub valid : IsValidCluster s
-  pub counts : s.logs.counts ≡ n ∷ []
-  pub logs : AreLogsOf (in_first keys) s.logs
+  pub counts_are : s.logs.counts ≡ counts
+  pub logs : AreLogsOf records s.logs
   pub run : IsRunOf s.logs plan s
 
 -- why a run ends with nothing to write: it was stopped or differed, and its report is a text, or

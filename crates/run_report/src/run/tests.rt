@@ -1,10 +1,13 @@
 //! Worked rows of a run, and gates that hold workers back.
 
-ghost use Rattle.std.specs.Prelude.{◌≤◌, ◌<◌};
+ghost use Rattle.std.specs.Prelude.{◌≡◌, ◌≤◌, ◌<◌};
+ghost use Rattle.script.specs.Topics.{AreTopics};
 ghost use Rattle.command_line.specs.declared.options.TheConstants.{MOST_BATCH};
 
 use super::*;
 use devices::{FromRead, FromWrite};
+use group_machine::Name;
+use std::process::Abort;
 use std::sync::atomic::{AtomicBool, AtomicU32, Ordering};
 use std::test::Fail;
 use workers::GateAnswer;
@@ -26,6 +29,7 @@ const LEFT_TEXT: &[u8] = b"move,1,0,,A\nmove,1,1,,A\nmove,1,2,,A\nmove,1,3,,A\n\
     count,21,2\ncount,4,1\ncount,foobar,1\ncount,abc,1\ntotal,5,5\n";
 
 /// Always answers the same.
+#[derive(Drop)]
 struct Always(GateAnswer);
 
 impl Gate for Always {
@@ -49,13 +53,72 @@ fn ran<R: Threads + Wait + RandomSource + Sync, G: Gate + Sync>(
         column: 1,
         header: false,
         batch,
+        topics: Vec::new(alloc),
+        topic_column: 2,
     };
     let mut text = Vec::new(alloc);
     let mut sink = FromWrite::new(&mut text);
     let (mut file, mut script) = (FromRead::new(FILE), FromRead::new(plan));
-    let answer = run_text(rt, alloc, &mut file, &mut script, options, gate, &mut sink);
+    let answer = run_text(rt, alloc, &mut file, &mut script, &options, gate, &mut sink);
     drop(sink);
     (answer, text)
+}
+
+/// A topic of this name, which is one, and of this many partitions.
+fn topic(rt: &impl Abort, name: &[u8], partitions: u32) -> Topic
+    ensures { result ≡ record { name = name.now; partitions = partitions } }
+{
+    let name = Name::new(name).expect(rt, "a name");
+    Topic { name, partitions }
+}
+
+/// The topic a of two partitions, and b of three.
+fn a_and_b(rt: &impl Abort) -> [Topic; 2]
+    ensures { AreTopics result }
+{
+    [topic(rt, b"a", 2), topic(rt, b"b", 3)]
+}
+
+const TOPIC_FILE: &[u8] = b"21,a\nabc,b\n21,b\n4,a\n4,b\n";
+
+const TOPIC_TEXT: &[u8] = b"move,1,a,0,,A\nmove,1,a,1,,A\nmove,1,b,0,,A\nmove,1,b,1,,A\n\
+    move,1,b,2,,A\nmove,3,b,1,A,B\nmove,3,b,2,A,B\n\
+    owner,a,0,A\nowner,a,1,A\nowner,b,0,A\nowner,b,1,B\nowner,b,2,B\n\
+    offset,a,0,1,1\noffset,a,1,1,1\noffset,b,0,2,2\noffset,b,1,1,1\noffset,b,2,0,0\n\
+    count,21,2\ncount,abc,1\ncount,4,2\ntotal,5,5\n";
+
+/// What a run of two members over a file of these topics answers, and what it has written.
+fn ran_in_topics<R: Threads + Wait + RandomSource + Sync>(
+    rt: &R,
+    alloc: Global,
+    topics: [Topic; 2],
+    file: &[u8],
+) -> Result<(Result<(), Refusal>, Vec<u8>), Memory>
+    requires { AreTopics topics }
+{
+    let options = Options {
+        partitions: 1,
+        column: 1,
+        header: false,
+        batch: 500,
+        topics: Vec::from_array(alloc, topics)?,
+        topic_column: 2,
+    };
+    let mut text = Vec::new(alloc);
+    let mut sink = FromWrite::new(&mut text);
+    let (mut file, mut script) = (FromRead::new(file), FromRead::new(TWO));
+    let gate = Always(Go);
+    let answer = run_text(
+        rt,
+        alloc,
+        &mut file,
+        &mut script,
+        &options,
+        &gate,
+        &mut sink,
+    );
+    drop(sink);
+    Ok((answer, text))
 }
 
 /// Whether a run wrote this text and was not refused.
@@ -74,6 +137,15 @@ fn two_members_share_the_partitions(rt: HostRuntime) {
         let ran = ran(&rt, rt.alloc(), TWO, batch, &Always(Go));
         assert!(rt; is_text(&ran, TWO_TEXT));
     }
+}
+
+#[test]
+fn two_members_share_two_topics(rt: HostRuntime) -> Result<(), Memory> {
+    let ran = ran_in_topics(&rt, rt.alloc(), a_and_b(&rt), TOPIC_FILE)?;
+    assert!(rt; is_text(&ran, TOPIC_TEXT));
+    let ran = ran_in_topics(&rt, rt.alloc(), a_and_b(&rt), b"21,c\n")?;
+    assert!(rt; is_refused(&ran, Refusal::NoSuchTopic { nth: 1 }));
+    Ok(())
 }
 
 #[test]

@@ -1,12 +1,13 @@
-use Rattle.std.proofs.Common.{◌≡◌, ◌∙◌, List, Some, map, ap, ap₂, sym, subst, true}
+use Rattle.std.proofs.Common.{◌≡◌, ◌∙◌, List, Some, Err, map, ap, ap₂, sym, subst, true}
 use Rattle.std.specs.Borrow.{Bor}
+use Rattle.std.proofs.lemmas.Result.{IfErr-weaker, IfOk-weaker}
 use Rattle.clap.specs.Simple.{app_of}
 use Rattle.clap.specs.Faults.{fault_of, is_simple_and_free}
 use Rattle.clap.specs.Words.{found_of, rows_of}
 use Rattle.clap.specs.Walk.{Row, Text}
 use Rattle.command_line.specs.CommandLine.{keycount_app}
-use Rattle.command_line.specs.Private.CommandLine.{TakesCount, TakesScript}
-use Rattle.command_line.proofs.Entered.{keycount_free, matches_are, none_told, takes_count, takes_none, takes_replay, takes_run, told, told_rows}
+use Rattle.command_line.specs.Private.CommandLine.{TakesCount, TakesScript, TellsBadList}
+use Rattle.command_line.proofs.Entered.{bad_list_told, keycount_free, list_told, matches_are, none_told, takes_count, takes_none, takes_replay, takes_run, told, told_rows}
 use Rattle.command_line.proofs.words.read_words.Goals as goal
 
 pub returns-in-Err-clause-usage : goal.returns-in-Err-clause-usage
@@ -14,7 +15,7 @@ returns-in-Err-clause-usage c =
     let words = map (λ (w : Bor Text). w.now) c.args.words.now in
     let app : app_of c.in-Ok.command ≡ keycount_app = c.in-Ok.ensures in
     let free : is_simple_and_free (app_of c.in-Ok.command) ≡ true = ap is_simple_and_free app ∙ keycount_free in
-    told _ c.in-Err.error _ _ (ap (λ a. fault_of a words) app) c.usage_of.ensures (c.in-Err.ensures.kinds free)
+    told words _ c.in-Err.error _ (ap (λ a. fault_of a words) app) c.usage_of.ensures (c.in-Err.ensures.kinds free)
 
 pub unreachable-requires : goal.unreachable-requires
 unreachable-requires c =
@@ -61,12 +62,24 @@ returns-in-count-clause-job c =
     let found = c.in-Ok-try_get_matches_from.ensures in
     let job = matches_are c.in-Ok.command words _ c.in-Ok.ensures found.matches found.kinds in
     let met = told_rows _ _ _ _ _ job.entered c.in-Some.ensures.name c.in-Some.ensures.rows in
-    record {
+    IfOk-weaker c.count_job.result _ _
+    (λ r is. record {
       rows = rows_of (found_of c.in-Some.given.now);
       taken = job.taken;
-      subcommand = job.subcommand ∙ ap₂ (λ (n : Text) (xs : List Row). Some (n, xs)) (met.0 ∙ c.in-count.is ∙ sym c.count_job.ensures.name) met.1;
-      found = c.count_job.ensures.job;
-    }
+      subcommand = job.subcommand ∙ ap₂ (λ (n : Text) (xs : List Row). Some (n, xs)) (met.0 ∙ c.in-count.is ∙ sym is.0) met.1;
+      found = is.1;
+    })
+    c.count_job.ensures.job
+
+pub returns-in-count-clause-usage : goal.returns-in-count-clause-usage
+returns-in-count-clause-usage c =
+    let words = map (λ (w : Bor Text). w.now) c.args.words.now in
+    let found = c.in-Ok-try_get_matches_from.ensures in
+    let job = matches_are c.in-Ok.command words _ c.in-Ok.ensures found.matches found.kinds in
+    let met = told_rows _ _ _ _ _ job.entered c.in-Some.ensures.name c.in-Some.ensures.rows in
+    IfErr-weaker c.count_job.result _ _
+    (λ usage tells. list_told words job.name job.rows usage job.taken job.subcommand (subst (λ rows. TellsBadList rows usage) (sym met.1) tells))
+    c.count_job.ensures.bad
 
 pub returns-in-replay-clause-job : goal.returns-in-replay-clause-job
 returns-in-replay-clause-job c =
@@ -74,12 +87,24 @@ returns-in-replay-clause-job c =
     let found = c.in-Ok-try_get_matches_from.ensures in
     let job = matches_are c.in-Ok.command words _ c.in-Ok.ensures found.matches found.kinds in
     let met = told_rows _ _ _ _ _ job.entered c.in-Some.ensures.name c.in-Some.ensures.rows in
-    record {
+    IfOk-weaker c.replay_job.result _ _
+    (λ r is. record {
       rows = rows_of (found_of c.in-Some.given.now);
       taken = job.taken;
-      subcommand = job.subcommand ∙ ap₂ (λ (n : Text) (xs : List Row). Some (n, xs)) (met.0 ∙ c.in-replay.is ∙ sym c.replay_job.ensures.name) met.1;
-      found = c.replay_job.ensures.job;
-    }
+      subcommand = job.subcommand ∙ ap₂ (λ (n : Text) (xs : List Row). Some (n, xs)) (met.0 ∙ c.in-replay.is ∙ sym is.0) met.1;
+      found = is.1;
+    })
+    c.replay_job.ensures.job
+
+pub returns-in-replay-clause-usage : goal.returns-in-replay-clause-usage
+returns-in-replay-clause-usage c =
+    let words = map (λ (w : Bor Text). w.now) c.args.words.now in
+    let found = c.in-Ok-try_get_matches_from.ensures in
+    let job = matches_are c.in-Ok.command words _ c.in-Ok.ensures found.matches found.kinds in
+    let met = told_rows _ _ _ _ _ job.entered c.in-Some.ensures.name c.in-Some.ensures.rows in
+    IfErr-weaker c.replay_job.result _ _
+    (λ usage tells. list_told words job.name job.rows usage job.taken job.subcommand (subst (λ rows. TellsBadList rows usage) (sym met.1) tells))
+    c.replay_job.ensures.bad
 
 pub returns-in-run-clause-job : goal.returns-in-run-clause-job
 returns-in-run-clause-job c =
@@ -87,9 +112,37 @@ returns-in-run-clause-job c =
     let found = c.in-Ok-try_get_matches_from.ensures in
     let job = matches_are c.in-Ok.command words _ c.in-Ok.ensures found.matches found.kinds in
     let met = told_rows _ _ _ _ _ job.entered c.in-Some.ensures.name c.in-Some.ensures.rows in
-    record {
+    IfOk-weaker c.run_job.result _ _
+    (λ r is. record {
       rows = rows_of (found_of c.in-Some.given.now);
       taken = job.taken;
-      subcommand = job.subcommand ∙ ap₂ (λ (n : Text) (xs : List Row). Some (n, xs)) (met.0 ∙ c.in-run.is ∙ sym c.run_job.ensures.name) met.1;
-      found = c.run_job.ensures.job;
-    }
+      subcommand = job.subcommand ∙ ap₂ (λ (n : Text) (xs : List Row). Some (n, xs)) (met.0 ∙ c.in-run.is ∙ sym is.0) met.1;
+      found = is.1;
+    })
+    c.run_job.ensures.job
+
+pub returns-in-run-clause-usage : goal.returns-in-run-clause-usage
+returns-in-run-clause-usage c =
+    let words = map (λ (w : Bor Text). w.now) c.args.words.now in
+    let found = c.in-Ok-try_get_matches_from.ensures in
+    let job = matches_are c.in-Ok.command words _ c.in-Ok.ensures found.matches found.kinds in
+    let met = told_rows _ _ _ _ _ job.entered c.in-Some.ensures.name c.in-Some.ensures.rows in
+    IfErr-weaker c.run_job.result _ _
+    (λ usage tells. list_told words job.name job.rows usage job.taken job.subcommand (subst (λ rows. TellsBadList rows usage) (sym met.1) tells))
+    c.run_job.ensures.bad
+
+pub returns-in-Err-clause-list : goal.returns-in-Err-clause-list
+returns-in-Err-clause-list c =
+    bad_list_told (map (λ (w : Bor Text). w.now) c.args.words.now) (Err c.usage_of.result) tt (returns-in-Err-clause-usage c)
+
+pub returns-in-count-clause-list : goal.returns-in-count-clause-list
+returns-in-count-clause-list c =
+    bad_list_told (map (λ (w : Bor Text). w.now) c.args.words.now) c.count_job.result (returns-in-count-clause-job c) (returns-in-count-clause-usage c)
+
+pub returns-in-replay-clause-list : goal.returns-in-replay-clause-list
+returns-in-replay-clause-list c =
+    bad_list_told (map (λ (w : Bor Text). w.now) c.args.words.now) c.replay_job.result (returns-in-replay-clause-job c) (returns-in-replay-clause-usage c)
+
+pub returns-in-run-clause-list : goal.returns-in-run-clause-list
+returns-in-run-clause-list c =
+    bad_list_told (map (λ (w : Bor Text). w.now) c.args.words.now) c.run_job.result (returns-in-run-clause-job c) (returns-in-run-clause-usage c)

@@ -1,4 +1,6 @@
-use Rattle.std.proofs.Common.{◌∙◌, ◌++◌, ap}
+use Rattle.std.proofs.Common.{◌∙◌, ◌++◌, List, ap}
+use Rattle.script.specs.declared.topics.Topic.{Topic}
+use Rattle.count_report.specs.Records.{partition_counts, records_in}
 use Rattle.group_machine.specs.Cluster.{ClusterState}
 use Rattle.replay_rows.specs.ReplayRows.{closing_rows, move_rows}
 use Rattle.run_report.proofs.Ran.{text_is, text_told}
@@ -8,4 +10,8 @@ pub returns-clause-text : goal.returns-clause-text
 returns-clause-text g c =
     let s = c.in_ok-outcome.outcome in
     let run = c.in_ok-outcome.ensures in
-    text_told c.args.options c.args.keys c.args.plan.now _ run.accepted (c.in_ok-text_of_end.ensures ∙ ap (λ (x : ClusterState). move_rows x.group x.group.moves ++ closing_rows x) c.cluster.ensures ∙ text_is c.args.options.partitions c.args.keys c.args.plan.now s run.run)
+    let options = c.args.options.now in
+    let records = records_in c.args.records in
+    let topics = c.as_slice-topics.ensures.value in
+    text_told options records c.args.plan.now _ run.accepted (c.in_ok-text_of_end.ensures ∙ ap (λ (x : ClusterState). move_rows c.as_slice-topics.result.now x.group x.group.moves ++ closing_rows c.as_slice-topics.result.now x) c.cluster.ensures
+    ∙ ap (λ (ts : List Topic). move_rows ts s.group s.group.moves ++ closing_rows ts s) topics ∙ text_is options.topics.items (partition_counts options) records c.args.plan.now s run.run)

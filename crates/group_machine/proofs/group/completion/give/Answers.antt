@@ -22,7 +22,7 @@ loop-index-preserved c =
     elim c.match-slots-index.branch [
       | in-Some w ↦
           let new : w.complete_seat.new.seat ≡ completed_seat next (index + 1) w.in-Some.seat =
-          w.complete_seat.ensures ∙ ap (λ r. record { joined = false; synced = false; granted = union w.in-Some.seat.granted r; assigned = r }) w.row_for.ensures.row in
+          w.complete_seat.ensures ∙ ap (λ r. record { joined = false; synced = false; kept = w.in-Some.seat.kept; granted = union w.in-Some.seat.granted r; assigned = r }) w.row_for.ensures.row in
           let seat : Some w.complete_seat.new.seat ≡ option_map (completed_seat next (index + 1)) (get_or now index d).seat = ap (λ x. Some x) new ∙ ap (option_map (completed_seat next (index + 1))) (sym w.in-Some.is) in
           record {
             long = c.match-slots-index.auto.slots ∙ c.loop-index.invariant.long;

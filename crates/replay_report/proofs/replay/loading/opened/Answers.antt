@@ -1,7 +1,13 @@
+use Rattle.std.proofs.Common.{◌∙◌, subst}
+use Rattle.std.specs.List.{sum}
+use Rattle.count_report.specs.Records.{partition_counts}
+use Rattle.world.specs.Runs.{IsOpening}
 use Rattle.replay_report.proofs.Opening.{opening_is}
 use Rattle.replay_report.proofs.replay.loading.opened.Goals as goal
 
 pub returns-clause-opening : goal.returns-clause-opening
 returns-clause-opening g c =
     let new = c.in_ok-world.ensures in
-    opening_is c.args.partitions c.in_ok-world.world new.opening new.counts new.offsets new.valid new.opening.room
+    let same = c.as_slice.ensures.value ∙ c.in_ok-counts.ensures.value in
+    let w = c.in_ok-world.world in
+    opening_is (partition_counts c.args.options.now) w (subst (λ cs. IsOpening (sum cs) w) same new.opening) (new.counts ∙ same) new.offsets new.valid new.opening.room

@@ -1,0 +1,168 @@
+-- Lists of topics, as they are read item by item.
+use Rattle.std.proofs.Common.{◌≡◌, ◌∙◌, ◌≢◌, ◌+◌, ◌<◌, ◌≤◌, refl, sym, ap, subst, ℕ, Bool, true, false, cond, ◌&&◌, Option, Some, None, Err, List, [], ◌∷◌, ◌++◌, map, length, take, drop, get_or, arith, length-append, take-append-drop}
+use Rattle.std.proofs.lemmas.Bool.Decides.{nat_tests}
+use Rattle.std.proofs.lemmas.List.{get_or_append_left, get_or_at, drop_all, drop_more, length-map, length_push}
+use Rattle.std.proofs.lemmas.List.Elements.{All-push}
+use Rattle.std.proofs.lemmas.List.Quantifiers.{all_pairs_push}
+use Rattle.std.proofs.lemmas.List.Splits.{length-slice_split}
+use Rattle.std.proofs.lemmas.List.Sums.{sum_by-append, sum_by-cons, sum_by_push}
+use Rattle.std.proofs.lemmas.Str.Parse.{parse_digits}
+use Rattle.std.specs.Char.{is_ascii_digit}
+use Rattle.std.specs.List.{after_first, list_all, before_first, position_or_len, slice_split}
+use Rattle.std.specs.Str.Parse.{ParsesUnsigned, digits_value}
+use Rattle.group_machine.specs.Name.{is_name}
+use Rattle.script.proofs.Numbers.{digits_model}
+use Rattle.script.specs.Topics.{MayBeTopics}
+use Rattle.script.specs.declared.topics.Topic.{Topic}
+use Rattle.command_line.specs.Private.Topics.{MayFollow, count_of}
+use Rattle.command_line.specs.Topics.{AreTopicsOf, IsBadList, is_colon, is_comma, is_count, topic_of}
+
+-- no topics keep the rules of topics
+pub no_topics : MayBeTopics []
+no_topics = record {
+  few = omega arith;
+  named = λ k d below. absurd (omega arith);
+  distinct = λ i j d order below. absurd (omega arith);
+  each = λ k d below. absurd (omega arith);
+  within = omega arith;
+}
+
+-- topics and one that may follow them keep the rules of topics
+pub more_known : (topics : List Topic) (topic : Topic) → MayBeTopics topics → MayFollow topics topic
+    → is_name topic.name ≡ true → 1 ≤ topic.partitions → MayBeTopics (topics ++ topic ∷ [])
+more_known topics topic known follows named some = record {
+  few = let e = length_push topics topic in let room = follows.room in omega (arith, e, room);
+  named = All-push (λ (t : Topic). is_name t.name ≡ true) topics topic known.named named;
+  distinct = all_pairs_push (λ (t u : Topic). t.name ≢ u.name) topics topic known.distinct (λ k d below. follows.named k d below);
+  each = All-push (λ (t : Topic). 1 ≤ t.partitions) topics topic known.each some;
+  within = rw (sum_by_push (λ (t : Topic). t.partitions) topics topic) follows.within;
+}
+
+-- in a list of topics each may follow those before it
+pub has_followed : (before : List Topic) (topic : Topic) (more : List Topic) → MayBeTopics (before ++ topic ∷ more)
+    → MayFollow before topic
+has_followed before topic more known =
+    let sizes = length-append before (topic ∷ more) in
+    record {
+      room = let few = known.few in omega (arith, sizes, few);
+      named = λ k d below same.
+          let first : get_or (before ++ topic ∷ more) k d ≡ get_or before k d = get_or_append_left before (topic ∷ more) d k below in
+          let second : get_or (before ++ topic ∷ more) (length before) d ≡ topic = get_or_at before topic more d (length before) refl in
+          known.distinct k (length before) d below (omega (arith, sizes))
+          (ap (λ (t : Topic). t.name) first ∙ same ∙ sym (ap (λ (t : Topic). t.name) second));
+      within =
+          let sums = sum_by-append (λ (t : Topic). t.partitions) before (topic ∷ more) in
+          let rest = sum_by-cons (λ (t : Topic). t.partitions) topic more in
+          let all = known.within in
+          omega (arith, sums, rest, all);
+    }
+
+-- where all items of a list say something, the one after these says what comes after what these say
+pub said_next : {A B : Type 0} (f : A → Option B) (items : List A) (item : A) (rest : List A) (said all : List B)
+    → map f items ≡ map Some said → map f (items ++ item ∷ rest) ≡ map Some all
+    → (next : B) × (more : List B) × (f item ≡ Some next) × (all ≡ said ++ next ∷ more)
+said_next f [] item rest [] [] e h = let no : ⊥ = cc in absurd no
+said_next f [] item rest [] (b ∷ bs) e h =
+    let said : f item ≡ Some b = cc in
+    (b, bs, said, refl)
+said_next f [] item rest (s ∷ ss) all e h = let no : ⊥ = cc in absurd no
+said_next f (a ∷ others) item rest [] all e h = let no : ⊥ = cc in absurd no
+said_next f (a ∷ others) item rest (s ∷ ss) [] e h = let no : ⊥ = cc in absurd no
+said_next f (a ∷ others) item rest (s ∷ ss) (b ∷ bs) e h =
+    let so_far : map f others ≡ map Some ss = cc in
+    let in_all : map f (others ++ item ∷ rest) ≡ map Some bs = cc in
+    let next = said_next f others item rest ss bs so_far in_all in
+    let same : s ≡ b = cc in
+    let more : bs ≡ ss ++ next.0 ∷ next.1 = next.3 in
+    (next.0, next.1, next.2, cc)
+
+-- a list, up to one of its elements and from it on
+pub split_there : {X : Type 0} (all before : List X) (n : ℕ) (item : X) → before ≡ take n all
+    → (n < length all) × (item ≡ get_or all n item) → all ≡ before ++ item ∷ drop (n + 1) all
+split_there all before n item so_far turn =
+    sym (take-append-drop n all)
+    ∙ ap (λ front. front ++ drop n all) (sym so_far)
+    ∙ ap (λ back. before ++ back) (drop_more all n item turn.0)
+    ∙ ap (λ x. before ++ x ∷ drop (n + 1) all) (sym turn.1)
+
+-- a list with an item that says nothing says no topics
+pub nothing_in : (list : List ℕ) (before : List (List ℕ)) (item : List ℕ) (rest : List (List ℕ)) (said : List Topic)
+    → slice_split is_comma list ≡ before ++ item ∷ rest → map topic_of before ≡ map Some said → topic_of item ≡ None
+    → IsBadList (Some list)
+nothing_in list before item rest said there so_far none topics says =
+    let next = said_next topic_of before item rest said topics so_far (ap (λ items. map topic_of items) (sym there) ∙ says.items) in
+    let said : topic_of item ≡ Some next.0 = next.2 in
+    let no : ⊥ = cc in
+    no
+
+-- and neither does one with an item whose topic may not follow those before it
+pub no_room_in : (list : List ℕ) (before : List (List ℕ)) (item : List ℕ) (rest : List (List ℕ)) (said : List Topic) (topic : Topic)
+    → slice_split is_comma list ≡ before ++ item ∷ rest → map topic_of before ≡ map Some said → topic_of item ≡ Some topic
+    → (MayFollow said topic → ⊥) → IsBadList (Some list)
+no_room_in list before item rest said topic there so_far is never topics says =
+    let next = said_next topic_of before item rest said topics so_far (ap (λ items. map topic_of items) (sym there) ∙ says.items) in
+    let said_it : topic_of item ≡ Some next.0 = next.2 in
+    let same : next.0 ≡ topic = cc in
+    never (subst (λ t. MayFollow said t) same (has_followed said next.0 next.1 (subst MayBeTopics next.3 says.rules.known)))
+
+-- a list has an item, and so what it says has a topic
+pub some_said : (list : List ℕ) (topics : List Topic) → map topic_of (slice_split is_comma list) ≡ map Some topics
+    → 1 ≤ length topics
+some_said list topics says =
+    let items = slice_split is_comma list in
+    let sizes : length (map topic_of items) ≡ length (map Some topics) = ap length says in
+    let said = length-map items topic_of in
+    let told = length-map topics Some in
+    let some = length-slice_split is_comma list in
+    omega (arith, sizes, said, told, some)
+
+-- ---- one item
+
+no_name_or_count : (b : Bool) (topic : Topic) → cond (b && false) (Some topic) None ≡ None
+no_name_or_count true topic = refl
+no_name_or_count false topic = refl
+
+-- what an item says has a name, and partitions
+pub topic_said : (item : List ℕ) (topic : Topic) → topic_of item ≡ Some topic
+    → (is_name topic.name ≡ true) × (1 ≤ topic.partitions) × (topic.partitions ≤ 4096)
+unfolding topic_of
+topic_said item topic e =
+    at (is_name (before_first is_colon item)) (is_count (after_first is_colon item)) refl refl e
+  where
+    at : (named counts : Bool) → is_name (before_first is_colon item) ≡ named → is_count (after_first is_colon item) ≡ counts
+        → cond (named && counts) (Some (record { name = before_first is_colon item; partitions = digits_value 10 (after_first is_colon item) })) None ≡ Some topic
+        → (is_name topic.name ≡ true) × (1 ≤ topic.partitions) × (topic.partitions ≤ 4096)
+    at true true named counts e =
+        let some : 1 ≤ digits_value 10 (after_first is_colon item) = grind (arith, nat_tests) in
+        let few : digits_value 10 (after_first is_colon item) ≤ 4096 = grind (arith, nat_tests) in
+        let said : Topic = record { name = before_first is_colon item; partitions = digits_value 10 (after_first is_colon item) } in
+        let same : said ≡ topic = cc in
+        subst (λ (t : Topic). (is_name t.name ≡ true) × (1 ≤ t.partitions) × (t.partitions ≤ 4096)) same (named, some, few)
+    at true false named counts e = let no : ⊥ = cc in absurd no
+    at false counted named counts e = let no : ⊥ = cc in absurd no
+
+-- an item without a colon says nothing
+pub nothing_said : (item : List ℕ) → position_or_len is_colon item ≡ length item → topic_of item ≡ None
+unfolding topic_of
+nothing_said item e =
+    let none : after_first is_colon item ≡ [] = drop_all (position_or_len is_colon item + 1) item (omega (arith, e)) in
+    rw none (no_name_or_count (is_name (before_first is_colon item)) _)
+
+-- the topics that the words give keep the rules of topics
+pub may_be_topics : (list : Option (List ℕ)) (topics : List Topic) → AreTopicsOf list topics → MayBeTopics topics
+may_be_topics None topics none = rw none no_topics
+may_be_topics (Some list) topics says = says.rules.known
+
+refused : (b : Bool) (n : ℕ) → (b ≡ true → ⊥) → cond b (Some n) None ≡ None
+refused true n never = absurd (never refl)
+refused false n never = refl
+
+-- digits that are no number of 32 bits say no number of partitions
+pub no_count : {E : Type 0} (digits : List ℕ) (e : E) → ParsesUnsigned 32 10 digits (Err e)
+    → list_all is_ascii_digit digits ≡ true → count_of digits ≡ None
+no_count {E} digits e parses all =
+    refused (is_count digits) (digits_value 10 digits)
+    (λ counts.
+    let some : 0 < length digits = grind (arith, nat_tests) in
+    let few : digits_value 10 digits ≤ 4096 = grind (arith, nat_tests) in
+    parse_digits digits_model {E = E} 32 digits (Err e) parses all (some, omega (arith, few)))

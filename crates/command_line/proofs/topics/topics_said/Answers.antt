@@ -1,0 +1,55 @@
+use Rattle.std.proofs.Common.{◌≡◌, ◌∙◌, ◌++◌, ◌∷◌, [], refl, ℕ, List, Bor, Some, map, length, lit<, sym, ap, arith, true, false, true≢false}
+use Rattle.std.proofs.lemmas.Iterator.Consumers.{YieldsList-end, YieldsList-so_far, YieldsList-turn}
+use Rattle.std.proofs.lemmas.Iterator.Splits.{YieldsList-from_str_split}
+use Rattle.std.specs.List.{slice_split}
+use Rattle.std.proofs.lemmas.List.{map_push}
+use Rattle.script.specs.declared.topics.Topic.{Topic}
+use Rattle.command_line.specs.Topics.{is_comma, topic_of}
+use Rattle.command_line.proofs.TopicLists.{more_known, no_room_in, nothing_in, some_said, split_there, topic_said}
+use Rattle.command_line.proofs.topics.topics_said.Goals as goal
+
+pub returns-in_default : goal.returns-in_default
+returns-in_default c =
+    let road = YieldsList-from_str_split 44 c.args.list.now (lit< tt) (cc) (cc) (cc) in
+    let items = slice_split is_comma c.args.list.now in
+    let before = map (λ (item : Bor (List ℕ)). item.now) c.loop-item.yielded in
+    let so_far = YieldsList-so_far road c.loop-item.yielded _ c.loop-item.yielded_by in
+    let turn = YieldsList-turn road c.loop-item.yielded _ c.loop-item.yielded_by _ _ c.in-Some.item c.in-Some.is c.next.ensures.steps in
+    let there = split_there items before (length c.loop-item.yielded) c.in-Some.item.now so_far turn in
+    nothing_in c.args.list.now before c.in-Some.item.now _ c.loop-item.topics.items there c.loop-item.invariant.said (sym c.in_default.ensures)
+
+pub may_follow-requires-clause-few : goal.may_follow-requires-clause-few
+may_follow-requires-clause-few c = (topic_said c.in-Some.item.now c.in-Some-topic_of.topic (sym c.in-Some-topic_of.ensures)).2
+
+pub returns-then-not-may_follow : goal.returns-then-not-may_follow
+returns-then-not-may_follow c =
+    let refused : c.may_follow.result ≡ false = grind arith in
+    let road = YieldsList-from_str_split 44 c.args.list.now (lit< tt) (cc) (cc) (cc) in
+    let items = slice_split is_comma c.args.list.now in
+    let before = map (λ (item : Bor (List ℕ)). item.now) c.loop-item.yielded in
+    let so_far = YieldsList-so_far road c.loop-item.yielded _ c.loop-item.yielded_by in
+    let turn = YieldsList-turn road c.loop-item.yielded _ c.loop-item.yielded_by _ _ c.in-Some.item c.in-Some.is c.next.ensures.steps in
+    let there = split_there items before (length c.loop-item.yielded) c.in-Some.item.now so_far turn in
+    no_room_in c.args.list.now before c.in-Some.item.now _ c.loop-item.topics.items c.in-Some-topic_of.topic there c.loop-item.invariant.said (sym c.in-Some-topic_of.ensures)
+    (λ may. true≢false (sym (c.may_follow.ensures.1 (rw c.as_slice.ensures.value may)) ∙ refused))
+
+pub loop-item-preserved : goal.loop-item-preserved
+loop-item-preserved c =
+    let pushed : c.push.new.self.items ≡ c.loop-item.topics.items ++ c.in-Some-topic_of.topic ∷ [] = c.in_ok-push.ensures.items in
+    let says = topic_said c.in-Some.item.now c.in-Some-topic_of.topic (sym c.in-Some-topic_of.ensures) in
+    let told : c.may_follow.result ≡ true = grind arith in
+    let may = rw c.as_slice.ensures.value at c.may_follow.ensures.0 told in
+    record {
+      said = rw (pushed, map_push (λ (item : Bor (List ℕ)). item.now) c.loop-item.yielded c.in-Some.item, map_push topic_of (map (λ (item : Bor (List ℕ)). item.now) c.loop-item.yielded) c.in-Some.item.now, map_push (λ (t : Topic). Some t) c.loop-item.topics.items c.in-Some-topic_of.topic, c.loop-item.invariant.said, ← c.in-Some-topic_of.ensures) refl;
+      known = rw pushed (more_known c.loop-item.topics.items c.in-Some-topic_of.topic c.loop-item.invariant.known may says.0 says.1);
+    }
+
+pub returns : goal.returns
+returns c =
+    let road = YieldsList-from_str_split 44 c.args.list.now (lit< tt) (cc) (cc) (cc) in
+    let end = YieldsList-end road c.loop-item.yielded _ c.loop-item.yielded_by _ _ c.in-None.is c.next.ensures.steps in
+    let says = ap (λ items. map topic_of items) (sym end.0) ∙ c.loop-item.invariant.said in
+    record {
+      items = says;
+      rules = record { some = some_said c.args.list.now c.loop-item.topics.items says; known = c.loop-item.invariant.known };
+    }

@@ -1,0 +1,91 @@
+//! Lists of topics: what the option `--topics` gives.
+
+ghost use Rattle.std.specs.Prelude.{◌≡◌, ◌≤◌, ◌↔◌, IfOk, IsTrue, List, ℕ};
+ghost use Rattle.std.specs.Char.{is_ascii_digit};
+ghost use Rattle.std.specs.List.{list_all};
+ghost use Rattle.script.specs.Topics.{MayBeTopics, partitions_in};
+ghost use Rattle.command_line.specs.Private.Topics.{IsNew, MayFollow, TellsTopics, count_of};
+ghost use Rattle.command_line.specs.Topics.{topic_of};
+
+use group_machine::Name;
+use lane_words::{MOST_PARTITIONS, MOST_TOPICS};
+use script::Topic;
+use std::alloc::{AllocError, Global};
+
+/// The most digits of a number of partitions.
+const MOST_DIGITS: usize = 4;
+
+/// The topics that a list says, if it is one.
+pub fn topics_said(alloc: Global, list: &str) -> Result<Option<Vec<Topic>>, AllocError>
+    ensures { IfOk result (TellsTopics list.now) }
+{
+    let mut topics = Vec::with_capacity(alloc, MOST_TOPICS)?;
+    for item in list.split(',') {
+        let Some(topic) = topic_of(item) else {
+            return Ok(None);
+        };
+        if !may_follow(topics.as_slice(), &topic) {
+            return Ok(None);
+        }
+        topics.push(topic)?;
+    }
+    Ok(Some(topics))
+}
+
+/// The topic that an item of a list says, if it is one.
+#[tactic(auto, unfolding(crate::specs::Topics::topic_of))]
+fn topic_of(item: &str) -> Option<Topic>
+    ensures { result ≡ topic_of item.now }
+{
+    let (name, digits) = item.split_once(':')?;
+    let name = Name::new(name.as_bytes())?;
+    let partitions = count_of(digits)?;
+    Some(Topic { name, partitions })
+}
+
+/// The number of partitions that digits say, if they say one.
+fn count_of(digits: &str) -> Option<u32>
+    ensures { result ≡ count_of digits.now }
+{
+    if digits.len() > MOST_DIGITS || !has_digits_alone(digits) {
+        return None;
+    }
+    let Ok(number) = digits.parse::<u32>() else {
+        return None;
+    };
+    (1..=MOST_PARTITIONS).contains(&number).then_some(number)
+}
+
+/// Whether each byte is a decimal digit.
+fn has_digits_alone(text: &str) -> bool
+    ensures { result ≡ list_all is_ascii_digit text.now }
+{
+    text.as_bytes().iter().all(|byte| byte.is_ascii_digit())
+}
+
+/// Whether a topic may come after these: there is room for one more, none of them has its name, and
+/// all together have no more than `MOST_PARTITIONS` partitions.
+fn may_follow(topics: &[Topic], topic: &Topic) -> bool
+    requires known { MayBeTopics topics.now }
+    requires few { topic.now.partitions ≤ MOST_PARTITIONS }
+    ensures { IsTrue result ↔ MayFollow topics.now topic.now }
+{
+    topics.len() < MOST_TOPICS
+        && is_new(topics, &topic.name)
+        && partitions_in(topics) + topic.partitions <= MOST_PARTITIONS
+}
+
+/// Whether no topic has this name.
+fn is_new(topics: &[Topic], name: &Name) -> bool
+    ensures { IsTrue result ↔ IsNew topics.now name.now }
+{
+    topics.iter().all(|topic| topic.name.text() != name.text())
+}
+
+/// How many partitions topics have.
+fn partitions_in(topics: &[Topic]) -> u32
+    requires { MayBeTopics topics.now }
+    ensures { result ≡ partitions_in topics.now }
+{
+    topics.iter().map(|topic| topic.partitions).sum()
+}

@@ -1,0 +1,5 @@
+use Rattle.count_report.proofs.Placed.{counts-valid}
+use Rattle.count_report.proofs.reading.partition_counts.Goals as goal
+
+pub returns-else-is_empty-clause-valid : goal.returns-else-is_empty-clause-valid
+returns-else-is_empty-clause-valid c = counts-valid c.args.options.now c.requires

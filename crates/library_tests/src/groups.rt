@@ -1,0 +1,485 @@
+//! Worked rows, each call once with ample memory, and as many members and partitions as there can
+//! be.
+
+use bit_planes::Plane;
+use group_machine::{Cluster, Commit, Name, Phase};
+use keyed_table::Partial;
+use lane_words::{MOST_MEMBERS, MOST_PARTITIONS, Memory, Refusal};
+use partition_log::{LogRead, Logs};
+use std::alloc::Global;
+use std::process::Abort;
+use std::random::RandomSource;
+use std::test::Fail;
+
+/// Whether a set has these elements and no others.
+fn is(set: &Plane, list: &[u32]) -> bool {
+    set.count() as usize == list.len() && list.iter().all(|q| set.contains(*q))
+}
+
+/// A call on a cluster of four partitions with its answer, or what is told of the cluster.
+///
+/// A test is a list of them, which one loop makes: a course of calls one after the other is proved
+/// over what all of them say, and takes minutes.
+#[derive(Clone, Copy)]
+enum Step<'a> {
+    /// One joins under this name.
+    Join(&'a [u8], Result<u32, Refusal>),
+    /// One joins under this name, and keeps its place.
+    JoinKept(&'a [u8], Result<u32, Refusal>),
+    /// One takes the place over that is kept under this name.
+    TakeOver(&'a [u8], Result<u32, Refusal>),
+    /// A member syncs, and is leased these partitions in this generation.
+    Lease(u32, u32, &'a [u32]),
+    /// A member rejoins in a generation with this claim.
+    Rejoin(u32, u32, &'a [u32], Result<(), Refusal>),
+    /// A member leaves.
+    Leave(u32, Result<(), Refusal>),
+    /// A member is lost.
+    Lose(u32, Result<(), Refusal>),
+    /// A record of this key is appended.
+    Append(&'a [u8], Result<(u32, u32), Refusal>),
+    /// A member commits in a generation, of a partition from an offset on, records of these keys.
+    Commit((u32, u32, u32, u32), &'a [u32], Result<u32, Refusal>),
+    /// The generation, the phase, and whether the group is settled.
+    Stands(u32, Phase, bool),
+    /// A member is granted these partitions, and is to keep those.
+    Has(u32, &'a [u32], &'a [u32]),
+    /// Whether a member is present, has joined and has synced.
+    Is(u32, bool, bool, bool),
+    /// Whether a member keeps its place.
+    Keeps(u32, bool),
+    /// The member of a name.
+    Named(&'a [u8], Option<u32>),
+    /// The committed offsets.
+    Offsets(&'a [u32]),
+}
+
+/// Whether a step is answered as it says.
+fn is_answered(
+    rt: &impl Abort,
+    alloc: Global,
+    cluster: &mut Cluster,
+    step: &Step<'_>,
+) -> Result<bool, Memory> {
+    let is_so = match step {
+        Step::Join(text, answer) => cluster.join(name(rt, text)) == *answer,
+        Step::JoinKept(text, answer) => cluster.join_kept(name(rt, text)) == *answer,
+        Step::TakeOver(text, answer) => cluster.take_over(&name(rt, text)) == *answer,
+        Step::Lease(member, generation, list) => leases(cluster, *member, *generation, list),
+        Step::Rejoin(member, generation, claim, answer) => {
+            cluster.rejoin(*member, *generation, &set_of(claim)) == *answer
+        }
+        Step::Leave(member, answer) => cluster.leave(*member) == *answer,
+        Step::Lose(member, answer) => cluster.lose(*member) == *answer,
+        Step::Append(key, answer) => cluster.append(key) == *answer,
+        Step::Commit(terms, ids, answer) => commit(alloc, cluster, *terms, ids)? == *answer,
+        step => is_told(rt, cluster, step),
+    };
+    Ok(is_so)
+}
+
+/// Whether a cluster is told as a step says, which calls nothing that changes it.
+fn is_told(rt: &impl Abort, cluster: &Cluster, step: &Step<'_>) -> bool {
+    match step {
+        Step::Stands(generation, phase, settled) => {
+            cluster.generation() == *generation
+                && cluster.phase() == *phase
+                && cluster.is_settled() == *settled
+        }
+        Step::Has(member, granted, assigned) => has(cluster, *member, granted, assigned),
+        Step::Is(member, present, joined, synced) => {
+            cluster.is_present(*member) == *present
+                && cluster.is_joined(*member) == *joined
+                && cluster.is_synced(*member) == *synced
+        }
+        Step::Keeps(member, kept) => cluster.is_kept(*member) == *kept,
+        Step::Named(text, member) => cluster.member_named(&name(rt, text)) == *member,
+        Step::Offsets(offsets) => cluster.store().offsets() == *offsets,
+        _ => false,
+    }
+}
+
+/// The first step that is not answered as it says.
+fn first_other(
+    rt: &impl Abort,
+    alloc: Global,
+    cluster: &mut Cluster,
+    steps: &[Step<'_>],
+) -> Result<Option<usize>, Memory> {
+    for (index, step) in steps.iter().enumerate() {
+        if !is_answered(rt, alloc, cluster, step)? {
+            return Ok(Some(index));
+        }
+    }
+    Ok(None)
+}
+
+/// A cluster of four partitions, after steps that are answered as they say.
+fn after<R: Abort + RandomSource>(
+    rt: &R,
+    alloc: Global,
+    steps: &[Step<'_>],
+) -> Result<Cluster, Fail> {
+    let mut cluster = Cluster::new(rt, alloc, 4)?;
+    assert_eq!(rt; first_other(rt, alloc, &mut cluster, steps)?, None);
+    Ok(cluster)
+}
+
+/// The set of these of four partitions.
+fn set_of(list: &[u32]) -> Plane {
+    let mut set = Plane::new(4);
+    for q in list {
+        if *q < set.partitions() {
+            set.insert(*q);
+        }
+    }
+    set
+}
+
+/// Whether a member is present with these sets.
+fn has(cluster: &Cluster, member: u32, granted: &[u32], assigned: &[u32]) -> bool {
+    match (cluster.granted(member), cluster.assigned(member)) {
+        (Some(may), Some(keeps)) => is(may, granted) && is(keeps, assigned),
+        _ => false,
+    }
+}
+
+/// The name of this text, which is one.
+fn name(rt: &impl Abort, text: &[u8]) -> Name {
+    Name::new(text).expect(rt, "a name")
+}
+
+/// The last digit of a number.
+fn digit(n: u32) -> u8 {
+    b'0' + (n % 10) as u8
+}
+
+/// A name of three digits.
+fn numbered(rt: &impl Abort, n: u32) -> Name {
+    name(rt, &[digit(n / 100), digit(n / 10), digit(n)])
+}
+
+/// A member syncs and rejoins with what it is leased, and tells how much that is.
+fn sync_and_rejoin(cluster: &mut Cluster, member: u32) -> Result<u32, Refusal> {
+    let lease = cluster.sync(member)?;
+    cluster.rejoin(member, lease.generation(), lease.assigned())?;
+    Ok(lease.assigned().count())
+}
+
+/// Whether a member is leased these partitions in this generation.
+fn leases(cluster: &mut Cluster, member: u32, generation: u32, list: &[u32]) -> bool {
+    match cluster.sync(member) {
+        Ok(lease) => {
+            lease.member() == member
+                && lease.generation() == generation
+                && is(lease.assigned(), list)
+        }
+        Err(_) => false,
+    }
+}
+
+/// What a cluster answers a commit of these terms.
+fn commit(
+    alloc: Global,
+    cluster: &mut Cluster,
+    terms: (u32, u32, u32, u32),
+    ids: &[u32],
+) -> Result<Result<u32, Refusal>, Memory> {
+    let partial = Partial::of(alloc, Vec::from_slice(alloc, ids)?)?;
+    let (member, generation, partition, from) = terms;
+    let sent = Commit::new(member, generation, partition, from, partial);
+    Ok(cluster.commit(&sent))
+}
+
+/// The moves from the last on: generation, partition, last holder and holder.
+fn moves_end_with(cluster: &Cluster, rows: &[(u32, u32, Option<u32>, u32)]) -> bool {
+    let last = cluster
+        .moves()
+        .iter()
+        .rev()
+        .map(|m| (m.generation, m.partition, m.last, m.holder));
+    last.zip(rows).all(|(moved, row)| moved == *row)
+}
+
+#[test]
+fn a_partition_moves_once_it_is_revoked(rt: HostRuntime) -> Result<(), Fail> {
+    let cluster = after(
+        &rt,
+        rt.alloc(),
+        &[
+            Step::Join(b"A", Ok(1)),
+            Step::Join(b"B", Ok(2)),
+            Step::Stands(1, Phase::Preparing, false),
+            Step::Is(1, true, false, false),
+            Step::Is(2, true, true, false),
+            Step::Lease(1, 1, &[0, 1, 2, 3]),
+            Step::Is(1, true, false, true),
+            Step::Rejoin(1, 1, &[0, 1, 2, 3], Ok(())),
+            Step::Stands(2, Phase::Stable, false),
+            Step::Has(1, &[0, 1, 2, 3], &[0, 1]),
+            Step::Has(2, &[], &[]),
+            Step::Lease(1, 2, &[0, 1]),
+            Step::Rejoin(1, 2, &[0, 1], Ok(())),
+            Step::Lease(2, 2, &[]),
+            Step::Rejoin(2, 2, &[], Ok(())),
+            Step::Stands(3, Phase::Stable, true),
+        ],
+    )?;
+    let rows = [(3, 3, Some(1), 2), (3, 2, Some(1), 2), (1, 3, None, 1)];
+    assert!(rt; cluster.moves().len() == 6 && moves_end_with(&cluster, &rows));
+    assert_eq!(rt; cluster.owner(3), Some(2));
+    Ok(())
+}
+
+#[test]
+fn commits_are_fenced_and_taken_once(rt: HostRuntime) -> Result<(), Fail> {
+    let none_yet = Err(Refusal::OffsetMismatch { committed: 0 });
+    let taken = Err(Refusal::OffsetMismatch { committed: 2 });
+    let cluster = after(
+        &rt,
+        rt.alloc(),
+        &[
+            Step::Append(b"21", Ok((0, 0))),
+            Step::Append(b"21", Ok((0, 1))),
+            Step::Join(b"A", Ok(1)),
+            Step::Rejoin(1, 1, &[], Err(Refusal::SyncFirst)),
+            Step::Lease(1, 1, &[0, 1, 2, 3]),
+            Step::Join(b"B", Ok(2)),
+            Step::Rejoin(1, 1, &[0, 1], Err(Refusal::ClaimDiffers)),
+            Step::Commit((9, 1, 0, 0), &[0], Err(Refusal::UnknownMember)),
+            Step::Commit((1, 0, 0, 0), &[0], Err(Refusal::StaleGeneration)),
+            Step::Commit((1, 1, 7, 0), &[0], Err(Refusal::NotOwner)),
+            Step::Commit((1, 1, 0, 0), &[], Err(Refusal::EmptyCommit)),
+            Step::Commit((1, 1, 0, 1), &[0], none_yet),
+            Step::Commit((1, 1, 0, 0), &[0, 0, 0], Err(Refusal::PastEnd)),
+            Step::Commit((1, 1, 0, 0), &[0, 1], Err(Refusal::WrongRecords)),
+            Step::Commit((1, 1, 0, 0), &[0, 0], Ok(2)),
+            Step::Commit((1, 1, 0, 0), &[0, 0], taken),
+            Step::Offsets(&[2, 0, 0, 0]),
+        ],
+    )?;
+    assert!(rt; cluster.partitions() == 4 && cluster.logs().len(0) == 2);
+    Ok(())
+}
+
+#[test]
+fn a_lost_member_is_fenced_off(rt: HostRuntime) -> Result<(), Fail> {
+    let cluster = after(
+        &rt,
+        rt.alloc(),
+        &[
+            Step::Append(b"21", Ok((0, 0))),
+            Step::Join(b"A", Ok(1)),
+            Step::Join(b"B", Ok(2)),
+            Step::Join(b"B", Err(Refusal::NameUsed)),
+            Step::Lose(1, Ok(())),
+            Step::Leave(1, Err(Refusal::UnknownMember)),
+            Step::Is(1, false, false, false),
+            Step::Is(2, true, false, false),
+            Step::Stands(2, Phase::Stable, true),
+            Step::Commit((1, 1, 0, 0), &[0], Err(Refusal::UnknownMember)),
+            Step::Commit((2, 2, 0, 0), &[0], Ok(1)),
+        ],
+    )?;
+    assert!(rt; cluster.members().eq([2]));
+    let lost = cluster.name(1).expect(&rt, "a number that was given");
+    assert_eq!(rt; lost.text(), b"A".as_slice());
+    Ok(())
+}
+
+#[test]
+fn names_are_of_letters_digits_and_two_marks(rt: HostRuntime) {
+    let texts: [(&[u8], bool); 6] = [
+        (b"", false),
+        (b"worker-1_B", true),
+        (b"a.b", false),
+        (b"a name", false),
+        (b"12345678901234567890123456789012", true),
+        (b"123456789012345678901234567890123", false),
+    ];
+    for (text, is_name) in texts {
+        assert_eq!(rt; Name::new(text).is_some(), is_name, "{text:?}");
+    }
+}
+
+/// As many members as there may be, of as many partitions.
+fn at_its_limits<R: Abort + RandomSource>(rt: &R, alloc: Global) -> Result<Cluster, Fail> {
+    let mut cluster = Cluster::new(rt, alloc, MOST_PARTITIONS)?;
+    for member in 1..MOST_MEMBERS as u32 + 1 {
+        assert!(rt;
+            cluster.join(numbered(rt, member)) == Ok(member),
+            "{member}"
+        );
+    }
+    Ok(cluster)
+}
+
+#[test]
+fn no_more_members_than_there_may_be_join(rt: HostRuntime) -> Result<(), Fail> {
+    let mut cluster = at_its_limits(&rt, rt.alloc())?;
+    let joins = [
+        Step::Join(b"late", Err(Refusal::TooManyMembers)),
+        Step::Join(b"007", Err(Refusal::NameUsed)),
+    ];
+    assert_eq!(rt; first_other(&rt, rt.alloc(), &mut cluster, &joins)?, None);
+    Ok(())
+}
+
+/// What a member is leased, where it syncs and rejoins.
+fn leased(cluster: &mut Cluster, member: u32) -> Option<u32> {
+    sync_and_rejoin(cluster, member).ok()
+}
+
+#[test]
+fn a_cluster_at_its_limits(rt: HostRuntime) -> Result<(), Fail> {
+    let mut cluster = at_its_limits(&rt, rt.alloc())?;
+    for (member, count) in [(1, MOST_PARTITIONS), (1, 8), (512, 0)] {
+        assert!(rt;
+            leased(&mut cluster, member) == Some(count),
+            "{member} {count}"
+        );
+    }
+    assert_eq!(rt; cluster.moves().len(), MOST_PARTITIONS as usize);
+    let first = [0, 1, 2, 3, 4, 5, 6, 7];
+    let steps = [
+        Step::Has(1, &first, &first),
+        Step::Leave(512, Ok(())),
+        Step::Leave(512, Err(Refusal::UnknownMember)),
+        Step::Stands(2, Phase::Preparing, false),
+        Step::Is(511, true, false, false),
+        Step::Is(512, false, false, false),
+    ];
+    assert_eq!(rt; first_other(&rt, rt.alloc(), &mut cluster, &steps)?, None);
+    Ok(())
+}
+
+/// Logs of five records of four keys, of which each has a place of its own for four partitions.
+fn five_records(rt: &HostRuntime) -> Result<Logs, Fail> {
+    let mut logs = Logs::new(rt, rt.alloc(), 4)?;
+    let keys: [&[u8]; 5] = [b"21", b"4", b"foobar", b"abc", b"21"];
+    for key in keys {
+        logs.append(key)?;
+    }
+    Ok(logs)
+}
+
+#[test]
+fn a_cluster_over_logs_has_nothing_committed(rt: HostRuntime) -> Result<(), Fail> {
+    let cluster = Cluster::over(rt.alloc(), five_records(&rt)?)?;
+    assert!(rt; cluster.phase() == Phase::Empty && cluster.generation() == 0);
+    assert!(rt; !cluster.is_present(1) && cluster.moves().is_empty());
+    assert_eq!(rt; cluster.store().offsets(), [0; 4].as_slice());
+    assert_eq!(rt; cluster.store().counts(), [0; 4].as_slice());
+    Ok(())
+}
+
+/// Whether a cluster's logs are equal to these.
+fn are_logs(logs: Logs, cluster: &Cluster) -> bool {
+    logs.seal().same(cluster.logs())
+}
+
+#[test]
+fn a_cluster_over_logs_keeps_them(rt: HostRuntime) -> Result<(), Fail> {
+    let mut cluster = Cluster::over(rt.alloc(), five_records(&rt)?)?;
+    let steps = [
+        Step::Join(b"A", Ok(1)),
+        Step::Lease(1, 1, &[0, 1, 2, 3]),
+        Step::Commit((1, 1, 0, 0), &[0, 0], Ok(2)),
+        Step::Commit((1, 1, 2, 0), &[2], Ok(1)),
+        Step::Offsets(&[2, 0, 1, 0]),
+    ];
+    assert_eq!(rt; first_other(&rt, rt.alloc(), &mut cluster, &steps)?, None);
+    assert_eq!(rt; cluster.store().counts(), [2, 0, 1, 0].as_slice());
+    assert!(rt; are_logs(five_records(&rt)?, &cluster));
+    Ok(())
+}
+
+/// Logs of this many records of four bytes, each of another key.
+fn many_records(rt: &HostRuntime, records: u32) -> Result<Logs, Fail> {
+    let mut logs = Logs::new(rt, rt.alloc(), MOST_PARTITIONS)?;
+    for i in 0..records {
+        logs.append(&i.to_le_bytes())?;
+    }
+    Ok(logs)
+}
+
+#[test]
+fn a_cluster_over_many_keys_counts_each(rt: HostRuntime) -> Result<(), Fail> {
+    let mut cluster = Cluster::over(rt.alloc(), many_records(&rt, 100_000)?)?;
+    assert!(rt; cluster.partitions() == MOST_PARTITIONS && cluster.logs().keys() == 100_000);
+    assert_eq!(rt; cluster.store().offsets().len(), 4096);
+    assert_eq!(rt; cluster.store().counts().len(), 100_000);
+    assert!(rt; cluster.append(b"new").is_ok());
+    assert_eq!(rt; cluster.store().counts().len(), 100_001);
+    Ok(())
+}
+
+#[test]
+fn a_name_tells_its_number(rt: HostRuntime) -> Result<(), Fail> {
+    after(
+        &rt,
+        rt.alloc(),
+        &[
+            Step::Named(b"A", None),
+            Step::Join(b"A", Ok(1)),
+            Step::Join(b"B", Ok(2)),
+            Step::Leave(1, Ok(())),
+            Step::Named(b"A", Some(1)),
+            Step::Named(b"B", Some(2)),
+            Step::Named(b"a", None),
+            Step::Named(b"AB", None),
+        ],
+    )?;
+    Ok(())
+}
+
+#[test]
+fn a_kept_place_is_taken_over(rt: HostRuntime) -> Result<(), Fail> {
+    let cluster = after(
+        &rt,
+        rt.alloc(),
+        &[
+            Step::JoinKept(b"A", Ok(1)),
+            Step::Keeps(1, true),
+            Step::Join(b"B", Ok(2)),
+            Step::TakeOver(b"B", Err(Refusal::NotKept)),
+            Step::TakeOver(b"C", Err(Refusal::NotKept)),
+            Step::JoinKept(b"A", Err(Refusal::NameUsed)),
+            Step::Lease(1, 1, &[0, 1, 2, 3]),
+            Step::TakeOver(b"A", Ok(3)),
+            Step::Stands(1, Phase::Preparing, false),
+            Step::Is(1, false, false, false),
+            Step::Keeps(1, false),
+            Step::Is(3, true, false, false),
+            Step::Keeps(3, true),
+            Step::Has(3, &[0, 1, 2, 3], &[0, 1, 2, 3]),
+            Step::Named(b"A", Some(3)),
+            Step::Commit((1, 1, 0, 0), &[], Err(Refusal::UnknownMember)),
+            Step::Rejoin(3, 1, &[0, 1, 2, 3], Err(Refusal::SyncFirst)),
+            Step::Lease(3, 1, &[0, 1, 2, 3]),
+            Step::Rejoin(3, 1, &[0, 1, 2, 3], Ok(())),
+            Step::Stands(2, Phase::Stable, false),
+            Step::TakeOver(b"A", Ok(4)),
+            Step::Stands(2, Phase::Stable, false),
+            Step::Has(4, &[0, 1, 2, 3], &[0, 1]),
+            Step::Lease(4, 2, &[0, 1]),
+            Step::Rejoin(4, 2, &[0, 1], Ok(())),
+            Step::TakeOver(b"A", Ok(5)),
+            Step::Is(5, true, true, false),
+            Step::Rejoin(5, 2, &[0, 1], Err(Refusal::AlreadyJoined)),
+            Step::Lease(2, 2, &[]),
+            Step::Rejoin(2, 2, &[], Ok(())),
+            Step::Has(5, &[0, 1], &[0, 1]),
+            Step::Has(2, &[2, 3], &[2, 3]),
+            Step::Stands(3, Phase::Stable, true),
+            Step::TakeOver(b"A", Ok(6)),
+            Step::Stands(3, Phase::Stable, true),
+            Step::Leave(6, Ok(())),
+            Step::TakeOver(b"A", Err(Refusal::NotKept)),
+        ],
+    )?;
+    // What member 4 had given up was last its own, and not of who took its place over then.
+    let moves = [(3, 3, Some(4), 2), (3, 2, Some(4), 2)];
+    assert!(rt; moves_end_with(&cluster, &moves));
+    Ok(())
+}

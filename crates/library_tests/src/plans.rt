@@ -1,0 +1,285 @@
+//! Plans, by the rules of their lines.
+
+use group_machine::Name;
+use lane_words::{MOST_MEMBERS, Memory, Refusal};
+use script::{Change, Plan, read_plan};
+use std::alloc::Global;
+use std::test::Fail;
+
+/// A change: its command and its name.
+type Said<'a> = (&'a [u8], &'a [u8]);
+
+/// What a script is read as, as a plan.
+///
+/// A test is a list of scripts, which one loop reads: a course of calls one after the other is
+/// proved over what all of them say, and takes minutes.
+#[derive(Clone, Copy)]
+enum Read<'a> {
+    /// A plan of these changes and this many members.
+    Plan(&'a [Said<'a>], u32),
+    /// It is refused with this number, at the line of this number.
+    Refused(u8, u64),
+}
+
+/// A script and what it is read as.
+type Row<'a> = (&'a [u8], Read<'a>);
+
+// The calls, without what their contracts say.
+
+fn plan_of(alloc: Global, script: &[u8]) -> Result<Plan, Refusal> {
+    read_plan(alloc, script)
+}
+
+fn changes(plan: &Plan) -> &[Change] {
+    plan.lines()
+}
+
+fn members(plan: &Plan) -> u32 {
+    plan.members()
+}
+
+fn copied(alloc: Global, plan: &Plan) -> Result<Plan, Memory> {
+    plan.copy(alloc)
+}
+
+fn is_same(plan: &Plan, other: &Plan) -> bool {
+    plan.same(other)
+}
+
+/// Whether a plan has these changes, in order.
+fn has_changes(plan: &Plan, said: &[Said<'_>]) -> bool {
+    let lines = changes(plan);
+    for (change, (command, name)) in lines.iter().zip(said) {
+        let (has_command, has_name) = match change {
+            Change::Join(name) => (b"join".as_slice(), name.text()),
+            Change::Leave(name) => (b"leave".as_slice(), name.text()),
+            Change::Lose(name) => (b"lose".as_slice(), name.text()),
+        };
+        if has_command != *command || has_name != *name {
+            return false;
+        }
+    }
+    lines.len() == said.len()
+}
+
+/// Whether a script is read so.
+fn is_read(alloc: Global, script: &[u8], read: &Read<'_>) -> bool {
+    match (plan_of(alloc, script), read) {
+        (Ok(plan), Read::Plan(said, count)) => {
+            has_changes(&plan, said) && members(&plan) == *count
+        }
+        (Err(why), Read::Refused(code, number)) => is_refusal(&why, *code, *number),
+        _ => false,
+    }
+}
+
+/// Whether a refusal has this number, at the line of this number.
+fn is_refusal(why: &Refusal, code: u8, number: u64) -> bool {
+    match why {
+        Refusal::BadLine { line } | Refusal::NobodyLeft { line } => {
+            why.code() == code && *line == number
+        }
+        _ => false,
+    }
+}
+
+/// The first of some scripts that is read otherwise.
+fn first_other(alloc: Global, rows: &[Row<'_>]) -> Option<usize> {
+    for (index, (script, read)) in rows.iter().enumerate() {
+        if !is_read(alloc, script, read) {
+            return Some(index);
+        }
+    }
+    None
+}
+
+/// Adds a line for each number from 0 on: a command and a name with the number.
+fn add_lines(out: &mut Vec<u8>, command: &[u8], count: u32) -> Result<(), Fail> {
+    for i in 0..count {
+        let number = i.to_string(*out.allocator())?;
+        out.extend_from_slice(command)?;
+        out.extend_from_slice(number.as_bytes())?;
+        out.push(b'\n')?;
+    }
+    Ok(())
+}
+
+/// The names of so many members that join, and then of so many that leave, each in its order.
+fn are_all(plan: &Plan, joins: usize, leaves: usize) -> bool {
+    let lines = changes(plan);
+    for (index, change) in lines.iter().enumerate() {
+        let is_so = match change {
+            Change::Join(name) => index < joins && is_numbered(name, index),
+            Change::Leave(name) => joins <= index && is_numbered(name, index - joins),
+            Change::Lose(_) => false,
+        };
+        if !is_so {
+            return false;
+        }
+    }
+    joins <= lines.len() && lines.len() - joins == leaves
+}
+
+/// Whether a name is `m` and a number below 1,000, without zeros in front.
+fn is_numbered(name: &Name, number: usize) -> bool {
+    let text = name.text();
+    let digits = [
+        b'm',
+        b'0' + (number / 100 % 10) as u8,
+        b'0' + (number / 10 % 10) as u8,
+        b'0' + (number % 10) as u8,
+    ];
+    let front = if number < 10 {
+        3
+    } else if number < 100 {
+        2
+    } else {
+        1
+    };
+    text.first() == Some(&b'm') && text[1..] == digits[front..]
+}
+
+const CHANGES: &[Said<'static>] = &[
+    (b"join", b"A"),
+    (b"join", b"B-1"),
+    (b"leave", b"A"),
+    (b"join", b"c_2"),
+    (b"lose", b"B-1"),
+];
+
+const PLANS: &[Row<'static>] = &[
+    (
+        b"# x\n\njoin A\r\njoin B-1\n\r\nleave A\njoin c_2\nlose B-1",
+        Read::Plan(CHANGES, 3),
+    ),
+    (
+        b"join A\njoin B-1\nleave A\njoin c_2\nlose B-1\n",
+        Read::Plan(CHANGES, 3),
+    ),
+];
+
+const FAULTS: &[Row<'static>] = &[
+    (b"", Read::Refused(27, 0)),
+    (b"# x\n\n\r\n#", Read::Refused(27, 0)),
+    (b"join A\nlose A", Read::Refused(27, 2)),
+    (b"join A\nleave A\njoin B", Read::Refused(27, 2)),
+    (b"join A\nlose A\njunk", Read::Refused(27, 2)),
+    (b"join A\njunk\nlose A", Read::Refused(22, 2)),
+    (b"join A\njoin A", Read::Refused(22, 2)),
+    (b"leave A", Read::Refused(22, 1)),
+    (b"lose A", Read::Refused(22, 1)),
+    (b"join A\nleave B", Read::Refused(22, 2)),
+    (b"join A\n\n# x\r\n\r\nlose B", Read::Refused(22, 5)),
+    (b"join A\njoin B\nlose A\nlose A", Read::Refused(22, 4)),
+    (b"join A\njoin B\nleave A\nlose A", Read::Refused(22, 4)),
+    (b"join A\njoin B\nleave A\njoin A", Read::Refused(22, 4)),
+    (
+        b"join A\njoin B\nlose A\nlose B\njoin A",
+        Read::Refused(27, 4),
+    ),
+];
+
+const OTHERS: &[Row<'static>] = &[
+    (b"settle", Read::Refused(22, 1)),
+    (b"drain", Read::Refused(22, 1)),
+    (b"append x", Read::Refused(22, 1)),
+    (b"append ", Read::Refused(22, 1)),
+    (b"append", Read::Refused(22, 1)),
+    (b"poll A 0 1", Read::Refused(22, 1)),
+    (b"send A 0", Read::Refused(22, 1)),
+    (b"rejoin A", Read::Refused(22, 1)),
+    (b"sync A", Read::Refused(22, 1)),
+    (b"keep A", Read::Refused(22, 1)),
+    (b"return A", Read::Refused(22, 1)),
+    (b"deliver 1", Read::Refused(22, 1)),
+    (b"unanswered 1", Read::Refused(22, 1)),
+    (b"join", Read::Refused(22, 1)),
+    (b"join A B", Read::Refused(22, 1)),
+    (b"join  A", Read::Refused(22, 1)),
+    (b"join A ", Read::Refused(22, 1)),
+    (b" join A", Read::Refused(22, 1)),
+    (b"join A\r\r", Read::Refused(22, 1)),
+    (b"join \xc3\xa4", Read::Refused(22, 1)),
+];
+
+#[test]
+fn changes_are_read(rt: HostRuntime) {
+    assert_eq!(rt; first_other(rt.alloc(), PLANS), None);
+}
+
+#[test]
+fn the_first_fault_is_told(rt: HostRuntime) {
+    assert_eq!(rt; first_other(rt.alloc(), FAULTS), None);
+}
+
+#[test]
+fn other_lines_are_refused(rt: HostRuntime) {
+    assert_eq!(rt; first_other(rt.alloc(), OTHERS), None);
+}
+
+#[test]
+fn a_line_has_256_bytes_at_most(rt: HostRuntime) -> Result<(), Fail> {
+    let mut script = b"join A\n".as_slice().to_vec(rt.alloc())?;
+    for _ in 0..256 {
+        script.push(b'#')?;
+    }
+    let read = [(script.as_slice(), Read::Plan(&[(b"join", b"A")], 1))];
+    assert_eq!(rt; first_other(rt.alloc(), &read), None);
+    script.push(b'#')?;
+    let refused = [(script.as_slice(), Read::Refused(22, 2))];
+    assert_eq!(rt; first_other(rt.alloc(), &refused), None);
+    Ok(())
+}
+
+#[test]
+fn at_most_512_join(rt: HostRuntime) -> Result<(), Fail> {
+    let mut script = Vec::new(rt.alloc());
+    add_lines(&mut script, b"join m", 512)?;
+    let plan = plan_of(rt.alloc(), &script)?;
+    assert!(rt; members(&plan) == 512 && are_all(&plan, 512, 0));
+    let mut more = script.as_slice().to_vec(rt.alloc())?;
+    more.extend_from_slice(b"join m512\n")?;
+    assert_eq!(rt;
+        first_other(rt.alloc(), &[(&more, Read::Refused(22, 513))]),
+        None
+    );
+    Ok(())
+}
+
+#[test]
+fn all_but_one_of_512_leave(rt: HostRuntime) -> Result<(), Fail> {
+    let mut script = Vec::new(rt.alloc());
+    add_lines(&mut script, b"join m", 512)?;
+    add_lines(&mut script, b"leave m", 511)?;
+    let plan = plan_of(rt.alloc(), &script)?;
+    assert!(rt; members(&plan) == 512 && are_all(&plan, 512, 511));
+    assert!(rt; is_same(&plan, &copied(rt.alloc(), &plan)?));
+    script.extend_from_slice(b"lose m511\n")?;
+    assert_eq!(rt;
+        first_other(rt.alloc(), &[(&script, Read::Refused(27, 1024))]),
+        None
+    );
+    Ok(())
+}
+
+const UNLIKE: &[&[u8]] = &[
+    b"join A\njoin B\nlose A",
+    b"join A\njoin B\nleave B",
+    b"join A\njoin C\nleave A",
+    b"join B\njoin A\nleave A",
+    b"join A\njoin B",
+    b"join A\njoin B\nleave A\njoin C",
+];
+
+#[test]
+fn plans_are_compared(rt: HostRuntime) -> Result<(), Fail> {
+    let plan = plan_of(rt.alloc(), b"join A\njoin B\nleave A")?;
+    let copy = copied(rt.alloc(), &plan)?;
+    assert!(rt; is_same(&plan, &plan) && is_same(&plan, &copy) && is_same(&copy, &plan));
+    assert!(rt; has_changes(&copy, &[(b"join", b"A"), (b"join", b"B"), (b"leave", b"A")]));
+    for other in UNLIKE {
+        let other = plan_of(rt.alloc(), other)?;
+        assert!(rt; !is_same(&plan, &other) && !is_same(&other, &plan));
+    }
+    Ok(())
+}

@@ -1,0 +1,430 @@
+//! Runs of worked rows, with gates that hold workers back, and as many members as there can be.
+
+ghost use Rattle.std.specs.Prelude.{◌≤◌};
+
+use group_machine::{Cluster, Move};
+use lane_words::{MOST_MEMBERS, Memory, Refusal};
+use partition_log::{Logs, SealedLogs};
+use script::read_plan;
+use std::alloc::Global;
+use std::random::RandomSource;
+use std::sync::Wait;
+use std::sync::atomic::{AtomicBool, AtomicU32, Ordering};
+use std::test::Fail;
+use std::thread::Threads;
+use workers::GateAnswer::{Go, NotNow, Stop};
+use workers::{Gate, GateAnswer, Outcome, Planned, run_cluster};
+
+/// The five records that most rows are over.
+const FIVE: [&[u8]; 5] = [b"21", b"4", b"foobar", b"abc", b"21"];
+
+// Who owns logs, a plan or an outcome makes few calls: each `?` and each assertion is proved with
+// all that lets go what is owned there.
+
+/// Logs of four partitions with the five records.
+fn five_logs(rt: &impl RandomSource, alloc: Global) -> Result<SealedLogs, Refusal> {
+    let mut logs = Logs::new(rt, alloc, 4)?;
+    append_five(&mut logs)?;
+    Ok(logs.seal())
+}
+
+/// Appends the five records.
+fn append_five(logs: &mut Logs) -> Result<(), Refusal> {
+    for key in &FIVE {
+        logs.append(key)?;
+    }
+    Ok(())
+}
+
+/// Always lets commit.
+#[derive(Drop)]
+struct Open;
+
+impl Gate for Open {
+    fn ask(&self, _member: u32, _generation: u32) -> GateAnswer {
+        Go
+    }
+}
+
+/// Answers the first questions in one way, and the rest in another.
+#[derive(Drop)]
+struct Counting {
+    asked: AtomicU32,
+    first: u32,
+    before: GateAnswer,
+    after: GateAnswer,
+}
+
+impl Counting {
+    fn new(first: u32, before: GateAnswer, after: GateAnswer) -> Counting {
+        Counting {
+            asked: AtomicU32::new(0),
+            first,
+            before,
+            after,
+        }
+    }
+}
+
+impl Gate for Counting {
+    fn ask(&self, _member: u32, _generation: u32) -> GateAnswer {
+        if self.asked.fetch_add(1, Ordering::SeqCst) < self.first {
+            self.before
+        } else {
+            self.after
+        }
+    }
+}
+
+/// A move of the first generation, in which the first member takes all.
+fn taken(partition: u32) -> Move {
+    Move {
+        generation: 1,
+        partition,
+        last: None,
+        holder: 1,
+    }
+}
+
+/// A move between members.
+fn moved(generation: u32, partition: u32, last: u32, holder: u32) -> Move {
+    Move {
+        generation,
+        partition,
+        last: Some(last),
+        holder,
+    }
+}
+
+/// Whether these own the partitions, in order.
+fn owners_are(cluster: &Cluster, owners: &[u32]) -> bool {
+    (0..)
+        .zip(owners)
+        .all(|(p, owner)| cluster.owner(p) == Some(*owner))
+}
+
+/// Whether all five records are committed and counted, in a group of this generation with these
+/// owners.
+fn ends_with(outcome: &Outcome, generation: u32, owners: &[u32]) -> bool {
+    let cluster = outcome.cluster();
+    cluster.generation() == generation
+        && owners_are(cluster, owners)
+        && cluster.store().offsets() == [2, 1, 1, 1].as_slice()
+        && cluster.store().counts() == [2, 1, 1, 1].as_slice()
+}
+
+/// A run of the plan that a script says, over the five records.
+fn ran<R: Threads + Wait + RandomSource + Sync, G: Gate + Sync>(
+    rt: &R,
+    alloc: Global,
+    script: &[u8],
+    batch: u32,
+    gate: &G,
+) -> Result<Outcome, Refusal>
+    requires { 1 ≤ batch }
+{
+    let plan = read_plan(alloc, script)?;
+    let logs = five_logs(rt, alloc)?;
+    run_cluster(rt, alloc, &logs, &plan, batch, gate)
+}
+
+/// The moves of a run by which two of four partitions go from the first member to the second.
+fn two_members_moves() -> [Move; 6] {
+    [
+        taken(0),
+        taken(1),
+        taken(2),
+        taken(3),
+        moved(3, 2, 1, 2),
+        moved(3, 3, 1, 2),
+    ]
+}
+
+/// The plan of two joins.
+const TWO_JOINS: &[u8] = b"join A\njoin B\n";
+
+/// Whether a run came to what the plan of two joins comes to.
+fn is_two_members(outcome: &Outcome) -> bool {
+    ends_with(outcome, 3, &[1, 1, 2, 2])
+        && outcome.cluster().moves() == two_members_moves().as_slice()
+}
+
+/// Whether the plan of two joins comes to that.
+fn two_join<R: Threads + Wait + RandomSource + Sync, G: Gate + Sync>(
+    rt: &R,
+    alloc: Global,
+    batch: u32,
+    gate: &G,
+) -> Result<bool, Refusal>
+    requires { 1 ≤ batch }
+{
+    Ok(is_two_members(&ran(rt, alloc, TWO_JOINS, batch, gate)?))
+}
+
+#[test]
+fn two_members(rt: HostRuntime) -> Result<(), Fail> {
+    assert_eq!(rt; two_join(&rt, rt.alloc(), 1, &Open), Ok(true));
+    assert_eq!(rt; two_join(&rt, rt.alloc(), 500, &Open), Ok(true));
+    Ok(())
+}
+
+/// Whether the first member went at last, and the second has all.
+fn is_one_left(outcome: &Outcome) -> bool {
+    let moves = outcome.cluster().moves();
+    ends_with(outcome, 4, &[2, 2, 2, 2])
+        && moves.starts_with(&two_members_moves())
+        && moves.ends_with(&[moved(4, 0, 1, 2), moved(4, 1, 1, 2)])
+        && moves.len() == 8
+}
+
+/// Whether a plan comes to that.
+fn leaves_one<R: Threads + Wait + RandomSource + Sync>(
+    rt: &R,
+    alloc: Global,
+    script: &[u8],
+    batch: u32,
+) -> Result<bool, Refusal>
+    requires { 1 ≤ batch }
+{
+    Ok(is_one_left(&ran(rt, alloc, script, batch, &Open)?))
+}
+
+#[test]
+fn one_leaves(rt: HostRuntime) -> Result<(), Fail> {
+    let leave = b"join A\njoin B\nleave A\n";
+    assert_eq!(rt; leaves_one(&rt, rt.alloc(), leave, 1), Ok(true));
+    assert_eq!(rt; leaves_one(&rt, rt.alloc(), leave, 500), Ok(true));
+    let lose = b"join A\njoin B\nlose A\n";
+    assert_eq!(rt; leaves_one(&rt, rt.alloc(), lose, 1), Ok(true));
+    Ok(())
+}
+
+/// What a gate knows of one of two members.
+#[derive(Drop)]
+struct Side {
+    asked: AtomicU32,
+    flag: AtomicBool,
+}
+
+impl Side {
+    fn new() -> Side {
+        Side {
+            asked: AtomicU32::new(0),
+            flag: AtomicBool::new(false),
+        }
+    }
+
+    /// The number of this question, from 0. The second raises the flag.
+    fn question(&self) -> u32 {
+        let question = self.asked.fetch_add(1, Ordering::SeqCst);
+        if question == 1 {
+            self.flag.store(true, Ordering::SeqCst);
+        }
+        question
+    }
+
+    fn is_up(&self) -> bool {
+        self.flag.load(Ordering::SeqCst)
+    }
+
+    /// Goes once the flag is up.
+    fn wait(&self) -> GateAnswer {
+        for _ in 0..1_000_000_000u64 {
+            if self.is_up() {
+                return Go;
+            }
+        }
+        Stop
+    }
+}
+
+/// Holds each of two members back until the other has come on: below generation 3 nobody commits;
+/// then a member's second question raises its flag, the second member's first question waits for
+/// the flag of the first, and the first member's second question for the flag of the second.
+#[derive(Drop)]
+struct Handshake {
+    first: Side,
+    second: Side,
+}
+
+impl Gate for Handshake {
+    fn ask(&self, member: u32, generation: u32) -> GateAnswer {
+        if generation < 3 {
+            return NotNow;
+        }
+        if member == 1 && self.first.question() == 1 {
+            return self.second.wait();
+        }
+        if member == 2 && self.second.question() == 0 {
+            return self.first.wait();
+        }
+        Go
+    }
+}
+
+#[test]
+fn other_worker_held(rt: HostRuntime) -> Result<(), Fail> {
+    let gate = Handshake {
+        first: Side::new(),
+        second: Side::new(),
+    };
+    assert_eq!(rt; two_join(&rt, rt.alloc(), 500, &gate), Ok(true));
+    assert!(rt; gate.first.is_up() && gate.second.is_up());
+    Ok(())
+}
+
+/// Whether a run was stopped by its gate, or else came to its end after all five commits.
+fn is_stopped(answer: Result<Outcome, Refusal>, asked_before: u32) -> bool {
+    match answer {
+        Ok(outcome) => asked_before >= 5 && is_two_members(&outcome),
+        Err(why) => why == Refusal::GateLimit,
+    }
+}
+
+#[test]
+fn a_gate_that_stops(rt: HostRuntime) -> Result<(), Fail> {
+    for before in 0..8 {
+        let gate = Counting::new(before, Go, Stop);
+        assert!(rt; is_stopped(ran(&rt, rt.alloc(), TWO_JOINS, 1, &gate), before));
+    }
+    Ok(())
+}
+
+#[test]
+fn a_gate_that_holds_back(rt: HostRuntime) -> Result<(), Fail> {
+    for first in 0..51 {
+        let gate = Counting::new(first, NotNow, Go);
+        assert_eq!(rt; two_join(&rt, rt.alloc(), 500, &gate), Ok(true));
+    }
+    Ok(())
+}
+
+/// The plan of two joins, of which nothing was applied.
+fn planned(rt: &impl RandomSource, alloc: Global) -> Result<Planned, Refusal> {
+    let plan = read_plan(alloc, TWO_JOINS)?;
+    let logs = five_copied(rt, alloc)?;
+    Ok(Planned::new(alloc, logs, plan)?)
+}
+
+/// A copy of the logs with the five records.
+fn five_copied(rt: &impl RandomSource, alloc: Global) -> Result<Logs, Refusal> {
+    Ok(five_logs(rt, alloc)?.copy(rt, alloc)?)
+}
+
+/// A call on a plan that is carried out, or what is told of it.
+#[derive(Clone, Copy)]
+enum Step {
+    /// As many lines as can be applied are these.
+    Advance(u32),
+    /// A member syncs and rejoins.
+    Rejoin(u32),
+    /// The group is settled in this generation, and so many lines are applied.
+    Settled(u32, u32),
+}
+
+/// Whether as many lines as can be applied are these.
+fn advances_by(planned: &mut Planned, lines: u32) -> Result<bool, Refusal> {
+    for _ in 0..lines {
+        if !planned.advance()? {
+            return Ok(false);
+        }
+    }
+    Ok(!planned.advance()?)
+}
+
+/// A member syncs and rejoins.
+fn rejoin(planned: &mut Planned, member: u32) -> Result<(), Refusal> {
+    let lease = planned.sync(member)?;
+    planned.rejoin(member, lease.generation(), lease.assigned())
+}
+
+/// Whether the group is settled in this generation.
+fn is_settled_in(planned: &Planned, generation: u32) -> bool {
+    planned.cluster().is_settled() && planned.cluster().generation() == generation
+}
+
+/// Whether a step goes as it says.
+fn goes(planned: &mut Planned, step: Step) -> Result<bool, Refusal> {
+    match step {
+        Step::Advance(lines) => advances_by(planned, lines),
+        Step::Rejoin(member) => {
+            rejoin(planned, member)?;
+            Ok(true)
+        }
+        Step::Settled(generation, lines) => {
+            Ok(is_settled_in(planned, generation) && planned.applied() == lines)
+        }
+    }
+}
+
+/// The first step that does not go as it says.
+fn first_other(planned: &mut Planned, steps: &[Step]) -> Result<Option<usize>, Refusal> {
+    for (index, step) in steps.iter().enumerate() {
+        if !goes(planned, *step)? {
+            return Ok(Some(index));
+        }
+    }
+    Ok(None)
+}
+
+/// The first step of a plan of two joins that does not go as it says.
+fn first_other_of_two(
+    rt: &impl RandomSource,
+    alloc: Global,
+    steps: &[Step],
+) -> Result<Option<usize>, Refusal> {
+    let mut planned = planned(rt, alloc)?;
+    first_other(&mut planned, steps)
+}
+
+#[test]
+fn each_line_in_its_turn(rt: HostRuntime) -> Result<(), Fail> {
+    let steps = [
+        Step::Advance(2),
+        Step::Rejoin(1),
+        Step::Advance(0),
+        Step::Rejoin(1),
+        Step::Rejoin(2),
+        Step::Settled(3, 2),
+        Step::Advance(0),
+    ];
+    assert_eq!(rt; first_other_of_two(&rt, rt.alloc(), &steps), Ok(None));
+    Ok(())
+}
+
+/// The last digit of a number.
+fn digit(n: u32) -> u8 {
+    b'0' + (n % 10) as u8
+}
+
+/// A plan of as many joins as there can be members.
+fn all_join(alloc: Global) -> Result<Vec<u8>, Memory> {
+    let mut script = Vec::new(alloc);
+    for n in 0..MOST_MEMBERS as u32 {
+        script.extend_from_slice(b"join ")?;
+        script.extend_from_slice(&[digit(n / 100), digit(n / 10), digit(n), b'\n'])?;
+    }
+    Ok(script)
+}
+
+/// Whether all are present after a run to its end.
+fn are_all_present(outcome: &Outcome) -> bool {
+    let cluster = outcome.cluster();
+    ends_with(outcome, cluster.generation(), &[1, 4, 2, 3])
+        && (1..=MOST_MEMBERS as u32).all(|member| cluster.is_present(member))
+}
+
+/// Whether all are present after the run of that plan.
+fn most_join<R: Threads + Wait + RandomSource + Sync>(
+    rt: &R,
+    alloc: Global,
+) -> Result<bool, Refusal> {
+    let script = all_join(alloc)?;
+    Ok(are_all_present(&ran(rt, alloc, script.as_slice(), 500, &Open)?))
+}
+
+#[test]
+fn as_many_members_as_there_can_be(rt: HostRuntime) -> Result<(), Fail> {
+    assert_eq!(rt; most_join(&rt, rt.alloc()), Ok(true));
+    Ok(())
+}
