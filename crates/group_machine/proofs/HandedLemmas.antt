@@ -45,12 +45,30 @@ row_moved [] ys x i lt = row_last ys x i lt
 row_moved (y ∷ xs) ys x zero lt = (0, omega arith, refl)
 row_moved (y ∷ xs) ys x (suc i) lt = let r = row_moved xs ys x i (omega arith) in (suc r.0, omega (arith, r.1), r.2)
 
+last_row : (ys : List PartitionSet) (x : PartitionSet) → row_at (ys ++ x ∷ []) (length ys) ≡ x
+last_row [] x = refl
+last_row (y ∷ ys) x = last_row ys x
+
+front_row : (ys : List PartitionSet) (x : PartitionSet) (i : ℕ) → i < length ys → row_at (ys ++ x ∷ []) i ≡ row_at ys i
+front_row [] x i lt = absurd (omega arith)
+front_row (y ∷ ys) x zero lt = refl
+front_row (y ∷ ys) x (suc i) lt = front_row ys x i (omega arith)
+
+row_back : (xs ys : List PartitionSet) (x : PartitionSet) (i : ℕ) → i < length (xs ++ x ∷ ys) → (j : ℕ) × (j < length ((xs ++ ys) ++ x ∷ [])) × (row_at (xs ++ x ∷ ys) i ≡ row_at ((xs ++ ys) ++ x ∷ []) j)
+row_back [] ys x zero lt = (length ys, omega (arith, length-append ys (x ∷ [])), sym (last_row ys x))
+row_back [] ys x (suc i) lt = (i, omega (arith, length-append ys (x ∷ [])), sym (front_row ys x i (omega arith)))
+row_back (y ∷ xs) ys x zero lt = (0, omega arith, refl)
+row_back (y ∷ xs) ys x (suc i) lt = let r = row_back xs ys x i (omega arith) in (suc r.0, omega (arith, r.1), r.2)
+
+holders_moved : (xs ys : List PartitionSet) (x : PartitionSet) (q : ℕ) → holders ((xs ++ ys) ++ x ∷ []) q ≡ holders (xs ++ x ∷ ys) q
+holders_moved xs ys x q =
+    let last : holders ((xs ++ ys) ++ x ∷ []) q ≡ holders (xs ++ ys) q + (one (is_in x q) + 0) = holders_append (xs ++ ys) (x ∷ []) q in
+    let before : holders (xs ++ x ∷ ys) q ≡ holders xs q + (one (is_in x q) + holders ys q) = holders_append xs (x ∷ ys) q in
+    omega (arith, last, before, holders_append xs ys q)
+
 balanced_moved : (p : ℕ) (xs ys : List PartitionSet) (x : PartitionSet) → IsBalanced p (xs ++ x ∷ ys) → IsBalanced p ((xs ++ ys) ++ x ∷ [])
 balanced_moved p xs ys x b = record {
-  once = λ q lt.
-      let last : holders ((xs ++ ys) ++ x ∷ []) q ≡ holders (xs ++ ys) q + (one (is_in x q) + 0) = holders_append (xs ++ ys) (x ∷ []) q in
-      let before : holders (xs ++ x ∷ ys) q ≡ holders xs q + (one (is_in x q) + holders ys q) = holders_append xs (x ∷ ys) q in
-      omega (arith, last, before, holders_append xs ys q, b.once q lt);
+  once = λ q lt. holders_moved xs ys x q ∙ b.once q lt;
   even = λ i j li lj.
       let k = row_moved xs ys x i li in
       let l = row_moved xs ys x j lj in
@@ -59,14 +77,23 @@ balanced_moved p xs ys x b = record {
       omega (arith, here, there, b.even k.0 l.0 k.1 l.1);
 }
 
+balanced_back : (p : ℕ) (xs ys : List PartitionSet) (x : PartitionSet) → IsBalanced p ((xs ++ ys) ++ x ∷ []) → IsBalanced p (xs ++ x ∷ ys)
+balanced_back p xs ys x b = record {
+  once = λ q lt. sym (holders_moved xs ys x q) ∙ b.once q lt;
+  even = λ i j li lj.
+      let k = row_back xs ys x i li in
+      let l = row_back xs ys x j lj in
+      let here : size_at (xs ++ x ∷ ys) i ≡ size_at ((xs ++ ys) ++ x ∷ []) k.0 = ap size k.2 in
+      let there : size_at (xs ++ x ∷ ys) j ≡ size_at ((xs ++ ys) ++ x ∷ []) l.0 = ap size l.2 in
+      omega (arith, here, there, b.even k.0 l.0 k.1 l.1);
+}
+
 -- one member's row goes to another, which is the last
-pub balanced_renamed : (p : ℕ) (f h : ℕ → PartitionSet) (xs ys : List ℕ) (m n : ℕ) → ((k : ℕ) → Listed k (xs ++ ys) → h k ≡ f k) → h n ≡ f m → IsBalanced p (map f (xs ++ m ∷ ys)) → IsBalanced p (map h ((xs ++ ys) ++ n ∷ []))
-balanced_renamed p f h xs ys m n same is b =
-    let rows : map h ((xs ++ ys) ++ n ∷ []) ≡ (map f xs ++ map f ys) ++ f m ∷ [] =
+rows_renamed : (f h : ℕ → PartitionSet) (xs ys : List ℕ) (m n : ℕ) → ((k : ℕ) → Listed k (xs ++ ys) → h k ≡ f k) → h n ≡ f m → map h ((xs ++ ys) ++ n ∷ []) ≡ (map f xs ++ map f ys) ++ f m ∷ []
+rows_renamed f h xs ys m n same is =
     map-append h (xs ++ ys) (n ∷ [])
     ∙ ap (λ (rs : List PartitionSet). rs ++ h n ∷ []) (map_same h f (xs ++ ys) same ∙ map-append f xs ys)
-    ∙ ap (λ (r : PartitionSet). (map f xs ++ map f ys) ++ r ∷ []) is in
-    subst (IsBalanced p) (sym rows) (balanced_moved p (map f xs) (map f ys) (f m) (subst (IsBalanced p) (map-append f xs (m ∷ ys)) b))
+    ∙ ap (λ (r : PartitionSet). (map f xs ++ map f ys) ++ r ∷ []) is
 
 -- ---- the list of the present, of which one is taken out
 abbrev gone : Option Seat → Option Seat
@@ -203,34 +230,88 @@ handed_settled g name m here =
     ∙ all_moved (λ r. agrees r.1) sp.before sp.after (m, x.0) (suc (length g.slots), handed_seat x.0) refl
     ∙ ap (λ xs. list_all {X = ℕ × Seat} (λ r. agrees r.1) xs) (sym sp.all))
 
--- rows by the members before and after
-handed_balanced : (g : GroupState) (name : List ℕ) (m : ℕ) (f h : ℕ → PartitionSet) → is_present g m ≡ true → ((k : ℕ) → (k ≡ m → ⊥) → (k ≡ suc (length g.slots) → ⊥) → h k ≡ f k) → h (suc (length g.slots)) ≡ f m
-    → IsBalanced g.partitions (map f (members g)) → IsBalanced g.partitions (map h (members (handing_on g name m)))
-handed_balanced g name m f h here same is b =
+-- the members before and after it: one is taken out, and its successor is the last
+record IsHandedList (g : GroupState) (name : List ℕ) (m : ℕ) : Type 0 where
+  pub front : List ℕ
+  pub behind : List ℕ
+  pub was : members g ≡ front ++ m ∷ behind
+  pub now : members (handing_on g name m) ≡ (front ++ behind) ++ suc (length g.slots) ∷ []
+  pub others : (k : ℕ) → Listed k (front ++ behind) → (k ≡ m → ⊥) × (k ≡ suc (length g.slots) → ⊥)
+
+handed_list : (g : GroupState) (name : List ℕ) (m : ℕ) → is_present g m ≡ true → IsHandedList g name m
+handed_list g name m here =
     let x = some_of (member_of g m) here in
     let sp = split_at g.slots m x.0 x.1 in
-    let xs : List ℕ = map (λ r. r.0) sp.before in
-    let ys : List ℕ = map (λ r. r.0) sp.after in
     let left : List Slot = without_seat g.slots m in
-    let all : members g ≡ xs ++ m ∷ ys = ap (λ rs. map {A = ℕ × Seat} (λ r. r.0) rs) sp.all ∙ map-append (λ r. r.0) sp.before ((m, x.0) ∷ sp.after) in
-    let rest : map {A = ℕ × Seat} (λ r. r.0) (present left) ≡ xs ++ ys = ap (λ rs. map {A = ℕ × Seat} (λ r. r.0) rs) sp.rest ∙ map-append (λ r. r.0) sp.before sp.after in
-    let now : members (handing_on g name m) ≡ (xs ++ ys) ++ suc (length g.slots) ∷ [] =
-    ap (λ rs. map {A = ℕ × Seat} (λ r. r.0) rs) (handed_present g name m x.0 x.1 sp)
-    ∙ map-append (λ r. r.0) (sp.before ++ sp.after) ((suc (length g.slots), handed_seat x.0) ∷ [])
-    ∙ ap (λ ns. ns ++ suc (length g.slots) ∷ []) (map-append (λ r. r.0) sp.before sp.after) in
-    let one_left : (k : ℕ) → Listed k (xs ++ ys) → h k ≡ f k = λ k at.
-    let y = listed_present left k (subst (Listed k) (sym rest) at) in
-    let given = number_given left k (ap is_some y.1) in
-    same k (λ e. taken_out k y.0 e (sym (seat_without g.slots m k) ∙ y.1)) (λ e. omega (arith, given.1, length_left g m, e)) in
-    subst (λ (ms : List ℕ). IsBalanced g.partitions (map h ms)) (sym now)
-    (balanced_renamed g.partitions f h xs ys m (suc (length g.slots)) one_left is (subst (λ (ms : List ℕ). IsBalanced g.partitions (map f ms)) all b))
+    let rest : map {A = ℕ × Seat} (λ r. r.0) (present left) ≡ map (λ r. r.0) sp.before ++ map (λ r. r.0) sp.after = ap (λ rs. map {A = ℕ × Seat} (λ r. r.0) rs) sp.rest ∙ map-append (λ r. r.0) sp.before sp.after in
+    record {
+      front = map (λ r. r.0) sp.before;
+      behind = map (λ r. r.0) sp.after;
+      was = ap (λ rs. map {A = ℕ × Seat} (λ r. r.0) rs) sp.all ∙ map-append (λ r. r.0) sp.before ((m, x.0) ∷ sp.after);
+      now =
+          ap (λ rs. map {A = ℕ × Seat} (λ r. r.0) rs) (handed_present g name m x.0 x.1 sp)
+          ∙ map-append (λ r. r.0) (sp.before ++ sp.after) ((suc (length g.slots), handed_seat x.0) ∷ [])
+          ∙ ap (λ ns. ns ++ suc (length g.slots) ∷ []) (map-append (λ r. r.0) sp.before sp.after);
+      others = λ k at.
+          let y = listed_present left k (subst (Listed k) (sym rest) at) in
+          let given = number_given left k (ap is_some y.1) in
+          (λ e. taken_out k y.0 e (sym (seat_without g.slots m k) ∙ y.1), λ e. omega (arith, given.1, length_left g m, e));
+    }
   where
     taken_out : (k : ℕ) (y : Seat) → k ≡ m → cond (k == m) None (seat_of g.slots k) ≡ Some y → ⊥
     taken_out k y e is = let none : None ≡ Some y = ap (λ b. cond b None (seat_of g.slots k)) (sym (ap (λ n. n == m) e ∙ same_id m)) ∙ is in cc
 
+-- rows by the members before and after
+abbrev AreHanded : GroupState → ℕ → (ℕ → PartitionSet) → (ℕ → PartitionSet) → Type 0
+AreHanded g m f h = ((k : ℕ) → (k ≡ m → ⊥) → (k ≡ suc (length g.slots) → ⊥) → h k ≡ f k) × (h (suc (length g.slots)) ≡ f m)
+
+handed_rows : (g : GroupState) (name : List ℕ) (m : ℕ) (f h : ℕ → PartitionSet) → (l : IsHandedList g name m) → AreHanded g m f h → map h (members (handing_on g name m)) ≡ (map f l.front ++ map f l.behind) ++ f m ∷ []
+handed_rows g name m f h l same =
+    ap (λ (ms : List ℕ). map h ms) l.now
+    ∙ rows_renamed f h l.front l.behind m (suc (length g.slots)) (λ k at. let o = l.others k at in same.0 k o.0 o.1) same.1
+
+rows_before : (g : GroupState) (name : List ℕ) (m : ℕ) (f : ℕ → PartitionSet) → (l : IsHandedList g name m) → map f (members g) ≡ map f l.front ++ f m ∷ map f l.behind
+rows_before g name m f l = ap (λ (ms : List ℕ). map f ms) l.was ∙ map-append f l.front (m ∷ l.behind)
+
+pub handed_balanced : (g : GroupState) (name : List ℕ) (m : ℕ) (f h : ℕ → PartitionSet) → is_present g m ≡ true → AreHanded g m f h → IsBalanced g.partitions (map f (members g)) → IsBalanced g.partitions (map h (members (handing_on g name m)))
+handed_balanced g name m f h here same b =
+    let l = handed_list g name m here in
+    let p : ℕ = g.partitions in
+    subst (IsBalanced p) (sym (handed_rows g name m f h l same)) (balanced_moved p (map f l.front) (map f l.behind) (f m) (subst (IsBalanced p) (rows_before g name m f l) b))
+
+pub balanced_before : (g : GroupState) (name : List ℕ) (m : ℕ) (f h : ℕ → PartitionSet) → is_present g m ≡ true → AreHanded g m f h → IsBalanced g.partitions (map h (members (handing_on g name m))) → IsBalanced g.partitions (map f (members g))
+balanced_before g name m f h here same b =
+    let l = handed_list g name m here in
+    let p : ℕ = g.partitions in
+    subst (IsBalanced p) (sym (rows_before g name m f l)) (balanced_back p (map f l.front) (map f l.behind) (f m) (subst (IsBalanced p) (handed_rows g name m f h l same) b))
+
 -- ---- last holders
 holder_handed : (g : GroupState) (name : List ℕ) (m q : ℕ) → q < length g.last → last_holder (handing_on g name m) q ≡ cond (is_in (granted_of g m) q) (Some (length g.slots + 1)) (last_holder g q)
 holder_handed g name m q lt = get_or-map-range_with_len (λ k. cond (is_in (granted_of g m) k) (Some (length g.slots + 1)) (last_holder g k)) 0 (length g.last) q q None lt (omega arith)
+
+-- ---- what lies in balanced rows still does
+pub handed_near : (g : GroupState) (name : List ℕ) (m : ℕ) (rows : ℕ → PartitionSet) → IsValidGroup g → is_present g m ≡ true → LieInBalanced g rows → (rows : ℕ → PartitionSet) × LieInBalanced (handing_on g name m) rows
+handed_near g name m rows good here lie =
+    let new : ℕ = suc (length g.slots) in
+    let now : ℕ → PartitionSet = λ n. cond (n == new) (rows m) (rows n) in
+    let at_new : now new ≡ rows m = ap (λ b. cond b (rows m) (rows new)) (same_id new) in
+    let at_old : (n : ℕ) → (n ≡ new → ⊥) → now n ≡ rows n = λ n ne. ap (λ b. cond b (rows m) (rows n)) (other_id n new ne) in (
+      now,
+      record {
+        below = λ n. elim (cases_eq n new) [
+          | inl same ↦ ap (λ k. partitions_of (now k)) same ∙ ap partitions_of at_new ∙ lie.below m
+          | inr old ↦ ap partitions_of (at_old n old) ∙ lie.below n
+        ];
+        balanced = handed_balanced g name m rows now here (λ k other old. at_old k old, at_new) lie.balanced;
+        within = λ n. elim (cases_eq n new) [
+          | inl same ↦ ap (λ k. is_within (assigned_of (handing_on g name m) k) (now k)) same ∙ ap (λ t. is_within t (now new)) (handed_has (seat_assigned g.partitions) (λ y. refl) g name m) ∙ ap (is_within (assigned_of g m)) at_new ∙ lie.within m
+          | inr old ↦ elim (cases_eq n m) [
+            | inl same ↦ ap (λ k. is_within (assigned_of (handing_on g name m) k) (now n)) same ∙ ap (λ o. is_within (seat_assigned g.partitions o) (now n)) (handed_gone g name m here) ∙ within_of (empty_set g.partitions) (now n) (λ q e. absurd (false≢true (sym (in_empty g.partitions q) ∙ e)))
+            | inr other ↦ ap (λ o. is_within (seat_assigned g.partitions o) (now n)) (handed_other g name m n other old) ∙ ap (is_within (assigned_of g n)) (at_old n old) ∙ lie.within n
+          ]
+        ];
+      },
+    )
 
 -- ---- a valid group stays one
 pub handed_good : (g : GroupState) (name : List ℕ) (m : ℕ) → IsValidGroup g → is_present g m ≡ true → length g.slots < MOST_MEMBERS → IsValidGroup (handing_on g name m)
@@ -275,7 +356,7 @@ handed_good g name m good here room =
             | inr h ↦ holder_handed g name m q (lt n h.1) ∙ ap (λ b. cond b (Some (length g.slots + 1)) (last_holder g q)) (not_both g m n q good h.0 h.1) ∙ good.held n q h.1
           ];
       balanced = λ s.
-          handed_balanced g name m (granted_of g) (granted_of now) here (λ k other old. ap (seat_granted p) (handed_other g name m k other old)) (handed_has (seat_granted p) (λ y. refl) g name m) (good.balanced (sym (handed_settled g name m here) ∙ s));
+          handed_balanced g name m (granted_of g) (granted_of now) here (λ k other old. ap (seat_granted p) (handed_other g name m k other old), handed_has (seat_granted p) (λ y. refl) g name m) (good.balanced (sym (handed_settled g name m here) ∙ s));
       stable = λ s n. elim (cases_eq n new) [
         | inl same ↦ ap (is_joined now) same ∙ handed_has seat_joined (λ y. refl) g name m ∙ good.stable s m
         | inr old ↦ elim (cases_eq n m) [
@@ -303,26 +384,3 @@ handed_good g name m good here room =
         go : (b : Bool) → is_in (granted_of g m) q ≡ b → is_in (granted_of g m) q ≡ false
         go true h = absurd (other (good.apart n m q e h))
         go false h = h
-
-    handed_near : (g : GroupState) (name : List ℕ) (m : ℕ) (rows : ℕ → PartitionSet) → IsValidGroup g → is_present g m ≡ true → LieInBalanced g rows → (rows : ℕ → PartitionSet) × LieInBalanced (handing_on g name m) rows
-    handed_near g name m rows good here lie =
-        let new : ℕ = suc (length g.slots) in
-        let now : ℕ → PartitionSet = λ n. cond (n == new) (rows m) (rows n) in
-        let at_new : now new ≡ rows m = ap (λ b. cond b (rows m) (rows new)) (same_id new) in
-        let at_old : (n : ℕ) → (n ≡ new → ⊥) → now n ≡ rows n = λ n ne. ap (λ b. cond b (rows m) (rows n)) (other_id n new ne) in (
-          now,
-          record {
-            below = λ n. elim (cases_eq n new) [
-              | inl same ↦ ap (λ k. partitions_of (now k)) same ∙ ap partitions_of at_new ∙ lie.below m
-              | inr old ↦ ap partitions_of (at_old n old) ∙ lie.below n
-            ];
-            balanced = handed_balanced g name m rows now here (λ k other old. at_old k old) at_new lie.balanced;
-            within = λ n. elim (cases_eq n new) [
-              | inl same ↦ ap (λ k. is_within (assigned_of (handing_on g name m) k) (now k)) same ∙ ap (λ t. is_within t (now new)) (handed_has (seat_assigned g.partitions) (λ y. refl) g name m) ∙ ap (is_within (assigned_of g m)) at_new ∙ lie.within m
-              | inr old ↦ elim (cases_eq n m) [
-                | inl same ↦ ap (λ k. is_within (assigned_of (handing_on g name m) k) (now n)) same ∙ ap (λ o. is_within (seat_assigned g.partitions o) (now n)) (handed_gone g name m here) ∙ within_of (empty_set g.partitions) (now n) (λ q e. absurd (false≢true (sym (in_empty g.partitions q) ∙ e)))
-                | inr other ↦ ap (λ o. is_within (seat_assigned g.partitions o) (now n)) (handed_other g name m n other old) ∙ ap (is_within (assigned_of g n)) (at_old n old) ∙ lie.within n
-              ]
-            ];
-          },
-        )

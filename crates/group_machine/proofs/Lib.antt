@@ -6,6 +6,7 @@ pub mod CompletionLemmas
 pub mod EndLemmas
 pub mod FinishLemmas
 pub mod GroupLemmas
+pub mod HandedEnd
 pub mod HandedLemmas
 pub mod MovesLemmas
 pub mod NameLemmas

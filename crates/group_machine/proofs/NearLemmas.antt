@@ -1,11 +1,12 @@
 -- A stable group is one round away from a settled one.
-use Rattle.std.proofs.Common.{ℕ, ◌≡◌, ◌<◌, ◌≤◌, Bool, true, false, ◌&&◌, inl, inr, not, List, [], ◌∷◌, Some, length, map, refl, ap, sym, ◌∙◌, subst, arith}
+use Rattle.std.proofs.Common.{ℕ, ◌≡◌, ◌<◌, ◌≤◌, Bool, true, false, ◌&&◌, ◌||◌, inl, inr, not, Option, None, List, [], ◌∷◌, Some, length, map, refl, ap, sym, ◌∙◌, subst, arith}
+use Rattle.std.proofs.lemmas.Bool.{false≢true}
 use Rattle.std.proofs.lemmas.List.{length-map}
 use Rattle.std.specs.Option.{option_map}
 use Rattle.bit_planes.specs.PartitionSet.{PartitionSet, partitions_of, is_in, is_same, one, union}
-use Rattle.bit_planes.specs.SetRows.{SetRows, IsValidRows, set_of, sets_of}
+use Rattle.bit_planes.specs.SetRows.{SetRows, set_of, sets_of}
 use Rattle.bit_planes.specs.SetRows as rows
-use Rattle.bit_planes.proofs.Sets.{same_self, within_of, within_says}
+use Rattle.bit_planes.proofs.Sets.{same_self, same_says, within_of, within_says, in_empty, in_union, both_true}
 use Rattle.sticky_assignor.specs.Balanced.{AreBelow, IsBalanced}
 use Rattle.sticky_assignor.specs.Target.{target}
 use Rattle.sticky_assignor.proofs.SecondRound.{Lies, kept_whole}
@@ -15,14 +16,14 @@ use Rattle.coop_rebalance.specs.Withheld.{granted_to_other}
 use Rattle.group_machine.specs.declared.group.Seat.{Seat}
 use Rattle.group_machine.specs.declared.group.Phase.TheVariants.{Stable}
 use Rattle.group_machine.specs.Slots.{seat_of}
-use Rattle.group_machine.specs.State.{GroupState, is_anybody, seat_assigned, assigned_of, assigned_rows, granted_rows}
+use Rattle.group_machine.specs.State.{GroupState, member_of, is_anybody, seat_assigned, assigned_of, assigned_rows, granted_rows}
 use Rattle.group_machine.specs.Completion.{completed_seat}
-use Rattle.group_machine.specs.Rounds.{agrees, is_settled, yielded_seat, yielded, round}
-use Rattle.group_machine.specs.Good.{IsValidGroup}
+use Rattle.group_machine.specs.Rounds.{is_stable, agrees, all_agree, is_settled, yielded_seat, yielded, round}
+use Rattle.group_machine.specs.Good.{LieInBalanced, IsValidGroup}
 use Rattle.group_machine.proofs.SlotsLemmas.{seat_each}
-use Rattle.group_machine.proofs.PresentLemmas.{Listed, all_of}
+use Rattle.group_machine.proofs.PresentLemmas.{Listed, all_of, all_says}
 use Rattle.group_machine.proofs.Rows.{member_listed, set_over, sets_below}
-use Rattle.group_machine.proofs.Below.{next_in, next_kept, next_below, other_says, target_apart}
+use Rattle.group_machine.proofs.Below.{next_in, next_kept, next_below, next_in_target, other_says, target_apart, target_kept, target_below, target_balanced}
 use Rattle.group_machine.proofs.GroupLemmas.{has_partitions, members_assigned, set_assigned, assigned_owned}
 use Rattle.group_machine.proofs.CompletionLemmas.{seat_behind}
 use Rattle.group_machine.proofs.FinishLemmas.{granted_yielded, union_within}
@@ -91,12 +92,45 @@ settled_round g owned keeps =
     let next : SetRows = next_rows (granted_rows (yielded g)) in
     all_of agrees (round g).slots (λ m x is. settled_by next (ap next_rows (granted_yielded g)) m x (sym (seat_each (completed_seat next) (yielded g).slots m) ∙ is))
 
--- a stable group is settled after one round
-pub stable_round : (g : GroupState) → IsValidGroup g → g.phase ≡ Stable → is_anybody g ≡ true → is_settled (round g) ≡ true
-stable_round g valid stable any =
+-- where what members are to keep lies in balanced rows, the group is settled after one round
+pub lying_round : (g : GroupState) → IsValidGroup g → is_anybody g ≡ true → (f : ℕ → PartitionSet) → LieInBalanced g f → is_settled (round g) ≡ true
+lying_round g valid any f lie =
     let r : SetRows = assigned_rows g in
     let owned : AreGranted r = assigned_owned g (has_partitions g valid.sized) valid.fit valid.apart any in
-    let near = valid.near stable in
-    let balanced : IsBalanced g.partitions (map near.0 (rows.members r)) = subst (λ (ms : List ℕ). IsBalanced g.partitions (map near.0 ms)) (sym (members_assigned g)) near.1.balanced in
-    let within : (m q : ℕ) → is_in (set_of r m) q ≡ true → is_in (near.0 m) q ≡ true = λ m q e. within_says (assigned_of g m) (near.0 m) (near.1.within m) q (ap (λ s. is_in s q) (sym (set_assigned g m)) ∙ e) in
-    settled_round g owned (next_keeps r owned (target_keeps r owned near.0 near.1.below balanced within))
+    let balanced : IsBalanced g.partitions (map f (rows.members r)) = subst (λ (ms : List ℕ). IsBalanced g.partitions (map f ms)) (sym (members_assigned g)) lie.balanced in
+    let within : (m q : ℕ) → is_in (set_of r m) q ≡ true → is_in (f m) q ≡ true = λ m q e. within_says (assigned_of g m) (f m) (lie.within m) q (ap (λ s. is_in s q) (sym (set_assigned g m)) ∙ e) in
+    settled_round g owned (next_keeps r owned (target_keeps r owned f lie.below balanced within))
+
+pub stable_round : (g : GroupState) → IsValidGroup g → g.phase ≡ Stable → is_anybody g ≡ true → is_settled (round g) ≡ true
+stable_round g valid stable any = let near = valid.near stable in lying_round g valid any near.0 near.1
+
+-- ---- and where it is settled after one round, it lies in the target's rows
+or_first : (a b : Bool) → a ≡ true → (a || b) ≡ true
+or_first true b e = refl
+or_first false b e = absurd (false≢true e)
+
+-- what a member agrees to keep is in its next row
+agrees_keeps : (p : ℕ) (next : SetRows) (m : ℕ) (o : Option Seat) → ((x : Seat) → o ≡ Some x → partitions_of x.assigned ≡ partitions_of (set_of next m)) → ((y : Seat) → option_map (completed_seat next m) (option_map yielded_seat o) ≡ Some y → agrees y ≡ true) → (q : ℕ) → is_in (seat_assigned p o) q ≡ true → is_in (set_of next m) q ≡ true
+agrees_keeps p next m None over agree q e = absurd (false≢true (sym (in_empty p q) ∙ e))
+agrees_keeps p next m (Some x) over agree q e =
+    let same : union x.assigned (set_of next m) ≡ set_of next m = same_says (union x.assigned (set_of next m)) (set_of next m) (agree (completed_seat next m (yielded_seat x)) refl) in
+    ap (λ s. is_in s q) (sym same) ∙ in_union x.assigned (set_of next m) q (over x refl) ∙ or_first (is_in x.assigned q) (is_in (set_of next m) q) e
+
+pub round_lying : (g : GroupState) → IsValidGroup g → is_anybody g ≡ true → is_settled (round g) ≡ true → (f : ℕ → PartitionSet) × LieInBalanced g f
+round_lying g valid any settled =
+    let r : SetRows = assigned_rows g in
+    let owned : AreGranted r = assigned_owned g (has_partitions g valid.sized) valid.fit valid.apart any in
+    let next : SetRows = next_rows (granted_rows (yielded g)) in
+    let now : next ≡ next_rows r = ap next_rows (granted_yielded g) in
+    let all : all_agree (round g) ≡ true = (both_true (is_stable (round g).phase) (all_agree (round g)) settled).1 in
+    let at : (m : ℕ) → seat_of (round g).slots m ≡ option_map (completed_seat next m) (option_map yielded_seat (member_of g m)) = λ m. seat_each (completed_seat next) (yielded g).slots m ∙ ap (option_map (completed_seat next m)) (seat_each (λ k. yielded_seat) g.slots m) in
+    let row : (m : ℕ) → partitions_of (set_of next m) ≡ g.partitions = λ m. ap (λ n. partitions_of (set_of n m)) now ∙ set_over (next_rows r) m (next_kept r owned) ∙ next_below r owned in (
+      set_of (target_rows r),
+      record {
+        below = λ m. set_over (target_rows r) m (target_kept r owned.valid) ∙ target_below r;
+        balanced = subst (λ (ms : List ℕ). IsBalanced g.partitions (map (set_of (target_rows r)) ms)) (members_assigned g) (target_balanced r owned);
+        within = λ m. within_of (assigned_of g m) (set_of (target_rows r) m) (λ q e.
+            next_in_target r m q (ap (λ n. is_in (set_of n m) q) (sym now)
+            ∙ agrees_keeps g.partitions next m (member_of g m) (λ x is. (valid.fit m x is).assigned_below ∙ sym (row m)) (λ y is. all_says agrees (round g).slots m y all (at m ∙ is)) q e));
+      },
+    )

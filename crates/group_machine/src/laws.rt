@@ -86,10 +86,15 @@ pub fn take_over_starts_nothing()
         → bare (taken_over_by g name) ≡ taken_over_by (bare g) name }
 {}
 
-/// A settled group whose place is taken over ends as it is, with the place taken over.
+/// Where a rebalance ends after a place is taken over: a settled group as it is, with the place
+/// taken over, and any group in the generation in which it ends without. Who gets what nobody is
+/// granted follows the order of the numbers, of which the new one is the last.
 pub fn take_over_keeps_the_end()
-    ensures { (g : GroupState) (name : List ℕ) → is_settled g ≡ true
+    ensures settled { (g : GroupState) (name : List ℕ) → is_settled g ≡ true
         → finish (taken_over_by g name) ≡ taken_over_by (finish g) name }
+    ensures generation { (g : GroupState) (name : List ℕ) (number : ℕ) → IsValidGroup g
+        → take_over_answer g name ≡ Ok number
+        → (finish (taken_over_by g name)).generation ≡ (finish g).generation }
 {}
 
 /// An accepted rejoin leaves the other members.

@@ -302,10 +302,11 @@ fn names_are_of_letters_digits_and_two_marks(rt: HostRuntime) {
     }
 }
 
-/// As many members as there may be, of as many partitions.
+/// As many members as there may be, of as many partitions. The first keeps its place.
 fn at_its_limits<R: Abort + RandomSource>(rt: &R, alloc: Global) -> Result<Cluster, Fail> {
     let mut cluster = Cluster::new(rt, alloc, MOST_PARTITIONS)?;
-    for member in 1..MOST_MEMBERS as u32 + 1 {
+    assert!(rt; cluster.join_kept(numbered(rt, 1)) == Ok(1));
+    for member in 2..MOST_MEMBERS as u32 + 1 {
         assert!(rt;
             cluster.join(numbered(rt, member)) == Ok(member),
             "{member}"
@@ -320,8 +321,35 @@ fn no_more_members_than_there_may_be_join(rt: HostRuntime) -> Result<(), Fail> {
     let joins = [
         Step::Join(b"late", Err(Refusal::TooManyMembers)),
         Step::Join(b"007", Err(Refusal::NameUsed)),
+        Step::JoinKept(b"late", Err(Refusal::TooManyMembers)),
+        Step::TakeOver(b"007", Err(Refusal::NotKept)),
+        Step::TakeOver(b"001", Err(Refusal::TooManyMembers)),
+        Step::Is(1, true, false, false),
+        Step::Keeps(1, true),
+        Step::Named(b"001", Some(1)),
     ];
     assert_eq!(rt; first_other(&rt, rt.alloc(), &mut cluster, &joins)?, None);
+    Ok(())
+}
+
+#[test]
+fn a_place_is_taken_over_as_often_as_there_are_numbers(rt: HostRuntime) -> Result<(), Fail> {
+    let mut cluster = after(&rt, rt.alloc(), &[Step::JoinKept(b"A", Ok(1))])?;
+    for member in 2..MOST_MEMBERS as u32 + 1 {
+        assert!(rt;
+            cluster.take_over(&name(&rt, b"A")) == Ok(member),
+            "{member}"
+        );
+    }
+    let last = [
+        Step::TakeOver(b"A", Err(Refusal::TooManyMembers)),
+        Step::Stands(1, Phase::Stable, true),
+        Step::Is(511, false, false, false),
+        Step::Is(512, true, false, false),
+        Step::Has(512, &[0, 1, 2, 3], &[0, 1, 2, 3]),
+        Step::Lease(512, 1, &[0, 1, 2, 3]),
+    ];
+    assert_eq!(rt; first_other(&rt, rt.alloc(), &mut cluster, &last)?, None);
     Ok(())
 }
 
