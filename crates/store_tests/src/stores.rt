@@ -1,6 +1,7 @@
 //! Commits of a log of two records of one key, in the order in which they are refused.
 
-use super::*;
+use crate::with_last;
+use commit_store::Store;
 use keyed_table::Partial;
 use lane_words::{MOST_PARTITIONS, Memory, Refusal};
 use partition_log::{LogRead, Logs};
@@ -77,10 +78,8 @@ fn the_last_of_the_records_alone_differs(rt: HostRuntime) -> Result<(), Fail> {
     for len in [17, 1000] {
         let logs = one_key(&rt, rt.alloc(), len)?;
         let ids = vec![in rt.alloc(); 0; len]?;
-        let mut other = ids.to_vec(rt.alloc())?;
-        if let Some(last) = other.last_mut() {
-            *last = 1;
-        }
+        assert!(rt; !ids.is_empty());
+        let other = with_last(rt.alloc(), &ids, 1)?;
         let refused = (Err(Refusal::WrongRecords), 0, 0);
         assert!(rt;
             committed(&rt, rt.alloc(), &logs, other)? == refused,
