@@ -1,5 +1,7 @@
 //! Commits of a log of two records of one key, in the order in which they are refused.
 
+ghost use Rattle.std.specs.Prelude.{◌≤◌};
+
 use crate::with_last;
 use commit_store::Store;
 use keyed_table::Partial;
@@ -10,83 +12,141 @@ use std::process::Abort;
 use std::random::RandomSource;
 use std::test::Fail;
 
-#[test]
-fn a_commit_is_taken_exactly_where_it_fits(rt: HostRuntime) -> Result<(), Fail> {
-    let mut logs = Logs::new(&rt, rt.alloc(), 4)?;
-    for _ in 0..2 {
-        assert_eq!(rt; logs.append(b"21").map(|at| at.0), Ok(0));
-    }
-    let mut store = Store::new(rt.alloc(), 4)?;
-    store.reserve_key()?;
-    store.add_key();
-    let commits: [(u32, &[u32], Result<u32, Refusal>); 8] = [
-        (0, &[], Err(Refusal::EmptyCommit)),
-        (1, &[0], Err(Refusal::OffsetMismatch { committed: 0 })),
-        (0, &[0, 0, 0], Err(Refusal::PastEnd)),
-        (0, &[0, 1], Err(Refusal::WrongRecords)),
-        (0, &[0], Ok(1)),
-        (0, &[0], Err(Refusal::OffsetMismatch { committed: 1 })),
-        (1, &[0], Ok(2)),
-        (2, &[0], Err(Refusal::PastEnd)),
-    ];
-    for (from, ids, answer) in commits {
-        assert!(rt; logs.keys() as usize <= store.keys());
-        let partial = Partial::of(rt.alloc(), Vec::from_slice(rt.alloc(), ids)?)?;
-        assert_eq!(rt;
-            store.commit(&logs, 0, from, &partial),
-            answer,
-            "{from} {ids:?}"
-        );
-    }
-    assert!(rt; store.partitions() == 4 && store.keys() == 1);
-    assert_eq!(rt; store.committed(0), 2);
-    assert_eq!(rt; store.committed(3), 0);
-    assert_eq!(rt; store.count(0), 2);
-    Ok(())
+/// Whether a record of one key comes to the first log.
+fn is_appended(logs: &mut Logs) -> bool {
+    matches!(logs.append(b"21"), Ok((0, _)))
 }
 
-/// A log of this many records of one key.
+/// Logs of which the first has this many records of one key.
 fn one_key(
     rt: &(impl Abort + RandomSource),
     alloc: Global,
+    partitions: u32,
     records: usize,
-) -> Result<Logs, Memory> {
-    let mut logs = Logs::new(rt, alloc, 1)?;
+) -> Result<Logs, Memory>
+    requires { (1 ≤ partitions) × (partitions ≤ MOST_PARTITIONS) }
+{
+    let mut logs = Logs::new(rt, alloc, partitions)?;
     for _ in 0..records {
-        assert!(rt; logs.append(b"21").is_ok());
+        assert!(rt; is_appended(&mut logs));
     }
     Ok(logs)
 }
+
+/// Makes a counter for each of this many keys.
+fn add_keys(store: &mut Store, keys: u32) -> Result<(), Memory> {
+    for _ in 0..keys {
+        store.reserve_key()?;
+        store.add_key();
+    }
+    Ok(())
+}
+
+/// A commit of these key numbers of the first log from an offset on.
+fn commit(
+    rt: &impl Abort,
+    alloc: Global,
+    store: &mut Store,
+    logs: &Logs,
+    from: u32,
+    ids: &[u32],
+) -> Result<Result<u32, Refusal>, Memory> {
+    assert!(rt; logs.keys() as usize <= store.keys());
+    assert!(rt; logs.partitions() > 0 && store.partitions() > 0);
+    let partial = Partial::of(alloc, Vec::from_slice(alloc, ids)?)?;
+    Ok(store.commit(logs, 0, from, &partial))
+}
+
+/// Of a log of two records of one key: an offset, key numbers from there on, and the answer of their
+/// commit.
+const COMMITS: [(u32, &[u32], Result<u32, Refusal>); 8] = [
+    (0, &[], Err(Refusal::EmptyCommit)),
+    (1, &[0], Err(Refusal::OffsetMismatch { committed: 0 })),
+    (0, &[0, 0, 0], Err(Refusal::PastEnd)),
+    (0, &[0, 1], Err(Refusal::WrongRecords)),
+    (0, &[0], Ok(1)),
+    (0, &[0], Err(Refusal::OffsetMismatch { committed: 1 })),
+    (1, &[0], Ok(2)),
+    (2, &[0], Err(Refusal::PastEnd)),
+];
+
+/// The first of those commits that is not answered so.
+fn first_other(
+    rt: &impl Abort,
+    alloc: Global,
+    store: &mut Store,
+    logs: &Logs,
+) -> Result<Option<usize>, Memory> {
+    for (index, (from, ids, answer)) in COMMITS.iter().enumerate() {
+        if commit(rt, alloc, store, logs, *from, ids)? != *answer {
+            return Ok(Some(index));
+        }
+    }
+    Ok(None)
+}
+
+/// Whether both records are committed, and nothing of other logs.
+fn has_both(store: &Store) -> bool {
+    store.partitions() == 4
+        && store.keys() == 1
+        && store.committed(0) == 2
+        && store.committed(3) == 0
+        && store.count(0) == 2
+}
+
+/// Whether both records are committed when those commits were made on a store of one key, each
+/// answered so.
+fn are_both_committed(rt: &impl Abort, alloc: Global, logs: &Logs) -> Result<bool, Memory> {
+    let mut store = Store::new(alloc, 4)?;
+    add_keys(&mut store, 1)?;
+    assert_eq!(rt; first_other(rt, alloc, &mut store, logs)?, None);
+    Ok(has_both(&store))
+}
+
+#[test]
+fn a_commit_is_taken_exactly_where_it_fits(rt: HostRuntime) -> Result<(), Fail> {
+    let logs = one_key(&rt, rt.alloc(), 4, 2)?;
+    assert!(rt; are_both_committed(&rt, rt.alloc(), &logs)?);
+    Ok(())
+}
+
+/// The answer of a commit, and the two counters after it.
+type Committed = (Result<u32, Refusal>, u64, u64);
 
 /// A commit of these key numbers at the start of the log, and the two counters after it.
 fn committed(
     rt: &impl Abort,
     alloc: Global,
     logs: &Logs,
-    ids: Vec<u32>,
-) -> Result<(Result<u32, Refusal>, u64, u64), Memory> {
+    ids: &[u32],
+) -> Result<Committed, Memory> {
     let mut store = Store::over(alloc, 1, 2)?;
-    let partial = Partial::of(alloc, ids)?;
-    assert!(rt; logs.partitions() == 1 && logs.keys() <= 2);
-    let answer = store.commit(logs, 0, 0, &partial);
+    let answer = commit(rt, alloc, &mut store, logs, 0, ids)?;
     assert!(rt; store.keys() == 2);
     Ok((answer, store.count(0), store.count(1)))
+}
+
+/// A commit of this many records of one key but for the last, and one of these alone.
+fn last_differs(
+    rt: &impl Abort,
+    alloc: Global,
+    logs: &Logs,
+    len: usize,
+) -> Result<(Committed, Committed), Memory> {
+    let ids = vec![in alloc; 0; len]?;
+    assert!(rt; !ids.is_empty());
+    let other = with_last(alloc, &ids, 1)?;
+    let refused = committed(rt, alloc, logs, &other)?;
+    Ok((refused, committed(rt, alloc, logs, &ids)?))
 }
 
 #[test]
 fn the_last_of_the_records_alone_differs(rt: HostRuntime) -> Result<(), Fail> {
     for len in [17, 1000] {
-        let logs = one_key(&rt, rt.alloc(), len)?;
-        let ids = vec![in rt.alloc(); 0; len]?;
-        assert!(rt; !ids.is_empty());
-        let other = with_last(rt.alloc(), &ids, 1)?;
-        let refused = (Err(Refusal::WrongRecords), 0, 0);
-        assert!(rt;
-            committed(&rt, rt.alloc(), &logs, other)? == refused,
-            "{len}"
-        );
-        let taken = (Ok(len as u32), len as u64, 0);
-        assert!(rt; committed(&rt, rt.alloc(), &logs, ids)? == taken, "{len}");
+        let logs = one_key(&rt, rt.alloc(), 1, len)?;
+        let (other, same) = last_differs(&rt, rt.alloc(), &logs, len)?;
+        assert!(rt; other == (Err(Refusal::WrongRecords), 0, 0), "{len}");
+        assert!(rt; same == (Ok(len as u32), len as u64, 0), "{len}");
     }
     Ok(())
 }
@@ -97,10 +157,7 @@ fn makes_an_offset_for_each_of_as_many_partitions_as_there_may_be(
 ) -> Result<(), Fail> {
     let mut store = Store::new(rt.alloc(), MOST_PARTITIONS)?;
     assert_eq!(rt; store.partitions(), MOST_PARTITIONS);
-    for _ in 0..70_000_u32 {
-        store.reserve_key()?;
-        store.add_key();
-    }
+    add_keys(&mut store, 70_000)?;
     assert_eq!(rt; store.offsets().len(), 4096);
     assert_eq!(rt; store.counts().len(), 70_000);
     Ok(())
