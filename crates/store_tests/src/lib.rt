@@ -6,6 +6,8 @@
 ghost use Rattle.std.specs.Prelude.{◌≡◌, ◌<◌, ◌-◌, IfOk, length, slice_set};
 
 #[cfg(test)]
+mod consumers;
+#[cfg(test)]
 mod stores;
 
 use lane_words::Memory;
