@@ -6,6 +6,3 @@ mod store;
 
 pub use laws::{all_committed_is_the_plain_count, an_append_keeps_exact};
 pub use store::Store;
-
-#[cfg(test)]
-mod tests;

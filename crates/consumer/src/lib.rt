@@ -265,6 +265,3 @@ impl Consumer {
         }
     }
 }
-
-#[cfg(test)]
-mod tests;

@@ -1,0 +1,100 @@
+//! A consumer by itself, each call that needs no cluster once. Leases, polls and sends are tested
+//! in worlds.
+
+use consumer::Consumer;
+use lane_words::Refusal;
+use std::test::Fail;
+
+/// A call on a consumer, or what is told of it.
+#[derive(Clone, Copy)]
+enum Step {
+    /// It has joined as this member.
+    Joined(u32),
+    /// It gives up what it is not assigned.
+    GiveUp,
+    /// It drops all.
+    DropAll,
+    /// It learns what became of a commit of the first partition.
+    Answered(Result<u32, Refusal>),
+    /// The number of its member.
+    Is(Option<u32>),
+    /// It is out, of generation 0 and of this many partitions.
+    IsNew(u32),
+    /// Whether anything is pending of a partition.
+    Sendable(u32, Result<(), Refusal>),
+    /// It claims nothing, and does not hold the first partition.
+    HoldsNothing,
+}
+
+/// What the calls on a consumer of this many partitions are, one after the other.
+fn steps(partitions: u32) -> [Step; 15] {
+    [
+        Step::IsNew(partitions),
+        Step::Sendable(0, Err(Refusal::OutOfGroup)),
+        Step::Joined(7),
+        Step::Is(Some(7)),
+        Step::Sendable(partitions, Err(Refusal::NotHeld)),
+        Step::HoldsNothing,
+        Step::GiveUp,
+        Step::Answered(Ok(5)),
+        Step::Answered(Err(Refusal::StaleGeneration)),
+        Step::Is(Some(7)),
+        Step::Answered(Err(Refusal::UnknownMember)),
+        Step::Is(None),
+        Step::Joined(8),
+        Step::DropAll,
+        Step::Is(None),
+    ]
+}
+
+/// Makes the call of a step, or answers whether what is told is so.
+fn is_so(consumer: &mut Consumer, step: &Step) -> bool {
+    match step {
+        Step::Joined(member) => consumer.joined(*member),
+        Step::GiveUp => consumer.give_up(),
+        Step::DropAll => consumer.drop_all(),
+        Step::Answered(reply) => consumer.answered(0, *reply),
+        step => return is_told(consumer, step),
+    }
+    true
+}
+
+/// Whether a consumer is told as a step says, which calls nothing that changes it.
+fn is_told(consumer: &Consumer, step: &Step) -> bool {
+    match step {
+        Step::Is(member) => consumer.member() == *member,
+        Step::IsNew(partitions) => {
+            consumer.member().is_none()
+                && consumer.generation() == 0
+                && consumer.partitions() == *partitions
+        }
+        Step::Sendable(p, answer) => consumer.sendable(*p) == *answer,
+        Step::HoldsNothing => {
+            consumer.claim().count() == 0
+                && !consumer.holds(0)
+                && consumer.base(0) == 0
+                && consumer.position(0) == 0
+        }
+        _ => false,
+    }
+}
+
+/// The first step that is not as it says.
+fn first_other(consumer: &mut Consumer, steps: &[Step]) -> Option<usize> {
+    for (index, step) in steps.iter().enumerate() {
+        if !is_so(consumer, step) {
+            return Some(index);
+        }
+    }
+    None
+}
+
+#[test]
+fn one_that_is_out_holds_nothing(rt: HostRuntime) -> Result<(), Fail> {
+    for partitions in [1, 4, 4096] {
+        let mut consumer = Consumer::new(rt.alloc(), partitions)?;
+        let other = first_other(&mut consumer, &steps(partitions));
+        assert_eq!(rt; other, None, "{partitions} partitions");
+    }
+    Ok(())
+}

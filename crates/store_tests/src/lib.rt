@@ -1,0 +1,26 @@
+//! Tests of the public calls of the library's lower crates, which have a crate of their own: a crate
+//! with tests is proved twice, once without them, and these need nothing of what is private to a
+//! crate.
+#![tactic(auto)]
+
+ghost use Rattle.std.specs.Prelude.{◌≡◌, ◌<◌, ◌-◌, IfOk, length, slice_set};
+
+#[cfg(test)]
+mod consumers;
+#[cfg(test)]
+mod stores;
+
+use lane_words::Memory;
+use std::alloc::Global;
+
+/// The same numbers but for the last: what compares all of them is told by what it says of these.
+pub fn with_last(alloc: Global, numbers: &[u32], last: u32) -> Result<Vec<u32>, Memory>
+    requires { 0 < length numbers.now }
+    ensures { IfOk result
+        (λ other. other.items ≡ slice_set numbers.now (length numbers.now - 1) last) }
+{
+    let mut other = numbers.to_vec(alloc)?;
+    let index = other.len() - 1;
+    other[index] = last;
+    Ok(other)
+}
