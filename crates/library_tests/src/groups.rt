@@ -5,7 +5,7 @@ use bit_planes::Plane;
 use group_machine::{Cluster, Commit, Name, Phase};
 use keyed_table::Partial;
 use lane_words::{MOST_MEMBERS, MOST_PARTITIONS, Memory, Refusal};
-use partition_log::{LogRead, Logs};
+use partition_log::{LogRead, Logs, SealedLogs};
 use std::alloc::Global;
 use std::process::Abort;
 use std::random::RandomSource;
@@ -151,7 +151,7 @@ fn name(rt: &impl Abort, text: &[u8]) -> Name {
 
 /// The last digit of a number.
 fn digit(n: u32) -> u8 {
-    b'0' + (n % 10) as u8
+    b'0'.wrapping_add((n % 10) as u8)
 }
 
 /// A name of three digits.
@@ -201,86 +201,86 @@ fn moves_end_with(cluster: &Cluster, rows: &[(u32, u32, Option<u32>, u32)]) -> b
     last.zip(rows).all(|(moved, row)| moved == *row)
 }
 
+/// A second member joins, and is granted what the first one gives up.
+const MOVES_ONCE_REVOKED: [Step; 16] = [
+    Step::Join(b"A", Ok(1)),
+    Step::Join(b"B", Ok(2)),
+    Step::Stands(1, Phase::Preparing, false),
+    Step::Is(1, true, false, false),
+    Step::Is(2, true, true, false),
+    Step::Lease(1, 1, &[0, 1, 2, 3]),
+    Step::Is(1, true, false, true),
+    Step::Rejoin(1, 1, &[0, 1, 2, 3], Ok(())),
+    Step::Stands(2, Phase::Stable, false),
+    Step::Has(1, &[0, 1, 2, 3], &[0, 1]),
+    Step::Has(2, &[], &[]),
+    Step::Lease(1, 2, &[0, 1]),
+    Step::Rejoin(1, 2, &[0, 1], Ok(())),
+    Step::Lease(2, 2, &[]),
+    Step::Rejoin(2, 2, &[], Ok(())),
+    Step::Stands(3, Phase::Stable, true),
+];
+
 #[test]
 fn a_partition_moves_once_it_is_revoked(rt: HostRuntime) -> Result<(), Fail> {
-    let cluster = after(
-        &rt,
-        rt.alloc(),
-        &[
-            Step::Join(b"A", Ok(1)),
-            Step::Join(b"B", Ok(2)),
-            Step::Stands(1, Phase::Preparing, false),
-            Step::Is(1, true, false, false),
-            Step::Is(2, true, true, false),
-            Step::Lease(1, 1, &[0, 1, 2, 3]),
-            Step::Is(1, true, false, true),
-            Step::Rejoin(1, 1, &[0, 1, 2, 3], Ok(())),
-            Step::Stands(2, Phase::Stable, false),
-            Step::Has(1, &[0, 1, 2, 3], &[0, 1]),
-            Step::Has(2, &[], &[]),
-            Step::Lease(1, 2, &[0, 1]),
-            Step::Rejoin(1, 2, &[0, 1], Ok(())),
-            Step::Lease(2, 2, &[]),
-            Step::Rejoin(2, 2, &[], Ok(())),
-            Step::Stands(3, Phase::Stable, true),
-        ],
-    )?;
+    let cluster = after(&rt, rt.alloc(), &MOVES_ONCE_REVOKED)?;
     let rows = [(3, 3, Some(1), 2), (3, 2, Some(1), 2), (1, 3, None, 1)];
     assert!(rt; cluster.moves().len() == 6 && moves_end_with(&cluster, &rows));
     assert_eq!(rt; cluster.owner(3), Some(2));
     Ok(())
 }
 
+/// The answer of a commit that is not at the offset, with nothing committed.
+const NONE_YET: Result<u32, Refusal> = Err(Refusal::OffsetMismatch { committed: 0 });
+/// The same with two records committed.
+const TAKEN: Result<u32, Refusal> = Err(Refusal::OffsetMismatch { committed: 2 });
+
+/// Commits of members that are unknown, late or no owners, and those that fit.
+const FENCED_COMMITS: [Step; 17] = [
+    Step::Append(b"21", Ok((0, 0))),
+    Step::Append(b"21", Ok((0, 1))),
+    Step::Join(b"A", Ok(1)),
+    Step::Rejoin(1, 1, &[], Err(Refusal::SyncFirst)),
+    Step::Lease(1, 1, &[0, 1, 2, 3]),
+    Step::Join(b"B", Ok(2)),
+    Step::Rejoin(1, 1, &[0, 1], Err(Refusal::ClaimDiffers)),
+    Step::Commit((9, 1, 0, 0), &[0], Err(Refusal::UnknownMember)),
+    Step::Commit((1, 0, 0, 0), &[0], Err(Refusal::StaleGeneration)),
+    Step::Commit((1, 1, 7, 0), &[0], Err(Refusal::NotOwner)),
+    Step::Commit((1, 1, 0, 0), &[], Err(Refusal::EmptyCommit)),
+    Step::Commit((1, 1, 0, 1), &[0], NONE_YET),
+    Step::Commit((1, 1, 0, 0), &[0, 0, 0], Err(Refusal::PastEnd)),
+    Step::Commit((1, 1, 0, 0), &[0, 1], Err(Refusal::WrongRecords)),
+    Step::Commit((1, 1, 0, 0), &[0, 0], Ok(2)),
+    Step::Commit((1, 1, 0, 0), &[0, 0], TAKEN),
+    Step::Offsets(&[2, 0, 0, 0]),
+];
+
 #[test]
 fn commits_are_fenced_and_taken_once(rt: HostRuntime) -> Result<(), Fail> {
-    let none_yet = Err(Refusal::OffsetMismatch { committed: 0 });
-    let taken = Err(Refusal::OffsetMismatch { committed: 2 });
-    let cluster = after(
-        &rt,
-        rt.alloc(),
-        &[
-            Step::Append(b"21", Ok((0, 0))),
-            Step::Append(b"21", Ok((0, 1))),
-            Step::Join(b"A", Ok(1)),
-            Step::Rejoin(1, 1, &[], Err(Refusal::SyncFirst)),
-            Step::Lease(1, 1, &[0, 1, 2, 3]),
-            Step::Join(b"B", Ok(2)),
-            Step::Rejoin(1, 1, &[0, 1], Err(Refusal::ClaimDiffers)),
-            Step::Commit((9, 1, 0, 0), &[0], Err(Refusal::UnknownMember)),
-            Step::Commit((1, 0, 0, 0), &[0], Err(Refusal::StaleGeneration)),
-            Step::Commit((1, 1, 7, 0), &[0], Err(Refusal::NotOwner)),
-            Step::Commit((1, 1, 0, 0), &[], Err(Refusal::EmptyCommit)),
-            Step::Commit((1, 1, 0, 1), &[0], none_yet),
-            Step::Commit((1, 1, 0, 0), &[0, 0, 0], Err(Refusal::PastEnd)),
-            Step::Commit((1, 1, 0, 0), &[0, 1], Err(Refusal::WrongRecords)),
-            Step::Commit((1, 1, 0, 0), &[0, 0], Ok(2)),
-            Step::Commit((1, 1, 0, 0), &[0, 0], taken),
-            Step::Offsets(&[2, 0, 0, 0]),
-        ],
-    )?;
+    let cluster = after(&rt, rt.alloc(), &FENCED_COMMITS)?;
     assert!(rt; cluster.partitions() == 4 && cluster.logs().len(0) == 2);
     Ok(())
 }
 
+/// A member is lost, and the other one commits.
+const ONE_IS_LOST: [Step; 11] = [
+    Step::Append(b"21", Ok((0, 0))),
+    Step::Join(b"A", Ok(1)),
+    Step::Join(b"B", Ok(2)),
+    Step::Join(b"B", Err(Refusal::NameUsed)),
+    Step::Lose(1, Ok(())),
+    Step::Leave(1, Err(Refusal::UnknownMember)),
+    Step::Is(1, false, false, false),
+    Step::Is(2, true, false, false),
+    Step::Stands(2, Phase::Stable, true),
+    Step::Commit((1, 1, 0, 0), &[0], Err(Refusal::UnknownMember)),
+    Step::Commit((2, 2, 0, 0), &[0], Ok(1)),
+];
+
 #[test]
 fn a_lost_member_is_fenced_off(rt: HostRuntime) -> Result<(), Fail> {
-    let cluster = after(
-        &rt,
-        rt.alloc(),
-        &[
-            Step::Append(b"21", Ok((0, 0))),
-            Step::Join(b"A", Ok(1)),
-            Step::Join(b"B", Ok(2)),
-            Step::Join(b"B", Err(Refusal::NameUsed)),
-            Step::Lose(1, Ok(())),
-            Step::Leave(1, Err(Refusal::UnknownMember)),
-            Step::Is(1, false, false, false),
-            Step::Is(2, true, false, false),
-            Step::Stands(2, Phase::Stable, true),
-            Step::Commit((1, 1, 0, 0), &[0], Err(Refusal::UnknownMember)),
-            Step::Commit((2, 2, 0, 0), &[0], Ok(1)),
-        ],
-    )?;
+    let cluster = after(&rt, rt.alloc(), &ONE_IS_LOST)?;
     assert!(rt; cluster.members().eq([2]));
     let lost = cluster.name(1).expect(&rt, "a number that was given");
     assert_eq!(rt; lost.text(), b"A".as_slice());
@@ -315,32 +315,37 @@ fn at_its_limits<R: Abort + RandomSource>(rt: &R, alloc: Global) -> Result<Clust
     Ok(cluster)
 }
 
+/// What a full group answers, whose first member alone keeps its place.
+const WHERE_FULL: [Step; 8] = [
+    Step::Join(b"late", Err(Refusal::TooManyMembers)),
+    Step::Join(b"007", Err(Refusal::NameUsed)),
+    Step::JoinKept(b"late", Err(Refusal::TooManyMembers)),
+    Step::TakeOver(b"007", Err(Refusal::NotKept)),
+    Step::TakeOver(b"001", Err(Refusal::TooManyMembers)),
+    Step::Is(1, true, false, false),
+    Step::Keeps(1, true),
+    Step::Named(b"001", Some(1)),
+];
+
 #[test]
 fn no_more_members_than_there_may_be_join(rt: HostRuntime) -> Result<(), Fail> {
     let mut cluster = at_its_limits(&rt, rt.alloc())?;
-    let joins = [
-        Step::Join(b"late", Err(Refusal::TooManyMembers)),
-        Step::Join(b"007", Err(Refusal::NameUsed)),
-        Step::JoinKept(b"late", Err(Refusal::TooManyMembers)),
-        Step::TakeOver(b"007", Err(Refusal::NotKept)),
-        Step::TakeOver(b"001", Err(Refusal::TooManyMembers)),
-        Step::Is(1, true, false, false),
-        Step::Keeps(1, true),
-        Step::Named(b"001", Some(1)),
-    ];
-    assert_eq!(rt; first_other(&rt, rt.alloc(), &mut cluster, &joins)?, None);
+    assert_eq!(rt;
+        first_other(&rt, rt.alloc(), &mut cluster, &WHERE_FULL)?,
+        None
+    );
     Ok(())
+}
+
+/// The first number that does not take over the place that A keeps, of those from 2 on.
+fn first_not_taken(cluster: &mut Cluster, name: &Name) -> Option<u32> {
+    (2..MOST_MEMBERS as u32 + 1).find(|n| cluster.take_over(name) != Ok(*n))
 }
 
 #[test]
 fn a_place_is_taken_over_as_often_as_there_are_numbers(rt: HostRuntime) -> Result<(), Fail> {
     let mut cluster = after(&rt, rt.alloc(), &[Step::JoinKept(b"A", Ok(1))])?;
-    for member in 2..MOST_MEMBERS as u32 + 1 {
-        assert!(rt;
-            cluster.take_over(&name(&rt, b"A")) == Ok(member),
-            "{member}"
-        );
-    }
+    assert_eq!(rt; first_not_taken(&mut cluster, &name(&rt, b"A")), None);
     let last = [
         Step::TakeOver(b"A", Err(Refusal::TooManyMembers)),
         Step::Stands(1, Phase::Stable, true),
@@ -381,13 +386,18 @@ fn a_cluster_at_its_limits(rt: HostRuntime) -> Result<(), Fail> {
     Ok(())
 }
 
-/// Logs of five records of four keys, of which each has a place of its own for four partitions.
-fn five_records(rt: &HostRuntime) -> Result<Logs, Fail> {
-    let mut logs = Logs::new(rt, rt.alloc(), 4)?;
-    let keys: [&[u8]; 5] = [b"21", b"4", b"foobar", b"abc", b"21"];
+/// Appends records of these keys.
+fn append_each(logs: &mut Logs, keys: &[&[u8]]) -> Result<(), Refusal> {
     for key in keys {
         logs.append(key)?;
     }
+    Ok(())
+}
+
+/// Logs of five records of four keys, of which each has a place of its own for four partitions.
+fn five_records(rt: &HostRuntime) -> Result<Logs, Fail> {
+    let mut logs = Logs::new(rt, rt.alloc(), 4)?;
+    append_each(&mut logs, &[b"21", b"4", b"foobar", b"abc", b"21"])?;
     Ok(logs)
 }
 
@@ -402,8 +412,8 @@ fn a_cluster_over_logs_has_nothing_committed(rt: HostRuntime) -> Result<(), Fail
 }
 
 /// Whether a cluster's logs are equal to these.
-fn are_logs(logs: Logs, cluster: &Cluster) -> bool {
-    logs.seal().same(cluster.logs())
+fn are_logs(logs: &SealedLogs, cluster: &Cluster) -> bool {
+    logs.same(cluster.logs())
 }
 
 #[test]
@@ -418,16 +428,23 @@ fn a_cluster_over_logs_keeps_them(rt: HostRuntime) -> Result<(), Fail> {
     ];
     assert_eq!(rt; first_other(&rt, rt.alloc(), &mut cluster, &steps)?, None);
     assert_eq!(rt; cluster.store().counts(), [2, 0, 1, 0].as_slice());
-    assert!(rt; are_logs(five_records(&rt)?, &cluster));
+    let logs = five_records(&rt)?.seal();
+    assert!(rt; are_logs(&logs, &cluster));
+    Ok(())
+}
+
+/// Appends this many records of four bytes, each of another key.
+fn append_many(logs: &mut Logs, records: u32) -> Result<(), Refusal> {
+    for i in 0..records {
+        logs.append(&i.to_le_bytes())?;
+    }
     Ok(())
 }
 
 /// Logs of this many records of four bytes, each of another key.
 fn many_records(rt: &HostRuntime, records: u32) -> Result<Logs, Fail> {
     let mut logs = Logs::new(rt, rt.alloc(), MOST_PARTITIONS)?;
-    for i in 0..records {
-        logs.append(&i.to_le_bytes())?;
-    }
+    append_many(&mut logs, records)?;
     Ok(logs)
 }
 
@@ -442,70 +459,68 @@ fn a_cluster_over_many_keys_counts_each(rt: HostRuntime) -> Result<(), Fail> {
     Ok(())
 }
 
+/// Names before and after their members join and leave.
+const NAMED: [Step; 8] = [
+    Step::Named(b"A", None),
+    Step::Join(b"A", Ok(1)),
+    Step::Join(b"B", Ok(2)),
+    Step::Leave(1, Ok(())),
+    Step::Named(b"A", Some(1)),
+    Step::Named(b"B", Some(2)),
+    Step::Named(b"a", None),
+    Step::Named(b"AB", None),
+];
+
 #[test]
 fn a_name_tells_its_number(rt: HostRuntime) -> Result<(), Fail> {
-    after(
-        &rt,
-        rt.alloc(),
-        &[
-            Step::Named(b"A", None),
-            Step::Join(b"A", Ok(1)),
-            Step::Join(b"B", Ok(2)),
-            Step::Leave(1, Ok(())),
-            Step::Named(b"A", Some(1)),
-            Step::Named(b"B", Some(2)),
-            Step::Named(b"a", None),
-            Step::Named(b"AB", None),
-        ],
-    )?;
+    after(&rt, rt.alloc(), &NAMED)?;
     Ok(())
 }
 
+/// A place that is taken over in each phase of a rebalance.
+const RETURNS: [Step; 37] = [
+    Step::JoinKept(b"A", Ok(1)),
+    Step::Keeps(1, true),
+    Step::Join(b"B", Ok(2)),
+    Step::TakeOver(b"B", Err(Refusal::NotKept)),
+    Step::TakeOver(b"C", Err(Refusal::NotKept)),
+    Step::JoinKept(b"A", Err(Refusal::NameUsed)),
+    Step::Lease(1, 1, &[0, 1, 2, 3]),
+    Step::TakeOver(b"A", Ok(3)),
+    Step::Stands(1, Phase::Preparing, false),
+    Step::Is(1, false, false, false),
+    Step::Keeps(1, false),
+    Step::Is(3, true, false, false),
+    Step::Keeps(3, true),
+    Step::Has(3, &[0, 1, 2, 3], &[0, 1, 2, 3]),
+    Step::Named(b"A", Some(3)),
+    Step::Commit((1, 1, 0, 0), &[], Err(Refusal::UnknownMember)),
+    Step::Rejoin(3, 1, &[0, 1, 2, 3], Err(Refusal::SyncFirst)),
+    Step::Lease(3, 1, &[0, 1, 2, 3]),
+    Step::Rejoin(3, 1, &[0, 1, 2, 3], Ok(())),
+    Step::Stands(2, Phase::Stable, false),
+    Step::TakeOver(b"A", Ok(4)),
+    Step::Stands(2, Phase::Stable, false),
+    Step::Has(4, &[0, 1, 2, 3], &[0, 1]),
+    Step::Lease(4, 2, &[0, 1]),
+    Step::Rejoin(4, 2, &[0, 1], Ok(())),
+    Step::TakeOver(b"A", Ok(5)),
+    Step::Is(5, true, true, false),
+    Step::Rejoin(5, 2, &[0, 1], Err(Refusal::AlreadyJoined)),
+    Step::Lease(2, 2, &[]),
+    Step::Rejoin(2, 2, &[], Ok(())),
+    Step::Has(5, &[0, 1], &[0, 1]),
+    Step::Has(2, &[2, 3], &[2, 3]),
+    Step::Stands(3, Phase::Stable, true),
+    Step::TakeOver(b"A", Ok(6)),
+    Step::Stands(3, Phase::Stable, true),
+    Step::Leave(6, Ok(())),
+    Step::TakeOver(b"A", Err(Refusal::NotKept)),
+];
+
 #[test]
 fn a_kept_place_is_taken_over(rt: HostRuntime) -> Result<(), Fail> {
-    let cluster = after(
-        &rt,
-        rt.alloc(),
-        &[
-            Step::JoinKept(b"A", Ok(1)),
-            Step::Keeps(1, true),
-            Step::Join(b"B", Ok(2)),
-            Step::TakeOver(b"B", Err(Refusal::NotKept)),
-            Step::TakeOver(b"C", Err(Refusal::NotKept)),
-            Step::JoinKept(b"A", Err(Refusal::NameUsed)),
-            Step::Lease(1, 1, &[0, 1, 2, 3]),
-            Step::TakeOver(b"A", Ok(3)),
-            Step::Stands(1, Phase::Preparing, false),
-            Step::Is(1, false, false, false),
-            Step::Keeps(1, false),
-            Step::Is(3, true, false, false),
-            Step::Keeps(3, true),
-            Step::Has(3, &[0, 1, 2, 3], &[0, 1, 2, 3]),
-            Step::Named(b"A", Some(3)),
-            Step::Commit((1, 1, 0, 0), &[], Err(Refusal::UnknownMember)),
-            Step::Rejoin(3, 1, &[0, 1, 2, 3], Err(Refusal::SyncFirst)),
-            Step::Lease(3, 1, &[0, 1, 2, 3]),
-            Step::Rejoin(3, 1, &[0, 1, 2, 3], Ok(())),
-            Step::Stands(2, Phase::Stable, false),
-            Step::TakeOver(b"A", Ok(4)),
-            Step::Stands(2, Phase::Stable, false),
-            Step::Has(4, &[0, 1, 2, 3], &[0, 1]),
-            Step::Lease(4, 2, &[0, 1]),
-            Step::Rejoin(4, 2, &[0, 1], Ok(())),
-            Step::TakeOver(b"A", Ok(5)),
-            Step::Is(5, true, true, false),
-            Step::Rejoin(5, 2, &[0, 1], Err(Refusal::AlreadyJoined)),
-            Step::Lease(2, 2, &[]),
-            Step::Rejoin(2, 2, &[], Ok(())),
-            Step::Has(5, &[0, 1], &[0, 1]),
-            Step::Has(2, &[2, 3], &[2, 3]),
-            Step::Stands(3, Phase::Stable, true),
-            Step::TakeOver(b"A", Ok(6)),
-            Step::Stands(3, Phase::Stable, true),
-            Step::Leave(6, Ok(())),
-            Step::TakeOver(b"A", Err(Refusal::NotKept)),
-        ],
-    )?;
+    let cluster = after(&rt, rt.alloc(), &RETURNS)?;
     // What member 4 had given up was last its own, and not of who took its place over then.
     let moves = [(3, 3, Some(4), 2), (3, 2, Some(4), 2)];
     assert!(rt; moves_end_with(&cluster, &moves));

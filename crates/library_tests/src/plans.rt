@@ -120,15 +120,15 @@ fn are_all(plan: &Plan, joins: usize, leaves: usize) -> bool {
     joins <= lines.len() && lines.len() - joins == leaves
 }
 
+/// The last digit of a number.
+fn digit(n: usize) -> u8 {
+    b'0'.wrapping_add((n % 10) as u8)
+}
+
 /// Whether a name is `m` and a number below 1,000, without zeros in front.
 fn is_numbered(name: &Name, number: usize) -> bool {
     let text = name.text();
-    let digits = [
-        b'm',
-        b'0' + (number / 100 % 10) as u8,
-        b'0' + (number / 10 % 10) as u8,
-        b'0' + (number % 10) as u8,
-    ];
+    let digits = [b'm', digit(number / 100), digit(number / 10), digit(number)];
     let front = if number < 10 {
         3
     } else if number < 100 {

@@ -394,7 +394,7 @@ fn each_line_in_its_turn(rt: HostRuntime) -> Result<(), Fail> {
 
 /// The last digit of a number.
 fn digit(n: u32) -> u8 {
-    b'0' + (n % 10) as u8
+    b'0'.wrapping_add((n % 10) as u8)
 }
 
 /// A plan of as many joins as there can be members.

@@ -24,29 +24,34 @@ fn ids(logs: &Logs, p: u32) -> &[u32] {
     }
 }
 
+/// Topics and keys, each with the place and the offset of its record in two topics of two and three
+/// partitions.
+const APPENDS: [(u8, &[u8], u32, u32); 6] = [
+    (0, b"21", 0, 0),
+    (1, b"abc", 2, 0),
+    (1, b"21", 2, 1),
+    (0, b"4", 1, 0),
+    (1, b"4", 3, 0),
+    (1, b"abc", 2, 2),
+];
+
+/// The key numbers of each log after those appends.
+const NUMBERS: [(u32, &[u32]); 5] = [(0, &[0]), (1, &[2]), (2, &[1, 0, 1]), (3, &[2]), (4, &[])];
+
 #[test]
 fn keys_have_one_number_in_all_topics(rt: HostRuntime) -> Result<(), Fail> {
     let mut logs = Logs::with_topics(&rt, rt.alloc(), &[2, 3])?;
     assert!(rt; logs.topics() == 2 && logs.partitions() == 5);
-    let steps: [(u8, &[u8], u32, u32); 6] = [
-        (0, b"21", 0, 0),
-        (1, b"abc", 2, 0),
-        (1, b"21", 2, 1),
-        (0, b"4", 1, 0),
-        (1, b"4", 3, 0),
-        (1, b"abc", 2, 2),
-    ];
-    for (topic, key, place, offset) in steps {
+    for (topic, key, place, offset) in &APPENDS {
         assert_eq!(rt;
-            append_in(&mut logs, topic, key),
-            Ok((place, offset)),
+            append_in(&mut logs, *topic, key),
+            Ok((*place, *offset)),
             "{key:?}"
         );
     }
     assert_eq!(rt; logs.keys(), 3);
-    let told: [(u32, &[u32]); 5] = [(0, &[0]), (1, &[2]), (2, &[1, 0, 1]), (3, &[2]), (4, &[])];
-    for (p, numbers) in told {
-        assert_eq!(rt; ids(&logs, p), numbers, "{p}");
+    for (p, numbers) in &NUMBERS {
+        assert_eq!(rt; ids(&logs, *p), *numbers, "{p}");
     }
     assert_eq!(rt; logs.append(b"4"), Ok((1, 1)));
     Ok(())
@@ -62,6 +67,19 @@ fn windows<'a>(alloc: Global, bytes: &'a [u8; 1000], count: usize) -> Result<Vec
     Ok(keys)
 }
 
+/// Appends these keys one at a time, each in its topic.
+fn append_each_in(logs: &mut Logs, topics: &[u8], keys: &[&[u8]]) -> Result<(), Refusal> {
+    for (topic, key) in topics.iter().zip(keys) {
+        append_in(logs, *topic, key)?;
+    }
+    Ok(())
+}
+
+/// Whether both are equal.
+fn are_same(sealed: &SealedLogs, logs: &Logs) -> bool {
+    sealed.same(logs)
+}
+
 /// Whether appends of all these keys at once, each in a topic, do what one at a time does.
 fn are_appended_alike<R: Threads + Sync + RandomSource>(
     rt: &R,
@@ -74,10 +92,9 @@ fn are_appended_alike<R: Threads + Sync + RandomSource>(
     let mut logs = Logs::with_topics(rt, alloc, &[1, 60, 300])?;
     let mut plain = Logs::with_topics(rt, alloc, &[1, 60, 300])?;
     let is_done = logs.append_all_in(rt, topics, keys).is_ok();
-    for i in 0..keys.len() {
-        append_in(&mut plain, topics[i], keys[i])?;
-    }
-    Ok(is_done && logs.seal().same(&plain))
+    append_each_in(&mut plain, topics, keys)?;
+    let sealed = logs.seal();
+    Ok(is_done && are_same(&sealed, &plain))
 }
 
 /// Each topic in turn.

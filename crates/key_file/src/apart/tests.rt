@@ -175,7 +175,7 @@ fn file_of(alloc: Global, records: u64) -> Result<Vec<u8>, Memory> {
     for i in 0..records {
         file.extend_from_slice(b"7,\"key\n")?;
         for power in [1, 10, 100, 1000, 10_000] {
-            file.push(b'0' + (i / power % 10) as u8)?;
+            file.push(b'0'.wrapping_add((i / power % 10) as u8))?;
         }
         file.extend_from_slice(b"\"\r\n")?;
     }
