@@ -11,87 +11,126 @@ use std::alloc::Global;
 use std::process::Abort;
 use std::test::Fail;
 
+// What is asserted is told by functions that answer whether it is so: each assertion is proved with
+// all that lets go what its message needs, and with all that the calls before it say.
+
+/// Whether a set of these partitions has its first and its last number, and none past them.
+fn has_edges(set: &Plane, partitions: u32) -> bool {
+    set.contains(0)
+        && set.contains(partitions.saturating_sub(1))
+        && !set.contains(partitions)
+        && !set.contains(u32::MAX)
+        && set.count() == if partitions == 1 { 1 } else { 2 }
+}
+
+/// Whether a set takes its edges in, and lets the last one go, but not one past it.
+fn takes_edges(partitions: u32) -> bool
+    requires { (1 ≤ partitions) × (partitions ≤ MOST_PARTITIONS) }
+{
+    let mut set = Plane::new(partitions);
+    let was_empty = set.count() == 0;
+    set.insert(0);
+    set.insert(partitions - 1);
+    let had_edges = has_edges(&set, partitions);
+    set.remove(partitions);
+    set.remove(partitions - 1);
+    was_empty && had_edges && !set.contains(partitions - 1)
+}
+
+/// Whether a full set has each of its partitions.
+fn is_full(set: &Plane, partitions: u32) -> bool {
+    set.count() == partitions
+        && set.iter().count() == partitions as usize
+        && set.partitions() == partitions
+}
+
 #[test]
-fn holds_its_edges(rt: HostRuntime) -> Result<(), Fail> {
+fn holds_its_edges(rt: HostRuntime) {
     for partitions in [1, 4, 513, 4096] {
-        let mut set = Plane::new(partitions);
-        assert_eq!(rt; set.count(), 0);
-        set.insert(0);
-        set.insert(partitions - 1);
+        assert!(rt; takes_edges(partitions), "{partitions}");
         assert!(rt;
-            set.contains(0) && set.contains(partitions - 1),
+            is_full(&Plane::full(partitions), partitions),
             "{partitions}"
         );
-        assert!(rt;
-            !set.contains(partitions) && !set.contains(u32::MAX),
-            "{partitions}"
-        );
-        assert_eq!(rt; set.count(), if partitions == 1 { 1 } else { 2 });
-        set.remove(partitions);
-        set.remove(partitions - 1);
-        assert!(rt; !set.contains(partitions - 1), "{partitions}");
-        assert_eq!(rt; Plane::full(partitions).count(), partitions);
-        assert_eq!(rt; Plane::full(partitions).iter().count(), partitions as usize);
-        assert_eq!(rt; Plane::full(partitions).partitions(), partitions);
     }
-    Ok(())
+}
+
+/// Whether sets of the first partition, of the last of 513, and of both are told apart.
+fn are_told(first: &Plane, last: &Plane, both: &Plane) -> bool
+    requires last { partitions_of last.now ≡ partitions_of first.now }
+    requires both { partitions_of both.now ≡ partitions_of first.now }
+{
+    last.meets(both)
+        && !first.meets(last)
+        && first.within(both)
+        && !both.within(first)
+        && !first.within(last)
+        && !first.same(last)
+        && both.count() == 2
+}
+
+/// Whether the two make both, and both make the two.
+fn are_parts(first: &Plane, last: &Plane, both: &Plane) -> bool
+    requires last { partitions_of last.now ≡ partitions_of first.now }
+    requires both { partitions_of both.now ≡ partitions_of first.now }
+{
+    first.union(last).same(both)
+        && both.minus(last).same(first)
+        && both.lowest(1).same(first)
+        && both.lowest(9).copy().same(both)
 }
 
 #[test]
 fn tells_sets_past_a_word(rt: HostRuntime) -> Result<(), Fail> {
-    let last = Plane::of(513, &[512]);
-    let first = Plane::of(513, &[0]);
+    let (first, last) = (Plane::of(513, &[0]), Plane::of(513, &[512]));
     let both = Plane::of(513, &[512, 0]);
-    assert!(rt; last.meets(&both));
-    assert!(rt; !first.meets(&last));
-    assert!(rt; first.within(&both) && !both.within(&first));
-    assert!(rt; !first.within(&last));
-    assert_eq!(rt; both.count(), 2);
-    assert!(rt; first.union(&last).same(&both));
-    assert!(rt; both.minus(&last).same(&first));
-    assert!(rt; both.lowest(1).same(&first) && !first.same(&last));
-    assert!(rt; both.lowest(9).copy().same(&both));
-    let mut elements = both.iter();
-    assert_eq!(rt;
-        (elements.next(), elements.next(), elements.next()),
-        (Some(0), Some(512), None)
-    );
+    assert!(rt; are_told(&first, &last, &both) && are_parts(&first, &last, &both));
+    assert!(rt; both.iter().eq([0, 512]));
     assert_eq!(rt; format!(in rt.alloc(); "{both:?}")?.as_str(), "{0, 512}");
     Ok(())
+}
+
+/// Puts rows in no order, the first one twice.
+fn put_each(rows: &mut PlaneRows) -> Result<(), Memory>
+    requires { rows.old.partitions ≡ 4 }
+{
+    rows.put(7, Plane::of(4, &[0]))?;
+    rows.put(2, Plane::of(4, &[1]))?;
+    rows.put(4_000_000_000, Plane::of(4, &[2]))?;
+    rows.put(7, Plane::of(4, &[3]))
+}
+
+/// Whether a member's row is of this one partition.
+fn is_of(rows: &PlaneRows, member: u32, q: u32) -> bool {
+    rows.get(member).is_some_and(|set| set.iter().eq([q]))
+}
+
+/// Whether rows are those that were put last.
+fn are_put(rows: &PlaneRows) -> bool {
+    rows.partitions() == 4
+        && rows.len() == 3
+        && rows.members().eq([2, 7, 4_000_000_000])
+        && is_of(rows, 7, 3)
+        && is_of(rows, 2, 1)
+        && rows.get(3).is_none()
+}
+
+/// Whether the walk over the rows begins with the first two.
+fn is_walked(rows: &PlaneRows) -> bool {
+    let mut walk = rows.iter();
+    let first = walk.next();
+    let second = walk.next();
+    first.is_some_and(|(member, set)| member == 2 && set.contains(1))
+        && second.is_some_and(|(member, set)| member == 7 && set.contains(3))
+        && walk.count() == 1
 }
 
 #[test]
 fn keeps_a_row_for_each_member(rt: HostRuntime) -> Result<(), Fail> {
     let mut rows = PlaneRows::new(rt.alloc(), 4);
     assert!(rt; rows.get(7).is_none());
-    rows.put(7, Plane::of(4, &[0]))?;
-    rows.put(2, Plane::of(4, &[1]))?;
-    rows.put(4_000_000_000, Plane::of(4, &[2]))?;
-    rows.put(7, Plane::of(4, &[3]))?;
-    assert_eq!(rt; rows.partitions(), 4);
-    assert_eq!(rt; rows.len(), 3);
-    let mut members = rows.members();
-    assert_eq!(rt; (members.next(), members.next()), (Some(2), Some(7)));
-    assert_eq!(rt;
-        (members.next(), members.next()),
-        (Some(4_000_000_000), None)
-    );
-    assert!(rt;
-        rows.get(7)
-            .is_some_and(|set| set.contains(3) && set.count() == 1)
-    );
-    assert!(rt; rows.get(2).is_some_and(|set| set.contains(1)));
-    assert!(rt; rows.get(3).is_none());
-    let mut walk = rows.iter();
-    assert!(rt;
-        walk.next()
-            .is_some_and(|(member, set)| member == 2 && set.contains(1))
-    );
-    assert!(rt;
-        walk.next()
-            .is_some_and(|(member, set)| member == 7 && set.contains(3))
-    );
-    assert_eq!(rt; walk.count(), 1);
+    put_each(&mut rows)?;
+    assert!(rt; are_put(&rows) && is_walked(&rows));
     Ok(())
 }
 

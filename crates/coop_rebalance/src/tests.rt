@@ -68,31 +68,67 @@ fn row_by(member: u32, owners: &[u32]) -> Plane
     row
 }
 
-#[test]
-fn withholds_among_the_most(rt: HostRuntime) -> Result<(), Fail> {
-    let members = MOST_MEMBERS as u32;
-    let mut owners = vec![in rt.alloc(); 0; MOST_PARTITIONS as usize]?;
+// Who owns rows makes few calls: each `?` and each assertion is proved with all that lets go what is
+// owned there.
+
+/// The owners of as many partitions as there can be, in turn.
+fn in_turn(alloc: Global) -> Result<Vec<u32>, Memory>
+    ensures { IfOk result (λ owners. length owners.items ≡ MOST_PARTITIONS) }
+{
+    let mut owners = vec![in alloc; 0; MOST_PARTITIONS as usize]?;
     for q in 0..MOST_PARTITIONS {
-        owners[q as usize] = q % members + 1;
+        owners[q as usize] = q % MOST_MEMBERS as u32 + 1;
     }
-    let target = rows_by(rt.alloc(), &owners)?;
-    // The upper half of the partitions is with the next member.
+    Ok(owners)
+}
+
+/// The same, but that the upper half of the partitions is with the next member.
+fn with_the_next(alloc: Global) -> Result<Vec<u32>, Memory>
+    ensures { IfOk result (λ owners. length owners.items ≡ MOST_PARTITIONS) }
+{
+    let mut owners = in_turn(alloc)?;
     for q in MOST_PARTITIONS / 2..MOST_PARTITIONS {
-        owners[q as usize] = (q + 1) % members + 1;
+        owners[q as usize] = (q + 1) % MOST_MEMBERS as u32 + 1;
     }
-    let granted = rows_by(rt.alloc(), &owners)?;
-    assert!(rt; has_plain_grants(&target) && has_plain_grants(&granted));
-    let rows = withhold(rt.alloc(), &target, &granted)?;
-    assert_eq!(rt; rows.len(), MOST_MEMBERS);
+    Ok(owners)
+}
+
+/// Whether each member is left with its share of the lower half alone.
+fn are_lower_halves(rows: &PlaneRows) -> bool {
+    let members = MOST_MEMBERS as u32;
     for (member, row) in rows.iter() {
-        assert_eq!(rt; row.count(), MOST_PARTITIONS / 2 / members, "{member}");
         let half = row
             .iter()
             .filter(|q| *q < MOST_PARTITIONS / 2 && *q % members + 1 == member);
-        assert_eq!(rt; half.count(), row.count() as usize, "{member}");
+        if row.count() != MOST_PARTITIONS / 2 / members || half.count() != row.count() as usize {
+            return false;
+        }
     }
-    assert!(rt; !is_final(&rows, &target) && !is_final(&target, &granted));
-    assert!(rt; is_final(&target, &withhold(rt.alloc(), &target, &target)?));
+    rows.len() == MOST_MEMBERS
+}
+
+/// Whether what is withheld among the most is their lower halves.
+fn withholds_halves(alloc: Global, target: &PlaneRows, granted: &PlaneRows) -> Result<bool, Memory>
+    requires { target.now.partitions ≡ granted.now.partitions }
+{
+    let rows = withhold(alloc, target, granted)?;
+    Ok(are_lower_halves(&rows) && !is_final(&rows, target) && !is_final(target, granted))
+}
+
+/// Whether all is given once nobody else has it.
+fn is_given(alloc: Global, target: &PlaneRows, rows: &PlaneRows) -> Result<bool, Memory>
+    requires { target.now.partitions ≡ rows.now.partitions }
+{
+    Ok(is_final(&withhold(alloc, target, rows)?, target))
+}
+
+#[test]
+fn withholds_among_the_most(rt: HostRuntime) -> Result<(), Fail> {
+    let target = rows_by(rt.alloc(), &in_turn(rt.alloc())?)?;
+    let granted = rows_by(rt.alloc(), &with_the_next(rt.alloc())?)?;
+    assert!(rt; has_plain_grants(&target) && has_plain_grants(&granted));
+    assert_eq!(rt; withholds_halves(rt.alloc(), &target, &granted), Ok(true));
+    assert_eq!(rt; is_given(rt.alloc(), &target, &target), Ok(true));
     Ok(())
 }
 

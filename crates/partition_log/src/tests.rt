@@ -109,38 +109,64 @@ fn a_copy_of_sealed_logs_numbers_keys_as_they_do(rt: HostRuntime) -> Result<(), 
     Ok(())
 }
 
+/// Appends records of these keys of one byte.
+fn append_bytes(logs: &mut Logs, keys: &[u8]) -> Result<(), Refusal> {
+    for key in keys {
+        append(logs, &[*key])?;
+    }
+    Ok(())
+}
+
 /// Logs of as many partitions to which these keys of one byte were appended.
-fn logs_of(rt: &HostRuntime, partitions: u32, keys: &[u8]) -> Result<Logs, Fail>
+fn logs_of(
+    rt: &impl RandomSource,
+    alloc: Global,
+    partitions: u32,
+    keys: &[u8],
+) -> Result<Logs, Refusal>
     requires { (1 ≤ partitions) × (partitions ≤ MOST_PARTITIONS) }
 {
-    let mut logs = Logs::new(rt, rt.alloc(), partitions)?;
-    for key in keys {
-        append(&mut logs, &[*key])?;
-    }
+    let mut logs = Logs::new(rt, alloc, partitions)?;
+    append_bytes(&mut logs, keys)?;
     Ok(logs)
 }
 
-/// Whether logs of these keys are the same, in as many partitions each.
-fn are_same(rt: &HostRuntime, keys: (u32, &[u8]), others: (u32, &[u8])) -> Result<bool, Fail>
-    requires keys { (1 ≤ keys.0) × (keys.0 ≤ MOST_PARTITIONS) }
-    requires others { (1 ≤ others.0) × (others.0 ≤ MOST_PARTITIONS) }
+/// Whether logs of these keys are the same, the others in this many partitions, and these in one.
+fn are_same(
+    rt: &impl RandomSource,
+    alloc: Global,
+    keys: &[u8],
+    partitions: u32,
+    others: &[u8],
+) -> Result<bool, Refusal>
+    requires { (1 ≤ partitions) × (partitions ≤ MOST_PARTITIONS) }
 {
-    let sealed = logs_of(rt, keys.0, keys.1)?.seal();
-    let logs = logs_of(rt, others.0, others.1)?;
+    let logs = logs_of(rt, alloc, partitions, others)?;
+    let sealed = logs_of(rt, alloc, 1, keys)?.seal();
     Ok(sealed.same(&logs))
 }
 
+/// The same records; then one record more, another key, the keys in another order, other records of
+/// the same keys.
+const PAIRS: [(&[u8], &[u8], bool); 5] = [
+    (b"aba", b"aba", true),
+    (b"aba", b"abaa", false),
+    (b"aba", b"aca", false),
+    (b"aba", b"bab", false),
+    (b"aba", b"abb", false),
+];
+
 #[test]
-fn same_tells_logs_that_differ(rt: HostRuntime) -> Result<(), Fail> {
-    assert_eq!(rt; are_same(&rt, (1, b"aba"), (1, b"aba"))?, true);
-    // One record more, another key, the keys in another order, other records of the same keys, and
-    // other partitions.
-    assert_eq!(rt; are_same(&rt, (1, b"aba"), (1, b"abaa"))?, false);
-    assert_eq!(rt; are_same(&rt, (1, b"aba"), (1, b"aca"))?, false);
-    assert_eq!(rt; are_same(&rt, (1, b"aba"), (1, b"bab"))?, false);
-    assert_eq!(rt; are_same(&rt, (1, b"aba"), (1, b"abb"))?, false);
-    assert_eq!(rt; are_same(&rt, (1, b""), (2, b""))?, false);
-    Ok(())
+fn same_tells_logs_that_differ(rt: HostRuntime) {
+    for (keys, others, same) in &PAIRS {
+        assert_eq!(rt;
+            are_same(&rt, rt.alloc(), keys, 1, others),
+            Ok(*same),
+            "{others:?}"
+        );
+    }
+    // Other partitions.
+    assert_eq!(rt; are_same(&rt, rt.alloc(), b"", 2, b""), Ok(false));
 }
 
 /// Whether the longest key and the shortest are taken, and one that is longer is not.

@@ -21,6 +21,8 @@ enum Step<'a> {
     Join(&'a [u8], u32),
     /// A member is lost.
     Lose(u32),
+    /// A record of this key is appended.
+    Append(&'a [u8]),
     /// Member 1 commits, in generation 1, records of these keys from the start of a log.
     Commit(u32, &'a [u32]),
     /// The rows of moves from an index on.
@@ -41,6 +43,7 @@ fn is_so(
         Step::Join(text, number) => {
             cluster.join(Name::new(text).expect(rt, "a name")) == Ok(*number)
         }
+        Step::Append(key) => cluster.append(key).is_ok(),
         Step::Lose(member) => cluster.lose(*member) == Ok(()),
         Step::Commit(partition, ids) => commit(alloc, cluster, *partition, ids)?,
         Step::Moves(from, wanted) => has_moves(alloc, topics, cluster, *from, wanted)?,
@@ -108,20 +111,19 @@ fn commit(
     )
 }
 
-/// A cluster of this many partitions.
-fn cluster_of(rt: &impl RandomSource, alloc: Global, partitions: u32) -> Result<Cluster, Memory>
+/// The first step that is not so, of a cluster of this many partitions. Nobody else owns a cluster: each
+/// `?` and each assertion is proved with all that lets go what is owned there.
+fn first_other_of<R: Abort + RandomSource>(
+    rt: &R,
+    alloc: Global,
+    topics: &[Topic],
+    partitions: u32,
+    steps: &[Step<'_>],
+) -> Result<Option<usize>, Memory>
     requires { (1 ≤ partitions) × (partitions ≤ MOST_PARTITIONS) }
 {
-    Cluster::new(rt, alloc, partitions)
-}
-
-/// The five records that most rows are over.
-fn load(cluster: &mut Cluster) -> Result<(), Refusal> {
-    let keys: [&[u8]; 5] = [b"21", b"4", b"foobar", b"abc", b"21"];
-    for key in keys {
-        cluster.append(key)?;
-    }
-    Ok(())
+    let mut cluster = Cluster::new(rt, alloc, partitions)?;
+    first_other(rt, alloc, topics, &mut cluster, steps)
 }
 
 const FIRST_MOVES: &[u8] = b"move,1,0,,A\nmove,1,1,,A\nmove,1,2,,A\nmove,1,3,,A\n";
@@ -129,64 +131,62 @@ const FIRST_MOVES: &[u8] = b"move,1,0,,A\nmove,1,1,,A\nmove,1,2,,A\nmove,1,3,,A\
 const FIRST_CLOSING: &[u8] = b"owner,0,A\nowner,1,A\nowner,2,A\nowner,3,A\n\
     offset,0,0,0\noffset,1,0,0\noffset,2,0,0\noffset,3,0,0\ntotal,0,0\n";
 
+/// One joins four partitions.
+const ONE_JOINS: [Step; 6] = [
+    Step::Moves(0, b""),
+    Step::Join(b"A", 1),
+    Step::Moves(0, FIRST_MOVES),
+    Step::Moves(3, b"move,1,3,,A\n"),
+    Step::Moves(9, b""),
+    Step::Closing(FIRST_CLOSING),
+];
+
 #[test]
-fn a_first_member_is_given_all_partitions(rt: HostRuntime) -> Result<(), Fail> {
-    let mut cluster = cluster_of(&rt, rt.alloc(), 4)?;
-    let steps = [
-        Step::Moves(0, b""),
-        Step::Join(b"A", 1),
-        Step::Moves(0, FIRST_MOVES),
-        Step::Moves(3, b"move,1,3,,A\n"),
-        Step::Moves(9, b""),
-        Step::Closing(FIRST_CLOSING),
-    ];
-    assert_eq!(rt;
-        first_other(&rt, rt.alloc(), &[], &mut cluster, &steps)?,
-        None
-    );
-    Ok(())
+fn a_first_member_is_given_all_partitions(rt: HostRuntime) {
+    let other = first_other_of(&rt, rt.alloc(), &[], 4, &ONE_JOINS);
+    assert_eq!(rt; other, Ok(None));
 }
 
 const NOBODYS_CLOSING: &[u8] = b"owner,0,\nowner,1,\noffset,0,0,0\noffset,1,0,0\ntotal,0,0\n";
 
 const SECOND_MOVES: &[u8] = b"move,2,0,A,worker-2_B\nmove,2,1,A,worker-2_B\n";
 
+/// One joins two partitions, is lost, and another one follows.
+const ONE_FOLLOWS: [Step; 5] = [
+    Step::Join(b"A", 1),
+    Step::Lose(1),
+    Step::Closing(NOBODYS_CLOSING),
+    Step::Join(b"worker-2_B", 2),
+    Step::Moves(2, SECOND_MOVES),
+];
+
 #[test]
-fn a_move_names_the_last_holder(rt: HostRuntime) -> Result<(), Fail> {
-    let mut cluster = cluster_of(&rt, rt.alloc(), 2)?;
-    let steps = [
-        Step::Join(b"A", 1),
-        Step::Lose(1),
-        Step::Closing(NOBODYS_CLOSING),
-        Step::Join(b"worker-2_B", 2),
-        Step::Moves(2, SECOND_MOVES),
-    ];
-    assert_eq!(rt;
-        first_other(&rt, rt.alloc(), &[], &mut cluster, &steps)?,
-        None
-    );
-    Ok(())
+fn a_move_names_the_last_holder(rt: HostRuntime) {
+    let other = first_other_of(&rt, rt.alloc(), &[], 2, &ONE_FOLLOWS);
+    assert_eq!(rt; other, Ok(None));
 }
 
 const COUNTED_CLOSING: &[u8] = b"owner,0,A\nowner,1,A\nowner,2,A\nowner,3,A\n\
     offset,0,2,2\noffset,1,0,1\noffset,2,0,1\noffset,3,1,1\n\
     count,21,2\ncount,abc,1\ntotal,3,5\n";
 
+/// One commits three of the five records.
+const THREE_COMMITTED: [Step; 9] = [
+    Step::Append(b"21"),
+    Step::Append(b"4"),
+    Step::Append(b"foobar"),
+    Step::Append(b"abc"),
+    Step::Append(b"21"),
+    Step::Join(b"A", 1),
+    Step::Commit(0, &[0, 0]),
+    Step::Commit(3, &[3]),
+    Step::Closing(COUNTED_CLOSING),
+];
+
 #[test]
-fn committed_keys_are_counted(rt: HostRuntime) -> Result<(), Fail> {
-    let mut cluster = cluster_of(&rt, rt.alloc(), 4)?;
-    load(&mut cluster)?;
-    let steps = [
-        Step::Join(b"A", 1),
-        Step::Commit(0, &[0, 0]),
-        Step::Commit(3, &[3]),
-        Step::Closing(COUNTED_CLOSING),
-    ];
-    assert_eq!(rt;
-        first_other(&rt, rt.alloc(), &[], &mut cluster, &steps)?,
-        None
-    );
-    Ok(())
+fn committed_keys_are_counted(rt: HostRuntime) {
+    let other = first_other_of(&rt, rt.alloc(), &[], 4, &THREE_COMMITTED);
+    assert_eq!(rt; other, Ok(None));
 }
 
 const TOPIC_MOVES: &[u8] = b"move,1,a,0,,A\nmove,1,a,1,,A\nmove,1,b,0,,A\n";
@@ -205,20 +205,18 @@ fn a_and_b(rt: &impl Abort) -> [Topic; 2] {
     [topic(rt, b"a", 2), topic(rt, b"b", 1)]
 }
 
+/// One joins three partitions of two topics.
+const OF_TOPICS: [Step; 3] = [
+    Step::Join(b"A", 1),
+    Step::Moves(0, TOPIC_MOVES),
+    Step::Closing(TOPIC_CLOSING),
+];
+
 #[test]
-fn a_partition_is_told_by_its_topic(rt: HostRuntime) -> Result<(), Fail> {
+fn a_partition_is_told_by_its_topic(rt: HostRuntime) {
     let topics = a_and_b(&rt);
-    let mut cluster = cluster_of(&rt, rt.alloc(), 3)?;
-    let steps = [
-        Step::Join(b"A", 1),
-        Step::Moves(0, TOPIC_MOVES),
-        Step::Closing(TOPIC_CLOSING),
-    ];
-    assert_eq!(rt;
-        first_other(&rt, rt.alloc(), &topics, &mut cluster, &steps)?,
-        None
-    );
-    Ok(())
+    let other = first_other_of(&rt, rt.alloc(), &topics, 3, &OF_TOPICS);
+    assert_eq!(rt; other, Ok(None));
 }
 
 #[test]

@@ -20,132 +20,129 @@ fn plain(options: &Options) -> Plain {
     )
 }
 
+/// Words of a count, with its path and its options.
+const COUNTS: [(&[&str], &str, Plain); 9] = [
+    (&["count", "f"], "f", PLAIN),
+    (&["count", ""], "", PLAIN),
+    (&["count", "--", "--header"], "--header", PLAIN),
+    (&["count", "--partitions", "0004", "f"], "f", PLAIN),
+    (
+        &[
+            "count",
+            "--partitions",
+            "4096",
+            "--column",
+            "65535",
+            "--header",
+            "f",
+        ],
+        "f",
+        FULL,
+    ),
+    (
+        &[
+            "count",
+            "f",
+            "--header",
+            "--column=65535",
+            "--partitions=4096",
+        ],
+        "f",
+        FULL,
+    ),
+    (
+        &[
+            "count",
+            "--header",
+            "--partitions=4096",
+            "f",
+            "--column",
+            "65535",
+        ],
+        "f",
+        FULL,
+    ),
+    (
+        &[
+            "count",
+            "--column=65535",
+            "--header",
+            "--partitions=4096",
+            "--",
+            "f",
+        ],
+        "f",
+        FULL,
+    ),
+    (
+        &["count", "f", "--column", "1", "--partitions", "4"],
+        "f",
+        PLAIN,
+    ),
+];
+
 #[test]
 fn options_stand_round_the_path(rt: HostRuntime) {
-    let cases: [(&[&str], &str, Plain); 9] = [
-        (&["count", "f"], "f", PLAIN),
-        (&["count", ""], "", PLAIN),
-        (&["count", "--", "--header"], "--header", PLAIN),
-        (&["count", "--partitions", "0004", "f"], "f", PLAIN),
-        (
-            &[
-                "count",
-                "--partitions",
-                "4096",
-                "--column",
-                "65535",
-                "--header",
-                "f",
-            ],
-            "f",
-            FULL,
-        ),
-        (
-            &[
-                "count",
-                "f",
-                "--header",
-                "--column=65535",
-                "--partitions=4096",
-            ],
-            "f",
-            FULL,
-        ),
-        (
-            &[
-                "count",
-                "--header",
-                "--partitions=4096",
-                "f",
-                "--column",
-                "65535",
-            ],
-            "f",
-            FULL,
-        ),
-        (
-            &[
-                "count",
-                "--column=65535",
-                "--header",
-                "--partitions=4096",
-                "--",
-                "f",
-            ],
-            "f",
-            FULL,
-        ),
-        (
-            &["count", "f", "--column", "1", "--partitions", "4"],
-            "f",
-            PLAIN,
-        ),
-    ];
-    for (i, (words, path, wanted)) in cases.into_iter().enumerate() {
+    for (i, (words, path, wanted)) in COUNTS.iter().enumerate() {
         let answer = read_words(rt.alloc(), words);
         match &answer {
             Ok(Job::Count { file, options }) => {
-                assert_eq!(rt; *file, path, "case {i}");
-                assert_eq!(rt; plain(options), wanted, "case {i}");
+                assert!(rt; file == path && plain(options) == *wanted, "case {i}");
             }
             _ => assert!(rt; false, "case {i}"),
         }
     }
 }
 
-/// Options of a replay or of a run, column 1 and no header.
-fn replayed(partitions: u32, batch: u32) -> Plain {
-    (partitions, 1, false, batch)
-}
+/// Words of a replay, with its paths and its options.
+const REPLAYS: [(&[&str], (&str, &str), Plain); 8] = [
+    (&["replay", "f", "s"], ("f", "s"), PLAIN),
+    (&["replay", "-", "-"], ("-", "-"), PLAIN),
+    (
+        &["replay", "f", "s", "--batch", "1"],
+        ("f", "s"),
+        (4, 1, false, 1),
+    ),
+    (
+        &["replay", "f", "--batch=500", "s"],
+        ("f", "s"),
+        (4, 1, false, 500),
+    ),
+    (
+        &["replay", "--partitions", "7", "f", "s"],
+        ("f", "s"),
+        (7, 1, false, 500),
+    ),
+    (
+        &["replay", "--column=65535", "f", "--", "--header"],
+        ("f", "--header"),
+        (4, 65535, false, 500),
+    ),
+    (
+        &["replay", "--header", "f", "s"],
+        ("f", "s"),
+        (4, 1, true, 500),
+    ),
+    (
+        &[
+            "replay",
+            "--batch",
+            "1000000",
+            "f",
+            "--header",
+            "--column",
+            "2",
+            "s",
+            "--partitions=1",
+        ],
+        ("f", "s"),
+        (1, 2, true, 1_000_000),
+    ),
+];
 
 #[test]
 fn a_replay_has_two_paths_and_a_batch(rt: HostRuntime) {
-    let full = (1, 2, true, 1_000_000);
-    let cases: [(&[&str], (&str, &str), Plain); 8] = [
-        (&["replay", "f", "s"], ("f", "s"), PLAIN),
-        (&["replay", "-", "-"], ("-", "-"), PLAIN),
-        (
-            &["replay", "f", "s", "--batch", "1"],
-            ("f", "s"),
-            replayed(4, 1),
-        ),
-        (
-            &["replay", "f", "--batch=500", "s"],
-            ("f", "s"),
-            replayed(4, 500),
-        ),
-        (
-            &["replay", "--partitions", "7", "f", "s"],
-            ("f", "s"),
-            replayed(7, 500),
-        ),
-        (
-            &["replay", "--column=65535", "f", "--", "--header"],
-            ("f", "--header"),
-            (4, 65535, false, 500),
-        ),
-        (
-            &["replay", "--header", "f", "s"],
-            ("f", "s"),
-            (4, 1, true, 500),
-        ),
-        (
-            &[
-                "replay",
-                "--batch",
-                "1000000",
-                "f",
-                "--header",
-                "--column",
-                "2",
-                "s",
-                "--partitions=1",
-            ],
-            ("f", "s"),
-            full,
-        ),
-    ];
-    for (i, (words, paths, wanted)) in cases.into_iter().enumerate() {
+    for (i, (words, paths, wanted)) in REPLAYS.iter().enumerate() {
         let answer = read_words(rt.alloc(), words);
         match &answer {
             Ok(
@@ -155,27 +152,33 @@ fn a_replay_has_two_paths_and_a_batch(rt: HostRuntime) {
                     options,
                 },
             ) => {
-                assert!(rt; *file == paths.0 && *script == paths.1, "case {i}");
-                assert_eq!(rt; plain(options), wanted, "case {i}");
+                let are_paths = *file == paths.0 && *script == paths.1;
+                assert!(rt; are_paths && plain(options) == *wanted, "case {i}");
             }
             _ => assert!(rt; false, "case {i}"),
         }
     }
 }
 
+/// Words of a run, with its paths and its options.
+const RUNS: [(&[&str], (&str, &str), Plain); 4] = [
+    (&["run", "f", "p"], ("f", "p"), PLAIN),
+    (&["run", "-", "-"], ("-", "-"), PLAIN),
+    (
+        &["run", "f", "--batch=1", "p"],
+        ("f", "p"),
+        (4, 1, false, 1),
+    ),
+    (
+        &["run", "--partitions", "64", "f", "p", "--batch", "1000000"],
+        ("f", "p"),
+        (64, 1, false, 1_000_000),
+    ),
+];
+
 #[test]
 fn a_run_has_two_paths_and_a_batch(rt: HostRuntime) {
-    let cases: [(&[&str], (&str, &str), Plain); 4] = [
-        (&["run", "f", "p"], ("f", "p"), PLAIN),
-        (&["run", "-", "-"], ("-", "-"), PLAIN),
-        (&["run", "f", "--batch=1", "p"], ("f", "p"), replayed(4, 1)),
-        (
-            &["run", "--partitions", "64", "f", "p", "--batch", "1000000"],
-            ("f", "p"),
-            replayed(64, 1_000_000),
-        ),
-    ];
-    for (i, (words, paths, wanted)) in cases.into_iter().enumerate() {
+    for (i, (words, paths, wanted)) in RUNS.iter().enumerate() {
         let answer = read_words(rt.alloc(), words);
         match &answer {
             Ok(
@@ -185,8 +188,8 @@ fn a_run_has_two_paths_and_a_batch(rt: HostRuntime) {
                     options,
                 },
             ) => {
-                assert!(rt; *file == paths.0 && *script == paths.1, "case {i}");
-                assert_eq!(rt; plain(options), wanted, "case {i}");
+                let are_paths = *file == paths.0 && *script == paths.1;
+                assert!(rt; are_paths && plain(options) == *wanted, "case {i}");
             }
             _ => assert!(rt; false, "case {i}"),
         }
@@ -217,50 +220,52 @@ fn tells(answer: &Result<Job, Usage>, wanted: Option<(Topics, u32)>) -> bool {
     }
 }
 
+/// Lists of topics, with theirs, where they are lists.
+const LISTS: [(&str, Option<Topics>); 24] = [
+    ("a:4", Some(&[("a", 4)])),
+    ("a:2,b:3", Some(&[("a", 2), ("b", 3)])),
+    ("b:0003,a-_9:4", Some(&[("b", 3), ("a-_9", 4)])),
+    ("a:4096", Some(&[("a", 4096)])),
+    ("a:4095,b:1", Some(&[("a", 4095), ("b", 1)])),
+    (
+        "abcdefghijklmnopqrstuvwxyzabcdef:1",
+        Some(&[("abcdefghijklmnopqrstuvwxyzabcdef", 1)]),
+    ),
+    (
+        "a:1,b:1,c:1,d:1,e:1,f:1,g:1,A:1",
+        Some(&[
+            ("a", 1),
+            ("b", 1),
+            ("c", 1),
+            ("d", 1),
+            ("e", 1),
+            ("f", 1),
+            ("g", 1),
+            ("A", 1),
+        ]),
+    ),
+    ("a:1,b:1,c:1,d:1,e:1,f:1,g:1,h:1,i:1", None),
+    ("abcdefghijklmnopqrstuvwxyzabcdefg:1", None),
+    ("a:4096,b:1", None),
+    ("a:1,a:2", None),
+    ("a:0", None),
+    ("a:4097", None),
+    ("a:00004", None),
+    ("a:+1", None),
+    ("a: 1", None),
+    ("a b:1", None),
+    ("a", None),
+    ("a:", None),
+    (":1", None),
+    ("a:1:2", None),
+    ("a:1,", None),
+    (",a:1", None),
+    ("", None),
+];
+
 #[test]
 fn lists_of_topics_are_read(rt: HostRuntime) {
-    let cases: [(&str, Option<Topics>); 24] = [
-        ("a:4", Some(&[("a", 4)])),
-        ("a:2,b:3", Some(&[("a", 2), ("b", 3)])),
-        ("b:0003,a-_9:4", Some(&[("b", 3), ("a-_9", 4)])),
-        ("a:4096", Some(&[("a", 4096)])),
-        ("a:4095,b:1", Some(&[("a", 4095), ("b", 1)])),
-        (
-            "abcdefghijklmnopqrstuvwxyzabcdef:1",
-            Some(&[("abcdefghijklmnopqrstuvwxyzabcdef", 1)]),
-        ),
-        (
-            "a:1,b:1,c:1,d:1,e:1,f:1,g:1,A:1",
-            Some(&[
-                ("a", 1),
-                ("b", 1),
-                ("c", 1),
-                ("d", 1),
-                ("e", 1),
-                ("f", 1),
-                ("g", 1),
-                ("A", 1),
-            ]),
-        ),
-        ("a:1,b:1,c:1,d:1,e:1,f:1,g:1,h:1,i:1", None),
-        ("abcdefghijklmnopqrstuvwxyzabcdefg:1", None),
-        ("a:4096,b:1", None),
-        ("a:1,a:2", None),
-        ("a:0", None),
-        ("a:4097", None),
-        ("a:00004", None),
-        ("a:+1", None),
-        ("a: 1", None),
-        ("a b:1", None),
-        ("a", None),
-        ("a:", None),
-        (":1", None),
-        ("a:1:2", None),
-        ("a:1,", None),
-        (",a:1", None),
-        ("", None),
-    ];
-    for (i, (list, wanted)) in cases.into_iter().enumerate() {
+    for (i, (list, wanted)) in LISTS.iter().enumerate() {
         let words = ["count", "f", "--topics", list];
         let answer = read_words(rt.alloc(), &words);
         let is_told = tells(&answer, wanted.map(|topics| (topics, 2)));
@@ -291,50 +296,52 @@ fn each_subcommand_has_topics(rt: HostRuntime) {
     }
 }
 
+/// Words that are not understood.
+const BAD: [&[&str]; 39] = [
+    &[],
+    &["count"],
+    &["count", "f", "g"],
+    &["count", "f", "--partitions", "0"],
+    &["count", "f", "--partitions", "4097"],
+    &["count", "f", "--partitions", "-1"],
+    &["count", "f", "--partitions", "four"],
+    &["count", "f", "--partitions"],
+    &["count", "f", "--column", "0"],
+    &["count", "f", "--column", "65536"],
+    &["count", "f", "--column", "99999999999999999999"],
+    &["count", "f", "--column", "1", "--column", "1"],
+    &["count", "f", "--topic-column", "0"],
+    &["count", "f", "--topic-column", "65536"],
+    &["count", "f", "--topic-column", "2", "--topic-column", "2"],
+    &["count", "f", "--topics"],
+    &["count", "f", "--topics", "a:1", "--topics", "b:1"],
+    &["count", "f", "--topics", "a:1", "--partitions", "0"],
+    &["count", "f", "--batch", "5"],
+    &["count", "f", "--header", "--header"],
+    &["count", "f", "--header=1"],
+    &["count", "f", "--other"],
+    &["--header", "count", "f"],
+    &["--partitions", "4", "count", "f"],
+    &["replay"],
+    &["replay", "f"],
+    &["replay", "f", "s", "t"],
+    &["replay", "f", "s", "--batch", "0"],
+    &["replay", "f", "s", "--batch", "1000001"],
+    &["replay", "f", "s", "--batch", "-1"],
+    &["replay", "f", "s", "--batch"],
+    &["replay", "f", "s", "--batch", "1", "--batch", "1"],
+    &["replay", "f", "s", "--partitions", "4097"],
+    &["replay", "f", "--script", "s"],
+    &["run", "f"],
+    &["run", "f", "p", "q"],
+    &["run", "f", "p", "--batch", "0"],
+    &["run", "f", "p", "--members", "2"],
+    &["f"],
+];
+
 #[test]
 fn bad_words_are_refused(rt: HostRuntime) {
-    let cases: [&[&str]; 39] = [
-        &[],
-        &["count"],
-        &["count", "f", "g"],
-        &["count", "f", "--partitions", "0"],
-        &["count", "f", "--partitions", "4097"],
-        &["count", "f", "--partitions", "-1"],
-        &["count", "f", "--partitions", "four"],
-        &["count", "f", "--partitions"],
-        &["count", "f", "--column", "0"],
-        &["count", "f", "--column", "65536"],
-        &["count", "f", "--column", "99999999999999999999"],
-        &["count", "f", "--column", "1", "--column", "1"],
-        &["count", "f", "--topic-column", "0"],
-        &["count", "f", "--topic-column", "65536"],
-        &["count", "f", "--topic-column", "2", "--topic-column", "2"],
-        &["count", "f", "--topics"],
-        &["count", "f", "--topics", "a:1", "--topics", "b:1"],
-        &["count", "f", "--topics", "a:1", "--partitions", "0"],
-        &["count", "f", "--batch", "5"],
-        &["count", "f", "--header", "--header"],
-        &["count", "f", "--header=1"],
-        &["count", "f", "--other"],
-        &["--header", "count", "f"],
-        &["--partitions", "4", "count", "f"],
-        &["replay"],
-        &["replay", "f"],
-        &["replay", "f", "s", "t"],
-        &["replay", "f", "s", "--batch", "0"],
-        &["replay", "f", "s", "--batch", "1000001"],
-        &["replay", "f", "s", "--batch", "-1"],
-        &["replay", "f", "s", "--batch"],
-        &["replay", "f", "s", "--batch", "1", "--batch", "1"],
-        &["replay", "f", "s", "--partitions", "4097"],
-        &["replay", "f", "--script", "s"],
-        &["run", "f"],
-        &["run", "f", "p", "q"],
-        &["run", "f", "p", "--batch", "0"],
-        &["run", "f", "p", "--members", "2"],
-        &["f"],
-    ];
-    for (i, words) in cases.into_iter().enumerate() {
+    for (i, words) in BAD.iter().enumerate() {
         let answer = read_words(rt.alloc(), words);
         let is_bad = matches!(&answer, Err(Usage::Bad(_)));
         assert!(rt; is_bad, "case {i}");

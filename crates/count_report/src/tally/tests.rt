@@ -1,9 +1,9 @@
 //! Counts of many records, on several threads, beside those of one log after the other.
 
 ghost use Rattle.std.specs.Prelude.{◌≤◌};
+ghost use Rattle.partition_log.specs.Logs.{IsValidLogs};
 
 use super::*;
-use std::process::Abort;
 use std::test::Fail;
 
 /// Logs of so many records, whose keys come back again and again, some far more often than others.
@@ -16,43 +16,68 @@ fn logs<R: Threads + Sync + RandomSource>(
     requires { (1 ≤ partitions) × (partitions ≤ MOST_PARTITIONS) }
 {
     let mut logs = Logs::new(rt, alloc, partitions)?;
-    for nth in 0..records {
-        let key = nth.wrapping_mul(nth) % 977 * (nth % 3);
-        logs.append(&key.to_le_bytes())?;
-    }
+    append_each(&mut logs, records)?;
     Ok(logs)
 }
 
-/// The counts of these logs by both programs.
-fn check<R: Threads + Sync + RandomSource + Abort>(
+/// Appends those records.
+fn append_each(logs: &mut Logs, records: u64) -> Result<(), Refusal> {
+    for nth in 0..records {
+        let key = (nth.wrapping_mul(nth) % 977).wrapping_mul(nth % 3);
+        logs.append(&key.to_le_bytes())?;
+    }
+    Ok(())
+}
+
+// Who owns a table or logs makes one call more: each `?` is proved with all that lets go what is
+// owned there.
+
+/// Whether the program for many records counts as one log after the other does.
+fn groups_agree<R: Threads + Sync, L: LogRead + Sync>(
+    rt: &R,
+    alloc: Global,
+    logs: &L,
+    in_turn: &Table,
+) -> Result<bool, Memory>
+    requires { IsValidLogs (L.contents logs.now) }
+{
+    Ok(counts_in_groups(rt, alloc, logs)?.counts() == in_turn.counts())
+}
+
+/// Whether both programs do, and the one that is called.
+fn all_agree<R: Threads + Sync, L: LogRead + Sync>(
+    rt: &R,
+    alloc: Global,
+    logs: &L,
+) -> Result<bool, Memory>
+    requires { IsValidLogs (L.contents logs.now) }
+{
+    let in_turn = counts_in_turn(alloc, logs)?;
+    Ok(
+        groups_agree(rt, alloc, logs, &in_turn)?
+            && counts_in(rt, alloc, logs)?.counts() == in_turn.counts(),
+    )
+}
+
+/// Whether these logs are counted alike by all.
+fn are_counted_alike<R: Threads + Sync + RandomSource>(
     rt: &R,
     alloc: Global,
     partitions: u32,
     records: u64,
-) -> Result<(), Refusal>
+) -> Result<bool, Refusal>
     requires { (1 ≤ partitions) × (partitions ≤ MOST_PARTITIONS) }
 {
     let logs = logs(rt, alloc, partitions, records)?;
-    assert_eq!(rt; logs.partitions(), partitions);
-    let counts = counts_in(rt, alloc, &logs)?;
-    let in_turn = counts_in_turn(alloc, &logs)?;
-    assert!(rt;
-        counts.counts() == in_turn.counts(),
-        "{partitions} {records}"
-    );
-    let grouped = counts_in_groups(rt, alloc, &logs)?;
-    assert!(rt;
-        grouped.counts() == in_turn.counts(),
-        "{partitions} {records}"
-    );
-    Ok(())
+    Ok(logs.partitions() == partitions && all_agree(rt, alloc, &logs)?)
 }
 
 #[test]
 fn counts_side_by_side_and_in_turn(rt: HostRuntime) -> Result<(), Fail> {
     for partitions in [1, 2, 7, 8, 9, 16, 17, 64] {
         for records in [0, 1, 4095, 4096, 20_000] {
-            check(&rt, rt.alloc(), partitions, records)?;
+            let are_alike = are_counted_alike(&rt, rt.alloc(), partitions, records);
+            assert_eq!(rt; are_alike, Ok(true), "{partitions} {records}");
         }
     }
     Ok(())

@@ -32,22 +32,58 @@ fn with_last(alloc: Global, words: &[u64], last: u64) -> Result<Vec<u64>, AllocE
     Ok(changed)
 }
 
-/// Each call on two lists of words beside its loop.
-fn check_two(rt: &impl Abort, alloc: Global, a: &[u64], b: &[u64]) -> Result<(), AllocError>
+// What is asserted is told by functions that answer whether it is so: each assertion is proved with
+// all that lets go what the test owns.
+
+/// Whether the calls that change no words answer as their loops do.
+fn are_answered_alike(a: &[u64], b: &[u64]) -> bool
     requires { length a.now ≡ length b.now }
 {
-    assert_eq!(rt; equal64(a, b), plain::equal64(a, b));
-    assert_eq!(rt; any_and(a, b), plain::any_and(a, b));
-    assert_eq!(rt; is_within(a, b), plain::is_within(a, b));
-    let (mut cleared, mut plainly_cleared) = (b.to_vec(alloc)?, b.to_vec(alloc)?);
-    and_not_into(&mut cleared, a);
-    plain::and_not_into(&mut plainly_cleared, a);
-    assert_eq!(rt; cleared, plainly_cleared);
-    let (mut joined, mut plainly_joined) = (b.to_vec(alloc)?, b.to_vec(alloc)?);
-    or_into(&mut joined, a);
-    plain::or_into(&mut plainly_joined, a);
-    assert_eq!(rt; joined, plainly_joined);
-    Ok(())
+    equal64(a, b) == plain::equal64(a, b)
+        && any_and(a, b) == plain::any_and(a, b)
+        && is_within(a, b) == plain::is_within(a, b)
+}
+
+/// Whether the bits of `a` are cleared in both lists alike, which are `b`.
+fn are_cleared_alike(a: &[u64], one: &mut [u64], other: &mut [u64]) -> bool
+    requires one { length a.now ≡ length one.old }
+    requires other { length a.now ≡ length other.old }
+{
+    and_not_into(one, a);
+    plain::and_not_into(other, a);
+    *one == *other
+}
+
+/// Whether the bits of `a` are set in both lists alike, which are `b`.
+fn are_joined_alike(a: &[u64], one: &mut [u64], other: &mut [u64]) -> bool
+    requires one { length a.now ≡ length one.old }
+    requires other { length a.now ≡ length other.old }
+{
+    or_into(one, a);
+    plain::or_into(other, a);
+    *one == *other
+}
+
+/// Whether the calls that change words do so as their loops do.
+fn are_changed_alike(alloc: Global, a: &[u64], b: &[u64]) -> Result<bool, AllocError>
+    requires { length a.now ≡ length b.now }
+{
+    let (mut one, mut other) = (b.to_vec(alloc)?, b.to_vec(alloc)?);
+    let are_cleared = are_cleared_alike(a, &mut one, &mut other);
+    let (mut one, mut other) = (b.to_vec(alloc)?, b.to_vec(alloc)?);
+    Ok(are_cleared && are_joined_alike(a, &mut one, &mut other))
+}
+
+/// Whether all calls on two lists of as many words, which differ by these bits of the last one, are as
+/// their loops.
+fn are_alike(alloc: Global, a: &[u64], last: u64) -> Result<bool, AllocError> {
+    let b = with_last(alloc, a, last)?;
+    Ok(
+        a.len() == b.len()
+            && are_answered_alike(a, &b)
+            && equal64(a, &b) == (last == 0 || a.is_empty())
+            && are_changed_alike(alloc, a, &b)?,
+    )
 }
 
 #[test]
@@ -55,10 +91,7 @@ fn each_beside_its_loop(rt: HostRuntime) -> Result<(), Fail> {
     for len in LENGTHS {
         let a = words(rt.alloc(), len)?;
         for last in LAST {
-            let b = with_last(rt.alloc(), &a, last)?;
-            assert!(rt; a.len() == b.len());
-            check_two(&rt, rt.alloc(), &a, &b)?;
-            assert_eq!(rt; equal64(&a, &b), last == 0 || len == 0, "{len}");
+            assert_eq!(rt; are_alike(rt.alloc(), &a, last), Ok(true), "{len}");
         }
     }
     Ok(())
@@ -136,19 +169,31 @@ fn sums_of_the_last_alone(rt: HostRuntime) -> Result<(), Fail> {
     Ok(())
 }
 
+/// Whether a list whose last word alone has a bit, if there is one, is told from one of as many words
+/// that has none.
+fn is_told(one: &[u64], none: &[u64], some: bool) -> bool
+    requires { length one.now ≡ length none.now }
+{
+    any_and(one, one) == some
+        && !any_and(one, none)
+        && is_within(one, none) != some
+        && is_within(none, one)
+        && equal64(one, none) != some
+}
+
 #[test]
 fn the_last_word_alone_differs(rt: HostRuntime) -> Result<(), Fail> {
     for len in LENGTHS {
         let none = vec![in rt.alloc(); 0; len]?;
         let one = with_last(rt.alloc(), &none, 1)?;
-        assert!(rt; one.len() == none.len() && one.len() <= 65);
-        let some = len > 0;
-        assert_eq!(rt; any_and(&one, &one), some, "{len}");
-        assert!(rt; !any_and(&one, &none), "{len}");
-        assert_eq!(rt; is_within(&one, &none), !some, "{len}");
-        assert!(rt; is_within(&none, &one), "{len}");
-        assert_eq!(rt; count_ones(&one), u64::from(some), "{len}");
-        assert_eq!(rt; equal64(&one, &none), !some, "{len}");
+        assert!(rt;
+            one.len() == none.len() && is_told(&one, &none, len > 0),
+            "{len}"
+        );
+        assert!(rt;
+            one.len() <= 65 && count_ones(&one) == u64::from(len > 0),
+            "{len}"
+        );
     }
     Ok(())
 }

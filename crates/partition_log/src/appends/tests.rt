@@ -12,42 +12,39 @@ use std::thread::Threads;
 /// How appends of several keys are answered.
 type Answer = Result<(), (u64, Refusal)>;
 
-/// Logs to which these keys were appended at once.
-fn at_once<R: RandomSource + Threads + Sync>(
-    rt: &R,
-    alloc: Global,
-    keys: &[&[u8]],
-) -> Result<(Logs, Answer), Fail> {
-    let mut logs = Logs::new(rt, alloc, 4)?;
-    let answer = logs.append_all(rt, keys);
-    Ok((logs, answer))
-}
-
-/// Logs to which these keys were appended one by one.
-fn one_by_one<R: RandomSource>(
-    rt: &R,
-    alloc: Global,
-    keys: &[&[u8]],
-) -> Result<(Logs, Answer), Fail> {
-    let mut logs = Logs::new(rt, alloc, 4)?;
+/// Appends these keys one by one.
+fn one_by_one(logs: &mut Logs, keys: &[&[u8]]) -> Answer {
     for i in 0..keys.len() {
         if let Err(why) = logs.append(keys[i]) {
-            return Ok((logs, Err((i as u64, why))));
+            return Err((i as u64, why));
         }
     }
-    Ok((logs, Ok(())))
+    Ok(())
 }
 
-/// Whether both give the same logs and this answer.
+/// Whether both ways give this answer, and the same logs.
+fn both_give<R: Threads + Sync>(
+    rt: &R,
+    logs: &mut Logs,
+    plain: &mut Logs,
+    keys: &[&[u8]],
+    answer: Answer,
+) -> bool {
+    let told = logs.append_all(rt, keys);
+    let plainly_told = one_by_one(plain, keys);
+    told == answer && plainly_told == answer && logs.same(plain)
+}
+
+/// Whether both ways give this answer to new logs, and then the same logs.
 fn are_alike<R: RandomSource + Threads + Sync>(
     rt: &R,
     alloc: Global,
     keys: &[&[u8]],
     answer: Answer,
-) -> Result<bool, Fail> {
-    let (logs, told) = at_once(rt, alloc, keys)?;
-    let (plain, plainly_told) = one_by_one(rt, alloc, keys)?;
-    Ok(told == answer && plainly_told == answer && logs.same(&plain))
+) -> Result<bool, Refusal> {
+    let mut logs = Logs::new(rt, alloc, 4)?;
+    let mut plain = Logs::new(rt, alloc, 4)?;
+    Ok(both_give(rt, &mut logs, &mut plain, keys, answer))
 }
 
 #[test]
