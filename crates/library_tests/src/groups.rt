@@ -114,6 +114,16 @@ fn first_other(
     Ok(None)
 }
 
+/// Whether all steps are answered as they say.
+fn are_answered(
+    rt: &impl Abort,
+    alloc: Global,
+    cluster: &mut Cluster,
+    steps: &[Step<'_>],
+) -> Result<bool, Memory> {
+    Ok(first_other(rt, alloc, cluster, steps)?.is_none())
+}
+
 /// A cluster of four partitions, after steps that are answered as they say.
 fn after<R: Abort + RandomSource>(
     rt: &R,
@@ -221,12 +231,22 @@ const MOVES_ONCE_REVOKED: [Step; 16] = [
     Step::Stands(3, Phase::Stable, true),
 ];
 
+/// The last moves of it, the last one first.
+const MOVED: [(u32, u32, Option<u32>, u32); 3] = [
+    (3, 3, Some(1), 2),
+    (3, 2, Some(1), 2),
+    (1, 3, None, 1),
+];
+
+/// Whether those were the last of six moves, and the second member has the last partition.
+fn has_moved(cluster: &Cluster) -> bool {
+    cluster.moves().len() == 6 && moves_end_with(cluster, &MOVED) && cluster.owner(3) == Some(2)
+}
+
 #[test]
 fn a_partition_moves_once_it_is_revoked(rt: HostRuntime) -> Result<(), Fail> {
     let cluster = after(&rt, rt.alloc(), &MOVES_ONCE_REVOKED)?;
-    let rows = [(3, 3, Some(1), 2), (3, 2, Some(1), 2), (1, 3, None, 1)];
-    assert!(rt; cluster.moves().len() == 6 && moves_end_with(&cluster, &rows));
-    assert_eq!(rt; cluster.owner(3), Some(2));
+    assert!(rt; has_moved(&cluster));
     Ok(())
 }
 
@@ -278,12 +298,18 @@ const ONE_IS_LOST: [Step; 11] = [
     Step::Commit((2, 2, 0, 0), &[0], Ok(1)),
 ];
 
+/// Whether the second member alone is left, and the first one still has its name.
+fn is_left_by_the_first(cluster: &Cluster) -> bool {
+    cluster.members().eq([2])
+        && cluster
+            .name(1)
+            .is_some_and(|lost| lost.text() == b"A".as_slice())
+}
+
 #[test]
 fn a_lost_member_is_fenced_off(rt: HostRuntime) -> Result<(), Fail> {
     let cluster = after(&rt, rt.alloc(), &ONE_IS_LOST)?;
-    assert!(rt; cluster.members().eq([2]));
-    let lost = cluster.name(1).expect(&rt, "a number that was given");
-    assert_eq!(rt; lost.text(), b"A".as_slice());
+    assert!(rt; is_left_by_the_first(&cluster));
     Ok(())
 }
 
@@ -342,19 +368,33 @@ fn first_not_taken(cluster: &mut Cluster, name: &Name) -> Option<u32> {
     (2..MOST_MEMBERS as u32 + 1).find(|n| cluster.take_over(name) != Ok(*n))
 }
 
+/// One joins who keeps its place.
+const KEPT: [Step; 1] = [Step::JoinKept(b"A", Ok(1))];
+
+/// Its place has had all numbers.
+const NUMBERS_ARE_OVER: [Step; 6] = [
+    Step::TakeOver(b"A", Err(Refusal::TooManyMembers)),
+    Step::Stands(1, Phase::Stable, true),
+    Step::Is(511, false, false, false),
+    Step::Is(512, true, false, false),
+    Step::Has(512, &[0, 1, 2, 3], &[0, 1, 2, 3]),
+    Step::Lease(512, 1, &[0, 1, 2, 3]),
+];
+
+/// Whether A's place is taken over by each number from 2 on, and then no more.
+fn takes_all_numbers(
+    rt: &impl Abort,
+    alloc: Global,
+    cluster: &mut Cluster,
+) -> Result<bool, Memory> {
+    let first = first_not_taken(cluster, &name(rt, b"A"));
+    Ok(first.is_none() && are_answered(rt, alloc, cluster, &NUMBERS_ARE_OVER)?)
+}
+
 #[test]
 fn a_place_is_taken_over_as_often_as_there_are_numbers(rt: HostRuntime) -> Result<(), Fail> {
-    let mut cluster = after(&rt, rt.alloc(), &[Step::JoinKept(b"A", Ok(1))])?;
-    assert_eq!(rt; first_not_taken(&mut cluster, &name(&rt, b"A")), None);
-    let last = [
-        Step::TakeOver(b"A", Err(Refusal::TooManyMembers)),
-        Step::Stands(1, Phase::Stable, true),
-        Step::Is(511, false, false, false),
-        Step::Is(512, true, false, false),
-        Step::Has(512, &[0, 1, 2, 3], &[0, 1, 2, 3]),
-        Step::Lease(512, 1, &[0, 1, 2, 3]),
-    ];
-    assert_eq!(rt; first_other(&rt, rt.alloc(), &mut cluster, &last)?, None);
+    let mut cluster = after(&rt, rt.alloc(), &KEPT)?;
+    assert_eq!(rt; takes_all_numbers(&rt, rt.alloc(), &mut cluster), Ok(true));
     Ok(())
 }
 
@@ -363,26 +403,42 @@ fn leased(cluster: &mut Cluster, member: u32) -> Option<u32> {
     sync_and_rejoin(cluster, member).ok()
 }
 
+/// How much members are leased one after the other, in a group that has just had its last member.
+const LEASES_AT_THE_LIMITS: [(u32, u32); 3] = [(1, MOST_PARTITIONS), (1, 8), (512, 0)];
+
+/// The first of those that is another.
+fn first_other_lease(cluster: &mut Cluster) -> Option<u32> {
+    for (member, count) in LEASES_AT_THE_LIMITS {
+        if leased(cluster, member) != Some(count) {
+            return Some(member);
+        }
+    }
+    None
+}
+
+/// The last member leaves a group at its limits.
+const THE_LAST_LEAVES: [Step; 6] = [
+    Step::Has(1, &[0, 1, 2, 3, 4, 5, 6, 7], &[0, 1, 2, 3, 4, 5, 6, 7]),
+    Step::Leave(512, Ok(())),
+    Step::Leave(512, Err(Refusal::UnknownMember)),
+    Step::Stands(2, Phase::Preparing, false),
+    Step::Is(511, true, false, false),
+    Step::Is(512, false, false, false),
+];
+
+/// Whether a cluster at its limits goes on to its second generation.
+fn goes_on(rt: &impl Abort, alloc: Global, cluster: &mut Cluster) -> Result<bool, Memory> {
+    Ok(
+        first_other_lease(cluster).is_none()
+            && cluster.moves().len() == MOST_PARTITIONS as usize
+            && are_answered(rt, alloc, cluster, &THE_LAST_LEAVES)?,
+    )
+}
+
 #[test]
 fn a_cluster_at_its_limits(rt: HostRuntime) -> Result<(), Fail> {
     let mut cluster = at_its_limits(&rt, rt.alloc())?;
-    for (member, count) in [(1, MOST_PARTITIONS), (1, 8), (512, 0)] {
-        assert!(rt;
-            leased(&mut cluster, member) == Some(count),
-            "{member} {count}"
-        );
-    }
-    assert_eq!(rt; cluster.moves().len(), MOST_PARTITIONS as usize);
-    let first = [0, 1, 2, 3, 4, 5, 6, 7];
-    let steps = [
-        Step::Has(1, &first, &first),
-        Step::Leave(512, Ok(())),
-        Step::Leave(512, Err(Refusal::UnknownMember)),
-        Step::Stands(2, Phase::Preparing, false),
-        Step::Is(511, true, false, false),
-        Step::Is(512, false, false, false),
-    ];
-    assert_eq!(rt; first_other(&rt, rt.alloc(), &mut cluster, &steps)?, None);
+    assert_eq!(rt; goes_on(&rt, rt.alloc(), &mut cluster), Ok(true));
     Ok(())
 }
 
@@ -401,35 +457,59 @@ fn five_records(rt: &HostRuntime) -> Result<Logs, Fail> {
     Ok(logs)
 }
 
+/// Whether a cluster over the five records has no member and nothing committed.
+fn has_nothing_committed(cluster: &Cluster) -> bool {
+    cluster.phase() == Phase::Empty
+        && cluster.generation() == 0
+        && !cluster.is_present(1)
+        && cluster.moves().is_empty()
+        && cluster.store().offsets() == [0; 4].as_slice()
+        && cluster.store().counts() == [0; 4].as_slice()
+}
+
 #[test]
 fn a_cluster_over_logs_has_nothing_committed(rt: HostRuntime) -> Result<(), Fail> {
     let cluster = Cluster::over(rt.alloc(), five_records(&rt)?)?;
-    assert!(rt; cluster.phase() == Phase::Empty && cluster.generation() == 0);
-    assert!(rt; !cluster.is_present(1) && cluster.moves().is_empty());
-    assert_eq!(rt; cluster.store().offsets(), [0; 4].as_slice());
-    assert_eq!(rt; cluster.store().counts(), [0; 4].as_slice());
+    assert!(rt; has_nothing_committed(&cluster));
     Ok(())
 }
 
-/// Whether a cluster's logs are equal to these.
-fn are_logs(logs: &SealedLogs, cluster: &Cluster) -> bool {
-    logs.same(cluster.logs())
+/// One member commits three of the five records.
+const THREE_OF_FIVE: [Step; 5] = [
+    Step::Join(b"A", Ok(1)),
+    Step::Lease(1, 1, &[0, 1, 2, 3]),
+    Step::Commit((1, 1, 0, 0), &[0, 0], Ok(2)),
+    Step::Commit((1, 1, 2, 0), &[2], Ok(1)),
+    Step::Offsets(&[2, 0, 1, 0]),
+];
+
+/// Whether a cluster over the five records counts three of them, and has the logs that it had.
+fn counts_three(
+    rt: &impl Abort,
+    alloc: Global,
+    cluster: &mut Cluster,
+    logs: &SealedLogs,
+) -> Result<bool, Memory> {
+    Ok(
+        are_answered(rt, alloc, cluster, &THREE_OF_FIVE)?
+            && cluster.store().counts() == [2, 0, 1, 0].as_slice()
+            && logs.same(cluster.logs()),
+    )
+}
+
+/// The five records' logs, which nothing is appended to.
+fn five_sealed(rt: &HostRuntime) -> Result<SealedLogs, Fail> {
+    Ok(five_records(rt)?.seal())
 }
 
 #[test]
 fn a_cluster_over_logs_keeps_them(rt: HostRuntime) -> Result<(), Fail> {
+    let logs = five_sealed(&rt)?;
     let mut cluster = Cluster::over(rt.alloc(), five_records(&rt)?)?;
-    let steps = [
-        Step::Join(b"A", Ok(1)),
-        Step::Lease(1, 1, &[0, 1, 2, 3]),
-        Step::Commit((1, 1, 0, 0), &[0, 0], Ok(2)),
-        Step::Commit((1, 1, 2, 0), &[2], Ok(1)),
-        Step::Offsets(&[2, 0, 1, 0]),
-    ];
-    assert_eq!(rt; first_other(&rt, rt.alloc(), &mut cluster, &steps)?, None);
-    assert_eq!(rt; cluster.store().counts(), [2, 0, 1, 0].as_slice());
-    let logs = five_records(&rt)?.seal();
-    assert!(rt; are_logs(&logs, &cluster));
+    assert_eq!(rt;
+        counts_three(&rt, rt.alloc(), &mut cluster, &logs),
+        Ok(true)
+    );
     Ok(())
 }
 
@@ -448,14 +528,23 @@ fn many_records(rt: &HostRuntime, records: u32) -> Result<Logs, Fail> {
     Ok(logs)
 }
 
+/// Whether a cluster at the most partitions has a counter for each of so many keys.
+fn counts_each(cluster: &Cluster, keys: u32) -> bool {
+    cluster.partitions() == MOST_PARTITIONS
+        && cluster.logs().keys() == keys
+        && cluster.store().offsets().len() == 4096
+        && cluster.store().counts().len() == keys as usize
+}
+
+/// Whether a new key has a counter more.
+fn counts_one_more(cluster: &mut Cluster, keys: u32) -> bool {
+    cluster.append(b"new").is_ok() && counts_each(cluster, keys)
+}
+
 #[test]
 fn a_cluster_over_many_keys_counts_each(rt: HostRuntime) -> Result<(), Fail> {
     let mut cluster = Cluster::over(rt.alloc(), many_records(&rt, 100_000)?)?;
-    assert!(rt; cluster.partitions() == MOST_PARTITIONS && cluster.logs().keys() == 100_000);
-    assert_eq!(rt; cluster.store().offsets().len(), 4096);
-    assert_eq!(rt; cluster.store().counts().len(), 100_000);
-    assert!(rt; cluster.append(b"new").is_ok());
-    assert_eq!(rt; cluster.store().counts().len(), 100_001);
+    assert!(rt; counts_each(&cluster, 100_000) && counts_one_more(&mut cluster, 100_001));
     Ok(())
 }
 

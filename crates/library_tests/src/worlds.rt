@@ -4,7 +4,7 @@ ghost use Rattle.std.specs.Prelude.{◌<◌};
 
 use consumer::Consumer;
 use group_machine::{Cluster, Commit, Name, Phase};
-use lane_words::Refusal;
+use lane_words::{Memory, Refusal};
 use partition_log::LogRead;
 use std::alloc::Global;
 use std::process::Abort;
@@ -52,238 +52,302 @@ fn loaded<R: Abort + RandomSource + Threads + Sync>(rt: &R, alloc: Global) -> Re
     Ok(world)
 }
 
+/// An event of a schedule. Who joins is told by the place of the name among the eight.
+#[derive(Clone, Copy)]
+enum Act<'a> {
+    Join(usize),
+    JoinKept(usize),
+    TakeOver(usize),
+    /// An event with no name.
+    Other(Event<'a>),
+}
+
+/// The event under these names, where there is one of that place.
+fn event_of<'a>(act: &Act<'a>, names: &'a [Name]) -> Option<Event<'a>> {
+    let event = match act {
+        Act::Join(n) => Event::Join(names.get(*n)?),
+        Act::JoinKept(n) => Event::JoinKept(names.get(*n)?),
+        Act::TakeOver(n) => Event::TakeOver(names.get(*n)?),
+        Act::Other(event) => *event,
+    };
+    Some(event)
+}
+
+/// What a world replies to an event under these names.
+fn reply_to(world: &mut World, act: &Act<'_>, names: &[Name]) -> Option<Reply> {
+    let event = event_of(act, names)?;
+    Some(step(world, event))
+}
+
 /// The first of some events whose reply is another.
-fn first_other(world: &mut World, events: &[Event], expected: &[Reply]) -> Option<usize> {
-    for (index, (event, reply)) in events.iter().zip(expected).enumerate() {
-        if step(world, *event) != *reply {
+fn first_other(world: &mut World, names: &[Name], acts: &[(Act<'static>, Reply)]) -> Option<usize> {
+    for (index, (act, reply)) in acts.iter().enumerate() {
+        if reply_to(world, act, names) != Some(*reply) {
             return Some(index);
         }
     }
     None
 }
 
-/// The replies to a schedule, event by event and by one run of another world.
-fn replies_are<R: Abort + RandomSource + Threads + Sync>(
+/// The events of a schedule.
+fn events_of<'a>(
+    alloc: Global,
+    names: &'a [Name],
+    acts: &[(Act<'static>, Reply)],
+) -> Result<Vec<Event<'a>>, Memory> {
+    let mut events = Vec::with_capacity(alloc, acts.len())?;
+    for (act, _) in acts {
+        if let Some(event) = event_of(act, names) {
+            events.push(event)?;
+        }
+    }
+    Ok(events)
+}
+
+/// Whether these are the replies of a schedule.
+fn are_replies(replies: &[Reply], acts: &[(Act<'static>, Reply)]) -> bool {
+    replies.len() == acts.len() && replies.iter().zip(acts).all(|(reply, act)| *reply == act.1)
+}
+
+/// Whether one run of a schedule has the replies.
+fn run_is<'a>(
+    alloc: Global,
+    world: &mut World,
+    names: &'a [Name],
+    acts: &[(Act<'static>, Reply)],
+) -> Result<bool, Fail> {
+    let events = events_of(alloc, names, acts)?;
+    let replies = world.run(events.as_slice())?;
+    Ok(are_replies(replies.as_slice(), acts))
+}
+
+/// Whether another world has the replies to a schedule in one run.
+fn another_runs_so<'a, R: Abort + RandomSource + Threads + Sync>(
     rt: &R,
     alloc: Global,
-    events: &[Event],
-    expected: &[Reply],
-) -> Result<World, Fail> {
-    let mut world = loaded(rt, alloc)?;
-    assert_eq!(rt; first_other(&mut world, events, expected), None);
+    names: &'a [Name],
+    acts: &[(Act<'static>, Reply)],
+) -> Result<bool, Fail> {
     let mut other = loaded(rt, alloc)?;
-    let replies = other.run(events)?;
-    assert_eq!(rt; replies.as_slice(), expected);
+    run_is(alloc, &mut other, names, acts)
+}
+
+/// A world after a schedule with these replies, event by event. They are those of one run, too.
+fn after<'a, R: Abort + RandomSource + Threads + Sync>(
+    rt: &R,
+    alloc: Global,
+    names: &'a [Name],
+    acts: &[(Act<'static>, Reply)],
+) -> Result<World, Fail> {
+    assert_eq!(rt; another_runs_so(rt, alloc, names, acts)?, true);
+    let mut world = loaded(rt, alloc)?;
+    assert_eq!(rt; first_other(&mut world, names, acts), None);
     Ok(world)
 }
 
-const POLL: Event = Event::Poll {
+/// The first member polls two records of the first partition.
+const POLL: Act = Act::Other(Event::Poll {
     member: 1,
     partition: 0,
     records: 2,
-};
+});
 
-const SEND: Event = Event::Send {
+/// It polls one.
+const POLL_ONE: Act = Act::Other(Event::Poll {
     member: 1,
     partition: 0,
-};
+    records: 1,
+});
 
-#[test]
-fn a_commit_is_taken_once(rt: HostRuntime) -> Result<(), Fail> {
-    let a = name(&rt, b"A");
-    let events = [
-        Event::Join(&a),
-        Event::Sync(1),
-        POLL,
-        SEND,
-        Event::Deliver(1),
-        Event::Deliver(1),
-        Event::Deliver(2),
-    ];
-    let expected = [
-        Reply::Joined(1),
-        Reply::Leased(1),
-        Reply::Polled(2),
-        Reply::Sent(1),
-        Reply::Committed(2),
-        Reply::Refused(Refusal::OffsetMismatch { committed: 2 }),
+/// It sends what is pending of the first partition.
+const SEND: Act = Act::Other(Event::Send {
+    member: 1,
+    partition: 0,
+});
+
+/// A commit that is not at the offset, with two records committed.
+const TAKEN: Reply = Reply::Refused(Refusal::OffsetMismatch { committed: 2 });
+
+/// The same with one record committed.
+const ONE_TAKEN: Reply = Reply::Refused(Refusal::OffsetMismatch { committed: 1 });
+
+/// A commit is delivered twice.
+const TWICE: [(Act, Reply); 7] = [
+    (Act::Join(0), Reply::Joined(1)),
+    (Act::Other(Event::Sync(1)), Reply::Leased(1)),
+    (POLL, Reply::Polled(2)),
+    (SEND, Reply::Sent(1)),
+    (Act::Other(Event::Deliver(1)), Reply::Committed(2)),
+    (Act::Other(Event::Deliver(1)), TAKEN),
+    (
+        Act::Other(Event::Deliver(2)),
         Reply::Refused(Refusal::NoSuchCommit),
-    ];
-    let world = replies_are(&rt, rt.alloc(), &events, &expected)?;
-    assert_eq!(rt; world.cluster().store().counts().first().copied(), Some(2));
-    assert_eq!(rt; world.mail().len(), 1);
-    Ok(())
+    ),
+];
+
+/// Whether the first key has this count, and so many commits were sent.
+fn has_counted(world: &World, count: u64, sent: usize) -> bool {
+    let first = world.cluster().store().counts().first().copied();
+    first == Some(count) && world.mail().len() == sent
 }
 
 #[test]
-fn a_lost_members_commit_is_refused(rt: HostRuntime) -> Result<(), Fail> {
-    let a = name(&rt, b"A");
-    let again = Event::Poll {
-        member: 1,
-        partition: 0,
-        records: 1,
-    };
-    let events = [
-        Event::Join(&a),
-        Event::Sync(1),
-        POLL,
-        SEND,
-        Event::Lose(1),
-        Event::Deliver(1),
-        again,
-    ];
-    let expected = [
-        Reply::Joined(1),
-        Reply::Leased(1),
-        Reply::Polled(2),
-        Reply::Sent(1),
-        Reply::Lost,
+fn a_commit_is_taken_once(rt: HostRuntime) -> Result<(), Fail> {
+    let names = eight_names(&rt, rt.alloc())?;
+    let world = after(&rt, rt.alloc(), names.as_slice(), &TWICE)?;
+    assert!(rt; has_counted(&world, 2, 1));
+    Ok(())
+}
+
+/// A member is lost before its commit comes.
+const LOST: [(Act, Reply); 7] = [
+    (Act::Join(0), Reply::Joined(1)),
+    (Act::Other(Event::Sync(1)), Reply::Leased(1)),
+    (POLL, Reply::Polled(2)),
+    (SEND, Reply::Sent(1)),
+    (Act::Other(Event::Lose(1)), Reply::Lost),
+    (
+        Act::Other(Event::Deliver(1)),
         Reply::Refused(Refusal::UnknownMember),
-        Reply::Refused(Refusal::OutOfGroup),
-    ];
-    let world = replies_are(&rt, rt.alloc(), &events, &expected)?;
+    ),
+    (POLL_ONE, Reply::Refused(Refusal::OutOfGroup)),
+];
+
+#[test]
+fn a_lost_members_commit_is_refused(rt: HostRuntime) -> Result<(), Fail> {
+    let names = eight_names(&rt, rt.alloc())?;
+    let world = after(&rt, rt.alloc(), names.as_slice(), &LOST)?;
     assert_eq!(rt; world.cluster().store().committed(0), 0);
     Ok(())
 }
 
+/// The answer to a commit is lost.
+const UNANSWERED: [(Act, Reply); 8] = [
+    (Act::Join(0), Reply::Joined(1)),
+    (Act::Other(Event::Sync(1)), Reply::Leased(1)),
+    (POLL, Reply::Polled(2)),
+    (SEND, Reply::Sent(1)),
+    (Act::Other(Event::DeliverUnanswered(1)), Reply::Unanswered),
+    (SEND, Reply::Sent(2)),
+    (Act::Other(Event::Deliver(2)), TAKEN),
+    (SEND, Reply::Refused(Refusal::EmptyCommit)),
+];
+
 #[test]
 fn an_unanswered_commit_is_not_taken_again(rt: HostRuntime) -> Result<(), Fail> {
-    let a = name(&rt, b"A");
-    let events = [
-        Event::Join(&a),
-        Event::Sync(1),
-        POLL,
-        SEND,
-        Event::DeliverUnanswered(1),
-        SEND,
-        Event::Deliver(2),
-        SEND,
-    ];
-    let expected = [
-        Reply::Joined(1),
-        Reply::Leased(1),
-        Reply::Polled(2),
-        Reply::Sent(1),
-        Reply::Unanswered,
-        Reply::Sent(2),
-        Reply::Refused(Refusal::OffsetMismatch { committed: 2 }),
-        Reply::Refused(Refusal::EmptyCommit),
-    ];
-    replies_are(&rt, rt.alloc(), &events, &expected)?;
+    let names = eight_names(&rt, rt.alloc())?;
+    after(&rt, rt.alloc(), names.as_slice(), &UNANSWERED)?;
     Ok(())
+}
+
+/// Two commits are sent before the first one is answered, of which the second then comes too late.
+const TWO_SENT: [(Act, Reply); 10] = [
+    (Act::Join(0), Reply::Joined(1)),
+    (Act::Other(Event::Sync(1)), Reply::Leased(1)),
+    (POLL_ONE, Reply::Polled(1)),
+    (SEND, Reply::Sent(1)),
+    (POLL_ONE, Reply::Polled(1)),
+    (SEND, Reply::Sent(2)),
+    (Act::Other(Event::Deliver(1)), Reply::Committed(1)),
+    (Act::Other(Event::Deliver(2)), ONE_TAKEN),
+    (SEND, Reply::Sent(3)),
+    (Act::Other(Event::Deliver(3)), Reply::Committed(2)),
+];
+
+/// Whether the second of three commits is of both records, and the third of the second one alone.
+fn are_three(sent: &[Commit]) -> bool {
+    match sent {
+        [_, both, second] => both.partial().ids() == [0, 0].as_slice() && second.from() == 1,
+        _ => false,
+    }
+}
+
+/// Whether the first member has committed two records in the first generation.
+fn is_past_two(world: &World) -> bool {
+    world.consumer(1).is_some_and(|consumer| {
+        consumer.base(0) == 2 && consumer.position(0) == 2 && consumer.generation() == 1
+    })
 }
 
 #[test]
 fn an_answer_moves_the_base(rt: HostRuntime) -> Result<(), Fail> {
-    let a = name(&rt, b"A");
-    let one = Event::Poll {
-        member: 1,
-        partition: 0,
-        records: 1,
-    };
-    let events = [
-        Event::Join(&a),
-        Event::Sync(1),
-        one,
-        SEND,
-        one,
-        SEND,
-        Event::Deliver(1),
-        Event::Deliver(2),
-        SEND,
-        Event::Deliver(3),
-    ];
-    let expected = [
-        Reply::Joined(1),
-        Reply::Leased(1),
-        Reply::Polled(1),
-        Reply::Sent(1),
-        Reply::Polled(1),
-        Reply::Sent(2),
-        Reply::Committed(1),
-        Reply::Refused(Refusal::OffsetMismatch { committed: 1 }),
-        Reply::Sent(3),
-        Reply::Committed(2),
-    ];
-    let world = replies_are(&rt, rt.alloc(), &events, &expected)?;
-    let sent = world.mail();
-    assert_eq!(rt; sent.len(), 3);
-    assert!(rt; sent[1].partial().ids() == [0, 0].as_slice() && sent[2].from() == 1);
-    let Some(consumer) = world.consumer(1) else {
-        return Err("no consumer".into());
-    };
-    assert!(rt; consumer.base(0) == 2 && consumer.position(0) == 2 && consumer.generation() == 1);
+    let names = eight_names(&rt, rt.alloc())?;
+    let world = after(&rt, rt.alloc(), names.as_slice(), &TWO_SENT)?;
+    assert!(rt; are_three(world.mail()) && is_past_two(&world));
     Ok(())
 }
 
+/// A place is taken over, and the old consumer goes on until it is told.
+const RETURNS: [(Act, Reply); 15] = [
+    (Act::JoinKept(0), Reply::Joined(1)),
+    (Act::Other(Event::Sync(1)), Reply::Leased(1)),
+    (POLL, Reply::Polled(2)),
+    (SEND, Reply::Sent(1)),
+    (Act::TakeOver(1), Reply::Refused(Refusal::NotKept)),
+    (Act::TakeOver(0), Reply::TakenOver(2)),
+    (SEND, Reply::Sent(2)),
+    (
+        Act::Other(Event::Deliver(1)),
+        Reply::Refused(Refusal::UnknownMember),
+    ),
+    (POLL, Reply::Refused(Refusal::OutOfGroup)),
+    (Act::Other(Event::Sync(2)), Reply::Leased(1)),
+    (
+        Act::Other(Event::Poll {
+            member: 2,
+            partition: 0,
+            records: 2,
+        }),
+        Reply::Polled(2),
+    ),
+    (
+        Act::Other(Event::Send {
+            member: 2,
+            partition: 0,
+        }),
+        Reply::Sent(3),
+    ),
+    (Act::Other(Event::Deliver(3)), Reply::Committed(2)),
+    (
+        Act::Other(Event::Deliver(2)),
+        Reply::Refused(Refusal::UnknownMember),
+    ),
+    (Act::JoinKept(0), Reply::Refused(Refusal::NameUsed)),
+];
+
 #[test]
 fn a_place_is_taken_over(rt: HostRuntime) -> Result<(), Fail> {
-    let names = eight_names(&rt);
-    let poll = Event::Poll {
-        member: 2,
-        partition: 0,
-        records: 2,
-    };
-    let send = Event::Send {
-        member: 2,
-        partition: 0,
-    };
-    let events = [
-        Event::JoinKept(&names[0]),
-        Event::Sync(1),
-        POLL,
-        SEND,
-        Event::TakeOver(&names[1]),
-        Event::TakeOver(&names[0]),
-        SEND,
-        Event::Deliver(1),
-        POLL,
-        Event::Sync(2),
-        poll,
-        send,
-        Event::Deliver(3),
-        Event::Deliver(2),
-        Event::JoinKept(&names[0]),
-    ];
-    let expected = [
-        Reply::Joined(1),
-        Reply::Leased(1),
-        Reply::Polled(2),
-        Reply::Sent(1),
-        Reply::Refused(Refusal::NotKept),
-        Reply::TakenOver(2),
-        Reply::Sent(2),
-        Reply::Refused(Refusal::UnknownMember),
-        Reply::Refused(Refusal::OutOfGroup),
-        Reply::Leased(1),
-        Reply::Polled(2),
-        Reply::Sent(3),
-        Reply::Committed(2),
-        Reply::Refused(Refusal::UnknownMember),
-        Reply::Refused(Refusal::NameUsed),
-    ];
-    let world = replies_are(&rt, rt.alloc(), &events, &expected)?;
+    let names = eight_names(&rt, rt.alloc())?;
+    let world = after(&rt, rt.alloc(), names.as_slice(), &RETURNS)?;
     assert!(rt; world.cluster().is_kept(2) && !world.cluster().is_present(1));
     Ok(())
 }
 
+/// One joins who keeps its place.
+const KEPT: [(Act, Reply); 1] = [(Act::JoinKept(0), Reply::Joined(1))];
+
+/// Another one joins, and the place is taken over in the rebalance.
+const JOINED_AND_TAKEN: [(Act, Reply); 2] = [
+    (Act::Join(1), Reply::Joined(2)),
+    (Act::TakeOver(0), Reply::TakenOver(3)),
+];
+
+/// Whether a world settles after each of these, and then drains.
+fn settles_twice(world: &mut World, names: &[Name]) -> bool {
+    first_other(world, names, &KEPT).is_none()
+        && settle(world) == Ok(())
+        && first_other(world, names, &JOINED_AND_TAKEN).is_none()
+        && settle(world) == Ok(())
+        && world.cluster().generation() == 3
+        && drain(world, 500) == Ok(())
+        && is_drained(world)
+}
+
 #[test]
 fn a_place_is_taken_over_in_a_rebalance(rt: HostRuntime) -> Result<(), Fail> {
-    let names = eight_names(&rt);
+    let names = eight_names(&rt, rt.alloc())?;
     let mut world = loaded(&rt, rt.alloc())?;
-    let joined = [Reply::Joined(1)];
-    assert_eq!(rt;
-        first_other(&mut world, &[Event::JoinKept(&names[0])], &joined),
-        None
-    );
-    assert_eq!(rt; settle(&mut world), Ok(()));
-    let events = [Event::Join(&names[1]), Event::TakeOver(&names[0])];
-    let expected = [Reply::Joined(2), Reply::TakenOver(3)];
-    assert_eq!(rt; first_other(&mut world, &events, &expected), None);
-    assert_eq!(rt; settle(&mut world), Ok(()));
-    assert_eq!(rt; world.cluster().generation(), 3);
-    assert_eq!(rt; drain(&mut world, 500), Ok(()));
-    all_is_drained(&rt, &world);
+    assert!(rt; settles_twice(&mut world, names.as_slice()));
     Ok(())
 }
 
@@ -307,35 +371,43 @@ fn partition_after(world: &mut World, records: u32) -> Option<u32> {
     }
 }
 
-#[test]
-fn reads_and_sends_at_real_sizes(rt: HostRuntime) -> Result<(), Fail> {
-    let mut world = of_one_key(&rt, rt.alloc(), 100_000)?;
-    let partition = partition_after(&mut world, 100_000).expect(&rt, "a record");
-    let a = name(&rt, b"A");
-    let poll = Event::Poll {
+/// The first member polls all records of a partition, of which there are one more than 100,000, and
+/// commits them.
+fn commits_all(world: &mut World, names: &[Name], partition: u32) -> bool {
+    let poll = Act::Other(Event::Poll {
         member: 1,
         partition,
         records: 1_000_000,
-    };
-    let send = Event::Send {
+    });
+    let send = Act::Other(Event::Send {
         member: 1,
         partition,
-    };
-    let events = [
-        Event::Join(&a),
-        Event::Sync(1),
-        poll,
-        send,
-        Event::Deliver(1),
-    ];
-    let expected = [
-        Reply::Joined(1),
-        Reply::Leased(1),
-        Reply::Polled(100_001),
-        Reply::Sent(1),
-        Reply::Committed(100_001),
-    ];
-    assert_eq!(rt; first_other(&mut world, &events, &expected), None);
+    });
+    first_other(world, names, &JOINED).is_none()
+        && reply_to(world, &poll, names) == Some(Reply::Polled(100_001))
+        && reply_to(world, &send, names) == Some(Reply::Sent(1))
+        && step(world, Event::Deliver(1)) == Reply::Committed(100_001)
+}
+
+/// One joins and syncs.
+const JOINED: [(Act, Reply); 2] = [
+    (Act::Join(0), Reply::Joined(1)),
+    (Act::Other(Event::Sync(1)), Reply::Leased(1)),
+];
+
+/// Whether one more record is the last of 100,001 in its partition, and all are committed there.
+fn takes_one_more(world: &mut World, names: &[Name]) -> bool {
+    match partition_after(world, 100_000) {
+        Some(partition) => commits_all(world, names, partition),
+        None => false,
+    }
+}
+
+#[test]
+fn reads_and_sends_at_real_sizes(rt: HostRuntime) -> Result<(), Fail> {
+    let names = eight_names(&rt, rt.alloc())?;
+    let mut world = of_one_key(&rt, rt.alloc(), 100_000)?;
+    assert!(rt; takes_one_more(&mut world, names.as_slice()));
     Ok(())
 }
 
@@ -353,101 +425,111 @@ fn runs_at_real_sizes(rt: HostRuntime) -> Result<(), Fail> {
     Ok(())
 }
 
+/// Whether a load stops at a key that is too long, after the two before it.
+fn stops_at<R: Threads + Sync>(rt: &R, world: &mut World, long: &[u8]) -> bool {
+    let stopped = load(rt, world, &[b"21", b"4", long, b"abc"]);
+    stopped == Err((2, Refusal::KeyTooLong))
+        && world.cluster().logs().keys() == 2
+        && world.consumer(1).is_none()
+}
+
 #[test]
 fn a_load_stops_at_the_first_key_that_is_refused(rt: HostRuntime) -> Result<(), Fail> {
     let long = vec![in rt.alloc(); 0u8; 65_536]?;
-    let keys: [&[u8]; 4] = [b"21", b"4", long.as_slice(), b"abc"];
     let mut world = World::new(&rt, rt.alloc(), 4)?;
-    assert_eq!(rt; load(&rt, &mut world, &keys), Err((2, Refusal::KeyTooLong)));
-    assert_eq!(rt; world.cluster().logs().keys(), 2);
-    assert!(rt; world.consumer(1).is_none());
+    assert!(rt; stops_at(&rt, &mut world, long.as_slice()));
     Ok(())
 }
+
+/// A second member joins and leaves, once it is out, and the first one rejoins.
+const TOLD: [(Act, Reply); 7] = [
+    (Act::Join(0), Reply::Joined(1)),
+    (Act::Other(Event::Sync(1)), Reply::Leased(1)),
+    (Act::Join(1), Reply::Joined(2)),
+    (Act::Other(Event::Rejoin(1)), Reply::Rejoined),
+    (Act::Other(Event::Leave(2)), Reply::Left),
+    (
+        Act::Other(Event::Leave(2)),
+        Reply::Refused(Refusal::OutOfGroup),
+    ),
+    (
+        Act::Other(Event::Sync(3)),
+        Reply::Refused(Refusal::UnknownMember),
+    ),
+];
 
 #[test]
 fn a_member_that_leaves_or_rejoins_is_told(rt: HostRuntime) -> Result<(), Fail> {
-    let (a, b) = (name(&rt, b"A"), name(&rt, b"B"));
-    let mut world = loaded(&rt, rt.alloc())?;
-    let events = [Event::Join(&a), Event::Sync(1)];
-    let expected = [Reply::Joined(1), Reply::Leased(1)];
-    assert_eq!(rt; first_other(&mut world, &events, &expected), None);
-    let events = [
-        Event::Join(&b),
-        Event::Rejoin(1),
-        Event::Leave(2),
-        Event::Leave(2),
-        Event::Sync(3),
-    ];
-    let expected = [
-        Reply::Joined(2),
-        Reply::Rejoined,
-        Reply::Left,
-        Reply::Refused(Refusal::OutOfGroup),
-        Reply::Refused(Refusal::UnknownMember),
-    ];
-    assert_eq!(rt; first_other(&mut world, &events, &expected), None);
-    assert_eq!(rt; world.cluster().generation(), 2);
-    assert!(rt; world.cluster().phase() == Phase::Preparing);
+    let names = eight_names(&rt, rt.alloc())?;
+    let world = after(&rt, rt.alloc(), names.as_slice(), &TOLD)?;
+    let cluster = world.cluster();
+    assert!(rt; cluster.generation() == 2 && cluster.phase() == Phase::Preparing);
     Ok(())
 }
 
-/// The group is settled, and each of the five records is committed and counted.
-fn all_is_drained(rt: &impl Abort, world: &World) {
+/// Whether the group is settled, and each of the five records is committed and counted.
+fn is_drained(world: &World) -> bool {
     let cluster = world.cluster();
-    assert!(rt; cluster.is_settled());
-    assert_eq!(rt; cluster.store().offsets(), [2, 1, 1, 1].as_slice());
-    assert_eq!(rt; cluster.store().counts(), [2, 1, 1, 1].as_slice());
+    cluster.is_settled()
+        && cluster.store().offsets() == [2, 1, 1, 1].as_slice()
+        && cluster.store().counts() == [2, 1, 1, 1].as_slice()
+}
+
+/// One joins.
+const ONE_JOINS: [(Act, Reply); 1] = [(Act::Join(0), Reply::Joined(1))];
+
+/// Whether a world is drained once there is somebody to drain it.
+fn drains(world: &mut World, names: &[Name]) -> bool {
+    drain(world, 500) == Err(Refusal::NobodyPresent)
+        && first_other(world, names, &ONE_JOINS).is_none()
+        && drain(world, 500) == Ok(())
+        && is_drained(world)
 }
 
 #[test]
 fn a_drain_commits_all(rt: HostRuntime) -> Result<(), Fail> {
-    let a = name(&rt, b"A");
+    let names = eight_names(&rt, rt.alloc())?;
     let mut world = loaded(&rt, rt.alloc())?;
-    assert_eq!(rt; drain(&mut world, 500), Err(Refusal::NobodyPresent));
-    let joined = [Reply::Joined(1)];
-    assert_eq!(rt; first_other(&mut world, &[Event::Join(&a)], &joined), None);
-    assert_eq!(rt; drain(&mut world, 500), Ok(()));
-    all_is_drained(&rt, &world);
+    assert!(rt; drains(&mut world, names.as_slice()));
     Ok(())
 }
 
-/// A world in which one who is settled has sent the records of two partitions, when a second member
-/// joins.
-fn with_what_is_pending<R: Abort + RandomSource + Threads + Sync>(
-    rt: &R,
-    alloc: Global,
-) -> Result<World, Fail> {
-    let (a, b) = (name(rt, b"A"), name(rt, b"B"));
-    let mut world = loaded(rt, alloc)?;
-    let joined = [Reply::Joined(1)];
-    assert_eq!(rt; first_other(&mut world, &[Event::Join(&a)], &joined), None);
-    assert_eq!(rt; settle(&mut world), Ok(()));
-    let third = Event::Poll {
-        member: 1,
-        partition: 2,
-        records: 1,
-    };
-    let send_third = Event::Send {
-        member: 1,
-        partition: 2,
-    };
-    let events = [POLL, SEND, third, send_third, Event::Join(&b)];
-    let expected = [
-        Reply::Polled(2),
-        Reply::Sent(1),
+/// One who is settled sends the records of two partitions, and a second member joins.
+const PENDING: [(Act, Reply); 5] = [
+    (POLL, Reply::Polled(2)),
+    (SEND, Reply::Sent(1)),
+    (
+        Act::Other(Event::Poll {
+            member: 1,
+            partition: 2,
+            records: 1,
+        }),
         Reply::Polled(1),
+    ),
+    (
+        Act::Other(Event::Send {
+            member: 1,
+            partition: 2,
+        }),
         Reply::Sent(2),
-        Reply::Joined(2),
-    ];
-    assert_eq!(rt; first_other(&mut world, &events, &expected), None);
-    Ok(world)
+    ),
+    (Act::Join(1), Reply::Joined(2)),
+];
+
+/// Whether a world is drained from where so much is pending.
+fn drains_what_is_pending(world: &mut World, names: &[Name]) -> bool {
+    first_other(world, names, &ONE_JOINS).is_none()
+        && settle(world) == Ok(())
+        && first_other(world, names, &PENDING).is_none()
+        && drain(world, 1) == Ok(())
+        && is_drained(world)
 }
 
 #[test]
 fn a_drain_goes_on_from_what_is_pending(rt: HostRuntime) -> Result<(), Fail> {
-    let mut world = with_what_is_pending(&rt, rt.alloc())?;
-    assert_eq!(rt; drain(&mut world, 1), Ok(()));
-    all_is_drained(&rt, &world);
+    let names = eight_names(&rt, rt.alloc())?;
+    let mut world = loaded(&rt, rt.alloc())?;
+    assert!(rt; drains_what_is_pending(&mut world, names.as_slice()));
     Ok(())
 }
 
@@ -487,40 +569,37 @@ fn chosen_event<'a>(
     chosen: &mut Chosen,
     sent: u32,
     given: u32,
-    names: &'a [Name; 8],
     keys: &'a [&'a [u8]; 8],
-) -> (usize, Event<'a>)
+) -> (usize, Act<'a>)
     ensures { result.0 < 12 }
 {
     match chosen.below(1024) {
-        0..=1 => (0, Event::Lose(chosen.member(given))),
-        2..=3 => (1, Event::Leave(chosen.member(given))),
-        4..=9 => (2, Event::Join(&names[chosen.below(8) as usize])),
-        10..=15 => (10, Event::JoinKept(&names[chosen.below(8) as usize])),
-        16..=19 => (11, Event::TakeOver(&names[chosen.below(8) as usize])),
-        20..=119 => (3, Event::Append(keys[chosen.below(8) as usize])),
-        120..=319 => (4, Event::Sync(chosen.member(given))),
-        320..=469 => (5, Event::Rejoin(chosen.member(given))),
+        0..=1 => (0, Act::Other(Event::Lose(chosen.member(given)))),
+        2..=3 => (1, Act::Other(Event::Leave(chosen.member(given)))),
+        4..=9 => (2, Act::Join(chosen.below(8) as usize)),
+        10..=15 => (10, Act::JoinKept(chosen.below(8) as usize)),
+        16..=19 => (11, Act::TakeOver(chosen.below(8) as usize)),
+        20..=119 => (3, Act::Other(Event::Append(keys[chosen.below(8) as usize]))),
+        120..=319 => (4, Act::Other(Event::Sync(chosen.member(given)))),
+        320..=469 => (5, Act::Other(Event::Rejoin(chosen.member(given)))),
         470..=679 => {
             let member = chosen.member(given);
             let partition = chosen.below(6);
             let records = chosen.below(4);
-            (
-                6,
-                Event::Poll {
-                    member,
-                    partition,
-                    records,
-                },
-            )
+            let poll = Event::Poll {
+                member,
+                partition,
+                records,
+            };
+            (6, Act::Other(poll))
         }
         680..=859 => {
             let member = chosen.member(given);
             let partition = chosen.below(6);
-            (7, Event::Send { member, partition })
+            (7, Act::Other(Event::Send { member, partition }))
         }
-        860..=969 => (8, Event::Deliver(chosen.commit(sent))),
-        _ => (9, Event::DeliverUnanswered(chosen.commit(sent))),
+        860..=969 => (8, Act::Other(Event::Deliver(chosen.commit(sent)))),
+        _ => (9, Act::Other(Event::DeliverUnanswered(chosen.commit(sent)))),
     }
 }
 
@@ -613,22 +692,18 @@ fn world_is_good(rt: &impl Abort, world: &World) {
     }
 }
 
-fn eight_names(rt: &impl Abort) -> [Name; 8] {
-    [
-        name(rt, b"A"),
-        name(rt, b"B"),
-        name(rt, b"C"),
-        name(rt, b"D"),
-        name(rt, b"E"),
-        name(rt, b"F"),
-        name(rt, b"G"),
-        name(rt, b"H"),
-    ]
+/// Eight names of one letter.
+fn eight_names(rt: &impl Abort, alloc: Global) -> Result<Vec<Name>, Memory> {
+    let mut names = Vec::with_capacity(alloc, 8)?;
+    for letter in b"ABCDEFGH" {
+        names.push(name(rt, &[*letter]))?;
+    }
+    Ok(names)
 }
 
 #[test]
 fn a_long_schedule_keeps_the_world_good(rt: HostRuntime) -> Result<(), Fail> {
-    let names = eight_names(&rt);
+    let names = eight_names(&rt, rt.alloc())?;
     let long = vec![in rt.alloc(); 0u8; 65_536]?;
     let keys: [&[u8]; 8] = [
         b"21",
@@ -649,8 +724,9 @@ fn a_long_schedule_keeps_the_world_good(rt: HostRuntime) -> Result<(), Fail> {
         let given = accepted[2]
             .saturating_add(accepted[10])
             .saturating_add(accepted[11]);
-        let (kind, event) = chosen_event(&mut chosen, sent, given, &names, &keys);
-        if let Reply::Refused(_) = step(&mut world, event) {
+        let (kind, act) = chosen_event(&mut chosen, sent, given, &keys);
+        let reply = reply_to(&mut world, &act, names.as_slice()).expect(&rt, "a name");
+        if let Reply::Refused(_) = reply {
             refused[kind] = refused[kind].saturating_add(1);
         } else {
             accepted[kind] = accepted[kind].saturating_add(1);
@@ -666,43 +742,49 @@ fn a_long_schedule_keeps_the_world_good(rt: HostRuntime) -> Result<(), Fail> {
     Ok(())
 }
 
+/// No topic of that index is there.
+const NO_TOPIC: Reply = Reply::Refused(Refusal::NoSuchTopic { nth: 0 });
+
+/// Records of two topics, of two partitions and of three.
+const OF_TOPICS: [(Act, Reply); 8] = [
+    (Act::Other(Event::AppendIn(0, b"21")), Reply::Appended(0, 0)),
+    (
+        Act::Other(Event::AppendIn(1, b"abc")),
+        Reply::Appended(2, 0),
+    ),
+    (Act::Other(Event::AppendIn(1, b"21")), Reply::Appended(2, 1)),
+    (Act::Other(Event::AppendIn(0, b"4")), Reply::Appended(1, 0)),
+    (Act::Other(Event::AppendIn(1, b"4")), Reply::Appended(3, 0)),
+    (
+        Act::Other(Event::AppendIn(1, b"abc")),
+        Reply::Appended(2, 2),
+    ),
+    (Act::Other(Event::AppendIn(2, b"abc")), NO_TOPIC),
+    (Act::Other(Event::Append(b"21")), Reply::Appended(0, 1)),
+];
+
 #[test]
 fn appends_in_topics(rt: HostRuntime) -> Result<(), Fail> {
     let mut world = World::with_topics(&rt, rt.alloc(), &[2, 3])?;
-    let steps = [
-        (Event::AppendIn(0, b"21"), Reply::Appended(0, 0)),
-        (Event::AppendIn(1, b"abc"), Reply::Appended(2, 0)),
-        (Event::AppendIn(1, b"21"), Reply::Appended(2, 1)),
-        (Event::AppendIn(0, b"4"), Reply::Appended(1, 0)),
-        (Event::AppendIn(1, b"4"), Reply::Appended(3, 0)),
-        (Event::AppendIn(1, b"abc"), Reply::Appended(2, 2)),
-        (
-            Event::AppendIn(2, b"abc"),
-            Reply::Refused(Refusal::NoSuchTopic { nth: 0 }),
-        ),
-        (Event::Append(b"21"), Reply::Appended(0, 1)),
-    ];
-    for (event, reply) in steps {
-        assert_eq!(rt; step(&mut world, event), reply, "{event:?}");
-    }
+    assert_eq!(rt; first_other(&mut world, &[], &OF_TOPICS), None);
     Ok(())
 }
+
+/// Records that follow those of a load.
+const AFTER_A_LOAD: [(Act, Reply); 3] = [
+    (
+        Act::Other(Event::AppendIn(1, b"abc")),
+        Reply::Appended(2, 2),
+    ),
+    (Act::Other(Event::AppendIn(2, b"abc")), NO_TOPIC),
+    (Act::Other(Event::Append(b"21")), Reply::Appended(0, 1)),
+];
 
 #[test]
 fn loads_in_topics(rt: HostRuntime) -> Result<(), Fail> {
     let keys: [&[u8]; 5] = [b"21", b"abc", b"21", b"4", b"4"];
     let mut world = World::with_topics(&rt, rt.alloc(), &[2, 3])?;
     assert_eq!(rt; world.load_in(&rt, &[0, 1, 1, 0, 1], &keys), Ok(()));
-    let steps = [
-        (Event::AppendIn(1, b"abc"), Reply::Appended(2, 2)),
-        (
-            Event::AppendIn(2, b"abc"),
-            Reply::Refused(Refusal::NoSuchTopic { nth: 0 }),
-        ),
-        (Event::Append(b"21"), Reply::Appended(0, 1)),
-    ];
-    for (event, reply) in steps {
-        assert_eq!(rt; step(&mut world, event), reply, "{event:?}");
-    }
+    assert_eq!(rt; first_other(&mut world, &[], &AFTER_A_LOAD), None);
     Ok(())
 }
