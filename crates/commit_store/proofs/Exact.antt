@@ -9,7 +9,7 @@ use Rattle.keyed_table.proofs.Elements.{none-past, stands-somewhere}
 use Rattle.keyed_table.proofs.Raised.{counter-raised, length-raised}
 use Rattle.partition_log.specs.Keys.{IsWithoutRepeats, is_known, key_at, with_key}
 use Rattle.partition_log.specs.Logs.{IsPlaceOf, with_record_at}
-use Rattle.partition_log.proofs.Growth.{among, fresh, grows, known, stays_apart}
+use Rattle.key_numbers.proofs.Growth.{among, fresh, grows, known, stays_apart}
 use Rattle.partition_log.proofs.History.{names-same}
 use Rattle.partition_log.proofs.Valid.{goes-below, log-other, log-same}
 use Rattle.partition_log.proofs.Numbered.{by_number}

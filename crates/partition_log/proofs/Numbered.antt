@@ -6,7 +6,7 @@ use Rattle.std.proofs.lemmas.Bool.Decides.{eqb_tells}
 use Rattle.std.proofs.lemmas.List.Sums.{sum_by-cons}
 use Rattle.std.proofs.lemmas.Slice.Eq.{bytes_eq-Decides}
 use Rattle.partition_log.specs.Keys.{IsWithoutRepeats, Key, is_known, key_at, id_of, plain}
-use Rattle.partition_log.proofs.Growth.{among, fresh, known}
+use Rattle.key_numbers.proofs.Growth.{among, fresh, known}
 
 not_so : (b : Bool) → (b ≡ true → ⊥) → b ≡ false
 not_so true f = absurd (f refl)

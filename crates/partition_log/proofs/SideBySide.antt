@@ -11,8 +11,8 @@ use Rattle.partition_log.specs.Appends.{AreAccepted, AreAppended, Placed, with_r
 use Rattle.partition_log.specs.Keys.{Key, distinct, id_of, is_known, with_key}
 use Rattle.partition_log.specs.Logs.{IsPlaceOf, IsValidLogs, PartitionLogs, is_full_for, log_at, with_record_at}
 use Rattle.partition_log.specs.Private.Filled.{AreShort, CanGoSideBySide, filled}
-use Rattle.partition_log.proofs.Firsts.{own, stays}
-use Rattle.partition_log.proofs.Growth.{grows}
+use Rattle.key_numbers.proofs.Firsts.{own, stays}
+use Rattle.key_numbers.proofs.Growth.{grows}
 use Rattle.partition_log.proofs.Valid.{goes-below, is_place, log-other, log-same, valid}
 
 abbrev pub key_of : Placed → Key

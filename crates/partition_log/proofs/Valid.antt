@@ -16,7 +16,7 @@ use Rattle.lane_words.specs.declared.Refusal.TheVariants as r
 use Rattle.partitioner.proofs.Counts.{place_in_topic-below, some_partitions}
 use Rattle.partition_log.specs.Keys.{Key, Keyed, distinct, is_known, key_at, id_of, with_key}
 use Rattle.partition_log.specs.Logs.{AreCounts, AreLogsOf, IsEntryOf, IsOfTopic, IsPlaceOf, IsUsed, IsValidLogs, PartitionLogs, answer_at, finds_no_room, is_full_for, log_at, place_in, with_record_at}
-use Rattle.partition_log.proofs.Growth.{grows, stays_apart}
+use Rattle.key_numbers.proofs.Growth.{grows, stays_apart}
 
 -- the log of the key's place has one entry more
 pub log-same : (l : PartitionLogs) (at : ℕ) (key : Key) → at < length l.logs

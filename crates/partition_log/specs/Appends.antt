@@ -1,14 +1,10 @@
 -- Appends of several records, one after the other.
 use Rattle.std.specs.Prelude.{◌≡◌, ◌<◌, ℕ, List, [], ◌∷◌, ◌++◌, Err, IsOk, length, fold, map, slice_index_or, take}
-use Rattle.std.specs.Borrow.{Bor}
 use Rattle.lane_words.specs.Answers.{Answers}
 use Rattle.lane_words.specs.declared.Refusal.{Refusal}
+pub use Rattle.key_numbers.specs.Keys.{lent}
 use Rattle.partition_log.specs.Keys.{Key, Keyed, of_first}
 use Rattle.partition_log.specs.Logs.{AreLogsOf, PartitionLogs, answer_at, place_in, with_record_at}
-
--- the keys that are lent
-abbrev pub lent : List (Bor Key) → List Key
-lent keys = map (λ key. key.now) keys
 
 -- records of the first topic
 abbrev pub in_first : List Key → List Keyed

@@ -1,4 +1,2 @@
 pub mod Appends
 pub mod Filled
-pub mod Sharded
-pub mod StoredKey

@@ -12,17 +12,10 @@ ghost use Rattle.partition_log.specs.Logs.{AreCounts, AreLogsOf, IsOfTopic, IsPl
 
 mod appends;
 mod filling;
-mod key_table;
-mod keys;
 mod laws;
-mod numbering;
-#[cfg(test)]
-mod plain_keys;
 mod sealed;
-mod shards;
-mod stored_key;
 
-use keys::KeyIds;
+use key_numbers::KeyIds;
 use lane_words::{LONGEST_KEY, MOST_PARTITIONS, MOST_RECORDS, Memory, Refusal};
 pub use laws::each_record_is_in_one_log;
 use partitioner::Partitions;

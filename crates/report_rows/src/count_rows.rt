@@ -1,7 +1,8 @@
 //! The rows of a count, as text.
 
-ghost use Rattle.std.specs.Prelude.{◌≡◌, ◌++◌, ℕ, List, IfOk, OnOk, length};
-ghost use Rattle.report_rows.specs.CountRows.{count_row, count_rows};
+ghost use Rattle.std.specs.Prelude.{◌≡◌, ◌<◌, ◌≤◌, ◌++◌, ℕ, List, IfOk, OnOk, length, slice_range};
+ghost use Rattle.std.specs.Thread.{IsSync};
+ghost use Rattle.report_rows.specs.CountRows.{count_row, count_rows, rows_between};
 ghost use Rattle.report_rows.specs.Rows.{HasText, total_row};
 
 use crate::rows;
@@ -10,6 +11,14 @@ use itoa::Buffer;
 use lane_words::Memory;
 use partition_log::LogRead;
 use std::alloc::Global;
+use std::thread;
+use std::thread::Threads;
+
+/// In about how many parts the rows are made side by side.
+const PARTS: u32 = 8;
+
+/// How many rows a part has at least, so that it is worth the start of a thread.
+const LEAST_ROWS: u32 = 16_384;
 
 /// Writes the row of a key and its count.
 pub fn write_count(writer: &mut Writer<Vec<u8>>, key: &[u8], count: u64) -> Result<(), Memory>
@@ -20,24 +29,107 @@ pub fn write_count(writer: &mut Writer<Vec<u8>>, key: &[u8], count: u64) -> Resu
     rows::write_row(writer, &[b"count", key, digits.format(count).as_bytes()])
 }
 
-/// Writes the row of each key of some logs with its count, by number.
+/// Writes the row of each key of some logs with its count, from the key of a number on, below
+/// another.
 fn write_counts<L: LogRead>(
     writer: &mut Writer<Vec<u8>>,
     logs: &L,
     counts: &[u64],
-) -> Result<(), Memory>
-    requires { length (L.contents logs.now).keys ≡ length counts.now }
-    ensures { OnOk result ((text : List ℕ) → HasText writer.old text
-        → HasText writer.new (text ++ count_rows (L.contents logs.now).keys counts.now)) }
+    from: u32,
+    to: u32,
+)
+    -> Result<(), Memory>
+    requires as_many { length (L.contents logs.now).keys ≡ length counts.now }
+    requires range { (from ≤ to) × (to ≤ length counts.now) }
+    ensures { OnOk result ((text : List ℕ) → HasText writer.old text → HasText writer.new
+        (text ++ rows_between (L.contents logs.now).keys counts.now from to)) }
 {
-    for id in 0..logs.keys() {
+    for id in from..to {
         write_count(writer, logs.key(id), counts[id as usize])?;
     }
     Ok(())
 }
 
-/// The text of a count: a row for each key, and the row of the totals.
-pub fn count_rows_text<L: LogRead>(
+/// The rows of the keys from a number on, below another.
+fn rows_in_turn<L: LogRead>(
+    alloc: Global,
+    logs: &L,
+    counts: &[u64],
+    from: u32,
+    to: u32,
+) -> Result<Vec<u8>, Memory>
+    requires as_many { length (L.contents logs.now).keys ≡ length counts.now }
+    requires range { (from ≤ to) × (to ≤ length counts.now) }
+    ensures { IfOk result (λ text. text.items
+        ≡ rows_between (L.contents logs.now).keys counts.now from to) }
+{
+    let mut writer = rows::new_writer(alloc);
+    write_counts(&mut writer, logs, counts, from, to)?;
+    rows::text_of(writer)
+}
+
+/// The same. More rows than `most` are made in two halves side by side, and so is each half.
+fn rows_apart<R: Threads + Sync, L: LogRead + Sync>(
+    rt: &R,
+    alloc: Global,
+    logs: &L,
+    counts: &[u64],
+    from: u32,
+    to: u32,
+    most: u32,
+) -> Result<Vec<u8>, Memory>
+    requires as_many { length (L.contents logs.now).keys ≡ length counts.now }
+    requires range { (from ≤ to) × (to ≤ length counts.now) }
+    requires most { 1 ≤ most }
+    ensures { IfOk result (λ text. text.items
+        ≡ rows_between (L.contents logs.now).keys counts.now from to) }
+{
+    if to - from <= most {
+        return rows_in_turn(alloc, logs, counts, from, to);
+    }
+    let middle = from + (to - from) / 2;
+    let (front, back) = thread::join(
+        rt,
+        || -> Result<Vec<u8>, Memory>
+            requires { IsSync R.row × IsSync L.row
+                × (length (L.contents logs.now).keys ≡ length counts.now)
+                × (from ≤ middle) × (middle < to) × (to ≤ length counts.now) × (1 ≤ most) }
+            ensures { IfOk result (λ text. text.items
+                ≡ rows_between (L.contents logs.entry.now).keys counts.entry.now from middle) }
+        { rows_apart(rt, alloc, logs, counts, from, middle, most) },
+        || -> Result<Vec<u8>, Memory>
+            requires { IsSync R.row × IsSync L.row
+                × (length (L.contents logs.now).keys ≡ length counts.now)
+                × (from < middle) × (middle ≤ to) × (to ≤ length counts.now) × (1 ≤ most) }
+            ensures { IfOk result (λ text. text.items
+                ≡ rows_between (L.contents logs.entry.now).keys counts.entry.now middle to) }
+        { rows_apart(rt, alloc, logs, counts, middle, to, most) },
+    );
+    joined(front?, &back?)
+}
+
+/// A text with another behind it.
+fn joined(front: Vec<u8>, back: &[u8]) -> Result<Vec<u8>, Memory>
+    ensures { IfOk result (λ text. text.items ≡ front.items ++ back.now) }
+{
+    let mut text = front;
+    text.extend_from_slice(back)?;
+    Ok(text)
+}
+
+/// The row of the totals, as a text.
+fn total_text(alloc: Global, committed: u64, appended: u64) -> Result<Vec<u8>, Memory>
+    ensures { IfOk result (λ text. text.items ≡ total_row committed appended) }
+{
+    let mut writer = rows::new_writer(alloc);
+    rows::write_total(&mut writer, committed, appended)?;
+    rows::text_of(writer)
+}
+
+/// The text of a count: a row for each key, and the row of the totals. Many rows are made on several
+/// threads.
+pub fn count_rows_text<R: Threads + Sync, L: LogRead + Sync>(
+    rt: &R,
     alloc: Global,
     logs: &L,
     counts: &[u64],
@@ -48,10 +140,10 @@ pub fn count_rows_text<L: LogRead>(
     ensures { IfOk result (λ text. text.items
         ≡ count_rows (L.contents logs.now).keys counts.now ++ total_row committed appended) }
 {
-    let mut writer = rows::new_writer(alloc);
-    write_counts(&mut writer, logs, counts)?;
-    rows::write_total(&mut writer, committed, appended)?;
-    rows::text_of(writer)
+    let keys = logs.keys();
+    let most = (keys / PARTS).max(LEAST_ROWS);
+    let rows = rows_apart(rt, alloc, logs, counts, 0, keys, most)?;
+    joined(rows, &total_text(alloc, committed, appended)?)
 }
 
 #[cfg(test)]

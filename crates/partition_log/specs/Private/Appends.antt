@@ -1,13 +1,9 @@
--- A key that is looked up, and one that is appended to a log.
-use Rattle.std.specs.Prelude.{◌≡◌, ◌<◌, ℕ, true, List, [], ◌∷◌, ◌++◌, length, if◌then◌else◌, slice_index_or, slice_set, Result, Ok, Err}
+-- A key that is appended to a log.
+use Rattle.std.specs.Prelude.{List, ℕ, [], ◌∷◌, ◌++◌, length, if◌then◌else◌, slice_index_or, slice_set, Result, Ok, Err}
 use Rattle.lane_words.specs.declared.Refusal.{Refusal}
 use Rattle.lane_words.specs.declared.Refusal.TheVariants as r
-use Rattle.partition_log.specs.Keys.{Key, id_of, is_known}
+use Rattle.partition_log.specs.Keys.{Key, id_of}
 use Rattle.partition_log.specs.Logs.{finds_no_room}
-
--- the number of a key that is among these
-abbrev pub IsIdOf : List Key → Key → ℕ → Type 0
-IsIdOf keys key id = (id ≡ id_of keys key) × (id < length keys) × (is_known keys key ≡ true)
 
 -- what an append of a key to this log answers: its offset, or that there is no room
 abbrev pub log_answer : List Key → List ℕ → Key → Result ℕ Refusal

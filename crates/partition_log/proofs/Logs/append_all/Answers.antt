@@ -5,7 +5,7 @@ use Rattle.std.proofs.lemmas.Result.{IfOk-weaker}
 use Rattle.partition_log.specs.Appends.{AreAppended, AreStoppedAfter, GrowByRecords, in_first, lent, placed}
 use Rattle.partition_log.specs.Keys.{of_first}
 use Rattle.partition_log.proofs.Appended.{first-keys, first-placed, first-topics, grow, placed-long, places-are, records-placed, stopped-first}
-use Rattle.partition_log.proofs.ShardRecords.{lent-long}
+use Rattle.key_numbers.proofs.ShardRecords.{lent-long}
 use Rattle.partition_log.proofs.Logs.append_all.Goals as goal
 
 pub returns-in_default-clause-err : goal.returns-in_default-clause-err

@@ -6,7 +6,7 @@ use Rattle.partition_log.specs.Appends.{AreAppended, AreStoppedAfter, GrowByReco
 use Rattle.partition_log.proofs.Appended.{all-topics, grow, placed-long, places-are, records-placed, stopped-first, topics-placed}
 use Rattle.partition_log.proofs.SideBySide.{unzip-keys}
 use Rattle.std.proofs.lemmas.Slice.Zip.{length-zip}
-use Rattle.partition_log.proofs.ShardRecords.{lent-long}
+use Rattle.key_numbers.proofs.ShardRecords.{lent-long}
 use Rattle.partition_log.proofs.Logs.append_all_in.Goals as goal
 
 pub returns-in_default-clause-err : goal.returns-in_default-clause-err

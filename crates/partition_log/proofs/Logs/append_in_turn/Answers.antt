@@ -6,7 +6,7 @@ use Rattle.partition_log.specs.Keys.{Key}
 use Rattle.partition_log.specs.Logs.{IsValidLogs, PartitionLogs}
 use Rattle.partition_log.specs.Appends.{AreAppended, AreStoppedAfter, lent}
 use Rattle.partition_log.proofs.Appended.{appended_more, none_appended, placed-still, stopped, zipped-at, zipped-goes, zipped-long}
-use Rattle.partition_log.proofs.ShardRecords.{lent-long}
+use Rattle.key_numbers.proofs.ShardRecords.{lent-long}
 use Rattle.partition_log.proofs.Logs.append_in_turn.Goals as goal
 
 pub loop-i-init : goal.loop-i-init

@@ -3,7 +3,7 @@ use Rattle.std.specs.List.{zip}
 use Rattle.lane_words.specs.declared.Refusal.TheVariants as r
 use Rattle.partition_log.specs.Appends.{AreStoppedAfter, lent}
 use Rattle.partition_log.proofs.Appended.{stopped-first, zipped-long}
-use Rattle.partition_log.proofs.ShardRecords.{lent-long}
+use Rattle.key_numbers.proofs.ShardRecords.{lent-long}
 use Rattle.partition_log.proofs.Logs.append_placed.Goals as goal
 
 pub returns-in_default-clause-err : goal.returns-in_default-clause-err

@@ -1,0 +1,37 @@
+-- Keys that follow others.
+use Rattle.std.proofs.Common.{◌≡◌, ◌∙◌, ◌+◌, true, false, List, [], ◌∷◌, ◌++◌, length, sym, refl, arith, inl, inr, append_assoc}
+use Rattle.std.specs.Str.{bytes_eq}
+use Rattle.std.proofs.lemmas.Bool.{cases_Bool}
+use Rattle.key_numbers.specs.Keys.{Key, is_known, id_of, with_key}
+use Rattle.key_numbers.proofs.Firsts.{known-append}
+
+-- a key that is not among the first ones
+pub behind : (ks zs : List Key) (x : Key) → is_known ks x ≡ false → (is_known (ks ++ zs) x ≡ is_known zs x) × (id_of (ks ++ zs) x ≡ length ks + id_of zs x)
+behind [] zs x h = (refl, omega arith)
+behind (k ∷ ks) zs x h =
+    elim (cases_Bool (bytes_eq x k)) [
+      | inl e ↦ absurd (let clash : true ≡ false = rw e at h in cc clash)
+      | inr e ↦
+          let later : is_known ks x ≡ false = rw e at h in
+          let there = behind ks zs x later in
+          rw e (there.0, omega (arith, there.1))
+    ]
+
+-- a new key is among neither
+pub new-in-both : (ks zs : List Key) (x : Key) → is_known (ks ++ zs) x ≡ false → (is_known ks x ≡ false) × (is_known zs x ≡ false)
+new-in-both ks zs x h =
+    elim (cases_Bool (is_known ks x)) [
+      | inl e ↦ absurd (let there = (known-append ks zs x e).0 in cc (there, h))
+      | inr e ↦ (e, sym (behind ks zs x e).0 ∙ h)
+    ]
+
+-- a new key behind the last ones
+pub added-behind : (ks zs : List Key) (x : Key) → is_known (ks ++ zs) x ≡ false → ks ++ with_key zs x ≡ with_key (ks ++ zs) x
+added-behind ks zs x h =
+    let last : is_known zs x ≡ false = (new-in-both ks zs x h).1 in
+    rw (h, last) (sym (append_assoc ks zs (x ∷ [])))
+
+-- where there is no key at all, none is behind
+pub none-behind : (ks zs : List Key) → ks ++ zs ≡ [] → zs ≡ []
+none-behind [] zs e = e
+none-behind (k ∷ ks) zs e = absurd (cc e)

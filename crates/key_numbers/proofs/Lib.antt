@@ -1,0 +1,14 @@
+pub mod Coded
+pub mod Collected
+pub mod Copied
+pub mod Filtered
+pub mod Firsts
+pub mod Growth
+pub mod InShards
+pub mod Joined
+pub mod Numbers
+pub mod Ordered
+pub mod ReadBack
+pub mod ShardRecords
+pub mod Walked
+pub mod Whole

@@ -1,0 +1,180 @@
+-- The records of a shard, numbered one after the other.
+use Rattle.std.proofs.Common.{◌≡◌, ◌≢◌, ◌∙◌, ◌+◌, ◌<◌, ◌≤◌, ℕ, zero, suc, Bool, true, false, List, [], ◌∷◌, ◌++◌, Bor, length, map, take, drop, get_or, replicate, sym, ap, refl, subst, arith, inl, inr, length-append, get_or-set_same, get_or-set_other}
+use Rattle.std.specs.Prelude.{if◌then◌else◌, ◌==◌, filter, slice_set}
+use Rattle.std.proofs.Math.ListN.{length-set}
+use Rattle.std.proofs.Math.Seq.{get_or-append_seam}
+use Rattle.std.specs.List.{fold}
+use Rattle.std.specs.declared.hash.RandomState.{RandomState}
+use Rattle.std.proofs.lemmas.Bool.{cases_eq, eq-eqb, ne_eqb}
+use Rattle.std.proofs.lemmas.List.{append-nil, get_or-map, length-map, length-replicate, map-append, take-append-drop, drop_more, take_more, take_all, length-take}
+use Rattle.std.proofs.lemmas.List.Elements.{filter-append}
+use Rattle.key_numbers.specs.Keys.{Key, distinct, id_of, lent, with_key}
+use Rattle.key_numbers.specs.Private.Sharded.{AreNumberedIn, ArePassed, of_shard, shard_of}
+use Rattle.key_numbers.specs.declared.shards.TheConstants.{SHARDS}
+use Rattle.key_numbers.proofs.Firsts.{number-there}
+use Rattle.key_numbers.proofs.Growth.{grows}
+use Rattle.key_numbers.proofs.Walked.{one-more}
+
+-- what is numbered of a shard after the first records
+pub record IsNumberedTo (shard : Key → ℕ) (s : ℕ) (keys : List Key) (i : ℕ) (table : List Key) (locals : List ℕ) : Type 0 where
+  pub keys_of : table ≡ distinct (of_shard shard s (take i keys))
+  pub locals_of : locals ≡ map (id_of (distinct (of_shard shard s keys))) (of_shard shard s (take i keys))
+
+pub numbered-none : (shard : Key → ℕ) (s : ℕ) (keys : List Key) → IsNumberedTo shard s keys 0 [] []
+unfolding distinct
+numbered-none shard s keys = record { keys_of = refl; locals_of = refl }
+
+-- the records of a shard, with one that is not of it
+pub shard-other : (shard : Key → ℕ) (s : ℕ) (keys : List Key) (i : ℕ) → i < length keys → shard (get_or keys i []) ≢ s → of_shard shard s (take (i + 1) keys) ≡ of_shard shard s (take i keys)
+shard-other shard s keys i lt ne =
+    let test : (shard (get_or keys i []) == s) ≡ false = ne_eqb (shard (get_or keys i [])) s ne in
+    let none : of_shard shard s (get_or keys i [] ∷ []) ≡ [] = rw test refl in
+    ap (of_shard shard s) (take_more keys i [] lt) ∙ filter-append (λ k. shard k == s) (take i keys) (get_or keys i [] ∷ [])
+    ∙ ap (λ ks. of_shard shard s (take i keys) ++ ks) none ∙ append-nil (of_shard shard s (take i keys))
+
+-- the records of a shard, with one more of it
+pub shard-own : (shard : Key → ℕ) (s : ℕ) (keys : List Key) (i : ℕ) → i < length keys → shard (get_or keys i []) ≡ s → of_shard shard s (take (i + 1) keys) ≡ of_shard shard s (take i keys) ++ get_or keys i [] ∷ []
+shard-own shard s keys i lt is =
+    let test : (shard (get_or keys i []) == s) ≡ true = eq-eqb (shard (get_or keys i [])) s is in
+    let one : of_shard shard s (get_or keys i [] ∷ []) ≡ get_or keys i [] ∷ [] = rw test refl in
+    ap (of_shard shard s) (take_more keys i [] lt) ∙ filter-append (λ k. shard k == s) (take i keys) (get_or keys i [] ∷ [])
+    ∙ ap (λ ks. of_shard shard s (take i keys) ++ ks) one
+
+-- the records of a shard, parted at one of them
+pub shard-parted : (shard : Key → ℕ) (s : ℕ) (keys : List Key) (i : ℕ) → i < length keys → shard (get_or keys i []) ≡ s
+    → of_shard shard s keys ≡ of_shard shard s (take i keys) ++ get_or keys i [] ∷ of_shard shard s (drop (i + 1) keys)
+shard-parted shard s keys i lt is =
+    let test : (shard (get_or keys i []) == s) ≡ true = eq-eqb (shard (get_or keys i [])) s is in
+    let seam : keys ≡ take i keys ++ get_or keys i [] ∷ drop (i + 1) keys = sym (take-append-drop i keys) ∙ ap (λ ks. take i keys ++ ks) (drop_more keys i [] lt) in
+    let ends : of_shard shard s (get_or keys i [] ∷ drop (i + 1) keys) ≡ get_or keys i [] ∷ of_shard shard s (drop (i + 1) keys) = rw test refl in
+    ap (of_shard shard s) seam ∙ filter-append (λ k. shard k == s) (take i keys) (get_or keys i [] ∷ drop (i + 1) keys)
+    ∙ ap (λ ks. of_shard shard s (take i keys) ++ ks) ends
+
+pub numbered-other : (shard : Key → ℕ) (s : ℕ) (keys : List Key) (i : ℕ) (table : List Key) (locals : List ℕ) → i < length keys → shard (get_or keys i []) ≢ s
+    → IsNumberedTo shard s keys i table locals → IsNumberedTo shard s keys (i + 1) table locals
+numbered-other shard s keys i table locals lt ne so =
+    let same = shard-other shard s keys i lt ne in record {
+      keys_of = so.keys_of ∙ ap distinct (sym same);
+      locals_of = so.locals_of ∙ ap (map (id_of (distinct (of_shard shard s keys)))) (sym same);
+    }
+
+pub numbered-own : (shard : Key → ℕ) (s : ℕ) (keys : List Key) (i : ℕ) (table : List Key) (locals : List ℕ) → i < length keys → shard (get_or keys i []) ≡ s
+    → IsNumberedTo shard s keys i table locals
+    → IsNumberedTo shard s keys (i + 1) (with_key table (get_or keys i [])) (locals ++ id_of table (get_or keys i []) ∷ [])
+numbered-own shard s keys i table locals lt is so =
+    let x = get_or keys i [] in
+    let xs = of_shard shard s (take i keys) in
+    let more = shard-own shard s keys i lt is in
+    let f = id_of (distinct (of_shard shard s keys)) in
+    let number : f x ≡ id_of table x =
+    ap (λ ks. id_of (distinct ks) x) (shard-parted shard s keys i lt is) ∙ number-there xs (of_shard shard s (drop (i + 1) keys)) x ∙ ap (λ ks. id_of ks x) (sym so.keys_of) in record {
+      keys_of = ap (λ ks. with_key ks x) so.keys_of ∙ sym (one-more xs x) ∙ ap distinct (sym more);
+      locals_of = ap (λ ls. ls ++ id_of table x ∷ []) so.locals_of ∙ ap (λ n. map f xs ++ n ∷ []) (sym number) ∙ sym (ap (map f) more ∙ map-append f xs (x ∷ []));
+    }
+
+pub numbered-all : (shard : Key → ℕ) (s : ℕ) (keys : List Key) (i : ℕ) (table : List Key) (locals : List ℕ) → length keys ≤ i → IsNumberedTo shard s keys i table locals → AreNumberedIn shard s keys table locals
+numbered-all shard s keys i table locals le so =
+    let whole : take i keys ≡ keys = take_all i keys le in (
+      so.keys_of ∙ ap (λ ks. distinct (of_shard shard s ks)) whole,
+      so.locals_of ∙ ap (λ ks. map (id_of (distinct (of_shard shard s keys))) (of_shard shard s ks)) whole,
+    )
+
+few-added : (ks zs : List Key) → length (fold with_key ks zs) ≤ length ks + length zs
+few-added ks [] = omega arith
+few-added ks (z ∷ zs) = omega (arith, (grows ks z).by_one, few-added (with_key ks z) zs)
+
+-- keys without repeats are no more than with them
+pub few-distinct : (keys : List Key) → length (distinct keys) ≤ length keys
+unfolding distinct
+few-distinct keys = let few = few-added [] keys in omega (arith, few)
+
+filtered-at : (b : Bool) (x : Key) (xs ys : List Key) → length xs ≤ length ys → length (if b then x ∷ xs else xs) ≤ length (x ∷ ys)
+filtered-at true x xs ys le = omega arith
+filtered-at false x xs ys le = omega arith
+
+pub few-filtered : (p : Key → Bool) (keys : List Key) → length (filter p keys) ≤ length keys
+few-filtered p [] = omega arith
+few-filtered p (x ∷ keys) = filtered-at (p x) x (filter p keys) keys (few-filtered p keys)
+
+-- there is room for one more
+pub numbered-room : (shard : Key → ℕ) (s : ℕ) (keys : List Key) (i : ℕ) (table : List Key) (locals : List ℕ) → i < length keys → IsNumberedTo shard s keys i table locals → length table < length keys
+numbered-room shard s keys i table locals lt so =
+    let xs = of_shard shard s (take i keys) in
+    omega (arith, ap length so.keys_of, few-distinct xs, few-filtered (λ k. shard k == s) (take i keys), length-take i keys, lt)
+
+pub passed-none : (shard : Key → ℕ) (count : ℕ) (keys : List Key) → ArePassed shard count keys 0 (replicate count 0)
+passed-none shard count keys = record { each = length-replicate count 0; passed = λ s lt. zero-at count s }
+  where
+    zero-at : (n s : ℕ) → get_or {A = ℕ} (replicate n 0) s 0 ≡ 0
+    zero-at zero s = refl
+    zero-at (suc n) zero = refl
+    zero-at (suc n) (suc s) = zero-at n s
+
+-- the number of a record in its shard stands behind those of the records met before
+pub next-local : (shard : Key → ℕ) (count : ℕ) (keys : List Key) (i : ℕ) (met locals : List ℕ) (s : ℕ) → i < length keys → s ≡ shard (get_or keys i []) → s < count
+    → locals ≡ map (id_of (distinct (of_shard shard s keys))) (of_shard shard s keys) → ArePassed shard count keys i met
+    → (get_or met s 0 < length locals) × (get_or locals (get_or met s 0) 0 ≡ id_of (distinct (of_shard shard s keys)) (get_or keys i []))
+next-local shard count keys i met locals s lt at below are so =
+    let x = get_or keys i [] in
+    let xs = of_shard shard s (take i keys) in
+    let ys = of_shard shard s (drop (i + 1) keys) in
+    let f = id_of (distinct (of_shard shard s keys)) in
+    let parted : of_shard shard s keys ≡ xs ++ x ∷ ys = shard-parted shard s keys i lt (sym at) in
+    let long : length locals ≡ length xs + length (x ∷ ys) = ap length are ∙ length-map (of_shard shard s keys) f ∙ ap length parted ∙ length-append xs (x ∷ ys) in
+    let here : get_or met s 0 ≡ length xs = so.passed s below in
+    let within : get_or met s 0 < length locals = omega (arith, long, here) in
+    let within_all : get_or met s 0 < length (of_shard shard s keys) = omega (arith, within, ap length are, length-map (of_shard shard s keys) f) in (
+      within,
+      ap (λ ls. get_or ls (get_or met s 0) 0) are ∙ get_or-map f (of_shard shard s keys) (get_or met s 0) [] 0 within_all
+          ∙ ap f (ap (λ ks. get_or ks (get_or met s 0) []) parted ∙ ap (λ n. get_or (xs ++ x ∷ ys) n []) here ∙ get_or-append_seam xs x ys []),
+    )
+
+pub passed-more : (shard : Key → ℕ) (count : ℕ) (keys : List Key) (i : ℕ) (met : List ℕ) (s : ℕ) → i < length keys → s ≡ shard (get_or keys i []) → s < count → ArePassed shard count keys i met
+    → ArePassed shard count keys (i + 1) (slice_set met s (get_or met s 0 + 1))
+passed-more shard count keys i met s lt at below so =
+    let x = get_or keys i [] in record {
+      each = length-set met s (get_or met s 0 + 1) ∙ so.each;
+      passed = λ t t_in. elim (cases_eq s t) [
+        | inl same ↦
+            let own = shard-own shard s keys i lt (sym at) in
+            let more : length (of_shard shard s (take (i + 1) keys)) ≡ length (of_shard shard s (take i keys)) + 1 = ap length own ∙ length-append (of_shard shard s (take i keys)) (x ∷ []) in
+            let set : get_or (slice_set met s (get_or met s 0 + 1)) s 0 ≡ get_or met s 0 + 1 = get_or-set_same met s (get_or met s 0 + 1) 0 (omega (arith, below, so.each)) in
+            subst (λ u. get_or (slice_set met s (get_or met s 0 + 1)) u 0 ≡ length (of_shard shard u (take (i + 1) keys))) same
+            (omega (arith, more, set, so.passed s below))
+        | inr ne ↦
+            let other = shard-other shard t keys i lt (λ e. ne (at ∙ e)) in
+            get_or-set_other met s t (get_or met s 0 + 1) 0 (λ e. ne (sym e)) ∙ so.passed t t_in ∙ ap length (sym other)
+      ];
+    }
+
+-- no more records of a shard are met than there are
+pub passed-few : (shard : Key → ℕ) (count : ℕ) (keys : List Key) (i : ℕ) (met : List ℕ) (s : ℕ) → s < count → i ≤ length keys → ArePassed shard count keys i met → get_or met s 0 ≤ i
+passed-few shard count keys i met s below le so =
+    omega (arith, so.passed s below, few-filtered (λ k. shard k == s) (take i keys), length-take i keys, le)
+
+-- the shard of record i
+pub shard-at : (shard : Key → ℕ) (keys : List Key) (shards : List ℕ) (i : ℕ) → shards ≡ map shard keys → i < length keys → get_or shards i 0 ≡ shard (get_or keys i [])
+shard-at shard keys shards i are lt = ap (λ ss. get_or ss i 0) are ∙ get_or-map shard keys i [] 0 lt
+
+-- a shard is one of so many
+pub shard_of-below : (hasher : RandomState) (key : Key) → shard_of hasher key < SHARDS
+unfolding shard_of
+shard_of-below hasher key = omega arith
+
+pub shard-below : (hasher : RandomState) (keys : List Key) (shards : List ℕ) (i : ℕ) → shards ≡ map (shard_of hasher) keys → i < length keys → get_or shards i 0 < SHARDS
+shard-below hasher keys shards i are lt =
+    let below = shard_of-below hasher (get_or keys i []) in
+    let at = shard-at (shard_of hasher) keys shards i are lt in
+    rw at below
+
+-- a borrowed key
+pub lent-key : (keys : List (Bor (List ℕ))) (i : ℕ) (d : Bor (List ℕ)) → i < length keys → get_or (lent keys) i [] ≡ (get_or keys i d).now
+lent-key keys i d lt = get_or-map (λ (key : Bor (List ℕ)). key.now) keys i d [] lt
+
+pub lent-long : (keys : List (Bor (List ℕ))) → length (lent keys) ≡ length keys
+lent-long keys = length-map keys (λ (key : Bor (List ℕ)). key.now)
+
+-- what a function of keys gives of borrowed keys
+pub lent-placed : (place : Key → ℕ) (keys : List (Bor (List ℕ))) → map (λ (key : Bor (List ℕ)). place key.now) keys ≡ map place (lent keys)
+lent-placed place [] = refl
+lent-placed place (key ∷ keys) = ap (λ ps. place key.now ∷ ps) (lent-placed place keys)

@@ -1,0 +1,130 @@
+use Rattle.std.proofs.Common.{◌≡◌, ◌<◌, ◌≤◌, ◌+◌, ◌∙◌, [], arith, rules, ap, get_or, length, map, subst, sym, vec_items, vec_len}
+use Rattle.std.specs.Prelude.{slice_set}
+use Rattle.std.proofs.lemmas.List.{get_or-map, get_or_read, length-map}
+use Rattle.key_numbers.specs.Keys.{distinct, id_of, lent}
+use Rattle.key_numbers.specs.Private.Sharded.{ArePassed, shard_of}
+use Rattle.key_numbers.specs.declared.shards.TheConstants.{SHARDS}
+use Rattle.key_numbers.proofs.ReadBack.{from-more, read-record}
+use Rattle.key_numbers.proofs.ShardRecords.{passed-few, passed-more, shard-at, shard-below, lent-long}
+use Rattle.key_numbers.proofs.numbering.read_numbers.Goals as goal
+
+pub bounds-locals-shard : goal.bounds-locals-shard
+bounds-locals-shard c =
+    let all = lent c.args.keys.now in
+    let i = c.args.from + c.loop-k.k in
+    let i_in : i < length all = omega (arith, c.loop-k-test.true, c.requires.range, lent-long c.args.keys.now) in
+    omega (arith, shard-below c.args.hasher all c.args.shards.now i c.requires.readable.sharded i_in, c.requires.readable.numbered.each, length-map c.args.locals.now vec_items)
+
+pub bounds-met-shard : goal.bounds-met-shard
+bounds-met-shard c =
+    let all = lent c.args.keys.now in
+    let i = c.args.from + c.loop-k.k in
+    let i_in : i < length all = omega (arith, c.loop-k-test.true, c.requires.range, lent-long c.args.keys.now) in
+    shard-below c.args.hasher all c.args.shards.now i c.requires.readable.sharded i_in
+
+pub bounds-met-shard-in-loop-k : goal.bounds-met-shard-in-loop-k
+bounds-met-shard-in-loop-k c =
+    let all = lent c.args.keys.now in
+    let i = c.args.from + c.loop-k.k in
+    let i_in : i < length all = omega (arith, c.loop-k-test.true, c.requires.range, lent-long c.args.keys.now) in
+    shard-below c.args.hasher all c.args.shards.now i c.requires.readable.sharded i_in
+
+pub bounds-met-shard-in-loop-k-2 : goal.bounds-met-shard-in-loop-k-2
+bounds-met-shard-in-loop-k-2 c =
+    let all = lent c.args.keys.now in
+    let i = c.args.from + c.loop-k.k in
+    let i_in : i < length all = omega (arith, c.loop-k-test.true, c.requires.range, lent-long c.args.keys.now) in
+    shard-below c.args.hasher all c.args.shards.now i c.requires.readable.sharded i_in
+
+pub bounds-ids-shard : goal.bounds-ids-shard
+bounds-ids-shard c =
+    let all = lent c.args.keys.now in
+    let i = c.args.from + c.loop-k.k in
+    let i_in : i < length all = omega (arith, c.loop-k-test.true, c.requires.range, lent-long c.args.keys.now) in
+    omega (arith, shard-below c.args.hasher all c.args.shards.now i c.requires.readable.sharded i_in, c.requires.readable.each, length-map c.args.ids.now vec_items)
+
+pub overflow_add-met : goal.overflow_add-met
+overflow_add-met c =
+    let all = lent c.args.keys.now in
+    let i = c.args.from + c.loop-k.k in
+    let i_in : i < length all = omega (arith, c.loop-k-test.true, c.requires.range, lent-long c.args.keys.now) in
+    let i_le : i ≤ length all = omega (arith, i_in) in
+    let shard = get_or c.args.shards.now i 0 in
+    let below = shard-below c.args.hasher all c.args.shards.now i c.requires.readable.sharded i_in in
+    omega (arith, passed-few (shard_of c.args.hasher) SHARDS all i c.loop-k.met shard below i_le c.loop-k.invariant.passed, c.loop-k-test.true, c.requires.range)
+
+pub index-local-requires : goal.index-local-requires
+index-local-requires c =
+    let hasher = c.args.hasher in
+    let all = lent c.args.keys.now in
+    let shards = c.args.shards.now in
+    let locals = c.args.locals.now in
+    let ids = c.args.ids.now in
+    let i = c.args.from + c.loop-k.k in
+    let i_in : i < length all = omega (arith, c.loop-k-test.true, c.requires.range, lent-long c.args.keys.now) in
+    let shard = get_or shards i 0 in
+    let met = get_or c.loop-k.met shard 0 in
+    let below = shard-below hasher all shards i c.requires.readable.sharded i_in in
+    let there = read-record hasher all shards (map vec_items locals) (map vec_items ids) i c.loop-k.met c.requires.readable i_in c.loop-k.invariant.passed in
+    let in_locals : shard < length locals = omega (arith, below, c.requires.readable.numbered.each, length-map locals vec_items) in
+    let row = get_or-map vec_items locals shard c.index-locals-shard.result [] in_locals ∙ ap vec_items (sym c.index-locals-shard.is) in
+    let counted : vec_len c.index-locals-shard.result ≡ length c.index-locals-shard.result.items = search rules in
+    omega (arith, there.met_in, ap length row, counted)
+
+pub index-requires : goal.index-requires
+index-requires c =
+    let hasher = c.args.hasher in
+    let all = lent c.args.keys.now in
+    let shards = c.args.shards.now in
+    let locals = c.args.locals.now in
+    let ids = c.args.ids.now in
+    let i = c.args.from + c.loop-k.k in
+    let i_in : i < length all = omega (arith, c.loop-k-test.true, c.requires.range, lent-long c.args.keys.now) in
+    let shard = get_or shards i 0 in
+    let met = get_or c.loop-k.met shard 0 in
+    let below = shard-below hasher all shards i c.requires.readable.sharded i_in in
+    let there = read-record hasher all shards (map vec_items locals) (map vec_items ids) i c.loop-k.met c.requires.readable i_in c.loop-k.invariant.passed in
+    let in_locals : shard < length locals = omega (arith, below, c.requires.readable.numbered.each, length-map locals vec_items) in
+    let row = get_or-map vec_items locals shard c.index-locals-shard.result [] in_locals ∙ ap vec_items (sym c.index-locals-shard.is) in
+    let met_in : met < length c.index-locals-shard.result.items = omega (arith, there.met_in, ap length row) in
+    let read = get_or_read c.index-locals-shard.result.items met c.index-local.result.now met_in c.index-local.ensures 0 in
+    let local : c.index-local.result.now ≡ get_or (get_or (map vec_items locals) shard []) met 0 = read ∙ ap (λ ns. get_or ns met 0) (sym row) in
+    let in_ids : shard < length ids = omega (arith, below, c.requires.readable.each, length-map ids vec_items) in
+    let ids_row = get_or-map vec_items ids shard c.index-ids-shard.result [] in_ids ∙ ap vec_items (sym c.index-ids-shard.is) in
+    let local_in : c.index-local.result.now < length c.index-ids-shard.result.items = omega (arith, local, there.local_in, ap length ids_row) in
+    let counted : vec_len c.index-ids-shard.result ≡ length c.index-ids-shard.result.items = search rules in
+    omega (arith, local_in, counted)
+
+pub loop-k-preserved : goal.loop-k-preserved
+loop-k-preserved c =
+    let hasher = c.args.hasher in
+    let all = lent c.args.keys.now in
+    let shards = c.args.shards.now in
+    let locals = c.args.locals.now in
+    let ids = c.args.ids.now in
+    let i = c.args.from + c.loop-k.k in
+    let i_in : i < length all = omega (arith, c.loop-k-test.true, c.requires.range, lent-long c.args.keys.now) in
+    let shard = get_or shards i 0 in
+    let met = get_or c.loop-k.met shard 0 in
+    let below = shard-below hasher all shards i c.requires.readable.sharded i_in in
+    let there = read-record hasher all shards (map vec_items locals) (map vec_items ids) i c.loop-k.met c.requires.readable i_in c.loop-k.invariant.passed in
+    let in_locals : shard < length locals = omega (arith, below, c.requires.readable.numbered.each, length-map locals vec_items) in
+    let row = get_or-map vec_items locals shard c.index-locals-shard.result [] in_locals ∙ ap vec_items (sym c.index-locals-shard.is) in
+    let met_in : met < length c.index-locals-shard.result.items = omega (arith, there.met_in, ap length row) in
+    let read = get_or_read c.index-locals-shard.result.items met c.index-local.result.now met_in c.index-local.ensures 0 in
+    let local : c.index-local.result.now ≡ get_or (get_or (map vec_items locals) shard []) met 0 = read ∙ ap (λ ns. get_or ns met 0) (sym row) in
+    let in_ids : shard < length ids = omega (arith, below, c.requires.readable.each, length-map ids vec_items) in
+    let ids_row = get_or-map vec_items ids shard c.index-ids-shard.result [] in_ids ∙ ap vec_items (sym c.index-ids-shard.is) in
+    let local_in : c.index-local.result.now < length c.index-ids-shard.result.items = omega (arith, local, there.local_in, ap length ids_row) in
+    let read_number = get_or_read c.index-ids-shard.result.items c.index-local.result.now c.index.result.now local_in c.index.ensures 0 in
+    let number : c.index.result.now ≡ id_of (distinct all) (get_or all i []) =
+    read_number ∙ ap (λ ns. get_or ns c.index-local.result.now 0) (sym ids_row) ∙ ap (λ l. get_or (get_or (map vec_items ids) shard []) l 0) local ∙ there.number in
+    let next : i + 1 ≡ c.args.from + (c.loop-k.k + 1) = omega arith in
+    let more = passed-more (shard_of hasher) SHARDS all i c.loop-k.met shard i_in (shard-at (shard_of hasher) all shards i c.requires.readable.sharded i_in) below c.loop-k.invariant.passed in
+    record {
+      passed = subst (λ n. ArePassed (shard_of hasher) SHARDS all n (slice_set c.loop-k.met shard (met + 1))) next more;
+      read = from-more (id_of (distinct all)) all c.args.from c.loop-k.k c.loop-k.numbers c.index.result.now c.loop-k.invariant.read (omega (arith, c.loop-k-test.true)) number;
+    }
+
+pub returns : goal.returns
+returns c = λ j d lt. c.loop-k.invariant.read j d (omega (arith, lt, c.loop-k-test.false))

@@ -1,0 +1,62 @@
+use Rattle.std.proofs.Common.{◌≡◌, ◌+◌, ◌∙◌, ◌∷◌, ◌++◌, [], ℕ, arith, rules, ap, drop, length, length-append, map, subst, sym, vec_items, vec_len}
+use Rattle.std.specs.Vec.Iter.{into_iter_items}
+use Rattle.std.proofs.lemmas.List.{map-append}
+use Rattle.key_numbers.specs.Private.Sharded.{AreLocals, AreNumberedIn, AreTables, shard_of}
+use Rattle.key_numbers.specs.Keys.{lent}
+use Rattle.key_numbers.proofs.Collected.{drop_last, drop_next, locals-more, locals-none, tables-more, tables-none}
+use Rattle.key_numbers.proofs.numbering.tables_of.Goals as goal
+
+pub loop-shard-init : goal.loop-shard-init
+loop-shard-init c =
+    let gives = c.into_iter-shard-iterator.ensures.into_iter_gives in
+    let keys = lent c.args.keys.now in record {
+      within = omega (arith, ap length c.in_ok-tables.ensures.items);
+      rest = rw c.in_ok-tables.ensures.items gives.0;
+      len = search rules;
+      tables = rw c.in_ok-tables.ensures.items (tables-none (shard_of c.args.hasher) keys);
+      locals = rw (c.in_ok-tables.ensures.items, c.in_ok-locals.ensures.items) (locals-none (shard_of c.args.hasher) keys);
+    }
+
+pub loop-shard-preserved : goal.loop-shard-preserved
+loop-shard-preserved c =
+    let keys = lent c.args.keys.now in
+    let inv = c.loop-shard.invariant in
+    let tables = c.loop-shard.tables.items in
+    let locals = c.loop-shard.locals.items in
+    let n = length tables in
+    let steps = c.in-Some.ensures.steps in
+    let next = drop_next c.args.found.items (into_iter_items c.next.new.self) n c.in-Some.shard (sym inv.rest ∙ steps.0) in
+    let long : length (tables ++ c.in_ok-shard.shard.table ∷ []) ≡ n + 1 = length-append tables (c.in_ok-shard.shard.table ∷ []) in
+    let numbered : AreNumberedIn (shard_of c.args.hasher) n keys c.in_ok-shard.shard.table c.in_ok-shard.shard.locals.items =
+    rw (next.1 ∙ c.in_ok-shard.was) at (c.requires.found n c.in-Some.shard (omega (arith, next.0))) in
+    let grown = c.in_ok-push.ensures.items in
+    let was = inv.len in
+    let left = ap length steps.0 in
+    let less = steps.1 in
+    let seen : map vec_items c.push-in-loop-shard.new.self.items ≡ map vec_items locals ++ c.in_ok-shard.shard.locals.items ∷ [] =
+    ap (map vec_items) c.in_ok-push-2.ensures.items ∙ map-append vec_items locals (c.in_ok-shard.shard.locals ∷ []) in
+    record {
+      within = rw grown (omega (arith, long, next.0));
+      rest = rw grown (next.2 ∙ ap (λ m. drop m c.args.found.items) (sym long));
+      len = omega arith;
+      tables = rw grown (tables-more (shard_of c.args.hasher) keys tables n c.in_ok-shard.shard.table inv.tables numbered.0);
+      locals = rw (grown, seen) (locals-more (shard_of c.args.hasher) keys (map vec_items locals) n (length (tables ++ c.in_ok-shard.shard.table ∷ [])) c.in_ok-shard.shard.locals.items long inv.locals numbered.1);
+    }
+
+pub returns-clause-tables : goal.returns-clause-tables
+returns-clause-tables c =
+    let inv = c.loop-shard.invariant in
+    let n = length c.loop-shard.tables.items in
+    let none : length (drop n c.args.found.items) ≡ 0 = ap length (sym inv.rest) ∙ sym inv.len ∙ c.in-None.ensures.steps.0 in
+    let all : n ≡ length c.args.found.items = drop_last c.args.found.items n (omega (arith, inv.within)) none in
+    let counted : length c.args.found.items ≡ vec_len c.args.found = search rules in
+    subst (λ (m : ℕ). AreTables (shard_of c.args.hasher) m (lent c.args.keys.now) c.loop-shard.tables.items) (all ∙ counted) inv.tables
+
+pub returns-clause-locals : goal.returns-clause-locals
+returns-clause-locals c =
+    let inv = c.loop-shard.invariant in
+    let n = length c.loop-shard.tables.items in
+    let none : length (drop n c.args.found.items) ≡ 0 = ap length (sym inv.rest) ∙ sym inv.len ∙ c.in-None.ensures.steps.0 in
+    let all : n ≡ length c.args.found.items = drop_last c.args.found.items n (omega (arith, inv.within)) none in
+    let counted : length c.args.found.items ≡ vec_len c.args.found = search rules in
+    subst (λ (m : ℕ). AreLocals (shard_of c.args.hasher) m (lent c.args.keys.now) (map vec_items c.loop-shard.locals.items)) (all ∙ counted) inv.locals

@@ -1,0 +1,42 @@
+-- Keys in the order of their first appearance, and their numbers.
+use Rattle.std.specs.Prelude.{◌≡◌, ℕ, ◌<◌, Bool, true, List, [], ◌∷◌, ◌++◌, length, fold, map, if◌then◌else◌, slice_index_or}
+use Rattle.std.specs.Borrow.{Bor}
+use Rattle.std.specs.List.{list_any, position_or_len}
+use Rattle.std.specs.Str.{bytes_eq}
+
+-- a key is any list of bytes
+abbrev pub Key : Type 0
+Key = List ℕ
+
+-- whether a key is among these
+abbrev pub is_known : List Key → Key → Bool
+is_known keys key = list_any (bytes_eq key) keys
+
+-- the keys with one more, which goes last where it is new
+abbrev pub with_key : List Key → Key → List Key
+with_key keys key = if is_known keys key then keys else keys ++ key ∷ []
+
+-- a key's number, counted from 0: its index among the keys, or the next one where it is new
+abbrev pub id_of : List Key → Key → ℕ
+id_of keys key = position_or_len (bytes_eq key) keys
+
+-- the number of a key that is among these
+abbrev pub IsIdOf : List Key → Key → ℕ → Type 0
+IsIdOf keys key id = (id ≡ id_of keys key) × (id < length keys) × (is_known keys key ≡ true)
+
+-- the key of a number
+abbrev pub key_at : List Key → ℕ → Key
+key_at keys number = slice_index_or keys number []
+
+-- no key stands twice
+abbrev pub IsWithoutRepeats : List Key → Type 0
+IsWithoutRepeats keys =
+    (m n : ℕ) → m < length keys → n < length keys → key_at keys m ≡ key_at keys n → m ≡ n
+
+-- the keys of a list without repeats, in the order of their first appearance
+unfoldable pub distinct : List Key → List Key
+distinct keys = fold with_key [] keys
+
+-- the keys that are lent
+abbrev pub lent : List (Bor Key) → List Key
+lent keys = map (λ key. key.now) keys

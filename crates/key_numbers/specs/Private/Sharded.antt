@@ -1,0 +1,92 @@
+-- Keys that are numbered shard by shard, and their key numbers.
+use Rattle.std.specs.Prelude.{◌≡◌, ◌<◌, ◌≤◌, ◌+◌, ◌==◌, ◌%◌, ℕ, List, [], ◌∷◌, ◌++◌, All, Bool, filter, length, map, if◌then◌else◌, slice_index_or, take}
+use Rattle.lane_words.specs.declared.limits.TheConstants.{MOST_RECORDS}
+use Rattle.std.specs.RandomState.{initial_hasher}
+use Rattle.std.specs.declared.hash.RandomState.{RandomState}
+use Rattle.std.specs.Hash.DefaultHasher.{finish, write}
+use Rattle.key_numbers.specs.Keys.{Key, distinct, id_of, key_at}
+use Rattle.key_numbers.specs.declared.shards.TheConstants.{SHARDS}
+use Rattle.key_numbers.specs.declared.shards.KeyAt.{KeyAt}
+
+-- the shard of a key that this hasher hashes, by one write of all its bytes
+unfoldable pub shard_of : RandomState → Key → ℕ
+shard_of hasher key = finish (write (initial_hasher hasher) key) % SHARDS
+
+-- the keys of shard s, in order, where a function tells the shard of each key
+abbrev pub of_shard : (Key → ℕ) → ℕ → List Key → List Key
+of_shard shard s keys = filter (λ k. shard k == s) keys
+
+-- for each shard the key numbers of its keys, by their numbers in the shard
+abbrev pub AreGlobal : (Key → ℕ) → List Key → List (List ℕ) → Type 0
+AreGlobal shard keys ids = (s : ℕ) → s < length ids → slice_index_or ids s [] ≡ map (id_of (distinct keys)) (distinct (of_shard shard s keys))
+
+-- whether a record is the first of its key
+abbrev pub is_first : List ℕ → ℕ → Bool
+is_first ids local = local == length ids
+
+-- the key numbers of a shard after one more record
+abbrev pub with_first : List ℕ → ℕ → ℕ → List ℕ
+with_first ids local next = if is_first ids local then ids ++ next ∷ [] else ids
+
+-- where the keys stand after one more record, of this shard
+abbrev pub with_first_at : List KeyAt → List ℕ → ℕ → ℕ → List KeyAt
+with_first_at order ids shard local =
+    if is_first ids local then order ++ (record { shard = shard; number = local }) ∷ [] else order
+
+-- the next key number after one more record
+abbrev pub next_after : List ℕ → ℕ → ℕ → ℕ
+next_after ids local next = if is_first ids local then next + 1 else next
+
+-- the keys of a shard of these, and the numbers in the shard of its records
+abbrev pub AreNumberedIn : (Key → ℕ) → ℕ → List Key → List Key → List ℕ → Type 0
+AreNumberedIn shard s keys table locals =
+    (table ≡ distinct (of_shard shard s keys)) × (locals ≡ map (id_of (distinct (of_shard shard s keys))) (of_shard shard s keys))
+
+-- the keys of each of so many shards
+pub record AreTables (shard : Key → ℕ) (count : ℕ) (keys : List Key) (tables : List (List Key)) : Type 0 where
+  pub each : length tables ≡ count
+  pub are : (s : ℕ) → s < count → slice_index_or tables s [] ≡ distinct (of_shard shard s keys)
+
+-- the numbers in each of so many shards of its records
+pub record AreLocals (shard : Key → ℕ) (count : ℕ) (keys : List Key) (locals : List (List ℕ)) : Type 0 where
+  pub each : length locals ≡ count
+  pub are : (s : ℕ) → s < count → slice_index_or locals s [] ≡ map (id_of (distinct (of_shard shard s keys))) (of_shard shard s keys)
+
+-- the key that stands there
+abbrev pub key_there : List (List Key) → KeyAt → Key
+key_there tables at = key_at (slice_index_or tables at.shard []) at.number
+
+-- so many records of each shard are among the first ones
+pub record ArePassed (shard : Key → ℕ) (count : ℕ) (keys : List Key) (i : ℕ) (met : List ℕ) : Type 0 where
+  pub each : length met ≡ count
+  pub passed : (s : ℕ) → s < count → slice_index_or met s 0 ≡ length (of_shard shard s (take i keys))
+
+-- the key numbers of records can be read from those of their shards
+pub record AreReadable (shard : Key → ℕ) (keys : List Key) (shards : List ℕ) (locals ids : List (List ℕ)) : Type 0 where
+  pub sharded : shards ≡ map shard keys
+  pub numbered : AreLocals shard SHARDS keys locals
+  pub each : length ids ≡ SHARDS
+  pub are : AreGlobal shard keys ids
+
+-- as many numbers as count are what f gives of the keys from an index on
+abbrev pub AreFrom : (Key → ℕ) → List Key → ℕ → ℕ → List ℕ → Type 0
+AreFrom f keys from count numbers =
+    (k d : ℕ) → k < count → slice_index_or numbers k d ≡ f (key_at keys (from + k))
+
+-- where each of these keys stands, where those of a shard are numbered by their records
+pub record AreOrdered (shard : Key → ℕ) (all keys : List Key) (count : ℕ) (order : List KeyAt) : Type 0 where
+  pub named : map (λ (at : KeyAt). key_at (distinct (of_shard shard at.shard all)) at.number) order ≡ keys
+  pub there : All (λ (at : KeyAt). (at.shard < count) × (at.number < length (distinct (of_shard shard at.shard all)))) order
+
+-- a key stands there
+abbrev pub IsThere : List (List Key) → KeyAt → Type 0
+IsThere tables at = (at.shard < length tables) × (at.number < length (slice_index_or tables at.shard []))
+
+-- what shards keep: each has the keys that go to it, in order, and their key numbers
+pub record AreShards (shard : Key → ℕ) (keys : List Key) (tables : List (List Key)) (ids : List (List ℕ)) (order : List KeyAt) : Type 0 where
+  pub few : length order ≤ MOST_RECORDS
+  pub a_table_each : 0 < length order → length tables ≡ SHARDS
+  pub ids_each : 0 < length order → length ids ≡ SHARDS
+  pub keys_of : (s : ℕ) → s < length tables → slice_index_or tables s [] ≡ of_shard shard s keys
+  pub ids_of : (s : ℕ) → s < length ids → slice_index_or ids s [] ≡ map (id_of keys) (of_shard shard s keys)
+  pub there : All (IsThere tables) order

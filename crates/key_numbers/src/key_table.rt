@@ -1,0 +1,154 @@
+//! A table of keys, numbered in the order of their first appearance.
+
+ghost use Rattle.std.specs.Prelude.{◌≡◌, ◌<◌, ◌≤◌, [], IfOk, IfSome, IfNone, IsOk, OnErr, length, true, false};
+ghost use Rattle.key_numbers.specs.Keys.{IsIdOf, id_of, is_known, key_at, with_key};
+
+use crate::stored_key::{LONGEST_INLINE, StoredKey};
+use indexmap::IndexSet;
+use lane_words::{MOST_RECORDS, Memory};
+use std::alloc::Global;
+use std::hash::RandomState;
+use std::marker::Model;
+use std::mem;
+
+/// Keys by their numbers.
+#[derive(Debug, Drop)]
+pub struct KeyTable {
+    /// Where the keys are stored.
+    alloc: Global,
+    /// The keys, each at the index of its number.
+    set: IndexSet<StoredKey, RandomState>,
+    /// What a long key is looked up by: it keeps its memory from one look-up to the next.
+    query: Vec<u8>,
+}
+
+impl Model for KeyTable {
+    ghost use Rattle.std.specs.Prelude.{List, ℕ, length, ◌≤◌};
+    ghost use Rattle.lane_words.specs.declared.limits.TheConstants.{MOST_RECORDS};
+
+    ghost Value = { List (List ℕ) };
+
+    ghost view = { λ k. k.set.keys };
+
+    ghost invariant = { λ k. length k.set.keys ≤ MOST_RECORDS };
+}
+
+impl KeyTable {
+    /// No keys, which are hashed by this hasher.
+    pub fn new(alloc: Global, hasher: RandomState) -> KeyTable
+        ensures { result ≡ [] }
+    {
+        KeyTable {
+            alloc,
+            set: IndexSet::with_hasher(alloc, hasher),
+            query: Vec::new(alloc),
+        }
+    }
+
+    /// Makes room for this many more keys.
+    pub fn reserve(&mut self, additional: usize) -> Result<(), Memory>
+        ensures { self.new ≡ self.old }
+    {
+        self.set.reserve(additional)?;
+        Ok(())
+    }
+
+    /// How many keys there are.
+    pub fn count(&self) -> u32
+        ensures { result ≡ length self.now }
+    {
+        self.set.len() as u32
+    }
+
+    /// The key of a number.
+    pub fn key(&self, number: u32) -> &[u8]
+        requires { number < length self.now }
+        ensures { result.now ≡ key_at self.now number }
+    {
+        self.set.as_slice()[number as usize].as_slice()
+    }
+
+    /// The number of a key, where it is known. It takes memory only for a long key, where none as
+    /// long was sought before.
+    pub fn find(&mut self, key: &[u8]) -> Result<Option<u32>, Memory>
+        ensures known { IfOk result (λ found. IfSome found (IsIdOf self.old key.now)) }
+        ensures fresh { IfOk result (λ found. IfNone found (is_known self.old key.now ≡ false)) }
+        ensures short { length key.now ≤ LONGEST_INLINE → IsOk result }
+        ensures same { self.new ≡ self.old }
+    {
+        if key.len() <= LONGEST_INLINE {
+            return Ok(find_in(&self.set, &StoredKey::short(key)));
+        }
+        let query = long_query(self.alloc, &mut self.query, key)?;
+        let found = find_in(&self.set, &query);
+        if let Some(text) = query.into_text() {
+            self.query = text;
+        }
+        Ok(found)
+    }
+
+    /// Numbers a new key, whose bytes are stored once.
+    pub fn add(&mut self, key: &[u8]) -> Result<u32, Memory>
+        requires room { length self.old < MOST_RECORDS }
+        requires fresh { is_known self.old key.now ≡ false }
+        ensures ok { IfOk result (λ n. (n ≡ id_of self.old key.now)
+            × (self.new ≡ with_key self.old key.now)) }
+        ensures err { OnErr result (self.new ≡ self.old) }
+    {
+        let stored = stored_key(self.alloc, key)?;
+        let (number, _) = self.set.insert_full(stored)?;
+        Ok(number as u32)
+    }
+
+    /// The number of a key, which is numbered where it is new.
+    pub fn number(&mut self, key: &[u8]) -> Result<u32, Memory>
+        requires { length self.old < MOST_RECORDS }
+        ensures { IfOk result (λ n. (n ≡ id_of self.old key.now)
+            × (self.new ≡ with_key self.old key.now)) }
+    {
+        if key.len() <= LONGEST_INLINE {
+            let (number, _) = self.set.insert_full(StoredKey::short(key))?;
+            return Ok(number as u32);
+        }
+        if let Some(number) = self.find(key)? {
+            return Ok(number);
+        }
+        self.add(key)
+    }
+}
+
+/// The number of a key of a set, where it is there.
+fn find_in(set: &IndexSet<StoredKey, RandomState>, key: &StoredKey) -> Option<u32>
+    requires { length set.now.keys ≤ MOST_RECORDS }
+    ensures known { IfSome result (IsIdOf set.now.keys key.now) }
+    ensures fresh { IfNone result (is_known set.now.keys key.now ≡ false) }
+{
+    let Some(number) = set.get_index_of(key) else {
+        return None;
+    };
+    Some(number as u32)
+}
+
+/// A long key to look up, in the memory of the last one.
+fn long_query(alloc: Global, last: &mut Vec<u8>, key: &[u8]) -> Result<StoredKey, Memory>
+    ensures { IfOk result (λ query. query ≡ key.now) }
+{
+    let mut text = mem::replace(last, Vec::new(alloc));
+    text.clear();
+    if text.extend_from_slice(key).is_err() {
+        *last = text;
+        return Err(Memory);
+    }
+    Ok(StoredKey::long(text))
+}
+
+/// A key to keep.
+fn stored_key(alloc: Global, key: &[u8]) -> Result<StoredKey, Memory>
+    ensures { IfOk result (λ stored. stored ≡ key.now) }
+{
+    if key.len() <= LONGEST_INLINE {
+        return Ok(StoredKey::short(key));
+    }
+    let text = Vec::from_slice(alloc, key)?;
+    Ok(StoredKey::long(text))
+}

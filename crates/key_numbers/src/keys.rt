@@ -1,0 +1,162 @@
+//! The keys of all logs, numbered in the order of their first appearance.
+
+ghost use Rattle.std.specs.Prelude.{◌≡◌, ◌<◌, ◌≤◌, ◌↔◌, [], IfOk, IfSome, IfNone, IsOk, IsTrue, OnErr, length, map, true, false};
+ghost use Rattle.key_numbers.specs.Keys.{IsIdOf, IsWithoutRepeats, distinct, id_of, is_known, key_at, lent, with_key};
+
+use crate::coding::{come_again, number_coded};
+use crate::key_table::KeyTable;
+use crate::shards::Shards;
+use crate::stored_key::LONGEST_INLINE;
+use lane_words::{MOST_RECORDS, Memory};
+use std::alloc::Global;
+use std::hash::RandomState;
+use std::marker::Model;
+use std::random::RandomSource;
+use std::thread::Threads;
+
+/// Keys by their numbers. The hasher is drawn anew for each, since strangers choose the keys.
+#[derive(Debug, Drop)]
+pub struct KeyIds {
+    /// Where the keys are stored.
+    alloc: Global,
+    /// What the keys are hashed by.
+    hasher: RandomState,
+    /// The keys that were numbered side by side: the first ones, or none.
+    shards: Shards,
+    /// The keys after them, by their numbers from there on.
+    table: KeyTable,
+}
+
+impl Model for KeyIds {
+    ghost use Rattle.std.specs.Prelude.{List, ℕ, length, ◌≤◌, ◌+◌, ◌++◌};
+    ghost use Rattle.lane_words.specs.declared.limits.TheConstants.{MOST_RECORDS};
+
+    ghost Value = { List (List ℕ) };
+
+    ghost view = { λ k. k.shards ++ k.table };
+
+    ghost invariant = { λ k. length k.shards + length k.table ≤ MOST_RECORDS };
+}
+
+impl KeyIds {
+    /// No keys. It is refused where the random source fails.
+    pub fn new(rt: &impl RandomSource, alloc: Global) -> Result<KeyIds, Memory>
+        ensures { IfOk result (λ keys. keys ≡ []) }
+    {
+        let Ok(hasher) = RandomState::new(rt) else {
+            return Err(Memory);
+        };
+        Ok(KeyIds {
+            alloc,
+            hasher,
+            shards: Shards::none(alloc, hasher),
+            table: KeyTable::new(alloc, hasher),
+        })
+    }
+
+    /// The same keys by the same numbers, with a hasher of their own. It is refused for want of
+    /// memory, or where the random source fails.
+    pub fn copy(&self, rt: &impl RandomSource) -> Result<KeyIds, Memory>
+        requires { IsWithoutRepeats self.now }
+        ensures { IfOk result (λ copy. copy ≡ self.now) }
+    {
+        let mut copy = KeyIds::new(rt, self.alloc)?;
+        copy.table.reserve(self.count() as usize)?;
+        for number in 0..self.count() {
+            copy.add(self.key(number))?;
+        }
+        Ok(copy)
+    }
+
+    /// These keys without repeats, in the order of their first appearance, and the key number of
+    /// each of them as they stand there. Refused for want of memory.
+    pub fn number_all<R: Threads + Sync>(
+        &self,
+        rt: &R,
+        keys: &[&[u8]],
+    ) -> Result<(Shards, Vec<u32>), Memory>
+        requires { length keys.now ≤ MOST_RECORDS }
+        ensures keys { IfOk result (λ r. r.0 ≡ distinct (lent keys.now)) }
+        ensures numbers { IfOk result (λ r. r.1.items
+            ≡ map (id_of (distinct (lent keys.now))) (lent keys.now)) }
+    {
+        if come_again(self.alloc, self.hasher, keys)? {
+            number_coded(rt, self.alloc, self.hasher, keys)
+        } else {
+            Shards::of(rt, self.alloc, self.hasher, keys)
+        }
+    }
+
+    /// Begins with these keys, where there is none.
+    pub fn begin_with(&mut self, shards: Shards)
+        requires none { self.old ≡ [] }
+        requires few { length shards ≤ MOST_RECORDS }
+        ensures { self.new ≡ shards }
+    {
+        self.shards = shards;
+    }
+
+    /// Whether other keys are the same by the same numbers.
+    pub fn same(&self, other: &KeyIds) -> bool
+        ensures { IsTrue result ↔ (self.now ≡ other.now) }
+    {
+        if self.count() != other.count() {
+            return false;
+        }
+        for number in 0..self.count() {
+            if self.key(number) != other.key(number) {
+                return false;
+            }
+        }
+        true
+    }
+
+    /// How many keys there are.
+    pub fn count(&self) -> u32
+        ensures { result ≡ length self.now }
+    {
+        self.shards.count() + self.table.count()
+    }
+
+    /// The key of a number.
+    pub fn key(&self, number: u32) -> &[u8]
+        requires { number < length self.now }
+        ensures { result.now ≡ key_at self.now number }
+    {
+        let first = self.shards.count();
+        if number < first {
+            self.shards.key(number)
+        } else {
+            self.table.key(number - first)
+        }
+    }
+
+    /// The number of a key, where it is known. It takes memory only for a long key, where none as
+    /// long was sought before.
+    pub fn find(&mut self, key: &[u8]) -> Result<Option<u32>, Memory>
+        ensures known { IfOk result (λ found. IfSome found (IsIdOf self.old key.now)) }
+        ensures fresh { IfOk result (λ found. IfNone found (is_known self.old key.now ≡ false)) }
+        ensures short { length key.now ≤ LONGEST_INLINE → IsOk result }
+        ensures same { self.new ≡ self.old }
+    {
+        if let Some(number) = self.shards.find(key)? {
+            return Ok(Some(number));
+        }
+        let Some(number) = self.table.find(key)? else {
+            return Ok(None);
+        };
+        Ok(Some(self.shards.count() + number))
+    }
+
+    /// Numbers a new key, whose bytes are stored once.
+    pub fn add(&mut self, key: &[u8]) -> Result<u32, Memory>
+        requires room { length self.old < MOST_RECORDS }
+        requires fresh { is_known self.old key.now ≡ false }
+        ensures ok { IfOk result (λ n. (n ≡ id_of self.old key.now)
+            × (self.new ≡ with_key self.old key.now)) }
+        ensures err { OnErr result (self.new ≡ self.old) }
+    {
+        let number = self.table.add(key)?;
+        Ok(self.shards.count() + number)
+    }
+}

@@ -1,0 +1,366 @@
+//! Keys that are numbered shard by shard, side by side.
+
+ghost use Rattle.std.specs.Prelude.{◌≡◌, ◌≤◌, ◌<◌, ◌+◌, ℕ, [], List, IfOk, OnOk, length, map, replicate, slice_index_or, slice_set, vec_items, vec_len};
+ghost use Rattle.key_numbers.specs.Keys.{Key, distinct, id_of, lent};
+ghost use Rattle.key_numbers.specs.Private.Sharded.{AreFrom, AreGlobal, AreLocals, AreNumberedIn, AreOrdered, ArePassed, AreReadable, AreTables, is_first, shard_of, with_first, with_first_at};
+
+use crate::key_table::KeyTable;
+use crate::shards::{KeyAt, SHARDS, shard_of};
+use lane_words::{MOST_RECORDS, Memory};
+use std::alloc::Global;
+use std::hash::RandomState;
+use std::thread;
+use std::thread::Threads;
+
+/// In how many pieces the shards and the key numbers of all records are found.
+const PIECES: usize = 8;
+
+/// Keys that are numbered.
+#[derive(Drop)]
+pub struct NumberedKeys {
+    /// Of each shard its keys.
+    pub tables: Vec<KeyTable>,
+    /// Of each shard the key numbers of its keys.
+    pub ids: Vec<Vec<u32>>,
+    /// Where each key stands.
+    pub order: Vec<KeyAt>,
+    /// The key number of each record, in order.
+    pub numbers: Vec<u32>,
+}
+
+/// Numbers keys in the order of their first appearance.
+pub fn number_keys<R: Threads + Sync>(
+    rt: &R,
+    alloc: Global,
+    hasher: RandomState,
+    keys: &[&[u8]],
+) -> Result<NumberedKeys, Memory>
+    requires { length keys.now ≤ MOST_RECORDS }
+    ensures tables { IfOk result (λ n.
+        AreTables (shard_of hasher) SHARDS (lent keys.now) n.tables.items) }
+    ensures ids_each { IfOk result (λ n. vec_len n.ids ≡ SHARDS) }
+    ensures ids { IfOk result (λ n.
+        AreGlobal (shard_of hasher) (lent keys.now) (map vec_items n.ids.items)) }
+    ensures order { IfOk result (λ n. AreOrdered (shard_of hasher) (lent keys.now)
+        (distinct (lent keys.now)) SHARDS n.order.items) }
+    ensures numbers { IfOk result (λ n. n.numbers.items
+        ≡ map (id_of (distinct (lent keys.now))) (lent keys.now)) }
+{
+    let shards = shards_of(rt, alloc, hasher, keys)?;
+    let found = number_shards(rt, alloc, hasher, keys, &shards)?;
+    let (tables, locals) = tables_of(alloc, hasher, keys, found)?;
+    let (ids, order) = walk(alloc, hasher, keys, &shards, &tables, &locals)?;
+    let numbers = key_numbers(rt, alloc, hasher, keys, &shards, &locals, &ids)?;
+    Ok(NumberedKeys {
+        tables,
+        ids,
+        order,
+        numbers,
+    })
+}
+
+/// The shard of each of some keys, in their order, by pieces side by side.
+fn shards_of<R: Threads + Sync>(
+    rt: &R,
+    alloc: Global,
+    hasher: RandomState,
+    keys: &[&[u8]],
+) -> Result<Vec<u8>, Memory>
+    ensures { IfOk result (λ shards. shards.items ≡ map (shard_of hasher) (lent keys.now)) }
+{
+    let mut shards = vec![in alloc; 0; keys.len()]?;
+    fill_pieces(rt, hasher, keys, &mut shards);
+    Ok(shards)
+}
+
+/// The shards of keys, by pieces side by side.
+fn fill_pieces<R: Threads + Sync>(rt: &R, hasher: RandomState, keys: &[&[u8]], shards: &mut [u8])
+    requires { length shards.old ≡ length keys.now }
+    ensures { shards.new ≡ map (shard_of hasher) (lent keys.now) }
+{
+    thread::for_each_chunk_mut(
+        rt,
+        shards,
+        keys.len() / PIECES + 1,
+        &|from: usize, piece: &mut [u8]|
+            requires { from + length piece.now ≤ length keys.now }
+            ensures { AreFrom (shard_of hasher) (lent keys.entry.now) from
+                (length piece.entry.now) piece.exit.now }
+        { fill_piece(from, hasher, keys, piece) },
+    );
+}
+
+/// The shards of the keys from this index on, as many as these are.
+fn fill_piece(from: usize, hasher: RandomState, keys: &[&[u8]], shards: &mut [u8])
+    requires { from + length shards.old ≤ length keys.now }
+    ensures { AreFrom (shard_of hasher) (lent keys.now) from (length shards.old) shards.new }
+{
+    for k in 0..shards.len() {
+        shards[k] = shard_of(hasher, keys[from + k]);
+    }
+}
+
+/// A shard, numbered.
+#[derive(Drop)]
+pub struct NumberedShard {
+    /// Its keys, by their numbers in the shard.
+    table: KeyTable,
+    /// Of each of its records, in order, the number of its key in the shard.
+    locals: Vec<u32>,
+}
+
+/// Numbers the records of one shard, where `shards` has the shard of each record.
+fn number_shard(
+    alloc: Global,
+    hasher: RandomState,
+    keys: &[&[u8]],
+    shards: &[u8],
+    shard: u8,
+) -> Result<NumberedShard, Memory>
+    requires few { length keys.now ≤ MOST_RECORDS }
+    requires as_many { length shards.now ≡ length keys.now }
+    requires shards { shards.now ≡ map (shard_of hasher) (lent keys.now) }
+    ensures { IfOk result (λ n.
+        AreNumberedIn (shard_of hasher) shard (lent keys.now) n.table n.locals.items) }
+{
+    let mut table = KeyTable::new(alloc, hasher);
+    let mut locals = Vec::new(alloc);
+    for i in 0..keys.len() {
+        if shards[i] == shard {
+            locals.push(table.number(keys[i])?)?;
+        }
+    }
+    Ok(NumberedShard { table, locals })
+}
+
+/// Numbers the records of each shard, each in a thread of its own.
+fn number_shards<R: Threads + Sync>(
+    rt: &R,
+    alloc: Global,
+    hasher: RandomState,
+    keys: &[&[u8]],
+    shards: &[u8],
+) -> Result<Vec<Result<NumberedShard, Memory>>, Memory>
+    requires few { length keys.now ≤ MOST_RECORDS }
+    requires as_many { length shards.now ≡ length keys.now }
+    requires shards { shards.now ≡ map (shard_of hasher) (lent keys.now) }
+    ensures len { IfOk result (λ found. vec_len found ≡ SHARDS) }
+    ensures found { IfOk result (λ found. (s : ℕ) (d : _) → s < SHARDS
+        → IfOk (slice_index_or found.items s d)
+        (λ n. AreNumberedIn (shard_of hasher) s (lent keys.now) n.table n.locals.items)) }
+{
+    let numbered = thread::map_indices(
+        rt,
+        alloc,
+        SHARDS as usize,
+        &|s| number_shard(alloc, hasher, keys, shards, s as u8),
+    )?;
+    Ok(numbered)
+}
+
+/// The keys of each shard, and the numbers in it of its records.
+fn tables_of(
+    alloc: Global,
+    hasher: RandomState,
+    keys: &[&[u8]],
+    found: Vec<Result<NumberedShard, Memory>>,
+) -> Result<(Vec<KeyTable>, Vec<Vec<u32>>), Memory>
+    requires found { (s : ℕ) (d : _) → s < vec_len found → IfOk (slice_index_or found.items s d)
+        (λ n. AreNumberedIn (shard_of hasher) s (lent keys.now) n.table n.locals.items) }
+    ensures tables { IfOk result (λ r.
+        AreTables (shard_of hasher) (vec_len found) (lent keys.now) r.0.items) }
+    ensures locals { IfOk result (λ r.
+        AreLocals (shard_of hasher) (vec_len found) (lent keys.now) (map vec_items r.1.items)) }
+{
+    let mut tables = Vec::with_capacity(alloc, found.len())?;
+    let mut locals = Vec::with_capacity(alloc, found.len())?;
+    for shard in found {
+        let shard = shard?;
+        tables.push(shard.table)?;
+        locals.push(shard.locals)?;
+    }
+    Ok((tables, locals))
+}
+
+/// Takes one more record of a shard: where it is the first of its key, the key gets the next number.
+fn number_record(
+    ids: &mut Vec<Vec<u32>>,
+    order: &mut Vec<KeyAt>,
+    shard: u8,
+    local: u32,
+) -> Result<(), Memory>
+    requires shard { shard < vec_len ids.old }
+    requires room { vec_len order.old < MOST_RECORDS }
+    ensures ids { let old = slice_index_or (map vec_items ids.old.items) shard [] in
+        OnOk result (map vec_items ids.new.items ≡ slice_set (map vec_items ids.old.items) shard
+        (with_first old local (vec_len order.old))) }
+    ensures order { let old = slice_index_or (map vec_items ids.old.items) shard [] in
+        OnOk result (order.new.items ≡ with_first_at order.old.items old shard local) }
+{
+    let next = order.len() as u32;
+    let of_shard = &mut ids[shard as usize];
+    if push_first(of_shard, local, next)? {
+        order.push(KeyAt {
+            shard,
+            number: local,
+        })?;
+    }
+    Ok(())
+}
+
+/// Takes one more record of this shard, and answers whether it is the first of its key.
+fn push_first(ids: &mut Vec<u32>, local: u32, next: u32) -> Result<bool, Memory>
+    ensures first { IfOk result (λ first. first ≡ is_first ids.old.items local) }
+    ensures ids { OnOk result (ids.new.items ≡ with_first ids.old.items local next) }
+{
+    let first = local as usize == ids.len();
+    if first {
+        ids.push(next)?;
+    }
+    Ok(first)
+}
+
+/// The key numbers of each shard, and where each key stands.
+fn walk(
+    alloc: Global,
+    hasher: RandomState,
+    keys: &[&[u8]],
+    shards: &[u8],
+    tables: &[KeyTable],
+    locals: &[Vec<u32>],
+) -> Result<(Vec<Vec<u32>>, Vec<KeyAt>), Memory>
+    requires few { length keys.now ≤ MOST_RECORDS }
+    requires as_many { length shards.now ≡ length keys.now }
+    requires shards { shards.now ≡ map (shard_of hasher) (lent keys.now) }
+    requires tables { length tables.now ≡ SHARDS }
+    requires locals { AreLocals (shard_of hasher) SHARDS (lent keys.now) (map vec_items locals.now) }
+    ensures len { IfOk result (λ w. vec_len w.0 ≡ SHARDS) }
+    ensures ids { IfOk result (λ w.
+        AreGlobal (shard_of hasher) (lent keys.now) (map vec_items w.0.items)) }
+    ensures order { IfOk result (λ w. AreOrdered (shard_of hasher) (lent keys.now)
+        (distinct (lent keys.now)) SHARDS w.1.items) }
+{
+    let mut ids = no_ids(alloc, tables)?;
+    let mut order = Vec::with_capacity(alloc, keys_of(tables))?;
+    let mut met = [0; SHARDS as usize];
+    for i in 0..keys.len() {
+        let shard = shards[i] as usize;
+        let local = locals[shard][met[shard]];
+        met[shard] += 1;
+        number_record(&mut ids, &mut order, shards[i], local)?;
+    }
+    Ok((ids, order))
+}
+
+/// No key numbers, of each shard, with room for those of its keys.
+fn no_ids(alloc: Global, tables: &[KeyTable]) -> Result<Vec<Vec<u32>>, Memory>
+    requires { length tables.now ≡ SHARDS }
+    ensures { IfOk result (λ ids. map vec_items ids.items ≡ replicate SHARDS []) }
+{
+    let mut ids = Vec::with_capacity(alloc, SHARDS as usize)?;
+    for s in 0..SHARDS as usize {
+        ids.push(Vec::with_capacity(alloc, tables[s].count() as usize)?)?;
+    }
+    Ok(ids)
+}
+
+/// How many keys the tables have together: it only says how much memory is taken.
+fn keys_of(tables: &[KeyTable]) -> usize {
+    let mut keys: usize = 0;
+    for s in 0..tables.len() {
+        keys = keys.saturating_add(tables[s].count() as usize);
+    }
+    keys
+}
+
+/// The key number of each record.
+fn key_numbers<R: Threads + Sync>(
+    rt: &R,
+    alloc: Global,
+    hasher: RandomState,
+    keys: &[&[u8]],
+    shards: &[u8],
+    locals: &[Vec<u32>],
+    ids: &[Vec<u32>],
+) -> Result<Vec<u32>, Memory>
+    requires { AreReadable (shard_of hasher) (lent keys.now) shards.now
+        (map vec_items locals.now) (map vec_items ids.now) }
+    ensures { IfOk result (λ numbers. numbers.items
+        ≡ map (id_of (distinct (lent keys.now))) (lent keys.now)) }
+{
+    let mut numbers = vec![in alloc; 0; keys.len()]?;
+    read_pieces(rt, hasher, keys, shards, locals, ids, &mut numbers);
+    Ok(numbers)
+}
+
+/// The key numbers of the records, by pieces side by side.
+fn read_pieces<R: Threads + Sync>(
+    rt: &R,
+    hasher: RandomState,
+    keys: &[&[u8]],
+    shards: &[u8],
+    locals: &[Vec<u32>],
+    ids: &[Vec<u32>],
+    numbers: &mut [u32],
+)
+    requires length { length numbers.old ≡ length keys.now }
+    requires readable { AreReadable (shard_of hasher) (lent keys.now) shards.now
+        (map vec_items locals.now) (map vec_items ids.now) }
+    ensures { numbers.new ≡ map (id_of (distinct (lent keys.now))) (lent keys.now) }
+{
+    thread::for_each_chunk_mut(
+        rt,
+        numbers,
+        keys.len() / PIECES + 1,
+        &|from: usize, piece: &mut [u32]|
+            requires { (from + length piece.now ≤ length keys.now)
+                × AreReadable (shard_of hasher) (lent keys.now) shards.now
+                (map vec_items locals.now) (map vec_items ids.now) }
+            ensures { AreFrom (id_of (distinct (lent keys.entry.now))) (lent keys.entry.now) from
+                (length piece.entry.now) piece.exit.now }
+        { read_numbers(from, hasher, keys, shards, locals, ids, piece) },
+    );
+}
+
+/// The key numbers of the records from this index on, as many as these are.
+fn read_numbers(
+    from: usize,
+    hasher: RandomState,
+    keys: &[&[u8]],
+    shards: &[u8],
+    locals: &[Vec<u32>],
+    ids: &[Vec<u32>],
+    numbers: &mut [u32],
+)
+    requires range { from + length numbers.old ≤ length keys.now }
+    requires readable { AreReadable (shard_of hasher) (lent keys.now) shards.now
+        (map vec_items locals.now) (map vec_items ids.now) }
+    ensures { AreFrom (id_of (distinct (lent keys.now))) (lent keys.now) from
+        (length numbers.old) numbers.new }
+{
+    let mut met = met_before(from, hasher, keys, shards);
+    for k in 0..numbers.len() {
+        let shard = shards[from + k] as usize;
+        let local = locals[shard][met[shard]];
+        met[shard] += 1;
+        numbers[k] = ids[shard][local as usize];
+    }
+}
+
+/// How many records each shard has before this index.
+fn met_before(
+    from: usize,
+    hasher: RandomState,
+    keys: &[&[u8]],
+    shards: &[u8],
+) -> [usize; SHARDS as usize]
+    requires range { from ≤ length keys.now }
+    requires shards { shards.now ≡ map (shard_of hasher) (lent keys.now) }
+    ensures { ArePassed (shard_of hasher) SHARDS (lent keys.now) from result }
+{
+    let mut met = [0; SHARDS as usize];
+    for i in 0..from {
+        met[shards[i] as usize] += 1;
+    }
+    met
+}

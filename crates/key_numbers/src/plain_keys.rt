@@ -1,0 +1,85 @@
+//! The keys of all logs in the plainest form, a vector a key: what `keys` is compared with.
+
+ghost use Rattle.std.specs.Prelude.{◌≡◌, ◌<◌, ◌≤◌, [], IfOk, IfSome, IfNone, OnOk, OnErr, MatchOption, length, true, false};
+ghost use Rattle.key_numbers.specs.Keys.{IsIdOf, id_of, is_known, key_at, with_key};
+
+use indexmap::IndexSet;
+use lane_words::{MOST_RECORDS, Memory};
+use std::alloc::Global;
+use std::hash::RandomState;
+use std::marker::Model;
+use std::random::RandomSource;
+
+/// Keys by their numbers.
+#[derive(Drop)]
+pub struct PlainKeys {
+    /// Where the keys are stored.
+    alloc: Global,
+    /// The keys, each at the index of its number.
+    set: IndexSet<Vec<u8>, RandomState>,
+}
+
+impl Model for PlainKeys {
+    ghost use Rattle.std.specs.Prelude.{List, ℕ, map, vec_items, length, ◌≤◌};
+    ghost use Rattle.lane_words.specs.declared.limits.TheConstants.{MOST_RECORDS};
+
+    ghost Value = { List (List ℕ) };
+
+    ghost view = { λ k. map vec_items k.set.keys };
+
+    ghost invariant = { λ k. length k.set.keys ≤ MOST_RECORDS };
+}
+
+impl PlainKeys {
+    /// No keys. It is refused where the random source fails.
+    pub fn new(rt: &impl RandomSource, alloc: Global) -> Result<PlainKeys, Memory>
+        ensures { IfOk result (λ keys. keys ≡ []) }
+    {
+        let Ok(hasher) = RandomState::new(rt) else {
+            return Err(Memory);
+        };
+        Ok(PlainKeys {
+            alloc,
+            set: IndexSet::with_hasher(alloc, hasher),
+        })
+    }
+
+    /// How many keys there are.
+    pub fn count(&self) -> u32
+        ensures { result ≡ length self.now }
+    {
+        self.set.len() as u32
+    }
+
+    /// The key of a number.
+    pub fn key(&self, number: u32) -> &[u8]
+        requires { number < length self.now }
+        ensures { result.now ≡ key_at self.now number }
+    {
+        self.set.as_slice()[number as usize].as_slice()
+    }
+
+    /// The number of a key, where it is known. It takes no memory.
+    pub fn find(&self, key: &[u8]) -> Option<u32>
+        ensures known { IfSome result (IsIdOf self.now key.now) }
+        ensures fresh { IfNone result (is_known self.now key.now ≡ false) }
+    {
+        let Some(number) = self.set.get_index_of(key) else {
+            return None;
+        };
+        Some(number as u32)
+    }
+
+    /// Numbers a new key, whose bytes are stored once.
+    pub fn add(&mut self, key: &[u8]) -> Result<u32, Memory>
+        requires room { length self.old < MOST_RECORDS }
+        requires fresh { is_known self.old key.now ≡ false }
+        ensures ok { IfOk result (λ n. (n ≡ id_of self.old key.now)
+            × (self.new ≡ with_key self.old key.now)) }
+        ensures err { OnErr result (self.new ≡ self.old) }
+    {
+        let copy = Vec::from_slice(self.alloc, key)?;
+        let (number, _) = self.set.insert_full(copy)?;
+        Ok(number as u32)
+    }
+}

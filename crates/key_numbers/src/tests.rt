@@ -1,0 +1,66 @@
+//! Keys beside their plain form.
+
+use crate::KeyIds;
+use crate::plain_keys::PlainKeys;
+use lane_words::Memory;
+use std::alloc::Global;
+use std::test::Fail;
+
+/// Whether a key is known to both forms under one number, or is new to both and gets one number.
+fn is_numbered_alike(
+    keys: &mut KeyIds,
+    plain: &mut PlainKeys,
+    key: &[u8],
+) -> Result<bool, Memory> {
+    match (keys.find(key)?, plain.find(key)) {
+        (None, None) if keys.count() < 1000 && plain.count() < 1000 => {
+            Ok(keys.add(key)? == plain.add(key)?)
+        }
+        (found, known) => Ok(found == known),
+    }
+}
+
+/// The key of a turn: each length up to 40 comes twice, round the longest that is stored inline, and
+/// then once more with another byte at the end.
+fn key_of(alloc: Global, turn: usize) -> Result<Vec<u8>, Memory> {
+    let bytes = [0x80_u8; 41];
+    let mut key = Vec::from_slice(alloc, &bytes[..turn % 41])?;
+    if turn >= 82 {
+        key.push(b'x')?;
+    }
+    Ok(key)
+}
+
+/// The first of those turns in which a key is not numbered alike.
+fn first_other(
+    alloc: Global,
+    keys: &mut KeyIds,
+    plain: &mut PlainKeys,
+) -> Result<Option<usize>, Memory> {
+    for turn in 0..123 {
+        let key = key_of(alloc, turn)?;
+        if !is_numbered_alike(keys, plain, key.as_slice())? {
+            return Ok(Some(turn));
+        }
+    }
+    Ok(None)
+}
+
+/// Whether both forms have the same keys.
+fn are_keys_alike(keys: &KeyIds, plain: &PlainKeys) -> bool {
+    for number in 0..keys.count().min(plain.count()) {
+        if keys.key(number) != plain.key(number) {
+            return false;
+        }
+    }
+    keys.count() == plain.count()
+}
+
+#[test]
+fn keys_are_numbered_as_by_the_plain_form(rt: HostRuntime) -> Result<(), Fail> {
+    let mut keys = KeyIds::new(&rt, rt.alloc())?;
+    let mut plain = PlainKeys::new(&rt, rt.alloc())?;
+    assert_eq!(rt; first_other(rt.alloc(), &mut keys, &mut plain), Ok(None));
+    assert!(rt; are_keys_alike(&keys, &plain));
+    Ok(())
+}
