@@ -37,7 +37,7 @@ fn plain_report<R: Threads + Sync + RandomSource>(
     // The logs have a copy of each key that the text needs.
     drop(records);
     let counts = counts_in(rt, alloc, &logs)?;
-    let text = count_rows_text(alloc, &logs, counts.counts(), total, total)?;
+    let text = count_rows_text(rt, alloc, &logs, counts.counts(), total, total)?;
     Ok(text)
 }
 

@@ -37,8 +37,7 @@ fn write_counts<L: LogRead>(
     counts: &[u64],
     from: u32,
     to: u32,
-)
-    -> Result<(), Memory>
+) -> Result<(), Memory>
     requires as_many { length (L.contents logs.now).keys ≡ length counts.now }
     requires range { (from ≤ to) × (to ≤ length counts.now) }
     ensures { OnOk result ((text : List ℕ) → HasText writer.old text → HasText writer.new

@@ -1,6 +1,6 @@
 //! Keys appended at once, beside the same keys appended one by one.
 
-ghost use Rattle.std.specs.Prelude.{◌<◌};
+ghost use Rattle.std.specs.Prelude.{◌<◌, ◌≤◌};
 
 use crate::Logs;
 use lane_words::{LONGEST_KEY, Refusal};
@@ -71,7 +71,7 @@ fn appends_at_once_stop_at_a_key_that_is_refused(rt: HostRuntime) -> Result<(), 
     Ok(())
 }
 
-/// A window of some bytes, by its number: of up to 40 bytes, and often one that was there before.
+/// A window of some bytes, by its number: of up to 40 bytes, and often the same as another.
 fn window(bytes: &[u8; 1000], number: usize) -> &[u8]
     requires { number < 10000 }
 {
@@ -79,16 +79,47 @@ fn window(bytes: &[u8; 1000], number: usize) -> &[u8]
     &bytes[start..start + number / 3 % 41]
 }
 
-#[test]
-fn many_keys_at_once(rt: HostRuntime) -> Result<(), Fail> {
+/// So many windows, of which those of a period come again and again.
+fn windows(
+    alloc: Global,
+    bytes: &[u8; 1000],
+    count: usize,
+    period: usize,
+) -> Result<Vec<&[u8]>, Refusal>
+    requires { (0 < period) × (period ≤ 10000) }
+{
+    let mut keys = Vec::with_capacity(alloc, count)?;
+    for number in 0..count {
+        keys.push(window(bytes, number % period))?;
+    }
+    Ok(keys)
+}
+
+/// Whether so many windows are appended at once as one by one.
+fn are_windows_alike<R: RandomSource + Threads + Sync>(
+    rt: &R,
+    alloc: Global,
+    count: usize,
+    period: usize,
+) -> Result<bool, Refusal>
+    requires { (0 < period) × (period ≤ 10000) }
+{
     let mut bytes = [0_u8; 1000];
     for i in 0..bytes.len() {
         bytes[i] = (i * i % 251) as u8;
     }
-    let mut keys: Vec<&[u8]> = Vec::new(rt.alloc());
-    for number in 0..10_000 {
-        keys.push(window(&bytes, number))?;
-    }
-    assert!(rt; are_alike(&rt, rt.alloc(), &keys, Ok(()))?);
+    let keys = windows(alloc, &bytes, count, period)?;
+    are_alike(rt, alloc, &keys, Ok(()))
+}
+
+#[test]
+fn many_keys_at_once(rt: HostRuntime) -> Result<(), Fail> {
+    assert_eq!(rt; are_windows_alike(&rt, rt.alloc(), 10_000, 10_000), Ok(true));
+    Ok(())
+}
+
+#[test]
+fn keys_that_come_again_at_once(rt: HostRuntime) -> Result<(), Fail> {
+    assert_eq!(rt; are_windows_alike(&rt, rt.alloc(), 20_000, 1_000), Ok(true));
     Ok(())
 }

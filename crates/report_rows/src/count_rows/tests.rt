@@ -1,7 +1,11 @@
 //! Rows as RFC 4180 has them.
 
+ghost use Rattle.std.specs.Prelude.{◌≡◌, length};
+
 use super::*;
+use lane_words::Refusal;
 use partition_log::Logs;
+use std::random::RandomSource;
 use std::test::Fail;
 
 #[test]
@@ -11,10 +15,42 @@ fn a_count_is_rows_of_text(rt: HostRuntime) -> Result<(), Fail> {
     logs.append(b"a,\"b")?;
     logs.append(b"")?;
     assert_eq!(rt; logs.keys(), 3);
-    let text = count_rows_text(rt.alloc(), &logs, &[7, 1, 10], 12, 18)?;
+    let text = count_rows_text(&rt, rt.alloc(), &logs, &[7, 1, 10], 12, 18)?;
     assert_eq!(rt;
         text.as_slice(),
         b"count,plain,7\ncount,\"a,\"\"b\",1\ncount,,10\ntotal,12,18\n".as_slice()
     );
+    Ok(())
+}
+
+/// Logs with a record of each number below this one.
+fn numbered(rt: &impl RandomSource, alloc: Global, keys: u32) -> Result<Logs, Refusal> {
+    let mut logs = Logs::new(rt, alloc, 1)?;
+    for key in 0..keys {
+        logs.append(&key.to_le_bytes())?;
+    }
+    Ok(logs)
+}
+
+/// Whether the text of a count is the rows that are made one after the other, and the totals.
+fn is_made_in_turn<R: Threads + Sync>(
+    rt: &R,
+    alloc: Global,
+    logs: &Logs,
+    counts: &[u64],
+) -> Result<bool, Memory>
+    requires { length logs.now.keys ≡ length counts.now }
+{
+    let text = count_rows_text(rt, alloc, logs, counts, 1, 2)?;
+    let rows = rows_in_turn(alloc, logs, counts, 0, logs.keys())?;
+    let plain = joined(rows, &total_text(alloc, 1, 2)?)?;
+    Ok(text == plain)
+}
+
+#[test]
+fn many_rows_are_those_made_in_turn(rt: HostRuntime) -> Result<(), Fail> {
+    let logs = numbered(&rt, rt.alloc(), 150_000)?;
+    let counts = vec![in rt.alloc(); 3_u64; logs.keys() as usize]?;
+    assert_eq!(rt; is_made_in_turn(&rt, rt.alloc(), &logs, &counts), Ok(true));
     Ok(())
 }

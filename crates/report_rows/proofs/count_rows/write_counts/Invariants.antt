@@ -1,9 +1,10 @@
-use Rattle.std.proofs.Common.{◌≡◌, ◌++◌, ℕ, List, drop}
-use Rattle.report_rows.specs.CountRows.{count_rows}
+use Rattle.std.proofs.Common.{◌≤◌, ◌++◌, ℕ, List}
+use Rattle.report_rows.specs.CountRows.{rows_between}
 use Rattle.report_rows.specs.Rows.{HasText}
 use Rattle.report_rows.proofs.count_rows.write_counts.Given as goal
 
 abbrev pub invariant-loop-id : goal.invariant-loop-id
-invariant-loop-id g l = (text : List ℕ) → HasText l.fn.writer text
-    → (now : List ℕ) × HasText l.writer now
-    × (now ++ count_rows (drop l.id (g.L.LogRead.contents l.logs).keys) (drop l.id l.counts) ≡ text ++ count_rows (g.L.LogRead.contents l.logs).keys l.counts)
+invariant-loop-id g l = record {
+  within : l.from ≤ l.id;
+  rows : (text : List ℕ) → HasText l.fn.writer text → HasText l.writer (text ++ rows_between (g.L.LogRead.contents l.logs).keys l.counts l.from l.id);
+}

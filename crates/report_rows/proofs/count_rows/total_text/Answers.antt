@@ -1,0 +1,5 @@
+use Rattle.std.proofs.Common.{[]}
+use Rattle.report_rows.proofs.count_rows.total_text.Goals as goal
+
+pub returns : goal.returns
+returns c = c.text_of.ensures _ (c.in_ok-write_total.ensures [] c.new_writer-writer.ensures)
