@@ -201,9 +201,7 @@ fn run_command<'a>(alloc: Global) -> Result<Command<'a>, AllocError>
 fn keycount_command<'a>(alloc: Global) -> Result<Command<'a>, AllocError>
     ensures { IfOk result (λ c. app_of c ≡ keycount_app) }
 {
-    let count = count_command(alloc)?;
-    let replay = replay_command(alloc)?;
-    let run = run_command(alloc)?;
+    // Each subcommand is made where it is added: one that waits is let go at every `?`.
     Command::new(alloc, "keycount")
         .bin_name("keycount")?
         .about("Counts the keys of a CSV file")
@@ -211,9 +209,9 @@ fn keycount_command<'a>(alloc: Global) -> Result<Command<'a>, AllocError>
         .no_binary_name(true)
         .subcommand_required(true)
         .version(VERSION)
-        .subcommand(count)?
-        .subcommand(replay)?
-        .subcommand(run)
+        .subcommand(count_command(alloc)?)?
+        .subcommand(replay_command(alloc)?)?
+        .subcommand(run_command(alloc)?)
 }
 
 /// The text that an argument gives, which clap has asked for.

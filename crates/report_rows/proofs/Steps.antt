@@ -60,4 +60,6 @@ rows_none ks ns a =
 
 -- all rows
 pub rows_all : (ks : List (List ℕ)) (ns : List ℕ) (n : ℕ) → length ks ≡ n → length ns ≡ n → rows_between ks ns 0 n ≡ count_rows ks ns
-rows_all ks ns n keys counts = ap₂ count_rows (take_all n ks (omega (arith, keys))) (take_all n ns (omega (arith, counts)))
+rows_all ks ns n keys counts =
+    let whole : n - 0 ≡ n = omega arith in
+    ap₂ count_rows (ap (λ m. take m ks) whole ∙ take_all n ks (omega (arith, keys))) (ap (λ m. take m ns) whole ∙ take_all n ns (omega (arith, counts)))

@@ -92,14 +92,14 @@ fn rows_apart<R: Threads + Sync, L: LogRead + Sync>(
         || -> Result<Vec<u8>, Memory>
             requires { IsSync R.row × IsSync L.row
                 × (length (L.contents logs.now).keys ≡ length counts.now)
-                × (from ≤ middle) × (middle < to) × (to ≤ length counts.now) × (1 ≤ most) }
+                × (from ≤ middle) × (middle ≤ length counts.now) × (1 ≤ most) }
             ensures { IfOk result (λ text. text.items
                 ≡ rows_between (L.contents logs.entry.now).keys counts.entry.now from middle) }
         { rows_apart(rt, alloc, logs, counts, from, middle, most) },
         || -> Result<Vec<u8>, Memory>
             requires { IsSync R.row × IsSync L.row
                 × (length (L.contents logs.now).keys ≡ length counts.now)
-                × (from < middle) × (middle ≤ to) × (to ≤ length counts.now) × (1 ≤ most) }
+                × (middle ≤ to) × (to ≤ length counts.now) × (1 ≤ most) }
             ensures { IfOk result (λ text. text.items
                 ≡ rows_between (L.contents logs.entry.now).keys counts.entry.now middle to) }
         { rows_apart(rt, alloc, logs, counts, middle, to, most) },

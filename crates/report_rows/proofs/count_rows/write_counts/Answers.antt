@@ -1,7 +1,6 @@
-use Rattle.std.proofs.Common.{◌≡◌, ◌+◌, ◌∙◌, ◌++◌, [], ℕ, List, arith, ap, get_or, subst, sym, append_assoc}
+use Rattle.std.proofs.Common.{◌≡◌, ◌+◌, ◌∙◌, ◌++◌, [], arith, ap, get_or, sym, append_assoc}
 use Rattle.std.proofs.lemmas.List.{append-nil}
 use Rattle.report_rows.specs.CountRows.{count_row, rows_between}
-use Rattle.report_rows.specs.Rows.{HasText}
 use Rattle.report_rows.proofs.Steps.{rows_more, rows_none}
 use Rattle.report_rows.proofs.count_rows.write_counts.Goals as goal
 

@@ -1,0 +1,19 @@
+use Rattle.std.proofs.Common.{◌≡◌, ◌+◌, ◌-◌, ◌/◌, ◌∙◌, ◌++◌, arith, ap, ap₂, sym}
+use Rattle.std.proofs.lemmas.Result.{IfOk-weaker}
+use Rattle.report_rows.specs.CountRows.{rows_between}
+use Rattle.report_rows.proofs.Steps.{rows_parted}
+use Rattle.report_rows.proofs.count_rows.+fn-rows_apart-join+arg2+fn-rows_apart-join+arg3+rows_apart.Goals as goal
+
+pub returns : goal.returns
+returns g t c =
+    let keys = (g.L.LogRead.contents c.args.logs.now).keys in
+    let counts = c.args.counts.now in
+    let from = c.args.from in
+    let to = c.args.to in
+    let middle = from + (to - from) / 2 in
+    let front = c.in_ok-front.field-0.items in
+    let back = c.in_ok-back.field-0.items in
+    IfOk-weaker c.joined.result (λ text. text.items ≡ front ++ c.deref.result.now) (λ text. text.items ≡ rows_between keys counts from to)
+    (λ text is.
+    is ∙ ap (λ b. front ++ b) c.deref.ensures.value ∙ ap₂ (λ a b. a ++ b) (rw c.in_ok-front.was at c.join-front.ensures.first) (rw c.in_ok-back.was at c.join-front.ensures.second)
+    ∙ sym (rows_parted keys counts from middle to (omega arith) (omega (arith, c.requires.range)) c.requires.range.1 c.requires.as_many)) c.joined.ensures
