@@ -8,8 +8,8 @@ use Rattle.count_report.specs.Records.{records_in}
 use Rattle.count_report.proofs.Counted.{counts-are}
 use Rattle.count_report.proofs.count.plain_report.Goals as goal
 
-pub count_rows_text-requires : goal.count_rows_text-requires
-count_rows_text-requires g c = sym c.in_ok-counts.ensures.one_each ∙ ap length (sym c.counts-2.ensures)
+pub count_rows_text-requires-after_bounds : goal.count_rows_text-requires-after_bounds
+count_rows_text-requires-after_bounds g c κs within = sym c.in_ok-counts.ensures.one_each ∙ ap length (sym c.counts-2.ensures)
 
 pub returns-clause-text : goal.returns-clause-text
 returns-clause-text g c =
