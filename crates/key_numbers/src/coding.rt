@@ -1,9 +1,9 @@
 //! Keys that come again and again: each part of the records is numbered by itself, side by side, and
 //! then only the keys of the parts are numbered together.
 
-ghost use Rattle.std.specs.Prelude.{◌≡◌, ◌≤◌, ◌<◌, ◌++◌, ℕ, Ok, All, IfOk, OnOk, length, map, slice_index_or, vec_len};
-ghost use Rattle.key_numbers.specs.Keys.{distinct, id_of, lent, with_key};
-ghost use Rattle.key_numbers.specs.Private.Coded.{AreCoded, IsCoded, joined, keys_in, lent_parts};
+ghost use Rattle.std.specs.Prelude.{◌≡◌, ◌≤◌, ◌<◌, ◌++◌, ◌∷◌, [], ℕ, Ok, All, IfNone, IfOk, IfSome, OnOk, false, length, map, slice_index_or, vec_len};
+ghost use Rattle.key_numbers.specs.Keys.{IsIdOf, distinct, id_of, is_known, lent};
+ghost use Rattle.key_numbers.specs.Private.Coded.{AreCoded, BeginsWith, IsCoded, TakesCode, joined, keys_in, lent_parts};
 
 use crate::lent_key::LentKey;
 use crate::shards::Shards;
@@ -20,26 +20,65 @@ const PARTS: usize = 8;
 /// Of how many records the first ones tell whether keys come again.
 const SAMPLE: usize = 16_384;
 
+/// How many keys of a part are known at most: so many that looking one up meets a near cache.
+const MOST_KNOWN: usize = 8192;
+
 /// A part of the records, numbered by itself.
 #[derive(Drop)]
 pub struct CodedPart<'a> {
-    /// Its keys without repeats, in the order of their first appearance in the part.
+    /// Its keys, in the order of their first appearance in the part. One that was met after as many
+    /// as are known stands here once for each of its records.
     pub keys: Vec<&'a [u8]>,
-    /// Of each of its records the number of its key among them.
+    /// Of each of its records where its key stands among them.
     pub codes: Vec<u32>,
 }
 
-/// The number of a key among these, to which it is added where it is new.
-fn number_in<'a>(
-    keys: &mut IndexSet<LentKey<'a>, RandomState>,
+/// The number of a key among these, where it is known.
+fn number_among(known: &IndexSet<LentKey<'_>, RandomState>, key: &LentKey<'_>) -> Option<u32>
+    requires { length known.now.keys ≤ MOST_RECORDS }
+    ensures known { IfSome result (IsIdOf known.now.keys key.now) }
+    ensures fresh { IfNone result (is_known known.now.keys key.now ≡ false) }
+{
+    let Some(number) = known.get_index_of(key) else {
+        return None;
+    };
+    Some(number as u32)
+}
+
+/// Adds a key that is new.
+fn add_known<'a>(
+    known: &mut IndexSet<LentKey<'a>, RandomState>,
+    key: &'a [u8],
+) -> Result<(), Memory>
+    requires { is_known known.old.keys key.now ≡ false }
+    ensures { OnOk result (known.new.keys ≡ known.old.keys ++ key.now ∷ []) }
+{
+    known.insert_full(LentKey::of(key))?;
+    Ok(())
+}
+
+/// The code of a record of this key: where it stands among the part's keys, to which it is added
+/// where it is not known. The first keys of a part are known.
+fn code_of<'a>(
+    known: &mut IndexSet<LentKey<'a>, RandomState>,
+    keys: &mut Vec<&'a [u8]>,
     key: &'a [u8],
 ) -> Result<u32, Memory>
-    requires { length keys.old.keys < MOST_RECORDS }
-    ensures { IfOk result (λ n. (n ≡ id_of keys.old.keys key.now)
-        × (keys.new.keys ≡ with_key keys.old.keys key.now)) }
+    requires first { BeginsWith (lent keys.old.items) known.old.keys }
+    requires room { length keys.old.items < MOST_RECORDS }
+    ensures code { IfOk result
+        (TakesCode (lent keys.old.items) (lent keys.new.items) key.now) }
+    ensures first { OnOk result (BeginsWith (lent keys.new.items) known.new.keys) }
 {
-    let (number, _) = keys.insert_full(LentKey::of(key))?;
-    Ok(number as u32)
+    if let Some(code) = number_among(known, &LentKey::of(key)) {
+        return Ok(code);
+    }
+    if known.len() == keys.len() && known.len() < MOST_KNOWN {
+        add_known(known, key)?;
+    }
+    let code = keys.len() as u32;
+    keys.push(key)?;
+    Ok(code)
 }
 
 /// The records of a part, numbered by themselves.
@@ -55,11 +94,7 @@ fn code_part<'a>(
     let mut keys = Vec::new(alloc);
     let mut codes = Vec::with_capacity(alloc, part.len())?;
     for i in 0..part.len() {
-        let code = number_in(&mut known, part[i])?;
-        if code as usize == keys.len() {
-            keys.push(part[i])?;
-        }
-        codes.push(code)?;
+        codes.push(code_of(&mut known, &mut keys, part[i])?)?;
     }
     Ok(CodedPart { keys, codes })
 }
@@ -147,9 +182,10 @@ fn numbers_of(
     coded: &[CodedPart<'_>],
     firsts: &[u32],
 ) -> Result<Vec<u32>, Memory>
+    requires as_many { length coded.now ≡ length parts.now }
     requires coded { AreCoded (lent_parts parts.now) coded.now }
     requires firsts { firsts.now ≡ map (id_of (distinct (joined (lent_parts parts.now))))
-        (joined (map distinct (lent_parts parts.now))) }
+        (joined (map keys_in coded.now)) }
     ensures { IfOk result (λ numbers. numbers.items
         ≡ map (id_of (distinct (joined (lent_parts parts.now)))) (joined (lent_parts parts.now))) }
 {

@@ -1,7 +1,8 @@
--- Keys that are numbered part by part first: in each part its own keys, by numbers of their own.
-use Rattle.std.specs.Prelude.{◌≡◌, ℕ, List, flat_map, map}
+-- Keys that are numbered part by part first: each record of a part by its key's index among the
+-- part's keys.
+use Rattle.std.specs.Prelude.{◌≡◌, ◌<◌, ◌≤◌, ◌⊎◌, ℕ, List, [], ◌∷◌, ◌++◌, All, flat_map, length, map, take}
 use Rattle.std.specs.Borrow.{Bor}
-use Rattle.key_numbers.specs.Keys.{Key, distinct, id_of, lent}
+use Rattle.key_numbers.specs.Keys.{Key, distinct, key_at, lent}
 use Rattle.key_numbers.specs.declared.coding.CodedPart.{CodedPart}
 
 -- the keys of parts, one part after another
@@ -12,10 +13,6 @@ joined parts = flat_map (λ part. part) parts
 abbrev pub lent_parts : List (Bor (List (Bor Key))) → List (List Key)
 lent_parts parts = map (λ part. lent part.now) parts
 
--- the number of each record's key in this part alone
-abbrev pub codes_of : List Key → List ℕ
-codes_of part = map (id_of (distinct part)) part
-
 -- the keys of a coded part
 abbrev pub keys_in : CodedPart → List Key
 keys_in coded = lent coded.keys.items
@@ -24,10 +21,30 @@ keys_in coded = lent coded.keys.items
 abbrev pub codes_in : CodedPart → List ℕ
 codes_in coded = coded.codes.items
 
--- a part has its own keys without repeats, and the code of each of its records
-abbrev pub IsCoded : List Key → CodedPart → Type 0
-IsCoded part coded = (keys_in coded ≡ distinct part) × (codes_in coded ≡ codes_of part)
+-- these keys are the first ones
+abbrev pub BeginsWith : List Key → List Key → Type 0
+BeginsWith keys first = take (length first) keys ≡ first
 
--- so has each of these parts
+-- the keys after a record of this key and code: as before, or with this key at the end
+pub record TakesCode (old new : List Key) (key : Key) (code : ℕ) : Type 0 where
+  pub grown : (new ≡ old) ⊎ (new ≡ old ++ key ∷ [])
+  pub within : code < length new
+  pub there : key_at new code ≡ key
+
+-- these are keys of a part, and the codes of its records among them
+pub record AreCodes (part keys : List Key) (codes : List ℕ) : Type 0 where
+  pub few : length keys ≤ length part
+  pub same_keys : distinct keys ≡ distinct part
+  pub within : All (λ code. code < length keys) codes
+  pub same_records : map (key_at keys) codes ≡ part
+
+-- a part is coded
+abbrev pub IsCoded : List Key → CodedPart → Type 0
+IsCoded part coded = AreCodes part (keys_in coded) (codes_in coded)
+
+-- so is each of these parts
 abbrev pub AreCoded : List (List Key) → List CodedPart → Type 0
-AreCoded parts coded = (map keys_in coded ≡ map distinct parts) × (map codes_in coded ≡ map codes_of parts)
+AreCoded [] [] = Unit {0}
+AreCoded [] (one ∷ coded) = ⊥
+AreCoded (part ∷ parts) [] = ⊥
+AreCoded (part ∷ parts) (one ∷ coded) = IsCoded part one × AreCoded parts coded
