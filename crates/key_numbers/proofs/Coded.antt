@@ -1,5 +1,5 @@
 -- Parts that are coded, and all keys from those of the parts.
-use Rattle.std.proofs.Common.{◌≡◌, ◌≢◌, ◌∙◌, ◌+◌, ◌-◌, ◌<◌, ◌≤◌, ℕ, zero, suc, Bool, true, false, List, [], ◌∷◌, ◌++◌, Bor, Result, Ok, length, map, take, drop, get_or, sym, ap, ap₂, refl, subst, arith, inl, inr, length-append}
+use Rattle.std.proofs.Common.{◌≡◌, ◌∙◌, ◌+◌, ◌-◌, ◌<◌, ◌≤◌, ℕ, zero, suc, Bool, true, false, List, [], ◌∷◌, ◌++◌, Bor, Result, Ok, length, map, take, drop, get_or, sym, ap, ap₂, refl, subst, arith, inl, inr, length-append}
 use Rattle.std.specs.Prelude.{if◌then◌else◌, All, IfOk, slice_range}
 use Rattle.std.specs.List.{fold}
 use Rattle.std.specs.Str.{bytes_eq}
@@ -11,8 +11,8 @@ use Rattle.std.proofs.lemmas.List.Elements.{All-head, All-tail}
 use Rattle.std.proofs.lemmas.List.Sums.{fold-append}
 use Rattle.std.proofs.lemmas.Slice.Eq.{bytes_eq-Decides}
 use Rattle.lane_words.specs.declared.Memory.{Memory}
-use Rattle.key_numbers.specs.Keys.{IsIdOf, Key, distinct, id_of, is_known, key_at, lent, with_key}
-use Rattle.key_numbers.specs.Private.Coded.{AreCoded, AreCodes, BeginsWith, IsCoded, TakesCode, codes_in, joined, keys_in, lent_parts}
+use Rattle.key_numbers.specs.Keys.{IsIdOf, Key, distinct, is_known, key_at, lent, with_key}
+use Rattle.key_numbers.specs.Private.Coded.{AreCoded, AreCodes, BeginsWith, IsCoded, TakesCode, joined, keys_in, lent_parts}
 use Rattle.key_numbers.specs.declared.coding.CodedPart.{CodedPart}
 use Rattle.key_numbers.proofs.Firsts.{own, stays}
 use Rattle.key_numbers.proofs.Growth.{among, known}

@@ -1,4 +1,4 @@
-use Rattle.std.proofs.Common.{◌≡◌, ◌≤◌, ◌∙◌, List, arith, ap, length, map, sym}
+use Rattle.std.proofs.Common.{◌≡◌, ◌∙◌, List, arith, ap, length, map, sym}
 use Rattle.key_numbers.specs.Keys.{Key, distinct, id_of}
 use Rattle.key_numbers.specs.Private.Coded.{joined, keys_in, lent_parts}
 use Rattle.key_numbers.specs.declared.coding.CodedPart.{CodedPart}

@@ -1,4 +1,4 @@
-use Rattle.std.proofs.Common.{◌≡◌, ◌+◌, ◌∙◌, ◌<◌, ◌++◌, [], List, ℕ, arith, rules, ap, get_or, length, map, sym, vec_len}
+use Rattle.std.proofs.Common.{◌≡◌, ◌∙◌, ◌<◌, ◌++◌, [], List, ℕ, arith, rules, ap, get_or, length, map, sym, vec_len}
 use Rattle.std.specs.Prelude.{All}
 use Rattle.key_numbers.specs.Keys.{distinct, id_of}
 use Rattle.key_numbers.specs.Private.Coded.{codes_in, joined, keys_in, lent_parts}
