@@ -7,11 +7,7 @@ use std::alloc::Global;
 use std::test::Fail;
 
 /// Whether a key is known to both forms under one number, or is new to both and gets one number.
-fn is_numbered_alike(
-    keys: &mut KeyIds,
-    plain: &mut PlainKeys,
-    key: &[u8],
-) -> Result<bool, Memory> {
+fn is_numbered_alike(keys: &mut KeyIds, plain: &mut PlainKeys, key: &[u8]) -> Result<bool, Memory> {
     match (keys.find(key)?, plain.find(key)) {
         (None, None) if keys.count() < 1000 && plain.count() < 1000 => {
             Ok(keys.add(key)? == plain.add(key)?)

@@ -114,7 +114,10 @@ fn are_windows_alike<R: RandomSource + Threads + Sync>(
 
 #[test]
 fn many_keys_at_once(rt: HostRuntime) -> Result<(), Fail> {
-    assert_eq!(rt; are_windows_alike(&rt, rt.alloc(), 10_000, 10_000), Ok(true));
+    assert_eq!(rt;
+        are_windows_alike(&rt, rt.alloc(), 10_000, 10_000),
+        Ok(true)
+    );
     Ok(())
 }
 
