@@ -5,7 +5,7 @@ use Rattle.std.specs.List.{fold}
 use Rattle.std.specs.Str.{bytes_eq}
 use Rattle.std.proofs.Math.Seq.{get_or-append_seam, take-add}
 use Rattle.std.proofs.lemmas.Bool.{cases_Bool, cases_lt}
-use Rattle.std.proofs.lemmas.List.{append-nil, drop_at, drop_more, get_or-map, get_or-take, get_or_append_left, length-map, length-take, map-append, take-append-le, take_all, take_at, take_more}
+use Rattle.std.proofs.lemmas.List.{append-nil, drop_at, drop_more, get_or-map, get_or-take, get_or_append_left, length-map, length-take, map-append, take_at, take_more}
 use Rattle.std.proofs.lemmas.List.Concat.{flat_map-append}
 use Rattle.std.proofs.lemmas.List.Elements.{All-head, All-tail}
 use Rattle.std.proofs.lemmas.List.Sums.{fold-append}
@@ -49,24 +49,6 @@ code-known keys first key code h id =
       within = omega (arith, id.1, first-few keys first h);
       there = sym (get_or-take (length first) keys code [] id.1) ∙ ap (λ ks. key_at ks code) h ∙ at;
     }
-
--- the code of the next key
-pub code-next : (keys : List Key) (key : Key) → TakesCode keys (keys ++ key ∷ []) key (length keys)
-code-next keys key = record {
-  grown = inr refl;
-  within = omega (arith, length-append keys (key ∷ []));
-  there = get_or-append_seam keys key [] [];
-}
-
--- the first keys stay the first ones
-pub first-kept : (keys first : List Key) (key : Key) → BeginsWith keys first → BeginsWith (keys ++ key ∷ []) first
-first-kept keys first key h = take-append-le (length first) keys (key ∷ []) (first-few keys first h) ∙ h
-
--- where all keys are known, so are those with one more
-pub first-more : (keys first : List Key) (key : Key) → BeginsWith keys first → length first ≡ length keys → BeginsWith (keys ++ key ∷ []) (first ++ key ∷ [])
-first-more keys first key h all =
-    let same : first ≡ keys = sym h ∙ take_all (length first) keys (omega (arith, all)) in
-    subst (λ (ks : List Key). BeginsWith (keys ++ key ∷ []) (ks ++ key ∷ [])) (sym same) (take_all (length (keys ++ key ∷ [])) (keys ++ key ∷ []) (omega arith))
 
 -- the same keys by codes, where keys are added behind them
 same-below : (old new : List Key) (codes : List ℕ) → ((c : ℕ) → c < length old → key_at new c ≡ key_at old c) → All (λ code. code < length old) codes → map (key_at new) codes ≡ map (key_at old) codes
@@ -120,17 +102,11 @@ codes-more xs old new codes x code so takes =
       same_records = map-append (key_at new) codes (code ∷ []) ∙ ap₂ (λ ks k. ks ++ k ∷ []) (same-below old new codes gone.stays_there so.within ∙ so.same_records) takes.there;
     }
 
-pub coded-none : (part : List Key) → AreCodes (take 0 part) [] []
-coded-none part = record { few = omega arith; same_keys = refl; within = λ k d lt. absurd (omega (arith, lt)); same_records = refl }
-
 -- one more record of a part
 pub coded-more : (part : List Key) (i : ℕ) (old new : List Key) (codes : List ℕ) (code : ℕ) → i < length part → AreCodes (take i part) old codes → TakesCode old new (get_or part i []) code
     → AreCodes (take (i + 1) part) new (codes ++ code ∷ [])
 coded-more part i old new codes code lt so takes =
     subst (λ (ks : List Key). AreCodes ks new (codes ++ code ∷ [])) (sym (take_more part i [] lt)) (codes-more (take i part) old new codes (get_or part i []) code so takes)
-
-pub coded-all : (part : List Key) (i : ℕ) (keys : List Key) (codes : List ℕ) → length part ≤ i → AreCodes (take i part) keys codes → AreCodes part keys codes
-coded-all part i keys codes le so = subst (λ (ks : List Key). AreCodes ks keys codes) (take_all i part le) so
 
 -- ---- parts
 -- the parts before one, and that one
@@ -242,9 +218,6 @@ pub record AreNumberedTo (f : Key → ℕ) (parts : List (List Key)) (coded : Li
   pub numbers_are : numbers ≡ map f (joined (take i parts))
   pub rest_are : rest ≡ map f (joined (map keys_in (drop i coded)))
 
-pub numbered-first : (f : Key → ℕ) (parts : List (List Key)) (coded : List CodedPart) (firsts : List ℕ) → firsts ≡ map f (joined (map keys_in coded)) → AreNumberedTo f parts coded 0 [] firsts
-numbered-first f parts coded firsts is = record { numbers_are = refl; rest_are = is }
-
 -- the numbers of the next part's keys
 numbered-own : (f : Key → ℕ) (parts : List (List Key)) (coded : List CodedPart) (i : ℕ) (numbers rest : List ℕ) (d : CodedPart) → i < length coded → AreNumberedTo f parts coded i numbers rest
     → rest ≡ map f (keys_in (get_or coded i d)) ++ map f (joined (map keys_in (drop (i + 1) coded)))
@@ -278,9 +251,6 @@ numbered-more f parts coded i numbers rest lt so =
       numbers_are = ap (λ ns. ns ++ map f part) so.numbers_are ∙ sym (ap (map f) front ∙ map-append f (joined (take i parts)) part);
       rest_are = refl;
     }
-
-pub numbered-last : (f : Key → ℕ) (parts : List (List Key)) (coded : List CodedPart) (i : ℕ) (numbers rest : List ℕ) → length parts ≤ i → AreNumberedTo f parts coded i numbers rest → numbers ≡ map f (joined parts)
-numbered-last f parts coded i numbers rest le so = so.numbers_are ∙ ap (λ (ps : List (List Key)). map f (joined ps)) (take_all i parts le)
 
 -- what coded parts have of the part of an index
 pub coded-at : (parts : List (List Key)) (coded : List CodedPart) (i : ℕ) (d : CodedPart) → i < length parts → AreCoded parts coded → IsCoded (get_or parts i []) (get_or coded i d)

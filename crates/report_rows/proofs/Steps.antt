@@ -2,7 +2,7 @@
 use Rattle.std.proofs.Common.{◌≡◌, ◌∙◌, ◌+◌, ◌-◌, ◌≤◌, ◌<◌, ℕ, List, [], ◌∷◌, ◌++◌, Some, length, take, drop, get_or, sym, ap, ap₂, refl, arith, append_assoc}
 use Rattle.std.specs.Prelude.{slice_get, slice_range, suc, zero}
 use Rattle.std.proofs.Math.Seq.{take-add}
-use Rattle.std.proofs.lemmas.List.{append-nil, drop-drop, drop_more, length-drop, length-take, take_all}
+use Rattle.std.proofs.lemmas.List.{append-nil, drop-drop, drop_more, length-drop, length-take}
 use Rattle.report_rows.specs.CountRows.{count_row, count_rows, rows_between}
 
 -- a key by its number
@@ -57,9 +57,3 @@ unfolding count_rows
 rows_none ks ns a =
     let none : a - a ≡ 0 = omega arith in
     ap₂ count_rows (ap (λ n. take n (drop a ks)) none) (ap (λ n. take n (drop a ns)) none)
-
--- all rows
-pub rows_all : (ks : List (List ℕ)) (ns : List ℕ) (n : ℕ) → length ks ≡ n → length ns ≡ n → rows_between ks ns 0 n ≡ count_rows ks ns
-rows_all ks ns n keys counts =
-    let whole : n - 0 ≡ n = omega arith in
-    ap₂ count_rows (ap (λ m. take m ks) whole ∙ take_all n ks (omega (arith, keys))) (ap (λ m. take m ns) whole ∙ take_all n ns (omega (arith, counts)))
