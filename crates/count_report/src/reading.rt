@@ -13,6 +13,7 @@ use key_file::{FileKeys, TopicKeys, read_keys_apart, read_topic_keys_apart};
 use lane_words::{Memory, Refusal};
 use script::Topic;
 use std::alloc::Global;
+use std::random::RandomSource;
 use std::thread::Threads;
 
 /// The records of a file, as they were read.
@@ -74,7 +75,7 @@ fn names_of<'a>(alloc: Global, topics: &'a [Topic]) -> Result<Vec<&'a [u8]>, Mem
 }
 
 /// The records of a file of these bytes.
-fn read_records<R: Threads + Sync>(
+fn read_records<R: Threads + Sync + RandomSource>(
     rt: &R,
     alloc: Global,
     bytes: &[u8],
@@ -103,7 +104,7 @@ fn read_records<R: Threads + Sync>(
 }
 
 /// The records of a file that is read to its end. The pieces of a long file are read side by side.
-pub fn file_records<R: Threads + Sync, S: Source>(
+pub fn file_records<R: Threads + Sync + RandomSource, S: Source>(
     rt: &R,
     alloc: Global,
     file: &mut S,

@@ -70,26 +70,20 @@ fn append_records<R: Threads + Sync>(
     ensures valid { IsValidLogs logs.new }
 {
     match records {
-        FileRecords::Keys(keys) => append_keys(rt, alloc, logs, keys),
+        FileRecords::Keys(keys) => append_keys(rt, logs, keys),
         FileRecords::InTopics(keys) => append_topic_keys(rt, alloc, logs, keys),
     }
 }
 
 /// Appends records of these keys to the first topic.
-fn append_keys<R: Threads + Sync>(
-    rt: &R,
-    alloc: Global,
-    logs: &mut Logs,
-    keys: &FileKeys,
-) -> Result<(), Refusal>
+fn append_keys<R: Threads + Sync>(rt: &R, logs: &mut Logs, keys: &FileKeys) -> Result<(), Refusal>
     requires { IsValidLogs logs.old }
     ensures ok { OnOk result
         (AreAppended logs.old (placed logs.old (in_first keys.now)) logs.new) }
     ensures err { IfErr result (EndsAppends logs.old (in_first keys.now) logs.new) }
     ensures valid { IsValidLogs logs.new }
 {
-    let slices = keys.slices(alloc)?;
-    match logs.append_all(rt, slices.as_slice()) {
+    match logs.append_lists(rt, keys.lists()) {
         Ok(()) => Ok(()),
         Err((_, why)) => Err(why),
     }

@@ -1,5 +1,4 @@
 pub mod Cutting
-pub mod Ends
 pub mod Faults
 pub mod Joined
 pub mod Keys

@@ -2,6 +2,5 @@ pub mod Cuts
 pub mod FileKeys
 pub mod Join
 pub mod KeyFile
-pub mod KeyList
 pub mod Records
 pub mod Wanted

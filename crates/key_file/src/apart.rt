@@ -11,13 +11,15 @@ ghost use Rattle.lane_words.specs.declared.Refusal.TheVariants as refusal;
 use crate::cuts::cuts_of;
 use crate::file_keys::FileKeys;
 use crate::join::{join_keys, keys_at, piece_between};
-use crate::key_list::KeyList;
 use crate::piece::first_width;
 use crate::topic_keys::TopicKeys;
 use crate::wanted::Wanted;
 use crate::whole::read_taken;
+use key_lists::KeyList;
 use lane_words::Refusal;
 use std::alloc::Global;
+use std::hash::RandomState;
+use std::random::RandomSource;
 use std::thread;
 use std::thread::Threads;
 
@@ -118,8 +120,9 @@ fn lists_apart<R: Threads + Sync>(
 /// The file is cut into pieces, as many as there are processors, of at least 1 MiB each, and each
 /// is read in a thread of its own. A piece for which no thread can be started is read without one,
 /// and a file of a single piece is read without any. Where its beginning of a piece's length has no
-/// record, the file is read in one piece.
-pub fn read_keys_apart<R: Threads + Sync>(
+/// record, the file is read in one piece. A key that comes again in its piece mostly stands there
+/// once; where the random source fails, which tells how keys are looked up, each is kept.
+pub fn read_keys_apart<R: Threads + Sync + RandomSource>(
     rt: &R,
     alloc: Global,
     file: &[u8],
@@ -133,7 +136,8 @@ pub fn read_keys_apart<R: Threads + Sync>(
         (λ e. (e ≡ refusal.Memory) ⊎ (keys_of column header file.now ≡ Err e)) }
 {
     let pieces = pieces_for(rt, file.len());
-    let lists = lists_apart(rt, alloc, file, &Wanted::key(column), header, pieces)?;
+    let wanted = Wanted::key(column, RandomState::new(rt).ok());
+    let lists = lists_apart(rt, alloc, file, &wanted, header, pieces)?;
     Ok(FileKeys::of(lists))
 }
 

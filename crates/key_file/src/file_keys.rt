@@ -3,7 +3,7 @@
 ghost use Rattle.std.specs.Prelude.{◌≡◌, ◌<◌, ◌^◌, ◌++◌, ℕ, List, IfOk, OnOk, flat_map, length, map};
 ghost use Rattle.key_file.specs.Private.FileKeys.{all_keys};
 
-use crate::key_list::KeyList;
+use key_lists::KeyList;
 use lane_words::Memory;
 use std::alloc::Global;
 use std::marker::Model;

@@ -10,10 +10,10 @@ ghost use Rattle.lane_words.specs.Answers.{Answers};
 ghost use Rattle.key_file.specs.Private.Wanted.{taking};
 ghost use Rattle.lane_words.specs.declared.Refusal.TheVariants as refusal;
 
-use crate::key_list::KeyList;
 use crate::piece::keys_of_piece;
 use crate::wanted::Wanted;
 use crate::whole::read_taken;
+use key_lists::KeyList;
 use lane_words::Refusal;
 use std::alloc::Global;
 

@@ -5,7 +5,6 @@ mod apart;
 mod cuts;
 mod file_keys;
 mod join;
-mod key_list;
 mod lack;
 mod laws;
 mod piece;
@@ -17,7 +16,7 @@ mod whole;
 
 pub use apart::{read_keys_apart, read_topic_keys_apart};
 pub use file_keys::FileKeys;
-pub use key_list::KeyList;
+pub use key_lists::KeyList;
 pub use lack::Lack;
 pub use laws::{
     a_key_a_record, cut_before_a_line_feed, cut_behind_a_record, cut_file, cut_without_quotes,

@@ -7,11 +7,11 @@ ghost use Rattle.key_file.specs.Private.Join.{IsWidthOf};
 ghost use Rattle.key_file.specs.Private.Wanted.{taking};
 ghost use Rattle.lane_words.specs.declared.Refusal.TheVariants as refusal;
 
-use crate::key_list::KeyList;
 use crate::records::{next_record, records_of};
 use crate::wanted::Wanted;
 use crate::whole::add_key;
 use csv::ByteRecord;
+use key_lists::KeyList;
 use lane_words::{Memory, Refusal};
 use std::alloc::Global;
 
@@ -39,7 +39,7 @@ pub fn keys_of_piece(
     ensures fault { IfErr result
         (λ e. (e ≡ refusal.Memory) ⊎ (piece_keys (taking wanted.now) width piece.now ≡ Err e)) }
 {
-    let mut keys = KeyList::new(alloc);
+    let mut keys = wanted.new_list(alloc);
     let mut reader = records_of(alloc, piece);
     let mut row = ByteRecord::new(alloc);
     for nth in 1..u64::MAX {

@@ -1,6 +1,6 @@
 //! What is taken of each record of a file.
 
-ghost use Rattle.std.specs.Prelude.{◌≡◌, ◌≤◌, ◌<◌, ◌^◌, Ok, Err, Some, None, IfOk, IfErr, length, map};
+ghost use Rattle.std.specs.Prelude.{◌≡◌, ◌≤◌, ◌<◌, ◌^◌, Ok, Err, Some, None, [], IfOk, IfErr, length, map};
 ghost use Rattle.std.specs.List.{position_from};
 ghost use Rattle.std.specs.Str.{bytes_eq};
 ghost use Rattle.csv.specs.Records.{fields_of};
@@ -9,7 +9,10 @@ ghost use Rattle.key_file.specs.Private.Wanted.{item, taking};
 
 use crate::lack::Lack;
 use csv::ByteRecord;
+use key_lists::KeyList;
 use lane_words::Refusal;
+use std::alloc::Global;
+use std::hash::RandomState;
 use std::marker::Model;
 
 /// Where a record has its topic, and which topics there are.
@@ -29,6 +32,8 @@ pub struct Wanted<'a> {
     column: u32,
     /// The topics, if the file has a column of them.
     topics: Option<Topics<'a>>,
+    /// What keys are looked up by as they are read, if they are.
+    hasher: Option<RandomState>,
 }
 
 impl<'a> Model for Wanted<'a> {
@@ -75,14 +80,15 @@ fn index_of(names: &[&[u8]], topic: &[u8]) -> Option<u8>
 }
 
 impl<'a> Wanted<'a> {
-    /// The key alone.
-    pub fn key(column: u32) -> Wanted<'a>
+    /// The key alone. It is looked up by this hasher, if there is one.
+    pub fn key(column: u32, hasher: Option<RandomState>) -> Wanted<'a>
         requires { 1 ≤ column }
         ensures { result ≡ (column, None) }
     {
         Wanted {
             column,
             topics: None,
+            hasher,
         }
     }
 
@@ -99,6 +105,17 @@ impl<'a> Wanted<'a> {
         Wanted {
             column,
             topics: Some(topics),
+            hasher: None,
+        }
+    }
+
+    /// A list for what is taken, with nothing in it yet.
+    pub fn new_list(&self, alloc: Global) -> KeyList
+        ensures { result ≡ [] }
+    {
+        match self.hasher {
+            Some(hasher) => KeyList::looking_up(alloc, hasher),
+            None => KeyList::new(alloc),
         }
     }
 

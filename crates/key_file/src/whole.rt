@@ -1,20 +1,33 @@
 //! The keys of a file that is read in one piece.
 
-ghost use Rattle.std.specs.Prelude.{◌≡◌, ◌≤◌, ◌+◌, ◌<◌, ◌^◌, ◌⊎◌, ◌∷◌, ◌-◌, Some, None, [], ℕ, List, Ok, Err, IfOk, IfErr, OnOk, length, Bool};
+ghost use Rattle.std.specs.Prelude.{◌≡◌, ◌≤◌, ◌+◌, ◌<◌, ◌^◌, ◌⊎◌, ◌∷◌, ◌++◌, ◌-◌, Some, None, [], ℕ, List, Ok, Err, IfOk, IfErr, OnErr, OnOk, length, Bool};
 ghost use Rattle.csv.specs.Reading.{default_config, records, strip_bom};
 ghost use Rattle.csv.specs.Records.{field_at, fields_of};
 ghost use Rattle.key_file.specs.KeyFile.{IsFileFault, keys_of, taken_of};
 ghost use Rattle.key_file.specs.Private.KeyFile.{IsFaultAt, TakesKey};
 ghost use Rattle.key_file.specs.Private.Records.{ReadsRecords, TakesNext, records_left};
-ghost use Rattle.key_file.specs.Private.Wanted.{taking};
+ghost use Rattle.key_file.specs.Private.Wanted.{item, taking};
 ghost use Rattle.lane_words.specs.declared.Refusal.TheVariants as refusal;
 
-use crate::key_list::KeyList;
 use crate::records::{next_record, records_of};
 use crate::wanted::{Wanted, lack_at};
 use csv::ByteRecord;
-use lane_words::Refusal;
+use key_lists::KeyList;
+use lane_words::{Memory, Refusal};
 use std::alloc::Global;
+
+/// Adds a key behind the index of its topic, if it has one. Where memory is refused, the list stays
+/// as it was.
+fn push_taken(keys: &mut KeyList, topic: Option<u8>, key: &[u8]) -> Result<(), Memory>
+    ensures ok { OnOk result (keys.new ≡ keys.old ++ item topic key.now ∷ []) }
+    ensures err { OnErr result (keys.new ≡ keys.old) }
+    ensures few { OnOk result (length keys.new < 2 ^ 63) }
+{
+    match topic {
+        Some(index) => keys.push_two(&[index], key),
+        None => keys.push(key),
+    }
+}
 
 /// Adds what is taken of record number nth, which has to be as long as the first.
 pub fn add_key(
@@ -35,7 +48,7 @@ pub fn add_key(
         return Err(Refusal::BadCsv { nth });
     }
     match wanted.of(row) {
-        Ok(taken) => Ok(keys.push_taken(taken.topic, taken.key)?),
+        Ok(taken) => Ok(push_taken(keys, taken.topic, taken.key)?),
         Err(lack) => Err(lack_at(nth, lack)),
     }
 }
@@ -53,7 +66,7 @@ pub fn read_taken(
     ensures fault { IfErr result
         (λ e. (e ≡ refusal.Memory) ⊎ (taken_of (taking wanted.now) header file.now ≡ Err e)) }
 {
-    let mut keys = KeyList::new(alloc);
+    let mut keys = wanted.new_list(alloc);
     let mut reader = records_of(alloc, file);
     let mut row = ByteRecord::new(alloc);
     let Ok(found) = next_record(&mut reader, &mut row) else {
@@ -92,7 +105,7 @@ pub fn read_keys(alloc: Global, file: &[u8], column: u32, header: bool) -> Resul
     ensures fault { IfErr result
         (λ e. (e ≡ refusal.Memory) ⊎ (keys_of column header file.now ≡ Err e)) }
 {
-    read_taken(alloc, file, &Wanted::key(column), header)
+    read_taken(alloc, file, &Wanted::key(column, None), header)
 }
 
 #[cfg(test)]

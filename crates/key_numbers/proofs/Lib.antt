@@ -1,4 +1,3 @@
-pub mod Coded
 pub mod Collected
 pub mod Copied
 pub mod Filtered

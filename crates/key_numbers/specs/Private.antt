@@ -1,3 +1,2 @@
-pub mod Coded
 pub mod Sharded
 pub mod StoredKey

@@ -11,7 +11,7 @@ use std::hash::RandomState;
 use std::marker::Model;
 use std::mem;
 
-/// Keys by their numbers.
+/// Keys by their numbers, at most 2^32 - 1 of them.
 #[derive(Debug, Drop)]
 pub struct KeyTable {
     /// Where the keys are stored.
@@ -103,8 +103,9 @@ impl KeyTable {
     /// The number of a key, which is numbered where it is new.
     pub fn number(&mut self, key: &[u8]) -> Result<u32, Memory>
         requires { length self.old < MOST_RECORDS }
-        ensures { IfOk result (λ n. (n ≡ id_of self.old key.now)
+        ensures ok { IfOk result (λ n. (n ≡ id_of self.old key.now)
             × (self.new ≡ with_key self.old key.now)) }
+        ensures err { OnErr result (self.new ≡ self.old) }
     {
         if key.len() <= LONGEST_INLINE {
             let (number, _) = self.set.insert_full(StoredKey::short(key))?;

@@ -3,7 +3,6 @@
 ghost use Rattle.std.specs.Prelude.{◌≡◌, ◌<◌, ◌≤◌, ◌↔◌, [], IfOk, IfSome, IfNone, IsOk, IsTrue, OnErr, length, map, true, false};
 ghost use Rattle.key_numbers.specs.Keys.{IsIdOf, IsWithoutRepeats, distinct, id_of, is_known, key_at, lent, with_key};
 
-use crate::coding::{come_again, number_coded};
 use crate::key_table::KeyTable;
 use crate::shards::Shards;
 use crate::stored_key::LONGEST_INLINE;
@@ -69,22 +68,20 @@ impl KeyIds {
     }
 
     /// These keys without repeats, in the order of their first appearance, and the key number of
-    /// each of them as they stand there. Refused for want of memory.
+    /// each of them as they stand there. Refused for want of memory, of which it takes enough for
+    /// `room` different keys at once.
     pub fn number_all<R: Threads + Sync>(
         &self,
         rt: &R,
         keys: &[&[u8]],
+        room: usize,
     ) -> Result<(Shards, Vec<u32>), Memory>
         requires { length keys.now ≤ MOST_RECORDS }
         ensures keys { IfOk result (λ r. r.0 ≡ distinct (lent keys.now)) }
         ensures numbers { IfOk result (λ r. r.1.items
             ≡ map (id_of (distinct (lent keys.now))) (lent keys.now)) }
     {
-        if come_again(self.alloc, self.hasher, keys)? {
-            number_coded(rt, self.alloc, self.hasher, keys)
-        } else {
-            Shards::of(rt, self.alloc, self.hasher, keys)
-        }
+        Shards::of(rt, self.alloc, self.hasher, keys, room)
     }
 
     /// Begins with these keys, where there is none.

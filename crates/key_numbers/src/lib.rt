@@ -1,16 +1,15 @@
 //! Keys numbered in the order of their first appearance.
 #![tactic(auto)]
 
-mod coding;
 mod key_table;
 mod keys;
-mod lent_key;
 mod numbering;
 #[cfg(test)]
 mod plain_keys;
 mod shards;
 mod stored_key;
 
+pub use key_table::KeyTable;
 pub use keys::KeyIds;
 pub use shards::Shards;
 pub use stored_key::LONGEST_INLINE;

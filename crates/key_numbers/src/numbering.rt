@@ -28,12 +28,14 @@ pub struct NumberedKeys {
     pub numbers: Vec<u32>,
 }
 
-/// Numbers keys in the order of their first appearance.
+/// Numbers keys in the order of their first appearance. There is room for so many different ones at
+/// first.
 pub fn number_keys<R: Threads + Sync>(
     rt: &R,
     alloc: Global,
     hasher: RandomState,
     keys: &[&[u8]],
+    room: usize,
 ) -> Result<NumberedKeys, Memory>
     requires { length keys.now ≤ MOST_RECORDS }
     ensures tables { IfOk result (λ n.
@@ -47,7 +49,7 @@ pub fn number_keys<R: Threads + Sync>(
         ≡ map (id_of (distinct (lent keys.now))) (lent keys.now)) }
 {
     let shards = shards_of(rt, alloc, hasher, keys)?;
-    let found = number_shards(rt, alloc, hasher, keys, &shards)?;
+    let found = number_shards(rt, alloc, hasher, keys, &shards, room)?;
     let (tables, locals) = tables_of(alloc, hasher, keys, found)?;
     let (ids, order) = walk(alloc, hasher, keys, &shards, &tables, &locals)?;
     let numbers = key_numbers(rt, alloc, hasher, keys, &shards, &locals, &ids)?;
@@ -109,13 +111,15 @@ pub struct NumberedShard {
     locals: Vec<u32>,
 }
 
-/// Numbers the records of one shard, where `shards` has the shard of each record.
+/// Numbers the records of one shard, where `shards` has the shard of each record. There is room for
+/// so many of its keys at first.
 fn number_shard(
     alloc: Global,
     hasher: RandomState,
     keys: &[&[u8]],
     shards: &[u8],
     shard: u8,
+    room: usize,
 ) -> Result<NumberedShard, Memory>
     requires few { length keys.now ≤ MOST_RECORDS }
     requires as_many { length shards.now ≡ length keys.now }
@@ -124,7 +128,8 @@ fn number_shard(
         AreNumberedIn (shard_of hasher) shard (lent keys.now) n.table n.locals.items) }
 {
     let mut table = KeyTable::new(alloc, hasher);
-    let mut locals = Vec::new(alloc);
+    table.reserve(room)?;
+    let mut locals = Vec::with_capacity(alloc, room)?;
     for i in 0..keys.len() {
         if shards[i] == shard {
             locals.push(table.number(keys[i])?)?;
@@ -140,6 +145,7 @@ fn number_shards<R: Threads + Sync>(
     hasher: RandomState,
     keys: &[&[u8]],
     shards: &[u8],
+    room: usize,
 ) -> Result<Vec<Result<NumberedShard, Memory>>, Memory>
     requires few { length keys.now ≤ MOST_RECORDS }
     requires as_many { length shards.now ≡ length keys.now }
@@ -149,11 +155,13 @@ fn number_shards<R: Threads + Sync>(
         → IfOk (slice_index_or found.items s d)
         (λ n. AreNumberedIn (shard_of hasher) s (lent keys.now) n.table n.locals.items)) }
 {
+    // Some more than each would have, were all shards of one size.
+    let each = room / (SHARDS as usize - 1);
     let numbered = thread::map_indices(
         rt,
         alloc,
         SHARDS as usize,
-        &|s| number_shard(alloc, hasher, keys, shards, s as u8),
+        &|s| number_shard(alloc, hasher, keys, shards, s as u8, each),
     )?;
     Ok(numbered)
 }

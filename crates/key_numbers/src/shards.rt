@@ -82,19 +82,20 @@ impl Shards {
     /// each of them as they stand there. Refused for want of memory.
     ///
     /// The keys of each shard are numbered in a thread of its own; where one can't be started, they
-    /// are numbered without it.
+    /// are numbered without it. There is room for so many different keys at first.
     pub(crate) fn of<R: Threads + Sync>(
         rt: &R,
         alloc: Global,
         hasher: RandomState,
         keys: &[&[u8]],
+        room: usize,
     ) -> Result<(Shards, Vec<u32>), Memory>
         requires { length keys.now ≤ MOST_RECORDS }
         ensures keys { IfOk result (λ r. r.0 ≡ distinct (lent keys.now)) }
         ensures numbers { IfOk result (λ r. r.1.items
             ≡ map (id_of (distinct (lent keys.now))) (lent keys.now)) }
     {
-        let numbered = number_keys(rt, alloc, hasher, keys)?;
+        let numbered = number_keys(rt, alloc, hasher, keys, room)?;
         let shards = Shards {
             hasher,
             tables: numbered.tables,

@@ -3,6 +3,7 @@ pub mod Fills
 pub mod History
 pub mod Numbered
 pub mod Parted
+pub mod Sharing
 pub mod SideBySide
 pub mod Stored
 pub mod Valid

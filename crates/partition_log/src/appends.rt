@@ -13,7 +13,7 @@ use lane_words::{LONGEST_KEY, MOST_RECORDS, Memory, Refusal};
 use std::thread::Threads;
 
 /// Fewer keys than these are appended one after the other, by the thread that has them.
-const SIDE_BY_SIDE: usize = 4096;
+pub const SIDE_BY_SIDE: usize = 4096;
 
 impl Logs {
     /// Appends records of these keys to the first topic in order, until one is refused. Where one
@@ -148,7 +148,7 @@ impl Logs {
         ensures valid { IsValidLogs self.new }
     {
         let alloc = *self.logs.allocator();
-        let (shards, ids) = self.keys.number_all(rt, keys)?;
+        let (shards, ids) = self.keys.number_all(rt, keys, 0)?;
         let logs = filled_logs(alloc, self.partitions.count() as usize, places, &ids)?;
         self.keys.begin_with(shards);
         self.logs = logs;
@@ -175,7 +175,7 @@ impl Logs {
 }
 
 /// Whether none of these keys is too long.
-fn are_short(keys: &[&[u8]]) -> bool
+pub fn are_short(keys: &[&[u8]]) -> bool
     ensures { IsTrue result → AreShort (lent keys.now) }
 {
     for i in 0..keys.len() {

@@ -19,7 +19,8 @@ pub fn filled_logs(
     ensures { IfOk result (λ logs. map vec_items logs.items
         ≡ filled (replicate partitions []) places.now ids.now) }
 {
-    let mut logs = roomy_logs(alloc, partitions, places)?;
+    let counts = counts_of(alloc, partitions, places)?;
+    let mut logs = roomy_logs(alloc, &counts)?;
     for i in 0..places.len() {
         let log = &mut logs[places[i] as usize];
         log.push(ids[i])?;
@@ -27,14 +28,12 @@ pub fn filled_logs(
     Ok(logs)
 }
 
-/// Empty logs, each with room for the records of its place.
-fn roomy_logs(alloc: Global, partitions: usize, places: &[u32]) -> Result<Vec<Vec<u32>>, Memory>
-    requires { All (λ p. p < partitions) places.now }
-    ensures { IfOk result (λ logs. map vec_items logs.items ≡ replicate partitions []) }
+/// Empty logs, one for each of these counts, with room for so many records.
+pub fn roomy_logs(alloc: Global, counts: &[usize]) -> Result<Vec<Vec<u32>>, Memory>
+    ensures { IfOk result (λ logs. map vec_items logs.items ≡ replicate (length counts.now) []) }
 {
-    let counts = counts_of(alloc, partitions, places)?;
-    let mut logs = Vec::with_capacity(alloc, partitions)?;
-    for p in 0..partitions {
+    let mut logs = Vec::with_capacity(alloc, counts.len())?;
+    for p in 0..counts.len() {
         logs.push(Vec::with_capacity(alloc, counts[p])?)?;
     }
     Ok(logs)

@@ -13,7 +13,9 @@ ghost use Rattle.partition_log.specs.Logs.{AreCounts, AreLogsOf, IsOfTopic, IsPl
 mod appends;
 mod filling;
 mod laws;
+mod lists;
 mod sealed;
+mod shares;
 
 use key_numbers::KeyIds;
 use lane_words::{LONGEST_KEY, MOST_PARTITIONS, MOST_RECORDS, Memory, Refusal};

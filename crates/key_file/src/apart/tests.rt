@@ -99,16 +99,32 @@ fn same_in_pieces<R: Threads + Sync>(
     rt: &R,
     alloc: Global,
     file: &[u8],
+    plain: &Wanted<'_>,
     wanted: &Wanted<'_>,
     header: bool,
 ) -> bool {
-    let whole = text_whole(alloc, file, wanted, header);
+    let whole = text_whole(alloc, file, plain, header);
     for pieces in [0, 2, 5] {
         if text_apart(rt, alloc, file, wanted, header, pieces) != whole {
             return false;
         }
     }
     true
+}
+
+/// The same of the keys of a column, which are looked up in the pieces and not in the whole.
+fn same_keys_in_pieces<R: Threads + Sync + RandomSource>(
+    rt: &R,
+    alloc: Global,
+    file: &[u8],
+    column: u32,
+    header: bool,
+) -> bool
+    requires { 1 ≤ column }
+{
+    let plain = Wanted::key(column, None);
+    let wanted = Wanted::key(column, RandomState::new(rt).ok());
+    same_in_pieces(rt, alloc, file, &plain, &wanted, header)
 }
 
 #[test]
@@ -121,11 +137,11 @@ fn any_bytes_are_read_the_same_in_pieces(rt: HostRuntime) -> Result<(), Fail> {
         }
         let column = 1 + random.below(2) as u32;
         assert!(rt;
-            same_in_pieces(
+            same_keys_in_pieces(
                 &rt,
                 rt.alloc(),
                 file.as_slice(),
-                &Wanted::key(column),
+                column,
                 random.below(2) == 0
             )
         );
@@ -143,11 +159,11 @@ fn a_fault_in_any_piece_is_told_the_same(rt: HostRuntime) -> Result<(), Fail> {
         }
         let column = 1 + random.below(3) as u32;
         assert!(rt;
-            same_in_pieces(
+            same_keys_in_pieces(
                 &rt,
                 rt.alloc(),
                 file.as_slice(),
-                &Wanted::key(column),
+                column,
                 random.below(2) == 0
             )
         );
@@ -165,7 +181,7 @@ fn long_keys_are_read_the_same_in_pieces(rt: HostRuntime) -> Result<(), Fail> {
         }
         file.extend_from_slice(b"\",b\nc,d\n")?;
     }
-    assert!(rt; same_in_pieces(&rt, rt.alloc(), file.as_slice(), &Wanted::key(1), false));
+    assert!(rt; same_keys_in_pieces(&rt, rt.alloc(), file.as_slice(), 1, false));
     Ok(())
 }
 
@@ -212,7 +228,7 @@ fn a_file_of_a_few_mebibytes_has_all_keys(rt: HostRuntime) -> Result<(), Fail> {
     assert!(rt; file.len() > 2 * LEAST_PIECE);
     let (len, text) = read_apart(&rt, rt.alloc(), file.as_slice(), 2)?;
     assert_eq!(rt; len, 199_999);
-    assert!(rt; text == text_whole(rt.alloc(), file.as_slice(), &Wanted::key(2), true)?);
+    assert!(rt; text == text_whole(rt.alloc(), file.as_slice(), &Wanted::key(2, None), true)?);
     Ok(())
 }
 
@@ -240,13 +256,14 @@ fn topics_are_read_the_same_in_pieces(rt: HostRuntime) -> Result<(), Fail> {
         for _ in 0..random.below(40) {
             file.extend_from_slice(topic_row(random.below(63)).as_bytes())?;
         }
-        let column = 1 + random.below(3) as u32;
+        let wanted = Wanted::topic_and_key(1 + random.below(3) as u32, 2, &names);
         assert!(rt;
             same_in_pieces(
                 &rt,
                 rt.alloc(),
                 file.as_slice(),
-                &Wanted::topic_and_key(column, 2, &names),
+                &wanted,
+                &wanted,
                 random.below(2) == 0
             )
         );

@@ -3,8 +3,10 @@
 ghost use Rattle.std.specs.Prelude.{◌<◌, ◌≤◌};
 
 use crate::Logs;
+use key_lists::KeyList;
 use lane_words::{LONGEST_KEY, Refusal};
 use std::alloc::Global;
+use std::hash::RandomState;
 use std::random::RandomSource;
 use std::test::Fail;
 use std::thread::Threads;
@@ -22,6 +24,32 @@ fn one_by_one(logs: &mut Logs, keys: &[&[u8]]) -> Answer {
     Ok(())
 }
 
+/// A list with these keys more.
+fn with_keys(list: KeyList, keys: &[&[u8]]) -> Result<KeyList, Refusal> {
+    let mut list = list;
+    for i in 0..keys.len() {
+        list.push(keys[i])?;
+    }
+    Ok(list)
+}
+
+/// These keys in lists: none, the first half, in which they are looked up, and the others.
+fn in_lists(
+    rt: &impl RandomSource,
+    alloc: Global,
+    keys: &[&[u8]],
+) -> Result<Vec<KeyList>, Refusal> {
+    let Ok(hasher) = RandomState::new(rt) else {
+        return Err(Refusal::Memory);
+    };
+    let half = keys.len() / 2;
+    let mut lists = Vec::new(alloc);
+    lists.push(KeyList::new(alloc))?;
+    lists.push(with_keys(KeyList::looking_up(alloc, hasher), &keys[..half])?)?;
+    lists.push(with_keys(KeyList::new(alloc), &keys[half..])?)?;
+    Ok(lists)
+}
+
 /// Whether both ways give this answer, and the same logs.
 fn both_give<R: Threads + Sync>(
     rt: &R,
@@ -35,7 +63,18 @@ fn both_give<R: Threads + Sync>(
     told == answer && plainly_told == answer && logs.same(plain)
 }
 
-/// Whether both ways give this answer to new logs, and then the same logs.
+/// Whether lists give this answer, and these logs.
+fn lists_give<R: Threads + Sync>(
+    rt: &R,
+    logs: &mut Logs,
+    lists: &[KeyList],
+    answer: Answer,
+    plain: &Logs,
+) -> bool {
+    logs.append_lists(rt, lists) == answer && logs.same(plain)
+}
+
+/// Whether each way gives this answer to new logs, and then the same logs; and once more.
 fn are_alike<R: RandomSource + Threads + Sync>(
     rt: &R,
     alloc: Global,
@@ -44,7 +83,14 @@ fn are_alike<R: RandomSource + Threads + Sync>(
 ) -> Result<bool, Refusal> {
     let mut logs = Logs::new(rt, alloc, 4)?;
     let mut plain = Logs::new(rt, alloc, 4)?;
-    Ok(both_give(rt, &mut logs, &mut plain, keys, answer))
+    let mut listed = Logs::new(rt, alloc, 4)?;
+    let lists = in_lists(rt, alloc, keys)?;
+    let mut alike = true;
+    for _turn in 0..2 {
+        alike = alike && both_give(rt, &mut logs, &mut plain, keys, answer);
+        alike = alike && lists_give(rt, &mut listed, &lists, answer, &plain);
+    }
+    Ok(alike)
 }
 
 #[test]
@@ -124,5 +170,18 @@ fn many_keys_at_once(rt: HostRuntime) -> Result<(), Fail> {
 #[test]
 fn keys_that_come_again_at_once(rt: HostRuntime) -> Result<(), Fail> {
     assert_eq!(rt; are_windows_alike(&rt, rt.alloc(), 20_000, 1_000), Ok(true));
+    Ok(())
+}
+
+#[test]
+fn a_key_too_long_among_many(rt: HostRuntime) -> Result<(), Fail> {
+    let bytes = vec![in rt.alloc(); 0xff_u8; LONGEST_KEY + 1]?;
+    let mut keys: Vec<&[u8]> = Vec::new(rt.alloc());
+    for i in 0..6000 {
+        keys.push(&bytes[..i % 5])?;
+    }
+    keys.push(&bytes)?;
+    let refused = Err((6000, Refusal::KeyTooLong));
+    assert!(rt; are_alike(&rt, rt.alloc(), &keys, refused)?);
     Ok(())
 }

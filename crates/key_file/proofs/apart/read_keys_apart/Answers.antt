@@ -6,10 +6,10 @@ use Rattle.key_file.proofs.apart.read_keys_apart.Goals as goal
 
 pub of-requires : goal.of-requires
 of-requires g c =
-    let few = keys_of-few (taking c.key.result) c.args.header c.args.file.now _ c.in_ok-lists.ensures.keys in
+    let few = keys_of-few (taking c.key-wanted.result) c.args.header c.args.file.now _ c.in_ok-lists.ensures.keys in
     omega (arith, few)
 
 pub returns-in_err-lists-clause-kind : goal.returns-in_err-lists-clause-kind
 returns-in_err-lists-clause-kind g c =
     let same : c.from_residual.result ≡ Err c.in_err-lists.field-0.0 = search rules in
-    rw same (fault-kind (taking c.key.result) c.args.header c.args.file.now _ c.in_err-lists.ensures.fault)
+    rw same (fault-kind (taking c.key-wanted.result) c.args.header c.args.file.now _ c.in_err-lists.ensures.fault)

@@ -12,7 +12,7 @@ returns-in_ok-push_taken-in-Ok-clause-key c rest =
     let same : length (fields_of c.args.row.now) ≡ c.args.width = search rules in
     let key = item c.in-Ok.taken.topic c.in-Ok.taken.key.now in
     let there : taking c.args.wanted.now (fields_of c.args.row.now) ≡ Ok key = search rules in
-    let grown : c.push_taken.new.self ≡ c.args.keys.now ++ key ∷ [] = search rules in
+    let grown : c.push_taken.new.keys ≡ c.args.keys.now ++ key ∷ [] = search rules in
     rw (grown, keys_from-key (taking c.args.wanted.now) c.args.width c.args.nth _ rest key same there) (sym (after_keys-more c.args.keys.now key _))
 
 pub returns-in-Err-clause-fault : goal.returns-in-Err-clause-fault

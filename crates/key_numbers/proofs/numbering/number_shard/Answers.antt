@@ -6,7 +6,7 @@ use Rattle.key_numbers.proofs.numbering.number_shard.Goals as goal
 use Rattle.key_numbers.proofs.numbering.number_shard.Goals.{then-shards-i+in_ok-number+in_ok-push, else-shards-i}
 
 pub loop-i-init : goal.loop-i-init
-loop-i-init c = rw (c.new-table.ensures, c.new-locals.ensures.items) (numbered-none (shard_of c.args.hasher) c.args.shard (lent c.args.keys.now))
+loop-i-init c = rw (c.in_ok-reserve.ensures ∙ c.new-table.ensures, c.in_ok-locals.ensures.items) (numbered-none (shard_of c.args.hasher) c.args.shard (lent c.args.keys.now))
 
 pub number-requires : goal.number-requires
 number-requires c =
@@ -30,9 +30,9 @@ loop-i-preserved c =
     elim c.if-shards-i.branch [
       | then-shards-i+in_ok-number+in_ok-push w ↦
           let own = numbered-own (shard_of c.args.hasher) shard all i table locals i_in (sym at ∙ w.if-shards-i.true) c.loop-i.invariant in
-          let table_is : c.if-shards-i.table ≡ with_key table (get_or all i []) = w.table-is ∙ w.in_ok-number.ensures.1 ∙ ap (with_key table) (sym x) in
+          let table_is : c.if-shards-i.table ≡ with_key table (get_or all i []) = w.table-is ∙ w.in_ok-number.ensures.ok.1 ∙ ap (with_key table) (sym x) in
           let locals_is : c.if-shards-i.locals.items ≡ locals ++ id_of table (get_or all i []) ∷ [] =
-          ap (λ v. vec_items v) w.locals-is ∙ w.in_ok-push.ensures.items ∙ ap (λ n. locals ++ n ∷ []) (w.in_ok-number.ensures.0 ∙ ap (id_of table) (sym x)) in
+          ap (λ v. vec_items v) w.locals-is ∙ w.in_ok-push.ensures.items ∙ ap (λ n. locals ++ n ∷ []) (w.in_ok-number.ensures.ok.0 ∙ ap (id_of table) (sym x)) in
           rw (table_is, locals_is) own
       | else-shards-i w ↦
           let other : shard_of c.args.hasher (get_or all i []) ≢ shard = λ e. w.if-shards-i.false (at ∙ e) in

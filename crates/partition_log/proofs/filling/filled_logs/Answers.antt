@@ -1,4 +1,4 @@
-use Rattle.std.proofs.Common.{◌≡◌, ◌<◌, ◌+◌, ◌∙◌, ◌∷◌, ◌++◌, [], ℕ, List, arith, ap, drop, get_or, length, map, sym, vec_items}
+use Rattle.std.proofs.Common.{◌≡◌, ◌<◌, ◌+◌, ◌∙◌, ◌∷◌, ◌++◌, [], ℕ, List, arith, ap, drop, get_or, length, map, replicate, rules, sym, vec_items, vec_len}
 use Rattle.std.specs.Prelude.{slice_set}
 use Rattle.std.proofs.lemmas.List.{get_or-map, length-map, length-replicate, length-set, map-set}
 use Rattle.partition_log.specs.Private.Filled.{filled}
@@ -7,9 +7,11 @@ use Rattle.partition_log.proofs.filling.filled_logs.Goals as goal
 
 pub loop-i-init : goal.loop-i-init
 loop-i-init c =
-    let none : List ℕ = [] in record {
-      each = sym (length-map c.in_ok-logs.logs.items vec_items) ∙ ap length c.in_ok-logs.ensures ∙ length-replicate c.args.partitions none;
-      filled_is = ap (λ logs. filled logs c.args.places.now c.args.ids.now) c.in_ok-logs.ensures;
+    let none : List ℕ = [] in
+    let many : length c.deref.result.now ≡ c.args.partitions = (let counted : length c.in_ok-counts.counts.items ≡ vec_len c.in_ok-counts.counts = search rules in ap length c.deref.ensures.value ∙ counted ∙ c.in_ok-counts.ensures) in
+    let empty : map vec_items c.in_ok-logs.logs.items ≡ replicate c.args.partitions none = c.in_ok-logs.ensures ∙ ap (λ n. replicate n none) many in record {
+      each = sym (length-map c.in_ok-logs.logs.items vec_items) ∙ ap length empty ∙ length-replicate c.args.partitions none;
+      filled_is = ap (λ logs. filled logs c.args.places.now c.args.ids.now) empty;
     }
 
 pub index_mut-log-requires : goal.index_mut-log-requires

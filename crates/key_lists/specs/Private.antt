@@ -1,0 +1,2 @@
+pub mod KeyStore
+pub mod KeyText

@@ -1,0 +1,166 @@
+//! Keys, of which the first are looked up.
+
+ghost use Rattle.std.specs.Prelude.{◌≡◌, ◌<◌, ◌^◌, ◌++◌, ◌∷◌, [], IfNone, IfOk, IfSome, OnErr, OnOk, false, length, map, slice_index_or};
+ghost use Rattle.key_numbers.specs.Keys.{key_at, lent};
+ghost use Rattle.key_lists.specs.Private.KeyStore.{TakesCode, looked_up};
+
+use crate::key_text::KeyText;
+use key_numbers::KeyTable;
+use lane_words::Memory;
+use std::alloc::Global;
+use std::hash::RandomState;
+use std::marker::Model;
+
+/// How many keys are looked up at most: a look-up among more waits for memory as long as it takes to
+/// number the key again.
+const MOST_KNOWN: u32 = 1 << 17;
+
+/// Keys by their places, of which the first are looked up.
+#[derive(Debug, Drop)]
+pub struct KeyStore {
+    /// The keys that are looked up, if any are.
+    known: Option<KeyTable>,
+    /// The keys behind them.
+    more: KeyText,
+}
+
+impl Model for KeyStore {
+    ghost use Rattle.std.specs.Prelude.{◌<◌, ◌^◌, ◌++◌, ℕ, List, length};
+    ghost use Rattle.key_lists.specs.Private.KeyStore.{looked_up};
+
+    ghost Value = { List (List ℕ) };
+
+    ghost view = { λ s. looked_up s.known ++ s.more };
+
+    ghost invariant = { λ s. length s.more < 2 ^ 63 };
+}
+
+/// How many keys are looked up.
+fn count_of(known: &Option<KeyTable>) -> usize
+    ensures count { result ≡ length (looked_up known.now) }
+    ensures few { result < 2 ^ 32 }
+{
+    match known {
+        Some(table) => table.count() as usize,
+        None => 0,
+    }
+}
+
+/// Where a key stands in a table, to which it is added where it is new, `grows` is told and there is
+/// room.
+fn seek(table: &mut KeyTable, key: &[u8], grows: bool) -> Result<Option<usize>, Memory>
+    ensures found { IfOk result (λ found. IfSome found (TakesCode table.old table.new key.now)) }
+    ensures none { IfOk result (λ found. IfNone found (table.new ≡ table.old)) }
+    ensures still { grows ≡ false → table.new ≡ table.old }
+    ensures err { OnErr result (table.new ≡ table.old) }
+{
+    if grows && table.count() < MOST_KNOWN {
+        let code = table.number(key)?;
+        return Ok(Some(code as usize));
+    }
+    let Some(code) = table.find(key)? else {
+        return Ok(None);
+    };
+    Ok(Some(code as usize))
+}
+
+/// The same among the keys that are looked up, if any are.
+fn seek_known(
+    known: &mut Option<KeyTable>,
+    key: &[u8],
+    grows: bool,
+) -> Result<Option<usize>, Memory>
+    ensures found { IfOk result (λ found. IfSome found
+        (TakesCode (looked_up known.old) (looked_up known.new) key.now)) }
+    ensures none { IfOk result (λ found. IfNone found
+        (looked_up known.new ≡ looked_up known.old)) }
+    ensures still { grows ≡ false → looked_up known.new ≡ looked_up known.old }
+    ensures err { OnErr result (looked_up known.new ≡ looked_up known.old) }
+{
+    match known {
+        Some(table) => seek(table, key, grows),
+        None => Ok(None),
+    }
+}
+
+impl KeyStore {
+    /// No keys. None that is added is looked up.
+    pub fn new(alloc: Global) -> KeyStore
+        ensures { result ≡ [] }
+    {
+        KeyStore {
+            known: None,
+            more: KeyText::new(alloc),
+        }
+    }
+
+    /// No keys. The first that are added are looked up by this hasher.
+    pub fn looking_up(alloc: Global, hasher: RandomState) -> KeyStore
+        ensures { result ≡ [] }
+    {
+        KeyStore {
+            known: Some(KeyTable::new(alloc, hasher)),
+            more: KeyText::new(alloc),
+        }
+    }
+
+    /// How many keys there are.
+    pub fn len(&self) -> usize
+        ensures { result ≡ length self.now }
+    {
+        count_of(&self.known) + self.more.len()
+    }
+
+    /// The key at a place, counted from 0.
+    pub fn get(&self, i: usize) -> &[u8]
+        requires { i < length self.now }
+        ensures { result.now ≡ key_at self.now i }
+    {
+        let Some(table) = &self.known else {
+            return self.more.get(i);
+        };
+        let first = table.count() as usize;
+        if i < first {
+            table.key(i as u32)
+        } else {
+            self.more.get(i - first)
+        }
+    }
+
+    /// The slices of all keys, in order.
+    pub fn slices(&self, alloc: Global) -> Result<Vec<&[u8]>, Memory>
+        ensures { IfOk result (λ slices. lent slices.items ≡ self.now) }
+    {
+        let mut slices = Vec::with_capacity(alloc, self.len())?;
+        for i in 0..self.len() {
+            slices.push(self.get(i))?;
+        }
+        Ok(slices)
+    }
+
+    /// Adds two texts as one key at the end, and tells its place.
+    fn add(&mut self, head: &[u8], key: &[u8]) -> Result<usize, Memory>
+        ensures code { IfOk result (TakesCode self.old self.new (head.now ++ key.now)) }
+        ensures err { OnErr result (self.new ≡ self.old) }
+    {
+        let code = self.len();
+        self.more.push_two(head, key)?;
+        Ok(code)
+    }
+
+    /// The place of a key that is two texts: where it stands, if it is looked up and found, and else
+    /// at the end, where it is added. None with a first text is looked up. Where memory is refused,
+    /// the keys stay as they were.
+    pub fn place_of(&mut self, head: &[u8], key: &[u8], looks: bool) -> Result<usize, Memory>
+        ensures code { IfOk result (TakesCode self.old self.new (head.now ++ key.now)) }
+        ensures err { OnErr result (self.new ≡ self.old) }
+    {
+        if looks && head.is_empty() {
+            let grows = self.more.len() == 0;
+            if let Some(code) = seek_known(&mut self.known, key, grows)? {
+                return Ok(code);
+            }
+        }
+        self.add(head, key)
+    }
+}

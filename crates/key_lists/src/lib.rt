@@ -1,0 +1,13 @@
+//! Lists of the keys of records, in which a key that comes again mostly stands once.
+#![tactic(auto)]
+
+mod coding;
+mod key_list;
+mod key_store;
+mod key_text;
+
+pub use coding::{CodedPart, coded_parts, collected, firsts_of};
+pub use key_list::KeyList;
+
+#[cfg(test)]
+mod tests;

@@ -1,0 +1,326 @@
+-- Logs that are filled share by share, and records that are read by codes.
+use Rattle.std.proofs.Common.{◌≡◌, ◌∙◌, ◌+◌, ◌-◌, ◌<◌, ◌≤◌, ℕ, zero, suc, Bool, true, false, List, [], ◌∷◌, ◌++◌, Bor, Result, Ok, Vec, length, map, take, drop, get_or, replicate, sym, ap, ap₂, refl, subst, arith, inl, inr, append_assoc, length-append, length-drop, length-take-le, get_or-set_same, get_or-set_other, vec_items}
+use Rattle.std.specs.Prelude.{◌==◌, if◌then◌else◌, All, IfOk, slice_range, slice_set}
+use Rattle.std.proofs.lemmas.Bool.Decides.{eqb_tells}
+use Rattle.std.proofs.lemmas.List.{append-nil, drop_at, drop_more, drop-drop, ext_get_or, get_or-map, get_or-replicate, length-map, length-replicate, length-set, map-append, take_at, take_more}
+use Rattle.std.proofs.lemmas.List.Concat.{flat_map-append}
+use Rattle.std.proofs.lemmas.List.Elements.{All-append, All-cons, All-drop, All-head, All-push, All-tail, All-take}
+use Rattle.lane_words.specs.declared.Memory.{Memory}
+use Rattle.key_numbers.specs.Keys.{Key, key_at}
+use Rattle.key_lists.specs.Lists.{AreCoded, IsCoded, codes_in, joined, keys_in}
+use Rattle.key_lists.specs.declared.coding.CodedPart.{CodedPart}
+use Rattle.key_lists.proofs.Coded.{distinct-parts, read-codes}
+use Rattle.partition_log.specs.Private.Filled.{ArePlaced, AreShort, CanGoSideBySide, filled}
+use Rattle.partition_log.specs.Private.Shares.{AreMerged, IsFillable, by_codes, in_row, numbers_in, places_in, read_by, records_of}
+use Rattle.partition_log.specs.declared.shares.Share.{Share}
+use Rattle.partition_log.specs.Appends.{AreAppended, in_first, lent, placed}
+use Rattle.partition_log.specs.Keys.{distinct, id_of, of_first}
+use Rattle.partition_log.specs.Logs.{IsValidLogs, PartitionLogs, place_in}
+use Rattle.partition_log.proofs.Appended.{first-keys, first-placed, first-topics, none_appended, places-are, records-placed}
+use Rattle.partition_log.proofs.SideBySide.{side-by-side}
+use Rattle.key_numbers.proofs.ShardRecords.{lent-placed}
+use Rattle.lane_words.specs.declared.limits.TheConstants.{LONGEST_KEY}
+
+-- ---- the records of one place
+abbrev pub at_place : ℕ → List ℕ → List ℕ → List ℕ
+at_place p [] ids = []
+at_place p (x ∷ xs) [] = []
+at_place p (x ∷ xs) (n ∷ ns) = if x == p then n ∷ at_place p xs ns else at_place p xs ns
+
+pub filled-long : (logs : List (List ℕ)) (places ids : List ℕ) → length (filled logs places ids) ≡ length logs
+filled-long logs [] ids = refl
+filled-long logs (x ∷ xs) [] = refl
+filled-long logs (x ∷ xs) (n ∷ ns) =
+    let new = get_or logs x [] ++ n ∷ [] in
+    filled-long (slice_set logs x new) xs ns ∙ length-set logs x new
+
+filled-one : (b : Bool) (old new rest : List ℕ) (n : ℕ) → (b ≡ true → new ≡ old ++ n ∷ []) → (b ≡ false → new ≡ old) → new ++ rest ≡ old ++ (if b then n ∷ rest else rest)
+filled-one true old new rest n same other = ap (λ xs. xs ++ rest) (same refl) ∙ append_assoc old (n ∷ []) rest
+filled-one false old new rest n same other = ap (λ xs. xs ++ rest) (other refl)
+
+-- a log has its records behind those that it had
+pub filled-at : (logs : List (List ℕ)) (places ids : List ℕ) (p : ℕ) → p < length logs → get_or (filled logs places ids) p [] ≡ get_or logs p [] ++ at_place p places ids
+filled-at logs [] ids p lt = sym (append-nil (get_or logs p []))
+filled-at logs (x ∷ xs) [] p lt = sym (append-nil (get_or logs p []))
+filled-at logs (x ∷ xs) (n ∷ ns) p lt =
+    let new = get_or logs x [] ++ n ∷ [] in
+    let still : p < length (slice_set logs x new) = omega (arith, lt, length-set logs x new) in
+    filled-at (slice_set logs x new) xs ns p still
+    ∙ filled-one (x == p) (get_or logs p []) (get_or (slice_set logs x new) p []) (at_place p xs ns) n
+    (λ e. elim (eqb_tells x p) [
+      | inl t ↦ ap (λ q. get_or (slice_set logs x new) q []) (sym t.1) ∙ get_or-set_same logs x new [] (omega (arith, lt, t.1)) ∙ ap (λ q. get_or logs q [] ++ n ∷ []) t.1
+      | inr f ↦ absurd (cc (e, f.0))
+    ])
+    (λ e. elim (eqb_tells x p) [
+      | inl t ↦ absurd (cc (e, t.0))
+      | inr f ↦ get_or-set_other logs x p new [] (λ is. f.1 (sym is))
+    ])
+
+place-one : (b : Bool) (n : ℕ) (own more : List ℕ) → (if b then n ∷ (own ++ more) else own ++ more) ≡ (if b then n ∷ own else own) ++ more
+place-one true n own more = refl
+place-one false n own more = refl
+
+pub place-append : (p : ℕ) (xs ns ys ms : List ℕ) → length xs ≡ length ns → at_place p (xs ++ ys) (ns ++ ms) ≡ at_place p xs ns ++ at_place p ys ms
+place-append p [] [] ys ms e = refl
+place-append p [] (n ∷ ns) ys ms e = absurd (omega (arith, e))
+place-append p (x ∷ xs) [] ys ms e = absurd (omega (arith, e))
+place-append p (x ∷ xs) (n ∷ ns) ys ms e =
+    ap (λ rest. if x == p then n ∷ rest else rest) (place-append p xs ns ys ms (omega (arith, e))) ∙ place-one (x == p) n (at_place p xs ns) (at_place p ys ms)
+
+-- ---- shares
+-- the logs of a share
+abbrev pub filled_share : ℕ → Share → List (List ℕ)
+filled_share partitions share = filled (replicate partitions []) (places_in share) (numbers_in share)
+
+share-long : (share : Share) → length (places_in share) ≡ length (numbers_in share)
+share-long share =
+    length-map share.codes.now (λ (code : ℕ). get_or share.places.now code 0) ∙ sym (length-map share.codes.now (λ (code : ℕ). get_or share.numbers.now code 0))
+
+none-long : (partitions : ℕ) → length (replicate {A = List ℕ} partitions []) ≡ partitions
+none-long partitions = length-replicate partitions []
+
+pub merged-place : (partitions p : ℕ) (shares : List Share) → p < partitions
+    → in_row (map (λ part. get_or part p []) (map (filled_share partitions) shares)) ≡ at_place p (in_row (map places_in shares)) (in_row (map numbers_in shares))
+merged-place partitions p [] lt = refl
+merged-place partitions p (share ∷ shares) lt =
+    let none : List (List ℕ) = replicate partitions [] in
+    let own : get_or (filled_share partitions share) p [] ≡ at_place p (places_in share) (numbers_in share) =
+    filled-at none (places_in share) (numbers_in share) p (omega (arith, lt, none-long partitions))
+    ∙ ap (λ log. log ++ at_place p (places_in share) (numbers_in share)) (get_or-replicate partitions p [] [] lt) in
+    ap₂ (λ a b. a ++ b) own (merged-place partitions p shares lt)
+    ∙ sym (place-append p (places_in share) (numbers_in share) (in_row (map places_in shares)) (in_row (map numbers_in shares)) (share-long share))
+
+-- merged, they are those that are filled by all records
+pub merged-filled : (partitions : ℕ) (shares : List Share) (logs : List (List ℕ)) → AreMerged partitions (map (filled_share partitions) shares) logs
+    → logs ≡ filled (replicate partitions []) (in_row (map places_in shares)) (in_row (map numbers_in shares))
+merged-filled partitions shares logs so =
+    let none : List (List ℕ) = replicate partitions [] in
+    let places = in_row (map places_in shares) in
+    let numbers = in_row (map numbers_in shares) in
+    let long : length (filled none places numbers) ≡ partitions = filled-long none places numbers ∙ none-long partitions in
+    ext_get_or [] logs (filled none places numbers) (so.as_many ∙ sym long) (λ p lt.
+    let within : p < partitions = omega (arith, lt, so.as_many) in
+    so.each p within ∙ merged-place partitions p shares within
+    ∙ sym (filled-at none places numbers p (omega (arith, within, none-long partitions)) ∙ ap (λ log. log ++ at_place p places numbers) (get_or-replicate partitions p [] [] within)))
+
+-- what was found for each index, where nothing was refused
+pub found-each : {T : Type 0} (P : ℕ → T → Type 0) (found : List (Result T Memory)) (all : List T) (n : ℕ) → found ≡ map Ok all → length found ≡ n
+    → ((i : ℕ) (d : Result T Memory) → i < n → IfOk (get_or found i d) (P i)) → (i : ℕ) (d : T) → i < n → P i (get_or all i d)
+found-each P found all n is long h i d lt =
+    let many : length all ≡ n = sym (ap length is ∙ length-map all Ok) ∙ long in
+    let own = h i (Ok d) lt in
+    let at : get_or found i (Ok d) ≡ Ok (get_or all i d) = ap (λ fs. get_or fs i (Ok d)) is ∙ get_or-map Ok all i d (Ok d) (omega (arith, lt, many)) in
+    rw at at own
+
+pub found-long : {T : Type 0} (found : List (Result T Memory)) (all : List T) (n : ℕ) → found ≡ map Ok all → length found ≡ n → length all ≡ n
+found-long found all n is long = sym (ap length is ∙ length-map all Ok) ∙ long
+
+-- ---- records by codes
+pub coded-at : (parts : List (List Key)) (coded : List CodedPart) (i : ℕ) (d : CodedPart) → i < length coded → AreCoded parts coded → IsCoded (get_or parts i []) (get_or coded i d)
+coded-at [] [] i d lt so = absurd (omega (arith, lt))
+coded-at [] (c ∷ coded) i d lt so = absurd so
+coded-at (part ∷ parts) [] i d lt so = absurd so
+coded-at (part ∷ parts) (c ∷ coded) zero d lt so = so.0
+coded-at (part ∷ parts) (c ∷ coded) (suc i) d lt so = coded-at parts coded i d (omega (arith, lt)) so.1
+
+-- coded lists have the records of the lists
+pub coded-records : (parts : List (List Key)) (coded : List CodedPart) → AreCoded parts coded → map records_of coded ≡ parts
+coded-records [] [] so = refl
+coded-records [] (c ∷ coded) so = absurd so
+coded-records (part ∷ parts) [] so = absurd so
+coded-records (part ∷ parts) (c ∷ coded) so = ap₂ (λ p ps. p ∷ ps) so.0.same_records (coded-records parts coded so.1)
+
+-- what a function gives of all records
+pub read-all : (f : Key → ℕ) (parts : List (List Key)) (coded : List CodedPart) → AreCoded parts coded → read_by (map f (joined (map keys_in coded))) coded ≡ map f (joined parts)
+read-all f [] [] so = refl
+read-all f [] (c ∷ coded) so = absurd so
+read-all f (part ∷ parts) [] so = absurd so
+read-all f (part ∷ parts) (c ∷ coded) so =
+    let own = map f (keys_in c) in
+    let more = map f (joined (map keys_in coded)) in
+    let n = length (keys_in c) in
+    let long : length own ≡ n = length-map (keys_in c) f in
+    let all : map f (joined (map keys_in (c ∷ coded))) ≡ own ++ more = map-append f (keys_in c) (joined (map keys_in coded)) in
+    ap (λ xs. by_codes (take n xs) (codes_in c) ++ read_by (drop n xs) coded) all
+    ∙ ap₂ (λ xs ys. by_codes xs (codes_in c) ++ read_by ys coded) (take_at own more n long) (drop_at own more n long)
+    ∙ ap₂ (λ xs ys. xs ++ ys) (read-codes f part (keys_in c) (codes_in c) so.0) (read-all f parts coded so.1)
+    ∙ sym (map-append f part (joined parts))
+
+-- the keys of the records are short where those of the lists are
+one-short : (keys : List Key) (codes : List ℕ) → All (λ code. code < length keys) codes → AreShort keys → AreShort (map (key_at keys) codes)
+one-short keys [] within short = λ i d lt. absurd (omega (arith, lt))
+one-short keys (code ∷ codes) within short =
+    All-cons (λ (key : Key). length key ≤ LONGEST_KEY) (key_at keys code) (map (key_at keys) codes) (short code [] (All-head (λ c. c < length keys) code codes within))
+    (one-short keys codes (All-tail (λ c. c < length keys) code codes within) short)
+
+left-short : (xs ys : List Key) → AreShort (xs ++ ys) → AreShort xs × AreShort ys
+left-short [] ys h = ((λ i d lt. absurd (omega (arith, lt))), h)
+left-short (x ∷ xs) ys h =
+    let rest = left-short xs ys (All-tail (λ (key : Key). length key ≤ LONGEST_KEY) x (xs ++ ys) h) in
+    (All-cons (λ (key : Key). length key ≤ LONGEST_KEY) x xs (All-head (λ (key : Key). length key ≤ LONGEST_KEY) x (xs ++ ys) h) rest.0, rest.1)
+
+pub records-short : (parts : List (List Key)) (coded : List CodedPart) → AreCoded parts coded → AreShort (joined (map keys_in coded)) → AreShort (joined parts)
+records-short [] [] so short = short
+records-short [] (c ∷ coded) so short = absurd so
+records-short (part ∷ parts) [] so short = absurd so
+records-short (part ∷ parts) (c ∷ coded) so short =
+    let both = left-short (keys_in c) (joined (map keys_in coded)) short in
+    All-append (λ (key : Key). length key ≤ LONGEST_KEY) part (joined parts)
+    (subst AreShort so.0.same_records (one-short (keys_in c) (codes_in c) so.0.within both.0)) (records-short parts coded so.1 both.1)
+
+-- ---- one share more
+pub joined-next : (coded : List CodedPart) (i from : ℕ) (d : CodedPart) → i < length coded → from ≡ length (joined (map keys_in (take i coded)))
+    → from + length (keys_in (get_or coded i d)) ≡ length (joined (map keys_in (take (i + 1) coded)))
+joined-next coded i from d lt is =
+    let one = keys_in (get_or coded i d) in
+    let front : joined (map keys_in (take (i + 1) coded)) ≡ joined (map keys_in (take i coded)) ++ one =
+    ap (λ (cs : List CodedPart). joined (map keys_in cs)) (take_more coded i d lt) ∙ ap joined (map-append keys_in (take i coded) (get_or coded i d ∷ []))
+    ∙ flat_map-append (λ (ks : List Key). ks) (map keys_in (take i coded)) (one ∷ []) ∙ ap (λ ks. joined (map keys_in (take i coded)) ++ ks) (append-nil one) in
+    let long = ap length front ∙ length-append (joined (map keys_in (take i coded))) one in
+    omega (arith, long, is)
+
+pub joined-front : (coded : List CodedPart) (i : ℕ) → length (joined (map keys_in (take i coded))) ≤ length (joined (map keys_in coded))
+joined-front coded zero = omega arith
+joined-front [] (suc i) = omega arith
+joined-front (c ∷ coded) (suc i) =
+    let rest = joined-front coded i in
+    omega (arith, rest, length-append (keys_in c) (joined (map keys_in (take i coded))), length-append (keys_in c) (joined (map keys_in coded)))
+
+-- the end of the next list's keys is within those of all
+pub joined-within : (coded : List CodedPart) (i from : ℕ) (d : CodedPart) → i < length coded → from ≡ length (joined (map keys_in (take i coded)))
+    → from + length (keys_in (get_or coded i d)) ≤ length (joined (map keys_in coded))
+joined-within coded i from d lt is = let next = joined-next coded i from d lt is in let front = joined-front coded (i + 1) in omega (arith, next, front)
+
+in_row-more : (lists : List (List ℕ)) (xs : List ℕ) → in_row (lists ++ xs ∷ []) ≡ in_row lists ++ xs
+in_row-more lists xs = flat_map-append (λ (ys : List ℕ). ys) lists (xs ∷ []) ∙ ap (λ ys. in_row lists ++ ys) (append-nil xs)
+
+-- what the next list's records have, before the others'
+pub read-more : (of : Share → List ℕ) (shares : List Share) (share : Share) (all whole : List ℕ) (coded : List CodedPart) (i from to : ℕ) (d : CodedPart) → i < length coded
+    → to ≡ from + length (keys_in (get_or coded i d)) → of share ≡ by_codes (slice_range all from to) (codes_in (get_or coded i d))
+    → in_row (map of shares) ++ read_by (drop from all) (drop i coded) ≡ whole
+    → in_row (map of (shares ++ share ∷ [])) ++ read_by (drop to all) (drop (i + 1) coded) ≡ whole
+read-more of shares share all whole coded i from to d lt end own so =
+    let one = get_or coded i d in
+    let n = length (keys_in one) in
+    let left : List ℕ = drop from all in
+    let size : to - from ≡ n = omega (arith, end) in
+    let here : of share ≡ by_codes (take n left) (codes_in one) = own ∙ ap (λ m. by_codes (take m left) (codes_in one)) size in
+    let behind : drop to all ≡ drop n left = ap (λ m. drop m all) end ∙ sym (drop-drop n from all) in
+    let next : read_by left (drop i coded) ≡ of share ++ read_by (drop to all) (drop (i + 1) coded) =
+    ap (read_by left) (drop_more coded i d lt) ∙ sym (ap₂ (λ xs ys. xs ++ read_by ys (drop (i + 1) coded)) here behind) in
+    ap (λ xs. xs ++ read_by (drop to all) (drop (i + 1) coded)) (ap in_row (map-append of shares (share ∷ [])) ∙ in_row-more (map of shares) (of share))
+    ∙ append_assoc (in_row (map of shares)) (of share) (read_by (drop to all) (drop (i + 1) coded)) ∙ ap (λ xs. in_row (map of shares) ++ xs) (sym next) ∙ so
+
+-- a part of the numbers below a bound
+pub part-below : (bound from to : ℕ) (xs : List ℕ) → All (λ p. p < bound) xs → All (λ p. p < bound) (slice_range xs from to)
+part-below bound from to xs h = All-take (λ p. p < bound) (to - from) (drop from xs) (All-drop (λ p. p < bound) from xs h)
+
+-- ---- what threads found
+-- the parts are the logs of the shares
+pub filled-parts : {A Z : Type 0} (partitions : ℕ) (shares : List Share) (found : List (Result (Vec (Vec ℕ Z) A) Memory)) (parts : List (Vec (Vec ℕ Z) A)) → found ≡ map Ok parts → length found ≡ length shares
+    → ((i : ℕ) (d : Result (Vec (Vec ℕ Z) A) Memory) (e : Share) → i < length shares → IfOk (get_or found i d) (λ part. map vec_items part.items ≡ filled_share partitions (get_or shares i e)))
+    → map (λ (part : Vec (Vec ℕ Z) A). map vec_items part.items) parts ≡ map (filled_share partitions) shares
+filled-parts partitions [] found [] is long h = refl
+filled-parts partitions [] found (part ∷ parts) is long h = absurd (let e = ap length is in omega (arith, e, long))
+filled-parts partitions (share ∷ shares) found [] is long h = absurd (let e = ap length is in omega (arith, e, long))
+filled-parts partitions (share ∷ shares) [] (part ∷ parts) is long h = absurd (omega (arith, long))
+filled-parts partitions (share ∷ shares) (f ∷ found) (part ∷ parts) is long h =
+    let first = h zero f share (omega arith) in
+    let head : f ≡ Ok part = ap (λ fs. get_or fs 0 f) is in
+    let own : map vec_items part.items ≡ filled_share partitions share = rw head at first in
+    let rest : found ≡ map Ok parts = ap (drop 1) is in
+    ap₂ (λ p ps. p ∷ ps) own (filled-parts partitions shares found parts rest (omega (arith, long)) (λ i d e lt. h (suc i) d e (omega (arith, lt))))
+
+map-twice : {X Y Z : Type 0} (f : X → Y) (g : Y → Z) (xs : List X) → map g (map f xs) ≡ map (λ x. g (f x)) xs
+map-twice f g [] = refl
+map-twice f g (x ∷ xs) = ap (λ ys. g (f x) ∷ ys) (map-twice f g xs)
+
+merged-one : {A B Z : Type 0} (partitions : ℕ) (parts : List (Vec (Vec ℕ Z) B)) (found : List (Result (Vec ℕ A) Memory)) (logs : List (Vec ℕ A)) → found ≡ map Ok logs → length found ≡ partitions
+    → ((p : ℕ) (d : Result (Vec ℕ A) Memory) → p < partitions → IfOk (get_or found p d) (λ log. log.items ≡ in_row (map (λ (part : Vec (Vec ℕ Z) B). get_or (map vec_items part.items) p []) parts)))
+    → (p : ℕ) → p < partitions → get_or (map vec_items logs) p [] ≡ in_row (map (λ (part : List (List ℕ)). get_or part p []) (map (λ (part : Vec (Vec ℕ Z) B). map vec_items part.items) parts))
+merged-one partitions parts found [] is long h p lt = absurd (let e = found-long found [] partitions is long in omega (arith, e, lt))
+merged-one partitions parts found (log ∷ logs) is long h p lt =
+    let many = found-long found (log ∷ logs) partitions is long in
+    let own = found-each (λ i one. one.items ≡ in_row (map (λ part. get_or (map vec_items part.items) i []) parts)) found (log ∷ logs) partitions is long h p log lt in
+    get_or-map vec_items (log ∷ logs) p log [] (omega (arith, many, lt)) ∙ own
+    ∙ ap in_row (sym (map-twice (λ part. map vec_items part.items) (λ part. get_or part p []) parts))
+
+-- the logs are merged of the parts
+pub merged-parts : {A B Z : Type 0} (partitions : ℕ) (parts : List (Vec (Vec ℕ Z) B)) (found : List (Result (Vec ℕ A) Memory)) (logs : List (Vec ℕ A)) → found ≡ map Ok logs → length found ≡ partitions
+    → ((p : ℕ) (d : Result (Vec ℕ A) Memory) → p < partitions → IfOk (get_or found p d) (λ log. log.items ≡ in_row (map (λ (part : Vec (Vec ℕ Z) B). get_or (map vec_items part.items) p []) parts)))
+    → AreMerged partitions (map (λ (part : Vec (Vec ℕ Z) B). map vec_items part.items) parts) (map vec_items logs)
+merged-parts partitions parts found logs is long h = record {
+  as_many = length-map logs vec_items ∙ found-long found logs partitions is long;
+  each = merged-one partitions parts found logs is long h;
+}
+
+-- each part has a log for each partition
+pub parts-long : {A Z : Type 0} (partitions : ℕ) (shares : List Share) (parts : List (Vec (Vec ℕ Z) A)) → map (λ (part : Vec (Vec ℕ Z) A). map vec_items part.items) parts ≡ map (filled_share partitions) shares
+    → All (λ (part : Vec (Vec ℕ Z) A). length part.items ≡ partitions) parts
+parts-long partitions shares [] is = λ i d lt. absurd (omega (arith, lt))
+parts-long partitions [] (part ∷ parts) is = absurd (cc is)
+parts-long partitions (share ∷ shares) (part ∷ parts) is =
+    let head : map vec_items part.items ≡ filled_share partitions share = ap (λ ps. get_or ps 0 []) is in
+    let rest : map (λ part. map vec_items part.items) parts ≡ map (filled_share partitions) shares = ap (drop 1) is in
+    All-cons (λ part. length part.items ≡ partitions) part parts
+    (sym (length-map part.items vec_items) ∙ ap length head ∙ filled-long (replicate partitions []) (places_in share) (numbers_in share) ∙ none-long partitions)
+    (parts-long partitions shares parts rest)
+
+-- ---- appends
+-- where there are no keys, nothing is appended
+pub nothing-appended : (l : PartitionLogs) (keys : List Key) → length keys ≡ 0 → AreAppended l (placed l (in_first keys)) l
+nothing-appended l [] none = none_appended l
+nothing-appended l (key ∷ keys) none = absurd (omega (arith, none))
+
+-- one share more that can be filled
+pub pushed-fillable : (partitions i from to : ℕ) (coded : List CodedPart) (d : CodedPart) (places numbers : List ℕ) (shares : List Share) (share : Share) → i < length coded → AreCoded (map records_of coded) coded
+    → All (λ p. p < partitions) places → to ≡ from + length (keys_in (get_or coded i d)) → to ≤ length places → to ≤ length numbers
+    → share.codes.now ≡ codes_in (get_or coded i d) → share.places.now ≡ slice_range places from to → share.numbers.now ≡ slice_range numbers from to
+    → All (IsFillable partitions) shares → All (IsFillable partitions) (shares ++ share ∷ [])
+pushed-fillable partitions i from to coded d places numbers shares share lt so below end within within_n codes_are places_are numbers_are h =
+    let own = coded-at (map records_of coded) coded i d lt so in
+    let n = length (keys_in (get_or coded i d)) in
+    let long : length share.places.now ≡ n = ap length places_are ∙ part-long places from to within ∙ omega (arith, end) in
+    let long_n : length share.numbers.now ≡ n = ap length numbers_are ∙ part-long numbers from to within_n ∙ omega (arith, end) in
+    All-push (IsFillable partitions) shares share h (record {
+      placed = rw (codes_are, long) own.within;
+      numbered = rw (codes_are, long_n) own.within;
+      below = rw places_are (part-below partitions from to places below);
+    })
+  where
+    part-long : (xs : List ℕ) (from to : ℕ) → to ≤ length xs → length (slice_range xs from to) ≡ to - from
+    part-long xs from to le = length-take-le (to - from) (drop from xs) (omega (arith, le, length-drop from xs))
+
+-- ---- records by lists
+-- where keys of lists go
+pub lists-placed : (l : PartitionLogs) (places : List ℕ) (keys : List (Bor Key)) → IsValidLogs l → places ≡ map (λ key. place_in l (of_first key.now)) keys → ArePlaced l places (lent keys)
+lists-placed l places keys a are = records-placed l places (in_first (lent keys)) (lent keys) (first-topics l (lent keys) a) (are ∙ first-placed l keys) (sym (first-keys (lent keys)))
+
+first-places : (l : PartitionLogs) (keys : List Key) → map (λ key. place_in l (of_first key)) keys ≡ map (place_in l) (in_first keys)
+first-places l [] = refl
+first-places l (key ∷ keys) = ap (λ ps. place_in l (of_first key) ∷ ps) (first-places l keys)
+
+-- what coded lists give whose records are appended by the places and the numbers of their keys
+pub by-lists : (old l : PartitionLogs) (coded : List CodedPart) (firsts : List (Bor Key)) (all : List Key) (places numbers : List ℕ) (count : ℕ) (logs : List (List ℕ)) → l ≡ old → IsValidLogs l
+    → AreCoded (map records_of coded) coded → lent firsts ≡ joined (map keys_in coded) → CanGoSideBySide old (joined (map records_of coded)) → count ≡ l.partitions → IsValidLogs old
+    → places ≡ map (λ key. place_in old (of_first key.now)) firsts → numbers ≡ map (id_of (distinct (lent firsts))) (lent firsts) → all ≡ distinct (lent firsts)
+    → logs ≡ filled (replicate count []) (read_by places coded) (read_by numbers coded)
+    → (let new : PartitionLogs = record { counts = l.counts; partitions = l.partitions; keys = all; logs = logs } in AreAppended old (placed old (in_first (joined (map records_of coded)))) new × IsValidLogs new)
+by-lists old l coded firsts all places numbers count logs seen a so are can counted valid placed_are numbered is filled_are =
+    let records = joined (map records_of coded) in
+    let place : Key → ℕ = λ key. place_in old (of_first key) in
+    let same : distinct (lent firsts) ≡ distinct records = ap distinct are ∙ distinct-parts (map records_of coded) coded so in
+    let of_keys : places ≡ map place (joined (map keys_in coded)) = placed_are ∙ lent-placed place firsts ∙ ap (map place) are in
+    let of_records : read_by places coded ≡ map place records = ap (λ ps. read_by ps coded) of_keys ∙ read-all place (map records_of coded) coded so in
+    let ids_of_keys : numbers ≡ map (id_of (distinct records)) (joined (map keys_in coded)) = numbered ∙ ap (λ ks. map (id_of ks) (lent firsts)) same ∙ ap (map (id_of (distinct records))) are in
+    let ids_are : read_by numbers coded ≡ map (id_of (distinct records)) records = ap (λ ns. read_by ns coded) ids_of_keys ∙ read-all (id_of (distinct records)) (map records_of coded) coded so in
+    let at : read_by places coded ≡ map (place_in old) (in_first records) = of_records ∙ first-places old records in
+    let goes = records-placed old (read_by places coded) (in_first records) records (first-topics old records valid) at (sym (first-keys records)) in
+    let made = side-by-side old l records all (read_by places coded) (read_by numbers coded) count logs seen a can counted goes.as_many goes.goes ids_are (is ∙ same) filled_are in
+    (subst (λ rs. AreAppended old rs (record { counts = l.counts; partitions = l.partitions; keys = all; logs = logs })) (places-are old (read_by places coded) (in_first records) records at (sym (first-keys records))) made.0, made.1)
+
+-- an item that is there, whatever is taken where it is not
+pub get_or-any : {X : Type 0} (xs : List X) (i : ℕ) (d e : X) → i < length xs → get_or xs i d ≡ get_or xs i e
+get_or-any [] i d e lt = absurd (omega (arith, lt))
+get_or-any (x ∷ xs) zero d e lt = refl
+get_or-any (x ∷ xs) (suc i) d e lt = get_or-any xs i d e (omega (arith, lt))

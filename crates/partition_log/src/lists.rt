@@ -1,0 +1,152 @@
+//! Appends of the keys of lists at once.
+
+ghost use Rattle.std.specs.Prelude.{◌≡◌, ◌<◌, ◌≤◌, true, false, IfErr, IfOk, IsTrue, OnErr, OnOk, length, map};
+ghost use Rattle.key_lists.specs.Lists.{AreCoded, joined, keys_in};
+ghost use Rattle.partition_log.specs.Appends.{AreAppended, AreStoppedAfter, GrowByRecords, in_first, lent, placed};
+ghost use Rattle.partition_log.specs.Logs.{IsValidLogs};
+ghost use Rattle.partition_log.specs.Private.Filled.{CanGoSideBySide};
+ghost use Rattle.partition_log.specs.Private.Shares.{records_of};
+
+use crate::Logs;
+use crate::appends::{SIDE_BY_SIDE, are_short};
+use crate::shares::logs_of_lists;
+use key_lists::{CodedPart, KeyList, coded_parts, firsts_of};
+use lane_words::{MOST_RECORDS, Memory, Refusal};
+use std::alloc::Global;
+use std::thread::Threads;
+
+impl Logs {
+    /// Appends records of the keys of these lists to the first topic, one list after another, until
+    /// one is refused: as `append_all` of all their keys.
+    ///
+    /// Where no limit can be met, only the keys of the lists are hashed and placed, and each record
+    /// has those of its key.
+    pub fn append_lists<R: Threads + Sync>(
+        &mut self,
+        rt: &R,
+        lists: &[KeyList],
+    ) -> Result<(), (u64, Refusal)>
+        ensures ok { IfOk result (λ _.
+            AreAppended self.old (placed self.old (in_first (joined lists.now))) self.new) }
+        ensures err { IfErr result (λ stop. AreStoppedAfter stop.0 stop.1 self.old
+            (placed self.old (in_first (joined lists.now))) self.new) }
+        ensures valid { IsValidLogs self.new }
+        ensures history { OnOk result
+            (GrowByRecords (in_first (joined lists.now)) self.old self.new) }
+    {
+        if self.can_go_by_lists(lists) {
+            match self.append_coded(rt, lists) {
+                Ok(true) => return Ok(()),
+                Ok(false) => {}
+                Err(_) => return Err((0, Refusal::Memory)),
+            }
+        }
+        self.append_each(rt, lists)
+    }
+
+    /// Whether the keys of these lists are many, and there is no record yet.
+    fn can_go_by_lists(&self, lists: &[KeyList]) -> bool
+        ensures none { IsTrue result → length self.now.keys ≡ 0 }
+        ensures some { IsTrue result → 0 < length (joined lists.now) }
+        ensures few { IsTrue result → length (joined lists.now) ≤ MOST_RECORDS }
+        ensures valid { IsValidLogs self.now }
+    {
+        let records = len_of(lists);
+        self.keys.count() == 0 && records >= SIDE_BY_SIDE && records <= MOST_RECORDS as usize
+    }
+
+    /// Appends records of the keys of these lists, all of them or none, and tells whether it did: it
+    /// does not where one is too long. Refused for want of memory.
+    fn append_coded<R: Threads + Sync>(&mut self, rt: &R, lists: &[KeyList]) -> Result<bool, Memory>
+        requires none { length self.old.keys ≡ 0 }
+        requires some { 0 < length (joined lists.now) }
+        requires few { length (joined lists.now) ≤ MOST_RECORDS }
+        ensures done { IfOk result (λ done. done ≡ true
+            → AreAppended self.old (placed self.old (in_first (joined lists.now))) self.new) }
+        ensures left { IfOk result (λ done. done ≡ false → self.new ≡ self.old) }
+        ensures err { OnErr result (self.new ≡ self.old) }
+        ensures valid { IsValidLogs self.new }
+    {
+        let alloc = *self.logs.allocator();
+        let coded = coded_parts(rt, alloc, lists)?;
+        let firsts = firsts_of(alloc, &coded)?;
+        if !are_short(&firsts) {
+            return Ok(false);
+        }
+        self.append_firsts(rt, &coded, &firsts)?;
+        Ok(true)
+    }
+
+    /// Appends the records of coded lists, of which these are the keys. Refused for want of memory,
+    /// with everything as it was.
+    fn append_firsts<R: Threads + Sync>(
+        &mut self,
+        rt: &R,
+        coded: &[CodedPart<'_>],
+        firsts: &[&[u8]],
+    ) -> Result<(), Memory>
+        requires coded { AreCoded (map records_of coded.now) coded.now }
+        requires firsts { lent firsts.now ≡ joined (map keys_in coded.now) }
+        requires fits { CanGoSideBySide self.old (joined (map records_of coded.now)) }
+        ensures ok { OnOk result (AreAppended self.old
+            (placed self.old (in_first (joined (map records_of coded.now)))) self.new) }
+        ensures err { OnErr result (self.new ≡ self.old) }
+        ensures valid { IsValidLogs self.new }
+    {
+        let alloc = *self.logs.allocator();
+        let places = self.places_of(rt, firsts)?;
+        let (shards, numbers) = self.keys.number_all(rt, firsts, firsts.len())?;
+        let partitions = self.partitions.count() as usize;
+        let logs = logs_of_lists(rt, alloc, partitions, coded, &places, &numbers)?;
+        self.keys.begin_with(shards);
+        self.logs = logs;
+        Ok(())
+    }
+
+    /// Appends records of the keys of these lists, each as `append_all` does.
+    fn append_each<R: Threads + Sync>(
+        &mut self,
+        rt: &R,
+        lists: &[KeyList],
+    ) -> Result<(), (u64, Refusal)>
+        ensures ok { IfOk result (λ _.
+            AreAppended self.old (placed self.old (in_first (joined lists.now))) self.new) }
+        ensures err { IfErr result (λ stop. AreStoppedAfter stop.0 stop.1 self.old
+            (placed self.old (in_first (joined lists.now))) self.new) }
+        ensures valid { IsValidLogs self.new }
+        ensures history { OnOk result
+            (GrowByRecords (in_first (joined lists.now)) self.old self.new) }
+    {
+        let alloc = *self.logs.allocator();
+        if len_of(lists) == 0 {
+            return Ok(());
+        }
+        let Ok(keys) = slices_of(alloc, lists) else {
+            return Err((0, Refusal::Memory));
+        };
+        self.append_all(rt, &keys)
+    }
+}
+
+/// How many keys lists have together, where that is a number of records that logs can hold.
+fn len_of(lists: &[KeyList]) -> usize
+    ensures many { result ≤ length (joined lists.now) }
+    ensures all { result ≤ MOST_RECORDS → result ≡ length (joined lists.now) }
+{
+    let mut len: usize = 0;
+    for i in 0..lists.len() {
+        len = len.saturating_add(lists[i].len());
+    }
+    len
+}
+
+/// The bytes of each key of these lists, one list after another.
+fn slices_of(alloc: Global, lists: &[KeyList]) -> Result<Vec<&[u8]>, Memory>
+    ensures { IfOk result (λ keys. lent keys.items ≡ joined lists.now) }
+{
+    let mut keys = Vec::with_capacity(alloc, len_of(lists))?;
+    for i in 0..lists.len() {
+        lists[i].add_slices(&mut keys)?;
+    }
+    Ok(keys)
+}
