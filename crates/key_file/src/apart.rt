@@ -115,13 +115,24 @@ fn lists_apart<R: Threads + Sync>(
     join_keys(alloc, file, cuts, wanted, header, width, found)
 }
 
+/// What the keys of a file of this length are looked up by: nothing where it is short, since its
+/// keys are few then, or where the random source fails.
+fn hasher_for(rt: &impl RandomSource, len: usize) -> Option<RandomState> {
+    if len < LEAST_PIECE {
+        None
+    } else {
+        RandomState::new(rt).ok()
+    }
+}
+
 /// The keys of a file of comma-separated records, as `read_keys` has them.
 ///
 /// The file is cut into pieces, as many as there are processors, of at least 1 MiB each, and each
 /// is read in a thread of its own. A piece for which no thread can be started is read without one,
 /// and a file of a single piece is read without any. Where its beginning of a piece's length has no
-/// record, the file is read in one piece. A key that comes again in its piece mostly stands there
-/// once; where the random source fails, which tells how keys are looked up, each is kept.
+/// record, the file is read in one piece. In a file of 1 MiB or more a key that comes again in its
+/// piece mostly stands there once; where the random source fails, by which keys are looked up, each
+/// is kept.
 pub fn read_keys_apart<R: Threads + Sync + RandomSource>(
     rt: &R,
     alloc: Global,
@@ -136,7 +147,7 @@ pub fn read_keys_apart<R: Threads + Sync + RandomSource>(
         (λ e. (e ≡ refusal.Memory) ⊎ (keys_of column header file.now ≡ Err e)) }
 {
     let pieces = pieces_for(rt, file.len());
-    let wanted = Wanted::key(column, RandomState::new(rt).ok());
+    let wanted = Wanted::key(column, hasher_for(rt, file.len()));
     let lists = lists_apart(rt, alloc, file, &wanted, header, pieces)?;
     Ok(FileKeys::of(lists))
 }

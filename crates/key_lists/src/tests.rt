@@ -8,6 +8,7 @@ use std::alloc::Global;
 use std::hash::RandomState;
 use std::random::RandomSource;
 use std::test::Fail;
+use std::thread::Threads;
 
 /// Adds the keys of so many records: each key of a period comes so often in a row, and every third
 /// is too long to be stored inline.
@@ -43,7 +44,32 @@ fn looking_up(rt: &impl RandomSource, alloc: Global) -> Result<KeyList, Memory> 
     Ok(KeyList::looking_up(alloc, hasher))
 }
 
-/// How many keys a list of these records has for its codes, where it has the keys of a plain one.
+/// The keys of so many records in a list, as `push_keys` adds them.
+fn pushed(list: KeyList, records: u32, each: u32, period: u32) -> Result<KeyList, Memory>
+    requires each { 0 < each }
+    requires period { 0 < period }
+{
+    let mut list = list;
+    match push_keys(&mut list, records, each, period) {
+        Ok(()) => Ok(list),
+        Err(_) => Err(Memory),
+    }
+}
+
+/// How many keys a list has for its codes.
+fn count_of(list: &KeyList, alloc: Global) -> Result<usize, Memory> {
+    Ok(list.coded(alloc)?.keys.len())
+}
+
+/// How many keys a list has for its codes, where it has the keys of a plain one.
+fn count_beside(list: &KeyList, plain: &KeyList, alloc: Global) -> Result<Option<usize>, Memory> {
+    if list.len() != plain.len() || first_other(list, plain).is_some() {
+        return Ok(None);
+    }
+    Ok(Some(count_of(list, alloc)?))
+}
+
+/// The same of a list of such records, in which keys are looked up.
 fn keys_of(
     rt: &impl RandomSource,
     alloc: Global,
@@ -54,14 +80,9 @@ fn keys_of(
     requires each { 0 < each }
     requires period { 0 < period }
 {
-    let mut list = looking_up(rt, alloc)?;
-    let mut plain = KeyList::new(alloc);
-    push_keys(&mut list, records, each, period)?;
-    push_keys(&mut plain, records, each, period)?;
-    if list.len() != plain.len() || first_other(&list, &plain).is_some() {
-        return Ok(None);
-    }
-    Ok(Some(list.coded(alloc)?.keys.len()))
+    let list = pushed(looking_up(rt, alloc)?, records, each, period)?;
+    let plain = pushed(KeyList::new(alloc), records, each, period)?;
+    count_beside(&list, &plain, alloc)
 }
 
 #[test]
@@ -91,37 +112,58 @@ fn more_keys_than_are_looked_up(rt: HostRuntime) {
     );
 }
 
+/// Adds one key in three ways.
+fn push_thrice(list: &mut KeyList) -> Result<(), Memory> {
+    list.push(b"ab")?;
+    list.push_two(b"a", b"b")?;
+    list.push_two(b"", b"ab")
+}
+
+/// Whether a list has these codes.
+fn has_codes(list: &KeyList, alloc: Global, codes: &[usize]) -> Result<bool, Memory> {
+    Ok(list.coded(alloc)?.codes == codes)
+}
+
 #[test]
 fn two_texts_are_one_key(rt: HostRuntime) -> Result<(), Fail> {
     let mut list = looking_up(&rt, rt.alloc())?;
-    list.push(b"ab")?;
-    list.push_two(b"a", b"b")?;
-    list.push_two(b"", b"ab")?;
+    let is_pushed = push_thrice(&mut list).is_ok();
+    // The one with a first text is not looked up.
+    let has_codes = has_codes(&list, rt.alloc(), &[0, 1, 0]);
     for i in 0..list.len() {
         assert_eq!(rt; list.get(i), b"ab".as_slice(), "{i}");
     }
-    // The one with a first text is not looked up.
-    let coded = list.coded(rt.alloc())?;
-    assert_eq!(rt; coded.codes, [0, 1, 0].as_slice());
+    assert_eq!(rt; (is_pushed, list.len(), has_codes), (true, 3, Ok(true)));
     Ok(())
+}
+
+/// Three lists, of which the second is empty.
+fn three_lists(rt: &impl RandomSource, alloc: Global) -> Result<[KeyList; 3], Memory> {
+    let first = pushed(looking_up(rt, alloc)?, 5, 1, 2)?;
+    let second = pushed(KeyList::new(alloc), 3, 1, 2)?;
+    Ok([first, KeyList::new(alloc), second])
+}
+
+/// How many lists are coded, how many keys they have, and whether the codes are these.
+fn coded_as<R: Threads + Sync>(
+    rt: &R,
+    alloc: Global,
+    lists: &[KeyList],
+    codes: &[&[usize]],
+) -> Result<(usize, usize, bool), Memory> {
+    let coded = coded_parts(rt, alloc, lists)?;
+    let mut same = true;
+    for i in 0..coded.len().min(codes.len()) {
+        same = same && coded[i].codes == codes[i];
+    }
+    Ok((coded.len(), firsts_of(alloc, &coded)?.len(), same))
 }
 
 #[test]
 fn lists_side_by_side(rt: HostRuntime) -> Result<(), Fail> {
-    let mut first = looking_up(&rt, rt.alloc())?;
-    push_keys(&mut first, 5, 1, 2)?;
-    let mut second = KeyList::new(rt.alloc());
-    push_keys(&mut second, 3, 1, 2)?;
-    let mut lists = Vec::new(rt.alloc());
-    lists.push(first)?;
-    lists.push(KeyList::new(rt.alloc()))?;
-    lists.push(second)?;
-    let coded = coded_parts(&rt, rt.alloc(), &lists)?;
+    let lists = three_lists(&rt, rt.alloc())?;
     let codes: [&[usize]; 3] = [&[0, 1, 0, 1, 0], &[], &[0, 1, 2]];
-    for i in 0..coded.len().min(3) {
-        assert_eq!(rt; coded[i].codes, codes[i], "{i}");
-    }
-    let firsts = firsts_of(rt.alloc(), &coded)?;
-    assert_eq!(rt; (coded.len(), firsts.len()), (3, 5));
+    let told = coded_as(&rt, rt.alloc(), &lists, &codes);
+    assert_eq!(rt; told, Ok((3, 5, true)));
     Ok(())
 }

@@ -209,7 +209,7 @@ fn text_of_slices(alloc: Global, slices: &[&[u8]]) -> Result<Vec<u8>, Memory> {
 }
 
 /// How many keys a file has behind its header, and all of them in one text.
-fn read_apart<R: Threads + Sync>(
+fn read_apart<R: Threads + Sync + RandomSource>(
     rt: &R,
     alloc: Global,
     file: &[u8],
