@@ -1,6 +1,6 @@
 -- Lists of keys by codes, and all keys from those of the lists.
-use Rattle.std.proofs.Common.{◌≡◌, ◌∙◌, ◌+◌, ◌<◌, ◌≤◌, ℕ, zero, suc, Bool, true, false, List, [], ◌∷◌, ◌++◌, Bor, Result, Ok, Err, Some, length, map, take, get_or, sym, ap, ap₂, refl, arith, inl, inr, append_assoc, length-append}
-use Rattle.std.specs.Prelude.{if◌then◌else◌, ◌⊎◌, All, IfOk, OnOk, OnErr, slice_get}
+use Rattle.std.proofs.Common.{◌≡◌, ◌∙◌, ◌+◌, ◌<◌, ◌≤◌, ℕ, zero, suc, Bool, true, false, List, [], ◌∷◌, ◌++◌, Bor, Result, Ok, Err, Option, Some, None, length, map, take, get_or, sym, ap, ap₂, refl, arith, inl, inr, append_assoc, length-append}
+use Rattle.std.specs.Prelude.{if◌then◌else◌, ◌⊎◌, All, IfOk, IfSome, OnOk, OnErr, slice_get}
 use Rattle.std.specs.List.{fold}
 use Rattle.std.specs.Str.{bytes_eq}
 use Rattle.std.proofs.Math.Seq.{get_or-append_seam}
@@ -40,6 +40,12 @@ known-added ks (z ∷ zs) x h =
 -- the code of a known key
 pub code-known : (keys : List Key) (key : Key) (code : ℕ) → IsIdOf keys key code → TakesCode keys keys key code
 code-known keys key code id = record { grown = inl refl; within = id.1; there = ap (key_at keys) id.0 ∙ (known keys key id.2).1 }
+
+-- so what a table tells of a key, which stays as it is
+pub code-found : (found : Result (Option ℕ) Memory) (old new : List Key) (key : Key) → IfOk found (λ f. IfSome f (IsIdOf old key)) → new ≡ old → IfOk found (λ f. IfSome f (TakesCode old new key))
+code-found (Ok (Some code)) old new key is same = rw same (code-known old key code is)
+code-found (Ok None) old new key is same = tt
+code-found (Err e) old new key is same = tt
 
 -- of one that is numbered
 grown-at : (b : Bool) (keys : List Key) (key : Key) → ((if b then keys else keys ++ key ∷ []) ≡ keys) ⊎ ((if b then keys else keys ++ key ∷ []) ≡ keys ++ key ∷ [])

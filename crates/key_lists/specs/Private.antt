@@ -1,2 +1,3 @@
 pub mod KeyStore
 pub mod KeyText
+pub mod Known

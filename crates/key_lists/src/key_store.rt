@@ -5,21 +5,17 @@ ghost use Rattle.key_numbers.specs.Keys.{key_at, lent};
 ghost use Rattle.key_lists.specs.Private.KeyStore.{TakesCode, looked_up};
 
 use crate::key_text::KeyText;
-use key_numbers::KeyTable;
+use crate::known::Known;
 use lane_words::Memory;
 use std::alloc::Global;
 use std::hash::RandomState;
 use std::marker::Model;
 
-/// How many keys are looked up at most: a look-up among more waits for memory as long as it takes to
-/// number the key again.
-const MOST_KNOWN: u32 = 1 << 17;
-
 /// Keys by their places, of which the first are looked up.
 #[derive(Debug, Drop)]
 pub struct KeyStore {
     /// The keys that are looked up, if any are.
-    known: Option<KeyTable>,
+    known: Option<Known>,
     /// The keys behind them.
     more: KeyText,
 }
@@ -36,40 +32,19 @@ impl Model for KeyStore {
 }
 
 /// How many keys are looked up.
-fn count_of(known: &Option<KeyTable>) -> usize
+fn count_of(known: &Option<Known>) -> usize
     ensures count { result ≡ length (looked_up known.now) }
     ensures few { result < 2 ^ 32 }
 {
     match known {
-        Some(table) => table.count() as usize,
+        Some(keys) => keys.count() as usize,
         None => 0,
     }
 }
 
-/// Where a key stands in a table, to which it is added where it is new, `grows` is told and there is
-/// room.
-fn seek(table: &mut KeyTable, key: &[u8], grows: bool) -> Result<Option<usize>, Memory>
-    ensures found { IfOk result (λ found. IfSome found (TakesCode table.old table.new key.now)) }
-    ensures none { IfOk result (λ found. IfNone found (table.new ≡ table.old)) }
-    ensures still { grows ≡ false → table.new ≡ table.old }
-    ensures err { OnErr result (table.new ≡ table.old) }
-{
-    if grows && table.count() < MOST_KNOWN {
-        let code = table.number(key)?;
-        return Ok(Some(code as usize));
-    }
-    let Some(code) = table.find(key)? else {
-        return Ok(None);
-    };
-    Ok(Some(code as usize))
-}
-
-/// The same among the keys that are looked up, if any are.
-fn seek_known(
-    known: &mut Option<KeyTable>,
-    key: &[u8],
-    grows: bool,
-) -> Result<Option<usize>, Memory>
+/// Where a key stands among those that are looked up, if any are: it is added to them where it is
+/// new, `grows` is told and there is room.
+fn seek_known(known: &mut Option<Known>, key: &[u8], grows: bool) -> Result<Option<u32>, Memory>
     ensures found { IfOk result (λ found. IfSome found
         (TakesCode (looked_up known.old) (looked_up known.new) key.now)) }
     ensures none { IfOk result (λ found. IfNone found
@@ -78,7 +53,7 @@ fn seek_known(
     ensures err { OnErr result (looked_up known.new ≡ looked_up known.old) }
 {
     match known {
-        Some(table) => seek(table, key, grows),
+        Some(keys) => keys.seek(key, grows),
         None => Ok(None),
     }
 }
@@ -99,7 +74,7 @@ impl KeyStore {
         ensures { result ≡ [] }
     {
         KeyStore {
-            known: Some(KeyTable::new(alloc, hasher)),
+            known: Some(Known::new(alloc, hasher)),
             more: KeyText::new(alloc),
         }
     }
@@ -116,12 +91,12 @@ impl KeyStore {
         requires { i < length self.now }
         ensures { result.now ≡ key_at self.now i }
     {
-        let Some(table) = &self.known else {
+        let Some(known) = &self.known else {
             return self.more.get(i);
         };
-        let first = table.count() as usize;
+        let first = known.count() as usize;
         if i < first {
-            table.key(i as u32)
+            known.key(i as u32)
         } else {
             self.more.get(i - first)
         }
@@ -158,7 +133,7 @@ impl KeyStore {
         if looks && head.is_empty() {
             let grows = self.more.len() == 0;
             if let Some(code) = seek_known(&mut self.known, key, grows)? {
-                return Ok(code);
+                return Ok(code as usize);
             }
         }
         self.add(head, key)

@@ -5,9 +5,7 @@ mod coding;
 mod key_list;
 mod key_store;
 mod key_text;
+mod known;
 
 pub use coding::{CodedPart, coded_parts, collected, firsts_of};
 pub use key_list::KeyList;
-
-#[cfg(test)]
-mod tests;

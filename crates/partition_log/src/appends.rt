@@ -185,6 +185,3 @@ pub fn are_short(keys: &[&[u8]]) -> bool
     }
     true
 }
-
-#[cfg(test)]
-mod tests;

@@ -343,8 +343,3 @@ fn push_id(keys: &mut KeyIds, log: &mut Vec<u32>, key: &[u8]) -> Result<u32, Ref
     log.push_reserved(number);
     Ok(offset as u32)
 }
-
-#[cfg(test)]
-mod tests;
-#[cfg(test)]
-mod topics;

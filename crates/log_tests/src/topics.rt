@@ -3,7 +3,11 @@
 ghost use Rattle.std.specs.Prelude.{IfOk, length};
 ghost use Rattle.partitioner.specs.Place.{AreTopics};
 
-use super::*;
+use crate::window;
+use lane_words::Refusal;
+use partition_log::{LogRead, Logs, SealedLogs};
+use std::alloc::Global;
+use std::random::RandomSource;
 use std::test::Fail;
 use std::thread::Threads;
 
@@ -61,8 +65,7 @@ fn keys_have_one_number_in_all_topics(rt: HostRuntime) -> Result<(), Fail> {
 fn windows<'a>(alloc: Global, bytes: &'a [u8; 1000], count: usize) -> Result<Vec<&'a [u8]>, Fail> {
     let mut keys: Vec<&[u8]> = Vec::new(alloc);
     for i in 0..count {
-        let start = i % 900;
-        keys.push(&bytes[start..start + i % 40])?;
+        keys.push(window(bytes, i % 900, i % 40))?;
     }
     Ok(keys)
 }

@@ -2,9 +2,10 @@
 
 ghost use Rattle.std.specs.Prelude.{◌<◌, ◌≤◌};
 
-use crate::Logs;
+use crate::window;
 use key_lists::KeyList;
 use lane_words::{LONGEST_KEY, Refusal};
+use partition_log::{LogRead, Logs};
 use std::alloc::Global;
 use std::hash::RandomState;
 use std::random::RandomSource;
@@ -50,6 +51,31 @@ fn in_lists(
     Ok(lists)
 }
 
+/// Whether both have the same keys under the same numbers.
+fn have_same_keys(logs: &Logs, other: &Logs) -> bool {
+    for id in 0..logs.keys().min(other.keys()) {
+        if logs.key(id) != other.key(id) {
+            return false;
+        }
+    }
+    logs.keys() == other.keys()
+}
+
+/// Whether both have the same partitions, with records of the same key numbers.
+fn have_same_records(logs: &Logs, other: &Logs) -> bool {
+    for p in 0..logs.partitions().min(other.partitions()) {
+        if logs.ids(p, 0, logs.len(p)) != other.ids(p, 0, other.len(p)) {
+            return false;
+        }
+    }
+    logs.partitions() == other.partitions()
+}
+
+/// Whether both are the same.
+fn are_same(logs: &Logs, other: &Logs) -> bool {
+    have_same_keys(logs, other) && have_same_records(logs, other)
+}
+
 /// Whether both ways give this answer, and the same logs.
 fn both_give<R: Threads + Sync>(
     rt: &R,
@@ -60,7 +86,7 @@ fn both_give<R: Threads + Sync>(
 ) -> bool {
     let told = logs.append_all(rt, keys);
     let plainly_told = one_by_one(plain, keys);
-    told == answer && plainly_told == answer && logs.same(plain)
+    told == answer && plainly_told == answer && are_same(logs, plain)
 }
 
 /// Whether lists give this answer, and these logs.
@@ -71,7 +97,7 @@ fn lists_give<R: Threads + Sync>(
     answer: Answer,
     plain: &Logs,
 ) -> bool {
-    logs.append_lists(rt, lists) == answer && logs.same(plain)
+    logs.append_lists(rt, lists) == answer && are_same(logs, plain)
 }
 
 /// Whether each way gives this answer to new logs, and then the same logs; and once more.
@@ -117,15 +143,8 @@ fn appends_at_once_stop_at_a_key_that_is_refused(rt: HostRuntime) -> Result<(), 
     Ok(())
 }
 
-/// A window of some bytes, by its number: of up to 40 bytes, and often the same as another.
-fn window(bytes: &[u8; 1000], number: usize) -> &[u8]
-    requires { number < 10000 }
-{
-    let start = number * 7 % 900;
-    &bytes[start..start + number / 3 % 41]
-}
-
-/// So many windows, of which those of a period come again and again.
+/// So many windows, of which those of a period come again and again: of up to 40 bytes, and often the
+/// same as another.
 fn windows(
     alloc: Global,
     bytes: &[u8; 1000],
@@ -136,7 +155,8 @@ fn windows(
 {
     let mut keys = Vec::with_capacity(alloc, count)?;
     for number in 0..count {
-        keys.push(window(bytes, number % period))?;
+        let place = number % period;
+        keys.push(window(bytes, place * 7 % 900, place / 3 % 41))?;
     }
     Ok(keys)
 }

@@ -3,7 +3,10 @@
 
 ghost use Rattle.std.specs.Prelude.{◌≤◌};
 
-use super::*;
+use lane_words::{LONGEST_KEY, MOST_PARTITIONS, Refusal};
+use partition_log::{LogRead, Logs, SealedLogs};
+use std::alloc::Global;
+use std::random::RandomSource;
 use std::test::Fail;
 
 // The calls, without what their contracts say: a test of many calls would else be proved over what

@@ -1,5 +1,5 @@
-use Rattle.key_lists.proofs.Coded.{code-known, code-numbered}
-use Rattle.key_lists.proofs.key_store.seek.Goals as goal
+use Rattle.key_lists.proofs.Coded.{code-found, code-numbered}
+use Rattle.key_lists.proofs.known.look_up.Goals as goal
 
 pub returns-then-count-lt-MOST_KNOWN-clause-found : goal.returns-then-count-lt-MOST_KNOWN-clause-found
 returns-then-count-lt-MOST_KNOWN-clause-found c =
@@ -7,5 +7,4 @@ returns-then-count-lt-MOST_KNOWN-clause-found c =
 
 pub returns-clause-found : goal.returns-clause-found
 returns-clause-found c =
-    let id = rw c.in-Some.is at c.in_ok-code-2.ensures.known in
-    rw c.in_ok-code-2.ensures.same (code-known c.args.table.now c.args.key.now c.in-Some.code id)
+    code-found c.find.result c.args.table.now c.find.new.self c.args.key.now c.find.ensures.known c.find.ensures.same

@@ -2,7 +2,7 @@
 
 ghost use Rattle.std.specs.Prelude.{◌<◌};
 
-use super::*;
+use key_lists::{KeyList, coded_parts, firsts_of};
 use lane_words::Memory;
 use std::alloc::Global;
 use std::hash::RandomState;

@@ -1,0 +1,22 @@
+//! Tests of the public calls of the crates below and of the logs. They have a crate of their own,
+//! since a crate with tests is proved twice, once without them.
+#![tactic(auto)]
+
+ghost use Rattle.std.specs.Prelude.{◌≡◌, ◌+◌, ◌≤◌, length, slice_range};
+
+#[cfg(test)]
+mod appends;
+#[cfg(test)]
+mod lists;
+#[cfg(test)]
+mod logs;
+#[cfg(test)]
+mod topics;
+
+/// So many of some bytes, from a place on: what keys of all lengths are taken from.
+pub fn window(bytes: &[u8], start: usize, len: usize) -> &[u8]
+    requires { start + len ≤ length bytes.now }
+    ensures { result.now ≡ slice_range bytes.now start (start + len) }
+{
+    &bytes[start..start + len]
+}
