@@ -1,6 +1,6 @@
 //! The report of a plain count, from the bytes of a file to the bytes of its rows.
 
-ghost use Rattle.std.specs.Prelude.{◌≡◌, ◌≤◌, ◌<◌, ◌+◌, ◌-◌, ◌^◌, ◌⊎◌, Err, Ok, IfOk, IfErr, IfSome};
+ghost use Rattle.std.specs.Prelude.{◌≡◌, ◌≤◌, ◌<◌, ◌+◌, ◌-◌, ◌^◌, ◌⊎◌, Err, Ok, IfOk, IfErr, IfSome, flat_map, vec_items};
 ghost use Rattle.lane_words.specs.declared.Refusal.TheVariants as refusal;
 ghost use Rattle.count_report.specs.CountReport.{report_of_count, report_of_records};
 ghost use Rattle.count_report.specs.Records.{AreOfTopics, partition_counts, records_in};
@@ -10,24 +10,25 @@ ghost use Rattle.count_report.specs.Tally.{IsKeyFault};
 use crate::reading::{FileRecords, file_records};
 use crate::tally::{counts_in, logs_of};
 use command_line::Options;
-use devices::{Sink, Source, write_all};
+use devices::{Sink, Source, write_texts};
 use lane_words::Refusal;
-use report_rows::count_rows::count_rows_text;
+use report_rows::count_rows::count_rows_texts;
 use std::alloc::Global;
 use std::random::RandomSource;
 use std::thread::Threads;
 
-/// The text of the plain count of some records.
+/// The text of the plain count of some records, in some texts one after another.
 fn plain_report<R: Threads + Sync + RandomSource>(
     rt: &R,
     alloc: Global,
     records: FileRecords,
     options: &Options,
-) -> Result<Vec<u8>, Refusal>
+) -> Result<Vec<Vec<u8>>, Refusal>
     requires options { AreInRange options.now }
     requires topics { AreOfTopics (partition_counts options.now) (records_in records) }
-    ensures text { IfOk result (λ text.
-        report_of_records (partition_counts options.now) (records_in records) ≡ Ok text.items) }
+    ensures text { IfOk result (λ texts.
+        report_of_records (partition_counts options.now) (records_in records)
+        ≡ Ok (flat_map vec_items texts.items)) }
     ensures kind { IfErr result IsKeyFault }
     ensures refused { IfErr result (λ e. (e ≡ refusal.Memory)
         ⊎ (report_of_records (partition_counts options.now) (records_in records) ≡ Err e)) }
@@ -37,21 +38,21 @@ fn plain_report<R: Threads + Sync + RandomSource>(
     // The logs have a copy of each key that the text needs.
     drop(records);
     let counts = counts_in(rt, alloc, &logs)?;
-    let text = count_rows_text(rt, alloc, &logs, counts.counts(), total, total)?;
-    Ok(text)
+    let texts = count_rows_texts(rt, alloc, &logs, counts.counts(), total, total)?;
+    Ok(texts)
 }
 
-/// The text of the plain count of a file's records.
+/// The text of the plain count of a file's records, in some texts one after another.
 fn file_report<R: Threads + Sync + RandomSource, S: Source>(
     rt: &R,
     alloc: Global,
     file: &mut S,
     options: &Options,
-) -> Result<Vec<u8>, Refusal>
+) -> Result<Vec<Vec<u8>>, Refusal>
     requires source { S.failures file.old < 2 ^ 64 - 1 }
     requires options { AreInRange options.now }
-    ensures text { IfOk result (λ text. IfSome (S.left file.old)
-        (λ bytes. report_of_count options.now bytes ≡ Ok text.items)) }
+    ensures text { IfOk result (λ texts. IfSome (S.left file.old)
+        (λ bytes. report_of_count options.now bytes ≡ Ok (flat_map vec_items texts.items))) }
     ensures refused { IfErr result (λ e. IfSome (S.left file.old)
         (λ bytes. IsFaultOf (report_of_count options.now bytes) e)) }
     ensures kind { IfErr result IsNoWrite }
@@ -90,9 +91,6 @@ pub fn count_text<R: Threads + Sync + RandomSource, S: Source, K: Sink>(
     ensures reads { S.failures file.new ≡ S.failures file.old + failed_reads result }
     ensures writes { K.failures out.new ≡ K.failures out.old + failed_writes result }
 {
-    let text = file_report(rt, alloc, file, options)?;
-    write_all(out, text.as_slice())
+    let texts = file_report(rt, alloc, file, options)?;
+    write_texts(out, texts.as_slice())
 }
-
-#[cfg(test)]
-mod tests;

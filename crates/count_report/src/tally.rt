@@ -137,7 +137,7 @@ fn are_few<L: LogRead>(logs: &L) -> bool {
 }
 
 /// The counts of all logs, one log after the other.
-fn counts_in_turn<L: LogRead>(alloc: Global, logs: &L) -> Result<Table, Memory>
+pub fn counts_in_turn<L: LogRead>(alloc: Global, logs: &L) -> Result<Table, Memory>
     requires { IsValidLogs (L.contents logs.now) }
     ensures { IfOk result (λ table. AreCountsByNumber (L.contents logs.now) table.counts) }
 {
@@ -149,7 +149,7 @@ fn counts_in_turn<L: LogRead>(alloc: Global, logs: &L) -> Result<Table, Memory>
 }
 
 /// The counts of all logs, a group of them at a time.
-fn counts_in_groups<R: Threads + Sync, L: LogRead + Sync>(
+pub fn counts_in_groups<R: Threads + Sync, L: LogRead + Sync>(
     rt: &R,
     alloc: Global,
     logs: &L,
@@ -236,6 +236,3 @@ fn log_counts<L: LogRead>(alloc: Global, logs: &L, p: u32) -> Result<Partial, Me
     let ids = Vec::from_slice(alloc, logs.ids(p, 0, logs.len(p)))?;
     Partial::of(alloc, ids)
 }
-
-#[cfg(test)]
-mod tests;

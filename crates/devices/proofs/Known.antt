@@ -1,8 +1,10 @@
 -- Known bytes over two calls in a row.
-use Rattle.std.proofs.Common.{◌≡◌, ◌∙◌, ◌+◌, ◌-◌, arith, ℕ, List, ◌++◌, Option, Some, None, take, drop, length, sym, ap, append_assoc}
+use Rattle.std.proofs.Common.{◌≡◌, ◌∙◌, ◌+◌, ◌-◌, ◌≤◌, ◌<◌, arith, ℕ, zero, suc, List, [], ◌∷◌, ◌++◌, Option, Some, None, Result, Ok, Err, flat_map, get_or, take, drop, length, length-append, sym, ap, append_assoc}
 use Rattle.std.specs.Io.KnownBytes.{Appends, Consumes}
-use Rattle.std.proofs.Math.Seq.{take-add}
-use Rattle.std.proofs.lemmas.List.{take_all, length-drop}
+use Rattle.std.proofs.Math.Seq.{take-add, take-append-add}
+use Rattle.std.specs.Prelude.{OnErr}
+use Rattle.devices.specs.Devices.{AppendsBeginning}
+use Rattle.std.proofs.lemmas.List.{length-drop, take-append-le, take_all}
 
 -- what two reads consumed, one after the other
 pub consumes_more : (a b c : Option (List ℕ)) (xs ys : List ℕ) → Consumes a b xs → Consumes b c ys → Consumes a c (xs ++ ys)
@@ -19,6 +21,38 @@ appends_more (Some a) (Some b) (Some c) bytes n m h k =
     k ∙ ap (λ z. z ++ take m (drop n bytes)) h ∙ append_assoc a (take n bytes) (take m (drop n bytes)) ∙ ap (λ z. a ++ z) (sym (take-add n m bytes))
 appends_more (Some a) (Some b) None bytes n m h k = absurd k
 appends_more (Some a) None c bytes n m h k = absurd h
+
+-- what writes of two texts appended
+appends_both : (a b c : Option (List ℕ)) (xs ys : List ℕ) → Appends a b xs → Appends b c ys → Appends a c (xs ++ ys)
+appends_both None b c xs ys h k = tt
+appends_both (Some a) (Some b) (Some c) xs ys h k = k ∙ ap (λ z. z ++ ys) h ∙ append_assoc a xs ys
+appends_both (Some a) (Some b) None xs ys h k = absurd k
+appends_both (Some a) None c xs ys h k = absurd h
+
+-- texts before one, it, and those behind it
+parted : {X : Type 0} (f : X → List ℕ) (texts : List X) (i : ℕ) (x : X) → i < length texts → x ≡ get_or texts i x
+    → (more : List ℕ) × (flat_map f texts ≡ flat_map f (take i texts) ++ (f x ++ more))
+parted f [] i x lt e = absurd (omega (arith, lt))
+parted f (t ∷ texts) zero x lt e = (flat_map f texts, ap (λ z. f z ++ flat_map f texts) (sym e))
+parted f (t ∷ texts) (suc i) x lt e =
+    let rest = parted f texts i x (omega (arith, lt)) e in
+    (rest.0, ap (λ l. f t ++ l) rest.1 ∙ sym (append_assoc (f t) (flat_map f (take i texts)) (f x ++ rest.0)))
+
+-- a beginning of a text, written after the texts before it
+pub texts_begun : {X : Type 0} (f : X → List ℕ) (texts : List X) (i : ℕ) (x : X) (a b c : Option (List ℕ)) → i < length texts → x ≡ get_or texts i x
+    → Appends a b (flat_map f (take i texts)) → AppendsBeginning b c (f x) → AppendsBeginning a c (flat_map f texts)
+texts_begun f texts i x a b c lt at before begun =
+    let front = flat_map f (take i texts) in
+    let parts = parted f texts i x lt at in
+    let cut : take (length front + begun.0) (flat_map f texts) ≡ front ++ take begun.0 (f x)
+    = ap (take (length front + begun.0)) parts.1 ∙ take-append-add front (f x ++ parts.0) begun.0 ∙ ap (λ l. front ++ l) (take-append-le begun.0 (f x) parts.0 begun.1) in
+    let within : length front + begun.0 ≤ length (flat_map f texts) = omega (arith, begun.1, ap length parts.1, length-append front (f x ++ parts.0), length-append (f x) parts.0) in
+    (length front + begun.0, within, rw cut (appends_both a b c front (take begun.0 (f x)) before begun.2))
+
+-- what holds is so where something was refused
+pub on_err : {T E P : Type 0} (result : Result T E) → P → OnErr result P
+on_err (Ok v) p = tt
+on_err (Err e) p = p
 
 -- a slice to the end is all that stands past its start
 pub slice_end : (s : ℕ) (xs : List ℕ) → take (length xs - s) (drop s xs) ≡ drop s xs

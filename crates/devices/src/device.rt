@@ -1,6 +1,6 @@
 //! Where bytes come from and go to.
 
-ghost use Rattle.std.specs.Prelude.{◌≡◌, ◌≤◌, ◌<◌, ◌+◌, ◌-◌, ◌^◌, ℕ, List, Option, Err, Ok, IfOk, IfErr, OnOk, OnErr, IfSome, MatchResult, length, is_ok, if◌then◌else◌};
+ghost use Rattle.std.specs.Prelude.{◌≡◌, ◌≤◌, ◌<◌, ◌+◌, ◌-◌, ◌^◌, ℕ, List, Option, Err, Ok, IfOk, IfErr, OnOk, OnErr, IfSome, MatchResult, flat_map, length, is_ok, vec_items, if◌then◌else◌};
 ghost use Rattle.std.specs.Io.{ReadsAtMost, WritesAtMost};
 ghost use Rattle.std.specs.Io.KnownBytes.{ReadConsumes, WriteAppends, IsAtEnd, Appends};
 ghost use Rattle.devices.specs.Devices.{AppendsBeginning, TellsRead};
@@ -190,6 +190,25 @@ pub fn write_all<K: Sink>(sink: &mut K, bytes: &[u8]) -> Result<(), Refusal>
             Ok(n) => taken += n,
             Err(DeviceFailed) => return Err(Refusal::WriteFailed),
         }
+    }
+    Ok(())
+}
+
+/// Writes some texts, one after another, so that nobody has to join them first.
+///
+/// Refused with `WriteFailed` where a write failed: then a beginning of all texts is written.
+pub fn write_texts<K: Sink>(sink: &mut K, texts: &[Vec<u8>]) -> Result<(), Refusal>
+    requires { K.failures sink.old < 2 ^ 64 - 1 }
+    ensures all { OnOk result
+        (Appends (K.written sink.old) (K.written sink.new) (flat_map vec_items texts.now)) }
+    ensures quiet { OnOk result (K.failures sink.new ≡ K.failures sink.old) }
+    ensures kind { IfErr result (λ e. e ≡ refusal.WriteFailed) }
+    ensures counted { OnErr result (K.failures sink.new ≡ K.failures sink.old + 1) }
+    ensures beginning { OnErr result (AppendsBeginning
+        (K.written sink.old) (K.written sink.new) (flat_map vec_items texts.now)) }
+{
+    for i in 0..texts.len() {
+        write_all(sink, texts[i].as_slice())?;
     }
     Ok(())
 }

@@ -93,6 +93,3 @@ pub fn status(fault: &Refusal) -> u8
         _ => 3,
     }
 }
-
-#[cfg(test)]
-mod tests;

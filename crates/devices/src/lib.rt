@@ -4,8 +4,7 @@
 mod device;
 mod faults;
 
-pub use device::{DeviceFailed, FromRead, FromWrite, Sink, Source, read_all, write_all};
+pub use device::{
+    DeviceFailed, FromRead, FromWrite, Sink, Source, read_all, write_all, write_texts,
+};
 pub use faults::{fault_line, status};
-
-#[cfg(test)]
-mod tests;

@@ -149,6 +149,3 @@ pub fn replay_text<R: Threads + Sync + RandomSource, S: Source, T: Source, K: Si
     let text = devices_report(rt, alloc, file, script, options)?;
     write_all(out, text.as_slice())
 }
-
-#[cfg(test)]
-mod tests;

@@ -250,6 +250,3 @@ pub fn write_closing(
     write_committed_counts(writer, cluster.logs(), cluster.store().counts())?;
     rows::write_total(writer, committed_total(cluster), appended_total(cluster))
 }
-
-#[cfg(test)]
-mod tests;

@@ -1,6 +1,6 @@
 //! The rows of a count, as text.
 
-ghost use Rattle.std.specs.Prelude.{◌≡◌, ◌<◌, ◌≤◌, ◌++◌, ℕ, List, IfOk, OnOk, length, slice_range};
+ghost use Rattle.std.specs.Prelude.{◌≡◌, ◌<◌, ◌≤◌, ◌++◌, ℕ, List, IfOk, OnOk, flat_map, length, slice_range, vec_items};
 ghost use Rattle.std.specs.Thread.{IsSync};
 ghost use Rattle.report_rows.specs.CountRows.{count_row, count_rows, rows_between};
 ghost use Rattle.report_rows.specs.Rows.{HasText, total_row};
@@ -67,7 +67,27 @@ fn rows_in_turn<L: LogRead>(
     rows::text_of(writer)
 }
 
-/// The same. More rows than `most` are made in two halves side by side, and so is each half.
+/// A text alone.
+fn alone(alloc: Global, text: Vec<u8>) -> Result<Vec<Vec<u8>>, Memory>
+    ensures { IfOk result (λ texts. flat_map vec_items texts.items ≡ text.items) }
+{
+    let mut texts = Vec::new(alloc);
+    texts.push(text)?;
+    Ok(texts)
+}
+
+/// Texts with others behind them.
+fn put_behind(front: Vec<Vec<u8>>, back: Vec<Vec<u8>>) -> Result<Vec<Vec<u8>>, Memory>
+    ensures { IfOk result (λ texts. flat_map vec_items texts.items
+        ≡ flat_map vec_items front.items ++ flat_map vec_items back.items) }
+{
+    let (mut texts, mut others) = (front, back);
+    texts.append(&mut others)?;
+    Ok(texts)
+}
+
+/// The same, as texts of which none is joined with another. More rows than `most` are made in two
+/// halves side by side, and so is each half.
 fn rows_apart<R: Threads + Sync, L: LogRead + Sync>(
     rt: &R,
     alloc: Global,
@@ -76,44 +96,35 @@ fn rows_apart<R: Threads + Sync, L: LogRead + Sync>(
     from: u32,
     to: u32,
     most: u32,
-) -> Result<Vec<u8>, Memory>
+) -> Result<Vec<Vec<u8>>, Memory>
     requires as_many { length (L.contents logs.now).keys ≡ length counts.now }
     requires range { (from ≤ to) × (to ≤ length counts.now) }
     requires most { 1 ≤ most }
-    ensures { IfOk result (λ text. text.items
+    ensures { IfOk result (λ texts. flat_map vec_items texts.items
         ≡ rows_between (L.contents logs.now).keys counts.now from to) }
 {
     if to - from <= most {
-        return rows_in_turn(alloc, logs, counts, from, to);
+        return alone(alloc, rows_in_turn(alloc, logs, counts, from, to)?);
     }
     let middle = from + (to - from) / 2;
     let (front, back) = thread::join(
         rt,
-        || -> Result<Vec<u8>, Memory>
+        || -> Result<Vec<Vec<u8>>, Memory>
             requires { IsSync R.row × IsSync L.row
                 × (length (L.contents logs.now).keys ≡ length counts.now)
                 × (from ≤ middle) × (middle ≤ length counts.now) × (1 ≤ most) }
-            ensures { IfOk result (λ text. text.items
+            ensures { IfOk result (λ texts. flat_map vec_items texts.items
                 ≡ rows_between (L.contents logs.entry.now).keys counts.entry.now from middle) }
         { rows_apart(rt, alloc, logs, counts, from, middle, most) },
-        || -> Result<Vec<u8>, Memory>
+        || -> Result<Vec<Vec<u8>>, Memory>
             requires { IsSync R.row × IsSync L.row
                 × (length (L.contents logs.now).keys ≡ length counts.now)
                 × (middle ≤ to) × (to ≤ length counts.now) × (1 ≤ most) }
-            ensures { IfOk result (λ text. text.items
+            ensures { IfOk result (λ texts. flat_map vec_items texts.items
                 ≡ rows_between (L.contents logs.entry.now).keys counts.entry.now middle to) }
         { rows_apart(rt, alloc, logs, counts, middle, to, most) },
     );
-    joined(front?, &back?)
-}
-
-/// A text with another behind it.
-fn joined(front: Vec<u8>, back: &[u8]) -> Result<Vec<u8>, Memory>
-    ensures { IfOk result (λ text. text.items ≡ front.items ++ back.now) }
-{
-    let mut text = front;
-    text.extend_from_slice(back)?;
-    Ok(text)
+    put_behind(front?, back?)
 }
 
 /// The row of the totals, as a text.
@@ -125,24 +136,42 @@ fn total_text(alloc: Global, committed: u64, appended: u64) -> Result<Vec<u8>, M
     rows::text_of(writer)
 }
 
-/// The text of a count: a row for each key, and the row of the totals. Many rows are made on several
-/// threads.
-pub fn count_rows_text<R: Threads + Sync, L: LogRead + Sync>(
+/// Texts with another one joined to the last of them.
+fn with_end(texts: Vec<Vec<u8>>, end: Vec<u8>) -> Result<Vec<Vec<u8>>, Memory>
+    ensures { IfOk result (λ all. flat_map vec_items all.items
+        ≡ flat_map vec_items texts.items ++ end.items) }
+{
+    let mut all = texts;
+    let last = match all.pop() {
+        Some(text) => {
+            let mut text = text;
+            text.extend_from_slice(end.as_slice())?;
+            text
+        }
+        None => end,
+    };
+    all.push(last)?;
+    Ok(all)
+}
+
+/// The text of a count in some texts, one after another: a row for each key, and the row of the
+/// totals. Many rows are made on several threads, and stay in as many texts; few are one text.
+pub fn count_rows_texts<R: Threads + Sync, L: LogRead + Sync>(
     rt: &R,
     alloc: Global,
     logs: &L,
     counts: &[u64],
     committed: u64,
     appended: u64,
-) -> Result<Vec<u8>, Memory>
+) -> Result<Vec<Vec<u8>>, Memory>
     requires { length (L.contents logs.now).keys ≡ length counts.now }
-    ensures { IfOk result (λ text. text.items
+    ensures { IfOk result (λ texts. flat_map vec_items texts.items
         ≡ count_rows (L.contents logs.now).keys counts.now ++ total_row committed appended) }
 {
     let keys = logs.keys();
     let most = (keys / PARTS).max(LEAST_ROWS);
     let rows = rows_apart(rt, alloc, logs, counts, 0, keys, most)?;
-    joined(rows, &total_text(alloc, committed, appended)?)
+    with_end(rows, total_text(alloc, committed, appended)?)
 }
 
 #[cfg(test)]

@@ -178,6 +178,3 @@ pub fn run_text<
     let text = devices_report(rt, alloc, file, script, options, gate)?;
     write_all(out, text.as_slice())
 }
-
-#[cfg(test)]
-mod tests;

@@ -8,8 +8,8 @@ use Rattle.count_report.specs.Records.{records_in}
 use Rattle.count_report.proofs.Counted.{counts-are}
 use Rattle.count_report.proofs.count.plain_report.Goals as goal
 
-pub count_rows_text-requires-after_bounds : goal.count_rows_text-requires-after_bounds
-count_rows_text-requires-after_bounds g c κs within = sym c.in_ok-counts.ensures.one_each ∙ ap length (sym c.counts-2.ensures)
+pub count_rows_texts-requires-after_bounds : goal.count_rows_texts-requires-after_bounds
+count_rows_texts-requires-after_bounds g c κs within = sym c.in_ok-counts.ensures.one_each ∙ ap length (sym c.counts-2.ensures)
 
 pub returns-clause-text : goal.returns-clause-text
 returns-clause-text g c =
@@ -19,6 +19,6 @@ returns-clause-text g c =
     let counts = c.counts-2.ensures ∙ counts-are records c.in_ok-logs.logs _ logs.valid logs.logs c.in_ok-counts.ensures in
     let long = c.len-total.ensures ∙ sym (length-map records (λ (keyed : Keyed). keyed.1)) in
     let total = c.len-total.result in
-    let rows = c.in_ok-text.ensures ∙ ap (λ (ks : List Key). count_rows ks c.counts-2.result.now ++ total_row total total) logs.logs.numbers
+    let rows = c.in_ok-texts.ensures ∙ ap (λ (ks : List Key). count_rows ks c.counts-2.result.now ++ total_row total total) logs.logs.numbers
     ∙ ap (λ ns. count_rows (distinct keys) ns ++ total_row total total) counts ∙ ap (λ n. count_rows (distinct keys) (counts_of keys) ++ total_row n n) long in
     ap (λ fault. fault_or fault (plain_text keys)) logs.accepted ∙ ap Ok (sym rows)

@@ -1,4 +1,4 @@
-use Rattle.std.proofs.Common.{◌≡◌, ◌+◌, ◌-◌, ◌/◌, ◌∙◌, ◌++◌, arith, ap, ap₂, sym}
+use Rattle.std.proofs.Common.{◌≡◌, ◌+◌, ◌-◌, ◌/◌, ◌∙◌, ◌++◌, arith, ap₂, flat_map, sym, vec_items}
 use Rattle.std.proofs.lemmas.Result.{IfOk-weaker}
 use Rattle.report_rows.specs.CountRows.{rows_between}
 use Rattle.report_rows.proofs.Steps.{rows_parted}
@@ -11,9 +11,9 @@ returns g t c =
     let from = c.args.from in
     let to = c.args.to in
     let middle = from + (to - from) / 2 in
-    let front = c.in_ok-front.field-0.items in
-    let back = c.in_ok-back.field-0.items in
-    IfOk-weaker c.joined.result (λ text. text.items ≡ front ++ c.deref.result.now) (λ text. text.items ≡ rows_between keys counts from to)
-    (λ text is.
-    is ∙ ap (λ b. front ++ b) c.deref.ensures.value ∙ ap₂ (λ a b. a ++ b) (rw c.in_ok-front.was at c.join-front.ensures.first) (rw c.in_ok-back.was at c.join-front.ensures.second)
-    ∙ sym (rows_parted keys counts from middle to (omega arith) (omega (arith, c.requires.range)) c.requires.range.1 c.requires.as_many)) c.joined.ensures
+    let front = flat_map vec_items c.in_ok-front.field-0.items in
+    let back = flat_map vec_items c.in_ok-back.field-0.items in
+    IfOk-weaker c.put_behind.result (λ texts. flat_map vec_items texts.items ≡ front ++ back) (λ texts. flat_map vec_items texts.items ≡ rows_between keys counts from to)
+    (λ texts is.
+    is ∙ ap₂ (λ a b. a ++ b) (rw c.in_ok-front.was at c.join-front.ensures.first) (rw c.in_ok-back.was at c.join-front.ensures.second)
+    ∙ sym (rows_parted keys counts from middle to (omega arith) (omega (arith, c.requires.range)) c.requires.range.1 c.requires.as_many)) c.put_behind.ensures

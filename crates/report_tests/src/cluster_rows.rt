@@ -2,10 +2,13 @@
 
 ghost use Rattle.std.specs.Prelude.{◌≤◌};
 
-use super::*;
-use group_machine::{Commit, Name};
+use crate::two_topics::topic;
+use group_machine::{Cluster, Commit, Name};
 use keyed_table::Partial;
-use lane_words::MOST_PARTITIONS;
+use lane_words::{MOST_PARTITIONS, Memory, Refusal};
+use replay_rows::{write_closing, write_moves, write_refused};
+use report_rows::rows;
+use script::Topic;
 use std::alloc::Global;
 use std::process::Abort;
 use std::random::RandomSource;
@@ -193,12 +196,6 @@ const TOPIC_MOVES: &[u8] = b"move,1,a,0,,A\nmove,1,a,1,,A\nmove,1,b,0,,A\n";
 
 const TOPIC_CLOSING: &[u8] = b"owner,a,0,A\nowner,a,1,A\nowner,b,0,A\n\
     offset,a,0,0,0\noffset,a,1,0,0\noffset,b,0,0,0\ntotal,0,0\n";
-
-/// A topic of this name, which is one, and of this many partitions.
-fn topic(rt: &impl Abort, name: &[u8], partitions: u32) -> Topic {
-    let name = Name::new(name).expect(rt, "a name");
-    Topic { name, partitions }
-}
 
 /// The topic a of two partitions, and b of one.
 fn a_and_b(rt: &impl Abort) -> [Topic; 2] {

@@ -1,62 +1,9 @@
-//! Devices that give and take little at a time, and fail at a call of their own.
+//! Bytes that are read and written little by little, and calls that fail.
 
-ghost use Rattle.std.specs.Prelude.{ℕ, Some, drop};
-
-use super::*;
+use crate::slow::{Drip, Page};
+use devices::{FromRead, FromWrite, read_all, write_all, write_texts};
 use lane_words::Refusal;
 use std::test::Fail;
-
-/// Gives one byte a read, and fails from the read at `fails_at` on.
-#[derive(Drop)]
-pub(crate) struct Drip {
-    pub(crate) bytes: Vec<u8>,
-    pub(crate) at: usize,
-    pub(crate) fails_at: usize,
-    pub(crate) failures: u64,
-}
-
-impl Source for Drip {
-    ghost left = { λ s. Some (drop s.at s.bytes.items) };
-
-    ghost failures = { λ s. s.failures };
-
-    fn read(&mut self, buf: &mut [u8]) -> Result<usize, DeviceFailed> {
-        if self.at == self.fails_at {
-            self.failures += 1;
-            return Err(DeviceFailed);
-        }
-        if buf.is_empty() || self.at >= self.bytes.len() {
-            return Ok(0);
-        }
-        buf[0] = self.bytes[self.at];
-        self.at += 1;
-        Ok(1)
-    }
-}
-
-/// Takes up to four bytes a write, and fails once it has taken `calls` writes.
-#[derive(Drop)]
-pub(crate) struct Page {
-    pub(crate) text: Vec<u8>,
-    pub(crate) calls: u64,
-    pub(crate) failures: u64,
-}
-
-impl Sink for Page {
-    ghost written = { λ s. Some s.text.items };
-
-    ghost failures = { λ s. s.failures };
-
-    fn write(&mut self, bytes: &[u8]) -> Result<usize, DeviceFailed> {
-        let n = if bytes.len() < 4 { bytes.len() } else { 4 };
-        if self.calls == 0 || self.text.extend_from_slice(&bytes[..n]).is_err() {
-            self.failures += 1;
-            return Err(DeviceFailed);
-        }
-        self.calls -= 1;
-        Ok(n)
-    }
-}
 
 #[test]
 fn a_source_is_read_to_its_end(rt: HostRuntime) -> Result<(), Fail> {
@@ -97,6 +44,27 @@ fn a_text_is_written_in_pieces(rt: HostRuntime) -> Result<(), Fail> {
     write_all(&mut page, b"0123456789")?;
     assert_eq!(rt; page.text.as_slice(), b"0123456789".as_slice());
     assert_eq!(rt; page.failures, 0);
+    Ok(())
+}
+
+#[test]
+fn texts_are_written_one_after_another(rt: HostRuntime) -> Result<(), Fail> {
+    let mut page = Page {
+        text: Vec::new(rt.alloc()),
+        calls: 4,
+        failures: 0,
+    };
+    let mut texts = Vec::new(rt.alloc());
+    for text in [b"01234".as_slice(), b"", b"56789"] {
+        texts.push(Vec::from_slice(rt.alloc(), text)?)?;
+    }
+    write_texts(&mut page, texts.as_slice())?;
+    assert_eq!(rt; page.text.as_slice(), b"0123456789".as_slice());
+    assert_eq!(rt;
+        write_texts(&mut page, texts.as_slice()),
+        Err(Refusal::WriteFailed)
+    );
+    assert_eq!(rt; page.failures, 1);
     Ok(())
 }
 

@@ -4,16 +4,21 @@ ghost use Rattle.std.specs.Prelude.{◌≡◌, ◌≤◌, ◌<◌};
 ghost use Rattle.script.specs.Topics.{AreTopics};
 ghost use Rattle.command_line.specs.declared.options.TheConstants.{MOST_BATCH};
 
-use super::*;
+use crate::two_topics::a_and_b;
+use crate::{FILE, TOPIC_FILE, options_of_two};
+use command_line::Options;
 use devices::{FromRead, FromWrite};
-use group_machine::Name;
-use std::process::Abort;
+use lane_words::{Memory, Refusal};
+use run_report::run_text;
+use script::Topic;
+use std::alloc::Global;
+use std::random::RandomSource;
+use std::sync::Wait;
 use std::sync::atomic::{AtomicBool, AtomicU32, Ordering};
 use std::test::Fail;
-use workers::GateAnswer;
+use std::thread::Threads;
 use workers::GateAnswer::{Go, NotNow, Stop};
-
-const FILE: &[u8] = b"21\n4\nfoobar\nabc\n21\n";
+use workers::{Gate, GateAnswer};
 
 const TWO: &[u8] = b"join A\njoin B\n";
 
@@ -64,23 +69,6 @@ fn ran<R: Threads + Wait + RandomSource + Sync, G: Gate + Sync>(
     (answer, text)
 }
 
-/// A topic of this name, which is one, and of this many partitions.
-fn topic(rt: &impl Abort, name: &[u8], partitions: u32) -> Topic
-    ensures { result ≡ record { name = name.now; partitions = partitions } }
-{
-    let name = Name::new(name).expect(rt, "a name");
-    Topic { name, partitions }
-}
-
-/// The topic a of two partitions, and b of three.
-fn a_and_b(rt: &impl Abort) -> [Topic; 2]
-    ensures { AreTopics result }
-{
-    [topic(rt, b"a", 2), topic(rt, b"b", 3)]
-}
-
-const TOPIC_FILE: &[u8] = b"21,a\nabc,b\n21,b\n4,a\n4,b\n";
-
 const TOPIC_TEXT: &[u8] = b"move,1,a,0,,A\nmove,1,a,1,,A\nmove,1,b,0,,A\nmove,1,b,1,,A\n\
     move,1,b,2,,A\nmove,3,b,1,A,B\nmove,3,b,2,A,B\n\
     owner,a,0,A\nowner,a,1,A\nowner,b,0,A\nowner,b,1,B\nowner,b,2,B\n\
@@ -96,14 +84,7 @@ fn ran_in_topics<R: Threads + Wait + RandomSource + Sync>(
 ) -> Result<(Result<(), Refusal>, Vec<u8>), Memory>
     requires { AreTopics topics }
 {
-    let options = Options {
-        partitions: 1,
-        column: 1,
-        header: false,
-        batch: 500,
-        topics: Vec::from_array(alloc, topics)?,
-        topic_column: 2,
-    };
+    let options = options_of_two(alloc, topics)?;
     let mut text = Vec::new(alloc);
     let mut sink = FromWrite::new(&mut text);
     let (mut file, mut script) = (FromRead::new(file), FromRead::new(TWO));

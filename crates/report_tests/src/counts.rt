@@ -1,42 +1,24 @@
 //! The worked rows of a count, over devices that give and take little, and that fail.
 
-ghost use Rattle.std.specs.Prelude.{◌≡◌, ◌≤◌, IfOk};
-ghost use Rattle.count_report.specs.Reports.{AreInRange};
+ghost use Rattle.std.specs.Prelude.{◌≡◌, IfOk};
 ghost use Rattle.script.specs.Topics.{AreTopics};
 
-mod slow;
-
-use super::*;
+use crate::slow::{Drip, Page};
+use crate::two_topics::a_and_b;
+use crate::{FILE, TOPIC_FILE, options, options_of_two};
+use count_report::count_text;
 use devices::{FromRead, FromWrite};
-use group_machine::Name;
 use itoa::Buffer;
-use lane_words::{MOST_PARTITIONS, Memory};
+use lane_words::{Memory, Refusal};
 use script::Topic;
-use slow::{Drip, Page};
-use std::process::Abort;
+use std::alloc::Global;
+use std::random::RandomSource;
 use std::test::Fail;
-
-const FILE: &[u8] = b"21\n4\nfoobar\nabc\n21\n";
-
-const TOPIC_FILE: &[u8] = b"21,a\nabc,b\n21,b\n4,a\n4,b\n";
+use std::thread::Threads;
 
 const TOPIC_TEXT: &[u8] = b"count,21,2\ncount,abc,1\ncount,4,2\ntotal,5,5\n";
 
 const TEXT: &[u8] = b"count,21,2\ncount,4,1\ncount,foobar,1\ncount,abc,1\ntotal,5,5\n";
-
-fn options(alloc: Global, partitions: u32) -> Options
-    requires { (1 ≤ partitions) × (partitions ≤ MOST_PARTITIONS) }
-    ensures { AreInRange result }
-{
-    Options {
-        partitions,
-        column: 1,
-        header: false,
-        batch: 500,
-        topics: Vec::new(alloc),
-        topic_column: 2,
-    }
-}
 
 fn drip(rt: &HostRuntime, fails_at: usize) -> Result<Drip, Memory>
     ensures { IfOk result (λ d. d.failures ≡ 0) }
@@ -76,31 +58,6 @@ fn a_file_is_counted_whatever_the_partitions(rt: HostRuntime) -> Result<(), Fail
         assert_eq!(rt; text.as_slice(), TEXT);
     }
     Ok(())
-}
-
-/// A topic of this name, which is one, and of this many partitions.
-fn topic(rt: &impl Abort, name: &[u8], partitions: u32) -> Topic
-    ensures { result ≡ record { name = name.now; partitions = partitions } }
-{
-    let name = Name::new(name).expect(rt, "a name");
-    Topic { name, partitions }
-}
-
-/// The topic a of two partitions, and b of three.
-fn a_and_b(rt: &impl Abort) -> [Topic; 2]
-    ensures { AreTopics result }
-{
-    [topic(rt, b"a", 2), topic(rt, b"b", 3)]
-}
-
-/// The options of a file of these topics.
-fn options_of_two(alloc: Global, topics: [Topic; 2]) -> Result<Options, Memory>
-    requires { AreTopics topics }
-    ensures { IfOk result AreInRange }
-{
-    let mut options = options(alloc, 1);
-    options.topics = Vec::from_array(alloc, topics)?;
-    Ok(options)
 }
 
 /// What a count of a file of these topics answers, and whether it has written this.

@@ -1,5 +1,10 @@
-use super::*;
-use crate::help::{AFTER_COUNT, AFTER_KEYCOUNT, AFTER_REPLAY, AFTER_RUN};
+//! Words of a command line, and what they ask for.
+
+use command_line::{
+    AFTER_COUNT, AFTER_KEYCOUNT, AFTER_REPLAY, AFTER_RUN, Job, Options, Usage, read_words,
+};
+use script::Topic;
+use std::alloc::Global;
 use std::process::Abort;
 
 /// The partitions, the column, whether there is a header, and the batch.
@@ -388,7 +393,7 @@ fn help_tells_what_there_is(rt: HostRuntime) {
 
 #[test]
 fn the_version_names_the_kit(rt: HostRuntime) {
-    let wanted = "keycount 0.1.0, proved with rattle-kit-13b logic dac8208d650f15bf";
+    let wanted = "keycount 0.1.0, proved with rattle-kit-13f logic dac8208d650f15bf";
     assert_asked(&rt, rt.alloc(), &["--version"], wanted, wanted);
     assert_asked(&rt, rt.alloc(), &["-V"], wanted, wanted);
 }

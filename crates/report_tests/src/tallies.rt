@@ -3,8 +3,14 @@
 ghost use Rattle.std.specs.Prelude.{◌≤◌};
 ghost use Rattle.partition_log.specs.Logs.{IsValidLogs};
 
-use super::*;
+use count_report::{counts_in, counts_in_groups, counts_in_turn};
+use keyed_table::Table;
+use lane_words::{MOST_PARTITIONS, Memory, Refusal};
+use partition_log::{LogRead, Logs};
+use std::alloc::Global;
+use std::random::RandomSource;
 use std::test::Fail;
+use std::thread::Threads;
 
 /// Logs of so many records, whose keys come back again and again, some far more often than others.
 fn logs<R: Threads + Sync + RandomSource>(

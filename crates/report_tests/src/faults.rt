@@ -1,7 +1,8 @@
 //! The lines and the statuses, as the program's users see them.
 
-use super::*;
-use crate::tests::Page;
+use crate::slow::Page;
+use devices::{fault_line, status};
+use lane_words::Refusal;
 use std::test::Fail;
 
 #[test]

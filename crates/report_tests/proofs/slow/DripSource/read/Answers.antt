@@ -1,6 +1,6 @@
 use Rattle.std.proofs.Common.{rules, arith, ℕ, List, [], ◌∷◌, ◌++◌, ◌≡◌, ◌∙◌, ◌+◌, ◌<◌, take, drop, length, get_or, ap, sym, refl, drop-cons, add-one}
 use Rattle.std.specs.Prelude.{slice_set, suc}
-use Rattle.devices.proofs.tests.DripSource.read.Goals as goal
+use Rattle.report_tests.proofs.slow.DripSource.read.Goals as goal
 
 -- the first of some bytes, after a write to it
 first_set : (xs : List ℕ) (v : ℕ) → 0 < length xs → take 1 (slice_set xs 0 v) ≡ v ∷ []

@@ -1,31 +1,17 @@
 //! Worked rows of a replay.
 
-ghost use Rattle.std.specs.Prelude.{◌≡◌, IfOk};
-ghost use Rattle.count_report.specs.Reports.{AreInRange};
 ghost use Rattle.script.specs.Topics.{AreTopics};
 
-use super::*;
+use crate::two_topics::a_and_b;
+use crate::{FILE, TOPIC_FILE, options, options_of_two};
 use devices::{FromRead, FromWrite};
-use group_machine::Name;
-use lane_words::Memory;
-use std::process::Abort;
+use lane_words::{Memory, Refusal};
+use replay_report::replay_text;
+use script::Topic;
+use std::alloc::Global;
+use std::random::RandomSource;
 use std::test::Fail;
-
-const FILE: &[u8] = b"21\n4\nfoobar\nabc\n21\n";
-
-/// The options of a file without topics.
-fn options(alloc: Global) -> Options
-    ensures { AreInRange result }
-{
-    Options {
-        partitions: 4,
-        column: 1,
-        header: false,
-        batch: 500,
-        topics: Vec::new(alloc),
-        topic_column: 2,
-    }
-}
+use std::thread::Threads;
 
 #[test]
 fn a_join_is_told_by_its_moves(rt: HostRuntime) -> Result<(), Fail> {
@@ -40,7 +26,7 @@ fn a_join_is_told_by_its_moves(rt: HostRuntime) -> Result<(), Fail> {
         rt.alloc(),
         &mut file,
         &mut script,
-        &options(rt.alloc()),
+        &options(rt.alloc(), 4),
         &mut sink,
     )?;
     drop(sink);
@@ -63,7 +49,7 @@ fn a_commit_that_comes_again_is_told_as_refused(rt: HostRuntime) -> Result<(), F
         rt.alloc(),
         &mut file,
         &mut script,
-        &options(rt.alloc()),
+        &options(rt.alloc(), 4),
         &mut sink,
     )?;
     drop(sink);
@@ -81,7 +67,7 @@ fn a_bad_line_is_told_and_nothing_is_written(rt: HostRuntime) -> Result<(), Fail
         rt.alloc(),
         &mut file,
         &mut script,
-        &options(rt.alloc()),
+        &options(rt.alloc(), 4),
         &mut sink,
     );
     drop(sink);
@@ -89,33 +75,6 @@ fn a_bad_line_is_told_and_nothing_is_written(rt: HostRuntime) -> Result<(), Fail
     assert_eq!(rt; text.len(), 0);
     Ok(())
 }
-
-/// A topic of this name, which is one, and of this many partitions.
-fn topic(rt: &impl Abort, name: &[u8], partitions: u32) -> Topic
-    ensures { result ≡ record { name = name.now; partitions = partitions } }
-{
-    let name = Name::new(name).expect(rt, "a name");
-    Topic { name, partitions }
-}
-
-/// The topic a of two partitions, and b of three.
-fn a_and_b(rt: &impl Abort) -> [Topic; 2]
-    ensures { AreTopics result }
-{
-    [topic(rt, b"a", 2), topic(rt, b"b", 3)]
-}
-
-/// The options of a file of these topics.
-fn options_of_two(alloc: Global, topics: [Topic; 2]) -> Result<Options, Memory>
-    requires { AreTopics topics }
-    ensures { IfOk result AreInRange }
-{
-    let mut options = options(alloc);
-    options.topics = Vec::from_array(alloc, topics)?;
-    Ok(options)
-}
-
-const TOPIC_FILE: &[u8] = b"21,a\nabc,b\n21,b\n4,a\n4,b\n";
 
 const DRAINED: &[u8] = b"move,1,a,0,,A\nmove,1,a,1,,A\nmove,1,b,0,,A\nmove,1,b,1,,A\n\
     move,1,b,2,,A\nmove,3,b,1,A,B\nmove,3,b,2,A,B\n\

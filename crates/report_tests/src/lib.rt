@@ -1,0 +1,65 @@
+//! Tests of devices, of the command line, of rows and of the three reports, by their public calls. They have a crate of
+//! their own, since a crate with tests is proved twice, once without them.
+#![tactic(auto)]
+
+ghost use Rattle.std.specs.Prelude.{◌≡◌, ◌≤◌, IfOk};
+ghost use Rattle.count_report.specs.Reports.{AreInRange};
+ghost use Rattle.script.specs.Topics.{AreTopics};
+
+#[cfg(test)]
+mod cluster_rows;
+#[cfg(test)]
+mod counts;
+#[cfg(test)]
+mod device_calls;
+#[cfg(test)]
+mod faults;
+#[cfg(test)]
+mod replays;
+#[cfg(test)]
+mod runs;
+#[cfg(test)]
+mod slow;
+#[cfg(test)]
+mod tallies;
+#[cfg(test)]
+mod two_topics;
+#[cfg(test)]
+mod words;
+
+use command_line::Options;
+use lane_words::{MOST_PARTITIONS, Memory};
+use script::Topic;
+use std::alloc::Global;
+
+/// Five records of four keys.
+pub const FILE: &[u8] = b"21\n4\nfoobar\nabc\n21\n";
+
+/// Five records of two topics.
+pub const TOPIC_FILE: &[u8] = b"21,a\nabc,b\n21,b\n4,a\n4,b\n";
+
+/// The options of a file without topics.
+pub fn options(alloc: Global, partitions: u32) -> Options
+    requires { (1 ≤ partitions) × (partitions ≤ MOST_PARTITIONS) }
+    ensures range { AreInRange result }
+    ensures partitions { result.partitions ≡ partitions }
+{
+    Options {
+        partitions,
+        column: 1,
+        header: false,
+        batch: 500,
+        topics: Vec::new(alloc),
+        topic_column: 2,
+    }
+}
+
+/// The options of a file of these topics.
+pub fn options_of_two(alloc: Global, topics: [Topic; 2]) -> Result<Options, Memory>
+    requires { AreTopics topics }
+    ensures { IfOk result AreInRange }
+{
+    let mut options = options(alloc, 1);
+    options.topics = Vec::from_array(alloc, topics)?;
+    Ok(options)
+}
