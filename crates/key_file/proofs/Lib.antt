@@ -1,5 +1,6 @@
 pub mod Cutting
 pub mod Faults
+pub mod Fields
 pub mod Joined
 pub mod Keys
 pub mod Listed

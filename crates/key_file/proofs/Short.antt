@@ -15,7 +15,8 @@ use Rattle.key_file.specs.Private.Join.{fault_number}
 use Rattle.key_file.specs.KeyFile.{Record, Taking, keyed, keys_from}
 use Rattle.key_file.specs.Private.Records.{IsBetween}
 use Rattle.key_file.proofs.Progress.{step-between}
-use Rattle.key_file.proofs.Walk.{records-walk, walk}
+use Rattle.key_file.specs.Private.Walk.{walk}
+use Rattle.key_file.proofs.Walk.{records-walk}
 
 -- one record more, where the end of the text ends one
 abbrev last_one : Bool → ℕ

@@ -13,7 +13,8 @@ use Rattle.key_file.specs.Pieces.{file_records}
 use Rattle.key_file.specs.Stand.{in_quotes, stand_after, stand_next, unquoted}
 use Rattle.key_file.specs.declared.stand.Stand.{Stand}
 use Rattle.key_file.specs.declared.stand.Stand.TheVariants as k
-use Rattle.key_file.proofs.Walk.{Holds, append_if, holds-none, records-append, records-walk, state_after, step-holds, walk}
+use Rattle.key_file.specs.Private.Walk.{walk}
+use Rattle.key_file.proofs.Walk.{Holds, append_if, holds-none, records-append, records-walk, state_after, step-holds}
 
 -- our state, of each of csv's that its default dialect reaches
 abbrev pub Sees : State → Stand → Type 0

@@ -8,13 +8,7 @@ use Rattle.csv.specs.declared.parser.Action.TheVariants as act
 use Rattle.csv.specs.declared.parser.State.{State}
 use Rattle.csv.specs.declared.parser.State.TheVariants as st
 use Rattle.key_file.specs.KeyFile.{Record}
-
--- the records of these bytes, from a state with these fields and these bytes of a field
-unfoldable pub walk : State → List (List ℕ) → List ℕ → List ℕ → List Record
-walk s fields field [] = if ends_at_end s then (fields ++ (field ∷ [])) ∷ [] else []
-walk s fields field (c ∷ rest) =
-    if is_end (step default_config s c).1 then fields_after (step default_config s c).1 fields field ∷ walk (step default_config s c).0 [] [] rest
-    else walk (step default_config s c).0 (fields_after (step default_config s c).1 fields field) (field_after (step default_config s c).1 c field) rest
+use Rattle.key_file.specs.Private.Walk.{walk}
 
 -- the state after these bytes
 unfoldable pub state_after : State → List ℕ → State

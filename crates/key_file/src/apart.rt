@@ -2,9 +2,10 @@
 
 ghost use Rattle.std.specs.Prelude.{◌≡◌, ◌≤◌, ◌<◌, ◌^◌, ◌⊎◌, ◌∷◌, ◌++◌, Ok, Err, [], ℕ, IfOk, IfErr, List, length, map, take, slice_index, slice_index_or, slice_range, vec_len};
 ghost use Rattle.key_file.specs.KeyFile.{IsFileFault, keys_of, taken_of, topic_keys_of};
+ghost use Rattle.key_file.specs.Pieces.{file_records};
 ghost use Rattle.key_file.specs.Private.Cuts.{AreCuts};
 ghost use Rattle.key_file.specs.Private.FileKeys.{all_keys};
-ghost use Rattle.key_file.specs.Private.Join.{AnswerPieces};
+ghost use Rattle.key_file.specs.Private.Join.{AnswerPieces, IsWidthOf};
 ghost use Rattle.key_file.specs.Private.Wanted.{taking};
 ghost use Rattle.lane_words.specs.declared.Refusal.TheVariants as refusal;
 
@@ -70,6 +71,7 @@ fn found_apart<R: Threads + Sync>(
     width: usize,
 ) -> Result<Vec<Result<KeyList, Refusal>>, Refusal>
     requires cuts { AreCuts file.now 0 cuts.now (length file.now) }
+    requires first { IsWidthOf width (file_records (take (slice_index cuts.now 0) file.now)) }
     ensures len { IfOk result (λ found. length found.items ≡ length cuts.now) }
     ensures found { IfOk result
         (λ found. AnswerPieces (taking wanted.now) header width file.now cuts.now found.items) }

@@ -17,7 +17,7 @@ fn is_mark(a: u8, b: u8, c: u8) -> bool
 }
 
 /// How many bytes a byte order mark takes at the start of a file.
-fn mark_length(file: &[u8]) -> usize
+pub fn mark_length(file: &[u8]) -> usize
     ensures value { result ≡ bom_length file.now }
     ensures within { result ≤ length file.now }
 {

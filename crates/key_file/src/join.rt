@@ -10,9 +10,8 @@ ghost use Rattle.lane_words.specs.Answers.{Answers};
 ghost use Rattle.key_file.specs.Private.Wanted.{taking};
 ghost use Rattle.lane_words.specs.declared.Refusal.TheVariants as refusal;
 
-use crate::piece::keys_of_piece;
+use crate::scan::{first_keys, keys_of};
 use crate::wanted::Wanted;
-use crate::whole::read_taken;
 use key_lists::KeyList;
 use lane_words::Refusal;
 use std::alloc::Global;
@@ -37,13 +36,20 @@ pub fn keys_at(
 ) -> Result<KeyList, Refusal>
     requires cuts { AreCuts file.now 0 cuts.now (length file.now) }
     requires index { i < length cuts.now }
+    requires first { IsWidthOf width (file_records (take (slice_index cuts.now 0) file.now)) }
     ensures { Answers (keys_at (taking wanted.now) header width file.now cuts.now i) result }
 {
     if i == 0 {
-        read_taken(alloc, piece_between(file, 0, cuts[0]), wanted, header)
+        first_keys(
+            alloc,
+            piece_between(file, 0, cuts[0]),
+            wanted,
+            header,
+            width,
+        )
     } else {
         let piece = piece_between(file, cuts[i - 1], cuts[i]);
-        keys_of_piece(alloc, piece, wanted, width)
+        keys_of(alloc, piece, wanted, width)
     }
 }
 

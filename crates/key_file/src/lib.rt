@@ -9,6 +9,7 @@ mod lack;
 mod laws;
 mod piece;
 mod records;
+mod scan;
 mod stand;
 mod topic_keys;
 mod wanted;

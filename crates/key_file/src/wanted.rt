@@ -1,10 +1,10 @@
 //! What is taken of each record of a file.
 
-ghost use Rattle.std.specs.Prelude.{◌≡◌, ◌≤◌, ◌<◌, ◌^◌, Ok, Err, Some, None, [], IfOk, IfErr, length, map};
+ghost use Rattle.std.specs.Prelude.{◌≡◌, ◌≤◌, ◌<◌, ◌^◌, Ok, Err, Some, None, [], IfOk, IfErr, IfSome, ◌+◌, length, map};
 ghost use Rattle.std.specs.List.{position_from};
 ghost use Rattle.std.specs.Str.{bytes_eq};
 ghost use Rattle.csv.specs.Records.{fields_of};
-ghost use Rattle.key_file.specs.KeyFile.{lack_at};
+ghost use Rattle.key_file.specs.KeyFile.{key_in, lack_at};
 ghost use Rattle.key_file.specs.Private.Wanted.{item, taking};
 
 use crate::lack::Lack;
@@ -107,6 +107,16 @@ impl<'a> Wanted<'a> {
             topics: Some(topics),
             hasher: None,
         }
+    }
+
+    /// The key's column, counted from 0, where nothing but the key is taken.
+    pub fn key_column(&self) -> Option<usize>
+        ensures { IfSome result (λ column. taking self.now ≡ key_in (column + 1)) }
+    {
+        if self.topics.is_some() {
+            return None;
+        }
+        Some(self.column as usize - 1)
     }
 
     /// A list for what is taken, with nothing in it yet.
