@@ -1,5 +1,6 @@
 pub mod Collected
 pub mod Copied
+pub mod Dealt
 pub mod Filtered
 pub mod Firsts
 pub mod Growth

@@ -79,7 +79,8 @@ numbered-all shard s keys i table locals le so =
       so.locals_of ∙ ap (λ ks. map (id_of (distinct (of_shard shard s keys))) (of_shard shard s ks)) whole,
     )
 
-few-added : (ks zs : List Key) → length (fold with_key ks zs) ≤ length ks + length zs
+-- no more keys are added than records
+pub few-added : (ks zs : List Key) → length (fold with_key ks zs) ≤ length ks + length zs
 few-added ks [] = omega arith
 few-added ks (z ∷ zs) = omega (arith, (grows ks z).by_one, few-added (with_key ks z) zs)
 

@@ -1,6 +1,7 @@
 //! Keys numbered in the order of their first appearance.
 #![tactic(auto)]
 
+mod dealing;
 mod key_table;
 mod keys;
 mod numbering;

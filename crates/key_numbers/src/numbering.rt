@@ -1,9 +1,10 @@
 //! Keys that are numbered shard by shard, side by side.
 
-ghost use Rattle.std.specs.Prelude.{◌≡◌, ◌≤◌, ◌<◌, ◌+◌, ℕ, [], List, IfOk, OnOk, length, map, replicate, slice_index_or, slice_set, vec_items, vec_len};
+ghost use Rattle.std.specs.Prelude.{◌≡◌, ◌≤◌, ◌<◌, ◌+◌, ◌++◌, ℕ, [], List, IfOk, OnOk, length, map, replicate, slice_index_or, slice_set, vec_items, vec_len};
 ghost use Rattle.key_numbers.specs.Keys.{Key, distinct, id_of, lent};
-ghost use Rattle.key_numbers.specs.Private.Sharded.{AreFrom, AreGlobal, AreLocals, AreNumberedIn, AreOrdered, ArePassed, AreReadable, AreTables, is_first, shard_of, with_first, with_first_at};
+ghost use Rattle.key_numbers.specs.Private.Sharded.{AreDealt, AreFrom, AreGlobal, AreLocals, AreNumberedIn, AreOrdered, ArePassed, AreReadable, AreTables, is_first, of_shard, piece_of, shard_of, with_first, with_first_at, with_keys};
 
+use crate::dealing::{PIECES, deal_pieces};
 use crate::key_table::KeyTable;
 use crate::shards::{KeyAt, SHARDS, shard_of};
 use lane_words::{MOST_RECORDS, Memory};
@@ -11,9 +12,6 @@ use std::alloc::Global;
 use std::hash::RandomState;
 use std::thread;
 use std::thread::Threads;
-
-/// In how many pieces the shards and the key numbers of all records are found.
-const PIECES: usize = 8;
 
 /// Keys that are numbered.
 #[derive(Drop)]
@@ -49,7 +47,8 @@ pub fn number_keys<R: Threads + Sync>(
         ≡ map (id_of (distinct (lent keys.now))) (lent keys.now)) }
 {
     let shards = shards_of(rt, alloc, hasher, keys)?;
-    let found = number_shards(rt, alloc, hasher, keys, &shards, room)?;
+    let dealt = deal_pieces(rt, alloc, hasher, keys, &shards)?;
+    let found = number_shards(rt, alloc, hasher, keys, &dealt, room)?;
     let (tables, locals) = tables_of(alloc, hasher, keys, found)?;
     let (ids, order) = walk(alloc, hasher, keys, &shards, &tables, &locals)?;
     let numbers = key_numbers(rt, alloc, hasher, keys, &shards, &locals, &ids)?;
@@ -111,29 +110,65 @@ pub struct NumberedShard {
     locals: Vec<u32>,
 }
 
-/// Numbers the records of one shard, where `shards` has the shard of each record. There is room for
-/// so many of its keys at first.
+/// Numbers more records of a shard.
+fn number_row(table: &mut KeyTable, locals: &mut Vec<u32>, row: &[&[u8]]) -> Result<(), Memory>
+    requires { length table.old + length row.now ≤ MOST_RECORDS }
+    ensures table { OnOk result (table.new ≡ with_keys table.old (lent row.now)) }
+    ensures locals { OnOk result (locals.new.items ≡ locals.old.items
+        ++ map (id_of (with_keys table.old (lent row.now))) (lent row.now)) }
+{
+    for k in 0..row.len() {
+        locals.push(table.number(row[k])?)?;
+    }
+    Ok(())
+}
+
+/// The keys of a piece that are dealt to a shard.
+fn row_of<'a, 'k>(
+    hasher: RandomState,
+    keys: &[&[u8]],
+    dealt: &'a [Result<Vec<Vec<&'k [u8]>>, Memory>],
+    shard: u8,
+    p: usize,
+) -> Result<&'a [&'k [u8]], Memory>
+    requires shard { shard < SHARDS }
+    requires piece { p < length dealt.now }
+    requires dealt { (p : ℕ) (d : _) → p < length dealt.now
+        → IfOk (slice_index_or dealt.now p d) (λ rows. AreDealt (shard_of hasher) SHARDS
+        (piece_of p (lent keys.now)) (map (λ row. lent row.items) rows.items)) }
+    ensures { IfOk result (λ row.
+        lent row.now ≡ of_shard (shard_of hasher) shard (piece_of p (lent keys.now))) }
+{
+    match &dealt[p] {
+        Ok(rows) => Ok(rows[shard as usize].as_slice()),
+        Err(_) => Err(Memory),
+    }
+}
+
+/// Numbers the records of one shard, piece by piece. There is room for so many of its keys at first.
 fn number_shard(
     alloc: Global,
     hasher: RandomState,
     keys: &[&[u8]],
-    shards: &[u8],
+    dealt: &[Result<Vec<Vec<&[u8]>>, Memory>],
     shard: u8,
     room: usize,
 ) -> Result<NumberedShard, Memory>
     requires few { length keys.now ≤ MOST_RECORDS }
-    requires as_many { length shards.now ≡ length keys.now }
-    requires shards { shards.now ≡ map (shard_of hasher) (lent keys.now) }
+    requires shard { shard < SHARDS }
+    requires pieces { length dealt.now ≡ PIECES }
+    requires dealt { (p : ℕ) (d : _) → p < PIECES
+        → IfOk (slice_index_or dealt.now p d) (λ rows. AreDealt (shard_of hasher) SHARDS
+        (piece_of p (lent keys.now)) (map (λ row. lent row.items) rows.items)) }
     ensures { IfOk result (λ n.
         AreNumberedIn (shard_of hasher) shard (lent keys.now) n.table n.locals.items) }
 {
     let mut table = KeyTable::new(alloc, hasher);
     table.reserve(room)?;
     let mut locals = Vec::with_capacity(alloc, room)?;
-    for i in 0..keys.len() {
-        if shards[i] == shard {
-            locals.push(table.number(keys[i])?)?;
-        }
+    for p in 0..dealt.len() {
+        let row = row_of(hasher, keys, dealt, shard, p)?;
+        number_row(&mut table, &mut locals, row)?;
     }
     Ok(NumberedShard { table, locals })
 }
@@ -144,12 +179,14 @@ fn number_shards<R: Threads + Sync>(
     alloc: Global,
     hasher: RandomState,
     keys: &[&[u8]],
-    shards: &[u8],
+    dealt: &[Result<Vec<Vec<&[u8]>>, Memory>],
     room: usize,
 ) -> Result<Vec<Result<NumberedShard, Memory>>, Memory>
     requires few { length keys.now ≤ MOST_RECORDS }
-    requires as_many { length shards.now ≡ length keys.now }
-    requires shards { shards.now ≡ map (shard_of hasher) (lent keys.now) }
+    requires pieces { length dealt.now ≡ PIECES }
+    requires dealt { (p : ℕ) (d : _) → p < PIECES
+        → IfOk (slice_index_or dealt.now p d) (λ rows. AreDealt (shard_of hasher) SHARDS
+        (piece_of p (lent keys.now)) (map (λ row. lent row.items) rows.items)) }
     ensures len { IfOk result (λ found. vec_len found ≡ SHARDS) }
     ensures found { IfOk result (λ found. (s : ℕ) (d : _) → s < SHARDS
         → IfOk (slice_index_or found.items s d)
@@ -161,7 +198,7 @@ fn number_shards<R: Threads + Sync>(
         rt,
         alloc,
         SHARDS as usize,
-        &|s| number_shard(alloc, hasher, keys, shards, s as u8, each),
+        &|s| number_shard(alloc, hasher, keys, dealt, s as u8, each),
     )?;
     Ok(numbered)
 }

@@ -1,10 +1,11 @@
 -- Keys that are numbered shard by shard, and their key numbers.
-use Rattle.std.specs.Prelude.{◌≡◌, ◌<◌, ◌≤◌, ◌+◌, ◌==◌, ◌%◌, ℕ, List, [], ◌∷◌, ◌++◌, All, Bool, filter, length, map, if◌then◌else◌, slice_index_or, take}
+use Rattle.std.specs.Prelude.{◌≡◌, ◌<◌, ◌≤◌, ◌+◌, ◌*◌, ◌/◌, ◌==◌, ◌%◌, ℕ, List, [], ◌∷◌, ◌++◌, All, Bool, filter, fold, length, map, min, if◌then◌else◌, slice_index_or, slice_range, take}
 use Rattle.lane_words.specs.declared.limits.TheConstants.{MOST_RECORDS}
 use Rattle.std.specs.RandomState.{initial_hasher}
 use Rattle.std.specs.declared.hash.RandomState.{RandomState}
 use Rattle.std.specs.Hash.DefaultHasher.{finish, write}
-use Rattle.key_numbers.specs.Keys.{Key, distinct, id_of, key_at}
+use Rattle.key_numbers.specs.Keys.{Key, distinct, id_of, key_at, with_key}
+use Rattle.key_numbers.specs.declared.dealing.TheConstants.{PIECES}
 use Rattle.key_numbers.specs.declared.shards.TheConstants.{SHARDS}
 use Rattle.key_numbers.specs.declared.shards.KeyAt.{KeyAt}
 
@@ -15,6 +16,23 @@ shard_of hasher key = finish (write (initial_hasher hasher) key) % SHARDS
 -- the keys of shard s, in order, where a function tells the shard of each key
 abbrev pub of_shard : (Key → ℕ) → ℕ → List Key → List Key
 of_shard shard s keys = filter (λ k. shard k == s) keys
+
+-- where piece p of these begins: of one length, but for the last ones
+abbrev pub start_of : ℕ → List Key → ℕ
+start_of p keys = min (p * (length keys / PIECES + 1)) (length keys)
+
+-- piece p of these
+abbrev pub piece_of : ℕ → List Key → List Key
+piece_of p keys = slice_range keys (start_of p keys) (start_of (p + 1) keys)
+
+-- keys that are dealt to so many shards: each has its own, in order
+pub record AreDealt (shard : Key → ℕ) (count : ℕ) (keys : List Key) (rows : List (List Key)) : Type 0 where
+  pub each : length rows ≡ count
+  pub are : (s : ℕ) → s < count → slice_index_or rows s [] ≡ of_shard shard s keys
+
+-- the keys of a shard after more records
+abbrev pub with_keys : List Key → List Key → List Key
+with_keys table row = fold with_key table row
 
 -- for each shard the key numbers of its keys, by their numbers in the shard
 abbrev pub AreGlobal : (Key → ℕ) → List Key → List (List ℕ) → Type 0
