@@ -7,5 +7,5 @@ mod key_store;
 mod key_text;
 mod known;
 
-pub use coding::{CodedPart, coded_parts, collected, firsts_of};
+pub use coding::{CodedPart, coded_parts};
 pub use key_list::KeyList;

@@ -1,20 +1,23 @@
 -- Keys that are dealt to their shards, and shards that are numbered row by row.
-use Rattle.std.proofs.Common.{◌≡◌, ◌∙◌, ◌+◌, ◌-◌, ◌<◌, ◌≤◌, ℕ, zero, suc, List, [], ◌∷◌, ◌++◌, length, map, take, drop, get_or, replicate, sym, ap, refl, subst, ap₂, arith, inl, inr, get_or-set_same, get_or-set_other, append_assoc, length-append, length-drop, length-take-le}
-use Rattle.std.specs.Prelude.{◌==◌, slice_range, slice_set}
+use Rattle.std.proofs.Common.{◌≡◌, ◌∙◌, ◌+◌, ◌-◌, ◌<◌, ◌≤◌, ℕ, zero, suc, Bool, List, [], ◌∷◌, ◌++◌, Bor, Result, Ok, length, map, take, drop, get_or, replicate, sym, ap, ap₂, refl, subst, arith, inl, inr, append_assoc, length-append, length-drop, length-take-le, get_or-set_same, get_or-set_other}
+use Rattle.std.specs.Prelude.{◌==◌, IfOk, slice_range, slice_set}
 use Rattle.std.specs.List.{fold}
 use Rattle.std.proofs.Math.ListN.{length-set}
 use Rattle.std.proofs.lemmas.Bool.{cases_eq}
-use Rattle.std.proofs.lemmas.List.{drop-map, drop_more, length-replicate, length-take, map-append, take-append-drop, take-map, take_at}
+use Rattle.std.proofs.lemmas.List.{append-nil, drop-map, drop_more, get_or-map, length-map, length-replicate, map-append, take-append-drop, take-map, take_at, take_more}
+use Rattle.std.proofs.lemmas.List.Concat.{flat_map-append}
 use Rattle.std.proofs.lemmas.List.Elements.{filter-append}
 use Rattle.std.proofs.lemmas.List.Folds.{drop_split}
 use Rattle.std.proofs.lemmas.List.Sums.{fold-append}
-use Rattle.key_numbers.specs.Keys.{Key, distinct, id_of, with_key}
-use Rattle.key_numbers.specs.Private.Sharded.{AreDealt, of_shard, piece_of, start_of, with_keys}
+use Rattle.key_numbers.specs.Keys.{Key, distinct, id_of, lent, lent_lists, with_key}
+use Rattle.lane_words.specs.declared.Memory.{Memory}
+use Rattle.key_numbers.specs.declared.dealing.Dealt.{Dealt}
+use Rattle.key_numbers.specs.Private.Sharded.{AreDealt, AreRows, IsDealt, of_shard, start_of, with_keys}
 use Rattle.key_numbers.specs.declared.dealing.TheConstants.{PIECES}
 use Rattle.key_numbers.proofs.Firsts.{own, stays}
 use Rattle.key_numbers.proofs.ShardRecords.{IsNumberedTo, few-distinct, few-filtered, shard-other, shard-own}
 
-pub dealt-none : (shard : Key → ℕ) (count : ℕ) (keys : List Key) → AreDealt shard count (take 0 keys) (replicate count [])
+pub dealt-none : (shard : Key → ℕ) (count : ℕ) (keys : List Key) → AreRows shard count (take 0 keys) (replicate count [])
 dealt-none shard count keys = let none : List Key = [] in record { each = length-replicate count none; are = λ s lt. empty-at count s }
   where
     empty-at : (n s : ℕ) → get_or {A = List Key} (replicate n []) s [] ≡ []
@@ -23,8 +26,8 @@ dealt-none shard count keys = let none : List Key = [] in record { each = length
     empty-at (suc n) (suc s) = empty-at n s
 
 -- one more key, in the row of its shard
-pub dealt-more : (shard : Key → ℕ) (count : ℕ) (keys : List Key) (i : ℕ) (rows : List (List Key)) (s : ℕ) → i < length keys → s ≡ shard (get_or keys i []) → s < count → AreDealt shard count (take i keys) rows
-    → AreDealt shard count (take (i + 1) keys) (slice_set rows s (get_or rows s [] ++ get_or keys i [] ∷ []))
+pub dealt-more : (shard : Key → ℕ) (count : ℕ) (keys : List Key) (i : ℕ) (rows : List (List Key)) (s : ℕ) → i < length keys → s ≡ shard (get_or keys i []) → s < count → AreRows shard count (take i keys) rows
+    → AreRows shard count (take (i + 1) keys) (slice_set rows s (get_or rows s [] ++ get_or keys i [] ∷ []))
 dealt-more shard count keys i rows s lt at below so =
     let x = get_or keys i [] in
     let new = get_or rows s [] ++ x ∷ [] in record {
@@ -38,19 +41,6 @@ dealt-more shard count keys i rows s lt at below so =
             get_or-set_other rows s t new [] (λ e. ne (sym e)) ∙ so.are t t_in ∙ sym (shard-other shard t keys i lt (λ e. ne (at ∙ e)))
       ];
     }
-
--- the first pieces, and one more
-pub more-pieces : (keys : List Key) (p : ℕ) → take (start_of (p + 1) keys) keys ≡ take (start_of p keys) keys ++ piece_of p keys
-more-pieces keys p =
-    let from = start_of p keys in
-    let to = start_of (p + 1) keys in
-    let ordered : from ≤ to = omega arith in
-    let within : to ≤ length keys = omega arith in
-    let long : length (take from keys ++ piece_of p keys) ≡ to =
-    omega (arith, length-append (take from keys) (piece_of p keys), length-take-le from keys (omega (arith, ordered, within)), length-take-le (to - from) (drop from keys) (omega (arith, length-drop from keys, ordered, within)), ordered) in
-    let seam : keys ≡ (take from keys ++ piece_of p keys) ++ drop to keys =
-    sym (take-append-drop from keys) ∙ ap (λ ks. take from keys ++ ks) (drop_split keys from to ordered) ∙ sym (append_assoc (take from keys) (piece_of p keys) (drop to keys)) in
-    ap (take to) seam ∙ take_at (take from keys ++ piece_of p keys) (drop to keys) to long
 
 -- the keys of a row keep their numbers, whatever is added behind them
 ids-stay : (ks ys zs : List Key) → map (id_of (fold with_key (fold with_key ks ys) zs)) ys ≡ map (id_of (fold with_key ks ys)) ys
@@ -70,44 +60,74 @@ number-next ks row k lt =
     ap (λ xs. id_of (with_keys ks xs) x) seam ∙ ap (λ ws. id_of ws x) (fold-append with_key ks (take k row) (x ∷ behind))
     ∙ (stays (with_key before x) behind x (own before x).0).1 ∙ (own before x).1
 
--- the numbers in a shard, with those of a piece's row
-pub row-numbered : (shard : Key → ℕ) (s : ℕ) (keys : List Key) (p : ℕ) (table : List Key) (locals : List ℕ) → IsNumberedTo shard s keys (start_of p keys) table locals
-    → let row = of_shard shard s (piece_of p keys) in
-    IsNumberedTo shard s keys (start_of (p + 1) keys) (with_keys table row) (locals ++ map (id_of (with_keys table row)) row)
+-- the keys of lists, parted at one of them
+pub lists-more : (lists : List (Bor (List (Bor Key)))) (i : ℕ) (e : Bor (List (Bor Key))) → i < length lists → lent_lists (take (i + 1) lists) ≡ lent_lists (take i lists) ++ lent (get_or lists i e).now
+lists-more lists i e lt =
+    let own : Bor (List (Bor Key)) → List Key = λ list. lent list.now in
+    ap lent_lists (take_more lists i e lt) ∙ flat_map-append own (take i lists) (get_or lists i e ∷ []) ∙ ap (λ ks. lent_lists (take i lists) ++ ks) (append-nil (own (get_or lists i e)))
+
+pub lists-parted : (lists : List (Bor (List (Bor Key)))) (i : ℕ) (e : Bor (List (Bor Key))) → i < length lists
+    → lent_lists lists ≡ (lent_lists (take i lists) ++ lent (get_or lists i e).now) ++ lent_lists (drop (i + 1) lists)
+lists-parted lists i e lt =
+    let own : Bor (List (Bor Key)) → List Key = λ list. lent list.now in
+    ap lent_lists (sym (take-append-drop (i + 1) lists)) ∙ flat_map-append own (take (i + 1) lists) (drop (i + 1) lists) ∙ ap (λ ks. ks ++ lent_lists (drop (i + 1) lists)) (lists-more lists i e lt)
+
+-- the numbers in a shard, with those of a row
+pub row-numbered : (shard : Key → ℕ) (s : ℕ) (keys xs ys zs : List Key) (table : List Key) (locals : List ℕ) → keys ≡ (xs ++ ys) ++ zs → IsNumberedTo shard s keys xs table locals
+    → let row = of_shard shard s ys in
+    IsNumberedTo shard s keys (xs ++ ys) (with_keys table row) (locals ++ map (id_of (with_keys table row)) row)
 unfolding distinct
-row-numbered shard s keys p table locals so =
-    let xs = of_shard shard s (take (start_of p keys) keys) in
-    let ys = of_shard shard s (piece_of p keys) in
-    let zs = of_shard shard s (drop (start_of (p + 1) keys) keys) in
+row-numbered shard s keys xs ys zs table locals seam so =
+    let p : Key → Bool = λ k. shard k == s in
+    let before = of_shard shard s xs in
+    let row = of_shard shard s ys in
+    let behind = of_shard shard s zs in
     let f = id_of (distinct (of_shard shard s keys)) in
-    let more : of_shard shard s (take (start_of (p + 1) keys) keys) ≡ xs ++ ys =
-    ap (of_shard shard s) (more-pieces keys p) ∙ filter-append (λ k. shard k == s) (take (start_of p keys) keys) (piece_of p keys) in
-    let whole : of_shard shard s keys ≡ (xs ++ ys) ++ zs =
-    ap (of_shard shard s) (sym (take-append-drop (start_of (p + 1) keys) keys)) ∙ filter-append (λ k. shard k == s) (take (start_of (p + 1) keys) keys) (drop (start_of (p + 1) keys) keys)
-    ∙ ap (λ ks. ks ++ zs) more in
-    let known : distinct (xs ++ ys) ≡ with_keys table ys = fold-append with_key [] xs ys ∙ ap (λ ks. with_keys ks ys) (sym so.keys_of) in
-    let all : distinct (of_shard shard s keys) ≡ with_keys (with_keys table ys) zs = ap distinct whole ∙ fold-append with_key [] (xs ++ ys) zs ∙ ap (λ ks. with_keys ks zs) known in
-    let numbers : map f ys ≡ map (id_of (with_keys table ys)) ys = ap (λ ks. map (id_of ks) ys) all ∙ ids-stay table ys zs in record {
+    let more : of_shard shard s (xs ++ ys) ≡ before ++ row = filter-append p xs ys in
+    let whole : of_shard shard s keys ≡ (before ++ row) ++ behind = ap (of_shard shard s) seam ∙ filter-append p (xs ++ ys) zs ∙ ap (λ ks. ks ++ behind) more in
+    let known : distinct (before ++ row) ≡ with_keys table row = fold-append with_key [] before row ∙ ap (λ ks. with_keys ks row) (sym so.keys_of) in
+    let all : distinct (of_shard shard s keys) ≡ with_keys (with_keys table row) behind = ap distinct whole ∙ fold-append with_key [] (before ++ row) behind ∙ ap (λ ks. with_keys ks behind) known in
+    let numbers : map f row ≡ map (id_of (with_keys table row)) row = ap (λ ks. map (id_of ks) row) all ∙ ids-stay table row behind in record {
       keys_of = sym known ∙ ap distinct (sym more);
-      locals_of = ap₂ (λ ms ns. ms ++ ns) so.locals_of (sym numbers) ∙ sym (map-append f xs ys) ∙ ap (map f) (sym more);
+      locals_of = ap₂ (λ ms ns. ms ++ ns) so.locals_of (sym numbers) ∙ sym (map-append f before row) ∙ ap (map f) (sym more);
     }
 
--- there is room for the keys of a piece's row
-pub row-room : (shard : Key → ℕ) (s : ℕ) (keys : List Key) (p : ℕ) (table : List Key) (locals : List ℕ) → IsNumberedTo shard s keys (start_of p keys) table locals
-    → length table + length (of_shard shard s (piece_of p keys)) ≤ length keys
-row-room shard s keys p table locals so =
-    let xs = of_shard shard s (take (start_of p keys) keys) in
-    let ys = of_shard shard s (piece_of p keys) in
-    let more : of_shard shard s (take (start_of (p + 1) keys) keys) ≡ xs ++ ys =
-    ap (of_shard shard s) (more-pieces keys p) ∙ filter-append (λ k. shard k == s) (take (start_of p keys) keys) (piece_of p keys) in
-    omega (arith, ap length so.keys_of, few-distinct xs, ap length more, length-append xs ys, few-filtered (λ k. shard k == s) (take (start_of (p + 1) keys) keys), length-take (start_of (p + 1) keys) keys)
+-- there is room for the keys of a row
+pub row-room : (shard : Key → ℕ) (s : ℕ) (keys xs ys zs : List Key) (table : List Key) (locals : List ℕ) → keys ≡ (xs ++ ys) ++ zs → IsNumberedTo shard s keys xs table locals
+    → length table + length (of_shard shard s ys) ≤ length keys
+row-room shard s keys xs ys zs table locals seam so =
+    let p : Key → Bool = λ k. shard k == s in
+    omega (arith, ap length so.keys_of, few-distinct (of_shard shard s xs), few-filtered p xs, few-filtered p ys, ap length seam, length-append (xs ++ ys) zs, length-append xs ys)
+
+-- lists of which each was dealt by a thread of its own
+pub found-dealt : (shard : Key → ℕ) (lists : List (Bor (List (Bor Key)))) (found : List (Result Dealt Memory)) (dealt : List Dealt) → found ≡ map Ok dealt → length found ≡ length lists
+    → ((i : ℕ) (d : Result Dealt Memory) (e : Bor (List (Bor Key))) → i < length lists → IfOk (get_or found i d) (IsDealt shard (lent (get_or lists i e).now))) → AreDealt shard lists dealt
+found-dealt shard lists found dealt is as_many each =
+    let long : length dealt ≡ length lists = sym (length-map dealt Ok) ∙ ap length (sym is) ∙ as_many in record {
+      as_many = long;
+      are = λ i d e lt. subst (λ r. IfOk r (IsDealt shard (lent (get_or lists i e).now))) (ap (λ rs. get_or rs i (Ok d)) is ∙ get_or-map Ok dealt i d (Ok d) (omega (arith, lt, long))) (each i (Ok d) e lt);
+    }
+
+-- the pieces of keys, with one more
+pub more-pieces : (keys : List Key) (p : ℕ) → take (start_of (p + 1) keys) keys ≡ take (start_of p keys) keys ++ slice_range keys (start_of p keys) (start_of (p + 1) keys)
+more-pieces keys p =
+    let from = start_of p keys in
+    let to = start_of (p + 1) keys in
+    let own = slice_range keys from to in
+    let ordered : from ≤ to = omega arith in
+    let within : to ≤ length keys = omega arith in
+    let long : length (take from keys ++ own) ≡ to =
+    omega (arith, length-append (take from keys) own, length-take-le from keys (omega (arith, ordered, within)), length-take-le (to - from) (drop from keys) (omega (arith, length-drop from keys, ordered, within)), ordered) in
+    let seam : keys ≡ (take from keys ++ own) ++ drop to keys =
+    sym (take-append-drop from keys) ∙ ap (λ ks. take from keys ++ ks) (drop_split keys from to ordered) ∙ sym (append_assoc (take from keys) own (drop to keys)) in
+    ap (take to) seam ∙ take_at (take from keys ++ own) (drop to keys) to long
 
 -- no key is before the first piece, and none behind the last
 pub no-pieces : (keys : List Key) → start_of 0 keys ≡ 0
 no-pieces keys = omega arith
 
-pub all-pieces : (keys : List Key) (p : ℕ) → p ≡ PIECES → length keys ≤ start_of p keys
-all-pieces keys p all = subst (λ n. length keys ≤ start_of n keys) (sym all) (omega arith)
+pub all-pieces : (keys : List Key) → length keys ≤ start_of PIECES keys
+all-pieces keys = omega arith
 
 -- a piece of what a function gives
 pub piece-map : {X Y : Type 0} (f : X → Y) (xs : List X) (from to : ℕ) → map f (slice_range xs from to) ≡ slice_range (map f xs) from to

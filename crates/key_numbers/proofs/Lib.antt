@@ -1,8 +1,8 @@
-pub mod Collected
 pub mod Copied
 pub mod Dealt
 pub mod Filtered
 pub mod Firsts
+pub mod Gathered
 pub mod Growth
 pub mod InShards
 pub mod Joined

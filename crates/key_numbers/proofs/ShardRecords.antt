@@ -6,21 +6,19 @@ use Rattle.std.proofs.Math.Seq.{get_or-append_seam}
 use Rattle.std.specs.List.{fold}
 use Rattle.std.specs.declared.hash.RandomState.{RandomState}
 use Rattle.std.proofs.lemmas.Bool.{cases_eq, eq-eqb, ne_eqb}
-use Rattle.std.proofs.lemmas.List.{append-nil, get_or-map, length-map, length-replicate, map-append, take-append-drop, drop_more, take_more, take_all, length-take}
+use Rattle.std.proofs.lemmas.List.{append-nil, get_or-map, length-map, length-replicate, take-append-drop, drop_more, take_more, length-take}
 use Rattle.std.proofs.lemmas.List.Elements.{filter-append}
 use Rattle.key_numbers.specs.Keys.{Key, distinct, id_of, lent, with_key}
-use Rattle.key_numbers.specs.Private.Sharded.{AreNumberedIn, ArePassed, of_shard, shard_of}
+use Rattle.key_numbers.specs.Private.Sharded.{ArePassed, of_shard, shard_of}
 use Rattle.key_numbers.specs.declared.shards.TheConstants.{SHARDS}
-use Rattle.key_numbers.proofs.Firsts.{number-there}
 use Rattle.key_numbers.proofs.Growth.{grows}
-use Rattle.key_numbers.proofs.Walked.{one-more}
 
 -- what is numbered of a shard after the first records
-pub record IsNumberedTo (shard : Key → ℕ) (s : ℕ) (keys : List Key) (i : ℕ) (table : List Key) (locals : List ℕ) : Type 0 where
-  pub keys_of : table ≡ distinct (of_shard shard s (take i keys))
-  pub locals_of : locals ≡ map (id_of (distinct (of_shard shard s keys))) (of_shard shard s (take i keys))
+pub record IsNumberedTo (shard : Key → ℕ) (s : ℕ) (keys done : List Key) (table : List Key) (locals : List ℕ) : Type 0 where
+  pub keys_of : table ≡ distinct (of_shard shard s done)
+  pub locals_of : locals ≡ map (id_of (distinct (of_shard shard s keys))) (of_shard shard s done)
 
-pub numbered-none : (shard : Key → ℕ) (s : ℕ) (keys : List Key) → IsNumberedTo shard s keys 0 [] []
+pub numbered-none : (shard : Key → ℕ) (s : ℕ) (keys : List Key) → IsNumberedTo shard s keys [] [] []
 unfolding distinct
 numbered-none shard s keys = record { keys_of = refl; locals_of = refl }
 
@@ -50,35 +48,6 @@ shard-parted shard s keys i lt is =
     ap (of_shard shard s) seam ∙ filter-append (λ k. shard k == s) (take i keys) (get_or keys i [] ∷ drop (i + 1) keys)
     ∙ ap (λ ks. of_shard shard s (take i keys) ++ ks) ends
 
-pub numbered-other : (shard : Key → ℕ) (s : ℕ) (keys : List Key) (i : ℕ) (table : List Key) (locals : List ℕ) → i < length keys → shard (get_or keys i []) ≢ s
-    → IsNumberedTo shard s keys i table locals → IsNumberedTo shard s keys (i + 1) table locals
-numbered-other shard s keys i table locals lt ne so =
-    let same = shard-other shard s keys i lt ne in record {
-      keys_of = so.keys_of ∙ ap distinct (sym same);
-      locals_of = so.locals_of ∙ ap (map (id_of (distinct (of_shard shard s keys)))) (sym same);
-    }
-
-pub numbered-own : (shard : Key → ℕ) (s : ℕ) (keys : List Key) (i : ℕ) (table : List Key) (locals : List ℕ) → i < length keys → shard (get_or keys i []) ≡ s
-    → IsNumberedTo shard s keys i table locals
-    → IsNumberedTo shard s keys (i + 1) (with_key table (get_or keys i [])) (locals ++ id_of table (get_or keys i []) ∷ [])
-numbered-own shard s keys i table locals lt is so =
-    let x = get_or keys i [] in
-    let xs = of_shard shard s (take i keys) in
-    let more = shard-own shard s keys i lt is in
-    let f = id_of (distinct (of_shard shard s keys)) in
-    let number : f x ≡ id_of table x =
-    ap (λ ks. id_of (distinct ks) x) (shard-parted shard s keys i lt is) ∙ number-there xs (of_shard shard s (drop (i + 1) keys)) x ∙ ap (λ ks. id_of ks x) (sym so.keys_of) in record {
-      keys_of = ap (λ ks. with_key ks x) so.keys_of ∙ sym (one-more xs x) ∙ ap distinct (sym more);
-      locals_of = ap (λ ls. ls ++ id_of table x ∷ []) so.locals_of ∙ ap (λ n. map f xs ++ n ∷ []) (sym number) ∙ sym (ap (map f) more ∙ map-append f xs (x ∷ []));
-    }
-
-pub numbered-all : (shard : Key → ℕ) (s : ℕ) (keys : List Key) (i : ℕ) (table : List Key) (locals : List ℕ) → length keys ≤ i → IsNumberedTo shard s keys i table locals → AreNumberedIn shard s keys table locals
-numbered-all shard s keys i table locals le so =
-    let whole : take i keys ≡ keys = take_all i keys le in (
-      so.keys_of ∙ ap (λ ks. distinct (of_shard shard s ks)) whole,
-      so.locals_of ∙ ap (λ ks. map (id_of (distinct (of_shard shard s keys))) (of_shard shard s ks)) whole,
-    )
-
 -- no more keys are added than records
 pub few-added : (ks zs : List Key) → length (fold with_key ks zs) ≤ length ks + length zs
 few-added ks [] = omega arith
@@ -96,12 +65,6 @@ filtered-at false x xs ys le = omega arith
 pub few-filtered : (p : Key → Bool) (keys : List Key) → length (filter p keys) ≤ length keys
 few-filtered p [] = omega arith
 few-filtered p (x ∷ keys) = filtered-at (p x) x (filter p keys) keys (few-filtered p keys)
-
--- there is room for one more
-pub numbered-room : (shard : Key → ℕ) (s : ℕ) (keys : List Key) (i : ℕ) (table : List Key) (locals : List ℕ) → i < length keys → IsNumberedTo shard s keys i table locals → length table < length keys
-numbered-room shard s keys i table locals lt so =
-    let xs = of_shard shard s (take i keys) in
-    omega (arith, ap length so.keys_of, few-distinct xs, few-filtered (λ k. shard k == s) (take i keys), length-take i keys, lt)
 
 pub passed-none : (shard : Key → ℕ) (count : ℕ) (keys : List Key) → ArePassed shard count keys 0 (replicate count 0)
 passed-none shard count keys = record { each = length-replicate count 0; passed = λ s lt. zero-at count s }
@@ -152,6 +115,10 @@ passed-more shard count keys i met s lt at below so =
 pub passed-few : (shard : Key → ℕ) (count : ℕ) (keys : List Key) (i : ℕ) (met : List ℕ) (s : ℕ) → s < count → i ≤ length keys → ArePassed shard count keys i met → get_or met s 0 ≤ i
 passed-few shard count keys i met s below le so =
     omega (arith, so.passed s below, few-filtered (λ k. shard k == s) (take i keys), length-take i keys, le)
+
+-- each record has a shard
+pub shards-long : (shard : Key → ℕ) (keys : List Key) (shards : List ℕ) → shards ≡ map shard keys → length shards ≡ length keys
+shards-long shard keys shards are = ap length are ∙ length-map keys shard
 
 -- the shard of record i
 pub shard-at : (shard : Key → ℕ) (keys : List Key) (shards : List ℕ) (i : ℕ) → shards ≡ map shard keys → i < length keys → get_or shards i 0 ≡ shard (get_or keys i [])

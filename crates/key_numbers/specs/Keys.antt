@@ -1,5 +1,5 @@
 -- Keys in the order of their first appearance, and their numbers.
-use Rattle.std.specs.Prelude.{◌≡◌, ℕ, ◌<◌, Bool, true, List, [], ◌∷◌, ◌++◌, length, fold, map, if◌then◌else◌, slice_index_or}
+use Rattle.std.specs.Prelude.{◌≡◌, ℕ, ◌<◌, Bool, true, List, [], ◌∷◌, ◌++◌, length, flat_map, fold, map, if◌then◌else◌, slice_index_or}
 use Rattle.std.specs.Borrow.{Bor}
 use Rattle.std.specs.List.{list_any, position_or_len}
 use Rattle.std.specs.Str.{bytes_eq}
@@ -40,3 +40,7 @@ distinct keys = fold with_key [] keys
 -- the keys that are lent
 abbrev pub lent : List (Bor Key) → List Key
 lent keys = map (λ key. key.now) keys
+
+-- the keys of lists that are lent, one list after another
+abbrev pub lent_lists : List (Bor (List (Bor Key))) → List Key
+lent_lists lists = flat_map (λ list. lent list.now) lists

@@ -1,26 +1,27 @@
-//! Keys that are dealt to their shards, piece by piece, side by side.
+//! Keys that are dealt to their shards, list by list, side by side.
 
 ghost use Rattle.std.specs.Prelude.{◌≡◌, ◌<◌, ◌≤◌, ◌+◌, ℕ, [], IfOk, length, map, replicate, slice_index_or, vec_len};
-ghost use Rattle.key_numbers.specs.Keys.{lent};
-ghost use Rattle.key_numbers.specs.Private.Sharded.{AreDealt, piece_of, shard_of, start_of};
+ghost use Rattle.key_numbers.specs.Keys.{lent, lent_lists};
+ghost use Rattle.key_numbers.specs.Private.Sharded.{AreDealt, IsDealt, shard_of, start_of};
 
-use crate::shards::SHARDS;
+use crate::apart::collected;
+use crate::shards::{SHARDS, shard_of};
 use lane_words::{MOST_RECORDS, Memory};
 use std::alloc::Global;
 use std::hash::RandomState;
 use std::thread;
 use std::thread::Threads;
 
-/// In how many pieces records are dealt, and their shards and key numbers are found.
+/// Into how many pieces keys of one list are cut.
 pub const PIECES: usize = 8;
 
-/// Where piece p of these keys begins.
-fn start_of(keys: &[&[u8]], p: usize) -> usize
-    requires piece { p ≤ PIECES }
-    requires few { length keys.now ≤ MOST_RECORDS }
-    ensures { result ≡ start_of p (lent keys.now) }
-{
-    (p * (keys.len() / PIECES + 1)).min(keys.len())
+/// The keys of a list, dealt to their shards.
+#[derive(Drop)]
+pub struct Dealt<'a> {
+    /// Of each key its shard, in order.
+    pub shards: Vec<u8>,
+    /// Of each shard its keys, in order.
+    pub rows: Vec<Vec<&'a [u8]>>,
 }
 
 /// No key, of each shard, with room for so many.
@@ -34,68 +35,101 @@ fn no_keys<'a>(alloc: Global, each: usize) -> Result<Vec<Vec<&'a [u8]>>, Memory>
     Ok(rows)
 }
 
-/// These keys, dealt to their shards, where `shards` has the shard of each.
-fn deal<'a>(
-    alloc: Global,
-    hasher: RandomState,
-    keys: &[&'a [u8]],
-    shards: &[u8],
-) -> Result<Vec<Vec<&'a [u8]>>, Memory>
-    requires as_many { length shards.now ≡ length keys.now }
-    requires shards { shards.now ≡ map (shard_of hasher) (lent keys.now) }
-    ensures { IfOk result (λ rows. AreDealt (shard_of hasher) SHARDS (lent keys.now)
-        (map (λ row. lent row.items) rows.items)) }
+/// These keys, dealt to their shards.
+fn deal<'a>(alloc: Global, hasher: RandomState, keys: &[&'a [u8]]) -> Result<Dealt<'a>, Memory>
+    ensures { IfOk result (IsDealt (shard_of hasher) (lent keys.now)) }
 {
+    let mut shards = Vec::with_capacity(alloc, keys.len())?;
     // Somewhat more than each would have, were all shards of one size.
     let mut rows = no_keys(alloc, keys.len() / (SHARDS as usize - 1))?;
     for i in 0..keys.len() {
-        let row = &mut rows[shards[i] as usize];
+        let shard = shard_of(hasher, keys[i]);
+        shards.push(shard)?;
+        let row = &mut rows[shard as usize];
         row.push(keys[i])?;
     }
-    Ok(rows)
+    Ok(Dealt { shards, rows })
 }
 
-/// The keys of piece p, dealt to their shards.
-fn deal_piece<'a>(
-    alloc: Global,
-    hasher: RandomState,
-    keys: &[&'a [u8]],
-    shards: &[u8],
-    p: usize,
-) -> Result<Vec<Vec<&'a [u8]>>, Memory>
-    requires piece { p < PIECES }
-    requires few { length keys.now ≤ MOST_RECORDS }
-    requires as_many { length shards.now ≡ length keys.now }
-    requires shards { shards.now ≡ map (shard_of hasher) (lent keys.now) }
-    ensures { IfOk result (λ rows. AreDealt (shard_of hasher) SHARDS (piece_of p (lent keys.now))
-        (map (λ row. lent row.items) rows.items)) }
-{
-    let from = start_of(keys, p);
-    let to = start_of(keys, p + 1);
-    deal(alloc, hasher, &keys[from..to], &shards[from..to])
-}
-
-/// The keys of each piece, dealt to their shards, each in a thread of its own.
-pub fn deal_pieces<'a, R: Threads + Sync>(
+/// The keys of each list, dealt to their shards, each in a thread of its own.
+fn deal_apart<'a, R: Threads + Sync>(
     rt: &R,
     alloc: Global,
     hasher: RandomState,
-    keys: &'a [&'a [u8]],
-    shards: &[u8],
-) -> Result<Vec<Result<Vec<Vec<&'a [u8]>>, Memory>>, Memory>
-    requires few { length keys.now ≤ MOST_RECORDS }
-    requires as_many { length shards.now ≡ length keys.now }
-    requires shards { shards.now ≡ map (shard_of hasher) (lent keys.now) }
-    ensures len { IfOk result (λ dealt. vec_len dealt ≡ PIECES) }
-    ensures dealt { IfOk result (λ dealt. (p : ℕ) (d : _) → p < PIECES
-        → IfOk (slice_index_or dealt.items p d) (λ rows. AreDealt (shard_of hasher) SHARDS
-        (piece_of p (lent keys.now)) (map (λ row. lent row.items) rows.items))) }
+    lists: &'a [&'a [&'a [u8]]],
+) -> Result<Vec<Result<Dealt<'a>, Memory>>, Memory>
+    ensures len { IfOk result (λ found. vec_len found ≡ length lists.now) }
+    ensures found { IfOk result (λ found. (i : ℕ) (d e : _) → i < length lists.now
+        → IfOk (slice_index_or found.items i d)
+        (IsDealt (shard_of hasher) (lent (slice_index_or lists.now i e).now))) }
 {
-    let dealt = thread::map_indices(
+    let found = thread::map_indices(
         rt,
         alloc,
-        PIECES,
-        &|p| deal_piece(alloc, hasher, keys, shards, p),
+        lists.len(),
+        &|i| deal(alloc, hasher, lists[i]),
     )?;
-    Ok(dealt)
+    Ok(found)
+}
+
+/// The keys of each list, dealt to their shards.
+pub fn deal_lists<'a, R: Threads + Sync>(
+    rt: &R,
+    alloc: Global,
+    hasher: RandomState,
+    lists: &'a [&'a [&'a [u8]]],
+) -> Result<Vec<Dealt<'a>>, Memory>
+    ensures { IfOk result (λ dealt. AreDealt (shard_of hasher) lists.now dealt.items) }
+{
+    let found = deal_apart(rt, alloc, hasher, lists)?;
+    collected(alloc, found)
+}
+
+/// The shards of the keys of all lists, one list after another.
+pub fn all_shards(
+    alloc: Global,
+    hasher: RandomState,
+    lists: &[&[&[u8]]],
+    dealt: &[Dealt<'_>],
+) -> Result<Vec<u8>, Memory>
+    requires { AreDealt (shard_of hasher) lists.now dealt.now }
+    ensures { IfOk result (λ shards. shards.items ≡ map (shard_of hasher) (lent_lists lists.now)) }
+{
+    let mut shards = Vec::with_capacity(alloc, records_of(dealt))?;
+    for i in 0..dealt.len() {
+        shards.extend_from_slice(dealt[i].shards.as_slice())?;
+    }
+    Ok(shards)
+}
+
+/// How many keys were dealt: it only says how much memory is taken.
+fn records_of(dealt: &[Dealt<'_>]) -> usize {
+    let mut records: usize = 0;
+    for i in 0..dealt.len() {
+        records = records.saturating_add(dealt[i].shards.len());
+    }
+    records
+}
+
+/// Where piece p of these keys begins.
+fn start_of(keys: &[&[u8]], p: usize) -> usize
+    requires piece { p ≤ PIECES }
+    requires few { length keys.now ≤ MOST_RECORDS }
+    ensures { result ≡ start_of p (lent keys.now) }
+{
+    (p * (keys.len() / PIECES + 1)).min(keys.len())
+}
+
+/// These keys in pieces, to be numbered side by side.
+pub fn pieces_of<'a>(alloc: Global, keys: &'a [&'a [u8]]) -> Result<Vec<&'a [&'a [u8]]>, Memory>
+    requires { length keys.now ≤ MOST_RECORDS }
+    ensures { IfOk result (λ pieces. lent_lists pieces.items ≡ lent keys.now) }
+{
+    let mut pieces = Vec::with_capacity(alloc, PIECES)?;
+    for p in 0..PIECES {
+        let from = start_of(keys, p);
+        let to = start_of(keys, p + 1);
+        pieces.push(&keys[from..to])?;
+    }
+    Ok(pieces)
 }

@@ -1,7 +1,7 @@
 //! The keys of all logs, numbered in the order of their first appearance.
 
 ghost use Rattle.std.specs.Prelude.{◌≡◌, ◌<◌, ◌≤◌, ◌↔◌, [], IfOk, IfSome, IfNone, IsOk, IsTrue, OnErr, length, map, true, false};
-ghost use Rattle.key_numbers.specs.Keys.{IsIdOf, IsWithoutRepeats, distinct, id_of, is_known, key_at, lent, with_key};
+ghost use Rattle.key_numbers.specs.Keys.{IsIdOf, IsWithoutRepeats, distinct, id_of, is_known, key_at, lent_lists, with_key};
 
 use crate::key_table::KeyTable;
 use crate::shards::Shards;
@@ -67,21 +67,21 @@ impl KeyIds {
         Ok(copy)
     }
 
-    /// These keys without repeats, in the order of their first appearance, and the key number of
-    /// each of them as they stand there. Refused for want of memory, of which it takes enough for
+    /// The keys of these lists without repeats, in the order of their first appearance, and the key
+    /// number of each as they stand there. Refused for want of memory, of which it takes enough for
     /// `room` different keys at once.
     pub fn number_all<R: Threads + Sync>(
         &self,
         rt: &R,
-        keys: &[&[u8]],
+        lists: &[&[&[u8]]],
         room: usize,
     ) -> Result<(Shards, Vec<u32>), Memory>
-        requires { length keys.now ≤ MOST_RECORDS }
-        ensures keys { IfOk result (λ r. r.0 ≡ distinct (lent keys.now)) }
+        requires { length (lent_lists lists.now) ≤ MOST_RECORDS }
+        ensures keys { IfOk result (λ r. r.0 ≡ distinct (lent_lists lists.now)) }
         ensures numbers { IfOk result (λ r. r.1.items
-            ≡ map (id_of (distinct (lent keys.now))) (lent keys.now)) }
+            ≡ map (id_of (distinct (lent_lists lists.now))) (lent_lists lists.now)) }
     {
-        Shards::of(rt, self.alloc, self.hasher, keys, room)
+        Shards::of(rt, self.alloc, self.hasher, lists, room)
     }
 
     /// Begins with these keys, where there is none.

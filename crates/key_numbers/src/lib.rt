@@ -1,6 +1,7 @@
 //! Keys numbered in the order of their first appearance.
 #![tactic(auto)]
 
+mod apart;
 mod dealing;
 mod key_table;
 mod keys;
@@ -10,6 +11,8 @@ mod plain_keys;
 mod shards;
 mod stored_key;
 
+pub use apart::collected;
+pub use dealing::pieces_of;
 pub use key_table::KeyTable;
 pub use keys::KeyIds;
 pub use shards::Shards;

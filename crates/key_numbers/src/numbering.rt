@@ -1,12 +1,12 @@
 //! Keys that are numbered shard by shard, side by side.
 
 ghost use Rattle.std.specs.Prelude.{◌≡◌, ◌≤◌, ◌<◌, ◌+◌, ◌++◌, ℕ, [], List, IfOk, OnOk, length, map, replicate, slice_index_or, slice_set, vec_items, vec_len};
-ghost use Rattle.key_numbers.specs.Keys.{Key, distinct, id_of, lent};
-ghost use Rattle.key_numbers.specs.Private.Sharded.{AreDealt, AreFrom, AreGlobal, AreLocals, AreNumberedIn, AreOrdered, ArePassed, AreReadable, AreTables, is_first, of_shard, piece_of, shard_of, with_first, with_first_at, with_keys};
+ghost use Rattle.key_numbers.specs.Keys.{Key, distinct, id_of, lent, lent_lists};
+ghost use Rattle.key_numbers.specs.Private.Sharded.{AreDealt, AreFrom, AreGlobal, AreLocals, AreNumberedIn, AreOrdered, ArePassed, AreReadable, AreTables, is_first, shard_of, with_first, with_first_at, with_keys};
 
-use crate::dealing::{PIECES, deal_pieces};
+use crate::dealing::{Dealt, PIECES, all_shards, deal_lists};
 use crate::key_table::KeyTable;
-use crate::shards::{KeyAt, SHARDS, shard_of};
+use crate::shards::{KeyAt, SHARDS};
 use lane_words::{MOST_RECORDS, Memory};
 use std::alloc::Global;
 use std::hash::RandomState;
@@ -32,73 +32,32 @@ pub fn number_keys<R: Threads + Sync>(
     rt: &R,
     alloc: Global,
     hasher: RandomState,
-    keys: &[&[u8]],
+    lists: &[&[&[u8]]],
     room: usize,
 ) -> Result<NumberedKeys, Memory>
-    requires { length keys.now ≤ MOST_RECORDS }
+    requires { length (lent_lists lists.now) ≤ MOST_RECORDS }
     ensures tables { IfOk result (λ n.
-        AreTables (shard_of hasher) SHARDS (lent keys.now) n.tables.items) }
+        AreTables (shard_of hasher) SHARDS (lent_lists lists.now) n.tables.items) }
     ensures ids_each { IfOk result (λ n. vec_len n.ids ≡ SHARDS) }
     ensures ids { IfOk result (λ n.
-        AreGlobal (shard_of hasher) (lent keys.now) (map vec_items n.ids.items)) }
-    ensures order { IfOk result (λ n. AreOrdered (shard_of hasher) (lent keys.now)
-        (distinct (lent keys.now)) SHARDS n.order.items) }
+        AreGlobal (shard_of hasher) (lent_lists lists.now) (map vec_items n.ids.items)) }
+    ensures order { IfOk result (λ n. AreOrdered (shard_of hasher) (lent_lists lists.now)
+        (distinct (lent_lists lists.now)) SHARDS n.order.items) }
     ensures numbers { IfOk result (λ n. n.numbers.items
-        ≡ map (id_of (distinct (lent keys.now))) (lent keys.now)) }
+        ≡ map (id_of (distinct (lent_lists lists.now))) (lent_lists lists.now)) }
 {
-    let shards = shards_of(rt, alloc, hasher, keys)?;
-    let dealt = deal_pieces(rt, alloc, hasher, keys, &shards)?;
-    let found = number_shards(rt, alloc, hasher, keys, &dealt, room)?;
-    let (tables, locals) = tables_of(alloc, hasher, keys, found)?;
-    let (ids, order) = walk(alloc, hasher, keys, &shards, &tables, &locals)?;
-    let numbers = key_numbers(rt, alloc, hasher, keys, &shards, &locals, &ids)?;
+    let dealt = deal_lists(rt, alloc, hasher, lists)?;
+    let shards = all_shards(alloc, hasher, lists, &dealt)?;
+    let found = number_shards(rt, alloc, hasher, lists, &dealt, room)?;
+    let (tables, locals) = tables_of(alloc, hasher, lists, found)?;
+    let (ids, order) = walk(alloc, hasher, lists, &shards, &tables, &locals)?;
+    let numbers = key_numbers(rt, alloc, hasher, lists, &shards, &locals, &ids)?;
     Ok(NumberedKeys {
         tables,
         ids,
         order,
         numbers,
     })
-}
-
-/// The shard of each of some keys, in their order, by pieces side by side.
-fn shards_of<R: Threads + Sync>(
-    rt: &R,
-    alloc: Global,
-    hasher: RandomState,
-    keys: &[&[u8]],
-) -> Result<Vec<u8>, Memory>
-    ensures { IfOk result (λ shards. shards.items ≡ map (shard_of hasher) (lent keys.now)) }
-{
-    let mut shards = vec![in alloc; 0; keys.len()]?;
-    fill_pieces(rt, hasher, keys, &mut shards);
-    Ok(shards)
-}
-
-/// The shards of keys, by pieces side by side.
-fn fill_pieces<R: Threads + Sync>(rt: &R, hasher: RandomState, keys: &[&[u8]], shards: &mut [u8])
-    requires { length shards.old ≡ length keys.now }
-    ensures { shards.new ≡ map (shard_of hasher) (lent keys.now) }
-{
-    thread::for_each_chunk_mut(
-        rt,
-        shards,
-        keys.len() / PIECES + 1,
-        &|from: usize, piece: &mut [u8]|
-            requires { from + length piece.now ≤ length keys.now }
-            ensures { AreFrom (shard_of hasher) (lent keys.entry.now) from
-                (length piece.entry.now) piece.exit.now }
-        { fill_piece(from, hasher, keys, piece) },
-    );
-}
-
-/// The shards of the keys from this index on, as many as these are.
-fn fill_piece(from: usize, hasher: RandomState, keys: &[&[u8]], shards: &mut [u8])
-    requires { from + length shards.old ≤ length keys.now }
-    ensures { AreFrom (shard_of hasher) (lent keys.now) from (length shards.old) shards.new }
-{
-    for k in 0..shards.len() {
-        shards[k] = shard_of(hasher, keys[from + k]);
-    }
 }
 
 /// A shard, numbered.
@@ -123,52 +82,27 @@ fn number_row(table: &mut KeyTable, locals: &mut Vec<u32>, row: &[&[u8]]) -> Res
     Ok(())
 }
 
-/// The keys of a piece that are dealt to a shard.
-fn row_of<'a, 'k>(
-    hasher: RandomState,
-    keys: &[&[u8]],
-    dealt: &'a [Result<Vec<Vec<&'k [u8]>>, Memory>],
-    shard: u8,
-    p: usize,
-) -> Result<&'a [&'k [u8]], Memory>
-    requires shard { shard < SHARDS }
-    requires piece { p < length dealt.now }
-    requires dealt { (p : ℕ) (d : _) → p < length dealt.now
-        → IfOk (slice_index_or dealt.now p d) (λ rows. AreDealt (shard_of hasher) SHARDS
-        (piece_of p (lent keys.now)) (map (λ row. lent row.items) rows.items)) }
-    ensures { IfOk result (λ row.
-        lent row.now ≡ of_shard (shard_of hasher) shard (piece_of p (lent keys.now))) }
-{
-    match &dealt[p] {
-        Ok(rows) => Ok(rows[shard as usize].as_slice()),
-        Err(_) => Err(Memory),
-    }
-}
-
-/// Numbers the records of one shard, piece by piece. There is room for so many of its keys at first.
+/// Numbers the records of one shard, list by list. There is room for so many of its keys at first.
 fn number_shard(
     alloc: Global,
     hasher: RandomState,
-    keys: &[&[u8]],
-    dealt: &[Result<Vec<Vec<&[u8]>>, Memory>],
+    lists: &[&[&[u8]]],
+    dealt: &[Dealt<'_>],
     shard: u8,
     room: usize,
 ) -> Result<NumberedShard, Memory>
-    requires few { length keys.now ≤ MOST_RECORDS }
+    requires few { length (lent_lists lists.now) ≤ MOST_RECORDS }
     requires shard { shard < SHARDS }
-    requires pieces { length dealt.now ≡ PIECES }
-    requires dealt { (p : ℕ) (d : _) → p < PIECES
-        → IfOk (slice_index_or dealt.now p d) (λ rows. AreDealt (shard_of hasher) SHARDS
-        (piece_of p (lent keys.now)) (map (λ row. lent row.items) rows.items)) }
+    requires dealt { AreDealt (shard_of hasher) lists.now dealt.now }
     ensures { IfOk result (λ n.
-        AreNumberedIn (shard_of hasher) shard (lent keys.now) n.table n.locals.items) }
+        AreNumberedIn (shard_of hasher) shard (lent_lists lists.now) n.table n.locals.items) }
 {
     let mut table = KeyTable::new(alloc, hasher);
     table.reserve(room)?;
     let mut locals = Vec::with_capacity(alloc, room)?;
-    for p in 0..dealt.len() {
-        let row = row_of(hasher, keys, dealt, shard, p)?;
-        number_row(&mut table, &mut locals, row)?;
+    for i in 0..dealt.len() {
+        let row = &dealt[i].rows[shard as usize];
+        number_row(&mut table, &mut locals, row.as_slice())?;
     }
     Ok(NumberedShard { table, locals })
 }
@@ -178,19 +112,16 @@ fn number_shards<R: Threads + Sync>(
     rt: &R,
     alloc: Global,
     hasher: RandomState,
-    keys: &[&[u8]],
-    dealt: &[Result<Vec<Vec<&[u8]>>, Memory>],
+    lists: &[&[&[u8]]],
+    dealt: &[Dealt<'_>],
     room: usize,
 ) -> Result<Vec<Result<NumberedShard, Memory>>, Memory>
-    requires few { length keys.now ≤ MOST_RECORDS }
-    requires pieces { length dealt.now ≡ PIECES }
-    requires dealt { (p : ℕ) (d : _) → p < PIECES
-        → IfOk (slice_index_or dealt.now p d) (λ rows. AreDealt (shard_of hasher) SHARDS
-        (piece_of p (lent keys.now)) (map (λ row. lent row.items) rows.items)) }
+    requires few { length (lent_lists lists.now) ≤ MOST_RECORDS }
+    requires dealt { AreDealt (shard_of hasher) lists.now dealt.now }
     ensures len { IfOk result (λ found. vec_len found ≡ SHARDS) }
     ensures found { IfOk result (λ found. (s : ℕ) (d : _) → s < SHARDS
         → IfOk (slice_index_or found.items s d)
-        (λ n. AreNumberedIn (shard_of hasher) s (lent keys.now) n.table n.locals.items)) }
+        (λ n. AreNumberedIn (shard_of hasher) s (lent_lists lists.now) n.table n.locals.items)) }
 {
     // Some more than each would have, were all shards of one size.
     let each = room / (SHARDS as usize - 1);
@@ -198,7 +129,7 @@ fn number_shards<R: Threads + Sync>(
         rt,
         alloc,
         SHARDS as usize,
-        &|s| number_shard(alloc, hasher, keys, dealt, s as u8, each),
+        &|s| number_shard(alloc, hasher, lists, dealt, s as u8, each),
     )?;
     Ok(numbered)
 }
@@ -207,15 +138,15 @@ fn number_shards<R: Threads + Sync>(
 fn tables_of(
     alloc: Global,
     hasher: RandomState,
-    keys: &[&[u8]],
+    lists: &[&[&[u8]]],
     found: Vec<Result<NumberedShard, Memory>>,
 ) -> Result<(Vec<KeyTable>, Vec<Vec<u32>>), Memory>
     requires found { (s : ℕ) (d : _) → s < vec_len found → IfOk (slice_index_or found.items s d)
-        (λ n. AreNumberedIn (shard_of hasher) s (lent keys.now) n.table n.locals.items) }
+        (λ n. AreNumberedIn (shard_of hasher) s (lent_lists lists.now) n.table n.locals.items) }
     ensures tables { IfOk result (λ r.
-        AreTables (shard_of hasher) (vec_len found) (lent keys.now) r.0.items) }
+        AreTables (shard_of hasher) (vec_len found) (lent_lists lists.now) r.0.items) }
     ensures locals { IfOk result (λ r.
-        AreLocals (shard_of hasher) (vec_len found) (lent keys.now) (map vec_items r.1.items)) }
+        AreLocals (shard_of hasher) (vec_len found) (lent_lists lists.now) (map vec_items r.1.items)) }
 {
     let mut tables = Vec::with_capacity(alloc, found.len())?;
     let mut locals = Vec::with_capacity(alloc, found.len())?;
@@ -269,26 +200,25 @@ fn push_first(ids: &mut Vec<u32>, local: u32, next: u32) -> Result<bool, Memory>
 fn walk(
     alloc: Global,
     hasher: RandomState,
-    keys: &[&[u8]],
+    lists: &[&[&[u8]]],
     shards: &[u8],
     tables: &[KeyTable],
     locals: &[Vec<u32>],
 ) -> Result<(Vec<Vec<u32>>, Vec<KeyAt>), Memory>
-    requires few { length keys.now ≤ MOST_RECORDS }
-    requires as_many { length shards.now ≡ length keys.now }
-    requires shards { shards.now ≡ map (shard_of hasher) (lent keys.now) }
+    requires few { length (lent_lists lists.now) ≤ MOST_RECORDS }
+    requires shards { shards.now ≡ map (shard_of hasher) (lent_lists lists.now) }
     requires tables { length tables.now ≡ SHARDS }
-    requires locals { AreLocals (shard_of hasher) SHARDS (lent keys.now) (map vec_items locals.now) }
+    requires locals { AreLocals (shard_of hasher) SHARDS (lent_lists lists.now) (map vec_items locals.now) }
     ensures len { IfOk result (λ w. vec_len w.0 ≡ SHARDS) }
     ensures ids { IfOk result (λ w.
-        AreGlobal (shard_of hasher) (lent keys.now) (map vec_items w.0.items)) }
-    ensures order { IfOk result (λ w. AreOrdered (shard_of hasher) (lent keys.now)
-        (distinct (lent keys.now)) SHARDS w.1.items) }
+        AreGlobal (shard_of hasher) (lent_lists lists.now) (map vec_items w.0.items)) }
+    ensures order { IfOk result (λ w. AreOrdered (shard_of hasher) (lent_lists lists.now)
+        (distinct (lent_lists lists.now)) SHARDS w.1.items) }
 {
     let mut ids = no_ids(alloc, tables)?;
     let mut order = Vec::with_capacity(alloc, keys_of(tables))?;
     let mut met = [0; SHARDS as usize];
-    for i in 0..keys.len() {
+    for i in 0..shards.len() {
         let shard = shards[i] as usize;
         let local = locals[shard][met[shard]];
         met[shard] += 1;
@@ -323,18 +253,18 @@ fn key_numbers<R: Threads + Sync>(
     rt: &R,
     alloc: Global,
     hasher: RandomState,
-    keys: &[&[u8]],
+    lists: &[&[&[u8]]],
     shards: &[u8],
     locals: &[Vec<u32>],
     ids: &[Vec<u32>],
 ) -> Result<Vec<u32>, Memory>
-    requires { AreReadable (shard_of hasher) (lent keys.now) shards.now
+    requires { AreReadable (shard_of hasher) (lent_lists lists.now) shards.now
         (map vec_items locals.now) (map vec_items ids.now) }
     ensures { IfOk result (λ numbers. numbers.items
-        ≡ map (id_of (distinct (lent keys.now))) (lent keys.now)) }
+        ≡ map (id_of (distinct (lent_lists lists.now))) (lent_lists lists.now)) }
 {
-    let mut numbers = vec![in alloc; 0; keys.len()]?;
-    read_pieces(rt, hasher, keys, shards, locals, ids, &mut numbers);
+    let mut numbers = vec![in alloc; 0; shards.len()]?;
+    read_pieces(rt, hasher, lists, shards, locals, ids, &mut numbers);
     Ok(numbers)
 }
 
@@ -342,28 +272,28 @@ fn key_numbers<R: Threads + Sync>(
 fn read_pieces<R: Threads + Sync>(
     rt: &R,
     hasher: RandomState,
-    keys: &[&[u8]],
+    lists: &[&[&[u8]]],
     shards: &[u8],
     locals: &[Vec<u32>],
     ids: &[Vec<u32>],
     numbers: &mut [u32],
 )
-    requires length { length numbers.old ≡ length keys.now }
-    requires readable { AreReadable (shard_of hasher) (lent keys.now) shards.now
+    requires length { length numbers.old ≡ length (lent_lists lists.now) }
+    requires readable { AreReadable (shard_of hasher) (lent_lists lists.now) shards.now
         (map vec_items locals.now) (map vec_items ids.now) }
-    ensures { numbers.new ≡ map (id_of (distinct (lent keys.now))) (lent keys.now) }
+    ensures { numbers.new ≡ map (id_of (distinct (lent_lists lists.now))) (lent_lists lists.now) }
 {
     thread::for_each_chunk_mut(
         rt,
         numbers,
-        keys.len() / PIECES + 1,
+        shards.len() / PIECES + 1,
         &|from: usize, piece: &mut [u32]|
-            requires { (from + length piece.now ≤ length keys.now)
-                × AreReadable (shard_of hasher) (lent keys.now) shards.now
+            requires { (from + length piece.now ≤ length (lent_lists lists.now))
+                × AreReadable (shard_of hasher) (lent_lists lists.now) shards.now
                 (map vec_items locals.now) (map vec_items ids.now) }
-            ensures { AreFrom (id_of (distinct (lent keys.entry.now))) (lent keys.entry.now) from
+            ensures { AreFrom (id_of (distinct (lent_lists lists.entry.now))) (lent_lists lists.entry.now) from
                 (length piece.entry.now) piece.exit.now }
-        { read_numbers(from, hasher, keys, shards, locals, ids, piece) },
+        { read_numbers(from, hasher, lists, shards, locals, ids, piece) },
     );
 }
 
@@ -371,19 +301,19 @@ fn read_pieces<R: Threads + Sync>(
 fn read_numbers(
     from: usize,
     hasher: RandomState,
-    keys: &[&[u8]],
+    lists: &[&[&[u8]]],
     shards: &[u8],
     locals: &[Vec<u32>],
     ids: &[Vec<u32>],
     numbers: &mut [u32],
 )
-    requires range { from + length numbers.old ≤ length keys.now }
-    requires readable { AreReadable (shard_of hasher) (lent keys.now) shards.now
+    requires range { from + length numbers.old ≤ length (lent_lists lists.now) }
+    requires readable { AreReadable (shard_of hasher) (lent_lists lists.now) shards.now
         (map vec_items locals.now) (map vec_items ids.now) }
-    ensures { AreFrom (id_of (distinct (lent keys.now))) (lent keys.now) from
+    ensures { AreFrom (id_of (distinct (lent_lists lists.now))) (lent_lists lists.now) from
         (length numbers.old) numbers.new }
 {
-    let mut met = met_before(from, hasher, keys, shards);
+    let mut met = met_before(from, hasher, lists, shards);
     for k in 0..numbers.len() {
         let shard = shards[from + k] as usize;
         let local = locals[shard][met[shard]];
@@ -396,12 +326,12 @@ fn read_numbers(
 fn met_before(
     from: usize,
     hasher: RandomState,
-    keys: &[&[u8]],
+    lists: &[&[&[u8]]],
     shards: &[u8],
 ) -> [usize; SHARDS as usize]
-    requires range { from ≤ length keys.now }
-    requires shards { shards.now ≡ map (shard_of hasher) (lent keys.now) }
-    ensures { ArePassed (shard_of hasher) SHARDS (lent keys.now) from result }
+    requires range { from ≤ length (lent_lists lists.now) }
+    requires shards { shards.now ≡ map (shard_of hasher) (lent_lists lists.now) }
+    ensures { ArePassed (shard_of hasher) SHARDS (lent_lists lists.now) from result }
 {
     let mut met = [0; SHARDS as usize];
     for i in 0..from {

@@ -1,7 +1,7 @@
 //! Keys that were numbered side by side, in shards by their hash.
 
 ghost use Rattle.std.specs.Prelude.{◌≡◌, ◌<◌, ◌≤◌, [], IfOk, IfSome, IfNone, IsOk, length, map, slice_index_or, vec_items, vec_len, true, false};
-ghost use Rattle.key_numbers.specs.Keys.{IsIdOf, distinct, id_of, is_known, key_at, lent};
+ghost use Rattle.key_numbers.specs.Keys.{IsIdOf, distinct, id_of, is_known, key_at, lent_lists};
 ghost use Rattle.key_numbers.specs.Private.Sharded.{AreShards, key_there, shard_of};
 
 use crate::key_table::KeyTable;
@@ -78,8 +78,8 @@ impl Shards {
         }
     }
 
-    /// These keys without repeats, in the order of their first appearance, and the key number of
-    /// each of them as they stand there. Refused for want of memory.
+    /// The keys of these lists without repeats, in the order of their first appearance, and the key
+    /// number of each as they stand there. Refused for want of memory.
     ///
     /// The keys of each shard are numbered in a thread of its own; where one can't be started, they
     /// are numbered without it. There is room for so many different keys at first.
@@ -87,15 +87,15 @@ impl Shards {
         rt: &R,
         alloc: Global,
         hasher: RandomState,
-        keys: &[&[u8]],
+        lists: &[&[&[u8]]],
         room: usize,
     ) -> Result<(Shards, Vec<u32>), Memory>
-        requires { length keys.now ≤ MOST_RECORDS }
-        ensures keys { IfOk result (λ r. r.0 ≡ distinct (lent keys.now)) }
+        requires { length (lent_lists lists.now) ≤ MOST_RECORDS }
+        ensures keys { IfOk result (λ r. r.0 ≡ distinct (lent_lists lists.now)) }
         ensures numbers { IfOk result (λ r. r.1.items
-            ≡ map (id_of (distinct (lent keys.now))) (lent keys.now)) }
+            ≡ map (id_of (distinct (lent_lists lists.now))) (lent_lists lists.now)) }
     {
-        let numbered = number_keys(rt, alloc, hasher, keys, room)?;
+        let numbered = number_keys(rt, alloc, hasher, lists, room)?;
         let shards = Shards {
             hasher,
             tables: numbered.tables,

@@ -1,5 +1,5 @@
 -- Logs that are filled share by share, and records that are read by codes.
-use Rattle.std.proofs.Common.{◌≡◌, ◌∙◌, ◌+◌, ◌-◌, ◌<◌, ◌≤◌, ℕ, zero, suc, Bool, true, false, List, [], ◌∷◌, ◌++◌, Bor, Result, Ok, Vec, length, map, take, drop, get_or, replicate, sym, ap, ap₂, refl, subst, arith, inl, inr, append_assoc, length-append, length-drop, length-take-le, get_or-set_same, get_or-set_other, vec_items}
+use Rattle.std.proofs.Common.{◌≡◌, ◌∙◌, ◌+◌, ◌-◌, ◌<◌, ◌≤◌, ℕ, zero, suc, Bool, true, false, List, [], ◌∷◌, ◌++◌, Result, Ok, Vec, length, map, take, drop, get_or, replicate, sym, ap, ap₂, refl, subst, arith, inl, inr, append_assoc, length-append, length-drop, length-take-le, get_or-set_same, get_or-set_other, vec_items}
 use Rattle.std.specs.Prelude.{◌==◌, if◌then◌else◌, All, IfOk, slice_range, slice_set}
 use Rattle.std.proofs.lemmas.Bool.Decides.{eqb_tells}
 use Rattle.std.proofs.lemmas.List.{append-nil, drop_at, drop_more, drop-drop, ext_get_or, get_or-map, get_or-replicate, length-map, length-replicate, length-set, map-append, take_at, take_more}
@@ -13,12 +13,11 @@ use Rattle.key_lists.proofs.Coded.{distinct-parts, read-codes}
 use Rattle.partition_log.specs.Private.Filled.{ArePlaced, AreShort, CanGoSideBySide, filled}
 use Rattle.partition_log.specs.Private.Shares.{AreMerged, IsFillable, by_codes, in_row, numbers_in, places_in, read_by, records_of}
 use Rattle.partition_log.specs.declared.shares.Share.{Share}
-use Rattle.partition_log.specs.Appends.{AreAppended, in_first, lent, placed}
+use Rattle.partition_log.specs.Appends.{AreAppended, in_first, placed}
 use Rattle.partition_log.specs.Keys.{distinct, id_of, of_first}
 use Rattle.partition_log.specs.Logs.{IsValidLogs, PartitionLogs, place_in}
-use Rattle.partition_log.proofs.Appended.{first-keys, first-placed, first-topics, none_appended, places-are, records-placed}
+use Rattle.partition_log.proofs.Appended.{first-keys, first-topics, none_appended, places-are, records-placed}
 use Rattle.partition_log.proofs.SideBySide.{side-by-side}
-use Rattle.key_numbers.proofs.ShardRecords.{lent-placed}
 use Rattle.lane_words.specs.declared.limits.TheConstants.{LONGEST_KEY}
 
 -- ---- the records of one place
@@ -293,31 +292,38 @@ pushed-fillable partitions i from to coded d places numbers shares share lt so b
 
 -- ---- records by lists
 -- where keys of lists go
-pub lists-placed : (l : PartitionLogs) (places : List ℕ) (keys : List (Bor Key)) → IsValidLogs l → places ≡ map (λ key. place_in l (of_first key.now)) keys → ArePlaced l places (lent keys)
-lists-placed l places keys a are = records-placed l places (in_first (lent keys)) (lent keys) (first-topics l (lent keys) a) (are ∙ first-placed l keys) (sym (first-keys (lent keys)))
-
 first-places : (l : PartitionLogs) (keys : List Key) → map (λ key. place_in l (of_first key)) keys ≡ map (place_in l) (in_first keys)
 first-places l [] = refl
 first-places l (key ∷ keys) = ap (λ ps. place_in l (of_first key) ∷ ps) (first-places l keys)
 
+pub lists-placed : (l : PartitionLogs) (places : List ℕ) (keys : List Key) → IsValidLogs l → places ≡ map (λ key. place_in l (of_first key)) keys → ArePlaced l places keys
+lists-placed l places keys a are = records-placed l places (in_first keys) keys (first-topics l keys a) (are ∙ first-places l keys) (sym (first-keys keys))
+
 -- what coded lists give whose records are appended by the places and the numbers of their keys
-pub by-lists : (old l : PartitionLogs) (coded : List CodedPart) (firsts : List (Bor Key)) (all : List Key) (places numbers : List ℕ) (count : ℕ) (logs : List (List ℕ)) → l ≡ old → IsValidLogs l
-    → AreCoded (map records_of coded) coded → lent firsts ≡ joined (map keys_in coded) → CanGoSideBySide old (joined (map records_of coded)) → count ≡ l.partitions → IsValidLogs old
-    → places ≡ map (λ key. place_in old (of_first key.now)) firsts → numbers ≡ map (id_of (distinct (lent firsts))) (lent firsts) → all ≡ distinct (lent firsts)
+pub by-lists : (old l : PartitionLogs) (coded : List CodedPart) (all : List Key) (places numbers : List ℕ) (count : ℕ) (logs : List (List ℕ)) → l ≡ old → IsValidLogs l
+    → AreCoded (map records_of coded) coded → CanGoSideBySide old (joined (map records_of coded)) → count ≡ l.partitions → IsValidLogs old
+    → (let firsts = joined (map keys_in coded) in places ≡ map (λ key. place_in old (of_first key)) firsts → numbers ≡ map (id_of (distinct firsts)) firsts → all ≡ distinct firsts
     → logs ≡ filled (replicate count []) (read_by places coded) (read_by numbers coded)
-    → (let new : PartitionLogs = record { counts = l.counts; partitions = l.partitions; keys = all; logs = logs } in AreAppended old (placed old (in_first (joined (map records_of coded)))) new × IsValidLogs new)
-by-lists old l coded firsts all places numbers count logs seen a so are can counted valid placed_are numbered is filled_are =
+    → (let new : PartitionLogs = record { counts = l.counts; partitions = l.partitions; keys = all; logs = logs } in AreAppended old (placed old (in_first (joined (map records_of coded)))) new × IsValidLogs new))
+by-lists old l coded all places numbers count logs seen a so can counted valid placed_are numbered is filled_are =
+    let firsts = joined (map keys_in coded) in
     let records = joined (map records_of coded) in
     let place : Key → ℕ = λ key. place_in old (of_first key) in
-    let same : distinct (lent firsts) ≡ distinct records = ap distinct are ∙ distinct-parts (map records_of coded) coded so in
-    let of_keys : places ≡ map place (joined (map keys_in coded)) = placed_are ∙ lent-placed place firsts ∙ ap (map place) are in
-    let of_records : read_by places coded ≡ map place records = ap (λ ps. read_by ps coded) of_keys ∙ read-all place (map records_of coded) coded so in
-    let ids_of_keys : numbers ≡ map (id_of (distinct records)) (joined (map keys_in coded)) = numbered ∙ ap (λ ks. map (id_of ks) (lent firsts)) same ∙ ap (map (id_of (distinct records))) are in
+    let same : distinct firsts ≡ distinct records = distinct-parts (map records_of coded) coded so in
+    let of_records : read_by places coded ≡ map place records = ap (λ ps. read_by ps coded) placed_are ∙ read-all place (map records_of coded) coded so in
+    let ids_of_keys : numbers ≡ map (id_of (distinct records)) firsts = numbered ∙ ap (λ ks. map (id_of ks) firsts) same in
     let ids_are : read_by numbers coded ≡ map (id_of (distinct records)) records = ap (λ ns. read_by ns coded) ids_of_keys ∙ read-all (id_of (distinct records)) (map records_of coded) coded so in
     let at : read_by places coded ≡ map (place_in old) (in_first records) = of_records ∙ first-places old records in
     let goes = records-placed old (read_by places coded) (in_first records) records (first-topics old records valid) at (sym (first-keys records)) in
     let made = side-by-side old l records all (read_by places coded) (read_by numbers coded) count logs seen a can counted goes.as_many goes.goes ids_are (is ∙ same) filled_are in
     (subst (λ rs. AreAppended old rs (record { counts = l.counts; partitions = l.partitions; keys = all; logs = logs })) (places-are old (read_by places coded) (in_first records) records at (sym (first-keys records))) made.0, made.1)
+
+-- the keys of the first coded lists, with those of one more
+pub joined-more : (coded : List CodedPart) (i : ℕ) (d : CodedPart) → i < length coded → joined (map keys_in (take (i + 1) coded)) ≡ joined (map keys_in (take i coded)) ++ keys_in (get_or coded i d)
+joined-more coded i d lt =
+    let one = keys_in (get_or coded i d) in
+    ap (λ (cs : List CodedPart). joined (map keys_in cs)) (take_more coded i d lt) ∙ ap joined (map-append keys_in (take i coded) (get_or coded i d ∷ []))
+    ∙ flat_map-append (λ (ks : List Key). ks) (map keys_in (take i coded)) (one ∷ []) ∙ ap (λ ks. joined (map keys_in (take i coded)) ++ ks) (append-nil one)
 
 -- an item that is there, whatever is taken where it is not
 pub get_or-any : {X : Type 0} (xs : List X) (i : ℕ) (d e : X) → i < length xs → get_or xs i d ≡ get_or xs i e

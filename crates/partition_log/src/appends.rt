@@ -9,6 +9,7 @@ ghost use Rattle.partition_log.specs.Private.Filled.{ArePlaced, AreShort, CanGoS
 
 use crate::Logs;
 use crate::filling::filled_logs;
+use key_numbers::pieces_of;
 use lane_words::{LONGEST_KEY, MOST_RECORDS, Memory, Refusal};
 use std::thread::Threads;
 
@@ -148,7 +149,8 @@ impl Logs {
         ensures valid { IsValidLogs self.new }
     {
         let alloc = *self.logs.allocator();
-        let (shards, ids) = self.keys.number_all(rt, keys, 0)?;
+        let pieces = pieces_of(alloc, keys)?;
+        let (shards, ids) = self.keys.number_all(rt, &pieces, 0)?;
         let logs = filled_logs(alloc, self.partitions.count() as usize, places, &ids)?;
         self.keys.begin_with(shards);
         self.logs = logs;

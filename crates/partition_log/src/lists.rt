@@ -3,14 +3,16 @@
 ghost use Rattle.std.specs.Prelude.{◌≡◌, ◌<◌, ◌≤◌, true, false, IfErr, IfOk, IsTrue, OnErr, OnOk, length, map};
 ghost use Rattle.key_lists.specs.Lists.{AreCoded, joined, keys_in};
 ghost use Rattle.partition_log.specs.Appends.{AreAppended, AreStoppedAfter, GrowByRecords, in_first, lent, placed};
-ghost use Rattle.partition_log.specs.Logs.{IsValidLogs};
-ghost use Rattle.partition_log.specs.Private.Filled.{CanGoSideBySide};
+ghost use Rattle.key_numbers.specs.Keys.{lent_lists};
+ghost use Rattle.partition_log.specs.Keys.{of_first};
+ghost use Rattle.partition_log.specs.Logs.{IsValidLogs, place_in};
+ghost use Rattle.partition_log.specs.Private.Filled.{AreShort, CanGoSideBySide};
 ghost use Rattle.partition_log.specs.Private.Shares.{records_of};
 
 use crate::Logs;
 use crate::appends::{SIDE_BY_SIDE, are_short};
 use crate::shares::logs_of_lists;
-use key_lists::{CodedPart, KeyList, coded_parts, firsts_of};
+use key_lists::{CodedPart, KeyList, coded_parts};
 use lane_words::{MOST_RECORDS, Memory, Refusal};
 use std::alloc::Global;
 use std::thread::Threads;
@@ -69,24 +71,20 @@ impl Logs {
     {
         let alloc = *self.logs.allocator();
         let coded = coded_parts(rt, alloc, lists)?;
-        let firsts = firsts_of(alloc, &coded)?;
-        if !are_short(&firsts) {
+        if !are_all_short(&coded) {
             return Ok(false);
         }
-        self.append_firsts(rt, &coded, &firsts)?;
+        self.append_firsts(rt, &coded)?;
         Ok(true)
     }
 
-    /// Appends the records of coded lists, of which these are the keys. Refused for want of memory,
-    /// with everything as it was.
+    /// Appends the records of coded lists. Refused for want of memory, with everything as it was.
     fn append_firsts<R: Threads + Sync>(
         &mut self,
         rt: &R,
         coded: &[CodedPart<'_>],
-        firsts: &[&[u8]],
     ) -> Result<(), Memory>
         requires coded { AreCoded (map records_of coded.now) coded.now }
-        requires firsts { lent firsts.now ≡ joined (map keys_in coded.now) }
         requires fits { CanGoSideBySide self.old (joined (map records_of coded.now)) }
         ensures ok { OnOk result (AreAppended self.old
             (placed self.old (in_first (joined (map records_of coded.now)))) self.new) }
@@ -94,13 +92,33 @@ impl Logs {
         ensures valid { IsValidLogs self.new }
     {
         let alloc = *self.logs.allocator();
-        let places = self.places_of(rt, firsts)?;
-        let (shards, numbers) = self.keys.number_all(rt, firsts, firsts.len())?;
+        let places = self.places_of_lists(rt, coded)?;
+        let keys = keys_of(alloc, coded)?;
+        let (shards, numbers) = self.keys.number_all(rt, &keys, places.len())?;
         let partitions = self.partitions.count() as usize;
         let logs = logs_of_lists(rt, alloc, partitions, coded, &places, &numbers)?;
         self.keys.begin_with(shards);
         self.logs = logs;
         Ok(())
+    }
+
+    /// The partition in the first topic of each key of coded lists, one list after another, those of
+    /// each list computed side by side. Refused for want of memory.
+    fn places_of_lists<R: Threads + Sync>(
+        &self,
+        rt: &R,
+        coded: &[CodedPart<'_>],
+    ) -> Result<Vec<u32>, Memory>
+        ensures places { IfOk result (λ places. places.items
+            ≡ map (λ key. place_in self.now (of_first key)) (joined (map keys_in coded.now))) }
+        ensures valid { IsValidLogs self.now }
+    {
+        let mut places = Vec::with_capacity(*self.logs.allocator(), keys_among(coded))?;
+        for i in 0..coded.len() {
+            let of_list = self.places_of(rt, coded[i].keys.as_slice())?;
+            places.extend_from_slice(of_list.as_slice())?;
+        }
+        Ok(places)
     }
 
     /// Appends records of the keys of these lists, each as `append_all` does.
@@ -149,4 +167,39 @@ fn slices_of(alloc: Global, lists: &[KeyList]) -> Result<Vec<&[u8]>, Memory>
         lists[i].add_slices(&mut keys)?;
     }
     Ok(keys)
+}
+
+/// Whether no key of coded lists is too long.
+fn are_all_short(coded: &[CodedPart<'_>]) -> bool
+    ensures { IsTrue result → AreShort (joined (map keys_in coded.now)) }
+{
+    for i in 0..coded.len() {
+        if !are_short(coded[i].keys.as_slice()) {
+            return false;
+        }
+    }
+    true
+}
+
+/// The keys of each coded list.
+fn keys_of<'a, 'k>(
+    alloc: Global,
+    coded: &'a [CodedPart<'k>],
+) -> Result<Vec<&'a [&'k [u8]]>, Memory>
+    ensures { IfOk result (λ keys. lent_lists keys.items ≡ joined (map keys_in coded.now)) }
+{
+    let mut keys = Vec::with_capacity(alloc, coded.len())?;
+    for i in 0..coded.len() {
+        keys.push(coded[i].keys.as_slice())?;
+    }
+    Ok(keys)
+}
+
+/// How many keys coded lists have together: it only says how much memory is taken.
+fn keys_among(coded: &[CodedPart<'_>]) -> usize {
+    let mut keys: usize = 0;
+    for i in 0..coded.len() {
+        keys = keys.saturating_add(coded[i].keys.len());
+    }
+    keys
 }

@@ -6,7 +6,8 @@ ghost use Rattle.partition_log.specs.Private.Filled.{filled};
 ghost use Rattle.partition_log.specs.Private.Shares.{AreMerged, IsFillable, in_row, numbers_in, places_in, read_by, records_of};
 
 use crate::filling::roomy_logs;
-use key_lists::{CodedPart, collected};
+use key_lists::CodedPart;
+use key_numbers::collected;
 use lane_words::Memory;
 use std::alloc::Global;
 use std::thread;

@@ -1,11 +1,13 @@
 -- Keys that are numbered shard by shard, and their key numbers.
-use Rattle.std.specs.Prelude.{◌≡◌, ◌<◌, ◌≤◌, ◌+◌, ◌*◌, ◌/◌, ◌==◌, ◌%◌, ℕ, List, [], ◌∷◌, ◌++◌, All, Bool, filter, fold, length, map, min, if◌then◌else◌, slice_index_or, slice_range, take}
+use Rattle.std.specs.Prelude.{◌≡◌, ◌<◌, ◌≤◌, ◌+◌, ◌*◌, ◌/◌, ◌==◌, ◌%◌, ℕ, List, [], ◌∷◌, ◌++◌, All, Bool, filter, fold, length, map, min, if◌then◌else◌, slice_index_or, take}
 use Rattle.lane_words.specs.declared.limits.TheConstants.{MOST_RECORDS}
+use Rattle.std.specs.Borrow.{Bor}
 use Rattle.std.specs.RandomState.{initial_hasher}
 use Rattle.std.specs.declared.hash.RandomState.{RandomState}
 use Rattle.std.specs.Hash.DefaultHasher.{finish, write}
-use Rattle.key_numbers.specs.Keys.{Key, distinct, id_of, key_at, with_key}
+use Rattle.key_numbers.specs.Keys.{Key, distinct, id_of, key_at, lent, with_key}
 use Rattle.key_numbers.specs.declared.dealing.TheConstants.{PIECES}
+use Rattle.key_numbers.specs.declared.dealing.Dealt.{Dealt}
 use Rattle.key_numbers.specs.declared.shards.TheConstants.{SHARDS}
 use Rattle.key_numbers.specs.declared.shards.KeyAt.{KeyAt}
 
@@ -21,14 +23,24 @@ of_shard shard s keys = filter (λ k. shard k == s) keys
 abbrev pub start_of : ℕ → List Key → ℕ
 start_of p keys = min (p * (length keys / PIECES + 1)) (length keys)
 
--- piece p of these
-abbrev pub piece_of : ℕ → List Key → List Key
-piece_of p keys = slice_range keys (start_of p keys) (start_of (p + 1) keys)
+-- of each shard its keys, in order
+abbrev pub rows_in : Dealt → List (List Key)
+rows_in dealt = map (λ row. lent row.items) dealt.rows.items
 
--- keys that are dealt to so many shards: each has its own, in order
-pub record AreDealt (shard : Key → ℕ) (count : ℕ) (keys : List Key) (rows : List (List Key)) : Type 0 where
+-- rows of so many shards: each has its keys, in order
+pub record AreRows (shard : Key → ℕ) (count : ℕ) (keys : List Key) (rows : List (List Key)) : Type 0 where
   pub each : length rows ≡ count
   pub are : (s : ℕ) → s < count → slice_index_or rows s [] ≡ of_shard shard s keys
+
+-- these keys are dealt to their shards
+pub record IsDealt (shard : Key → ℕ) (keys : List Key) (dealt : Dealt) : Type 0 where
+  pub shards : dealt.shards.items ≡ map shard keys
+  pub rows : AreRows shard SHARDS keys (rows_in dealt)
+
+-- so are those of each list
+pub record AreDealt (shard : Key → ℕ) (lists : List (Bor (List (Bor Key)))) (dealt : List Dealt) : Type 0 where
+  pub as_many : length dealt ≡ length lists
+  pub are : (i : ℕ) (d : Dealt) (e : Bor (List (Bor Key))) → i < length lists → IsDealt shard (lent (slice_index_or lists i e).now) (slice_index_or dealt i d)
 
 -- the keys of a shard after more records
 abbrev pub with_keys : List Key → List Key → List Key

@@ -1,8 +1,11 @@
-use Rattle.std.proofs.Common.{map, take}
+use Rattle.std.proofs.Common.{◌≡◌, map, take}
 use Rattle.key_numbers.specs.Keys.{lent}
-use Rattle.key_numbers.specs.Private.Sharded.{AreDealt, shard_of}
+use Rattle.key_numbers.specs.Private.Sharded.{AreRows, shard_of}
 use Rattle.key_numbers.specs.declared.shards.TheConstants.{SHARDS}
 use Rattle.key_numbers.proofs.dealing.deal.Given as goal
 
 abbrev pub invariant-loop-i : goal.invariant-loop-i
-invariant-loop-i l = AreDealt (shard_of l.fn.hasher) SHARDS (take l.i (lent l.keys)) (map (λ row. lent row.items) l.rows.items)
+invariant-loop-i l = record {
+  shards : l.shards.items ≡ map (shard_of l.fn.hasher) (take l.i (lent l.keys));
+  rows : AreRows (shard_of l.fn.hasher) SHARDS (take l.i (lent l.keys)) (map (λ row. lent row.items) l.rows.items);
+}

@@ -1,67 +1,67 @@
 use Rattle.std.proofs.Common.{◌≡◌, ◌<◌, ◌≤◌, ◌+◌, ◌∙◌, [], arith, rules, ap, get_or, length, map, subst, sym, vec_items, vec_len}
 use Rattle.std.specs.Prelude.{slice_set}
 use Rattle.std.proofs.lemmas.List.{get_or-map, get_or_read, length-map}
-use Rattle.key_numbers.specs.Keys.{distinct, id_of, lent}
+use Rattle.key_numbers.specs.Keys.{distinct, id_of, lent_lists}
 use Rattle.key_numbers.specs.Private.Sharded.{ArePassed, shard_of}
 use Rattle.key_numbers.specs.declared.shards.TheConstants.{SHARDS}
 use Rattle.key_numbers.proofs.ReadBack.{from-more, read-record}
-use Rattle.key_numbers.proofs.ShardRecords.{passed-few, passed-more, shard-at, shard-below, lent-long}
+use Rattle.key_numbers.proofs.ShardRecords.{passed-few, passed-more, shard-at, shard-below, shards-long}
 use Rattle.key_numbers.proofs.numbering.read_numbers.Goals as goal
 
 pub bounds-locals-shard : goal.bounds-locals-shard
 bounds-locals-shard c =
-    let all = lent c.args.keys.now in
+    let all = lent_lists c.args.lists.now in
     let i = c.args.from + c.loop-k.k in
-    let i_in : i < length all = omega (arith, c.loop-k-test.true, c.requires.range, lent-long c.args.keys.now) in
+    let i_in : i < length all = omega (arith, c.loop-k-test.true, c.requires.range) in
     omega (arith, shard-below c.args.hasher all c.args.shards.now i c.requires.readable.sharded i_in, c.requires.readable.numbered.each, length-map c.args.locals.now vec_items)
 
 pub bounds-met-shard : goal.bounds-met-shard
 bounds-met-shard c =
-    let all = lent c.args.keys.now in
+    let all = lent_lists c.args.lists.now in
     let i = c.args.from + c.loop-k.k in
-    let i_in : i < length all = omega (arith, c.loop-k-test.true, c.requires.range, lent-long c.args.keys.now) in
+    let i_in : i < length all = omega (arith, c.loop-k-test.true, c.requires.range) in
     shard-below c.args.hasher all c.args.shards.now i c.requires.readable.sharded i_in
 
 pub bounds-met-shard-in-loop-k : goal.bounds-met-shard-in-loop-k
 bounds-met-shard-in-loop-k c =
-    let all = lent c.args.keys.now in
+    let all = lent_lists c.args.lists.now in
     let i = c.args.from + c.loop-k.k in
-    let i_in : i < length all = omega (arith, c.loop-k-test.true, c.requires.range, lent-long c.args.keys.now) in
+    let i_in : i < length all = omega (arith, c.loop-k-test.true, c.requires.range) in
     shard-below c.args.hasher all c.args.shards.now i c.requires.readable.sharded i_in
 
 pub bounds-met-shard-in-loop-k-2 : goal.bounds-met-shard-in-loop-k-2
 bounds-met-shard-in-loop-k-2 c =
-    let all = lent c.args.keys.now in
+    let all = lent_lists c.args.lists.now in
     let i = c.args.from + c.loop-k.k in
-    let i_in : i < length all = omega (arith, c.loop-k-test.true, c.requires.range, lent-long c.args.keys.now) in
+    let i_in : i < length all = omega (arith, c.loop-k-test.true, c.requires.range) in
     shard-below c.args.hasher all c.args.shards.now i c.requires.readable.sharded i_in
 
 pub bounds-ids-shard : goal.bounds-ids-shard
 bounds-ids-shard c =
-    let all = lent c.args.keys.now in
+    let all = lent_lists c.args.lists.now in
     let i = c.args.from + c.loop-k.k in
-    let i_in : i < length all = omega (arith, c.loop-k-test.true, c.requires.range, lent-long c.args.keys.now) in
+    let i_in : i < length all = omega (arith, c.loop-k-test.true, c.requires.range) in
     omega (arith, shard-below c.args.hasher all c.args.shards.now i c.requires.readable.sharded i_in, c.requires.readable.each, length-map c.args.ids.now vec_items)
 
 pub overflow_add-met : goal.overflow_add-met
 overflow_add-met c =
-    let all = lent c.args.keys.now in
+    let all = lent_lists c.args.lists.now in
     let i = c.args.from + c.loop-k.k in
-    let i_in : i < length all = omega (arith, c.loop-k-test.true, c.requires.range, lent-long c.args.keys.now) in
+    let i_in : i < length all = omega (arith, c.loop-k-test.true, c.requires.range) in
     let i_le : i ≤ length all = omega (arith, i_in) in
     let shard = get_or c.args.shards.now i 0 in
     let below = shard-below c.args.hasher all c.args.shards.now i c.requires.readable.sharded i_in in
-    omega (arith, passed-few (shard_of c.args.hasher) SHARDS all i c.loop-k.met shard below i_le c.loop-k.invariant.passed, c.loop-k-test.true, c.requires.range)
+    omega (arith, passed-few (shard_of c.args.hasher) SHARDS all i c.loop-k.met shard below i_le c.loop-k.invariant.passed, c.loop-k-test.true, c.requires.range, shards-long (shard_of c.args.hasher) all c.args.shards.now c.requires.readable.sharded)
 
 pub index-local-requires : goal.index-local-requires
 index-local-requires c =
     let hasher = c.args.hasher in
-    let all = lent c.args.keys.now in
+    let all = lent_lists c.args.lists.now in
     let shards = c.args.shards.now in
     let locals = c.args.locals.now in
     let ids = c.args.ids.now in
     let i = c.args.from + c.loop-k.k in
-    let i_in : i < length all = omega (arith, c.loop-k-test.true, c.requires.range, lent-long c.args.keys.now) in
+    let i_in : i < length all = omega (arith, c.loop-k-test.true, c.requires.range) in
     let shard = get_or shards i 0 in
     let met = get_or c.loop-k.met shard 0 in
     let below = shard-below hasher all shards i c.requires.readable.sharded i_in in
@@ -74,12 +74,12 @@ index-local-requires c =
 pub index-requires : goal.index-requires
 index-requires c =
     let hasher = c.args.hasher in
-    let all = lent c.args.keys.now in
+    let all = lent_lists c.args.lists.now in
     let shards = c.args.shards.now in
     let locals = c.args.locals.now in
     let ids = c.args.ids.now in
     let i = c.args.from + c.loop-k.k in
-    let i_in : i < length all = omega (arith, c.loop-k-test.true, c.requires.range, lent-long c.args.keys.now) in
+    let i_in : i < length all = omega (arith, c.loop-k-test.true, c.requires.range) in
     let shard = get_or shards i 0 in
     let met = get_or c.loop-k.met shard 0 in
     let below = shard-below hasher all shards i c.requires.readable.sharded i_in in
@@ -98,12 +98,12 @@ index-requires c =
 pub loop-k-preserved : goal.loop-k-preserved
 loop-k-preserved c =
     let hasher = c.args.hasher in
-    let all = lent c.args.keys.now in
+    let all = lent_lists c.args.lists.now in
     let shards = c.args.shards.now in
     let locals = c.args.locals.now in
     let ids = c.args.ids.now in
     let i = c.args.from + c.loop-k.k in
-    let i_in : i < length all = omega (arith, c.loop-k-test.true, c.requires.range, lent-long c.args.keys.now) in
+    let i_in : i < length all = omega (arith, c.loop-k-test.true, c.requires.range) in
     let shard = get_or shards i 0 in
     let met = get_or c.loop-k.met shard 0 in
     let below = shard-below hasher all shards i c.requires.readable.sharded i_in in

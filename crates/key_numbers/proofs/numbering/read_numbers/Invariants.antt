@@ -1,11 +1,11 @@
 use Rattle.std.proofs.Common.{◌+◌}
-use Rattle.key_numbers.specs.Keys.{distinct, id_of, lent}
+use Rattle.key_numbers.specs.Keys.{distinct, id_of, lent_lists}
 use Rattle.key_numbers.specs.Private.Sharded.{AreFrom, ArePassed, shard_of}
 use Rattle.key_numbers.specs.declared.shards.TheConstants.{SHARDS}
 use Rattle.key_numbers.proofs.numbering.read_numbers.Given as goal
 
 abbrev pub invariant-loop-k : goal.invariant-loop-k
 invariant-loop-k l = record {
-  passed : ArePassed (shard_of l.fn.hasher) SHARDS (lent l.keys) (l.from + l.k) l.met;
-  read : AreFrom (id_of (distinct (lent l.keys))) (lent l.keys) l.from l.k l.numbers;
+  passed : ArePassed (shard_of l.fn.hasher) SHARDS (lent_lists l.lists) (l.from + l.k) l.met;
+  read : AreFrom (id_of (distinct (lent_lists l.lists))) (lent_lists l.lists) l.from l.k l.numbers;
 }

@@ -2,14 +2,14 @@ use Rattle.std.proofs.Common.{◌≡◌, ◌+◌, ◌∙◌, ◌∷◌, ◌++◌
 use Rattle.std.specs.Vec.Iter.{into_iter_items}
 use Rattle.std.proofs.lemmas.List.{map-append}
 use Rattle.key_numbers.specs.Private.Sharded.{AreLocals, AreNumberedIn, AreTables, shard_of}
-use Rattle.key_numbers.specs.Keys.{lent}
-use Rattle.key_numbers.proofs.Collected.{drop_last, drop_next, locals-more, locals-none, tables-more, tables-none}
+use Rattle.key_numbers.specs.Keys.{lent_lists}
+use Rattle.key_numbers.proofs.Gathered.{drop_last, drop_next, locals-more, locals-none, tables-more, tables-none}
 use Rattle.key_numbers.proofs.numbering.tables_of.Goals as goal
 
 pub loop-shard-init : goal.loop-shard-init
 loop-shard-init c =
     let gives = c.into_iter-shard-iterator.ensures.into_iter_gives in
-    let keys = lent c.args.keys.now in record {
+    let keys = lent_lists c.args.lists.now in record {
       within = omega (arith, ap length c.in_ok-tables.ensures.items);
       rest = rw c.in_ok-tables.ensures.items gives.0;
       len = search rules;
@@ -19,7 +19,7 @@ loop-shard-init c =
 
 pub loop-shard-preserved : goal.loop-shard-preserved
 loop-shard-preserved c =
-    let keys = lent c.args.keys.now in
+    let keys = lent_lists c.args.lists.now in
     let inv = c.loop-shard.invariant in
     let tables = c.loop-shard.tables.items in
     let locals = c.loop-shard.locals.items in
@@ -50,7 +50,7 @@ returns-clause-tables c =
     let none : length (drop n c.args.found.items) ≡ 0 = ap length (sym inv.rest) ∙ sym inv.len ∙ c.in-None.ensures.steps.0 in
     let all : n ≡ length c.args.found.items = drop_last c.args.found.items n (omega (arith, inv.within)) none in
     let counted : length c.args.found.items ≡ vec_len c.args.found = search rules in
-    subst (λ (m : ℕ). AreTables (shard_of c.args.hasher) m (lent c.args.keys.now) c.loop-shard.tables.items) (all ∙ counted) inv.tables
+    subst (λ (m : ℕ). AreTables (shard_of c.args.hasher) m (lent_lists c.args.lists.now) c.loop-shard.tables.items) (all ∙ counted) inv.tables
 
 pub returns-clause-locals : goal.returns-clause-locals
 returns-clause-locals c =
@@ -59,4 +59,4 @@ returns-clause-locals c =
     let none : length (drop n c.args.found.items) ≡ 0 = ap length (sym inv.rest) ∙ sym inv.len ∙ c.in-None.ensures.steps.0 in
     let all : n ≡ length c.args.found.items = drop_last c.args.found.items n (omega (arith, inv.within)) none in
     let counted : length c.args.found.items ≡ vec_len c.args.found = search rules in
-    subst (λ (m : ℕ). AreLocals (shard_of c.args.hasher) m (lent c.args.keys.now) (map vec_items c.loop-shard.locals.items)) (all ∙ counted) inv.locals
+    subst (λ (m : ℕ). AreLocals (shard_of c.args.hasher) m (lent_lists c.args.lists.now) (map vec_items c.loop-shard.locals.items)) (all ∙ counted) inv.locals

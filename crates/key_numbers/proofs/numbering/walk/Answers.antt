@@ -1,18 +1,18 @@
 use Rattle.std.proofs.Common.{◌≡◌, ◌∙◌, ◌<◌, ◌≤◌, ◌+◌, ℕ, List, [], arith, rules, ap, get_or, length, map, sym, subst, take, vec_items, vec_len}
 use Rattle.std.specs.Prelude.{slice_set}
 use Rattle.std.proofs.lemmas.List.{get_or-map, get_or_read, length-map, length-replicate, length-set, length-take, take_all}
-use Rattle.key_numbers.specs.Keys.{distinct, id_of, lent}
+use Rattle.key_numbers.specs.Keys.{distinct, id_of, lent_lists}
 use Rattle.key_numbers.specs.Private.Sharded.{AreOrdered, next_after, of_shard, shard_of, with_first, with_first_at}
 use Rattle.key_numbers.specs.declared.shards.KeyAt.{KeyAt}
 use Rattle.key_numbers.specs.declared.shards.TheConstants.{SHARDS}
 use Rattle.key_numbers.proofs.Ordered.{next-ordered, ordered-more, ordered-none}
-use Rattle.key_numbers.proofs.ShardRecords.{few-distinct, next-local, passed-few, passed-more, passed-none, shard-at, shard-below, lent-long}
+use Rattle.key_numbers.proofs.ShardRecords.{few-distinct, next-local, passed-few, passed-more, passed-none, shard-at, shard-below, shards-long}
 use Rattle.key_numbers.proofs.Walked.{IsWalked, walked-all, walked-more, walked-none}
 use Rattle.key_numbers.proofs.numbering.walk.Goals as goal
 
 pub loop-i-init : goal.loop-i-init
 loop-i-init c =
-    let all = lent c.args.keys.now in
+    let all = lent_lists c.args.lists.now in
     let start : IsWalked (shard_of c.args.hasher) all [] (map vec_items c.in_ok-ids.ids.items) 0 =
     subst (λ (ids : List (List ℕ)). IsWalked (shard_of c.args.hasher) all [] ids 0) (sym c.in_ok-ids.ensures) (walked-none (shard_of c.args.hasher) all SHARDS) in
     let none : List ℕ = [] in record {
@@ -24,36 +24,36 @@ loop-i-init c =
 
 pub bounds-locals-shard : goal.bounds-locals-shard
 bounds-locals-shard c =
-    let all = lent c.args.keys.now in
-    let i_in : c.loop-i.i < length all = omega (arith, c.loop-i-test.true, lent-long c.args.keys.now) in
+    let all = lent_lists c.args.lists.now in
+    let i_in : c.loop-i.i < length all = omega (arith, c.loop-i-test.true, shards-long (shard_of c.args.hasher) all c.args.shards.now c.requires.shards) in
     omega (arith, shard-below c.args.hasher all c.args.shards.now c.loop-i.i c.requires.shards i_in, c.requires.locals.each, length-map c.args.locals.now vec_items)
 
 pub bounds-met-shard : goal.bounds-met-shard
 bounds-met-shard c =
-    let all = lent c.args.keys.now in
-    let i_in : c.loop-i.i < length all = omega (arith, c.loop-i-test.true, lent-long c.args.keys.now) in
+    let all = lent_lists c.args.lists.now in
+    let i_in : c.loop-i.i < length all = omega (arith, c.loop-i-test.true, shards-long (shard_of c.args.hasher) all c.args.shards.now c.requires.shards) in
     omega (arith, shard-below c.args.hasher all c.args.shards.now c.loop-i.i c.requires.shards i_in)
 
 pub bounds-met-shard-in-loop-i : goal.bounds-met-shard-in-loop-i
 bounds-met-shard-in-loop-i c =
-    let all = lent c.args.keys.now in
-    let i_in : c.loop-i.i < length all = omega (arith, c.loop-i-test.true, lent-long c.args.keys.now) in
+    let all = lent_lists c.args.lists.now in
+    let i_in : c.loop-i.i < length all = omega (arith, c.loop-i-test.true, shards-long (shard_of c.args.hasher) all c.args.shards.now c.requires.shards) in
     omega (arith, shard-below c.args.hasher all c.args.shards.now c.loop-i.i c.requires.shards i_in)
 
 pub bounds-met-shard-in-loop-i-2 : goal.bounds-met-shard-in-loop-i-2
 bounds-met-shard-in-loop-i-2 c =
-    let all = lent c.args.keys.now in
-    let i_in : c.loop-i.i < length all = omega (arith, c.loop-i-test.true, lent-long c.args.keys.now) in
+    let all = lent_lists c.args.lists.now in
+    let i_in : c.loop-i.i < length all = omega (arith, c.loop-i-test.true, shards-long (shard_of c.args.hasher) all c.args.shards.now c.requires.shards) in
     omega (arith, shard-below c.args.hasher all c.args.shards.now c.loop-i.i c.requires.shards i_in)
 
 pub index-local-requires : goal.index-local-requires
 index-local-requires c =
-    let all = lent c.args.keys.now in
+    let all = lent_lists c.args.lists.now in
     let shards = c.args.shards.now in
     let locals = c.args.locals.now in
     let i = c.loop-i.i in
     let shard = get_or shards i 0 in
-    let i_in : i < length all = omega (arith, c.loop-i-test.true, lent-long c.args.keys.now) in
+    let i_in : i < length all = omega (arith, c.loop-i-test.true, shards-long (shard_of c.args.hasher) all c.args.shards.now c.requires.shards) in
     let below : shard < SHARDS = shard-below c.args.hasher all shards i c.requires.shards i_in in
     let in_locals : shard < length locals = omega (arith, below, c.requires.locals.each, length-map locals vec_items) in
     let next = next-local (shard_of c.args.hasher) SHARDS all i c.loop-i.met (get_or (map vec_items locals) shard []) shard i_in (shard-at (shard_of c.args.hasher) all shards i c.requires.shards i_in) below
@@ -64,9 +64,9 @@ index-local-requires c =
 
 pub overflow_add-met : goal.overflow_add-met
 overflow_add-met c =
-    let all = lent c.args.keys.now in
+    let all = lent_lists c.args.lists.now in
     let i = c.loop-i.i in
-    let i_in : i < length all = omega (arith, c.loop-i-test.true, lent-long c.args.keys.now) in
+    let i_in : i < length all = omega (arith, c.loop-i-test.true, shards-long (shard_of c.args.hasher) all c.args.shards.now c.requires.shards) in
     let i_le : i ≤ length all = omega (arith, i_in) in
     let shard = get_or c.args.shards.now i 0 in
     let below : shard < SHARDS = shard-below c.args.hasher all c.args.shards.now i c.requires.shards i_in in
@@ -74,20 +74,19 @@ overflow_add-met c =
 
 pub number_record-requires-clause-room : goal.number_record-requires-clause-room
 number_record-requires-clause-room c =
-    let all = lent c.args.keys.now in
-    omega (arith, c.loop-i.invariant.walked.counted, few-distinct (take c.loop-i.i all), length-take c.loop-i.i all, c.loop-i-test.true, c.requires.few)
+    let all = lent_lists c.args.lists.now in
+    omega (arith, c.loop-i.invariant.walked.counted, few-distinct (take c.loop-i.i all), length-take c.loop-i.i all, c.loop-i-test.true, c.requires.few, shards-long (shard_of c.args.hasher) all c.args.shards.now c.requires.shards)
 
 pub number_record-requires-clause-shard : goal.number_record-requires-clause-shard
 number_record-requires-clause-shard c =
-    let all = lent c.args.keys.now in
-    let i_in : c.loop-i.i < length all = omega (arith, c.loop-i-test.true, lent-long c.args.keys.now) in
+    let all = lent_lists c.args.lists.now in
+    let i_in : c.loop-i.i < length all = omega (arith, c.loop-i-test.true, shards-long (shard_of c.args.hasher) all c.args.shards.now c.requires.shards) in
     omega (arith, shard-below c.args.hasher all c.args.shards.now c.loop-i.i c.requires.shards i_in, c.loop-i.invariant.len)
 
 pub loop-i-preserved : goal.loop-i-preserved
 loop-i-preserved c =
     let hasher = c.args.hasher in
-    let keys = c.args.keys.now in
-    let all = lent keys in
+    let all = lent_lists c.args.lists.now in
     let i = c.loop-i.i in
     let shards = c.args.shards.now in
     let locals = c.args.locals.now in
@@ -98,7 +97,7 @@ loop-i-preserved c =
     let shard = get_or shards i 0 in
     let local = c.index-local.result.now in
     let old = get_or ids shard [] in
-    let i_in : i < length all = omega (arith, c.loop-i-test.true, lent-long keys) in
+    let i_in : i < length all = omega (arith, c.loop-i-test.true, shards-long (shard_of c.args.hasher) all c.args.shards.now c.requires.shards) in
     let within : shard < SHARDS = shard-below hasher all shards i c.requires.shards i_in in
     let at = shard-at (shard_of hasher) all shards i c.requires.shards i_in in
     let long : length ids ≡ SHARDS = length-map c.loop-i.ids.items vec_items ∙ inv.len in
@@ -126,12 +125,12 @@ loop-i-preserved c =
 
 pub returns-clause-ids : goal.returns-clause-ids
 returns-clause-ids c =
-    let all = lent c.args.keys.now in
-    let done : length all ≤ c.loop-i.i = omega (arith, c.loop-i-test.false, lent-long c.args.keys.now) in
+    let all = lent_lists c.args.lists.now in
+    let done : length all ≤ c.loop-i.i = omega (arith, c.loop-i-test.false, shards-long (shard_of c.args.hasher) all c.args.shards.now c.requires.shards) in
     walked-all (shard_of c.args.hasher) all c.loop-i.i (map vec_items c.loop-i.ids.items) (length c.loop-i.order.items) done c.loop-i.invariant.walked
 
 pub returns-clause-order : goal.returns-clause-order
 returns-clause-order c =
-    let all = lent c.args.keys.now in
-    let whole : take c.loop-i.i all ≡ all = take_all c.loop-i.i all (omega (arith, c.loop-i-test.false, lent-long c.args.keys.now)) in
+    let all = lent_lists c.args.lists.now in
+    let whole : take c.loop-i.i all ≡ all = take_all c.loop-i.i all (omega (arith, c.loop-i-test.false, shards-long (shard_of c.args.hasher) all c.args.shards.now c.requires.shards)) in
     subst (λ ks. AreOrdered (shard_of c.args.hasher) all (distinct ks) SHARDS c.loop-i.order.items) whole c.loop-i.invariant.ordered

@@ -1,5 +1,5 @@
 use Rattle.std.proofs.Common.{◌≡◌, map, take, length, vec_items}
-use Rattle.key_numbers.specs.Keys.{distinct, lent}
+use Rattle.key_numbers.specs.Keys.{distinct, lent_lists}
 use Rattle.key_numbers.specs.Private.Sharded.{AreOrdered, ArePassed, shard_of}
 use Rattle.key_numbers.specs.declared.shards.TheConstants.{SHARDS}
 use Rattle.key_numbers.proofs.Walked.{IsWalked}
@@ -8,7 +8,7 @@ use Rattle.key_numbers.proofs.numbering.walk.Given as goal
 abbrev pub invariant-loop-i : goal.invariant-loop-i
 invariant-loop-i l = record {
   len : length l.ids.items ≡ SHARDS;
-  passed : ArePassed (shard_of l.fn.hasher) SHARDS (lent l.keys) l.i l.met;
-  walked : IsWalked (shard_of l.fn.hasher) (lent l.keys) (take l.i (lent l.keys)) (map vec_items l.ids.items) (length l.order.items);
-  ordered : AreOrdered (shard_of l.fn.hasher) (lent l.keys) (distinct (take l.i (lent l.keys))) SHARDS l.order.items;
+  passed : ArePassed (shard_of l.fn.hasher) SHARDS (lent_lists l.lists) l.i l.met;
+  walked : IsWalked (shard_of l.fn.hasher) (lent_lists l.lists) (take l.i (lent_lists l.lists)) (map vec_items l.ids.items) (length l.order.items);
+  ordered : AreOrdered (shard_of l.fn.hasher) (lent_lists l.lists) (distinct (take l.i (lent_lists l.lists))) SHARDS l.order.items;
 }

@@ -1,8 +1,8 @@
 use Rattle.std.proofs.Common.{◌∙◌, arith, ap, length, map, subst, sym, vec_items}
 use Rattle.std.specs.List.{sum}
 use Rattle.key_lists.proofs.Coded.{few-firsts}
-use Rattle.key_numbers.proofs.ShardRecords.{lent-long}
-use Rattle.partition_log.specs.Appends.{lent}
+use Rattle.key_lists.specs.Lists.{joined, keys_in}
+use Rattle.key_numbers.specs.Keys.{distinct, id_of, lent_lists}
 use Rattle.partition_log.specs.Logs.{PartitionLogs}
 use Rattle.partition_log.specs.Private.Filled.{ArePlaced}
 use Rattle.partition_log.specs.Private.Shares.{records_of}
@@ -13,36 +13,46 @@ use Rattle.partition_log.proofs.Logs.append_firsts.Goals as goal
 pub number_all-requires-after_bounds : goal.number_all-requires-after_bounds
 number_all-requires-after_bounds g c κs within =
     let few = few-firsts (map records_of c.args.coded.now) c.args.coded.now c.requires.coded in
-    let same = ap length c.requires.firsts in
-    omega (arith, few, same, lent-long c.args.firsts.now, c.requires.fits.few)
+    let lists = ap lent_lists c.deref.ensures.value ∙ c.in_ok-keys.ensures in
+    omega (arith, few, ap length lists, c.requires.fits.few)
 
 pub logs_of_lists-requires-clause-below : goal.logs_of_lists-requires-clause-below
 logs_of_lists-requires-clause-below g c κs within =
     let before : PartitionLogs = record { counts = c.self.inside.partitions; partitions = sum c.self.inside.partitions; keys = c.self.inside.keys; logs = map vec_items c.self.inside.logs.items } in
-    let placed = lists-placed c.args.self.now c.deref.result.now c.args.firsts.now c.in_ok-places.ensures.valid (c.deref.ensures.value ∙ c.in_ok-places.ensures.places) in
-    let goes = subst (λ (l : PartitionLogs). ArePlaced l c.deref.result.now (lent c.args.firsts.now)) (sym c.self.view_is) placed in
-    rw c.count-partitions.ensures.count (all-below before c.deref.result.now (lent c.args.firsts.now) c.self.invariant goes.as_many goes.goes)
+    let firsts = joined (map keys_in c.args.coded.now) in
+    let placed = lists-placed c.args.self.now c.deref-2.result.now firsts c.in_ok-places.ensures.valid (c.deref-2.ensures.value ∙ c.in_ok-places.ensures.places) in
+    let goes = subst (λ (l : PartitionLogs). ArePlaced l c.deref-2.result.now firsts) (sym c.self.view_is) placed in
+    rw c.count-partitions.ensures.count (all-below before c.deref-2.result.now firsts c.self.invariant goes.as_many goes.goes)
 
 pub invariant_of-self : goal.invariant_of-self
 invariant_of-self g c =
     let before : PartitionLogs = record { counts = c.self.inside.partitions; partitions = sum c.self.inside.partitions; keys = c.self.inside.keys; logs = map vec_items c.self.inside.logs.items } in
-    let made = by-lists c.args.self.now before c.args.coded.now c.args.firsts.now c.begin_with.new.self c.deref.result.now c.deref-2.result.now c.count-partitions.result (map vec_items c.in_ok-logs.logs.items) c.self.view_is c.self.invariant
-    c.requires.coded c.requires.firsts c.requires.fits c.count-partitions.ensures.count c.in_ok-places.ensures.valid (c.deref.ensures.value ∙ c.in_ok-places.ensures.places) (c.deref-2.ensures.value ∙ c.in_ok-shards.ensures.numbers)
-    (c.begin_with.ensures ∙ c.in_ok-shards.ensures.keys) c.in_ok-logs.ensures in
+    let lists = ap lent_lists c.deref.ensures.value ∙ c.in_ok-keys.ensures in
+    let keys = c.in_ok-shards.ensures.keys ∙ ap distinct lists in
+    let numbers = c.in_ok-shards.ensures.numbers ∙ ap (λ ks. map (id_of (distinct ks)) ks) lists in
+    let made = by-lists c.args.self.now before c.args.coded.now c.begin_with.new.self c.deref-2.result.now c.deref-3.result.now c.count-partitions.result (map vec_items c.in_ok-logs.logs.items) c.self.view_is c.self.invariant
+    c.requires.coded c.requires.fits c.count-partitions.ensures.count c.in_ok-places.ensures.valid (c.deref-2.ensures.value ∙ c.in_ok-places.ensures.places) (c.deref-3.ensures.value ∙ numbers)
+    (c.begin_with.ensures ∙ keys) c.in_ok-logs.ensures in
     made.1
 
 pub returns-clause-ok : goal.returns-clause-ok
 returns-clause-ok g c =
     let before : PartitionLogs = record { counts = c.self.inside.partitions; partitions = sum c.self.inside.partitions; keys = c.self.inside.keys; logs = map vec_items c.self.inside.logs.items } in
-    let made = by-lists c.args.self.now before c.args.coded.now c.args.firsts.now c.begin_with.new.self c.deref.result.now c.deref-2.result.now c.count-partitions.result (map vec_items c.in_ok-logs.logs.items) c.self.view_is c.self.invariant
-    c.requires.coded c.requires.firsts c.requires.fits c.count-partitions.ensures.count c.in_ok-places.ensures.valid (c.deref.ensures.value ∙ c.in_ok-places.ensures.places) (c.deref-2.ensures.value ∙ c.in_ok-shards.ensures.numbers)
-    (c.begin_with.ensures ∙ c.in_ok-shards.ensures.keys) c.in_ok-logs.ensures in
+    let lists = ap lent_lists c.deref.ensures.value ∙ c.in_ok-keys.ensures in
+    let keys = c.in_ok-shards.ensures.keys ∙ ap distinct lists in
+    let numbers = c.in_ok-shards.ensures.numbers ∙ ap (λ ks. map (id_of (distinct ks)) ks) lists in
+    let made = by-lists c.args.self.now before c.args.coded.now c.begin_with.new.self c.deref-2.result.now c.deref-3.result.now c.count-partitions.result (map vec_items c.in_ok-logs.logs.items) c.self.view_is c.self.invariant
+    c.requires.coded c.requires.fits c.count-partitions.ensures.count c.in_ok-places.ensures.valid (c.deref-2.ensures.value ∙ c.in_ok-places.ensures.places) (c.deref-3.ensures.value ∙ numbers)
+    (c.begin_with.ensures ∙ keys) c.in_ok-logs.ensures in
     made.0
 
 pub returns-clause-valid : goal.returns-clause-valid
 returns-clause-valid g c =
     let before : PartitionLogs = record { counts = c.self.inside.partitions; partitions = sum c.self.inside.partitions; keys = c.self.inside.keys; logs = map vec_items c.self.inside.logs.items } in
-    let made = by-lists c.args.self.now before c.args.coded.now c.args.firsts.now c.begin_with.new.self c.deref.result.now c.deref-2.result.now c.count-partitions.result (map vec_items c.in_ok-logs.logs.items) c.self.view_is c.self.invariant
-    c.requires.coded c.requires.firsts c.requires.fits c.count-partitions.ensures.count c.in_ok-places.ensures.valid (c.deref.ensures.value ∙ c.in_ok-places.ensures.places) (c.deref-2.ensures.value ∙ c.in_ok-shards.ensures.numbers)
-    (c.begin_with.ensures ∙ c.in_ok-shards.ensures.keys) c.in_ok-logs.ensures in
+    let lists = ap lent_lists c.deref.ensures.value ∙ c.in_ok-keys.ensures in
+    let keys = c.in_ok-shards.ensures.keys ∙ ap distinct lists in
+    let numbers = c.in_ok-shards.ensures.numbers ∙ ap (λ ks. map (id_of (distinct ks)) ks) lists in
+    let made = by-lists c.args.self.now before c.args.coded.now c.begin_with.new.self c.deref-2.result.now c.deref-3.result.now c.count-partitions.result (map vec_items c.in_ok-logs.logs.items) c.self.view_is c.self.invariant
+    c.requires.coded c.requires.fits c.count-partitions.ensures.count c.in_ok-places.ensures.valid (c.deref-2.ensures.value ∙ c.in_ok-places.ensures.places) (c.deref-3.ensures.value ∙ numbers)
+    (c.begin_with.ensures ∙ keys) c.in_ok-logs.ensures in
     made.1

@@ -1,5 +1,6 @@
-use Rattle.std.proofs.Common.{◌∙◌, map, subst, sym, vec_items}
+use Rattle.std.proofs.Common.{◌∙◌, ap, map, subst, sym, vec_items}
 use Rattle.std.specs.List.{sum}
+use Rattle.key_numbers.specs.Keys.{distinct, id_of, lent_lists}
 use Rattle.partition_log.specs.Appends.{lent}
 use Rattle.partition_log.specs.Logs.{PartitionLogs}
 use Rattle.partition_log.specs.Private.Filled.{ArePlaced}
@@ -15,20 +16,26 @@ filled_logs-requires-clause-places g c =
 pub invariant_of-self : goal.invariant_of-self
 invariant_of-self g c =
     let before : PartitionLogs = record { counts = c.self.inside.partitions; partitions = sum c.self.inside.partitions; keys = c.self.inside.keys; logs = map vec_items c.self.inside.logs.items } in
-    let numbered = c.deref.ensures.value ∙ c.in_ok-shards.ensures.numbers in
-    (side-by-side c.args.self.now before (lent c.args.keys.now) c.begin_with.new.self c.args.places.now c.deref.result.now c.count.result (map vec_items c.in_ok-logs.logs.items) c.self.view_is c.self.invariant c.requires.fits
-    c.count.ensures.count c.requires.places.as_many c.requires.places.goes numbered (c.begin_with.ensures ∙ c.in_ok-shards.ensures.keys) c.in_ok-logs.ensures).1
+    let lists = ap lent_lists c.deref.ensures.value ∙ c.in_ok-pieces.ensures in
+    let numbered = c.deref-2.ensures.value ∙ c.in_ok-shards.ensures.numbers ∙ ap (λ ks. map (id_of (distinct ks)) ks) lists in
+    let all = c.in_ok-shards.ensures.keys ∙ ap distinct lists in
+    (side-by-side c.args.self.now before (lent c.args.keys.now) c.begin_with.new.self c.args.places.now c.deref-2.result.now c.count.result (map vec_items c.in_ok-logs.logs.items) c.self.view_is c.self.invariant c.requires.fits
+    c.count.ensures.count c.requires.places.as_many c.requires.places.goes numbered (c.begin_with.ensures ∙ all) c.in_ok-logs.ensures).1
 
 pub returns-clause-ok : goal.returns-clause-ok
 returns-clause-ok g c =
     let before : PartitionLogs = record { counts = c.self.inside.partitions; partitions = sum c.self.inside.partitions; keys = c.self.inside.keys; logs = map vec_items c.self.inside.logs.items } in
-    let numbered = c.deref.ensures.value ∙ c.in_ok-shards.ensures.numbers in
-    (side-by-side c.args.self.now before (lent c.args.keys.now) c.begin_with.new.self c.args.places.now c.deref.result.now c.count.result (map vec_items c.in_ok-logs.logs.items) c.self.view_is c.self.invariant c.requires.fits
-    c.count.ensures.count c.requires.places.as_many c.requires.places.goes numbered (c.begin_with.ensures ∙ c.in_ok-shards.ensures.keys) c.in_ok-logs.ensures).0
+    let lists = ap lent_lists c.deref.ensures.value ∙ c.in_ok-pieces.ensures in
+    let numbered = c.deref-2.ensures.value ∙ c.in_ok-shards.ensures.numbers ∙ ap (λ ks. map (id_of (distinct ks)) ks) lists in
+    let all = c.in_ok-shards.ensures.keys ∙ ap distinct lists in
+    (side-by-side c.args.self.now before (lent c.args.keys.now) c.begin_with.new.self c.args.places.now c.deref-2.result.now c.count.result (map vec_items c.in_ok-logs.logs.items) c.self.view_is c.self.invariant c.requires.fits
+    c.count.ensures.count c.requires.places.as_many c.requires.places.goes numbered (c.begin_with.ensures ∙ all) c.in_ok-logs.ensures).0
 
 pub returns-clause-valid : goal.returns-clause-valid
 returns-clause-valid g c =
     let before : PartitionLogs = record { counts = c.self.inside.partitions; partitions = sum c.self.inside.partitions; keys = c.self.inside.keys; logs = map vec_items c.self.inside.logs.items } in
-    let numbered = c.deref.ensures.value ∙ c.in_ok-shards.ensures.numbers in
-    (side-by-side c.args.self.now before (lent c.args.keys.now) c.begin_with.new.self c.args.places.now c.deref.result.now c.count.result (map vec_items c.in_ok-logs.logs.items) c.self.view_is c.self.invariant c.requires.fits
-    c.count.ensures.count c.requires.places.as_many c.requires.places.goes numbered (c.begin_with.ensures ∙ c.in_ok-shards.ensures.keys) c.in_ok-logs.ensures).1
+    let lists = ap lent_lists c.deref.ensures.value ∙ c.in_ok-pieces.ensures in
+    let numbered = c.deref-2.ensures.value ∙ c.in_ok-shards.ensures.numbers ∙ ap (λ ks. map (id_of (distinct ks)) ks) lists in
+    let all = c.in_ok-shards.ensures.keys ∙ ap distinct lists in
+    (side-by-side c.args.self.now before (lent c.args.keys.now) c.begin_with.new.self c.args.places.now c.deref-2.result.now c.count.result (map vec_items c.in_ok-logs.logs.items) c.self.view_is c.self.invariant c.requires.fits
+    c.count.ensures.count c.requires.places.as_many c.requires.places.goes numbered (c.begin_with.ensures ∙ all) c.in_ok-logs.ensures).1

@@ -1,23 +1,22 @@
-use Rattle.std.proofs.Common.{◌≡◌, ◌∙◌, ◌≤◌, arith, rules, length, map, vec_items, vec_len}
+use Rattle.std.proofs.Common.{◌≡◌, ◌∙◌, ◌≤◌, rules, length, map, vec_items, vec_len}
 use Rattle.std.proofs.lemmas.List.{length-map}
 use Rattle.lane_words.specs.declared.limits.TheConstants.{MOST_RECORDS}
-use Rattle.key_numbers.specs.Keys.{lent}
+use Rattle.key_numbers.specs.Keys.{lent_lists}
 use Rattle.key_numbers.specs.Private.Sharded.{shard_of}
-use Rattle.key_numbers.proofs.ShardRecords.{lent-long}
 use Rattle.key_numbers.proofs.Whole.{whole-keys, whole-shards}
 use Rattle.key_numbers.proofs.shards.Shards.of.Goals as goal
 
 pub invariant_of-shards : goal.invariant_of-shards
 invariant_of-shards g c =
-    let keys = lent c.args.keys.now in
+    let keys = lent_lists c.args.lists.now in
     let numbered = c.in_ok-numbered.ensures in
     let ids = c.in_ok-numbered.numbered.ids.items in
     let counted : length ids ≡ vec_len c.in_ok-numbered.numbered.ids = search rules in
-    let few : length keys ≤ MOST_RECORDS = omega (arith, lent-long c.args.keys.now, c.requires) in
+    let few : length keys ≤ MOST_RECORDS = c.requires in
     whole-shards (shard_of c.args.hasher) keys c.in_ok-numbered.numbered.tables.items (map vec_items ids) c.in_ok-numbered.numbered.order.items few numbered.tables (length-map ids vec_items ∙ counted ∙ numbered.ids_each)
     numbered.ids numbered.order
 
 pub returns-clause-keys : goal.returns-clause-keys
 returns-clause-keys g c =
     let numbered = c.in_ok-numbered.ensures in
-    whole-keys (shard_of c.args.hasher) (lent c.args.keys.now) c.in_ok-numbered.numbered.tables.items c.in_ok-numbered.numbered.order.items numbered.tables numbered.order
+    whole-keys (shard_of c.args.hasher) (lent_lists c.args.lists.now) c.in_ok-numbered.numbered.tables.items c.in_ok-numbered.numbered.order.items numbered.tables numbered.order

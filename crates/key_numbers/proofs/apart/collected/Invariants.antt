@@ -1,6 +1,6 @@
 use Rattle.std.proofs.Common.{◌≡◌, ◌≤◌, Ok, drop, length, map, take}
 use Rattle.std.specs.Vec.Iter.{into_iter_items, into_iter_len}
-use Rattle.key_lists.proofs.coding.collected.Given as goal
+use Rattle.key_numbers.proofs.apart.collected.Given as goal
 
 abbrev pub invariant-loop-one : goal.invariant-loop-one
 invariant-loop-one g l = record {

@@ -1,8 +1,8 @@
 use Rattle.std.proofs.Common.{◌≡◌, ◌+◌, ◌∙◌, ◌∷◌, ◌++◌, [], Ok, arith, ap, drop, length, length-append, map, sym, take}
 use Rattle.std.specs.Vec.Iter.{into_iter_items}
 use Rattle.std.proofs.lemmas.List.{map-append, take_all, take_more}
-use Rattle.key_numbers.proofs.Collected.{drop_last, drop_next}
-use Rattle.key_lists.proofs.coding.collected.Goals as goal
+use Rattle.key_numbers.proofs.Gathered.{drop_last, drop_next}
+use Rattle.key_numbers.proofs.apart.collected.Goals as goal
 
 pub loop-one-preserved : goal.loop-one-preserved
 loop-one-preserved g c =
