@@ -12,7 +12,7 @@ use std::hash::RandomState;
 use std::thread;
 use std::thread::Threads;
 
-/// Into how many pieces keys of one list are cut.
+/// In how many pieces the keys of one list are dealt, and key numbers are read.
 pub const PIECES: usize = 8;
 
 /// The keys of a list, dealt to their shards.
