@@ -4,8 +4,8 @@ ghost use Rattle.std.specs.Prelude.{◌≡◌, IfOk};
 ghost use Rattle.script.specs.Topics.{AreTopics};
 
 use crate::slow::{Drip, Page};
-use crate::two_topics::a_and_b;
-use crate::{FILE, TOPIC_FILE, options, options_of_two};
+use crate::two_topics::{a_and_b, options_of_two};
+use crate::{FILE, TOPIC_FILE, options};
 use count_report::count_text;
 use devices::{FromRead, FromWrite};
 use itoa::Buffer;

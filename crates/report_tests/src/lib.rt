@@ -2,9 +2,8 @@
 //! their own, since a crate with tests is proved twice, once without them.
 #![tactic(auto)]
 
-ghost use Rattle.std.specs.Prelude.{◌≡◌, ◌≤◌, IfOk};
+ghost use Rattle.std.specs.Prelude.{◌≡◌, ◌≤◌};
 ghost use Rattle.count_report.specs.Reports.{AreInRange};
-ghost use Rattle.script.specs.Topics.{AreTopics};
 
 #[cfg(test)]
 mod cluster_rows;
@@ -28,8 +27,7 @@ mod two_topics;
 mod words;
 
 use command_line::Options;
-use lane_words::{MOST_PARTITIONS, Memory};
-use script::Topic;
+use lane_words::MOST_PARTITIONS;
 use std::alloc::Global;
 
 /// Five records of four keys.
@@ -52,14 +50,4 @@ pub fn options(alloc: Global, partitions: u32) -> Options
         topics: Vec::new(alloc),
         topic_column: 2,
     }
-}
-
-/// The options of a file of these topics.
-pub fn options_of_two(alloc: Global, topics: [Topic; 2]) -> Result<Options, Memory>
-    requires { AreTopics topics }
-    ensures { IfOk result AreInRange }
-{
-    let mut options = options(alloc, 1);
-    options.topics = Vec::from_array(alloc, topics)?;
-    Ok(options)
 }

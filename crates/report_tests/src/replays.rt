@@ -2,8 +2,8 @@
 
 ghost use Rattle.script.specs.Topics.{AreTopics};
 
-use crate::two_topics::a_and_b;
-use crate::{FILE, TOPIC_FILE, options, options_of_two};
+use crate::two_topics::{a_and_b, options_of_two};
+use crate::{FILE, TOPIC_FILE, options};
 use devices::{FromRead, FromWrite};
 use lane_words::{Memory, Refusal};
 use replay_report::replay_text;

@@ -4,8 +4,8 @@ ghost use Rattle.std.specs.Prelude.{◌≡◌, ◌≤◌, ◌<◌};
 ghost use Rattle.script.specs.Topics.{AreTopics};
 ghost use Rattle.command_line.specs.declared.options.TheConstants.{MOST_BATCH};
 
-use crate::two_topics::a_and_b;
-use crate::{FILE, TOPIC_FILE, options_of_two};
+use crate::two_topics::{a_and_b, options_of_two};
+use crate::{FILE, TOPIC_FILE};
 use command_line::Options;
 use devices::{FromRead, FromWrite};
 use lane_words::{Memory, Refusal};

@@ -1,10 +1,15 @@
-//! The two topics of these tests.
+//! The two topics of these tests, and options with them.
 
-ghost use Rattle.std.specs.Prelude.{◌≡◌};
+ghost use Rattle.std.specs.Prelude.{◌≡◌, IfOk};
+ghost use Rattle.count_report.specs.Reports.{AreInRange};
 ghost use Rattle.script.specs.Topics.{AreTopics};
 
+use crate::options;
+use command_line::Options;
 use group_machine::Name;
+use lane_words::Memory;
 use script::Topic;
+use std::alloc::Global;
 use std::process::Abort;
 
 /// A topic of this name, which is one, and of this many partitions.
@@ -20,4 +25,14 @@ pub fn a_and_b(rt: &impl Abort) -> [Topic; 2]
     ensures { AreTopics result }
 {
     [topic(rt, b"a", 2), topic(rt, b"b", 3)]
+}
+
+/// The options of a file of these topics.
+pub fn options_of_two(alloc: Global, topics: [Topic; 2]) -> Result<Options, Memory>
+    requires { AreTopics topics }
+    ensures { IfOk result AreInRange }
+{
+    let mut options = options(alloc, 1);
+    options.topics = Vec::from_array(alloc, topics)?;
+    Ok(options)
 }
