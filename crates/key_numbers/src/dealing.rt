@@ -63,12 +63,7 @@ fn deal_apart<'a, R: Threads + Sync>(
         → IfOk (slice_index_or found.items i d)
         (IsDealt (shard_of hasher) (lent (slice_index_or lists.now i e).now))) }
 {
-    let found = thread::map_indices(
-        rt,
-        alloc,
-        lists.len(),
-        &|i| deal(alloc, hasher, lists[i]),
-    )?;
+    let found = thread::map_indices(rt, alloc, lists.len(), &|i| deal(alloc, hasher, lists[i]))?;
     Ok(found)
 }
 

@@ -182,10 +182,7 @@ fn are_all_short(coded: &[CodedPart<'_>]) -> bool
 }
 
 /// The keys of each coded list.
-fn keys_of<'a, 'k>(
-    alloc: Global,
-    coded: &'a [CodedPart<'k>],
-) -> Result<Vec<&'a [&'k [u8]]>, Memory>
+fn keys_of<'a, 'k>(alloc: Global, coded: &'a [CodedPart<'k>]) -> Result<Vec<&'a [&'k [u8]]>, Memory>
     ensures { IfOk result (λ keys. lent_lists keys.items ≡ joined (map keys_in coded.now)) }
 {
     let mut keys = Vec::with_capacity(alloc, coded.len())?;
