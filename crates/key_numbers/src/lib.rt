@@ -6,8 +6,6 @@ mod dealing;
 mod key_table;
 mod keys;
 mod numbering;
-#[cfg(test)]
-mod plain_keys;
 mod shards;
 mod stored_key;
 
@@ -17,6 +15,3 @@ pub use key_table::KeyTable;
 pub use keys::KeyIds;
 pub use shards::Shards;
 pub use stored_key::LONGEST_INLINE;
-
-#[cfg(test)]
-mod tests;

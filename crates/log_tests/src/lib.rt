@@ -7,9 +7,13 @@ ghost use Rattle.std.specs.Prelude.{◌≡◌, ◌+◌, ◌≤◌, length, slice
 #[cfg(test)]
 mod appends;
 #[cfg(test)]
+mod keys;
+#[cfg(test)]
 mod lists;
 #[cfg(test)]
 mod logs;
+#[cfg(test)]
+mod plain_keys;
 #[cfg(test)]
 mod topics;
 

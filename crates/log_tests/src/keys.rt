@@ -1,7 +1,7 @@
 //! Keys beside their plain form.
 
-use crate::KeyIds;
 use crate::plain_keys::PlainKeys;
+use key_numbers::KeyIds;
 use lane_words::Memory;
 use std::alloc::Global;
 use std::test::Fail;

@@ -1,4 +1,4 @@
-//! The keys of all logs in the plainest form, a vector a key: what `keys` is compared with.
+//! The keys of all logs in the plainest form, a vector a key: what `KeyIds` of `key_numbers` is compared with.
 
 ghost use Rattle.std.specs.Prelude.{◌≡◌, ◌<◌, ◌≤◌, [], IfOk, IfSome, IfNone, OnOk, OnErr, MatchOption, length, true, false};
 ghost use Rattle.key_numbers.specs.Keys.{IsIdOf, id_of, is_known, key_at, with_key};

@@ -4,7 +4,7 @@ use Rattle.std.specs.Str.{bytes_eq}
 use Rattle.std.proofs.lemmas.List.{length-map}
 use Rattle.key_numbers.specs.Keys.{is_known, id_of}
 use Rattle.key_numbers.proofs.Numbers.{list_any-map, position-is, position_or_len-map}
-use Rattle.key_numbers.proofs.plain_keys.PlainKeys.find.Goals as goal
+use Rattle.log_tests.proofs.plain_keys.PlainKeys.find.Goals as goal
 
 pub returns-in_default-clause-fresh : goal.returns-in_default-clause-fresh
 returns-in_default-clause-fresh c =

@@ -4,7 +4,7 @@ use Rattle.std.specs.List.{list_any}
 use Rattle.std.specs.Str.{bytes_eq}
 use Rattle.key_numbers.specs.Keys.{id_of, with_key}
 use Rattle.key_numbers.proofs.Numbers.{added-map, list_any-map, position_or_len-map}
-use Rattle.key_numbers.proofs.plain_keys.PlainKeys.add.Goals as goal
+use Rattle.log_tests.proofs.plain_keys.PlainKeys.add.Goals as goal
 
 pub returns-clause-ok : goal.returns-clause-ok
 returns-clause-ok c =
