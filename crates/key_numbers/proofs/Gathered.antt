@@ -1,10 +1,12 @@
 -- Tables and numbers that are collected shard by shard.
-use Rattle.std.proofs.Common.{◌≡◌, ◌∙◌, ◌+◌, ◌<◌, ◌≤◌, ℕ, zero, suc, List, [], ◌∷◌, ◌++◌, length, map, drop, get_or, sym, ap, refl, arith, inl, inr, length-append}
+use Rattle.std.proofs.Common.{◌≡◌, ◌∙◌, ◌+◌, ◌-◌, ◌*◌, ◌<◌, ◌≤◌, Global, Vec, Ok, ℕ, zero, suc, List, [], ◌∷◌, ◌++◌, length, map, drop, get_or, sym, ap, flat_map, refl, subst, vec_items, arith, inl, inr, length-append}
+use Rattle.std.specs.Prelude.{IfOk, Result}
 use Rattle.std.proofs.lemmas.Bool.{cases_lt}
-use Rattle.std.proofs.lemmas.List.{get_or_append_left}
+use Rattle.std.proofs.lemmas.List.{get_or-map, get_or_append_left, get_or-append_right, length-map}
 use Rattle.std.proofs.Math.Seq.{get_or-append_seam}
 use Rattle.key_numbers.specs.Keys.{Key, distinct, id_of}
-use Rattle.key_numbers.specs.Private.Sharded.{AreLocals, AreTables, of_shard}
+use Rattle.key_numbers.specs.Private.Sharded.{AreLocals, AreNumberedFrom, AreNumberedIn, AreTables, of_shard}
+use Rattle.key_numbers.specs.declared.numbering.NumberedShard.{NumberedShard}
 
 -- the next one
 pub drop_next : {X : Type 0} (xs rest : List X) (n : ℕ) (x : X) → drop n xs ≡ x ∷ rest → (n < length xs) × (get_or xs n x ≡ x) × (rest ≡ drop (n + 1) xs)
@@ -57,3 +59,44 @@ locals-more shard keys locals n m more up h is =
             ∙ ap (λ i. map (id_of (distinct (of_shard shard i keys))) (of_shard shard i keys)) (sym h.each ∙ sym last)
       ];
     }
+
+-- numbered shards behind others
+numbered-joined : {E : Type 0} (shard : Key → ℕ) (keys : List Key) (from m n : ℕ) (front back : List (Result NumberedShard E)) → length front ≡ m → AreNumberedFrom shard keys from m front
+    → AreNumberedFrom shard keys (from + m) n back → AreNumberedFrom shard keys from (m + n) (front ++ back)
+numbered-joined {E} shard keys from m n front back long a b = λ k d lt.
+    let IsShard : ℕ → Result NumberedShard E → Type 0 = λ s one. IfOk one (λ x. AreNumberedIn shard s keys x.table x.locals.items) in
+    elim (cases_lt k m) [
+      | inl low ↦ subst (IsShard (from + k)) (sym (get_or_append_left front back d k (omega (arith, low, long)))) (a k d low)
+      | inr high ↦
+          let at : (from + m) + (k - m) ≡ from + k = omega (arith, high) in
+          subst (IsShard (from + k)) (sym (get_or-append_right front back m k d long high)) (subst (λ s. IsShard s (get_or back (k - m) d)) at (b (k - m) d (omega (arith, high, lt))))
+    ]
+
+-- groups of eight numbered shards, one group after another
+pub groups-numbered : {E : Type 0} (shard : Key → ℕ) (keys : List Key) (from : ℕ) (groups : List (Vec (Result NumberedShard E) Global))
+    → ((g : ℕ) (d : Vec (Result NumberedShard E) Global) → g < length groups → (length (get_or groups g d).items ≡ 8) × AreNumberedFrom shard keys (from + g * 8) 8 (get_or groups g d).items)
+    → (length (flat_map vec_items groups) ≡ length groups * 8) × AreNumberedFrom shard keys from (length groups * 8) (flat_map vec_items groups)
+groups-numbered shard keys from [] h = (refl, λ k d lt. absurd (omega (arith, lt)))
+groups-numbered {E} shard keys from (x ∷ xs) h =
+    let first = h 0 x (omega arith) in
+    let here : from + 0 * 8 ≡ from = omega arith in
+    let rest = groups-numbered shard keys (from + 8) xs (λ g d lt.
+    let at : from + suc g * 8 ≡ from + 8 + g * 8 = omega arith in
+    let one = h (suc g) d (omega (arith, lt)) in (one.0, subst (λ s. AreNumberedFrom shard keys s 8 (get_or xs g d).items) at one.1)) in
+    let own = subst (λ s. AreNumberedFrom shard keys s 8 x.items) here first.1 in
+    let many : 8 + length xs * 8 ≡ suc (length xs) * 8 = omega arith in (
+      omega (arith, length-append x.items (flat_map vec_items xs), first.0, rest.0, many),
+      subst (λ n. AreNumberedFrom shard keys from n (x.items ++ flat_map vec_items xs)) many (numbered-joined shard keys from 8 (length xs * 8) x.items (flat_map vec_items xs) first.0 own rest.1),
+    )
+
+-- eight groups of which none was refused
+pub all-groups : {E F : Type 0} (shard : Key → ℕ) (keys : List Key) (found : List (Result (Vec (Result NumberedShard E) Global) F)) (groups : List (Vec (Result NumberedShard E) Global)) → found ≡ map Ok groups → length found ≡ 8
+    → ((g : ℕ) (d : Result (Vec (Result NumberedShard E) Global) F) → g < 8 → IfOk (get_or found g d) (λ group. (length group.items ≡ 8) × AreNumberedFrom shard keys (g * 8) 8 group.items))
+    → (length (flat_map vec_items groups) ≡ 64) × AreNumberedFrom shard keys 0 64 (flat_map vec_items groups)
+all-groups {E} {F} shard keys found groups is long h =
+    let eight : length groups ≡ 8 = sym (length-map {B = Result (Vec (Result NumberedShard E) Global) F} groups Ok) ∙ ap length (sym is) ∙ long in
+    let whole = groups-numbered shard keys 0 groups (λ g d lt.
+    let own = subst (λ r. IfOk r (λ group. (length group.items ≡ 8) × AreNumberedFrom shard keys (g * 8) 8 group.items)) (ap (λ xs. get_or xs g (Ok d)) is ∙ get_or-map Ok groups g d (Ok d) lt) (h g (Ok d) (omega (arith, lt, eight))) in
+    let at : g * 8 ≡ 0 + g * 8 = omega arith in (own.0, subst (λ s. AreNumberedFrom shard keys s 8 (get_or groups g d).items) at own.1)) in
+    let many : length groups * 8 ≡ 64 = omega (arith, eight) in
+    (whole.0 ∙ many, subst (λ n. AreNumberedFrom shard keys 0 n (flat_map vec_items groups)) many whole.1)

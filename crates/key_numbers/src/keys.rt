@@ -70,18 +70,24 @@ impl KeyIds {
     /// The keys of these lists without repeats, in the order of their first appearance, and the key
     /// number of each as they stand there. Refused for want of memory, of which it takes enough for
     /// `room` different keys at once.
-    pub fn number_all<R: Threads + Sync>(
+    ///
+    /// While one thread puts the keys in order, the others can do something else: what that gives is
+    /// the third part of the answer.
+    pub fn number_all<R: Threads + Sync, T: Send + Drop, F: FnOnce() -> T + Send + Drop>(
         &self,
         rt: &R,
         lists: &[&[&[u8]]],
         room: usize,
-    ) -> Result<(Shards, Vec<u32>), Memory>
-        requires { length (lent_lists lists.now) ≤ MOST_RECORDS }
+        beside: F,
+    ) -> Result<(Shards, Vec<u32>, T), Memory>
+        requires few { length (lent_lists lists.now) ≤ MOST_RECORDS }
+        requires beside { F.pre beside }
         ensures keys { IfOk result (λ r. r.0 ≡ distinct (lent_lists lists.now)) }
         ensures numbers { IfOk result (λ r. r.1.items
             ≡ map (id_of (distinct (lent_lists lists.now))) (lent_lists lists.now)) }
+        ensures beside { IfOk result (λ r. F.post beside r.2) }
     {
-        Shards::of(rt, self.alloc, self.hasher, lists, room)
+        Shards::of(rt, self.alloc, self.hasher, lists, room, beside)
     }
 
     /// Begins with these keys, where there is none.
@@ -91,6 +97,12 @@ impl KeyIds {
         ensures { self.new ≡ shards }
     {
         self.shards = shards;
+    }
+
+    /// Gives the memory of the keys back, for many keys on several threads.
+    pub fn let_go<R: Threads + Sync>(self, rt: &R) {
+        let KeyIds { shards, .. } = self;
+        shards.let_go(rt);
     }
 
     /// Whether other keys are the same by the same numbers.

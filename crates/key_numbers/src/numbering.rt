@@ -1,9 +1,10 @@
 //! Keys that are numbered shard by shard, side by side.
 
-ghost use Rattle.std.specs.Prelude.{◌≡◌, ◌≤◌, ◌<◌, ◌+◌, ◌++◌, ℕ, [], List, IfOk, OnOk, length, map, replicate, slice_index_or, slice_set, vec_items, vec_len};
+ghost use Rattle.std.specs.Prelude.{◌≡◌, ◌≤◌, ◌<◌, ◌+◌, ◌*◌, ◌++◌, ℕ, [], List, IfOk, OnOk, flat_map, length, map, replicate, slice_index_or, slice_set, vec_items, vec_len};
 ghost use Rattle.key_numbers.specs.Keys.{Key, distinct, id_of, lent, lent_lists};
-ghost use Rattle.key_numbers.specs.Private.Sharded.{AreDealt, AreFrom, AreGlobal, AreLocals, AreNumberedIn, AreOrdered, ArePassed, AreReadable, AreTables, is_first, shard_of, with_first, with_first_at, with_keys};
+ghost use Rattle.key_numbers.specs.Private.Sharded.{AreDealt, AreFrom, AreGlobal, AreLocals, AreNumberedFrom, AreNumberedIn, AreOrdered, ArePassed, AreReadable, AreTables, is_first, shard_of, with_first, with_first_at, with_keys};
 
+use crate::apart::collected;
 use crate::dealing::{Dealt, PIECES, all_shards, deal_lists};
 use crate::key_table::KeyTable;
 use crate::shards::{KeyAt, SHARDS};
@@ -12,6 +13,13 @@ use std::alloc::Global;
 use std::hash::RandomState;
 use std::thread;
 use std::thread::Threads;
+
+/// How many shards one thread numbers, one after the other: were all of them begun at once, their
+/// tables would be in one another's way in the caches.
+const OF_GROUP: u8 = 8;
+
+/// In how many groups the shards are numbered side by side.
+const GROUPS: usize = 8;
 
 /// Keys that are numbered.
 #[derive(Drop)]
@@ -28,36 +36,44 @@ pub struct NumberedKeys {
 
 /// Numbers keys in the order of their first appearance. There is room for so many different ones at
 /// first.
-pub fn number_keys<R: Threads + Sync>(
+pub fn number_keys<R: Threads + Sync, T: Send + Drop, F: FnOnce() -> T + Send + Drop>(
     rt: &R,
     alloc: Global,
     hasher: RandomState,
     lists: &[&[&[u8]]],
     room: usize,
-) -> Result<NumberedKeys, Memory>
-    requires { length (lent_lists lists.now) ≤ MOST_RECORDS }
-    ensures tables { IfOk result (λ n.
-        AreTables (shard_of hasher) SHARDS (lent_lists lists.now) n.tables.items) }
-    ensures ids_each { IfOk result (λ n. vec_len n.ids ≡ SHARDS) }
-    ensures ids { IfOk result (λ n.
-        AreGlobal (shard_of hasher) (lent_lists lists.now) (map vec_items n.ids.items)) }
-    ensures order { IfOk result (λ n. AreOrdered (shard_of hasher) (lent_lists lists.now)
-        (distinct (lent_lists lists.now)) SHARDS n.order.items) }
-    ensures numbers { IfOk result (λ n. n.numbers.items
+    beside: F,
+) -> Result<(NumberedKeys, T), Memory>
+    requires few { length (lent_lists lists.now) ≤ MOST_RECORDS }
+    requires beside { F.pre beside }
+    ensures tables { IfOk result (λ r.
+        AreTables (shard_of hasher) SHARDS (lent_lists lists.now) r.0.tables.items) }
+    ensures ids_each { IfOk result (λ r. vec_len r.0.ids ≡ SHARDS) }
+    ensures ids { IfOk result (λ r.
+        AreGlobal (shard_of hasher) (lent_lists lists.now) (map vec_items r.0.ids.items)) }
+    ensures order { IfOk result (λ r. AreOrdered (shard_of hasher) (lent_lists lists.now)
+        (distinct (lent_lists lists.now)) SHARDS r.0.order.items) }
+    ensures numbers { IfOk result (λ r. r.0.numbers.items
         ≡ map (id_of (distinct (lent_lists lists.now))) (lent_lists lists.now)) }
+    ensures beside { IfOk result (λ r. F.post beside r.1) }
 {
     let dealt = deal_lists(rt, alloc, hasher, lists)?;
     let shards = all_shards(alloc, hasher, lists, &dealt)?;
     let found = number_shards(rt, alloc, hasher, lists, &dealt, room)?;
     let (tables, locals) = tables_of(alloc, hasher, lists, found)?;
-    let (ids, order) = walk(alloc, hasher, lists, &shards, &tables, &locals)?;
-    let numbers = key_numbers(rt, alloc, hasher, lists, &shards, &locals, &ids)?;
-    Ok(NumberedKeys {
+    let (walked, zeros, other) = walk_beside(
+        rt, alloc, hasher, lists, dealt, &shards, &tables, &locals, beside,
+    );
+    let (ids, order) = walked?;
+    let mut numbers = zeros?;
+    read_pieces(rt, hasher, lists, &shards, &locals, &ids, &mut numbers);
+    let numbered = NumberedKeys {
         tables,
         ids,
         order,
         numbers,
-    })
+    };
+    Ok((numbered, other))
 }
 
 /// A shard, numbered.
@@ -107,7 +123,73 @@ fn number_shard(
     Ok(NumberedShard { table, locals })
 }
 
-/// Numbers the records of each shard, each in a thread of its own.
+/// Numbers the records of the shards of one group, one after the other.
+fn number_group(
+    alloc: Global,
+    hasher: RandomState,
+    lists: &[&[&[u8]]],
+    dealt: &[Dealt<'_>],
+    group: usize,
+    room: usize,
+) -> Result<Vec<Result<NumberedShard, Memory>>, Memory>
+    requires few { length (lent_lists lists.now) ≤ MOST_RECORDS }
+    requires group { group < GROUPS }
+    requires dealt { AreDealt (shard_of hasher) lists.now dealt.now }
+    ensures len { IfOk result (λ found. length found.items ≡ OF_GROUP) }
+    ensures found { IfOk result (λ found.
+        AreNumberedFrom (shard_of hasher) (lent_lists lists.now) (group * OF_GROUP) OF_GROUP
+        found.items) }
+{
+    let from = group as u8 * OF_GROUP;
+    let mut found = Vec::with_capacity(alloc, OF_GROUP as usize)?;
+    for s in from..from + OF_GROUP {
+        found.push(number_shard(alloc, hasher, lists, dealt, s, room))?;
+    }
+    Ok(found)
+}
+
+/// Numbers the records of each group of shards, each in a thread of its own.
+fn number_groups<R: Threads + Sync>(
+    rt: &R,
+    alloc: Global,
+    hasher: RandomState,
+    lists: &[&[&[u8]]],
+    dealt: &[Dealt<'_>],
+    room: usize,
+) -> Result<Vec<Result<Vec<Result<NumberedShard, Memory>>, Memory>>, Memory>
+    requires few { length (lent_lists lists.now) ≤ MOST_RECORDS }
+    requires dealt { AreDealt (shard_of hasher) lists.now dealt.now }
+    ensures len { IfOk result (λ groups. vec_len groups ≡ GROUPS) }
+    ensures found { IfOk result (λ groups. (g : ℕ) (d : _) → g < GROUPS
+        → IfOk (slice_index_or groups.items g d) (λ found. (length found.items ≡ OF_GROUP)
+        × AreNumberedFrom (shard_of hasher) (lent_lists lists.now) (g * OF_GROUP) OF_GROUP
+        found.items)) }
+{
+    let groups = thread::map_indices(
+        rt,
+        alloc,
+        GROUPS,
+        &|g| number_group(alloc, hasher, lists, dealt, g, room),
+    )?;
+    Ok(groups)
+}
+
+/// The shards of some groups, one group after another.
+fn in_row(
+    alloc: Global,
+    groups: Vec<Vec<Result<NumberedShard, Memory>>>,
+) -> Result<Vec<Result<NumberedShard, Memory>>, Memory>
+    ensures { IfOk result (λ all. all.items ≡ flat_map vec_items groups.items) }
+{
+    let mut all = Vec::with_capacity(alloc, SHARDS as usize)?;
+    for group in groups {
+        let mut group = group;
+        all.append(&mut group)?;
+    }
+    Ok(all)
+}
+
+/// Numbers the records of each shard, some shards in each of some threads.
 fn number_shards<R: Threads + Sync>(
     rt: &R,
     alloc: Global,
@@ -125,13 +207,8 @@ fn number_shards<R: Threads + Sync>(
 {
     // Some more than each would have, were all shards of one size.
     let each = room / (SHARDS as usize - 1);
-    let numbered = thread::map_indices(
-        rt,
-        alloc,
-        SHARDS as usize,
-        &|s| number_shard(alloc, hasher, lists, dealt, s as u8, each),
-    )?;
-    Ok(numbered)
+    let groups = number_groups(rt, alloc, hasher, lists, dealt, each)?;
+    in_row(alloc, collected(alloc, groups)?)
 }
 
 /// The keys of each shard, and the numbers in it of its records.
@@ -227,6 +304,67 @@ fn walk(
     Ok((ids, order))
 }
 
+/// What `walk` gives, while another thread lets the dealt keys go, makes a zero for each record, and
+/// does what else is to be done beside.
+fn walk_beside<R: Threads + Sync, T: Send, F: FnOnce() -> T + Send>(
+    rt: &R,
+    alloc: Global,
+    hasher: RandomState,
+    lists: &[&[&[u8]]],
+    dealt: Vec<Dealt<'_>>,
+    shards: &[u8],
+    tables: &[KeyTable],
+    locals: &[Vec<u32>],
+    beside: F,
+) -> (
+    Result<(Vec<Vec<u32>>, Vec<KeyAt>), Memory>,
+    Result<Vec<u32>, Memory>,
+    T,
+)
+    requires few { length (lent_lists lists.now) ≤ MOST_RECORDS }
+    requires shards { shards.now ≡ map (shard_of hasher) (lent_lists lists.now) }
+    requires tables { length tables.now ≡ SHARDS }
+    requires locals { AreLocals (shard_of hasher) SHARDS (lent_lists lists.now) (map vec_items locals.now) }
+    requires beside { F.pre beside }
+    ensures len { IfOk result.0 (λ w. vec_len w.0 ≡ SHARDS) }
+    ensures ids { IfOk result.0 (λ w.
+        AreGlobal (shard_of hasher) (lent_lists lists.now) (map vec_items w.0.items)) }
+    ensures order { IfOk result.0 (λ w. AreOrdered (shard_of hasher) (lent_lists lists.now)
+        (distinct (lent_lists lists.now)) SHARDS w.1.items) }
+    ensures zeros { IfOk result.1 (λ zeros. length zeros.items ≡ length (lent_lists lists.now)) }
+    ensures beside { F.post beside result.2 }
+{
+    let records = shards.len();
+    let ((zeros, other), walked) = thread::join(
+        rt,
+        move || -> (Result<Vec<u32>, Memory>, T)
+            requires { F.pre beside }
+            ensures { IfOk result.0 (λ zeros. length zeros.items ≡ records)
+                × F.post beside result.1 }
+        { (zeros_after(alloc, dealt, records), beside()) },
+        || -> Result<(Vec<Vec<u32>>, Vec<KeyAt>), Memory>
+            requires { (length (lent_lists lists.now) ≤ MOST_RECORDS)
+                × (shards.now ≡ map (shard_of hasher) (lent_lists lists.now))
+                × (length tables.now ≡ SHARDS)
+                × AreLocals (shard_of hasher) SHARDS (lent_lists lists.now) (map vec_items locals.now) }
+            ensures { IfOk result (λ w. (vec_len w.0 ≡ SHARDS)
+                × AreGlobal (shard_of hasher) (lent_lists lists.entry.now) (map vec_items w.0.items)
+                × AreOrdered (shard_of hasher) (lent_lists lists.entry.now)
+                (distinct (lent_lists lists.entry.now)) SHARDS w.1.items) }
+        { walk(alloc, hasher, lists, shards, tables, locals) },
+    );
+    (walked, zeros, other)
+}
+
+/// A zero for each of so many records, once the dealt keys are let go.
+fn zeros_after(alloc: Global, dealt: Vec<Dealt<'_>>, records: usize) -> Result<Vec<u32>, Memory>
+    ensures { IfOk result (λ zeros. length zeros.items ≡ records) }
+{
+    drop(dealt);
+    let zeros = vec![in alloc; 0; records]?;
+    Ok(zeros)
+}
+
 /// No key numbers, of each shard, with room for those of its keys.
 fn no_ids(alloc: Global, tables: &[KeyTable]) -> Result<Vec<Vec<u32>>, Memory>
     requires { length tables.now ≡ SHARDS }
@@ -246,26 +384,6 @@ fn keys_of(tables: &[KeyTable]) -> usize {
         keys = keys.saturating_add(tables[s].count() as usize);
     }
     keys
-}
-
-/// The key number of each record.
-fn key_numbers<R: Threads + Sync>(
-    rt: &R,
-    alloc: Global,
-    hasher: RandomState,
-    lists: &[&[&[u8]]],
-    shards: &[u8],
-    locals: &[Vec<u32>],
-    ids: &[Vec<u32>],
-) -> Result<Vec<u32>, Memory>
-    requires { AreReadable (shard_of hasher) (lent_lists lists.now) shards.now
-        (map vec_items locals.now) (map vec_items ids.now) }
-    ensures { IfOk result (λ numbers. numbers.items
-        ≡ map (id_of (distinct (lent_lists lists.now))) (lent_lists lists.now)) }
-{
-    let mut numbers = vec![in alloc; 0; shards.len()]?;
-    read_pieces(rt, hasher, lists, shards, locals, ids, &mut numbers);
-    Ok(numbers)
 }
 
 /// The key numbers of the records, by pieces side by side.

@@ -11,10 +11,12 @@ use lane_words::{MOST_RECORDS, Memory};
 use std::alloc::Global;
 use std::hash::{BuildHasher, Hasher, RandomState};
 use std::marker::Model;
+use std::thread;
 use std::thread::Threads;
 
-/// How many shards there are.
-pub const SHARDS: u8 = 8;
+/// How many shards there are: so many that the table of one lies in a near cache where different keys
+/// are a few million.
+pub const SHARDS: u8 = 64;
 
 /// The shard of a key, from its keyed hash: who chooses the keys can't choose their shards.
 ///
@@ -82,27 +84,38 @@ impl Shards {
     /// number of each as they stand there. Refused for want of memory.
     ///
     /// The keys of each shard are numbered in a thread of its own; where one can't be started, they
-    /// are numbered without it. There is room for so many different keys at first.
-    pub(crate) fn of<R: Threads + Sync>(
+    /// are numbered without it. There is room for so many different keys at first. While one thread
+    /// puts the keys in order, another does what else is to be done.
+    pub(crate) fn of<R: Threads + Sync, T: Send + Drop, F: FnOnce() -> T + Send + Drop>(
         rt: &R,
         alloc: Global,
         hasher: RandomState,
         lists: &[&[&[u8]]],
         room: usize,
-    ) -> Result<(Shards, Vec<u32>), Memory>
-        requires { length (lent_lists lists.now) ≤ MOST_RECORDS }
+        beside: F,
+    ) -> Result<(Shards, Vec<u32>, T), Memory>
+        requires few { length (lent_lists lists.now) ≤ MOST_RECORDS }
+        requires beside { F.pre beside }
         ensures keys { IfOk result (λ r. r.0 ≡ distinct (lent_lists lists.now)) }
         ensures numbers { IfOk result (λ r. r.1.items
             ≡ map (id_of (distinct (lent_lists lists.now))) (lent_lists lists.now)) }
+        ensures beside { IfOk result (λ r. F.post beside r.2) }
     {
-        let numbered = number_keys(rt, alloc, hasher, lists, room)?;
+        let (numbered, other) = number_keys(rt, alloc, hasher, lists, room, beside)?;
         let shards = Shards {
             hasher,
             tables: numbered.tables,
             ids: numbered.ids,
             order: numbered.order,
         };
-        Ok((shards, numbered.numbers))
+        Ok((shards, numbered.numbers, other))
+    }
+
+    /// Gives the memory of the keys back, shard by shard side by side.
+    pub(crate) fn let_go<R: Threads + Sync>(self, rt: &R) {
+        let Shards { tables, .. } = self;
+        // Where memory is refused, what is left goes with the list.
+        let _ = thread::map_vec(rt, tables, &|table: KeyTable| drop(table));
     }
 
     /// How many keys there are.

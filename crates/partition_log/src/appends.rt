@@ -150,7 +150,7 @@ impl Logs {
     {
         let alloc = *self.logs.allocator();
         let pieces = pieces_of(alloc, keys)?;
-        let (shards, ids) = self.keys.number_all(rt, &pieces, 0)?;
+        let (shards, ids, ()) = self.keys.number_all(rt, &pieces, 0, || ())?;
         let logs = filled_logs(alloc, self.partitions.count() as usize, places, &ids)?;
         self.keys.begin_with(shards);
         self.logs = logs;

@@ -1,9 +1,10 @@
 //! Appends of the keys of lists at once.
 
 ghost use Rattle.std.specs.Prelude.{◌≡◌, ◌<◌, ◌≤◌, true, false, IfErr, IfOk, IsTrue, OnErr, OnOk, length, map};
+ghost use Rattle.std.specs.Thread.{IsSync};
 ghost use Rattle.key_lists.specs.Lists.{AreCoded, joined, keys_in};
 ghost use Rattle.partition_log.specs.Appends.{AreAppended, AreStoppedAfter, GrowByRecords, in_first, lent, placed};
-ghost use Rattle.key_numbers.specs.Keys.{lent_lists};
+ghost use Rattle.key_numbers.specs.Keys.{distinct, id_of, lent_lists};
 ghost use Rattle.partition_log.specs.Keys.{of_first};
 ghost use Rattle.partition_log.specs.Logs.{IsValidLogs, place_in};
 ghost use Rattle.partition_log.specs.Private.Filled.{AreShort, CanGoSideBySide};
@@ -13,6 +14,7 @@ use crate::Logs;
 use crate::appends::{SIDE_BY_SIDE, are_short};
 use crate::shares::logs_of_lists;
 use key_lists::{CodedPart, KeyList, coded_parts};
+use key_numbers::Shards;
 use lane_words::{MOST_RECORDS, Memory, Refusal};
 use std::alloc::Global;
 use std::thread::Threads;
@@ -44,6 +46,12 @@ impl Logs {
             }
         }
         self.append_each(rt, lists)
+    }
+
+    /// Gives the memory of the logs back, that of many keys on several threads.
+    pub fn let_go<R: Threads + Sync>(self, rt: &R) {
+        let Logs { keys, .. } = self;
+        keys.let_go(rt);
     }
 
     /// Whether the keys of these lists are many, and there is no record yet.
@@ -92,9 +100,9 @@ impl Logs {
         ensures valid { IsValidLogs self.new }
     {
         let alloc = *self.logs.allocator();
-        let places = self.places_of_lists(rt, coded)?;
         let keys = keys_of(alloc, coded)?;
-        let (shards, numbers) = self.keys.number_all(rt, &keys, places.len())?;
+        let (shards, numbers, places) = number_and_place(rt, self, &keys)?;
+        let places = places?;
         let partitions = self.partitions.count() as usize;
         let logs = logs_of_lists(rt, alloc, partitions, coded, &places, &numbers)?;
         self.keys.begin_with(shards);
@@ -102,20 +110,20 @@ impl Logs {
         Ok(())
     }
 
-    /// The partition in the first topic of each key of coded lists, one list after another, those of
+    /// The partition in the first topic of each key of these lists, one list after another, those of
     /// each list computed side by side. Refused for want of memory.
     fn places_of_lists<R: Threads + Sync>(
         &self,
         rt: &R,
-        coded: &[CodedPart<'_>],
+        lists: &[&[&[u8]]],
     ) -> Result<Vec<u32>, Memory>
         ensures places { IfOk result (λ places. places.items
-            ≡ map (λ key. place_in self.now (of_first key)) (joined (map keys_in coded.now))) }
+            ≡ map (λ key. place_in self.now (of_first key)) (lent_lists lists.now)) }
         ensures valid { IsValidLogs self.now }
     {
-        let mut places = Vec::with_capacity(*self.logs.allocator(), keys_among(coded))?;
-        for i in 0..coded.len() {
-            let of_list = self.places_of(rt, coded[i].keys.as_slice())?;
+        let mut places = Vec::with_capacity(*self.logs.allocator(), keys_among(lists))?;
+        for i in 0..lists.len() {
+            let of_list = self.places_of(rt, lists[i])?;
             places.extend_from_slice(of_list.as_slice())?;
         }
         Ok(places)
@@ -144,6 +152,34 @@ impl Logs {
         };
         self.append_all(rt, &keys)
     }
+}
+
+/// The keys of these lists without repeats, and of each key, one list after another, the key number
+/// and the partition in the first topic. Either is refused for want of memory. Places are found
+/// while one thread puts the keys in order.
+fn number_and_place<R: Threads + Sync>(
+    rt: &R,
+    logs: &Logs,
+    lists: &[&[&[u8]]],
+) -> Result<(Shards, Vec<u32>, Result<Vec<u32>, Memory>), Memory>
+    requires few { length (lent_lists lists.now) ≤ MOST_RECORDS }
+    ensures keys { IfOk result (λ r. r.0 ≡ distinct (lent_lists lists.now)) }
+    ensures numbers { IfOk result (λ r. r.1.items
+        ≡ map (id_of (distinct (lent_lists lists.now))) (lent_lists lists.now)) }
+    ensures places { IfOk result (λ r. IfOk r.2 (λ places. places.items
+        ≡ map (λ key. place_in logs.now (of_first key)) (lent_lists lists.now))) }
+    ensures valid { IsValidLogs logs.now }
+{
+    logs.keys.number_all(
+        rt,
+        lists,
+        keys_among(lists),
+        || -> Result<Vec<u32>, Memory>
+            requires { IsSync R.row }
+            ensures { IfOk result (λ places. places.items
+                ≡ map (λ key. place_in logs.entry.now (of_first key)) (lent_lists lists.entry.now)) }
+        { logs.places_of_lists(rt, lists) },
+    )
 }
 
 /// How many keys lists have together, where that is a number of records that logs can hold.
@@ -192,11 +228,11 @@ fn keys_of<'a, 'k>(alloc: Global, coded: &'a [CodedPart<'k>]) -> Result<Vec<&'a 
     Ok(keys)
 }
 
-/// How many keys coded lists have together: it only says how much memory is taken.
-fn keys_among(coded: &[CodedPart<'_>]) -> usize {
+/// How many keys lists have together: it only says how much memory is taken.
+fn keys_among(lists: &[&[&[u8]]]) -> usize {
     let mut keys: usize = 0;
-    for i in 0..coded.len() {
-        keys = keys.saturating_add(coded[i].keys.len());
+    for i in 0..lists.len() {
+        keys = keys.saturating_add(lists[i].len());
     }
     keys
 }

@@ -1,5 +1,5 @@
 -- Keys that are numbered shard by shard, and their key numbers.
-use Rattle.std.specs.Prelude.{◌≡◌, ◌<◌, ◌≤◌, ◌+◌, ◌*◌, ◌/◌, ◌==◌, ◌%◌, ℕ, List, [], ◌∷◌, ◌++◌, All, Bool, filter, fold, length, map, min, if◌then◌else◌, slice_index_or, take}
+use Rattle.std.specs.Prelude.{◌≡◌, ◌<◌, ◌≤◌, ◌+◌, ◌*◌, ◌/◌, ◌==◌, ◌%◌, ℕ, IfOk, List, Result, [], ◌∷◌, ◌++◌, All, Bool, filter, fold, length, map, min, if◌then◌else◌, slice_index_or, take}
 use Rattle.lane_words.specs.declared.limits.TheConstants.{MOST_RECORDS}
 use Rattle.std.specs.Borrow.{Bor}
 use Rattle.std.specs.RandomState.{initial_hasher}
@@ -10,6 +10,7 @@ use Rattle.key_numbers.specs.declared.dealing.TheConstants.{PIECES}
 use Rattle.key_numbers.specs.declared.dealing.Dealt.{Dealt}
 use Rattle.key_numbers.specs.declared.shards.TheConstants.{SHARDS}
 use Rattle.key_numbers.specs.declared.shards.KeyAt.{KeyAt}
+use Rattle.key_numbers.specs.declared.numbering.NumberedShard.{NumberedShard}
 
 -- the shard of a key that this hasher hashes, by one write of all its bytes
 unfoldable pub shard_of : RandomState → Key → ℕ
@@ -71,6 +72,11 @@ next_after ids local next = if is_first ids local then next + 1 else next
 abbrev pub AreNumberedIn : (Key → ℕ) → ℕ → List Key → List Key → List ℕ → Type 0
 AreNumberedIn shard s keys table locals =
     (table ≡ distinct (of_shard shard s keys)) × (locals ≡ map (id_of (distinct (of_shard shard s keys))) (of_shard shard s keys))
+
+-- as many shards, where none was refused, are those from one on, numbered
+abbrev pub AreNumberedFrom : {E : Type 0} → (Key → ℕ) → List Key → ℕ → ℕ → List (Result NumberedShard E) → Type 0
+AreNumberedFrom {E} shard keys from count found = (k : ℕ) (d : Result NumberedShard E) → k < count
+    → IfOk (slice_index_or found k d) (λ n. AreNumberedIn shard (from + k) keys n.table n.locals.items)
 
 -- the keys of each of so many shards
 pub record AreTables (shard : Key → ℕ) (count : ℕ) (keys : List Key) (tables : List (List Key)) : Type 0 where

@@ -3,15 +3,16 @@ use Rattle.std.specs.List.{sum}
 use Rattle.key_lists.proofs.Coded.{few-firsts}
 use Rattle.key_lists.specs.Lists.{joined, keys_in}
 use Rattle.key_numbers.specs.Keys.{distinct, id_of, lent_lists}
-use Rattle.partition_log.specs.Logs.{PartitionLogs}
+use Rattle.partition_log.specs.Keys.{Key, of_first}
+use Rattle.partition_log.specs.Logs.{PartitionLogs, place_in}
 use Rattle.partition_log.specs.Private.Filled.{ArePlaced}
 use Rattle.partition_log.specs.Private.Shares.{records_of}
 use Rattle.partition_log.proofs.Sharing.{by-lists, lists-placed}
 use Rattle.partition_log.proofs.SideBySide.{all-below}
 use Rattle.partition_log.proofs.Logs.append_firsts.Goals as goal
 
-pub number_all-requires-after_bounds : goal.number_all-requires-after_bounds
-number_all-requires-after_bounds g c κs within =
+pub number_and_place-requires-clause-few : goal.number_and_place-requires-clause-few
+number_and_place-requires-clause-few g c κs within =
     let few = few-firsts (map records_of c.args.coded.now) c.args.coded.now c.requires.coded in
     let lists = ap lent_lists c.deref.ensures.value ∙ c.in_ok-keys.ensures in
     omega (arith, few, ap length lists, c.requires.fits.few)
@@ -20,7 +21,10 @@ pub logs_of_lists-requires-clause-below : goal.logs_of_lists-requires-clause-bel
 logs_of_lists-requires-clause-below g c κs within =
     let before : PartitionLogs = record { counts = c.self.inside.partitions; partitions = sum c.self.inside.partitions; keys = c.self.inside.keys; logs = map vec_items c.self.inside.logs.items } in
     let firsts = joined (map keys_in c.args.coded.now) in
-    let placed = lists-placed c.args.self.now c.deref-2.result.now firsts c.in_ok-places.ensures.valid (c.deref-2.ensures.value ∙ c.in_ok-places.ensures.places) in
+    let lists = ap lent_lists c.deref.ensures.value ∙ c.in_ok-keys.ensures in
+    let place = λ (key : Key). place_in c.args.self.now (of_first key) in
+    let places = (rw c.in_ok-places.was at c.in_ok-shards.ensures.places) ∙ ap (map place) lists in
+    let placed = lists-placed c.args.self.now c.deref-2.result.now firsts c.in_ok-shards.ensures.valid (c.deref-2.ensures.value ∙ places) in
     let goes = subst (λ (l : PartitionLogs). ArePlaced l c.deref-2.result.now firsts) (sym c.self.view_is) placed in
     rw c.count-partitions.ensures.count (all-below before c.deref-2.result.now firsts c.self.invariant goes.as_many goes.goes)
 
@@ -28,10 +32,12 @@ pub invariant_of-self : goal.invariant_of-self
 invariant_of-self g c =
     let before : PartitionLogs = record { counts = c.self.inside.partitions; partitions = sum c.self.inside.partitions; keys = c.self.inside.keys; logs = map vec_items c.self.inside.logs.items } in
     let lists = ap lent_lists c.deref.ensures.value ∙ c.in_ok-keys.ensures in
+    let place = λ (key : Key). place_in c.args.self.now (of_first key) in
+    let places = (rw c.in_ok-places.was at c.in_ok-shards.ensures.places) ∙ ap (map place) lists in
     let keys = c.in_ok-shards.ensures.keys ∙ ap distinct lists in
     let numbers = c.in_ok-shards.ensures.numbers ∙ ap (λ ks. map (id_of (distinct ks)) ks) lists in
     let made = by-lists c.args.self.now before c.args.coded.now c.begin_with.new.self c.deref-2.result.now c.deref-3.result.now c.count-partitions.result (map vec_items c.in_ok-logs.logs.items) c.self.view_is c.self.invariant
-    c.requires.coded c.requires.fits c.count-partitions.ensures.count c.in_ok-places.ensures.valid (c.deref-2.ensures.value ∙ c.in_ok-places.ensures.places) (c.deref-3.ensures.value ∙ numbers)
+    c.requires.coded c.requires.fits c.count-partitions.ensures.count c.in_ok-shards.ensures.valid (c.deref-2.ensures.value ∙ places) (c.deref-3.ensures.value ∙ numbers)
     (c.begin_with.ensures ∙ keys) c.in_ok-logs.ensures in
     made.1
 
@@ -39,10 +45,12 @@ pub returns-clause-ok : goal.returns-clause-ok
 returns-clause-ok g c =
     let before : PartitionLogs = record { counts = c.self.inside.partitions; partitions = sum c.self.inside.partitions; keys = c.self.inside.keys; logs = map vec_items c.self.inside.logs.items } in
     let lists = ap lent_lists c.deref.ensures.value ∙ c.in_ok-keys.ensures in
+    let place = λ (key : Key). place_in c.args.self.now (of_first key) in
+    let places = (rw c.in_ok-places.was at c.in_ok-shards.ensures.places) ∙ ap (map place) lists in
     let keys = c.in_ok-shards.ensures.keys ∙ ap distinct lists in
     let numbers = c.in_ok-shards.ensures.numbers ∙ ap (λ ks. map (id_of (distinct ks)) ks) lists in
     let made = by-lists c.args.self.now before c.args.coded.now c.begin_with.new.self c.deref-2.result.now c.deref-3.result.now c.count-partitions.result (map vec_items c.in_ok-logs.logs.items) c.self.view_is c.self.invariant
-    c.requires.coded c.requires.fits c.count-partitions.ensures.count c.in_ok-places.ensures.valid (c.deref-2.ensures.value ∙ c.in_ok-places.ensures.places) (c.deref-3.ensures.value ∙ numbers)
+    c.requires.coded c.requires.fits c.count-partitions.ensures.count c.in_ok-shards.ensures.valid (c.deref-2.ensures.value ∙ places) (c.deref-3.ensures.value ∙ numbers)
     (c.begin_with.ensures ∙ keys) c.in_ok-logs.ensures in
     made.0
 
@@ -50,9 +58,11 @@ pub returns-clause-valid : goal.returns-clause-valid
 returns-clause-valid g c =
     let before : PartitionLogs = record { counts = c.self.inside.partitions; partitions = sum c.self.inside.partitions; keys = c.self.inside.keys; logs = map vec_items c.self.inside.logs.items } in
     let lists = ap lent_lists c.deref.ensures.value ∙ c.in_ok-keys.ensures in
+    let place = λ (key : Key). place_in c.args.self.now (of_first key) in
+    let places = (rw c.in_ok-places.was at c.in_ok-shards.ensures.places) ∙ ap (map place) lists in
     let keys = c.in_ok-shards.ensures.keys ∙ ap distinct lists in
     let numbers = c.in_ok-shards.ensures.numbers ∙ ap (λ ks. map (id_of (distinct ks)) ks) lists in
     let made = by-lists c.args.self.now before c.args.coded.now c.begin_with.new.self c.deref-2.result.now c.deref-3.result.now c.count-partitions.result (map vec_items c.in_ok-logs.logs.items) c.self.view_is c.self.invariant
-    c.requires.coded c.requires.fits c.count-partitions.ensures.count c.in_ok-places.ensures.valid (c.deref-2.ensures.value ∙ c.in_ok-places.ensures.places) (c.deref-3.ensures.value ∙ numbers)
+    c.requires.coded c.requires.fits c.count-partitions.ensures.count c.in_ok-shards.ensures.valid (c.deref-2.ensures.value ∙ places) (c.deref-3.ensures.value ∙ numbers)
     (c.begin_with.ensures ∙ keys) c.in_ok-logs.ensures in
     made.1

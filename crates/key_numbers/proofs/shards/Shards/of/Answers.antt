@@ -12,7 +12,7 @@ invariant_of-shards g c =
     let numbered = c.in_ok-numbered.ensures in
     let ids = c.in_ok-numbered.numbered.ids.items in
     let counted : length ids ≡ vec_len c.in_ok-numbered.numbered.ids = search rules in
-    let few : length keys ≤ MOST_RECORDS = c.requires in
+    let few : length keys ≤ MOST_RECORDS = c.requires.few in
     whole-shards (shard_of c.args.hasher) keys c.in_ok-numbered.numbered.tables.items (map vec_items ids) c.in_ok-numbered.numbered.order.items few numbered.tables (length-map ids vec_items ∙ counted ∙ numbered.ids_each)
     numbered.ids numbered.order
 
