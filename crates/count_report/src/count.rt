@@ -8,7 +8,7 @@ ghost use Rattle.count_report.specs.Reports.{AreInRange, IsFaultOf, IsNoWrite, W
 ghost use Rattle.count_report.specs.Tally.{IsKeyFault};
 
 use crate::reading::{FileRecords, file_records};
-use crate::tally::{counts_in, logs_of};
+use crate::tally::{counts_after, logs_of};
 use command_line::Options;
 use devices::{Sink, Source, write_texts};
 use lane_words::Refusal;
@@ -36,9 +36,9 @@ fn plain_report<R: Threads + Sync + RandomSource>(
     let logs = logs_of(rt, alloc, &records, options)?;
     let total = records.len() as u64;
     // The logs have a copy of each key that the text needs.
-    drop(records);
-    let counts = counts_in(rt, alloc, &logs)?;
+    let counts = counts_after(rt, alloc, records, &logs)?;
     let texts = count_rows_texts(rt, alloc, &logs, counts.counts(), total, total)?;
+    logs.let_go(rt);
     Ok(texts)
 }
 

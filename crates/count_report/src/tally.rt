@@ -1,12 +1,13 @@
 //! Keys in logs, and how often each key is in them.
 
-ghost use Rattle.std.specs.Prelude.{◌≡◌, ◌≤◌, ◌<◌, ◌+◌, ◌-◌, ◌⊎◌, [], ℕ, None, Some, IfOk, IfErr, OnOk, length, map, slice_index_or, vec_len};
+ghost use Rattle.std.specs.Prelude.{◌≡◌, ◌≤◌, ◌<◌, ◌+◌, ◌-◌, ◌⊎◌, [], ℕ, None, Some, IfOk, IfErr, OnOk, length, map, replicate, slice_index_or, vec_len};
+ghost use Rattle.std.specs.Thread.{IsSync};
 ghost use Rattle.lane_words.specs.declared.Refusal.TheVariants as refusal;
 ghost use Rattle.partition_log.specs.Appends.{AreAppended, in_first, placed};
 ghost use Rattle.partition_log.specs.Logs.{IsValidLogs, AreLogsOf, log_at};
 ghost use Rattle.count_report.specs.CountReport.{first_fault};
 ghost use Rattle.count_report.specs.Private.Appending.{EndsAppends};
-ghost use Rattle.count_report.specs.Private.Counted.{AreCountsBelow};
+ghost use Rattle.count_report.specs.Private.Counted.{AreCountsBelow, AreCountsFrom};
 ghost use Rattle.count_report.specs.Records.{AreOfTopics, partition_counts, record_of, records_in};
 ghost use Rattle.count_report.specs.Reports.{AreInRange};
 ghost use Rattle.count_report.specs.Tally.{AreCountsByNumber, IsKeyFault};
@@ -127,6 +128,31 @@ pub fn counts_in<R: Threads + Sync, L: LogRead + Sync>(
     }
 }
 
+/// The same, once the records that the logs were made of are let go.
+pub fn counts_after<R: Threads + Sync>(
+    rt: &R,
+    alloc: Global,
+    records: FileRecords,
+    logs: &Logs,
+) -> Result<Table, Memory>
+    requires { IsValidLogs logs.now }
+    ensures { IfOk result (λ table. AreCountsByNumber logs.now table.counts) }
+{
+    if are_few(logs) {
+        drop(records);
+        return counts_in_turn(alloc, logs);
+    }
+    let (_, counts) = thread::join(
+        rt,
+        move || drop(records),
+        || -> Result<Table, Memory>
+            requires { IsSync R.row × IsValidLogs logs.now }
+            ensures { IfOk result (λ table. AreCountsByNumber logs.entry.now table.counts) }
+        { counts_in_groups(rt, alloc, logs) },
+    );
+    counts
+}
+
 /// Whether logs are not worth the start of threads: there is one alone, or they have few records.
 fn are_few<L: LogRead>(logs: &L) -> bool {
     let mut records: u64 = 0;
@@ -158,14 +184,48 @@ pub fn counts_in_groups<R: Threads + Sync, L: LogRead + Sync>(
     ensures { IfOk result (λ table. AreCountsByNumber (L.contents logs.now) table.counts) }
 {
     let size = group_size(rt);
-    let mut table = Table::zeros(alloc, logs.keys())?;
-    let mut from = 0;
+    let mut from = size.min(logs.partitions());
+    let (zeros, first) = zeros_and_first_group(rt, alloc, logs, from);
+    let mut table = zeros?;
+    merge_group(logs, 0, from, &first?, &mut table)?;
     while from < logs.partitions() {
         let to = from.saturating_add(size).min(logs.partitions());
         add_group(rt, alloc, logs, from, to, &mut table)?;
         from = to;
     }
     Ok(table)
+}
+
+/// A counter at 0 for each key, and side by side with that the counts of the logs below one. Either is
+/// refused for want of memory.
+fn zeros_and_first_group<R: Threads + Sync, L: LogRead + Sync>(
+    rt: &R,
+    alloc: Global,
+    logs: &L,
+    to: u32,
+) -> (
+    Result<Table, Memory>,
+    Result<Vec<Result<Partial, Memory>>, Memory>,
+)
+    requires { to ≤ (L.contents logs.now).partitions }
+    ensures zeros { IfOk result.0
+        (λ table. table.counts ≡ replicate (length (L.contents logs.now).keys) 0) }
+    ensures len { IfOk result.1 (λ group. vec_len group ≡ to) }
+    ensures counts { IfOk result.1 (λ group. AreCountsFrom (L.contents logs.now) 0 to group.items) }
+{
+    thread::join(
+        rt,
+        || -> Result<Table, Memory>
+            requires { IsSync L.row }
+            ensures { IfOk result
+                (λ table. table.counts ≡ replicate (length (L.contents logs.entry.now).keys) 0) }
+        { Table::zeros(alloc, logs.keys()) },
+        || -> Result<Vec<Result<Partial, Memory>>, Memory>
+            requires { IsSync R.row × IsSync L.row × (to ≤ (L.contents logs.now).partitions) }
+            ensures { IfOk result (λ group. (vec_len group ≡ to)
+                × AreCountsFrom (L.contents logs.entry.now) 0 to group.items) }
+        { group_counts(rt, alloc, logs, 0, to) },
+    )
 }
 
 /// How many logs are counted at a time: two for each processor, so that a long one leaves none of
@@ -194,7 +254,25 @@ fn add_group<R: Threads + Sync, L: LogRead + Sync>(
     ensures { OnOk result (AreCountsBelow (L.contents logs.now) to table.new.counts) }
 {
     let group = group_counts(rt, alloc, logs, from, to)?;
-    for counts in &group {
+    merge_group(logs, from, to, &group, table)
+}
+
+/// Adds the counts of the logs from one on, below another, to those of the logs before.
+fn merge_group<L: LogRead>(
+    logs: &L,
+    from: u32,
+    to: u32,
+    group: &[Result<Partial, Memory>],
+    table: &mut Table,
+) -> Result<(), Memory>
+    requires valid { IsValidLogs (L.contents logs.now) }
+    requires range { (from ≤ to) × (to ≤ (L.contents logs.now).partitions) }
+    requires before { AreCountsBelow (L.contents logs.now) from table.old.counts }
+    requires len { length group.now ≡ to - from }
+    requires counts { AreCountsFrom (L.contents logs.now) from (to - from) group.now }
+    ensures { OnOk result (AreCountsBelow (L.contents logs.now) to table.new.counts) }
+{
+    for counts in group {
         match counts {
             Ok(partial) => table.merge(partial),
             Err(_) => return Err(Memory),
@@ -214,9 +292,8 @@ fn group_counts<R: Threads + Sync, L: LogRead + Sync>(
 ) -> Result<Vec<Result<Partial, Memory>>, Memory>
     requires { (from ≤ to) × (to ≤ (L.contents logs.now).partitions) }
     ensures len { IfOk result (λ group. vec_len group ≡ to - from) }
-    ensures counts { IfOk result (λ group. (i : ℕ) (d : _) → i < to - from
-        → IfOk (slice_index_or group.items i d)
-        (λ partial. partial ≡ log_at (L.contents logs.now) (from + i))) }
+    ensures counts { IfOk result
+        (λ group. AreCountsFrom (L.contents logs.now) from (to - from) group.items) }
 {
     let many = (to - from) as usize;
     let group = thread::map_indices(

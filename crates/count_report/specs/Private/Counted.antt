@@ -1,5 +1,5 @@
 -- Counts of logs by key number, as far as they are counted.
-use Rattle.std.specs.Prelude.{◌≡◌, ◌<◌, ℕ, List, length, slice_index_or}
+use Rattle.std.specs.Prelude.{◌≡◌, ◌<◌, ◌+◌, ℕ, List, IfOk, Result, length, slice_index_or}
 use Rattle.keyed_table.specs.Counts as table
 use Rattle.partition_log.specs.Logs.{PartitionLogs, log_at, sum_below}
 
@@ -11,3 +11,8 @@ so_far l p n = sum_below p (λ q. table.plain (log_at l q) n)
 pub record AreCountsBelow (l : PartitionLogs) (p : ℕ) (counts : List ℕ) : Type 0 where
   pub one_each : length counts ≡ length l.keys
   pub counted : (n : ℕ) → n < length l.keys → slice_index_or counts n 0 ≡ so_far l p n
+
+-- as many partial counts, where none was refused, are those of the logs from one on
+abbrev pub AreCountsFrom : {E : Type 0} → PartitionLogs → ℕ → ℕ → List (Result (List ℕ) E) → Type 0
+AreCountsFrom {E} l from count group = (i : ℕ) (d : Result (List ℕ) E) → i < count
+    → IfOk (slice_index_or group i d) (λ partial. partial ≡ log_at l (from + i))
