@@ -16,7 +16,7 @@ use std::thread::Threads;
 
 /// How many shards one thread numbers, one after the other: were all of them begun at once, their
 /// tables would be in one another's way in the caches.
-const OF_GROUP: u8 = 8;
+const OF_GROUP: u8 = 4;
 
 /// In how many groups the shards are numbered side by side.
 const GROUPS: usize = 8;

@@ -11,12 +11,11 @@ use lane_words::{MOST_RECORDS, Memory};
 use std::alloc::Global;
 use std::hash::{BuildHasher, Hasher, RandomState};
 use std::marker::Model;
-use std::thread;
 use std::thread::Threads;
 
 /// How many shards there are: so many that the table of one lies in a near cache where different keys
 /// are a few million.
-pub const SHARDS: u8 = 64;
+pub const SHARDS: u8 = 32;
 
 /// The shard of a key, from its keyed hash: who chooses the keys can't choose their shards.
 ///
@@ -109,13 +108,6 @@ impl Shards {
             order: numbered.order,
         };
         Ok((shards, numbered.numbers, other))
-    }
-
-    /// Gives the memory of the keys back, shard by shard side by side.
-    pub(crate) fn let_go<R: Threads + Sync>(self, rt: &R) {
-        let Shards { tables, .. } = self;
-        // Where memory is refused, what is left goes with the list.
-        let _ = thread::map_vec(rt, tables, &|table: KeyTable| drop(table));
     }
 
     /// How many keys there are.
