@@ -38,6 +38,7 @@ fn plain_report<R: Threads + Sync + RandomSource>(
     // The logs have a copy of each key that the text needs.
     let counts = counts_after(rt, alloc, records, &logs)?;
     let texts = count_rows_texts(rt, alloc, &logs, counts.counts(), total, total)?;
+    logs.let_go(rt);
     Ok(texts)
 }
 

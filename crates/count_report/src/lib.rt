@@ -8,4 +8,4 @@ mod tally;
 
 pub use count::count_text;
 pub use reading::{FileRecords, file_records, partition_counts};
-pub use tally::{counts_in, counts_in_groups, counts_in_turn, logs_of};
+pub use tally::{counts_in_groups, counts_in_turn, logs_of};

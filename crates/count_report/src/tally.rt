@@ -111,24 +111,8 @@ fn append_topic_keys<R: Threads + Sync>(
     }
 }
 
-/// How often each key is in all logs together, by its number. Many records are counted on several
-/// threads.
-pub fn counts_in<R: Threads + Sync, L: LogRead + Sync>(
-    rt: &R,
-    alloc: Global,
-    logs: &L,
-) -> Result<Table, Memory>
-    requires { IsValidLogs (L.contents logs.now) }
-    ensures { IfOk result (λ table. AreCountsByNumber (L.contents logs.now) table.counts) }
-{
-    if are_few(logs) {
-        counts_in_turn(alloc, logs)
-    } else {
-        counts_in_groups(rt, alloc, logs)
-    }
-}
-
-/// The same, once the records that the logs were made of are let go.
+/// How often each key is in all logs together, by its number, once the records that the logs were made
+/// of are let go. Many records are counted on several threads.
 pub fn counts_after<R: Threads + Sync>(
     rt: &R,
     alloc: Global,

@@ -99,6 +99,12 @@ impl KeyIds {
         self.shards = shards;
     }
 
+    /// Gives the memory of the keys back, for many keys on several threads.
+    pub fn let_go<R: Threads + Sync>(self, rt: &R) {
+        let KeyIds { shards, .. } = self;
+        shards.let_go(rt);
+    }
+
     /// Whether other keys are the same by the same numbers.
     pub fn same(&self, other: &KeyIds) -> bool
         ensures { IsTrue result ↔ (self.now ≡ other.now) }

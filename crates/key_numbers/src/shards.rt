@@ -11,6 +11,7 @@ use lane_words::{MOST_RECORDS, Memory};
 use std::alloc::Global;
 use std::hash::{BuildHasher, Hasher, RandomState};
 use std::marker::Model;
+use std::thread;
 use std::thread::Threads;
 
 /// How many shards there are: so many that the table of one lies in a near cache where different keys
@@ -108,6 +109,13 @@ impl Shards {
             order: numbered.order,
         };
         Ok((shards, numbered.numbers, other))
+    }
+
+    /// Gives the memory of the keys back, shard by shard side by side.
+    pub(crate) fn let_go<R: Threads + Sync>(self, rt: &R) {
+        let Shards { tables, .. } = self;
+        // Where memory is refused, what is left goes with the list.
+        let _ = thread::map_vec(rt, tables, &|table: KeyTable| drop(table));
     }
 
     /// How many keys there are.

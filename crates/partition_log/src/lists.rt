@@ -48,6 +48,12 @@ impl Logs {
         self.append_each(rt, lists)
     }
 
+    /// Gives the memory of the logs back, that of many keys on several threads.
+    pub fn let_go<R: Threads + Sync>(self, rt: &R) {
+        let Logs { keys, .. } = self;
+        keys.let_go(rt);
+    }
+
     /// Whether the keys of these lists are many, and there is no record yet.
     fn can_go_by_lists(&self, lists: &[KeyList]) -> bool
         ensures none { IsTrue result → length self.now.keys ≡ 0 }

@@ -3,7 +3,7 @@
 ghost use Rattle.std.specs.Prelude.{◌≤◌};
 ghost use Rattle.partition_log.specs.Logs.{IsValidLogs};
 
-use count_report::{counts_in, counts_in_groups, counts_in_turn};
+use count_report::{counts_in_groups, counts_in_turn};
 use keyed_table::Table;
 use lane_words::{MOST_PARTITIONS, Memory, Refusal};
 use partition_log::{LogRead, Logs};
@@ -38,7 +38,7 @@ fn append_each(logs: &mut Logs, records: u64) -> Result<(), Refusal> {
 // Who owns a table or logs makes one call more: each `?` is proved with all that lets go what is
 // owned there.
 
-/// Whether the program for many records counts as one log after the other does.
+/// Whether the program for many records has these counts too.
 fn groups_agree<R: Threads + Sync, L: LogRead + Sync>(
     rt: &R,
     alloc: Global,
@@ -50,8 +50,8 @@ fn groups_agree<R: Threads + Sync, L: LogRead + Sync>(
     Ok(counts_in_groups(rt, alloc, logs)?.counts() == in_turn.counts())
 }
 
-/// Whether both programs do, and the one that is called.
-fn all_agree<R: Threads + Sync, L: LogRead + Sync>(
+/// Whether the program for many records counts as one log after the other does.
+fn both_agree<R: Threads + Sync, L: LogRead + Sync>(
     rt: &R,
     alloc: Global,
     logs: &L,
@@ -59,13 +59,10 @@ fn all_agree<R: Threads + Sync, L: LogRead + Sync>(
     requires { IsValidLogs (L.contents logs.now) }
 {
     let in_turn = counts_in_turn(alloc, logs)?;
-    Ok(
-        groups_agree(rt, alloc, logs, &in_turn)?
-            && counts_in(rt, alloc, logs)?.counts() == in_turn.counts(),
-    )
+    groups_agree(rt, alloc, logs, &in_turn)
 }
 
-/// Whether these logs are counted alike by all.
+/// Whether these logs are counted alike by both.
 fn are_counted_alike<R: Threads + Sync + RandomSource>(
     rt: &R,
     alloc: Global,
@@ -75,7 +72,7 @@ fn are_counted_alike<R: Threads + Sync + RandomSource>(
     requires { (1 ≤ partitions) × (partitions ≤ MOST_PARTITIONS) }
 {
     let logs = logs(rt, alloc, partitions, records)?;
-    Ok(logs.partitions() == partitions && all_agree(rt, alloc, &logs)?)
+    Ok(logs.partitions() == partitions && both_agree(rt, alloc, &logs)?)
 }
 
 #[test]
