@@ -18,6 +18,10 @@ use std::thread::Threads;
 /// are a few million.
 pub const SHARDS: u8 = 32;
 
+/// From how many keys on their memory is given back side by side: for fewer, threads take longer to
+/// start than one takes to give it back.
+const WORTH_THREADS: usize = 1 << 18;
+
 /// The shard of a key, from its keyed hash: who chooses the keys can't choose their shards.
 ///
 /// It is the hash by which the shard's own table finds the key, of which the table folds one half
@@ -111,8 +115,11 @@ impl Shards {
         Ok((shards, numbered.numbers, other))
     }
 
-    /// Gives the memory of the keys back, shard by shard side by side.
+    /// Gives the memory of the keys back, that of many shard by shard side by side.
     pub(crate) fn let_go<R: Threads + Sync>(self, rt: &R) {
+        if self.order.len() < WORTH_THREADS {
+            return;
+        }
         let Shards { tables, .. } = self;
         // Where memory is refused, what is left goes with the list.
         let _ = thread::map_vec(rt, tables, &|table: KeyTable| drop(table));
