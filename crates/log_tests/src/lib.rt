@@ -7,6 +7,8 @@ ghost use Rattle.std.specs.Prelude.{◌≡◌, ◌+◌, ◌≤◌, length, slice
 #[cfg(test)]
 mod appends;
 #[cfg(test)]
+mod hashes;
+#[cfg(test)]
 mod keys;
 #[cfg(test)]
 mod lists;
@@ -15,7 +17,11 @@ mod logs;
 #[cfg(test)]
 mod plain_keys;
 #[cfg(test)]
+mod refusals;
+#[cfg(test)]
 mod topics;
+#[cfg(test)]
+mod words;
 
 /// So many of some bytes, from a place on: what keys of all lengths are taken from.
 pub fn window(bytes: &[u8], start: usize, len: usize) -> &[u8]

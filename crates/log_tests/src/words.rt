@@ -1,9 +1,11 @@
-//! The calls over eight words at a time beside those word by word, for lengths around one chunk and
-//! many, with the only difference in the last word.
+//! The calls over eight words at a time beside what they are word by word, for lengths around one
+//! chunk and many, with the only difference in the last word.
 
 ghost use Rattle.std.specs.Prelude.{◌≡◌, ◌+◌, ◌<◌, ◌^◌, ℕ, IsTrue, length, slice_index_or};
 
-use super::*;
+use lane_words::{
+    add_into, and_not_into, any_and, count_ones, equal32, equal64, is_within, or_into,
+};
 use std::alloc::{AllocError, Global};
 use std::process::Abort;
 use std::test::Fail;
@@ -35,47 +37,57 @@ fn with_last(alloc: Global, words: &[u64], last: u64) -> Result<Vec<u64>, AllocE
 // What is asserted is told by functions that answer whether it is so: each assertion is proved with
 // all that lets go what the test owns.
 
-/// Whether the calls that change no words answer as their loops do.
+/// Whether the calls that change no words answer what the words say one by one.
 fn are_answered_alike(a: &[u64], b: &[u64]) -> bool
     requires { length a.now ≡ length b.now }
 {
-    equal64(a, b) == plain::equal64(a, b)
-        && any_and(a, b) == plain::any_and(a, b)
-        && is_within(a, b) == plain::is_within(a, b)
+    let (mut same, mut meet, mut within) = (true, false, true);
+    for i in 0..a.len() {
+        same &= a[i] == b[i];
+        meet |= a[i] & b[i] != 0;
+        within &= a[i] & !b[i] == 0;
+    }
+    equal64(a, b) == same && any_and(a, b) == meet && is_within(a, b) == within
 }
 
-/// Whether the bits of `a` are cleared in both lists alike, which are `b`.
-fn are_cleared_alike(a: &[u64], one: &mut [u64], other: &mut [u64]) -> bool
-    requires one { length a.now ≡ length one.old }
-    requires other { length a.now ≡ length other.old }
-{
-    and_not_into(one, a);
-    plain::and_not_into(other, a);
-    *one == *other
+/// Whether each word is that of `b` without the bits of the one of `a`.
+fn are_cleared(words: &[u64], a: &[u64], b: &[u64]) -> bool {
+    if words.len() != a.len() || a.len() != b.len() {
+        return false;
+    }
+    for i in 0..words.len() {
+        if words[i] != b[i] & !a[i] {
+            return false;
+        }
+    }
+    true
 }
 
-/// Whether the bits of `a` are set in both lists alike, which are `b`.
-fn are_joined_alike(a: &[u64], one: &mut [u64], other: &mut [u64]) -> bool
-    requires one { length a.now ≡ length one.old }
-    requires other { length a.now ≡ length other.old }
-{
-    or_into(one, a);
-    plain::or_into(other, a);
-    *one == *other
+/// Whether each word is that of `b` with the bits of the one of `a`.
+fn are_joined(words: &[u64], a: &[u64], b: &[u64]) -> bool {
+    if words.len() != a.len() || a.len() != b.len() {
+        return false;
+    }
+    for i in 0..words.len() {
+        if words[i] != b[i] | a[i] {
+            return false;
+        }
+    }
+    true
 }
 
-/// Whether the calls that change words do so as their loops do.
+/// Whether the calls that change words make of each word what they are to make of it.
 fn are_changed_alike(alloc: Global, a: &[u64], b: &[u64]) -> Result<bool, AllocError>
     requires { length a.now ≡ length b.now }
 {
-    let (mut one, mut other) = (b.to_vec(alloc)?, b.to_vec(alloc)?);
-    let are_cleared = are_cleared_alike(a, &mut one, &mut other);
-    let (mut one, mut other) = (b.to_vec(alloc)?, b.to_vec(alloc)?);
-    Ok(are_cleared && are_joined_alike(a, &mut one, &mut other))
+    let (mut cleared, mut joined) = (b.to_vec(alloc)?, b.to_vec(alloc)?);
+    and_not_into(&mut cleared, a);
+    or_into(&mut joined, a);
+    Ok(are_cleared(&cleared, a, b) && are_joined(&joined, a, b))
 }
 
-/// Whether all calls on two lists of as many words, which differ by these bits of the last one, are as
-/// their loops.
+/// Whether all calls on two lists of as many words, which differ by these bits of the last one, are
+/// as word by word.
 fn are_alike(alloc: Global, a: &[u64], last: u64) -> Result<bool, AllocError> {
     let b = with_last(alloc, a, last)?;
     Ok(
@@ -87,7 +99,7 @@ fn are_alike(alloc: Global, a: &[u64], last: u64) -> Result<bool, AllocError> {
 }
 
 #[test]
-fn each_beside_its_loop(rt: HostRuntime) -> Result<(), Fail> {
+fn each_beside_its_words(rt: HostRuntime) -> Result<(), Fail> {
     for len in LENGTHS {
         let a = words(rt.alloc(), len)?;
         for last in LAST {
@@ -98,7 +110,7 @@ fn each_beside_its_loop(rt: HostRuntime) -> Result<(), Fail> {
 }
 
 #[test]
-fn equal32_beside_its_loop(rt: HostRuntime) -> Result<(), Fail> {
+fn equal32_beside_its_words(rt: HostRuntime) -> Result<(), Fail> {
     for len in LENGTHS {
         let a = vec![in rt.alloc(); 0x9e37_79b9; len]?;
         for last in [0, 1, 1 << 31, u32::MAX] {
@@ -108,7 +120,7 @@ fn equal32_beside_its_loop(rt: HostRuntime) -> Result<(), Fail> {
             }
             assert!(rt; a.len() == b.len());
             let same = equal32(&a, &b);
-            assert_eq!(rt; same, plain::equal32(&a, &b), "{len}");
+            assert_eq!(rt; same, a == b, "{len}");
             assert_eq!(rt; same, last == 0 || len == 0, "{len}");
         }
     }
@@ -129,20 +141,32 @@ fn is_fit(a: &[u64], b: &[u64]) -> bool
     true
 }
 
-/// Sums beside those of the loop.
+/// Whether each number is the sum of the two at its index.
+fn are_sums(sums: &[u64], a: &[u64], b: &[u64]) -> bool {
+    if sums.len() != a.len() || a.len() != b.len() {
+        return false;
+    }
+    for i in 0..sums.len() {
+        if a[i].checked_add(b[i]) != Some(sums[i]) {
+            return false;
+        }
+    }
+    true
+}
+
+/// Sums beside those of each two numbers.
 fn check_sums(rt: &impl Abort, alloc: Global, a: &[u64], b: &[u64]) -> Result<(), AllocError>
     requires length { length a.now ≡ length b.now }
     requires fit { (i : ℕ) → slice_index_or a.now i 0 + slice_index_or b.now i 0 < 2 ^ 64 }
 {
-    let (mut sums, mut plain_sums) = (a.to_vec(alloc)?, a.to_vec(alloc)?);
+    let mut sums = a.to_vec(alloc)?;
     add_into(&mut sums, b);
-    plain::add_into(&mut plain_sums, b);
-    assert_eq!(rt; sums, plain_sums);
+    assert!(rt; are_sums(&sums, a, b));
     Ok(())
 }
 
 #[test]
-fn add_into_beside_its_loop(rt: HostRuntime) -> Result<(), Fail> {
+fn add_into_beside_its_words(rt: HostRuntime) -> Result<(), Fail> {
     for len in LENGTHS {
         let mut a = words(rt.alloc(), len)?;
         for word in &mut a {
