@@ -1,12 +1,16 @@
-//! Rows as RFC 4180 has them.
+//! The rows of a count, as RFC 4180 has them.
 
 ghost use Rattle.std.specs.Prelude.{◌≡◌, length};
 
-use super::*;
-use lane_words::Refusal;
-use partition_log::Logs;
+use csv::Writer;
+use lane_words::{Memory, Refusal};
+use partition_log::{LogRead, Logs};
+use report_rows::count_rows::{count_rows_texts, write_count};
+use report_rows::rows;
+use std::alloc::Global;
 use std::random::RandomSource;
 use std::test::Fail;
+use std::thread::Threads;
 
 #[test]
 fn a_count_is_rows_of_text(rt: HostRuntime) -> Result<(), Fail> {
@@ -45,6 +49,26 @@ fn is_several(text: &[u8], parts: &[Vec<u8>]) -> bool {
     rest.is_empty() && parts.len() > 1
 }
 
+/// Writes the row of each key with its count, one after the other.
+fn write_each(writer: &mut Writer<Vec<u8>>, logs: &Logs, counts: &[u64]) -> Result<(), Memory>
+    requires { length logs.now.keys ≡ length counts.now }
+{
+    for id in 0..logs.keys() {
+        write_count(writer, logs.key(id), counts[id as usize])?;
+    }
+    Ok(())
+}
+
+/// The rows of a count, made one after the other, and the totals.
+fn rows_in_turn(alloc: Global, logs: &Logs, counts: &[u64]) -> Result<Vec<u8>, Memory>
+    requires { length logs.now.keys ≡ length counts.now }
+{
+    let mut writer = rows::new_writer(alloc);
+    write_each(&mut writer, logs, counts)?;
+    rows::write_total(&mut writer, 1, 2)?;
+    rows::text_of(writer)
+}
+
 /// Whether the texts of a count are the rows that are made one after the other, and the totals.
 fn are_made_in_turn<R: Threads + Sync>(
     rt: &R,
@@ -55,8 +79,7 @@ fn are_made_in_turn<R: Threads + Sync>(
     requires { length logs.now.keys ≡ length counts.now }
 {
     let texts = count_rows_texts(rt, alloc, logs, counts, 1, 2)?;
-    let mut plain = rows_in_turn(alloc, logs, counts, 0, logs.keys())?;
-    plain.extend_from_slice(total_text(alloc, 1, 2)?.as_slice())?;
+    let plain = rows_in_turn(alloc, logs, counts)?;
     Ok(is_several(plain.as_slice(), texts.as_slice()))
 }
 
