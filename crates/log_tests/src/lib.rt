@@ -15,7 +15,11 @@ mod lists;
 #[cfg(test)]
 mod logs;
 #[cfg(test)]
+mod places;
+#[cfg(test)]
 mod plain_keys;
+#[cfg(test)]
+mod plain_places;
 #[cfg(test)]
 mod refusals;
 #[cfg(test)]

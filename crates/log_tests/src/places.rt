@@ -1,10 +1,13 @@
-//! Places from outside: a table computed by the rules alone.
+//! Places from outside: a table computed by the rules alone; and places beside the plain program.
 
 ghost use Rattle.std.specs.Prelude.{◌<◌, IfOk};
 ghost use Rattle.partitioner.specs.Place.{AreTopics};
 
-use super::*;
+use crate::plain_places;
+use partitioner::Partitions;
+use std::alloc::Global;
 use std::test::Fail;
+use std::thread::Threads;
 
 #[test]
 fn places_of_the_table(rt: HostRuntime) {
@@ -72,7 +75,7 @@ fn pieces_and_one_by_one_in_topics(rt: HostRuntime) -> Result<(), Fail> {
         }
         let topics = topics_in_turn(rt.alloc(), keys.len())?;
         let places = partitions.place_all_in(&rt, rt.alloc(), &topics, &keys)?;
-        let plain = plain::place_all_in(partitions, rt.alloc(), &topics, &keys)?;
+        let plain = plain_places::place_all_in(partitions, rt.alloc(), &topics, &keys)?;
         assert!(rt; places == plain, "{count} keys");
     }
     Ok(())
@@ -95,7 +98,8 @@ fn window(bytes: &[u8; 300], start: usize, len: usize) -> &[u8]
     &bytes[start..start + len]
 }
 
-/// Whether keys are placed by pieces as they are in one piece, and one by one.
+/// Whether keys are placed by pieces side by side as they are one piece after the other, and one by
+/// one.
 fn are_placed_alike<R: Threads + Sync>(
     rt: &R,
     alloc: Global,
@@ -103,9 +107,9 @@ fn are_placed_alike<R: Threads + Sync>(
 ) -> Result<bool, Fail> {
     let partitions = Partitions::new(4096);
     let places = partitions.place_all(rt, alloc, keys)?;
-    let one_piece = plain::place_in_one_piece(partitions, alloc, keys)?;
-    let plain = plain::place_all(partitions, alloc, keys)?;
-    Ok(places == plain && one_piece == plain)
+    let in_turn = plain_places::place_in_turn(partitions, rt, alloc, keys)?;
+    let plain = plain_places::place_all(partitions, alloc, keys)?;
+    Ok(places == plain && in_turn == plain)
 }
 
 #[test]
