@@ -1,4 +1,3 @@
-pub mod Flags
 pub mod Indices
 pub mod Less
 pub mod Listed

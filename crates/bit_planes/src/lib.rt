@@ -11,8 +11,3 @@ pub use elements::Elements;
 pub use laws::{equal_by_look_up, equal_by_members};
 pub use plane::Plane;
 pub use rows::{Members, PlaneRows, Rows};
-
-#[cfg(test)]
-mod plain_plane;
-#[cfg(test)]
-mod tests;

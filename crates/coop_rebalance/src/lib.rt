@@ -7,8 +7,3 @@ mod withholding;
 
 pub use laws::{given_stays_apart, next_lies_in_balanced, second_round_settles};
 pub use withholding::{added, is_final, to_give, withhold, withhold_in_place};
-
-#[cfg(test)]
-mod plain_grants;
-#[cfg(test)]
-mod tests;

@@ -153,11 +153,3 @@ impl Grants {
         others
     }
 }
-
-/// Whether the plain program collects the same grants.
-#[cfg(test)]
-pub fn has_plain_grants(granted: &PlaneRows) -> bool {
-    let grants = Grants::of(granted);
-    let (some, several) = crate::plain_grants::grants_of(granted);
-    grants.some.same(&some) && grants.several.same(&several)
-}

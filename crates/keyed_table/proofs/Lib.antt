@@ -1,6 +1,5 @@
 pub mod Added
 pub mod Elements
-pub mod Entries
 pub mod Numbered
 pub mod Raised
 pub mod Runs

@@ -9,8 +9,3 @@ mod table;
 
 pub use partial::Partial;
 pub use table::Table;
-
-#[cfg(test)]
-mod plain_partial;
-#[cfg(test)]
-mod tests;

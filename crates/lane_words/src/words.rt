@@ -145,6 +145,3 @@ pub fn count_ones(a: &[u64]) -> u64
     }
     count
 }
-
-#[cfg(test)]
-mod tests;

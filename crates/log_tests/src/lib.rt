@@ -7,15 +7,25 @@ ghost use Rattle.std.specs.Prelude.{◌≡◌, ◌+◌, ◌≤◌, length, slice
 #[cfg(test)]
 mod appends;
 #[cfg(test)]
+mod hashes;
+#[cfg(test)]
 mod keys;
 #[cfg(test)]
 mod lists;
 #[cfg(test)]
 mod logs;
 #[cfg(test)]
+mod places;
+#[cfg(test)]
 mod plain_keys;
 #[cfg(test)]
+mod plain_places;
+#[cfg(test)]
+mod refusals;
+#[cfg(test)]
 mod topics;
+#[cfg(test)]
+mod words;
 
 /// So many of some bytes, from a place on: what keys of all lengths are taken from.
 pub fn window(bytes: &[u8], start: usize, len: usize) -> &[u8]

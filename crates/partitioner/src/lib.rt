@@ -269,8 +269,3 @@ impl Partitions {
         }
     }
 }
-
-#[cfg(test)]
-mod plain;
-#[cfg(test)]
-mod tests;

@@ -173,6 +173,3 @@ pub fn count_rows_texts<R: Threads + Sync, L: LogRead + Sync>(
     let rows = rows_apart(rt, alloc, logs, counts, 0, keys, most)?;
     with_end(rows, total_text(alloc, committed, appended)?)
 }
-
-#[cfg(test)]
-mod tests;

@@ -8,6 +8,8 @@ ghost use Rattle.count_report.specs.Reports.{AreInRange};
 #[cfg(test)]
 mod cluster_rows;
 #[cfg(test)]
+mod count_rows;
+#[cfg(test)]
 mod counts;
 #[cfg(test)]
 mod device_calls;

@@ -12,15 +12,9 @@ ghost use Rattle.sticky_assignor.specs.Private.Filling.{filled_rows, free_of, gi
 
 mod laws;
 
-pub use laws::{balanced_stays, target_is_balanced, target_keeps_most};
-
-#[cfg(test)]
-mod plain_assign;
-#[cfg(test)]
-mod tests;
-
 use bit_planes::{Plane, PlaneRows};
 use lane_words::{MOST_PARTITIONS, Memory};
+pub use laws::{balanced_stays, target_is_balanced, target_keeps_most};
 use std::alloc::Global;
 
 /// The rows that the members are to own, of this many partitions: balanced, and of all balanced

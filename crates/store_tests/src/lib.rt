@@ -6,9 +6,25 @@
 ghost use Rattle.std.specs.Prelude.{◌≡◌, ◌<◌, ◌-◌, IfOk, length, slice_set};
 
 #[cfg(test)]
+mod assignments;
+#[cfg(test)]
 mod consumers;
 #[cfg(test)]
+mod plain_assign;
+#[cfg(test)]
+mod plain_grants;
+#[cfg(test)]
+mod plain_partial;
+#[cfg(test)]
+mod plain_plane;
+#[cfg(test)]
+mod planes;
+#[cfg(test)]
+mod rebalances;
+#[cfg(test)]
 mod stores;
+#[cfg(test)]
+mod tables;
 
 use lane_words::Memory;
 use std::alloc::Global;

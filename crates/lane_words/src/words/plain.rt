@@ -1,5 +1,4 @@
-//! The same word by word, as the definitions say: for the words after the last eight, and beside
-//! which the tests run the calls over eight at a time.
+//! The same word by word, as the definitions say: for the words after the last eight.
 
 ghost use Rattle.std.specs.Prelude.{◌≡◌, ◌↔◌, ◌+◌, ◌<◌, ◌^◌, ℕ, IsTrue, length, not, bit_and, bit_or, slice_index_or};
 ghost use Rattle.std.specs.Simd.Lanes.{zip2};

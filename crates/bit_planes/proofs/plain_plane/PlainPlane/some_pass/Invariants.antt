@@ -1,5 +1,0 @@
-use Rattle.bit_planes.proofs.Flags.{HasPassed}
-use Rattle.bit_planes.proofs.plain_plane.PlainPlane.some_pass.Given as goal
-
-abbrev pub invariant-loop-q : goal.invariant-loop-q
-invariant-loop-q g l = HasPassed (goal.F-post g l.test) l.self l.other l.q l.passed

@@ -1,0 +1,56 @@
+//! The places of keys one by one, as the definition says, and of one piece after the other, eight
+//! at a time: beside them the tests run the call that places pieces side by side.
+
+ghost use Rattle.std.specs.Prelude.{length};
+ghost use Rattle.partitioner.specs.Place.{AreTopics};
+
+use lane_words::Memory;
+use partitioner::Partitions;
+use std::alloc::Global;
+use std::thread::Threads;
+
+/// How many keys are one piece, for which no thread is started.
+const PIECE: usize = 4096;
+
+/// The partition of each of some keys, in their order.
+pub fn place_all(
+    partitions: Partitions,
+    alloc: Global,
+    keys: &[&[u8]],
+) -> Result<Vec<u32>, Memory> {
+    Ok(keys.iter().map(|key| partitions.place(key)).collect(alloc)?)
+}
+
+/// The same, by a call for each piece.
+pub fn place_in_turn<R: Threads + Sync>(
+    partitions: Partitions,
+    rt: &R,
+    alloc: Global,
+    keys: &[&[u8]],
+) -> Result<Vec<u32>, Memory> {
+    let mut places = Vec::with_capacity(alloc, keys.len())?;
+    let mut from = 0;
+    while from < keys.len() {
+        let to = keys.len().min(from + PIECE);
+        let piece = partitions.place_all(rt, alloc, &keys[from..to])?;
+        places.extend_from_slice(&piece)?;
+        from = to;
+    }
+    Ok(places)
+}
+
+/// The partition of each of some keys in its topic, in their order.
+pub fn place_all_in(
+    partitions: Partitions,
+    alloc: Global,
+    topics: &[u8],
+    keys: &[&[u8]],
+) -> Result<Vec<u32>, Memory>
+    requires { AreTopics (length partitions) (length keys.now) topics.now }
+{
+    let mut places = Vec::with_capacity(alloc, keys.len())?;
+    for i in 0..keys.len() {
+        places.push(partitions.place_in(topics[i], keys[i]))?;
+    }
+    Ok(places)
+}

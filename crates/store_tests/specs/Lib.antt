@@ -1,0 +1,2 @@
+pub mod PlainPartial
+pub mod PlainPlane

@@ -1,0 +1,148 @@
+//! The assignment with a new set for each step, and with each member's elements counted wherever
+//! their number is asked: the plain program, beside which the tests run the one that changes sets in
+//! place.
+
+ghost use Rattle.std.specs.Prelude.{◌≡◌, ◌<◌, ◌≤◌, length, IfOk, IsSome};
+ghost use Rattle.bit_planes.specs.PartitionSet.{partitions_of};
+ghost use Rattle.bit_planes.specs.SetRows.{IsRising, row_of, set_of, sets_of};
+ghost use Rattle.sticky_assignor.specs.Assigned.{assigned, HaveRows};
+ghost use Rattle.sticky_assignor.specs.Private.Filling.{filled_rows, free_of, keeping, one_of, quotas, shares};
+ghost use Rattle.sticky_assignor.specs.Target.{heavies};
+
+use bit_planes::{Plane, PlaneRows};
+use lane_words::{MOST_PARTITIONS, Memory};
+use std::alloc::Global;
+
+/// The rows that the members are to own, of this many partitions.
+pub fn assign(
+    alloc: Global,
+    partitions: u32,
+    members: &[u32],
+    owned: &PlaneRows,
+) -> Result<PlaneRows, Memory>
+    requires below { owned.now.partitions ≡ partitions }
+    requires some { 0 < length members.now }
+    requires rising { IsRising members.now }
+    requires rows { HaveRows owned.now members.now }
+    ensures { IfOk result (λ rows. rows ≡ assigned partitions members.now owned.now) }
+{
+    let quotas = quotas_of(alloc, members, owned)?;
+    let free = free_beside(&quotas, members, owned);
+    fill(alloc, free, &quotas, members, owned)
+}
+
+/// How many partitions each member is to own.
+fn quotas_of(alloc: Global, members: &[u32], owned: &PlaneRows) -> Result<Vec<u32>, Memory>
+    requires some { 0 < length members.now }
+    requires rows { HaveRows owned.now members.now }
+    ensures { IfOk result (λ qs.
+        qs.items ≡ quotas owned.now.partitions (sets_of owned.now members.now)) }
+{
+    let partitions = owned.partitions() as usize;
+    let share = (partitions / members.len()) as u32;
+    let more = partitions % members.len();
+    let heavy = count_heavy(share, members, owned);
+    let for_heavy = more.min(heavy);
+    shares_of(alloc, share, for_heavy, more - for_heavy, members, owned)
+}
+
+/// How many members own more than an even share.
+fn count_heavy(share: u32, members: &[u32], owned: &PlaneRows) -> usize
+    requires { HaveRows owned.now members.now }
+    ensures { result ≡ heavies share (sets_of owned.now members.now) }
+{
+    let mut heavy = 0;
+    for member in members {
+        if share < row_of(owned, *member).count() {
+            heavy += 1;
+        }
+    }
+    heavy
+}
+
+/// An even share for each member, and one more for the first heavy ones and for the first others.
+fn shares_of(
+    alloc: Global,
+    share: u32,
+    for_heavy: usize,
+    for_others: usize,
+    members: &[u32],
+    owned: &PlaneRows,
+) -> Result<Vec<u32>, Memory>
+    requires few { share ≤ MOST_PARTITIONS }
+    requires rows { HaveRows owned.now members.now }
+    ensures { IfOk result (λ qs.
+        qs.items ≡ shares share for_heavy for_others (sets_of owned.now members.now)) }
+{
+    let mut quotas = Vec::with_capacity(alloc, members.len())?;
+    let mut heavy_left = for_heavy;
+    let mut others_left = for_others;
+    for member in members {
+        if share < row_of(owned, *member).count() {
+            quotas.push(share + one_of(heavy_left))?;
+            heavy_left = heavy_left.saturating_sub(1);
+        } else {
+            quotas.push(share + one_of(others_left))?;
+            others_left = others_left.saturating_sub(1);
+        }
+    }
+    Ok(quotas)
+}
+
+/// The partitions that no member keeps.
+fn free_beside(quotas: &[u32], members: &[u32], owned: &PlaneRows) -> Plane
+    requires long { length quotas.now ≡ length members.now }
+    requires rows { HaveRows owned.now members.now }
+    ensures free { result
+        ≡ free_of owned.now.partitions (keeping quotas.now (sets_of owned.now members.now)) }
+    ensures below { partitions_of result ≡ owned.now.partitions }
+{
+    let mut free = Plane::full(owned.partitions());
+    for (member, quota) in members.iter().zip(quotas) {
+        free = free.minus(&row_of(owned, *member).lowest(*quota));
+    }
+    free
+}
+
+/// The rows: what each member keeps, and of the free partitions, in rising order, what its quota
+/// lacks.
+fn fill(
+    alloc: Global,
+    all_free: Plane,
+    quotas: &[u32],
+    members: &[u32],
+    owned: &PlaneRows,
+) -> Result<PlaneRows, Memory>
+    requires below { partitions_of all_free ≡ owned.now.partitions }
+    requires long { length quotas.now ≡ length members.now }
+    requires rising { IsRising members.now }
+    requires rows { HaveRows owned.now members.now }
+    ensures { IfOk result (λ rows. rows ≡ filled_rows all_free quotas.now members.now owned.now) }
+{
+    let mut rows = PlaneRows::new(alloc, owned.partitions());
+    let mut free = all_free;
+    for (member, quota) in members.iter().zip(quotas) {
+        let kept = row_of(owned, *member).lowest(*quota);
+        let given = free.lowest(quota - kept.count());
+        rows.put(*member, kept.union(&given))?;
+        free = free.minus(&given);
+    }
+    Ok(rows)
+}
+
+/// One, as long as some are left.
+fn one_of(left: usize) -> u32
+    ensures one { result ≡ one_of left }
+    ensures most { result ≤ 1 }
+{
+    if left == 0 { 0 } else { 1 }
+}
+
+/// What a member owns.
+pub fn row_of(owned: &PlaneRows, member: u32) -> &Plane
+    requires { IsSome (row_of owned.now member) }
+    ensures value { result.now ≡ set_of owned.now member }
+    ensures below { partitions_of result.now ≡ owned.now.partitions }
+{
+    owned.get(member).unwrap()
+}

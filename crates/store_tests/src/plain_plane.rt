@@ -1,0 +1,233 @@
+//! A set of partitions as a truth value for each number: the plain program, beside which the tests
+//! run the one over words.
+
+ghost use Rattle.std.specs.Prelude.{◌≡◌, ◌<◌, ◌≤◌, ◌==◌, ◌&&◌, ◌||◌, ◌↔◌, ℕ, false, true, not, nat_lt, min, length, IsTrue, All};
+ghost use Rattle.std.specs.List.{list_any};
+ghost use Rattle.store_tests.specs.PlainPlane.{IsCombined, TellsSomePass};
+ghost use Rattle.bit_planes.specs.PartitionSet.{partitions_of, is_in, any_below, rank, size, elements, empty_set, full_set, with_one, without_one, union, minus, lowest, meets, is_within, is_same};
+
+use lane_words::MOST_PARTITIONS;
+use std::marker::Model;
+
+/// The most partitions, as a length.
+const MOST: usize = MOST_PARTITIONS as usize;
+
+/// A set of partitions, of which there are 1 to 4096.
+#[derive(Drop)]
+pub struct PlainPlane {
+    /// How many partitions there are.
+    partitions: u32,
+    /// Whether each number is in the set: false from `partitions` on.
+    flags: [bool; MOST],
+}
+
+impl Model for PlainPlane {
+    ghost use Rattle.bit_planes.specs.PartitionSet.{PartitionSet};
+    ghost use Rattle.store_tests.specs.PlainPlane.{flags_view, AreValidFlags};
+
+    ghost Value = { PartitionSet };
+
+    ghost view = { λ a. flags_view a.partitions a.flags };
+
+    ghost invariant = { λ a. AreValidFlags a.partitions a.flags };
+}
+
+impl PlainPlane {
+    /// The empty set of this many partitions, 1 to 4096.
+    pub fn new(partitions: u32) -> PlainPlane
+        requires { (1 ≤ partitions) × (partitions ≤ MOST_PARTITIONS) }
+        ensures value { result ≡ empty_set partitions }
+        ensures elements { (q : ℕ) → is_in result q ≡ false }
+        ensures partitions { partitions_of result ≡ partitions }
+    {
+        PlainPlane {
+            partitions,
+            flags: [false; MOST],
+        }
+    }
+
+    /// The set of all of this many partitions, 1 to 4096.
+    pub fn full(partitions: u32) -> PlainPlane
+        requires { (1 ≤ partitions) × (partitions ≤ MOST_PARTITIONS) }
+        ensures value { result ≡ full_set partitions }
+        ensures elements { (q : ℕ) → is_in result q ≡ nat_lt q partitions }
+        ensures partitions { partitions_of result ≡ partitions }
+    {
+        let mut flags = [false; MOST];
+        for q in 0..partitions as usize {
+            flags[q] = true;
+        }
+        PlainPlane { partitions, flags }
+    }
+
+    /// An equal set.
+    pub fn copy(&self) -> PlainPlane
+        ensures { result ≡ self.now }
+    {
+        PlainPlane {
+            partitions: self.partitions,
+            flags: self.flags,
+        }
+    }
+
+    /// How many partitions there are: the elements are below it.
+    pub fn partitions(&self) -> u32
+        ensures value { result ≡ partitions_of self.now }
+        ensures bounds { (1 ≤ result) × (result ≤ MOST_PARTITIONS) }
+    {
+        self.partitions
+    }
+
+    /// Puts a partition into the set.
+    pub fn insert(&mut self, q: u32)
+        requires { q < partitions_of self.old }
+        ensures value { self.new ≡ with_one self.old q }
+        ensures elements { (n : ℕ) → is_in self.new n ≡ (is_in self.old n || (n == q)) }
+        ensures partitions { partitions_of self.new ≡ partitions_of self.old }
+    {
+        self.flags[q as usize] = true;
+    }
+
+    /// Takes a number out of the set. One that is not in it, as each that is no partition, leaves
+    /// it as it was.
+    pub fn remove(&mut self, q: u32)
+        ensures value { self.new ≡ without_one self.old q }
+        ensures elements { (n : ℕ) → is_in self.new n ≡ (is_in self.old n && not (n == q)) }
+        ensures partitions { partitions_of self.new ≡ partitions_of self.old }
+    {
+        if q < self.partitions {
+            self.flags[q as usize] = false;
+        }
+    }
+
+    /// Whether a number is in the set, which none is that is no partition.
+    pub fn contains(&self, q: u32) -> bool
+        ensures value { result ≡ is_in self.now q }
+        ensures below { IsTrue result → q < partitions_of self.now }
+    {
+        q < self.partitions && self.flags[q as usize]
+    }
+
+    /// What is in this set or in the other, which is of as many partitions.
+    pub fn union(&self, other: &PlainPlane) -> PlainPlane
+        requires { partitions_of self.now ≡ partitions_of other.now }
+        ensures value { result ≡ union self.now other.now }
+        ensures elements { (q : ℕ) → is_in result q ≡ (is_in self.now q || is_in other.now q) }
+        ensures partitions { partitions_of result ≡ partitions_of self.now }
+    {
+        self.combined(other, |mine, theirs| mine || theirs)
+    }
+
+    /// What is in this set and not in the other, which is of as many partitions.
+    pub fn minus(&self, other: &PlainPlane) -> PlainPlane
+        requires { partitions_of self.now ≡ partitions_of other.now }
+        ensures value { result ≡ minus self.now other.now }
+        ensures elements { (q : ℕ)
+            → is_in result q ≡ (is_in self.now q && not (is_in other.now q)) }
+        ensures partitions { partitions_of result ≡ partitions_of self.now }
+    {
+        self.combined(other, |mine, theirs| mine && !theirs)
+    }
+
+    /// The `n` lowest elements, or all where there are no more.
+    pub fn lowest(&self, n: u32) -> PlainPlane
+        ensures value { result ≡ lowest n self.now }
+        ensures elements { (q : ℕ)
+            → is_in result q ≡ (is_in self.now q && nat_lt (rank self.now q) n) }
+        ensures partitions { partitions_of result ≡ partitions_of self.now }
+        ensures size { size result ≡ min n (size self.now) }
+    {
+        if n == 0 {
+            return PlainPlane::new(self.partitions);
+        }
+        if self.count() <= n {
+            return self.copy();
+        }
+        let mut flags = self.flags;
+        let mut left = n;
+        for q in 0..self.partitions as usize {
+            if flags[q] {
+                flags[q] = left > 0;
+                left = left.saturating_sub(1);
+            }
+        }
+        PlainPlane {
+            partitions: self.partitions,
+            flags,
+        }
+    }
+
+    /// Whether some number is in both this set and the other, which is of as many partitions.
+    pub fn meets(&self, other: &PlainPlane) -> bool
+        requires { partitions_of self.now ≡ partitions_of other.now }
+        ensures value { result ≡ meets self.now other.now }
+        ensures elements { (result ≡ false)
+            ↔ ((q : ℕ) → (is_in self.now q && is_in other.now q) ≡ false) }
+    {
+        self.some_pass(other, |mine, theirs| mine && theirs)
+    }
+
+    /// Whether each element is in the other set, which is of as many partitions.
+    pub fn within(&self, other: &PlainPlane) -> bool
+        requires { partitions_of self.now ≡ partitions_of other.now }
+        ensures value { result ≡ is_within self.now other.now }
+        ensures elements { IsTrue result
+            ↔ ((q : ℕ) → is_in self.now q ≡ true → is_in other.now q ≡ true) }
+    {
+        !self.some_pass(other, |mine, theirs| mine && !theirs)
+    }
+
+    /// Whether the other, which is of as many partitions, is the same set.
+    pub fn same(&self, other: &PlainPlane) -> bool
+        requires { partitions_of self.now ≡ partitions_of other.now }
+        ensures value { result ≡ is_same self.now other.now }
+        ensures equal { IsTrue result ↔ (self.now ≡ other.now) }
+    {
+        !self.some_pass(other, |mine, theirs| mine != theirs)
+    }
+
+    /// How many elements there are.
+    pub fn count(&self) -> u32
+        ensures value { result ≡ size self.now }
+        ensures most { result ≤ partitions_of self.now }
+    {
+        let mut count = 0;
+        for q in 0..self.partitions as usize {
+            if self.flags[q] {
+                count += 1;
+            }
+        }
+        count
+    }
+
+    /// The partitions of which a test holds: whether one is in this set, and whether in the other.
+    fn combined<F: Fn(bool, bool) -> bool>(&self, other: &PlainPlane, test: F) -> PlainPlane
+        requires callable { F.IsAlwaysCallable test }
+        requires partitions { partitions_of self.now ≡ partitions_of other.now }
+        ensures elements { IsCombined (F.post test) self.now other.now result }
+        ensures partitions { partitions_of result ≡ partitions_of self.now }
+    {
+        let mut flags = self.flags;
+        for q in 0..self.partitions as usize {
+            flags[q] = test(flags[q], other.flags[q]);
+        }
+        PlainPlane {
+            partitions: self.partitions,
+            flags,
+        }
+    }
+
+    /// Whether a test holds of some partition: whether it is in this set, and whether in the other.
+    /// All are tested, since a loop that leaves early is not made into one over many at a time.
+    fn some_pass<F: Fn(bool, bool) -> bool>(&self, other: &PlainPlane, test: F) -> bool
+        requires callable { F.IsAlwaysCallable test }
+        requires partitions { partitions_of self.now ≡ partitions_of other.now }
+        ensures { TellsSomePass (F.post test) self.now other.now result }
+    {
+        let mut passed = false;
+        for q in 0..self.partitions as usize {
+            passed |= test(self.flags[q], other.flags[q]);
+        }
+        passed
+    }
+}
