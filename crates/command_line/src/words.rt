@@ -2,11 +2,12 @@
 
 ghost use Rattle.std.specs.Prelude.{◌≡◌, ◌≤◌, ◌-◌, ◌^◌, false, IfOk, IfErr, IsErrAnd, IsSome, Some, map, codes};
 ghost use Rattle.clap.specs.Words.{app_of, fault_of, first_of, found_of, kind_of, rows_of, rule_of};
-ghost use Rattle.clap.specs.Simple.{App};
+ghost use Rattle.clap.specs.Simple.{App, with_rule, with_subcommand};
+ghost use Rattle.clap.specs.Walk.{Rule};
 ghost use Rattle.command_line.specs.CommandLine.{HasOptions, HasScript, HaveBadList, IsBadListTold, IsJobOf, IsNumber, IsRefusal};
 ghost use Rattle.command_line.specs.Topics.{AreTopicsOf};
 ghost use Rattle.command_line.specs.Private.CommandLine.{IsCommand, IsJobOfRows, ReadsNumber, TakesCount, TakesOptions, TakesScript, Tells, TellsBadList};
-ghost use Rattle.command_line.specs.CommandLine.{count_app, flag, keycount_app, number_option, path, replay_app, run_app, text_option, with_options, with_script};
+ghost use Rattle.command_line.specs.CommandLine.{count_app, flag, keycount_app, keycount_top, number_option, path, replay_app, run_app, text_option, with_options, with_script};
 
 use crate::help::{AFTER_COUNT, AFTER_KEYCOUNT, AFTER_REPLAY, AFTER_RUN};
 use crate::options::{DEFAULT_BATCH, LAST_COLUMN, MOST_BATCH, Options};
@@ -134,17 +135,49 @@ fn header_flag<'a>(alloc: Global) -> Arg<'a>
         .action(ArgAction::SetTrue)
 }
 
+/// A command with one more argument, if there was memory for the command.
+///
+/// Commands are handed on as results: each `?` where a command is owned is one more way to let all
+/// of it go, which the proofs pay for. Here is the one of all arguments.
+fn with_arg<'a>(
+    command: Result<Command<'a>, AllocError>,
+    arg: Arg<'a>,
+) -> Result<Command<'a>, AllocError>
+    requires local { arg.global ≡ false }
+    ensures { (app : App) (rule : Rule) → IfOk command.entry (IsCommand app)
+        → rule_of arg.entry ≡ rule → IfOk result (IsCommand (with_rule app rule)) }
+{
+    command?.arg(arg)
+}
+
+/// A command with one more subcommand, if there was memory for both.
+fn with_subcommand<'a>(
+    command: Result<Command<'a>, AllocError>,
+    added: Result<Command<'a>, AllocError>,
+) -> Result<Command<'a>, AllocError>
+    ensures { (app sub : App) → IfOk command.entry (λ c. app_of c ≡ app)
+        → IfOk added.entry (IsCommand sub)
+        → IfOk result (λ c. app_of c ≡ with_subcommand app sub.top) }
+{
+    command?.subcommand(added?)
+}
+
 /// A command with the options of all subcommands.
-fn with_options<'a>(alloc: Global, command: Command<'a>) -> Result<Command<'a>, AllocError>
-    ensures { (app : App) → IsCommand app command.entry
+fn with_options<'a>(
+    alloc: Global,
+    command: Result<Command<'a>, AllocError>,
+) -> Result<Command<'a>, AllocError>
+    ensures { (app : App) → IfOk command.entry (IsCommand app)
         → IfOk result (IsCommand (with_options app)) }
 {
-    command
-        .arg(number_option(alloc, "partitions", PARTITIONS_HELP, MOST_PARTITIONS))?
-        .arg(number_option(alloc, "column", COLUMN_HELP, LAST_COLUMN))?
-        .arg(header_flag(alloc))?
-        .arg(topics_option(alloc))?
-        .arg(number_option(alloc, "topic-column", TOPIC_COLUMN_HELP, LAST_COLUMN))
+    let partitions = number_option(alloc, "partitions", PARTITIONS_HELP, MOST_PARTITIONS);
+    let command = with_arg(command, partitions);
+    let column = number_option(alloc, "column", COLUMN_HELP, LAST_COLUMN);
+    let command = with_arg(command, column);
+    let command = with_arg(command, header_flag(alloc));
+    let command = with_arg(command, topics_option(alloc));
+    let topic_column = number_option(alloc, "topic-column", TOPIC_COLUMN_HELP, LAST_COLUMN);
+    with_arg(command, topic_column)
 }
 
 /// The subcommand `count`.
@@ -154,7 +187,7 @@ fn count_command<'a>(alloc: Global) -> Result<Command<'a>, AllocError>
     let command = Command::new(alloc, "count")
         .about("Counts how often each key occurs in a CSV file")
         .after_help(AFTER_COUNT)
-        .arg(file_path(alloc))?;
+        .arg(file_path(alloc));
     with_options(alloc, command)
 }
 
@@ -167,10 +200,13 @@ fn with_script<'a>(
     ensures { (app : App) → IsCommand app command.entry
         → IfOk result (IsCommand (with_script app)) }
 {
-    let command = command
-        .arg(file_path(alloc))?
-        .arg(path(alloc, "script", "SCRIPT", help))?;
-    with_options(alloc, command)?.arg(number_option(alloc, "batch", BATCH_HELP, MOST_BATCH))
+    let command = command.arg(file_path(alloc));
+    let command = with_arg(command, path(alloc, "script", "SCRIPT", help));
+    let command = with_options(alloc, command);
+    with_arg(
+        command,
+        number_option(alloc, "batch", BATCH_HELP, MOST_BATCH),
+    )
 }
 
 /// The subcommand `replay`.
@@ -197,21 +233,26 @@ fn run_command<'a>(alloc: Global) -> Result<Command<'a>, AllocError>
     )
 }
 
-/// The program and its subcommands.
-fn keycount_command<'a>(alloc: Global) -> Result<Command<'a>, AllocError>
-    ensures { IfOk result (λ c. app_of c ≡ keycount_app) }
+/// The program without its subcommands.
+fn top_command<'a>(alloc: Global) -> Result<Command<'a>, AllocError>
+    ensures { IfOk result (λ c. app_of c ≡ keycount_top) }
 {
-    // Each subcommand is made where it is added: one that waits is let go at every `?`.
     Command::new(alloc, "keycount")
-        .bin_name("keycount")?
         .about("Counts the keys of a CSV file")
         .after_help(AFTER_KEYCOUNT)
         .no_binary_name(true)
         .subcommand_required(true)
         .version(VERSION)
-        .subcommand(count_command(alloc)?)?
-        .subcommand(replay_command(alloc)?)?
-        .subcommand(run_command(alloc)?)
+        .bin_name("keycount")
+}
+
+/// The program and its subcommands.
+fn keycount_command<'a>(alloc: Global) -> Result<Command<'a>, AllocError>
+    ensures { IfOk result (λ c. app_of c ≡ keycount_app) }
+{
+    let command = with_subcommand(top_command(alloc), count_command(alloc));
+    let command = with_subcommand(command, replay_command(alloc));
+    with_subcommand(command, run_command(alloc))
 }
 
 /// The text that an argument gives, which clap has asked for.

@@ -1,6 +1,6 @@
 //! The keys of one piece of a file.
 
-ghost use Rattle.std.specs.Prelude.{◌≡◌, ◌≤◌, ◌<◌, ◌⊎◌, ◌∷◌, Ok, Err, [], IfOk, IfErr, List, length, MatchOption};
+ghost use Rattle.std.specs.Prelude.{◌≡◌, ◌≤◌, ◌<◌, ◌⊎◌, ◌∷◌, Ok, Err, [], IfOk, IfErr, OnOk, List, length, MatchOption};
 ghost use Rattle.key_file.specs.KeyFile.{IsFileFault, Record};
 ghost use Rattle.key_file.specs.Pieces.{file_records, piece_keys};
 ghost use Rattle.key_file.specs.Private.Join.{IsWidthOf};
@@ -9,7 +9,7 @@ ghost use Rattle.lane_words.specs.declared.Refusal.TheVariants as refusal;
 
 use crate::records::{next_record, records_of};
 use crate::wanted::Wanted;
-use crate::whole::add_key;
+use crate::whole::add_rest;
 use csv::ByteRecord;
 use key_lists::KeyList;
 use lane_words::{Memory, Refusal};
@@ -26,6 +26,25 @@ pub fn first_width(alloc: Global, file: &[u8]) -> Result<Option<usize>, Memory>
     if found { Ok(Some(row.len())) } else { Ok(None) }
 }
 
+/// Adds the keys of a piece to a list that has nothing yet.
+fn add_piece(
+    alloc: Global,
+    keys: &mut KeyList,
+    piece: &[u8],
+    wanted: &Wanted<'_>,
+    width: usize,
+) -> Result<(), Refusal>
+    requires none { keys.old ≡ [] }
+    ensures keys { OnOk result (piece_keys (taking wanted.now) width piece.now ≡ Ok keys.new) }
+    ensures kind { IfErr result IsFileFault }
+    ensures fault { IfErr result
+        (λ e. (e ≡ refusal.Memory) ⊎ (piece_keys (taking wanted.now) width piece.now ≡ Err e)) }
+{
+    let mut reader = records_of(alloc, piece);
+    let mut row = ByteRecord::new(alloc);
+    add_rest(keys, &mut reader, &mut row, wanted, width, 1)
+}
+
 /// The keys of one piece of a file, whose records have to be `width` fields long. Of a fault the
 /// number counts from the piece's own first record.
 pub fn keys_of_piece(
@@ -40,16 +59,6 @@ pub fn keys_of_piece(
         (λ e. (e ≡ refusal.Memory) ⊎ (piece_keys (taking wanted.now) width piece.now ≡ Err e)) }
 {
     let mut keys = wanted.new_list(alloc);
-    let mut reader = records_of(alloc, piece);
-    let mut row = ByteRecord::new(alloc);
-    for nth in 1..u64::MAX {
-        let Ok(found) = next_record(&mut reader, &mut row) else {
-            return Err(Refusal::Memory);
-        };
-        if !found {
-            return Ok(keys);
-        }
-        add_key(&mut keys, &row, wanted, width, nth)?;
-    }
-    unreachable!()
+    let added = add_piece(alloc, &mut keys, piece, wanted, width);
+    added.and(Ok(keys))
 }

@@ -3,18 +3,19 @@
 ghost use Rattle.std.specs.Prelude.{◌≡◌, ◌≤◌, ◌+◌, ◌<◌, ◌^◌, ◌⊎◌, ◌∷◌, ◌++◌, ◌-◌, Some, None, [], ℕ, List, Ok, Err, IfOk, IfErr, OnErr, OnOk, length, Bool};
 ghost use Rattle.csv.specs.Reading.{default_config, records, strip_bom};
 ghost use Rattle.csv.specs.Records.{field_at, fields_of};
-ghost use Rattle.key_file.specs.KeyFile.{IsFileFault, keys_of, taken_of};
-ghost use Rattle.key_file.specs.Private.KeyFile.{IsFaultAt, TakesKey};
+ghost use Rattle.key_file.specs.KeyFile.{IsFileFault, keys_of, keys_of_records, taken_of};
+ghost use Rattle.key_file.specs.Private.KeyFile.{IsFaultAt, TakesKey, keys_then};
 ghost use Rattle.key_file.specs.Private.Records.{ReadsRecords, TakesNext, records_left};
 ghost use Rattle.key_file.specs.Private.Wanted.{item, taking};
 ghost use Rattle.lane_words.specs.declared.Refusal.TheVariants as refusal;
 
 use crate::records::{next_record, records_of};
 use crate::wanted::{Wanted, lack_at};
-use csv::ByteRecord;
+use csv::{ByteRecord, Reader};
 use key_lists::KeyList;
 use lane_words::{Memory, Refusal};
 use std::alloc::Global;
+use std::io::Read;
 
 /// Adds a key behind the index of its topic, if it has one. Where memory is refused, the list stays
 /// as it was.
@@ -53,6 +54,89 @@ pub fn add_key(
     }
 }
 
+/// Adds what is taken of the records that are left, which are numbered from this one on and have to
+/// be `width` fields long.
+///
+/// It owns nothing, as `add_all`: who owns the list, the reader and the row returns in few places.
+pub fn add_rest(
+    keys: &mut KeyList,
+    reader: &mut Reader<&[u8]>,
+    row: &mut ByteRecord,
+    wanted: &Wanted<'_>,
+    width: usize,
+    from: u64,
+) -> Result<(), Refusal>
+    requires reads { ReadsRecords ⟦<&'static [u8] as Read>⟧.remaining reader.old }
+    requires few { length keys.old < 2 ^ 63 }
+    requires from { from ≤ length keys.old + 2 }
+    ensures keys { OnOk result (keys_then (taking wanted.now) width from keys.old
+        (records_left ⟦<&'static [u8] as Read>⟧.remaining reader.old) ≡ Ok keys.new) }
+    ensures kind { IfErr result IsFileFault }
+    ensures fault { IfErr result (λ e. (e ≡ refusal.Memory)
+        ⊎ (keys_then (taking wanted.now) width from keys.old
+        (records_left ⟦<&'static [u8] as Read>⟧.remaining reader.old) ≡ Err e)) }
+{
+    for nth in from..u64::MAX {
+        let Ok(found) = next_record(reader, row) else {
+            return Err(Refusal::Memory);
+        };
+        if !found {
+            return Ok(());
+        }
+        add_key(keys, row, wanted, width, nth)?;
+    }
+    unreachable!()
+}
+
+/// Adds what is taken of all records to a list that has nothing yet. They are as long as the first.
+fn add_all(
+    keys: &mut KeyList,
+    reader: &mut Reader<&[u8]>,
+    row: &mut ByteRecord,
+    wanted: &Wanted<'_>,
+    header: bool,
+) -> Result<(), Refusal>
+    requires reads { ReadsRecords ⟦<&'static [u8] as Read>⟧.remaining reader.old }
+    requires none { keys.old ≡ [] }
+    ensures keys { OnOk result (keys_of_records (taking wanted.now) header
+        (records_left ⟦<&'static [u8] as Read>⟧.remaining reader.old) ≡ Ok keys.new) }
+    ensures kind { IfErr result IsFileFault }
+    ensures fault { IfErr result (λ e. (e ≡ refusal.Memory)
+        ⊎ (keys_of_records (taking wanted.now) header
+        (records_left ⟦<&'static [u8] as Read>⟧.remaining reader.old) ≡ Err e)) }
+{
+    let Ok(found) = next_record(reader, row) else {
+        return Err(Refusal::Memory);
+    };
+    if !found {
+        return Ok(());
+    }
+    let width = row.len();
+    if !header {
+        add_key(keys, row, wanted, width, 1)?;
+    }
+    add_rest(keys, reader, row, wanted, width, 2)
+}
+
+/// Adds what is taken of a file to a list that has nothing yet.
+fn add_file(
+    alloc: Global,
+    keys: &mut KeyList,
+    file: &[u8],
+    wanted: &Wanted<'_>,
+    header: bool,
+) -> Result<(), Refusal>
+    requires none { keys.old ≡ [] }
+    ensures keys { OnOk result (taken_of (taking wanted.now) header file.now ≡ Ok keys.new) }
+    ensures kind { IfErr result IsFileFault }
+    ensures fault { IfErr result
+        (λ e. (e ≡ refusal.Memory) ⊎ (taken_of (taking wanted.now) header file.now ≡ Err e)) }
+{
+    let mut reader = records_of(alloc, file);
+    let mut row = ByteRecord::new(alloc);
+    add_all(keys, &mut reader, &mut row, wanted, header)
+}
+
 /// What is taken of the records of a file, in their order: of each its key, behind the index of its
 /// topic where the file has topics. `read_keys` tells the rest.
 pub fn read_taken(
@@ -67,28 +151,8 @@ pub fn read_taken(
         (λ e. (e ≡ refusal.Memory) ⊎ (taken_of (taking wanted.now) header file.now ≡ Err e)) }
 {
     let mut keys = wanted.new_list(alloc);
-    let mut reader = records_of(alloc, file);
-    let mut row = ByteRecord::new(alloc);
-    let Ok(found) = next_record(&mut reader, &mut row) else {
-        return Err(Refusal::Memory);
-    };
-    if !found {
-        return Ok(keys);
-    }
-    let width = row.len();
-    if !header {
-        add_key(&mut keys, &row, wanted, width, 1)?;
-    }
-    for nth in 2..u64::MAX {
-        let Ok(found) = next_record(&mut reader, &mut row) else {
-            return Err(Refusal::Memory);
-        };
-        if !found {
-            return Ok(keys);
-        }
-        add_key(&mut keys, &row, wanted, width, nth)?;
-    }
-    unreachable!()
+    let added = add_file(alloc, &mut keys, file, wanted, header);
+    added.and(Ok(keys))
 }
 
 /// The keys of a file of comma-separated records: of each record the field in this column, in the

@@ -263,13 +263,21 @@ impl Planned {
         ensures run { IfOk result (IsRunOf logs.now plan.now) }
         ensures valid { IfOk result IsValidCluster }
     {
+        let came = self.came_to(logs, plan);
+        came.and(Ok(self.cluster))
+    }
+
+    /// Whether the run came to its end with these logs and this plan, or why not.
+    fn came_to(&self, logs: &SealedLogs, plan: &Plan) -> Result<(), Fault>
+        ensures { OnOk result (IsRunOf logs.now plan.now self.now.cluster) }
+    {
         if let Some(Err(fault)) = self.end {
             return Err(fault);
         }
         if !self.is_finished() || !self.plan.same(plan) || !logs.same(self.cluster.logs()) {
             return Err(Fault::Differs);
         }
-        Ok(self.cluster)
+        Ok(())
     }
 
     /// Whether the run has come to its end: each line of the plan is applied, the group is settled,

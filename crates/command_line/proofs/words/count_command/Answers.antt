@@ -1,4 +1,5 @@
 use Rattle.std.proofs.Common.{◌∙◌, ap, codes}
+use Rattle.std.proofs.lemmas.Result.{IfOk-weaker}
 use Rattle.clap.specs.Simple.{app_of_fields, new_app}
 use Rattle.clap.specs.declared.builder.command.Command.{Command}
 use Rattle.clap.specs.declared.builder.command.Command.TheOpen.{Command-F}
@@ -14,5 +15,5 @@ returns c =
       read_as = ap app_of_fields texts ∙ c.new.ensures.app;
       local = ap (λ (f : Command-F Command). f.has_globals) texts ∙ c.new.ensures.local;
     } in
-    let file = added _ _ _ _ (path (codes "file")) c.in_ok-command.ensures start c.file_path.ensures.rule c.file_path.ensures.local in
+    let file = IfOk-weaker c.arg-command.result _ _ (λ r h. added _ r _ _ (path (codes "file")) h start c.file_path.ensures.rule c.file_path.ensures.local) c.arg-command.ensures in
     c.with_options.ensures _ file

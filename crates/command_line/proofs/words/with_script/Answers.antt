@@ -7,7 +7,7 @@ use Rattle.command_line.proofs.words.with_script.Goals as goal
 
 pub returns : goal.returns
 returns c app is =
-    let file = added _ _ _ _ (path (codes "file")) c.in_ok-arg.ensures is c.file_path.ensures.rule c.file_path.ensures.local in
-    let script = added _ _ _ _ (path (codes "script")) c.in_ok-command.ensures file c.path.ensures.rule c.path.ensures.local in
-    let options = c.in_ok-with_options.ensures _ script in
-    IfOk-weaker c.arg-3.result _ _ (λ r h. added _ r _ _ (number_option (codes "batch") MOST_BATCH) h options c.number_option.ensures.rule c.number_option.ensures.local) c.arg-3.ensures
+    let file = IfOk-weaker c.arg-command.result _ _ (λ r h. added _ r _ _ (path (codes "file")) h is c.file_path.ensures.rule c.file_path.ensures.local) c.arg-command.ensures in
+    let script = c.with_arg-command.ensures _ (path (codes "script")) file c.path.ensures.rule in
+    let options = c.with_options-command.ensures _ script in
+    c.with_arg.ensures _ (number_option (codes "batch") MOST_BATCH) options c.number_option.ensures.rule

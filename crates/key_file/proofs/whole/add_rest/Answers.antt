@@ -1,7 +1,7 @@
 use Rattle.std.proofs.Common.{rules, ◌∙◌}
 use Rattle.key_file.proofs.Keys.{after_keys-ok, fault_after, keys_from-nil}
 use Rattle.key_file.specs.Private.Wanted.{taking}
-use Rattle.key_file.proofs.piece.keys_of_piece.Goals as goal
+use Rattle.key_file.proofs.whole.add_rest.Goals as goal
 
 pub returns-then-not-found-clause-keys : goal.returns-then-not-found-clause-keys
 returns-then-not-found-clause-keys c =
