@@ -42,7 +42,8 @@ fn looked_up(rt: &impl RandomSource, alloc: Global, keys: &[&[u8]]) -> Result<Ke
     with_keys(KeyList::looking_up(alloc, hasher), keys)
 }
 
-/// Adds lists of these keys: of none, of the first half, in which they are looked up, and of the others.
+/// Adds lists of these keys: of none, of the first half, in which they are looked up, and of the
+/// others.
 fn add_lists(
     rt: &impl RandomSource,
     alloc: Global,
@@ -152,8 +153,8 @@ fn all_give<R: Threads + Sync>(
     all_give_once(rt, logs, plain, listed, case) && all_give_once(rt, logs, plain, listed, case)
 }
 
-// Each of these owns one thing more, and nothing else: each `?` is proved with all that lets go what
-// is owned there.
+// Each of these owns one thing more, and nothing else: each `?` is proved with all that lets go
+// what is owned there.
 
 /// The same with new logs for the lists.
 fn two_give<R: RandomSource + Threads + Sync>(
@@ -216,7 +217,8 @@ fn few_keys_at_once(rt: HostRuntime) -> Result<(), Fail> {
     Ok(())
 }
 
-/// Whether appends stop at this key, which is too long, among others, at the end and at the beginning.
+/// Whether appends stop at this key, which is too long, among others, at the end and at the
+/// beginning.
 fn are_stopped<R: RandomSource + Threads + Sync>(
     rt: &R,
     alloc: Global,

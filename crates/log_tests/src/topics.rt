@@ -62,7 +62,8 @@ fn are_numbered(logs: &Logs) -> bool {
     logs.keys() == 3
 }
 
-/// Whether logs of those two topics number keys over both, and append in the first where none is named.
+/// Whether logs of those two topics number keys over both, and append in the first where none is
+/// named.
 fn number_over_all(logs: &mut Logs) -> bool {
     logs.topics() == 2
         && logs.partitions() == 5

@@ -30,8 +30,8 @@ const FAULTS: [(Refusal, &[u8], u8); 9] = [
     (Refusal::Memory, b"fault 90\n", 3),
 ];
 
-/// What a page that takes so many writes answers to the line of a fault, whether it then has this text, and
-/// after how many failures.
+/// What a page that takes so many writes answers to the line of a fault, whether it then has this
+/// text, and after how many failures.
 fn written(
     alloc: Global,
     fault: &Refusal,

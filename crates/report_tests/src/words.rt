@@ -120,8 +120,8 @@ fn is_job(answer: &Result<Job, Usage>, subcommand: &str, told: &Told<'_>) -> boo
     }
 }
 
-/// Whether words ask for that job. A test asserts what this tells, and owns no answer: each assertion is
-/// proved with all that lets go what is owned there.
+/// Whether words ask for that job. A test asserts what this tells, and owns no answer: each
+/// assertion is proved with all that lets go what is owned there.
 fn asks_for(alloc: Global, words: &[&str], subcommand: &str, told: &Told<'_>) -> bool {
     let answer = read_words(alloc, words);
     is_job(&answer, subcommand, told)
