@@ -1,6 +1,8 @@
 //! Worked rows, each call once with ample memory, and as many members and partitions as there can
 //! be.
 
+ghost use Rattle.std.specs.Prelude.{◌≤◌};
+
 use bit_planes::Plane;
 use group_machine::{Cluster, Commit, Name, Phase};
 use keyed_table::Partial;
@@ -15,6 +17,9 @@ use std::test::Fail;
 fn is(set: &Plane, list: &[u32]) -> bool {
     set.count() as usize == list.len() && list.iter().all(|q| set.contains(*q))
 }
+
+/// A move: generation, partition, last holder and holder.
+type Moved = (u32, u32, Option<u32>, u32);
 
 /// A call on a cluster of four partitions with its answer, or what is told of the cluster.
 ///
@@ -52,6 +57,24 @@ enum Step<'a> {
     Named(&'a [u8], Option<u32>),
     /// The committed offsets.
     Offsets(&'a [u32]),
+    /// As many join as there may be, under names of three digits. The first one keeps its place.
+    Fill,
+    /// The place that is kept under this name is taken over by each number from 2 on.
+    TakeOverAll(&'a [u8]),
+    /// A member syncs and rejoins with what it is leased, which are so many partitions.
+    Renew(u32, u32),
+    /// So many partitions were moved.
+    Moves(usize),
+    /// These were the last moves, the last one first.
+    LastMoves(&'a [Moved]),
+    /// The owner of a partition.
+    Owned(u32, Option<u32>),
+    /// This member alone is present.
+    Alone(u32),
+    /// The name of a member, present or not.
+    Called(u32, &'a [u8]),
+    /// So many partitions, and so many records in this one.
+    Records(u32, u32, u32),
 }
 
 /// Whether a step is answered as it says.
@@ -73,6 +96,9 @@ fn is_answered(
         Step::Lose(member, answer) => cluster.lose(*member) == *answer,
         Step::Append(key, answer) => cluster.append(key) == *answer,
         Step::Commit(terms, ids, answer) => commit(alloc, cluster, *terms, ids)? == *answer,
+        Step::Fill => first_not_joined(rt, cluster).is_none(),
+        Step::TakeOverAll(text) => first_not_taken(cluster, &name(rt, text)).is_none(),
+        Step::Renew(member, count) => leased(cluster, *member) == Some(*count),
         step => is_told(rt, cluster, step),
     };
     Ok(is_so)
@@ -95,8 +121,36 @@ fn is_told(rt: &impl Abort, cluster: &Cluster, step: &Step<'_>) -> bool {
         Step::Keeps(member, kept) => cluster.is_kept(*member) == *kept,
         Step::Named(text, member) => cluster.member_named(&name(rt, text)) == *member,
         Step::Offsets(offsets) => cluster.store().offsets() == *offsets,
+        step => is_told_of_all(cluster, step),
+    }
+}
+
+/// The same of steps that tell of moves, of members and of logs.
+fn is_told_of_all(cluster: &Cluster, step: &Step<'_>) -> bool {
+    match step {
+        Step::Moves(count) => cluster.moves().len() == *count,
+        Step::LastMoves(rows) => moves_end_with(cluster, rows),
+        Step::Owned(p, owner) => cluster.owner(*p) == *owner,
+        Step::Alone(member) => cluster.members().eq([*member]),
+        Step::Called(member, text) => is_called(cluster, *member, text),
+        Step::Records(partitions, p, records) => {
+            cluster.partitions() == *partitions && has_records(cluster.logs(), *p, *records)
+        }
         _ => false,
     }
+}
+
+/// Whether a member has this name.
+fn is_called(cluster: &Cluster, member: u32, text: &[u8]) -> bool {
+    match cluster.name(member) {
+        Some(name) => name.text() == text,
+        None => false,
+    }
+}
+
+/// Whether a log has so many records.
+fn has_records(logs: &Logs, p: u32, records: u32) -> bool {
+    p < logs.partitions() && logs.len(p) == records
 }
 
 /// The first step that is not answered as it says.
@@ -124,15 +178,19 @@ fn are_answered(
     Ok(first_other(rt, alloc, cluster, steps)?.is_none())
 }
 
-/// A cluster of four partitions, after steps that are answered as they say.
-fn after<R: Abort + RandomSource>(
+/// The first step that is not answered as it says, of a cluster of this many partitions. Nobody
+/// else owns a cluster: each `?` and each assertion is proved with all that lets go what is owned
+/// there.
+fn first_other_of<R: Abort + RandomSource>(
     rt: &R,
     alloc: Global,
+    partitions: u32,
     steps: &[Step<'_>],
-) -> Result<Cluster, Fail> {
-    let mut cluster = Cluster::new(rt, alloc, 4)?;
-    assert_eq!(rt; first_other(rt, alloc, &mut cluster, steps)?, None);
-    Ok(cluster)
+) -> Result<Option<usize>, Memory>
+    requires { (1 ≤ partitions) × (partitions ≤ MOST_PARTITIONS) }
+{
+    let mut cluster = Cluster::new(rt, alloc, partitions)?;
+    first_other(rt, alloc, &mut cluster, steps)
 }
 
 /// The set of these of four partitions.
@@ -202,7 +260,7 @@ fn commit(
 }
 
 /// The moves from the last on: generation, partition, last holder and holder.
-fn moves_end_with(cluster: &Cluster, rows: &[(u32, u32, Option<u32>, u32)]) -> bool {
+fn moves_end_with(cluster: &Cluster, rows: &[Moved]) -> bool {
     let last = cluster
         .moves()
         .iter()
@@ -212,7 +270,7 @@ fn moves_end_with(cluster: &Cluster, rows: &[(u32, u32, Option<u32>, u32)]) -> b
 }
 
 /// A second member joins, and is granted what the first one gives up.
-const MOVES_ONCE_REVOKED: [Step; 16] = [
+const MOVES_ONCE_REVOKED: [Step; 19] = [
     Step::Join(b"A", Ok(1)),
     Step::Join(b"B", Ok(2)),
     Step::Stands(1, Phase::Preparing, false),
@@ -229,25 +287,15 @@ const MOVES_ONCE_REVOKED: [Step; 16] = [
     Step::Lease(2, 2, &[]),
     Step::Rejoin(2, 2, &[], Ok(())),
     Step::Stands(3, Phase::Stable, true),
+    Step::Moves(6),
+    Step::LastMoves(&[(3, 3, Some(1), 2), (3, 2, Some(1), 2), (1, 3, None, 1)]),
+    Step::Owned(3, Some(2)),
 ];
-
-/// The last moves of it, the last one first.
-const MOVED: [(u32, u32, Option<u32>, u32); 3] = [
-    (3, 3, Some(1), 2),
-    (3, 2, Some(1), 2),
-    (1, 3, None, 1),
-];
-
-/// Whether those were the last of six moves, and the second member has the last partition.
-fn has_moved(cluster: &Cluster) -> bool {
-    cluster.moves().len() == 6 && moves_end_with(cluster, &MOVED) && cluster.owner(3) == Some(2)
-}
 
 #[test]
-fn a_partition_moves_once_it_is_revoked(rt: HostRuntime) -> Result<(), Fail> {
-    let cluster = after(&rt, rt.alloc(), &MOVES_ONCE_REVOKED)?;
-    assert!(rt; has_moved(&cluster));
-    Ok(())
+fn a_partition_moves_once_it_is_revoked(rt: HostRuntime) {
+    let other = first_other_of(&rt, rt.alloc(), 4, &MOVES_ONCE_REVOKED);
+    assert_eq!(rt; other, Ok(None));
 }
 
 /// The answer of a commit that is not at the offset, with nothing committed.
@@ -256,7 +304,7 @@ const NONE_YET: Result<u32, Refusal> = Err(Refusal::OffsetMismatch { committed: 
 const TAKEN: Result<u32, Refusal> = Err(Refusal::OffsetMismatch { committed: 2 });
 
 /// Commits of members that are unknown, late or no owners, and those that fit.
-const FENCED_COMMITS: [Step; 17] = [
+const FENCED_COMMITS: [Step; 18] = [
     Step::Append(b"21", Ok((0, 0))),
     Step::Append(b"21", Ok((0, 1))),
     Step::Join(b"A", Ok(1)),
@@ -274,17 +322,17 @@ const FENCED_COMMITS: [Step; 17] = [
     Step::Commit((1, 1, 0, 0), &[0, 0], Ok(2)),
     Step::Commit((1, 1, 0, 0), &[0, 0], TAKEN),
     Step::Offsets(&[2, 0, 0, 0]),
+    Step::Records(4, 0, 2),
 ];
 
 #[test]
-fn commits_are_fenced_and_taken_once(rt: HostRuntime) -> Result<(), Fail> {
-    let cluster = after(&rt, rt.alloc(), &FENCED_COMMITS)?;
-    assert!(rt; cluster.partitions() == 4 && cluster.logs().len(0) == 2);
-    Ok(())
+fn commits_are_fenced_and_taken_once(rt: HostRuntime) {
+    let other = first_other_of(&rt, rt.alloc(), 4, &FENCED_COMMITS);
+    assert_eq!(rt; other, Ok(None));
 }
 
 /// A member is lost, and the other one commits.
-const ONE_IS_LOST: [Step; 11] = [
+const ONE_IS_LOST: [Step; 13] = [
     Step::Append(b"21", Ok((0, 0))),
     Step::Join(b"A", Ok(1)),
     Step::Join(b"B", Ok(2)),
@@ -296,53 +344,53 @@ const ONE_IS_LOST: [Step; 11] = [
     Step::Stands(2, Phase::Stable, true),
     Step::Commit((1, 1, 0, 0), &[0], Err(Refusal::UnknownMember)),
     Step::Commit((2, 2, 0, 0), &[0], Ok(1)),
+    Step::Alone(2),
+    // A name is never given again.
+    Step::Called(1, b"A"),
 ];
 
-/// Whether the second member alone is left, and the first one still has its name.
-fn is_left_by_the_first(cluster: &Cluster) -> bool {
-    cluster.members().eq([2])
-        && cluster
-            .name(1)
-            .is_some_and(|lost| lost.text() == b"A".as_slice())
+#[test]
+fn a_lost_member_is_fenced_off(rt: HostRuntime) {
+    let other = first_other_of(&rt, rt.alloc(), 4, &ONE_IS_LOST);
+    assert_eq!(rt; other, Ok(None));
 }
 
-#[test]
-fn a_lost_member_is_fenced_off(rt: HostRuntime) -> Result<(), Fail> {
-    let cluster = after(&rt, rt.alloc(), &ONE_IS_LOST)?;
-    assert!(rt; is_left_by_the_first(&cluster));
-    Ok(())
-}
+/// Texts, and whether they are names.
+const NAMES: [(&[u8], bool); 6] = [
+    (b"", false),
+    (b"worker-1_B", true),
+    (b"a.b", false),
+    (b"a name", false),
+    (b"12345678901234567890123456789012", true),
+    (b"123456789012345678901234567890123", false),
+];
 
 #[test]
 fn names_are_of_letters_digits_and_two_marks(rt: HostRuntime) {
-    let texts: [(&[u8], bool); 6] = [
-        (b"", false),
-        (b"worker-1_B", true),
-        (b"a.b", false),
-        (b"a name", false),
-        (b"12345678901234567890123456789012", true),
-        (b"123456789012345678901234567890123", false),
-    ];
-    for (text, is_name) in texts {
-        assert_eq!(rt; Name::new(text).is_some(), is_name, "{text:?}");
+    for (text, is_name) in &NAMES {
+        assert_eq!(rt; Name::new(text).is_some(), *is_name, "{text:?}");
     }
 }
 
-/// As many members as there may be, of as many partitions. The first keeps its place.
-fn at_its_limits<R: Abort + RandomSource>(rt: &R, alloc: Global) -> Result<Cluster, Fail> {
-    let mut cluster = Cluster::new(rt, alloc, MOST_PARTITIONS)?;
-    assert!(rt; cluster.join_kept(numbered(rt, 1)) == Ok(1));
-    for member in 2..MOST_MEMBERS as u32 + 1 {
-        assert!(rt;
-            cluster.join(numbered(rt, member)) == Ok(member),
-            "{member}"
-        );
+/// The first number that is not given to one who joins under its three digits, the first one to
+/// keep its place.
+fn first_not_joined(rt: &impl Abort, cluster: &mut Cluster) -> Option<u32> {
+    for member in 1..MOST_MEMBERS as u32 + 1 {
+        let joined = if member == 1 {
+            cluster.join_kept(numbered(rt, member))
+        } else {
+            cluster.join(numbered(rt, member))
+        };
+        if joined != Ok(member) {
+            return Some(member);
+        }
     }
-    Ok(cluster)
+    None
 }
 
 /// What a full group answers, whose first member alone keeps its place.
-const WHERE_FULL: [Step; 8] = [
+const WHERE_FULL: [Step; 9] = [
+    Step::Fill,
     Step::Join(b"late", Err(Refusal::TooManyMembers)),
     Step::Join(b"007", Err(Refusal::NameUsed)),
     Step::JoinKept(b"late", Err(Refusal::TooManyMembers)),
@@ -354,13 +402,9 @@ const WHERE_FULL: [Step; 8] = [
 ];
 
 #[test]
-fn no_more_members_than_there_may_be_join(rt: HostRuntime) -> Result<(), Fail> {
-    let mut cluster = at_its_limits(&rt, rt.alloc())?;
-    assert_eq!(rt;
-        first_other(&rt, rt.alloc(), &mut cluster, &WHERE_FULL)?,
-        None
-    );
-    Ok(())
+fn no_more_members_than_there_may_be_join(rt: HostRuntime) {
+    let other = first_other_of(&rt, rt.alloc(), MOST_PARTITIONS, &WHERE_FULL);
+    assert_eq!(rt; other, Ok(None));
 }
 
 /// The first number that does not take over the place that A keeps, of those from 2 on.
@@ -368,11 +412,10 @@ fn first_not_taken(cluster: &mut Cluster, name: &Name) -> Option<u32> {
     (2..MOST_MEMBERS as u32 + 1).find(|n| cluster.take_over(name) != Ok(*n))
 }
 
-/// One joins who keeps its place.
-const KEPT: [Step; 1] = [Step::JoinKept(b"A", Ok(1))];
-
-/// Its place has had all numbers.
-const NUMBERS_ARE_OVER: [Step; 6] = [
+/// The place of one who joins and keeps it has had all numbers.
+const NUMBERS_ARE_OVER: [Step; 8] = [
+    Step::JoinKept(b"A", Ok(1)),
+    Step::TakeOverAll(b"A"),
     Step::TakeOver(b"A", Err(Refusal::TooManyMembers)),
     Step::Stands(1, Phase::Stable, true),
     Step::Is(511, false, false, false),
@@ -381,21 +424,10 @@ const NUMBERS_ARE_OVER: [Step; 6] = [
     Step::Lease(512, 1, &[0, 1, 2, 3]),
 ];
 
-/// Whether A's place is taken over by each number from 2 on, and then no more.
-fn takes_all_numbers(
-    rt: &impl Abort,
-    alloc: Global,
-    cluster: &mut Cluster,
-) -> Result<bool, Memory> {
-    let first = first_not_taken(cluster, &name(rt, b"A"));
-    Ok(first.is_none() && are_answered(rt, alloc, cluster, &NUMBERS_ARE_OVER)?)
-}
-
 #[test]
-fn a_place_is_taken_over_as_often_as_there_are_numbers(rt: HostRuntime) -> Result<(), Fail> {
-    let mut cluster = after(&rt, rt.alloc(), &KEPT)?;
-    assert_eq!(rt; takes_all_numbers(&rt, rt.alloc(), &mut cluster), Ok(true));
-    Ok(())
+fn a_place_is_taken_over_as_often_as_there_are_numbers(rt: HostRuntime) {
+    let other = first_other_of(&rt, rt.alloc(), 4, &NUMBERS_ARE_OVER);
+    assert_eq!(rt; other, Ok(None));
 }
 
 /// What a member is leased, where it syncs and rejoins.
@@ -403,21 +435,13 @@ fn leased(cluster: &mut Cluster, member: u32) -> Option<u32> {
     sync_and_rejoin(cluster, member).ok()
 }
 
-/// How much members are leased one after the other, in a group that has just had its last member.
-const LEASES_AT_THE_LIMITS: [(u32, u32); 3] = [(1, MOST_PARTITIONS), (1, 8), (512, 0)];
-
-/// The first of those that is another.
-fn first_other_lease(cluster: &mut Cluster) -> Option<u32> {
-    for (member, count) in LEASES_AT_THE_LIMITS {
-        if leased(cluster, member) != Some(count) {
-            return Some(member);
-        }
-    }
-    None
-}
-
-/// The last member leaves a group at its limits.
-const THE_LAST_LEAVES: [Step; 6] = [
+/// A group at its limits goes on to its second generation, and the last member leaves.
+const AT_ITS_LIMITS: [Step; 11] = [
+    Step::Fill,
+    Step::Renew(1, MOST_PARTITIONS),
+    Step::Renew(1, 8),
+    Step::Renew(512, 0),
+    Step::Moves(4096),
     Step::Has(1, &[0, 1, 2, 3, 4, 5, 6, 7], &[0, 1, 2, 3, 4, 5, 6, 7]),
     Step::Leave(512, Ok(())),
     Step::Leave(512, Err(Refusal::UnknownMember)),
@@ -426,20 +450,10 @@ const THE_LAST_LEAVES: [Step; 6] = [
     Step::Is(512, false, false, false),
 ];
 
-/// Whether a cluster at its limits goes on to its second generation.
-fn goes_on(rt: &impl Abort, alloc: Global, cluster: &mut Cluster) -> Result<bool, Memory> {
-    Ok(
-        first_other_lease(cluster).is_none()
-            && cluster.moves().len() == MOST_PARTITIONS as usize
-            && are_answered(rt, alloc, cluster, &THE_LAST_LEAVES)?,
-    )
-}
-
 #[test]
-fn a_cluster_at_its_limits(rt: HostRuntime) -> Result<(), Fail> {
-    let mut cluster = at_its_limits(&rt, rt.alloc())?;
-    assert_eq!(rt; goes_on(&rt, rt.alloc(), &mut cluster), Ok(true));
-    Ok(())
+fn a_cluster_at_its_limits(rt: HostRuntime) {
+    let other = first_other_of(&rt, rt.alloc(), MOST_PARTITIONS, &AT_ITS_LIMITS);
+    assert_eq!(rt; other, Ok(None));
 }
 
 /// Appends records of these keys.
@@ -451,10 +465,15 @@ fn append_each(logs: &mut Logs, keys: &[&[u8]]) -> Result<(), Refusal> {
 }
 
 /// Logs of five records of four keys, of which each has a place of its own for four partitions.
-fn five_records(rt: &HostRuntime) -> Result<Logs, Fail> {
-    let mut logs = Logs::new(rt, rt.alloc(), 4)?;
+fn five_records(rt: &impl RandomSource, alloc: Global) -> Result<Logs, Refusal> {
+    let mut logs = Logs::new(rt, alloc, 4)?;
     append_each(&mut logs, &[b"21", b"4", b"foobar", b"abc", b"21"])?;
     Ok(logs)
+}
+
+/// A cluster over them.
+fn over_five(rt: &impl RandomSource, alloc: Global) -> Result<Cluster, Refusal> {
+    Ok(Cluster::over(alloc, five_records(rt, alloc)?)?)
 }
 
 /// Whether a cluster over the five records has no member and nothing committed.
@@ -469,7 +488,7 @@ fn has_nothing_committed(cluster: &Cluster) -> bool {
 
 #[test]
 fn a_cluster_over_logs_has_nothing_committed(rt: HostRuntime) -> Result<(), Fail> {
-    let cluster = Cluster::over(rt.alloc(), five_records(&rt)?)?;
+    let cluster = over_five(&rt, rt.alloc())?;
     assert!(rt; has_nothing_committed(&cluster));
     Ok(())
 }
@@ -497,20 +516,25 @@ fn counts_three(
     )
 }
 
-/// The five records' logs, which nothing is appended to.
-fn five_sealed(rt: &HostRuntime) -> Result<SealedLogs, Fail> {
-    Ok(five_records(rt)?.seal())
+/// Whether a new cluster over the five records does.
+fn new_counts_three<R: Abort + RandomSource>(
+    rt: &R,
+    alloc: Global,
+    logs: &SealedLogs,
+) -> Result<bool, Refusal> {
+    let mut cluster = over_five(rt, alloc)?;
+    Ok(counts_three(rt, alloc, &mut cluster, logs)?)
+}
+
+/// Whether one does, beside logs of the same records.
+fn keeps_five<R: Abort + RandomSource>(rt: &R, alloc: Global) -> Result<bool, Refusal> {
+    let logs = five_records(rt, alloc)?.seal();
+    new_counts_three(rt, alloc, &logs)
 }
 
 #[test]
-fn a_cluster_over_logs_keeps_them(rt: HostRuntime) -> Result<(), Fail> {
-    let logs = five_sealed(&rt)?;
-    let mut cluster = Cluster::over(rt.alloc(), five_records(&rt)?)?;
-    assert_eq!(rt;
-        counts_three(&rt, rt.alloc(), &mut cluster, &logs),
-        Ok(true)
-    );
-    Ok(())
+fn a_cluster_over_logs_keeps_them(rt: HostRuntime) {
+    assert_eq!(rt; keeps_five(&rt, rt.alloc()), Ok(true));
 }
 
 /// Appends this many records of four bytes, each of another key.
@@ -522,8 +546,8 @@ fn append_many(logs: &mut Logs, records: u32) -> Result<(), Refusal> {
 }
 
 /// Logs of this many records of four bytes, each of another key.
-fn many_records(rt: &HostRuntime, records: u32) -> Result<Logs, Fail> {
-    let mut logs = Logs::new(rt, rt.alloc(), MOST_PARTITIONS)?;
+fn many_records(rt: &impl RandomSource, alloc: Global, records: u32) -> Result<Logs, Refusal> {
+    let mut logs = Logs::new(rt, alloc, MOST_PARTITIONS)?;
     append_many(&mut logs, records)?;
     Ok(logs)
 }
@@ -536,16 +560,20 @@ fn counts_each(cluster: &Cluster, keys: u32) -> bool {
         && cluster.store().counts().len() == keys as usize
 }
 
-/// Whether a new key has a counter more.
-fn counts_one_more(cluster: &mut Cluster, keys: u32) -> bool {
-    cluster.append(b"new").is_ok() && counts_each(cluster, keys)
+/// Whether it has one for each of 100,000 keys, and for a new key one more.
+fn counts_one_more(cluster: &mut Cluster) -> bool {
+    counts_each(cluster, 100_000) && cluster.append(b"new").is_ok() && counts_each(cluster, 100_001)
+}
+
+/// Whether a cluster over 100,000 records of other keys does.
+fn over_many_counts(rt: &impl RandomSource, alloc: Global) -> Result<bool, Refusal> {
+    let mut cluster = Cluster::over(alloc, many_records(rt, alloc, 100_000)?)?;
+    Ok(counts_one_more(&mut cluster))
 }
 
 #[test]
-fn a_cluster_over_many_keys_counts_each(rt: HostRuntime) -> Result<(), Fail> {
-    let mut cluster = Cluster::over(rt.alloc(), many_records(&rt, 100_000)?)?;
-    assert!(rt; counts_each(&cluster, 100_000) && counts_one_more(&mut cluster, 100_001));
-    Ok(())
+fn a_cluster_over_many_keys_counts_each(rt: HostRuntime) {
+    assert_eq!(rt; over_many_counts(&rt, rt.alloc()), Ok(true));
 }
 
 /// Names before and after their members join and leave.
@@ -561,13 +589,12 @@ const NAMED: [Step; 8] = [
 ];
 
 #[test]
-fn a_name_tells_its_number(rt: HostRuntime) -> Result<(), Fail> {
-    after(&rt, rt.alloc(), &NAMED)?;
-    Ok(())
+fn a_name_tells_its_number(rt: HostRuntime) {
+    assert_eq!(rt; first_other_of(&rt, rt.alloc(), 4, &NAMED), Ok(None));
 }
 
 /// A place that is taken over in each phase of a rebalance.
-const RETURNS: [Step; 37] = [
+const RETURNS: [Step; 38] = [
     Step::JoinKept(b"A", Ok(1)),
     Step::Keeps(1, true),
     Step::Join(b"B", Ok(2)),
@@ -605,13 +632,11 @@ const RETURNS: [Step; 37] = [
     Step::Stands(3, Phase::Stable, true),
     Step::Leave(6, Ok(())),
     Step::TakeOver(b"A", Err(Refusal::NotKept)),
+    // What member 4 had given up was last its own, and not of who took its place over then.
+    Step::LastMoves(&[(3, 3, Some(4), 2), (3, 2, Some(4), 2)]),
 ];
 
 #[test]
-fn a_kept_place_is_taken_over(rt: HostRuntime) -> Result<(), Fail> {
-    let cluster = after(&rt, rt.alloc(), &RETURNS)?;
-    // What member 4 had given up was last its own, and not of who took its place over then.
-    let moves = [(3, 3, Some(4), 2), (3, 2, Some(4), 2)];
-    assert!(rt; moves_end_with(&cluster, &moves));
-    Ok(())
+fn a_kept_place_is_taken_over(rt: HostRuntime) {
+    assert_eq!(rt; first_other_of(&rt, rt.alloc(), 4, &RETURNS), Ok(None));
 }

@@ -23,7 +23,7 @@ fn name(rt: &impl Abort, text: &[u8]) -> Name {
 // The calls, without what their contracts say: a test of many calls would else be proved over what
 // all of them say.
 
-fn step(world: &mut World, event: Event) -> Reply {
+fn reply_of(world: &mut World, event: Event) -> Reply {
     world.step(event)
 }
 
@@ -46,10 +46,12 @@ fn load<R: Threads + Sync>(
 }
 
 /// A world of four partitions with the five records.
-fn loaded<R: Abort + RandomSource + Threads + Sync>(rt: &R, alloc: Global) -> Result<World, Fail> {
+fn loaded<R: RandomSource + Threads + Sync>(rt: &R, alloc: Global) -> Result<World, Refusal> {
     let mut world = World::new(rt, alloc, 4)?;
-    assert_eq!(rt; load(rt, &mut world, &FIVE), Ok(()));
-    Ok(world)
+    match load(rt, &mut world, &FIVE) {
+        Ok(()) => Ok(world),
+        Err((_, why)) => Err(why),
+    }
 }
 
 /// An event of a schedule. Who joins is told by the place of the name among the eight.
@@ -76,7 +78,7 @@ fn event_of<'a>(act: &Act<'a>, names: &'a [Name]) -> Option<Event<'a>> {
 /// What a world replies to an event under these names.
 fn reply_to(world: &mut World, act: &Act<'_>, names: &[Name]) -> Option<Reply> {
     let event = event_of(act, names)?;
-    Some(step(world, event))
+    Some(reply_of(world, event))
 }
 
 /// The first of some events whose reply is another.
@@ -115,34 +117,140 @@ fn run_is<'a>(
     world: &mut World,
     names: &'a [Name],
     acts: &[(Act<'static>, Reply)],
-) -> Result<bool, Fail> {
+) -> Result<bool, Memory> {
     let events = events_of(alloc, names, acts)?;
-    let replies = world.run(events.as_slice())?;
+    replies_are(world, events.as_slice(), acts)
+}
+
+/// Whether one run of these events has the replies of a schedule.
+fn replies_are(
+    world: &mut World,
+    events: &[Event<'_>],
+    acts: &[(Act<'static>, Reply)],
+) -> Result<bool, Memory> {
+    let replies = world.run(events)?;
     Ok(are_replies(replies.as_slice(), acts))
 }
 
-/// Whether another world has the replies to a schedule in one run.
-fn another_runs_so<'a, R: Abort + RandomSource + Threads + Sync>(
-    rt: &R,
-    alloc: Global,
-    names: &'a [Name],
-    acts: &[(Act<'static>, Reply)],
-) -> Result<bool, Fail> {
-    let mut other = loaded(rt, alloc)?;
-    run_is(alloc, &mut other, names, acts)
+/// A schedule with its replies, a call on a world with its answer, or what is told of the world.
+#[derive(Clone, Copy)]
+enum Step<'a> {
+    /// This event has this reply.
+    One(Act<'static>, Reply),
+    /// These events have these replies.
+    Acts(&'a [(Act<'static>, Reply)]),
+    /// The group is settled.
+    Settle,
+    /// All is drained by polls of so many records.
+    Drain(u32, Result<(), Refusal>),
+    /// The group is settled, and each of the five records is committed and counted.
+    Drained,
+    /// The first key has this count, and so many commits were sent.
+    Counted(u64, usize),
+    /// So many records of the first partition are committed.
+    Committed(u32),
+    /// The three commits of `TWO_SENT` were sent, of which the first member has committed two
+    /// records.
+    TwoSent,
+    /// The generation and the phase.
+    Stands(u32, Phase),
+    /// The place of this member was taken over under that number.
+    TakenOver(u32, u32),
 }
 
-/// A world after a schedule with these replies, event by event. They are those of one run, too.
-fn after<'a, R: Abort + RandomSource + Threads + Sync>(
+/// Whether a step goes as it says.
+fn goes(world: &mut World, names: &[Name], step: &Step<'_>) -> bool {
+    match step {
+        Step::One(act, reply) => reply_to(world, act, names) == Some(*reply),
+        Step::Acts(acts) => first_other(world, names, acts).is_none(),
+        Step::Settle => settle(world) == Ok(()),
+        Step::Drain(batch, answer) => *batch > 0 && drain(world, *batch) == *answer,
+        step => is_told(world, step),
+    }
+}
+
+/// Whether a world is told as a step says, which calls nothing that changes it.
+fn is_told(world: &World, step: &Step<'_>) -> bool {
+    let cluster = world.cluster();
+    match step {
+        Step::Drained => is_drained(world),
+        Step::Counted(count, sent) => has_counted(world, *count, *sent),
+        Step::Committed(records) => cluster.store().offsets().first() == Some(records),
+        Step::TwoSent => are_three(world.mail()) && is_past_two(world),
+        Step::Stands(generation, phase) => {
+            cluster.generation() == *generation && cluster.phase() == *phase
+        }
+        Step::TakenOver(old, new) => cluster.is_kept(*new) && !cluster.is_present(*old),
+        _ => false,
+    }
+}
+
+/// The first step that does not go as it says.
+fn first_not_so(world: &mut World, names: &[Name], steps: &[Step<'_>]) -> Option<usize> {
+    for (index, step) in steps.iter().enumerate() {
+        if !goes(world, names, step) {
+            return Some(index);
+        }
+    }
+    None
+}
+
+// Each of these owns one thing alone, and a test owns nothing: each `?` and each assertion is
+// proved with all that lets go what is owned there.
+
+/// The first step that does not go as it says, of a world with the five records and under these
+/// names.
+fn first_not_so_under<R: RandomSource + Threads + Sync>(
     rt: &R,
     alloc: Global,
-    names: &'a [Name],
-    acts: &[(Act<'static>, Reply)],
-) -> Result<World, Fail> {
-    assert_eq!(rt; another_runs_so(rt, alloc, names, acts)?, true);
+    names: &[Name],
+    steps: &[Step<'_>],
+) -> Result<Option<usize>, Refusal> {
     let mut world = loaded(rt, alloc)?;
-    assert_eq!(rt; first_other(&mut world, names, acts), None);
-    Ok(world)
+    Ok(first_not_so(&mut world, names, steps))
+}
+
+/// The first step that does not go as it says, of a world with the five records.
+fn first_not_so_of<R: Abort + RandomSource + Threads + Sync>(
+    rt: &R,
+    alloc: Global,
+    steps: &[Step<'_>],
+) -> Result<Option<usize>, Refusal> {
+    let names = eight_names(rt, alloc)?;
+    first_not_so_under(rt, alloc, names.as_slice(), steps)
+}
+
+/// Whether a world has the replies to a schedule in one run, under these names.
+fn runs_under<R: RandomSource + Threads + Sync>(
+    rt: &R,
+    alloc: Global,
+    names: &[Name],
+    acts: &[(Act<'static>, Reply)],
+) -> Result<bool, Refusal> {
+    let mut world = loaded(rt, alloc)?;
+    Ok(run_is(alloc, &mut world, names, acts)?)
+}
+
+/// Whether a world has the replies to a schedule in one run.
+fn runs_so<R: Abort + RandomSource + Threads + Sync>(
+    rt: &R,
+    alloc: Global,
+    acts: &[(Act<'static>, Reply)],
+) -> Result<bool, Refusal> {
+    let names = eight_names(rt, alloc)?;
+    runs_under(rt, alloc, names.as_slice(), acts)
+}
+
+/// Whether a world has the replies to a schedule in one run, and another one event by event, of
+/// which this is told then.
+fn are_both_so<R: Abort + RandomSource + Threads + Sync>(
+    rt: &R,
+    alloc: Global,
+    acts: &[(Act<'static>, Reply)],
+    told: Step<'_>,
+) -> Result<bool, Refusal> {
+    let other = first_not_so_of(rt, alloc, &[Step::Acts(acts), told])?;
+    Ok(other.is_none() && runs_so(rt, alloc, acts)?)
 }
 
 /// The first member polls two records of the first partition.
@@ -192,11 +300,9 @@ fn has_counted(world: &World, count: u64, sent: usize) -> bool {
 }
 
 #[test]
-fn a_commit_is_taken_once(rt: HostRuntime) -> Result<(), Fail> {
-    let names = eight_names(&rt, rt.alloc())?;
-    let world = after(&rt, rt.alloc(), names.as_slice(), &TWICE)?;
-    assert!(rt; has_counted(&world, 2, 1));
-    Ok(())
+fn a_commit_is_taken_once(rt: HostRuntime) {
+    let are_so = are_both_so(&rt, rt.alloc(), &TWICE, Step::Counted(2, 1));
+    assert_eq!(rt; are_so, Ok(true));
 }
 
 /// A member is lost before its commit comes.
@@ -214,11 +320,9 @@ const LOST: [(Act, Reply); 7] = [
 ];
 
 #[test]
-fn a_lost_members_commit_is_refused(rt: HostRuntime) -> Result<(), Fail> {
-    let names = eight_names(&rt, rt.alloc())?;
-    let world = after(&rt, rt.alloc(), names.as_slice(), &LOST)?;
-    assert_eq!(rt; world.cluster().store().committed(0), 0);
-    Ok(())
+fn a_lost_members_commit_is_refused(rt: HostRuntime) {
+    let are_so = are_both_so(&rt, rt.alloc(), &LOST, Step::Committed(0));
+    assert_eq!(rt; are_so, Ok(true));
 }
 
 /// The answer to a commit is lost.
@@ -234,10 +338,9 @@ const UNANSWERED: [(Act, Reply); 8] = [
 ];
 
 #[test]
-fn an_unanswered_commit_is_not_taken_again(rt: HostRuntime) -> Result<(), Fail> {
-    let names = eight_names(&rt, rt.alloc())?;
-    after(&rt, rt.alloc(), names.as_slice(), &UNANSWERED)?;
-    Ok(())
+fn an_unanswered_commit_is_not_taken_again(rt: HostRuntime) {
+    let are_so = are_both_so(&rt, rt.alloc(), &UNANSWERED, Step::Committed(2));
+    assert_eq!(rt; are_so, Ok(true));
 }
 
 /// Two commits are sent before the first one is answered, of which the second then comes too late.
@@ -270,11 +373,9 @@ fn is_past_two(world: &World) -> bool {
 }
 
 #[test]
-fn an_answer_moves_the_base(rt: HostRuntime) -> Result<(), Fail> {
-    let names = eight_names(&rt, rt.alloc())?;
-    let world = after(&rt, rt.alloc(), names.as_slice(), &TWO_SENT)?;
-    assert!(rt; are_three(world.mail()) && is_past_two(&world));
-    Ok(())
+fn an_answer_moves_the_base(rt: HostRuntime) {
+    let are_so = are_both_so(&rt, rt.alloc(), &TWO_SENT, Step::TwoSent);
+    assert_eq!(rt; are_so, Ok(true));
 }
 
 /// A place is taken over, and the old consumer goes on until it is told.
@@ -316,56 +417,55 @@ const RETURNS: [(Act, Reply); 15] = [
 ];
 
 #[test]
-fn a_place_is_taken_over(rt: HostRuntime) -> Result<(), Fail> {
-    let names = eight_names(&rt, rt.alloc())?;
-    let world = after(&rt, rt.alloc(), names.as_slice(), &RETURNS)?;
-    assert!(rt; world.cluster().is_kept(2) && !world.cluster().is_present(1));
-    Ok(())
+fn a_place_is_taken_over(rt: HostRuntime) {
+    let are_so = are_both_so(&rt, rt.alloc(), &RETURNS, Step::TakenOver(1, 2));
+    assert_eq!(rt; are_so, Ok(true));
 }
 
-/// One joins who keeps its place.
-const KEPT: [(Act, Reply); 1] = [(Act::JoinKept(0), Reply::Joined(1))];
-
-/// Another one joins, and the place is taken over in the rebalance.
-const JOINED_AND_TAKEN: [(Act, Reply); 2] = [
-    (Act::Join(1), Reply::Joined(2)),
-    (Act::TakeOver(0), Reply::TakenOver(3)),
+/// The group settles once one has joined who keeps its place, and again once another one has joined
+/// and the place was taken over in the rebalance. Then all is drained.
+const SETTLES_TWICE: [Step; 8] = [
+    Step::One(Act::JoinKept(0), Reply::Joined(1)),
+    Step::Settle,
+    Step::One(Act::Join(1), Reply::Joined(2)),
+    Step::One(Act::TakeOver(0), Reply::TakenOver(3)),
+    Step::Settle,
+    Step::Stands(3, Phase::Stable),
+    Step::Drain(500, Ok(())),
+    Step::Drained,
 ];
 
-/// Whether a world settles after each of these, and then drains.
-fn settles_twice(world: &mut World, names: &[Name]) -> bool {
-    first_other(world, names, &KEPT).is_none()
-        && settle(world) == Ok(())
-        && first_other(world, names, &JOINED_AND_TAKEN).is_none()
-        && settle(world) == Ok(())
-        && world.cluster().generation() == 3
-        && drain(world, 500) == Ok(())
-        && is_drained(world)
-}
-
 #[test]
-fn a_place_is_taken_over_in_a_rebalance(rt: HostRuntime) -> Result<(), Fail> {
-    let names = eight_names(&rt, rt.alloc())?;
-    let mut world = loaded(&rt, rt.alloc())?;
-    assert!(rt; settles_twice(&mut world, names.as_slice()));
-    Ok(())
+fn a_place_is_taken_over_in_a_rebalance(rt: HostRuntime) {
+    assert_eq!(rt; first_not_so_of(&rt, rt.alloc(), &SETTLES_TWICE), Ok(None));
 }
 
-/// A world of as many partitions as there may be, with this many records of one key.
-fn of_one_key<R: Abort + RandomSource + Threads + Sync>(
+/// A world of as many partitions as there may be, with records of these keys.
+fn many_loaded<R: RandomSource + Threads + Sync>(
+    rt: &R,
+    alloc: Global,
+    keys: &[&[u8]],
+) -> Result<World, Refusal> {
+    let mut world = World::new(rt, alloc, 4096)?;
+    match load(rt, &mut world, keys) {
+        Ok(()) => Ok(world),
+        Err((_, why)) => Err(why),
+    }
+}
+
+/// Such a world with this many records of one key.
+fn of_one_key<R: RandomSource + Threads + Sync>(
     rt: &R,
     alloc: Global,
     records: usize,
-) -> Result<World, Fail> {
+) -> Result<World, Refusal> {
     let keys: Vec<&[u8]> = vec![in alloc; b"21".as_slice(); records]?;
-    let mut world = World::new(rt, alloc, 4096)?;
-    assert_eq!(rt; load(rt, &mut world, keys.as_slice()), Ok(()));
-    Ok(world)
+    many_loaded(rt, alloc, keys.as_slice())
 }
 
 /// The partition to which a record of the key goes, after so many.
 fn partition_after(world: &mut World, records: u32) -> Option<u32> {
-    match step(world, Event::Append(b"21")) {
+    match reply_of(world, Event::Append(b"21")) {
         Reply::Appended(partition, offset) if offset == records => Some(partition),
         _ => None,
     }
@@ -386,7 +486,7 @@ fn commits_all(world: &mut World, names: &[Name], partition: u32) -> bool {
     first_other(world, names, &JOINED).is_none()
         && reply_to(world, &poll, names) == Some(Reply::Polled(100_001))
         && reply_to(world, &send, names) == Some(Reply::Sent(1))
-        && step(world, Event::Deliver(1)) == Reply::Committed(100_001)
+        && reply_of(world, Event::Deliver(1)) == Reply::Committed(100_001)
 }
 
 /// One joins and syncs.
@@ -403,25 +503,47 @@ fn takes_one_more(world: &mut World, names: &[Name]) -> bool {
     }
 }
 
+/// Whether such a world of 100,000 records takes one more.
+fn many_take_one_more<R: RandomSource + Threads + Sync>(
+    rt: &R,
+    alloc: Global,
+    names: &[Name],
+) -> Result<bool, Refusal> {
+    let mut world = of_one_key(rt, alloc, 100_000)?;
+    Ok(takes_one_more(&mut world, names))
+}
+
 #[test]
 fn reads_and_sends_at_real_sizes(rt: HostRuntime) -> Result<(), Fail> {
     let names = eight_names(&rt, rt.alloc())?;
-    let mut world = of_one_key(&rt, rt.alloc(), 100_000)?;
-    assert!(rt; takes_one_more(&mut world, names.as_slice()));
+    assert_eq!(rt;
+        many_take_one_more(&rt, rt.alloc(), names.as_slice()),
+        Ok(true)
+    );
     Ok(())
 }
 
 /// How many replies a run has.
-fn replies_of(world: &mut World, events: &[Event]) -> Result<usize, Fail> {
+fn replies_of(world: &mut World, events: &[Event]) -> Result<usize, Memory> {
     Ok(world.run(events)?.len())
+}
+
+/// How many replies a run of a world with the five records has, and how many keys the world then.
+fn replies_and_keys<R: RandomSource + Threads + Sync>(
+    rt: &R,
+    alloc: Global,
+    events: &[Event],
+) -> Result<(usize, u32), Refusal> {
+    let mut world = loaded(rt, alloc)?;
+    let replies = replies_of(&mut world, events)?;
+    Ok((replies, world.cluster().logs().keys()))
 }
 
 #[test]
 fn runs_at_real_sizes(rt: HostRuntime) -> Result<(), Fail> {
     let events = vec![in rt.alloc(); Event::Append(b"4"); 70_000]?;
-    let mut world = loaded(&rt, rt.alloc())?;
-    assert_eq!(rt; replies_of(&mut world, events.as_slice())?, 70_000);
-    assert_eq!(rt; world.cluster().logs().keys(), 4);
+    let told = replies_and_keys(&rt, rt.alloc(), events.as_slice());
+    assert_eq!(rt; told, Ok((70_000, 4)));
     Ok(())
 }
 
@@ -433,11 +555,20 @@ fn stops_at<R: Threads + Sync>(rt: &R, world: &mut World, long: &[u8]) -> bool {
         && world.consumer(1).is_none()
 }
 
+/// Whether a load of a new world does.
+fn new_stops_at<R: RandomSource + Threads + Sync>(
+    rt: &R,
+    alloc: Global,
+    long: &[u8],
+) -> Result<bool, Memory> {
+    let mut world = World::new(rt, alloc, 4)?;
+    Ok(stops_at(rt, &mut world, long))
+}
+
 #[test]
 fn a_load_stops_at_the_first_key_that_is_refused(rt: HostRuntime) -> Result<(), Fail> {
     let long = vec![in rt.alloc(); 0u8; 65_536]?;
-    let mut world = World::new(&rt, rt.alloc(), 4)?;
-    assert!(rt; stops_at(&rt, &mut world, long.as_slice()));
+    assert_eq!(rt; new_stops_at(&rt, rt.alloc(), long.as_slice()), Ok(true));
     Ok(())
 }
 
@@ -459,12 +590,9 @@ const TOLD: [(Act, Reply); 7] = [
 ];
 
 #[test]
-fn a_member_that_leaves_or_rejoins_is_told(rt: HostRuntime) -> Result<(), Fail> {
-    let names = eight_names(&rt, rt.alloc())?;
-    let world = after(&rt, rt.alloc(), names.as_slice(), &TOLD)?;
-    let cluster = world.cluster();
-    assert!(rt; cluster.generation() == 2 && cluster.phase() == Phase::Preparing);
-    Ok(())
+fn a_member_that_leaves_or_rejoins_is_told(rt: HostRuntime) {
+    let told = Step::Stands(2, Phase::Preparing);
+    assert_eq!(rt; are_both_so(&rt, rt.alloc(), &TOLD, told), Ok(true));
 }
 
 /// Whether the group is settled, and each of the five records is committed and counted.
@@ -475,30 +603,27 @@ fn is_drained(world: &World) -> bool {
         && cluster.store().counts() == [2, 1, 1, 1].as_slice()
 }
 
-/// One joins.
-const ONE_JOINS: [(Act, Reply); 1] = [(Act::Join(0), Reply::Joined(1))];
-
-/// Whether a world is drained once there is somebody to drain it.
-fn drains(world: &mut World, names: &[Name]) -> bool {
-    drain(world, 500) == Err(Refusal::NobodyPresent)
-        && first_other(world, names, &ONE_JOINS).is_none()
-        && drain(world, 500) == Ok(())
-        && is_drained(world)
-}
+/// A world is drained once there is somebody to drain it.
+const DRAINS: [Step; 4] = [
+    Step::Drain(500, Err(Refusal::NobodyPresent)),
+    Step::One(Act::Join(0), Reply::Joined(1)),
+    Step::Drain(500, Ok(())),
+    Step::Drained,
+];
 
 #[test]
-fn a_drain_commits_all(rt: HostRuntime) -> Result<(), Fail> {
-    let names = eight_names(&rt, rt.alloc())?;
-    let mut world = loaded(&rt, rt.alloc())?;
-    assert!(rt; drains(&mut world, names.as_slice()));
-    Ok(())
+fn a_drain_commits_all(rt: HostRuntime) {
+    assert_eq!(rt; first_not_so_of(&rt, rt.alloc(), &DRAINS), Ok(None));
 }
 
-/// One who is settled sends the records of two partitions, and a second member joins.
-const PENDING: [(Act, Reply); 5] = [
-    (POLL, Reply::Polled(2)),
-    (SEND, Reply::Sent(1)),
-    (
+/// One who is settled sends the records of two partitions, and a second member joins. The world is
+/// drained from where so much is pending.
+const DRAINS_PENDING: [Step; 9] = [
+    Step::One(Act::Join(0), Reply::Joined(1)),
+    Step::Settle,
+    Step::One(POLL, Reply::Polled(2)),
+    Step::One(SEND, Reply::Sent(1)),
+    Step::One(
         Act::Other(Event::Poll {
             member: 1,
             partition: 2,
@@ -506,31 +631,21 @@ const PENDING: [(Act, Reply); 5] = [
         }),
         Reply::Polled(1),
     ),
-    (
+    Step::One(
         Act::Other(Event::Send {
             member: 1,
             partition: 2,
         }),
         Reply::Sent(2),
     ),
-    (Act::Join(1), Reply::Joined(2)),
+    Step::One(Act::Join(1), Reply::Joined(2)),
+    Step::Drain(1, Ok(())),
+    Step::Drained,
 ];
 
-/// Whether a world is drained from where so much is pending.
-fn drains_what_is_pending(world: &mut World, names: &[Name]) -> bool {
-    first_other(world, names, &ONE_JOINS).is_none()
-        && settle(world) == Ok(())
-        && first_other(world, names, &PENDING).is_none()
-        && drain(world, 1) == Ok(())
-        && is_drained(world)
-}
-
 #[test]
-fn a_drain_goes_on_from_what_is_pending(rt: HostRuntime) -> Result<(), Fail> {
-    let names = eight_names(&rt, rt.alloc())?;
-    let mut world = loaded(&rt, rt.alloc())?;
-    assert!(rt; drains_what_is_pending(&mut world, names.as_slice()));
-    Ok(())
+fn a_drain_goes_on_from_what_is_pending(rt: HostRuntime) {
+    assert_eq!(rt; first_not_so_of(&rt, rt.alloc(), &DRAINS_PENDING), Ok(None));
 }
 
 /// The numbers by which the long schedule is chosen: x' = 1664525 x + 1013904223, modulo 2^32.
@@ -701,45 +816,93 @@ fn eight_names(rt: &impl Abort, alloc: Global) -> Result<Vec<Name>, Memory> {
     Ok(names)
 }
 
-#[test]
-fn a_long_schedule_keeps_the_world_good(rt: HostRuntime) -> Result<(), Fail> {
-    let names = eight_names(&rt, rt.alloc())?;
-    let long = vec![in rt.alloc(); 0u8; 65_536]?;
-    let keys: [&[u8]; 8] = [
-        b"21",
-        b"4",
-        b"foobar",
-        b"abc",
-        b"",
-        b"34",
-        b"1234",
-        long.as_slice(),
-    ];
-    let mut world = World::new(&rt, rt.alloc(), 5)?;
+/// How many events of each kind were accepted, and how many refused.
+#[derive(Drop)]
+struct Tally {
+    accepted: [u32; 12],
+    refused: [u32; 12],
+}
+
+/// One event more, whose kind and reply are counted.
+fn next_event(
+    rt: &impl Abort,
+    world: &mut World,
+    names: &[Name],
+    keys: &[&[u8]; 8],
+    chosen: &mut Chosen,
+    tally: &mut Tally,
+) {
+    let sent = u32::try_from(world.mail().len()).unwrap_or(0);
+    let given = tally.accepted[2]
+        .saturating_add(tally.accepted[10])
+        .saturating_add(tally.accepted[11]);
+    let (kind, act) = chosen_event(chosen, sent, given, keys);
+    let reply = reply_to(world, &act, names).expect(rt, "a name");
+    if let Reply::Refused(_) = reply {
+        tally.refused[kind] = tally.refused[kind].saturating_add(1);
+    } else {
+        tally.accepted[kind] = tally.accepted[kind].saturating_add(1);
+    }
+}
+
+/// The counts of 10,000 events, after each of which the world is good.
+fn tally_of(rt: &impl Abort, world: &mut World, names: &[Name], keys: &[&[u8]; 8]) -> Tally {
     let mut chosen = Chosen { x: 1 };
-    let mut accepted = [0u32; 12];
-    let mut refused = [0u32; 12];
+    let mut tally = Tally {
+        accepted: [0; 12],
+        refused: [0; 12],
+    };
     for _ in 0..10_000 {
-        let sent = u32::try_from(world.mail().len()).unwrap_or(0);
-        let given = accepted[2]
-            .saturating_add(accepted[10])
-            .saturating_add(accepted[11]);
-        let (kind, act) = chosen_event(&mut chosen, sent, given, &keys);
-        let reply = reply_to(&mut world, &act, names.as_slice()).expect(&rt, "a name");
-        if let Reply::Refused(_) = reply {
-            refused[kind] = refused[kind].saturating_add(1);
-        } else {
-            accepted[kind] = accepted[kind].saturating_add(1);
-        }
-        world_is_good(&rt, &world);
+        next_event(rt, world, names, keys, &mut chosen, &mut tally);
+        world_is_good(rt, world);
     }
+    tally
+}
+
+/// All commits of the mail are sound.
+fn mail_is_sound(rt: &impl Abort, world: &World) {
     for commit in world.mail() {
-        commit_is_sound(&rt, world.cluster(), commit);
+        commit_is_sound(rt, world.cluster(), commit);
     }
+}
+
+/// A world stays good over the long schedule, in which each kind of event is accepted and refused.
+fn stays_good(rt: &impl Abort, world: &mut World, names: &[Name], keys: &[&[u8]; 8]) {
+    let tally = tally_of(rt, world, names, keys);
+    mail_is_sound(rt, world);
+    let (accepted, refused) = (tally.accepted, tally.refused);
     assert!(rt; accepted.iter().all(|n| *n > 0), "accepted: {accepted:?}");
     assert!(rt; refused.iter().all(|n| *n > 0), "refused: {refused:?}");
     assert!(rt; world.cluster().generation() > 8);
+}
+
+/// A new world does, under these names and of these keys.
+fn new_stays_good<R: Abort + RandomSource>(
+    rt: &R,
+    alloc: Global,
+    names: &[Name],
+    keys: &[&[u8]; 8],
+) -> Result<(), Memory> {
+    let mut world = World::new(rt, alloc, 5)?;
+    stays_good(rt, &mut world, names, keys);
     Ok(())
+}
+
+/// A new world does, of seven keys and this one, which is too long.
+fn stays_good_with<R: Abort + RandomSource>(
+    rt: &R,
+    alloc: Global,
+    long: &[u8],
+) -> Result<(), Memory> {
+    let keys: [&[u8]; 8] = [b"21", b"4", b"foobar", b"abc", b"", b"34", b"1234", long];
+    let names = eight_names(rt, alloc)?;
+    new_stays_good(rt, alloc, names.as_slice(), &keys)
+}
+
+#[test]
+fn a_long_schedule_keeps_the_world_good(rt: HostRuntime) -> Result<(), Memory> {
+    let long = vec![in rt.alloc(); 0u8; 65_536]?;
+    stays_good_with(&rt, rt.alloc(), long.as_slice())
 }
 
 /// No topic of that index is there.
@@ -780,11 +943,13 @@ const AFTER_A_LOAD: [(Act, Reply); 3] = [
     (Act::Other(Event::Append(b"21")), Reply::Appended(0, 1)),
 ];
 
+/// The keys of that load.
+const LOADED: [&[u8]; 5] = [b"21", b"abc", b"21", b"4", b"4"];
+
 #[test]
 fn loads_in_topics(rt: HostRuntime) -> Result<(), Fail> {
-    let keys: [&[u8]; 5] = [b"21", b"abc", b"21", b"4", b"4"];
     let mut world = World::with_topics(&rt, rt.alloc(), &[2, 3])?;
-    assert_eq!(rt; world.load_in(&rt, &[0, 1, 1, 0, 1], &keys), Ok(()));
-    assert_eq!(rt; first_other(&mut world, &[], &AFTER_A_LOAD), None);
+    let is_loaded = world.load_in(&rt, &[0, 1, 1, 0, 1], &LOADED) == Ok(());
+    assert!(rt; is_loaded && first_other(&mut world, &[], &AFTER_A_LOAD).is_none());
     Ok(())
 }

@@ -4,7 +4,7 @@ ghost use Rattle.std.specs.Prelude.{◌<◌, ◌≤◌};
 
 use crate::window;
 use key_lists::KeyList;
-use lane_words::{LONGEST_KEY, Refusal};
+use lane_words::{LONGEST_KEY, Memory, Refusal};
 use partition_log::{LogRead, Logs};
 use std::alloc::Global;
 use std::hash::RandomState;
@@ -34,20 +34,37 @@ fn with_keys(list: KeyList, keys: &[&[u8]]) -> Result<KeyList, Refusal> {
     Ok(list)
 }
 
-/// These keys in lists: none, the first half, in which they are looked up, and the others.
+/// A list of these keys, in which they are looked up.
+fn looked_up(rt: &impl RandomSource, alloc: Global, keys: &[&[u8]]) -> Result<KeyList, Refusal> {
+    let Ok(hasher) = RandomState::new(rt) else {
+        return Err(Refusal::Memory);
+    };
+    with_keys(KeyList::looking_up(alloc, hasher), keys)
+}
+
+/// Adds lists of these keys: of none, of the first half, in which they are looked up, and of the
+/// others.
+fn add_lists(
+    rt: &impl RandomSource,
+    alloc: Global,
+    lists: &mut Vec<KeyList>,
+    keys: &[&[u8]],
+) -> Result<(), Refusal> {
+    let (first, others) = keys.split_at(keys.len() / 2);
+    lists.push(KeyList::new(alloc))?;
+    lists.push(looked_up(rt, alloc, first)?)?;
+    lists.push(with_keys(KeyList::new(alloc), others)?)?;
+    Ok(())
+}
+
+/// These keys in those lists.
 fn in_lists(
     rt: &impl RandomSource,
     alloc: Global,
     keys: &[&[u8]],
 ) -> Result<Vec<KeyList>, Refusal> {
-    let Ok(hasher) = RandomState::new(rt) else {
-        return Err(Refusal::Memory);
-    };
-    let half = keys.len() / 2;
     let mut lists = Vec::new(alloc);
-    lists.push(KeyList::new(alloc))?;
-    lists.push(with_keys(KeyList::looking_up(alloc, hasher), &keys[..half])?)?;
-    lists.push(with_keys(KeyList::new(alloc), &keys[half..])?)?;
+    add_lists(rt, alloc, &mut lists, keys)?;
     Ok(lists)
 }
 
@@ -100,6 +117,78 @@ fn lists_give<R: Threads + Sync>(
     logs.append_lists(rt, lists) == answer && are_same(logs, plain)
 }
 
+/// New logs of four partitions.
+fn new_logs(rt: &impl RandomSource, alloc: Global) -> Result<Logs, Memory> {
+    Logs::new(rt, alloc, 4)
+}
+
+/// Keys, the same keys in lists, and how appends of them are answered.
+#[derive(Clone, Copy)]
+struct Case<'a> {
+    keys: &'a [&'a [u8]],
+    lists: &'a [KeyList],
+    answer: Answer,
+}
+
+/// Whether each way gives the answer, and then the same logs.
+fn all_give_once<R: Threads + Sync>(
+    rt: &R,
+    logs: &mut Logs,
+    plain: &mut Logs,
+    listed: &mut Logs,
+    case: &Case<'_>,
+) -> bool {
+    both_give(rt, logs, plain, case.keys, case.answer)
+        && lists_give(rt, listed, case.lists, case.answer, plain)
+}
+
+/// Whether each way gives the answer, and then the same logs; and once more.
+fn all_give<R: Threads + Sync>(
+    rt: &R,
+    logs: &mut Logs,
+    plain: &mut Logs,
+    listed: &mut Logs,
+    case: &Case<'_>,
+) -> bool {
+    all_give_once(rt, logs, plain, listed, case) && all_give_once(rt, logs, plain, listed, case)
+}
+
+// Each of these owns one thing more, and nothing else: each `?` is proved with all that lets go
+// what is owned there.
+
+/// The same with new logs for the lists.
+fn two_give<R: RandomSource + Threads + Sync>(
+    rt: &R,
+    alloc: Global,
+    logs: &mut Logs,
+    plain: &mut Logs,
+    case: &Case<'_>,
+) -> Result<bool, Refusal> {
+    let mut listed = new_logs(rt, alloc)?;
+    Ok(all_give(rt, logs, plain, &mut listed, case))
+}
+
+/// The same with new logs for appends one by one, too.
+fn one_gives<R: RandomSource + Threads + Sync>(
+    rt: &R,
+    alloc: Global,
+    logs: &mut Logs,
+    case: &Case<'_>,
+) -> Result<bool, Refusal> {
+    let mut plain = new_logs(rt, alloc)?;
+    two_give(rt, alloc, logs, &mut plain, case)
+}
+
+/// The same with new logs for all.
+fn give_new<R: RandomSource + Threads + Sync>(
+    rt: &R,
+    alloc: Global,
+    case: &Case<'_>,
+) -> Result<bool, Refusal> {
+    let mut logs = new_logs(rt, alloc)?;
+    one_gives(rt, alloc, &mut logs, case)
+}
+
 /// Whether each way gives this answer to new logs, and then the same logs; and once more.
 fn are_alike<R: RandomSource + Threads + Sync>(
     rt: &R,
@@ -107,39 +196,47 @@ fn are_alike<R: RandomSource + Threads + Sync>(
     keys: &[&[u8]],
     answer: Answer,
 ) -> Result<bool, Refusal> {
-    let mut logs = Logs::new(rt, alloc, 4)?;
-    let mut plain = Logs::new(rt, alloc, 4)?;
-    let mut listed = Logs::new(rt, alloc, 4)?;
     let lists = in_lists(rt, alloc, keys)?;
-    let mut alike = true;
-    for _turn in 0..2 {
-        alike = alike && both_give(rt, &mut logs, &mut plain, keys, answer);
-        alike = alike && lists_give(rt, &mut listed, &lists, answer, &plain);
-    }
-    Ok(alike)
+    let case = Case {
+        keys,
+        lists: &lists,
+        answer,
+    };
+    give_new(rt, alloc, &case)
 }
+
+/// Keys of which some come again.
+const REPEATS: [&[u8]; 7] = [b"21", b"4", b"21", b"", b"foobar", b"21", b""];
 
 #[test]
 fn few_keys_at_once(rt: HostRuntime) -> Result<(), Fail> {
-    let repeats: [&[u8]; 7] = [b"21", b"4", b"21", b"", b"foobar", b"21", b""];
     for count in 0..=7 {
-        let alike = are_alike(&rt, rt.alloc(), &repeats[..count], Ok(()))?;
+        let alike = are_alike(&rt, rt.alloc(), &REPEATS[..count], Ok(()))?;
         assert!(rt; alike, "{count} keys");
     }
     Ok(())
 }
 
+/// Whether appends stop at this key, which is too long, among others, at the end and at the
+/// beginning.
+fn are_stopped<R: RandomSource + Threads + Sync>(
+    rt: &R,
+    alloc: Global,
+    long: &[u8],
+) -> Result<bool, Refusal> {
+    let third = Err((2, Refusal::KeyTooLong));
+    let first = Err((0, Refusal::KeyTooLong));
+    Ok(
+        are_alike(rt, alloc, &[b"21", b"4", long, b"21"], third)?
+            && are_alike(rt, alloc, &[b"21", b"21", long], third)?
+            && are_alike(rt, alloc, &[long, b"21"], first)?,
+    )
+}
+
 #[test]
 fn appends_at_once_stop_at_a_key_that_is_refused(rt: HostRuntime) -> Result<(), Fail> {
     let bytes = vec![in rt.alloc(); 0xff_u8; LONGEST_KEY + 1]?;
-    let long = bytes.as_slice();
-    let refused = Err((2, Refusal::KeyTooLong));
-    let keys: [&[u8]; 4] = [b"21", b"4", long, b"21"];
-    assert!(rt; are_alike(&rt, rt.alloc(), &keys, refused)?);
-    let last: [&[u8]; 3] = [b"21", b"21", long];
-    assert!(rt; are_alike(&rt, rt.alloc(), &last, refused)?);
-    let first: [&[u8]; 2] = [long, b"21"];
-    assert!(rt; are_alike(&rt, rt.alloc(), &first, Err((0, Refusal::KeyTooLong)))?);
+    assert_eq!(rt; are_stopped(&rt, rt.alloc(), &bytes), Ok(true));
     Ok(())
 }
 
@@ -193,15 +290,38 @@ fn keys_that_come_again_at_once(rt: HostRuntime) -> Result<(), Fail> {
     Ok(())
 }
 
+/// Four bytes, of which short keys are the first ones.
+const SHORT: [u8; 4] = [0xff; 4];
+
+/// Adds 6000 short keys, and then this one.
+fn add_keys<'a>(keys: &mut Vec<&'a [u8]>, long: &'a [u8]) -> Result<(), Memory> {
+    for i in 0..6000_usize {
+        keys.push(SHORT.get(..i % 5).unwrap_or(long))?;
+    }
+    keys.push(long)?;
+    Ok(())
+}
+
+/// Those keys.
+fn late_keys(alloc: Global, long: &[u8]) -> Result<Vec<&[u8]>, Memory> {
+    let mut keys = Vec::new(alloc);
+    add_keys(&mut keys, long)?;
+    Ok(keys)
+}
+
+/// Whether appends of 6000 short keys and of this one, which is too long, stop at it.
+fn are_stopped_late<R: RandomSource + Threads + Sync>(
+    rt: &R,
+    alloc: Global,
+    long: &[u8],
+) -> Result<bool, Refusal> {
+    let keys = late_keys(alloc, long)?;
+    are_alike(rt, alloc, &keys, Err((6000, Refusal::KeyTooLong)))
+}
+
 #[test]
 fn a_key_too_long_among_many(rt: HostRuntime) -> Result<(), Fail> {
     let bytes = vec![in rt.alloc(); 0xff_u8; LONGEST_KEY + 1]?;
-    let mut keys: Vec<&[u8]> = Vec::new(rt.alloc());
-    for i in 0..6000 {
-        keys.push(&bytes[..i % 5])?;
-    }
-    keys.push(&bytes)?;
-    let refused = Err((6000, Refusal::KeyTooLong));
-    assert!(rt; are_alike(&rt, rt.alloc(), &keys, refused)?);
+    assert_eq!(rt; are_stopped_late(&rt, rt.alloc(), &bytes), Ok(true));
     Ok(())
 }

@@ -4,7 +4,7 @@ use crate::plain_keys::PlainKeys;
 use key_numbers::KeyIds;
 use lane_words::Memory;
 use std::alloc::Global;
-use std::test::Fail;
+use std::random::RandomSource;
 
 /// Whether a key is known to both forms under one number, or is new to both and gets one number.
 fn is_numbered_alike(keys: &mut KeyIds, plain: &mut PlainKeys, key: &[u8]) -> Result<bool, Memory> {
@@ -52,11 +52,28 @@ fn are_keys_alike(keys: &KeyIds, plain: &PlainKeys) -> bool {
     keys.count() == plain.count()
 }
 
+/// Whether both forms number the keys of those turns alike, and then have the same keys.
+fn are_alike(alloc: Global, keys: &mut KeyIds, plain: &mut PlainKeys) -> Result<bool, Memory> {
+    Ok(first_other(alloc, keys, plain)?.is_none() && are_keys_alike(keys, plain))
+}
+
+/// The same of new keys in the plain form.
+fn is_alike_plain(
+    rt: &impl RandomSource,
+    alloc: Global,
+    keys: &mut KeyIds,
+) -> Result<bool, Memory> {
+    let mut plain = PlainKeys::new(rt, alloc)?;
+    are_alike(alloc, keys, &mut plain)
+}
+
+/// The same of new keys in both forms.
+fn are_new_alike(rt: &impl RandomSource, alloc: Global) -> Result<bool, Memory> {
+    let mut keys = KeyIds::new(rt, alloc)?;
+    is_alike_plain(rt, alloc, &mut keys)
+}
+
 #[test]
-fn keys_are_numbered_as_by_the_plain_form(rt: HostRuntime) -> Result<(), Fail> {
-    let mut keys = KeyIds::new(&rt, rt.alloc())?;
-    let mut plain = PlainKeys::new(&rt, rt.alloc())?;
-    assert_eq!(rt; first_other(rt.alloc(), &mut keys, &mut plain), Ok(None));
-    assert!(rt; are_keys_alike(&keys, &plain));
-    Ok(())
+fn keys_are_numbered_as_by_the_plain_form(rt: HostRuntime) {
+    assert_eq!(rt; are_new_alike(&rt, rt.alloc()), Ok(true));
 }

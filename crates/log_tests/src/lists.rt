@@ -69,6 +69,21 @@ fn count_beside(list: &KeyList, plain: &KeyList, alloc: Global) -> Result<Option
     Ok(Some(count_of(list, alloc)?))
 }
 
+/// The same of a list beside a plain one of such records.
+fn count_beside_plain(
+    list: &KeyList,
+    alloc: Global,
+    records: u32,
+    each: u32,
+    period: u32,
+) -> Result<Option<usize>, Memory>
+    requires each { 0 < each }
+    requires period { 0 < period }
+{
+    let plain = pushed(KeyList::new(alloc), records, each, period)?;
+    count_beside(list, &plain, alloc)
+}
+
 /// The same of a list of such records, in which keys are looked up.
 fn keys_of(
     rt: &impl RandomSource,
@@ -81,8 +96,7 @@ fn keys_of(
     requires period { 0 < period }
 {
     let list = pushed(looking_up(rt, alloc)?, records, each, period)?;
-    let plain = pushed(KeyList::new(alloc), records, each, period)?;
-    count_beside(&list, &plain, alloc)
+    count_beside_plain(&list, alloc, records, each, period)
 }
 
 #[test]
@@ -124,16 +138,27 @@ fn has_codes(list: &KeyList, alloc: Global, codes: &[usize]) -> Result<bool, Mem
     Ok(list.coded(alloc)?.codes == codes)
 }
 
+/// Whether all keys of a list are this one.
+fn are_all(list: &KeyList, key: &[u8]) -> bool {
+    for i in 0..list.len() {
+        if list.get(i) != key {
+            return false;
+        }
+    }
+    true
+}
+
+/// Whether a list takes one key in three ways.
+fn takes_thrice(list: &mut KeyList, alloc: Global) -> Result<bool, Memory> {
+    push_thrice(list)?;
+    // The one with a first text is not looked up.
+    Ok(list.len() == 3 && are_all(list, b"ab") && has_codes(list, alloc, &[0, 1, 0])?)
+}
+
 #[test]
 fn two_texts_are_one_key(rt: HostRuntime) -> Result<(), Fail> {
     let mut list = looking_up(&rt, rt.alloc())?;
-    let is_pushed = push_thrice(&mut list).is_ok();
-    // The one with a first text is not looked up.
-    let has_codes = has_codes(&list, rt.alloc(), &[0, 1, 0]);
-    for i in 0..list.len() {
-        assert_eq!(rt; list.get(i), b"ab".as_slice(), "{i}");
-    }
-    assert_eq!(rt; (is_pushed, list.len(), has_codes), (true, 3, Ok(true)));
+    assert_eq!(rt; takes_thrice(&mut list, rt.alloc()), Ok(true));
     Ok(())
 }
 
@@ -143,6 +168,9 @@ fn three_lists(rt: &impl RandomSource, alloc: Global) -> Result<[KeyList; 3], Me
     let second = pushed(KeyList::new(alloc), 3, 1, 2)?;
     Ok([first, KeyList::new(alloc), second])
 }
+
+/// The codes of those three lists.
+const CODES: [&[usize]; 3] = [&[0, 1, 0, 1, 0], &[], &[0, 1, 2]];
 
 /// How many lists are coded, how many keys they have, and whether the codes are these.
 fn coded_as<R: Threads + Sync>(
@@ -164,8 +192,6 @@ fn coded_as<R: Threads + Sync>(
 #[test]
 fn lists_side_by_side(rt: HostRuntime) -> Result<(), Fail> {
     let lists = three_lists(&rt, rt.alloc())?;
-    let codes: [&[usize]; 3] = [&[0, 1, 0, 1, 0], &[], &[0, 1, 2]];
-    let told = coded_as(&rt, rt.alloc(), &lists, &codes);
-    assert_eq!(rt; told, Ok((3, 5, true)));
+    assert_eq!(rt; coded_as(&rt, rt.alloc(), &lists, &CODES), Ok((3, 5, true)));
     Ok(())
 }

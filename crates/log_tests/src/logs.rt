@@ -3,7 +3,7 @@
 
 ghost use Rattle.std.specs.Prelude.{◌≤◌};
 
-use lane_words::{LONGEST_KEY, MOST_PARTITIONS, Refusal};
+use lane_words::{LONGEST_KEY, MOST_PARTITIONS, Memory, Refusal};
 use partition_log::{LogRead, Logs, SealedLogs};
 use std::alloc::Global;
 use std::random::RandomSource;
@@ -61,21 +61,29 @@ fn are_of_five(logs: &Logs) -> bool {
         && ids.iter().all(|(p, numbers)| are_ids(logs, *p, numbers))
 }
 
+/// Those records, each with its place and its offset there.
+const FIVE: [(&[u8], u32, u32); 5] = [
+    (b"21", 0, 0),
+    (b"4", 1, 0),
+    (b"foobar", 2, 0),
+    (b"abc", 3, 0),
+    (b"21", 0, 1),
+];
+
+/// Whether logs of four partitions take them in.
+fn takes_five(logs: &mut Logs) -> bool {
+    for (key, place, offset) in &FIVE {
+        if !comes_to(logs, key, *place, *offset) {
+            return false;
+        }
+    }
+    logs.partitions() == 4 && are_of_five(logs)
+}
+
 #[test]
 fn appends_in_order_of_place(rt: HostRuntime) -> Result<(), Fail> {
     let mut logs = Logs::new(&rt, rt.alloc(), 4)?;
-    assert_eq!(rt; logs.partitions(), 4);
-    let steps: [(&[u8], u32, u32); 5] = [
-        (b"21", 0, 0),
-        (b"4", 1, 0),
-        (b"foobar", 2, 0),
-        (b"abc", 3, 0),
-        (b"21", 0, 1),
-    ];
-    for (key, place, offset) in &steps {
-        assert!(rt; comes_to(&mut logs, key, *place, *offset), "{key:?}");
-    }
-    assert!(rt; are_of_five(&logs));
+    assert!(rt; takes_five(&mut logs));
     Ok(())
 }
 
@@ -92,6 +100,11 @@ fn are_copied(sealed: &SealedLogs, copy: &Logs, second: &[u8]) -> bool {
         && are_ids(sealed, 0, &[0, 0])
 }
 
+/// Whether a third record of the first key comes to its place.
+fn takes_third(logs: &mut Logs) -> bool {
+    append(logs, b"21") == Ok((0, 2))
+}
+
 /// Whether a copy takes a third record of the first key, and what was copied does not.
 fn copy_takes(
     rt: &impl RandomSource,
@@ -100,15 +113,16 @@ fn copy_takes(
     second: &[u8],
 ) -> Result<bool, Refusal> {
     let mut copy = sealed.copy(rt, alloc)?;
-    let at = append(&mut copy, b"21");
-    Ok(at == Ok((0, 2)) && are_copied(sealed, &copy, second))
+    Ok(takes_third(&mut copy) && are_copied(sealed, &copy, second))
 }
+
+/// A key that is not stored inline.
+const LONG: &[u8] = b"a key of more than 22 bytes";
 
 #[test]
 fn a_copy_of_sealed_logs_numbers_keys_as_they_do(rt: HostRuntime) -> Result<(), Fail> {
-    let keys: [&[u8]; 3] = [b"21", b"a key of more than 22 bytes", b"21"];
-    let sealed = sealed_of(&rt, rt.alloc(), &keys)?;
-    assert_eq!(rt; copy_takes(&rt, &sealed, rt.alloc(), keys[1]), Ok(true));
+    let sealed = sealed_of(&rt, rt.alloc(), &[b"21", LONG, b"21"])?;
+    assert_eq!(rt; copy_takes(&rt, &sealed, rt.alloc(), LONG), Ok(true));
     Ok(())
 }
 
@@ -134,6 +148,17 @@ fn logs_of(
     Ok(logs)
 }
 
+/// Whether sealed logs of these keys in one partition are the same as these logs.
+fn is_same_sealed(
+    rt: &impl RandomSource,
+    alloc: Global,
+    keys: &[u8],
+    logs: &Logs,
+) -> Result<bool, Refusal> {
+    let sealed = logs_of(rt, alloc, 1, keys)?.seal();
+    Ok(sealed.same(logs))
+}
+
 /// Whether logs of these keys are the same, the others in this many partitions, and these in one.
 fn are_same(
     rt: &impl RandomSource,
@@ -145,8 +170,7 @@ fn are_same(
     requires { (1 ≤ partitions) × (partitions ≤ MOST_PARTITIONS) }
 {
     let logs = logs_of(rt, alloc, partitions, others)?;
-    let sealed = logs_of(rt, alloc, 1, keys)?.seal();
-    Ok(sealed.same(&logs))
+    is_same_sealed(rt, alloc, keys, &logs)
 }
 
 /// The same records; then one record more, another key, the keys in another order, other records of
@@ -182,11 +206,24 @@ fn takes_longest(logs: &mut Logs, longest: &[u8], longer: &[u8]) -> bool {
         && is_key(logs, 1, b"")
 }
 
+/// Whether they take all bytes but the last of a key, and not all.
+fn takes_all_but_one(logs: &mut Logs, longer: &[u8]) -> bool {
+    match longer.split_last() {
+        Some((_, longest)) => takes_longest(logs, longest, longer),
+        None => false,
+    }
+}
+
+/// Whether new logs of one partition do.
+fn new_takes_longest(rt: &impl RandomSource, alloc: Global, longer: &[u8]) -> Result<bool, Memory> {
+    let mut logs = Logs::new(rt, alloc, 1)?;
+    Ok(takes_all_but_one(&mut logs, longer))
+}
+
 #[test]
 fn takes_keys_up_to_the_longest(rt: HostRuntime) -> Result<(), Fail> {
     let bytes = vec![in rt.alloc(); 0xff_u8; LONGEST_KEY + 1]?;
-    let mut logs = Logs::new(&rt, rt.alloc(), 1)?;
-    assert!(rt; takes_longest(&mut logs, &bytes[..LONGEST_KEY], &bytes));
+    assert_eq!(rt; new_takes_longest(&rt, rt.alloc(), &bytes), Ok(true));
     Ok(())
 }
 
@@ -205,6 +242,11 @@ fn append_numbers(logs: &mut Logs, records: u32) -> Result<(), Refusal> {
     Ok(())
 }
 
+/// Whether logs are the same as others until those have one record more.
+fn is_same_till_a_record(sealed: &SealedLogs, other: &mut Logs) -> bool {
+    sealed.same(other) && append(other, &[0; 4]).is_ok() && !sealed.same(other)
+}
+
 /// Whether logs are the same as a copy of them until it has one record more.
 fn are_same_till_a_record(
     rt: &impl RandomSource,
@@ -212,9 +254,7 @@ fn are_same_till_a_record(
     sealed: &SealedLogs,
 ) -> Result<bool, Refusal> {
     let mut copy = sealed.copy(rt, alloc)?;
-    let are_same = sealed.same(&copy);
-    let at = append(&mut copy, &[0; 4]);
-    Ok(are_same && at.is_ok() && !sealed.same(&copy))
+    Ok(is_same_till_a_record(sealed, &mut copy))
 }
 
 #[test]
@@ -224,11 +264,15 @@ fn same_over_as_many_logs_as_there_may_be(rt: HostRuntime) -> Result<(), Fail> {
     Ok(())
 }
 
+/// Whether logs are as many as there may be, and have no record.
+fn are_all_empty(logs: &Logs) -> bool {
+    logs.partitions() == MOST_PARTITIONS && (0..MOST_PARTITIONS).all(|p| is_length(logs, p, 0))
+}
+
 #[test]
 fn makes_as_many_logs_as_there_may_be(rt: HostRuntime) -> Result<(), Fail> {
     let logs = Logs::new(&rt, rt.alloc(), MOST_PARTITIONS)?;
-    assert!(rt; logs.partitions() == MOST_PARTITIONS);
-    assert!(rt; (0..MOST_PARTITIONS).all(|p| is_length(&logs, p, 0)));
+    assert!(rt; are_all_empty(&logs));
     Ok(())
 }
 
@@ -272,6 +316,13 @@ fn has_many(logs: &Logs) -> bool {
         && is_key(logs, 139_998, &69_999_u32.to_le_bytes())
 }
 
+/// Whether new logs of two partitions take all that, and what they are sealed.
+fn many_taken(rt: &impl RandomSource, alloc: Global) -> Result<(bool, SealedLogs), Memory> {
+    let mut logs = Logs::new(rt, alloc, 2)?;
+    let are_taken = takes_many(&mut logs);
+    Ok((are_taken, logs.seal()))
+}
+
 /// Whether a copy has them.
 fn copy_has_many(
     rt: &impl RandomSource,
@@ -283,9 +334,8 @@ fn copy_has_many(
 
 #[test]
 fn takes_and_copies_more_records_and_keys_than_16_bits_number(rt: HostRuntime) -> Result<(), Fail> {
-    let mut logs = Logs::new(&rt, rt.alloc(), 2)?;
-    assert!(rt; takes_many(&mut logs));
-    let sealed = logs.seal();
-    assert_eq!(rt; copy_has_many(&rt, rt.alloc(), &sealed), Ok(true));
+    let (are_taken, sealed) = many_taken(&rt, rt.alloc())?;
+    let are_copied = copy_has_many(&rt, rt.alloc(), &sealed);
+    assert_eq!(rt; (are_taken, are_copied), (true, Ok(true)));
     Ok(())
 }

@@ -42,22 +42,40 @@ const APPENDS: [(u8, &[u8], u32, u32); 6] = [
 /// The key numbers of each log after those appends.
 const NUMBERS: [(u32, &[u32]); 5] = [(0, &[0]), (1, &[2]), (2, &[1, 0, 1]), (3, &[2]), (4, &[])];
 
+/// The first of those appends that comes to another place.
+fn first_other(logs: &mut Logs) -> Option<usize> {
+    for (index, (topic, key, place, offset)) in APPENDS.iter().enumerate() {
+        if append_in(logs, *topic, key) != Ok((*place, *offset)) {
+            return Some(index);
+        }
+    }
+    None
+}
+
+/// Whether logs have those three keys, with those numbers in each log.
+fn are_numbered(logs: &Logs) -> bool {
+    for (p, numbers) in &NUMBERS {
+        if ids(logs, *p) != *numbers {
+            return false;
+        }
+    }
+    logs.keys() == 3
+}
+
+/// Whether logs of those two topics number keys over both, and append in the first where none is
+/// named.
+fn number_over_all(logs: &mut Logs) -> bool {
+    logs.topics() == 2
+        && logs.partitions() == 5
+        && first_other(logs).is_none()
+        && are_numbered(logs)
+        && logs.append(b"4") == Ok((1, 1))
+}
+
 #[test]
 fn keys_have_one_number_in_all_topics(rt: HostRuntime) -> Result<(), Fail> {
     let mut logs = Logs::with_topics(&rt, rt.alloc(), &[2, 3])?;
-    assert!(rt; logs.topics() == 2 && logs.partitions() == 5);
-    for (topic, key, place, offset) in &APPENDS {
-        assert_eq!(rt;
-            append_in(&mut logs, *topic, key),
-            Ok((*place, *offset)),
-            "{key:?}"
-        );
-    }
-    assert_eq!(rt; logs.keys(), 3);
-    for (p, numbers) in &NUMBERS {
-        assert_eq!(rt; ids(&logs, *p), *numbers, "{p}");
-    }
-    assert_eq!(rt; logs.append(b"4"), Ok((1, 1)));
+    assert!(rt; number_over_all(&mut logs));
     Ok(())
 }
 
@@ -78,9 +96,39 @@ fn append_each_in(logs: &mut Logs, topics: &[u8], keys: &[&[u8]]) -> Result<(), 
     Ok(())
 }
 
-/// Whether both are equal.
-fn are_same(sealed: &SealedLogs, logs: &Logs) -> bool {
-    sealed.same(logs)
+// Each of these owns one thing alone: each `?` is proved with all that lets go what is owned there.
+
+/// Sealed logs of three topics to which all these keys were appended at once.
+fn all_appended<R: Threads + Sync + RandomSource>(
+    rt: &R,
+    alloc: Global,
+    topics: &[u8],
+    keys: &[&[u8]],
+) -> Result<SealedLogs, Refusal>
+    requires { AreTopics 3 (length keys.now) topics.now }
+{
+    let mut logs = Logs::with_topics(rt, alloc, &[1, 60, 300])?;
+    match logs.append_all_in(rt, topics, keys) {
+        Ok(()) => Ok(logs.seal()),
+        Err((_, why)) => Err(why),
+    }
+}
+
+/// Whether appends to other logs, one at a time, come to these.
+fn is_same_after(sealed: &SealedLogs, other: &mut Logs, topics: &[u8], keys: &[&[u8]]) -> bool {
+    append_each_in(other, topics, keys).is_ok() && sealed.same(other)
+}
+
+/// Whether appends to new logs of those topics, one at a time, come to these.
+fn is_same_as_each(
+    rt: &impl RandomSource,
+    alloc: Global,
+    sealed: &SealedLogs,
+    topics: &[u8],
+    keys: &[&[u8]],
+) -> Result<bool, Refusal> {
+    let mut plain = Logs::with_topics(rt, alloc, &[1, 60, 300])?;
+    Ok(is_same_after(sealed, &mut plain, topics, keys))
 }
 
 /// Whether appends of all these keys at once, each in a topic, do what one at a time does.
@@ -89,15 +137,11 @@ fn are_appended_alike<R: Threads + Sync + RandomSource>(
     alloc: Global,
     topics: &[u8],
     keys: &[&[u8]],
-) -> Result<bool, Fail>
+) -> Result<bool, Refusal>
     requires { AreTopics 3 (length keys.now) topics.now }
 {
-    let mut logs = Logs::with_topics(rt, alloc, &[1, 60, 300])?;
-    let mut plain = Logs::with_topics(rt, alloc, &[1, 60, 300])?;
-    let is_done = logs.append_all_in(rt, topics, keys).is_ok();
-    append_each_in(&mut plain, topics, keys)?;
-    let sealed = logs.seal();
-    Ok(is_done && are_same(&sealed, &plain))
+    let sealed = all_appended(rt, alloc, topics, keys)?;
+    is_same_as_each(rt, alloc, &sealed, topics, keys)
 }
 
 /// Each topic in turn.
@@ -111,16 +155,41 @@ fn topics_in_turn(alloc: Global, count: usize) -> Result<Vec<u8>, Fail>
     Ok(topics)
 }
 
-#[test]
-fn many_appends_beside_one_at_a_time(rt: HostRuntime) -> Result<(), Fail> {
+/// Bytes of which keys are windows.
+fn bytes() -> [u8; 1000] {
     let mut bytes = [0; 1000];
     for i in 0..bytes.len() {
         bytes[i] = (i * i % 251) as u8;
     }
+    bytes
+}
+
+/// Whether that is so of these keys, in each topic in turn.
+fn are_keys_alike<R: Threads + Sync + RandomSource>(
+    rt: &R,
+    alloc: Global,
+    keys: &[&[u8]],
+) -> Result<bool, Fail> {
+    let topics = topics_in_turn(alloc, keys.len())?;
+    Ok(are_appended_alike(rt, alloc, &topics, keys)?)
+}
+
+/// Whether that is so of so many windows.
+fn are_windows_alike<R: Threads + Sync + RandomSource>(
+    rt: &R,
+    alloc: Global,
+    bytes: &[u8; 1000],
+    count: usize,
+) -> Result<bool, Fail> {
+    let keys = windows(alloc, bytes, count)?;
+    are_keys_alike(rt, alloc, &keys)
+}
+
+#[test]
+fn many_appends_beside_one_at_a_time(rt: HostRuntime) -> Result<(), Fail> {
+    let bytes = bytes();
     for count in [0, 1, 7, 4095, 4096, 20_000] {
-        let keys = windows(rt.alloc(), &bytes, count)?;
-        let topics = topics_in_turn(rt.alloc(), keys.len())?;
-        let alike = are_appended_alike(&rt, rt.alloc(), &topics, &keys)?;
+        let alike = are_windows_alike(&rt, rt.alloc(), &bytes, count)?;
         assert!(rt; alike, "{count} keys");
     }
     Ok(())

@@ -5,7 +5,6 @@ use command_line::{
 };
 use script::Topic;
 use std::alloc::Global;
-use std::process::Abort;
 
 /// The partitions, the column, whether there is a header, and the batch.
 type Plain = (u32, u32, bool, u32);
@@ -86,16 +85,53 @@ const COUNTS: [(&[&str], &str, Plain); 9] = [
     ),
 ];
 
+/// Paths and options.
+type Told<'a> = (&'a str, &'a str, Plain);
+
+/// Whether words are answered with a count of this file, or with a job of these two files, and with
+/// these options.
+fn is_job(answer: &Result<Job, Usage>, subcommand: &str, told: &Told<'_>) -> bool {
+    match answer {
+        Ok(Job::Count { file, options }) => {
+            subcommand == "count" && *file == told.0 && plain(options) == told.2
+        }
+        Ok(
+            Job::Replay {
+                file,
+                script,
+                options,
+            },
+        ) => {
+            subcommand == "replay"
+                && *file == told.0
+                && *script == told.1
+                && plain(options) == told.2
+        }
+        Ok(
+            Job::Run {
+                file,
+                script,
+                options,
+            },
+        ) => {
+            subcommand == "run" && *file == told.0 && *script == told.1 && plain(options) == told.2
+        }
+        Err(_) => false,
+    }
+}
+
+/// Whether words ask for that job. A test asserts what this tells, and owns no answer: each
+/// assertion is proved with all that lets go what is owned there.
+fn asks_for(alloc: Global, words: &[&str], subcommand: &str, told: &Told<'_>) -> bool {
+    let answer = read_words(alloc, words);
+    is_job(&answer, subcommand, told)
+}
+
 #[test]
 fn options_stand_round_the_path(rt: HostRuntime) {
     for (i, (words, path, wanted)) in COUNTS.iter().enumerate() {
-        let answer = read_words(rt.alloc(), words);
-        match &answer {
-            Ok(Job::Count { file, options }) => {
-                assert!(rt; file == path && plain(options) == *wanted, "case {i}");
-            }
-            _ => assert!(rt; false, "case {i}"),
-        }
+        let told = (*path, "", *wanted);
+        assert!(rt; asks_for(rt.alloc(), words, "count", &told), "case {i}");
     }
 }
 
@@ -148,20 +184,8 @@ const REPLAYS: [(&[&str], (&str, &str), Plain); 8] = [
 #[test]
 fn a_replay_has_two_paths_and_a_batch(rt: HostRuntime) {
     for (i, (words, paths, wanted)) in REPLAYS.iter().enumerate() {
-        let answer = read_words(rt.alloc(), words);
-        match &answer {
-            Ok(
-                Job::Replay {
-                    file,
-                    script,
-                    options,
-                },
-            ) => {
-                let are_paths = *file == paths.0 && *script == paths.1;
-                assert!(rt; are_paths && plain(options) == *wanted, "case {i}");
-            }
-            _ => assert!(rt; false, "case {i}"),
-        }
+        let told = (paths.0, paths.1, *wanted);
+        assert!(rt; asks_for(rt.alloc(), words, "replay", &told), "case {i}");
     }
 }
 
@@ -184,20 +208,8 @@ const RUNS: [(&[&str], (&str, &str), Plain); 4] = [
 #[test]
 fn a_run_has_two_paths_and_a_batch(rt: HostRuntime) {
     for (i, (words, paths, wanted)) in RUNS.iter().enumerate() {
-        let answer = read_words(rt.alloc(), words);
-        match &answer {
-            Ok(
-                Job::Run {
-                    file,
-                    script,
-                    options,
-                },
-            ) => {
-                let are_paths = *file == paths.0 && *script == paths.1;
-                assert!(rt; are_paths && plain(options) == *wanted, "case {i}");
-            }
-            _ => assert!(rt; false, "case {i}"),
-        }
+        let told = (paths.0, paths.1, *wanted);
+        assert!(rt; asks_for(rt.alloc(), words, "run", &told), "case {i}");
     }
 }
 
@@ -223,6 +235,12 @@ fn tells(answer: &Result<Job, Usage>, wanted: Option<(Topics, u32)>) -> bool {
         (Err(Usage::Bad(text)), None) => text.as_str() == "bad topics\n",
         _ => false,
     }
+}
+
+/// Whether words are.
+fn are_told(alloc: Global, words: &[&str], wanted: Option<(Topics, u32)>) -> bool {
+    let answer = read_words(alloc, words);
+    tells(&answer, wanted)
 }
 
 /// Lists of topics, with theirs, where they are lists.
@@ -272,32 +290,34 @@ const LISTS: [(&str, Option<Topics>); 24] = [
 fn lists_of_topics_are_read(rt: HostRuntime) {
     for (i, (list, wanted)) in LISTS.iter().enumerate() {
         let words = ["count", "f", "--topics", list];
-        let answer = read_words(rt.alloc(), &words);
-        let is_told = tells(&answer, wanted.map(|topics| (topics, 2)));
-        assert!(rt; is_told, "case {i}");
+        let wanted = wanted.map(|topics| (topics, 2));
+        assert!(rt; are_told(rt.alloc(), &words, wanted), "case {i}");
     }
 }
 
+/// One topic.
+const ONE: Topics = &[("-", 1)];
+
+/// Words of each subcommand, with their topics and the column of those, where there is no fault.
+const TOPICS: [(&[&str], Option<(Topics, u32)>); 6] = [
+    (&["count", "f"], Some((&[], 2))),
+    (&["count", "--topic-column=65535", "f"], Some((&[], 65535))),
+    (
+        &["count", "--topics=-:1", "f", "--topic-column", "1"],
+        Some((ONE, 1)),
+    ),
+    (&["replay", "f", "--topics=-:1", "s"], Some((ONE, 2))),
+    (
+        &["run", "f", "s", "--topics=-:1", "--partitions=4096"],
+        Some((ONE, 2)),
+    ),
+    (&["run", "f", "s", "--topics=:1"], None),
+];
+
 #[test]
 fn each_subcommand_has_topics(rt: HostRuntime) {
-    let one: Topics = &[("-", 1)];
-    let cases: [(&[&str], Option<(Topics, u32)>); 6] = [
-        (&["count", "f"], Some((&[], 2))),
-        (&["count", "--topic-column=65535", "f"], Some((&[], 65535))),
-        (
-            &["count", "--topics=-:1", "f", "--topic-column", "1"],
-            Some((one, 1)),
-        ),
-        (&["replay", "f", "--topics=-:1", "s"], Some((one, 2))),
-        (
-            &["run", "f", "s", "--topics=-:1", "--partitions=4096"],
-            Some((one, 2)),
-        ),
-        (&["run", "f", "s", "--topics=:1"], None),
-    ];
-    for (i, (words, wanted)) in cases.into_iter().enumerate() {
-        let answer = read_words(rt.alloc(), words);
-        assert!(rt; tells(&answer, wanted), "case {i}");
+    for (i, (words, wanted)) in TOPICS.iter().enumerate() {
+        assert!(rt; are_told(rt.alloc(), words, *wanted), "case {i}");
     }
 }
 
@@ -344,12 +364,16 @@ const BAD: [&[&str]; 39] = [
     &["f"],
 ];
 
+/// Whether words are not understood.
+fn are_bad(alloc: Global, words: &[&str]) -> bool {
+    let answer = read_words(alloc, words);
+    matches!(&answer, Err(Usage::Bad(_)))
+}
+
 #[test]
 fn bad_words_are_refused(rt: HostRuntime) {
     for (i, words) in BAD.iter().enumerate() {
-        let answer = read_words(rt.alloc(), words);
-        let is_bad = matches!(&answer, Err(Usage::Bad(_)));
-        assert!(rt; is_bad, "case {i}");
+        assert!(rt; are_bad(rt.alloc(), words), "case {i}");
     }
 }
 
@@ -361,47 +385,40 @@ fn asked(alloc: Global, words: &[&str]) -> Option<String> {
     }
 }
 
-/// Asserts that these words ask for a text that begins and ends so.
-fn assert_asked(rt: &impl Abort, alloc: Global, words: &[&str], begin: &str, end: &str) {
+/// Whether these words ask for a text that begins and ends so.
+fn is_asked(alloc: Global, words: &[&str], begin: &str, end: &str) -> bool {
     match asked(alloc, words) {
-        Some(text) => {
-            let text = text.as_str();
-            assert!(rt;
-                text.starts_with(begin) && text.trim_end().ends_with(end),
-                "{text}"
-            );
-        }
-        None => assert!(rt; false, "no text"),
+        Some(text) => is_between(text.as_str(), begin, end),
+        None => false,
     }
+}
+
+/// Whether a text begins and ends so.
+fn is_between(text: &str, begin: &str, end: &str) -> bool {
+    text.starts_with(begin) && text.trim_end().ends_with(end)
 }
 
 #[test]
 fn help_tells_what_there_is(rt: HostRuntime) {
     let about = "Counts the keys of a CSV file";
     let count = "Counts how often each key occurs in a CSV file";
-    assert_asked(&rt, rt.alloc(), &["--help"], about, AFTER_KEYCOUNT);
-    assert_asked(&rt, rt.alloc(), &["-h"], about, AFTER_KEYCOUNT);
-    assert_asked(&rt, rt.alloc(), &["help", "count"], count, AFTER_COUNT);
-    assert_asked(
-        &rt,
-        rt.alloc(),
-        &["run", "-h"],
-        "Runs a plan of members",
-        AFTER_RUN,
-    );
+    assert!(rt; is_asked(rt.alloc(), &["--help"], about, AFTER_KEYCOUNT));
+    assert!(rt; is_asked(rt.alloc(), &["-h"], about, AFTER_KEYCOUNT));
+    assert!(rt; is_asked(rt.alloc(), &["help", "count"], count, AFTER_COUNT));
+    let run = "Runs a plan of members";
+    assert!(rt; is_asked(rt.alloc(), &["run", "-h"], run, AFTER_RUN));
 }
 
 #[test]
 fn the_version_names_the_kit(rt: HostRuntime) {
     let wanted = "keycount 0.1.0, proved with rattle-kit-13b logic dac8208d650f15bf";
-    assert_asked(&rt, rt.alloc(), &["--version"], wanted, wanted);
-    assert_asked(&rt, rt.alloc(), &["-V"], wanted, wanted);
+    assert!(rt; is_asked(rt.alloc(), &["--version"], wanted, wanted));
+    assert!(rt; is_asked(rt.alloc(), &["-V"], wanted, wanted));
 }
 
 #[test]
 fn a_job_has_no_version(rt: HostRuntime) {
-    let answer = read_words(rt.alloc(), &["count", "--version"]);
-    assert!(rt; matches!(&answer, Err(Usage::Bad(_))));
+    assert!(rt; are_bad(rt.alloc(), &["count", "--version"]));
 }
 
 #[test]
@@ -422,7 +439,7 @@ Options:
   -h, --help              Print help
 
 ";
-    assert_asked(&rt, rt.alloc(), &["count", "--help"], wanted, AFTER_COUNT);
+    assert!(rt; is_asked(rt.alloc(), &["count", "--help"], wanted, AFTER_COUNT));
 }
 
 #[test]
@@ -445,7 +462,7 @@ Options:
   -h, --help              Print help
 
 ";
-    assert_asked(&rt, rt.alloc(), &["replay", "--help"], wanted, AFTER_REPLAY);
+    assert!(rt; is_asked(rt.alloc(), &["replay", "--help"], wanted, AFTER_REPLAY));
 }
 
 #[test]
@@ -468,5 +485,5 @@ Options:
   -h, --help              Print help
 
 ";
-    assert_asked(&rt, rt.alloc(), &["run", "--help"], wanted, AFTER_RUN);
+    assert!(rt; is_asked(rt.alloc(), &["run", "--help"], wanted, AFTER_RUN));
 }
