@@ -1,5 +1,6 @@
 //! Plans, by the rules of their lines.
 
+use crate::longer;
 use group_machine::Name;
 use lane_words::{MOST_MEMBERS, Memory, Refusal};
 use script::{Change, Plan, read_plan};
@@ -217,48 +218,76 @@ fn other_lines_are_refused(rt: HostRuntime) {
     assert_eq!(rt; first_other(rt.alloc(), OTHERS), None);
 }
 
+/// Whether a join and a line of so many marks of a comment are read so.
+fn is_read_commented(alloc: Global, marks: usize, read: &Read<'_>) -> Result<bool, Memory> {
+    let script = longer(alloc, b"join A\n", b'#', marks)?;
+    Ok(is_read(alloc, &script, read))
+}
+
 #[test]
-fn a_line_has_256_bytes_at_most(rt: HostRuntime) -> Result<(), Fail> {
-    let mut script = b"join A\n".as_slice().to_vec(rt.alloc())?;
-    for _ in 0..256 {
-        script.push(b'#')?;
-    }
-    let read = [(script.as_slice(), Read::Plan(&[(b"join", b"A")], 1))];
-    assert_eq!(rt; first_other(rt.alloc(), &read), None);
-    script.push(b'#')?;
-    let refused = [(script.as_slice(), Read::Refused(22, 2))];
-    assert_eq!(rt; first_other(rt.alloc(), &refused), None);
-    Ok(())
+fn a_line_has_256_bytes_at_most(rt: HostRuntime) {
+    let longest = is_read_commented(rt.alloc(), 256, &Read::Plan(&[(b"join", b"A")], 1));
+    let over = is_read_commented(rt.alloc(), 257, &Read::Refused(22, 2));
+    assert_eq!(rt; (longest, over), (Ok(true), Ok(true)));
+}
+
+/// Adds 512 joins, so many leaves and a last line.
+fn add_all(script: &mut Vec<u8>, leaves: u32, last: &[u8]) -> Result<(), Fail> {
+    add_lines(script, b"join m", 512)?;
+    add_lines(script, b"leave m", leaves)?;
+    Ok(script.extend_from_slice(last)?)
+}
+
+/// A script of them.
+fn script_of(alloc: Global, leaves: u32, last: &[u8]) -> Result<Vec<u8>, Fail> {
+    let mut script = Vec::new(alloc);
+    add_all(&mut script, leaves, last)?;
+    Ok(script)
+}
+
+/// Whether a plan is like its copy.
+fn is_copied(alloc: Global, plan: &Plan) -> Result<bool, Memory> {
+    Ok(is_same(plan, &copied(alloc, plan)?))
+}
+
+/// Whether a script is a plan of 512 joins and so many leaves, and the plan like its copy.
+fn is_plan(alloc: Global, script: &[u8], leaves: usize) -> Result<bool, Refusal> {
+    let plan = plan_of(alloc, script)?;
+    Ok(members(&plan) == 512 && are_all(&plan, 512, leaves) && is_copied(alloc, &plan)?)
+}
+
+/// Whether so many leaves can follow 512 joins.
+fn may_leave(alloc: Global, leaves: u32) -> Result<bool, Fail> {
+    let script = script_of(alloc, leaves, b"")?;
+    Ok(is_plan(alloc, &script, leaves as usize)?)
+}
+
+/// Whether this line is refused after them, in the way that is told.
+fn is_refused_after(
+    alloc: Global,
+    leaves: u32,
+    last: &[u8],
+    told: &Read<'_>,
+) -> Result<bool, Fail> {
+    let script = script_of(alloc, leaves, last)?;
+    Ok(is_read(alloc, &script, told))
 }
 
 #[test]
 fn at_most_512_join(rt: HostRuntime) -> Result<(), Fail> {
-    let mut script = Vec::new(rt.alloc());
-    add_lines(&mut script, b"join m", 512)?;
-    let plan = plan_of(rt.alloc(), &script)?;
-    assert!(rt; members(&plan) == 512 && are_all(&plan, 512, 0));
-    let mut more = script.as_slice().to_vec(rt.alloc())?;
-    more.extend_from_slice(b"join m512\n")?;
-    assert_eq!(rt;
-        first_other(rt.alloc(), &[(&more, Read::Refused(22, 513))]),
-        None
-    );
+    let join = may_leave(rt.alloc(), 0)?;
+    let told = Read::Refused(22, 513);
+    let is_refused = is_refused_after(rt.alloc(), 0, b"join m512\n", &told)?;
+    assert!(rt; join && is_refused);
     Ok(())
 }
 
 #[test]
 fn all_but_one_of_512_leave(rt: HostRuntime) -> Result<(), Fail> {
-    let mut script = Vec::new(rt.alloc());
-    add_lines(&mut script, b"join m", 512)?;
-    add_lines(&mut script, b"leave m", 511)?;
-    let plan = plan_of(rt.alloc(), &script)?;
-    assert!(rt; members(&plan) == 512 && are_all(&plan, 512, 511));
-    assert!(rt; is_same(&plan, &copied(rt.alloc(), &plan)?));
-    script.extend_from_slice(b"lose m511\n")?;
-    assert_eq!(rt;
-        first_other(rt.alloc(), &[(&script, Read::Refused(27, 1024))]),
-        None
-    );
+    let leave = may_leave(rt.alloc(), 511)?;
+    let told = Read::Refused(27, 1024);
+    let is_refused = is_refused_after(rt.alloc(), 511, b"lose m511\n", &told)?;
+    assert!(rt; leave && is_refused);
     Ok(())
 }
 
@@ -271,15 +300,43 @@ const UNLIKE: &[&[u8]] = &[
     b"join A\njoin B\nleave A\njoin C",
 ];
 
+/// Whether a plan is told from that of a script, from both sides.
+fn is_told_from(alloc: Global, plan: &Plan, script: &[u8]) -> Result<bool, Refusal> {
+    let other = plan_of(alloc, script)?;
+    Ok(!is_same(plan, &other) && !is_same(&other, plan))
+}
+
+/// The first of those scripts that a plan is not told from.
+fn first_alike(alloc: Global, plan: &Plan) -> Result<Option<usize>, Refusal> {
+    for (index, script) in UNLIKE.iter().enumerate() {
+        if !is_told_from(alloc, plan, script)? {
+            return Ok(Some(index));
+        }
+    }
+    Ok(None)
+}
+
+/// Whether a plan is like its copy, from both sides, which has these changes.
+fn is_like_copy(alloc: Global, plan: &Plan, said: &[Said<'_>]) -> Result<bool, Memory> {
+    let copy = copied(alloc, plan)?;
+    Ok(is_same(plan, &copy) && is_same(&copy, plan) && has_changes(&copy, said))
+}
+
+/// Whether a plan is like itself and its copy, and like none of those scripts.
+fn is_compared(alloc: Global, plan: &Plan, said: &[Said<'_>]) -> Result<bool, Refusal> {
+    Ok(
+        is_same(plan, plan)
+            && is_like_copy(alloc, plan, said)?
+            && first_alike(alloc, plan)?.is_none(),
+    )
+}
+
+/// The changes of the plan that those are compared with.
+const COMPARED: [Said<'static>; 3] = [(b"join", b"A"), (b"join", b"B"), (b"leave", b"A")];
+
 #[test]
 fn plans_are_compared(rt: HostRuntime) -> Result<(), Fail> {
     let plan = plan_of(rt.alloc(), b"join A\njoin B\nleave A")?;
-    let copy = copied(rt.alloc(), &plan)?;
-    assert!(rt; is_same(&plan, &plan) && is_same(&plan, &copy) && is_same(&copy, &plan));
-    assert!(rt; has_changes(&copy, &[(b"join", b"A"), (b"join", b"B"), (b"leave", b"A")]));
-    for other in UNLIKE {
-        let other = plan_of(rt.alloc(), other)?;
-        assert!(rt; !is_same(&plan, &other) && !is_same(&other, &plan));
-    }
+    assert_eq!(rt; is_compared(rt.alloc(), &plan, &COMPARED), Ok(true));
     Ok(())
 }

@@ -6,7 +6,7 @@ ghost use Rattle.script.specs.Topics.{AreTopics, MayBeTopics};
 
 use crate::longer;
 use group_machine::Name;
-use lane_words::Refusal;
+use lane_words::{Memory, Refusal};
 use script::{Action, Key, Line, Topic, read_replay, read_replay_topics};
 use std::alloc::Global;
 use std::process::Abort;
@@ -312,22 +312,39 @@ fn a_topic_stands_before_keys_and_partitions(rt: HostRuntime) {
     assert_eq!(rt; first_other(rt.alloc(), &topics, AMONG), None);
 }
 
+/// Whether a text with so many bytes of one kind behind it is read so.
+fn is_longer_read(
+    alloc: Global,
+    topics: &[Topic],
+    longer_by: (&[u8], u8, usize),
+    read: &Read<'_>,
+) -> Result<bool, Memory>
+    requires { MayBeTopics topics.now }
+{
+    let (text, byte, count) = longer_by;
+    let script = longer(alloc, text, byte, count)?;
+    Ok(is_read(alloc, topics, &script, read))
+}
+
 #[test]
 fn lines_and_names_are_as_long_among_topics(rt: HostRuntime) -> Result<(), Fail> {
     let topics = a_and_b(&rt);
-    let longest = longer(rt.alloc(), b"append b ", b'k', 247)?;
-    let over = longer(rt.alloc(), b"append b ", b'k', 248)?;
-    let long_name = longer(rt.alloc(), b"join ", b'x', 33)?;
-    let rows = [
-        (over.as_slice(), Read::Bad(1)),
-        (long_name.as_slice(), Read::Bad(1)),
-    ];
-    assert_eq!(rt; first_other(rt.alloc(), &topics, &rows), None);
-    let key = longer(rt.alloc(), b"", b'k', 247)?;
-    let said = [(1, b"append in".as_slice(), key.as_slice(), 1, 0)];
-    assert!(rt; is_read(rt.alloc(), &topics, &longest, &Read::Lines(&said)));
+    let over = is_longer_read(
+        rt.alloc(),
+        &topics,
+        (b"append b ", b'k', 248),
+        &Read::Bad(1),
+    )?;
+    let name = is_longer_read(rt.alloc(), &topics, (b"join ", b'x', 33), &Read::Bad(1))?;
+    let said = [(1, b"append in".as_slice(), LONGEST.as_slice(), 1, 0)];
+    let lines = Read::Lines(&said);
+    let longest = is_longer_read(rt.alloc(), &topics, (b"append b ", b'k', 247), &lines)?;
+    assert!(rt; over && name && longest);
     Ok(())
 }
+
+/// The longest key among topics.
+const LONGEST: [u8; 247] = [b'k'; 247];
 
 #[test]
 fn each_form_is_read(rt: HostRuntime) {
@@ -346,53 +363,62 @@ fn what_is_no_form_is_refused_at_the_first_such_line(rt: HostRuntime) {
 
 #[test]
 fn a_name_has_32_bytes_at_most(rt: HostRuntime) -> Result<(), Fail> {
-    let name = longer(rt.alloc(), b"", b'x', 32)?;
-    let longest = longer(rt.alloc(), b"join ", b'x', 32)?;
-    let over = longer(rt.alloc(), b"join ", b'x', 33)?;
-    let rows = [
-        (
-            longest.as_slice(),
-            Read::Lines(&[(1, b"join", name.as_slice(), 0, 0)]),
-        ),
-        (over.as_slice(), Read::Bad(1)),
-    ];
-    assert_eq!(rt; first_other(rt.alloc(), &[], &rows), None);
+    let said = [(1, b"join".as_slice(), [b'x'; 32].as_slice(), 0, 0)];
+    let longest = is_longer_read(rt.alloc(), &[], (b"join ", b'x', 32), &Read::Lines(&said))?;
+    let over = is_longer_read(rt.alloc(), &[], (b"join ", b'x', 33), &Read::Bad(1))?;
+    assert!(rt; longest && over);
     Ok(())
+}
+
+/// Whether the longest line is read, and also with a carriage return at its end.
+fn is_longest_read(alloc: Global, longest: &[u8], read: &Read<'_>) -> Result<bool, Memory> {
+    let is_ended_read = is_longer_read(alloc, &[], (longest, b'\r', 1), read)?;
+    Ok(is_ended_read && is_read(alloc, &[], longest, read))
+}
+
+/// Whether a line of a command and so many bytes of a key is read, and also with that end.
+fn is_append_read(alloc: Global, count: usize, read: &Read<'_>) -> Result<bool, Memory> {
+    let line = longer(alloc, b"append ", b'k', count)?;
+    is_longest_read(alloc, &line, read)
 }
 
 #[test]
 fn a_line_has_256_bytes_at_most(rt: HostRuntime) -> Result<(), Fail> {
-    let key = longer(rt.alloc(), b"", b'k', 249)?;
-    let longest = longer(rt.alloc(), b"append ", b'k', 249)?;
-    let ended = longer(rt.alloc(), &longest, b'\r', 1)?;
-    let said = [(1, b"append".as_slice(), key.as_slice(), 0, 0)];
-    for line in [&longest, &ended] {
-        assert!(rt; is_read(rt.alloc(), &[], line, &Read::Lines(&said)));
-    }
-    let over = longer(rt.alloc(), b"append ", b'k', 250)?;
-    let comment = longer(rt.alloc(), b"#", b'#', 255)?;
-    let long_comment = longer(rt.alloc(), b"#", b'#', 256)?;
-    let rows = [
-        (over.as_slice(), Read::Bad(1)),
-        (comment.as_slice(), Read::Lines(&[])),
-        (long_comment.as_slice(), Read::Bad(1)),
-    ];
-    assert_eq!(rt; first_other(rt.alloc(), &[], &rows), None);
+    let said = [(1, b"append".as_slice(), [b'k'; 249].as_slice(), 0, 0)];
+    let longest = is_append_read(rt.alloc(), 249, &Read::Lines(&said))?;
+    let over = is_longer_read(rt.alloc(), &[], (b"append ", b'k', 250), &Read::Bad(1))?;
+    let comment = is_longer_read(rt.alloc(), &[], (b"#", b'#', 255), &Read::Lines(&[]))?;
+    let long_comment = is_longer_read(rt.alloc(), &[], (b"#", b'#', 256), &Read::Bad(1))?;
+    assert!(rt; longest && over && comment && long_comment);
     Ok(())
+}
+
+/// Adds 20,000 lines.
+fn add_many(script: &mut Vec<u8>) -> Result<(), Memory> {
+    for _ in 0..10_000 {
+        script.extend_from_slice(b"append k\njoin A\n")?;
+    }
+    Ok(())
+}
+
+/// A script of them.
+fn long_script(alloc: Global) -> Result<Vec<u8>, Memory> {
+    let mut script = Vec::new(alloc);
+    add_many(&mut script)?;
+    Ok(script)
+}
+
+/// How many lines a script has, and the number of the last one.
+fn count_and_last(alloc: Global, script: &[u8]) -> Result<(usize, Option<u64>), Refusal> {
+    let lines = lines_of(alloc, &[], script)?;
+    Ok((lines.len(), lines.last().map(|line| line.number)))
 }
 
 #[test]
 fn a_long_script_is_read(rt: HostRuntime) -> Result<(), Fail> {
-    let mut script = Vec::new(rt.alloc());
-    for _ in 0..10_000 {
-        script.extend_from_slice(b"append k\njoin A\n")?;
-    }
-    let lines = lines_of(rt.alloc(), &[], &script)?;
-    assert_eq!(rt; lines.len(), 20_000);
-    let Some(last) = lines.last() else {
-        return Err(Refusal::Memory.into());
-    };
-    assert_eq!(rt; last.number, 20_000);
+    let script = long_script(rt.alloc())?;
+    let told = count_and_last(rt.alloc(), &script);
+    assert_eq!(rt; told, Ok((20_000, Some(20_000))));
     Ok(())
 }
 

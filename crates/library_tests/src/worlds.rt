@@ -926,11 +926,15 @@ const OF_TOPICS: [(Act, Reply); 8] = [
     (Act::Other(Event::Append(b"21")), Reply::Appended(0, 1)),
 ];
 
+/// The first of those that comes to another place, in a new world.
+fn first_other_in_topics(rt: &impl RandomSource, alloc: Global) -> Result<Option<usize>, Refusal> {
+    let mut world = World::with_topics(rt, alloc, &[2, 3])?;
+    Ok(first_other(&mut world, &[], &OF_TOPICS))
+}
+
 #[test]
-fn appends_in_topics(rt: HostRuntime) -> Result<(), Fail> {
-    let mut world = World::with_topics(&rt, rt.alloc(), &[2, 3])?;
-    assert_eq!(rt; first_other(&mut world, &[], &OF_TOPICS), None);
-    Ok(())
+fn appends_in_topics(rt: HostRuntime) {
+    assert_eq!(rt; first_other_in_topics(&rt, rt.alloc()), Ok(None));
 }
 
 /// Records that follow those of a load.
@@ -946,10 +950,17 @@ const AFTER_A_LOAD: [(Act, Reply); 3] = [
 /// The keys of that load.
 const LOADED: [&[u8]; 5] = [b"21", b"abc", b"21", b"4", b"4"];
 
+/// Whether a new world takes them, and those records after them.
+fn is_loaded_in_topics<R: RandomSource + Threads + Sync>(
+    rt: &R,
+    alloc: Global,
+) -> Result<bool, Refusal> {
+    let mut world = World::with_topics(rt, alloc, &[2, 3])?;
+    let is_loaded = world.load_in(rt, &[0, 1, 1, 0, 1], &LOADED) == Ok(());
+    Ok(is_loaded && first_other(&mut world, &[], &AFTER_A_LOAD).is_none())
+}
+
 #[test]
-fn loads_in_topics(rt: HostRuntime) -> Result<(), Fail> {
-    let mut world = World::with_topics(&rt, rt.alloc(), &[2, 3])?;
-    let is_loaded = world.load_in(&rt, &[0, 1, 1, 0, 1], &LOADED) == Ok(());
-    assert!(rt; is_loaded && first_other(&mut world, &[], &AFTER_A_LOAD).is_none());
-    Ok(())
+fn loads_in_topics(rt: HostRuntime) {
+    assert_eq!(rt; is_loaded_in_topics(&rt, rt.alloc()), Ok(true));
 }
