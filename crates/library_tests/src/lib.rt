@@ -11,6 +11,8 @@ mod plans;
 #[cfg(test)]
 mod runs;
 #[cfg(test)]
+mod schedules;
+#[cfg(test)]
 mod scripts;
 #[cfg(test)]
 mod worlds;
