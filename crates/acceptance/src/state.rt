@@ -142,17 +142,34 @@ fn tell_set<W: Write>(stage: &mut Stage<W>, what: &str, set: Option<&Plane>) -> 
 /// Tells a world: its cluster, its consumers, and its mail.
 pub fn tell_world<W: Write>(stage: &mut Stage<W>, world: &World) -> Result<()> {
     tell_cluster(stage, world.cluster())?;
+    tell_consumers(stage, world)?;
+    for commit in world.mail() {
+        tell_commit(stage, commit)?;
+    }
+    Ok(())
+}
+
+/// Tells the consumers of a world, member by member.
+fn tell_consumers<W: Write>(stage: &mut Stage<W>, world: &World) -> Result<()> {
     for member in 1..u32::MAX {
         let Some(consumer) = world.consumer(member) else {
             break;
         };
-        let now = consumer.member();
-        let generation = consumer.generation();
-        let holdings = Holdings(consumer);
-        stage.tell(format_args!("consumer {member} {now:?} {generation}{holdings}"))?;
-    }
-    for commit in world.mail() {
-        stage.tell(format_args!("commit {}", Terms(commit)))?;
+        tell_consumer(stage, member, consumer)?;
     }
     Ok(())
+}
+
+/// Tells a consumer: whose it is, its generation, and what it holds.
+fn tell_consumer<W: Write>(stage: &mut Stage<W>, member: u32, consumer: &Consumer) -> Result<()> {
+    let now = consumer.member();
+    let generation = consumer.generation();
+    let holdings = Holdings(consumer);
+    stage.tell(format_args!("consumer {member} {now:?} {generation}{holdings}"))
+}
+
+/// Tells a commit.
+fn tell_commit<W: Write>(stage: &mut Stage<W>, commit: &Commit) -> Result<()> {
+    let terms = Terms(commit);
+    stage.tell(format_args!("commit {terms}"))
 }

@@ -118,11 +118,34 @@ fn assigned(
 
 /// How many partitions stay with their owners.
 fn kept(owners: &[u32], others: &[u32]) -> usize {
-    owners
-        .iter()
-        .zip(others)
-        .filter(|(owner, other)| **owner != 0 && owner == other)
-        .count()
+    let mut kept: usize = 0;
+    for (owner, other) in owners.iter().zip(others) {
+        if *owner != 0 && owner == other {
+            kept = kept.saturating_add(1);
+        }
+    }
+    kept
+}
+
+/// How many partitions a member owns.
+fn size_of(member: u32, owners: &[u32]) -> usize {
+    let mut size: usize = 0;
+    for owner in owners {
+        if *owner == member {
+            size = size.saturating_add(1);
+        }
+    }
+    size
+}
+
+/// Whether each partition is owned by one of the members 1 to n.
+fn are_owned(n: u32, owners: &[u32]) -> bool {
+    for owner in owners {
+        if *owner < 1 || n < *owner {
+            return false;
+        }
+    }
+    true
 }
 
 /// One worked row: members, owners, expected owners, and how many partitions stay.
@@ -190,11 +213,11 @@ fn owners_of(code: u32) -> [u32; 4] {
 fn is_balanced(n: u32, owners: &[u32]) -> bool {
     let (mut least, mut most) = (usize::MAX, 0);
     for member in 1..=n {
-        let size = owners.iter().filter(|owner| **owner == member).count();
+        let size = size_of(member, owners);
         least = least.min(size);
         most = most.max(size);
     }
-    most.saturating_sub(least) <= 1 && owners.iter().all(|owner| 1 <= *owner && *owner <= n)
+    most.saturating_sub(least) <= 1 && are_owned(n, owners)
 }
 
 /// The most that a balanced assignment of these partitions to the members 1 to n keeps.
@@ -237,8 +260,11 @@ fn spread(rt: &impl Abort, alloc: Global, owners: &[u32]) -> Result<Vec<u32>, Me
     let members: Vec<u32> = (1..MOST_MEMBERS as u32 + 1).collect(alloc)?;
     let given = assigned(rt, alloc, &members, owners)?;
     for member in &members {
-        let size = given.iter().filter(|owner| *owner == member).count();
-        assert_eq!(rt; size, MOST_PARTITIONS as usize / MOST_MEMBERS, "{member}");
+        assert_eq!(rt;
+            size_of(*member, &given),
+            MOST_PARTITIONS as usize / MOST_MEMBERS,
+            "{member}"
+        );
     }
     Ok(given)
 }
