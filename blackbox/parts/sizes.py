@@ -103,6 +103,9 @@ def file_sizes() -> Cases:
     yield "count, replay and run of some MiB of quoted fields", each_faults(keys, 4)
     keys = [b"%d" % (n * n % 250_007) for n in range(400_000)]
     yield "count, replay and run of 400,000 records of many keys", each_faults(keys, 64, "--batch 1000")
+    # So many different keys that their tables are let go side by side.
+    keys = [b"%d" % (n * 7919 % 300_007) for n in range(400_000)]
+    yield "a count of 400,000 records of 300,007 keys", faults("count f", {"f": lines(keys)}, counts(keys))
 
 
 def script_sizes() -> Cases:
