@@ -1,9 +1,10 @@
 -- Counts number by number: they are made run by run of equal numbers, and added one by one.
-use Rattle.std.proofs.Common.{◌≡◌, ◌≢◌, ◌∙◌, ◌+◌, ◌-◌, ◌<◌, ◌≤◌, ℕ, List, [], ◌∷◌, ◌++◌, length, take, get_or, set, sym, ap, refl, arith, inl, inr, get_or-take, get_or-set_same, get_or-set_other, length-set}
+use Rattle.std.proofs.Common.{◌≡◌, ◌≢◌, ◌∙◌, ◌+◌, ◌-◌, ◌<◌, ◌≤◌, ℕ, zero, suc, List, [], ◌∷◌, ◌++◌, length, replicate, take, get_or, set, subst, sym, ap, refl, arith, inl, inr, get_or-take, get_or-set_same, get_or-set_other, length-set}
 use Rattle.std.specs.List.Sorted.{IsNonDecreasing}
 use Rattle.std.proofs.lemmas.Bool.{cases_lt, cases_eq}
-use Rattle.std.proofs.lemmas.List.{ext_get_or, get_or_append_left, get_or_push, length-take, length_push}
+use Rattle.std.proofs.lemmas.List.{ext_get_or, get_or-replicate, get_or_append_left, get_or_push, length-take, length_push, replicate_more, take_all, take_more}
 use Rattle.keyed_table.specs.Counts.{HaveCounters, plain, raised, raised_from}
+use Rattle.keyed_table.specs.Private.Blocks.{DoRise}
 use Rattle.keyed_table.specs.Private.ByNumber.{AreCountsOf}
 use Rattle.keyed_table.proofs.Elements.{stands-somewhere}
 use Rattle.keyed_table.proofs.Raised.{counter-raised, length-raised}
@@ -165,3 +166,30 @@ ones-all ids numbers old cells at added le =
     let within : x < length old = omega (arith, lt, added.same) in
     let zero_on : 0 + x ≡ x = omega arith in
     added.before x (λ more. absurd (omega (arith, more, le))) ∙ sym (counter-raised 0 old ids x within ∙ ap (λ y. get_or old x 0 + plain ids y) zero_on))
+
+-- ---- a list whose numbers rise
+counts-alike : (ids numbers same counts alike : List ℕ) → numbers ≡ same → counts ≡ alike → AreCountsOf ids numbers counts → AreCountsOf ids same alike
+counts-alike ids numbers same counts alike e f h = rw (← e, ← f) h
+
+-- its first numbers, each once
+rising-below : (ids : List ℕ) → DoRise ids → (n : ℕ) → n ≤ length ids → AreCountsOf (take n ids) (take n ids) (replicate n 1)
+rising-below ids rise zero le = record {
+  whole = refl;
+  rise = λ i j before lt. absurd (omega (arith, lt));
+  counted = λ j lt. absurd (omega (arith, lt));
+  there = λ j lt. absurd (omega (arith, lt));
+  others = λ x absent. refl;
+}
+rising-below ids rise (suc n) le =
+    let lt : n < length ids = omega (arith, le) in
+    let e : suc n ≡ n + 1 = omega arith in
+    let last : (j : ℕ) → n ≤ j → j < n + 1 → get_or ids j 0 ≡ get_or ids n 0 = λ j from to. ap (λ i. get_or ids i 0) (omega (arith, from, to)) in
+    let more = run-counted ids (take n ids) (replicate n 1) n 1 (get_or ids n 0) (n + 1) refl (omega (arith, lt)) (omega arith) last (λ j before. rise j n before lt) (rising-below ids rise n (omega (arith, le))) in
+    subst (λ m. AreCountsOf (take m ids) (take m ids) (replicate m 1)) (sym e) (counts-alike (take (n + 1) ids) (take n ids ++ get_or ids n 0 ∷ []) (take (n + 1) ids) (replicate n 1 ++ 1 ∷ []) (replicate (n + 1) 1) (sym (take_more ids n 0 lt)) (replicate_more n 1) more)
+
+-- each of its numbers is in it once
+pub rising-counts : (ids : List ℕ) → DoRise ids → AreCountsOf ids ids (replicate (length ids) 1)
+rising-counts ids rise = rw (take_all (length ids) ids (omega arith)) at (rising-below ids rise (length ids) (omega arith))
+
+pub rising-once : (ids : List ℕ) (at : ℕ) → DoRise ids → at < length ids → plain ids (get_or ids at 0) ≡ 1
+rising-once ids at rise lt = sym ((rising-counts ids rise).counted at lt) ∙ get_or-replicate {A = ℕ} (length ids) at 1 0 lt

@@ -5,6 +5,7 @@ mod blocks;
 mod by_blocks;
 mod by_number;
 mod partial;
+mod rising;
 mod table;
 
 pub use partial::Partial;

@@ -6,15 +6,18 @@ ghost use Rattle.keyed_table.specs.Counts.{HaveCounters, SumsFit, plain, raised}
 use crate::blocks::{BLOCK, bound_of};
 use crate::by_blocks::ByBlocks;
 use crate::by_number::ByNumber;
+use crate::rising::{Rising, do_rise};
 use lane_words::Memory;
 use std::alloc::Global;
 use std::marker::Model;
 
-/// A list with its counts, in one of two forms.
+/// A list with its counts, in one of three forms.
 #[derive(Debug, Drop)]
 enum Counted {
     /// One that is no shorter than the key numbers up to its largest are many.
     Blocks(ByBlocks),
+    /// Another one, whose numbers rise.
+    Rising(Rising),
     /// Any other.
     Numbers(ByNumber),
 }
@@ -44,6 +47,8 @@ impl Partial {
         let bound = bound_of(ids.as_slice());
         let counted = if BLOCK * bound <= ids.len() {
             Counted::Blocks(ByBlocks::of(alloc, ids, bound)?)
+        } else if do_rise(ids.as_slice()) {
+            Counted::Rising(Rising::of(ids))
         } else {
             Counted::Numbers(ByNumber::of(alloc, ids)?)
         };
@@ -56,6 +61,7 @@ impl Partial {
     {
         match &self.counted {
             Counted::Blocks(counted) => counted.ids(),
+            Counted::Rising(counted) => counted.ids(),
             Counted::Numbers(counted) => counted.ids(),
         }
     }
@@ -66,6 +72,7 @@ impl Partial {
     {
         match &self.counted {
             Counted::Blocks(counted) => counted.get(id),
+            Counted::Rising(counted) => counted.get(id),
             Counted::Numbers(counted) => counted.get(id),
         }
     }
@@ -80,6 +87,7 @@ impl Partial {
     {
         match &self.counted {
             Counted::Blocks(counted) => counted.add_to(cells),
+            Counted::Rising(counted) => counted.add_to(cells),
             Counted::Numbers(counted) => counted.add_to(cells),
         }
     }

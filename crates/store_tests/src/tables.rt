@@ -170,31 +170,61 @@ fn check_gets(rt: &impl Abort, partial: &Partial, plain: &PlainPartial, bound: u
     }
 }
 
-/// Two drawn lists of this length in a table of so many keys, beside the plain program.
-fn check_drawn(rt: &impl Abort, alloc: Global, keys: u32, len: usize) -> Result<(), Memory>
+/// Each ninth number below a bound: they rise.
+fn each_ninth(alloc: Global, bound: u32) -> Result<Vec<u32>, AllocError> {
+    let mut ids = Vec::new(alloc);
+    for id in 0..bound {
+        if id % 9 == 0 {
+            ids.push(id)?;
+        }
+    }
+    Ok(ids)
+}
+
+/// One more list in a table of so many keys, beside the plain program.
+fn check_list(
+    rt: &impl Abort,
+    alloc: Global,
+    keys: u32,
+    table: &mut Table,
+    counts: &mut [u64],
+    ids: Vec<u32>,
+) -> Result<(), Memory>
+    requires { keys < 2 ^ 31 }
+{
+    let len = ids.len();
+    let plain = PlainPartial::of(alloc, Vec::from_slice(alloc, ids.as_slice())?)?;
+    let partial = Partial::of(alloc, ids)?;
+    check_gets(rt, &partial, &plain, keys + 9);
+    merge(rt, table, &partial);
+    merge_plainly(rt, counts, &plain);
+    assert!(rt; table.counts() == &*counts, "{keys} {len}");
+    Ok(())
+}
+
+/// Two drawn lists of this length and one that rises in a table of so many keys, beside the plain
+/// program.
+fn check_lists(rt: &impl Abort, alloc: Global, keys: u32, len: usize) -> Result<(), Memory>
     requires { (0 < keys) × (keys < 2 ^ 31) }
 {
     let mut table = Table::zeros(alloc, keys)?;
     let mut counts = vec![in alloc; 0; keys as usize]?;
+    let counts = counts.as_mut_slice();
     for seed in 0..2 {
         let ids = drawn(alloc, len, keys, seed)?;
-        let plain = PlainPartial::of(alloc, Vec::from_slice(alloc, ids.as_slice())?)?;
-        let partial = Partial::of(alloc, ids)?;
-        check_gets(rt, &partial, &plain, keys + 9);
-        merge(rt, &mut table, &partial);
-        merge_plainly(rt, &mut counts, &plain);
-        assert!(rt; table.counts() == counts.as_slice(), "{keys} {len}");
+        check_list(rt, alloc, keys, &mut table, counts, ids)?;
     }
-    Ok(())
+    let rising = each_ninth(alloc, keys)?;
+    check_list(rt, alloc, keys, &mut table, counts, rising)
 }
 
 #[test]
 fn counts_and_merges_beside_the_plain_program(rt: HostRuntime) -> Result<(), Fail> {
     for (keys, len) in [(1, 100), (7, 500), (8, 500), (9, 500), (17, 3000)] {
-        check_drawn(&rt, rt.alloc(), keys, len)?;
+        check_lists(&rt, rt.alloc(), keys, len)?;
     }
     for (keys, len) in [(1000, 500), (1000, 5000), (70_000, 500), (70_000, 8000)] {
-        check_drawn(&rt, rt.alloc(), keys, len)?;
+        check_lists(&rt, rt.alloc(), keys, len)?;
     }
     Ok(())
 }

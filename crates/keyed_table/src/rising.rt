@@ -1,0 +1,77 @@
+//! A list of key numbers that rise, so that each is in it once.
+
+ghost use Rattle.std.specs.Prelude.{◌≡◌, ◌+◌, ◌<◌, IsTrue, length};
+ghost use Rattle.keyed_table.specs.Counts.{HaveCounters, SumsFit, plain, raised};
+ghost use Rattle.keyed_table.specs.Private.Blocks.{DoRise};
+
+use std::marker::Model;
+
+/// A list of key numbers that rise, as those of a log whose records all have different new keys: it
+/// is its own count, and nothing stands beside it.
+#[derive(Debug, Drop)]
+pub struct Rising {
+    /// The list.
+    ids: Vec<u32>,
+}
+
+impl Model for Rising {
+    ghost use Rattle.std.specs.Prelude.{List, ℕ};
+    ghost use Rattle.keyed_table.specs.Private.Blocks.{DoRise};
+
+    ghost Value = { List ℕ };
+
+    ghost view = { λ p. p.ids.items };
+
+    ghost invariant = { λ p. DoRise p.ids.items };
+}
+
+impl Rising {
+    /// A list whose numbers rise.
+    pub fn of(ids: Vec<u32>) -> Rising
+        requires { DoRise ids.items }
+        ensures { result ≡ ids.items }
+    {
+        Rising { ids }
+    }
+
+    /// The list.
+    pub fn ids(&self) -> &[u32]
+        ensures { result.now ≡ self.now }
+    {
+        self.ids.as_slice()
+    }
+
+    /// How often a number is in the list: 0 where it is not.
+    pub fn get(&self, id: u32) -> u64
+        ensures { result ≡ plain self.now id }
+    {
+        match self.ids.binary_search(&id) {
+            Ok(_) => 1,
+            Err(_) => 0,
+        }
+    }
+
+    /// Adds to each counter how often its number is in the list.
+    pub fn add_to(&self, cells: &mut [u64])
+        requires numbers { HaveCounters cells.old self.now }
+        requires fit { SumsFit cells.old self.now }
+        ensures { cells.new ≡ raised cells.old self.now }
+    {
+        let ids = self.ids.as_slice();
+        for at in 0..ids.len() {
+            cells[ids[at] as usize] += 1;
+        }
+    }
+}
+
+/// Whether the numbers of a list rise.
+pub fn do_rise(ids: &[u32]) -> bool
+    ensures { IsTrue result → DoRise ids.now }
+{
+    for at in 1..ids.len() {
+        if ids[at - 1] >= ids[at] {
+            return false;
+        }
+    }
+    true
+}
