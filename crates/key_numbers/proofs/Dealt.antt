@@ -92,6 +92,24 @@ row-numbered shard s keys xs ys zs table locals seam so =
       locals_of = ap₂ (λ ms ns. ms ++ ns) so.locals_of (sym numbers) ∙ sym (map-append f before row) ∙ ap (map f) (sym more);
     }
 
+-- a row that is numbered in parts: its first keys, and those of one more part
+pub record AreNumberedOn (old : List Key) (was : List ℕ) (row table : List Key) (locals : List ℕ) : Type 0 where
+  pub keys : table ≡ with_keys old row
+  pub numbers : locals ≡ was ++ map (id_of (with_keys old row)) row
+
+pub part-numbered : (old : List Key) (was : List ℕ) (xs ys whole table : List Key) (locals : List ℕ) → whole ≡ xs ++ ys → AreNumberedOn old was xs table locals
+    → AreNumberedOn old was whole (with_keys table ys) (locals ++ map (id_of (with_keys table ys)) ys)
+part-numbered old was xs ys whole table locals seam so =
+    let first = with_keys old xs in
+    let all : with_keys old whole ≡ with_keys first ys = ap (with_keys old) seam ∙ fold-append with_key old xs ys in
+    let same : with_keys table ys ≡ with_keys old whole = ap (λ ks. with_keys ks ys) so.keys ∙ sym all in
+    let f = id_of (with_keys old whole) in
+    let before : map (id_of first) xs ≡ map f xs = sym (ids-stay old xs ys) ∙ ap (λ ks. map (id_of ks) xs) (sym all) in
+    let joined : map f xs ++ map f ys ≡ map f whole = sym (map-append f xs ys) ∙ ap (map f) (sym seam) in record {
+      keys = same;
+      numbers = ap₂ (λ ms ns. ms ++ ns) so.numbers (ap (λ ks. map (id_of ks) ys) same) ∙ append_assoc was (map (id_of first) xs) (map f ys) ∙ ap (λ ns. was ++ ns) (ap (λ ns. ns ++ map f ys) before ∙ joined);
+    }
+
 -- there is room for the keys of a row
 pub row-room : (shard : Key → ℕ) (s : ℕ) (keys xs ys zs : List Key) (table : List Key) (locals : List ℕ) → keys ≡ (xs ++ ys) ++ zs → IsNumberedTo shard s keys xs table locals
     → length table + length (of_shard shard s ys) ≤ length keys
@@ -108,19 +126,19 @@ found-dealt shard lists found dealt is as_many each =
       are = λ i d e lt. subst (λ r. IfOk r (IsDealt shard (lent (get_or lists i e).now))) (ap (λ rs. get_or rs i (Ok d)) is ∙ get_or-map Ok dealt i d (Ok d) (omega (arith, lt, long))) (each i (Ok d) e lt);
     }
 
--- the pieces of keys, with one more
-pub more-pieces : (keys : List Key) (p : ℕ) → take (start_of (p + 1) keys) keys ≡ take (start_of p keys) keys ++ slice_range keys (start_of p keys) (start_of (p + 1) keys)
-more-pieces keys p =
-    let from = start_of p keys in
-    let to = start_of (p + 1) keys in
+-- the keys up to one are those up to another, and those between them
+pub take-parted : (keys : List Key) (from to : ℕ) → from ≤ to → to ≤ length keys → take to keys ≡ take from keys ++ slice_range keys from to
+take-parted keys from to ordered within =
     let own = slice_range keys from to in
-    let ordered : from ≤ to = omega arith in
-    let within : to ≤ length keys = omega arith in
     let long : length (take from keys ++ own) ≡ to =
     omega (arith, length-append (take from keys) own, length-take-le from keys (omega (arith, ordered, within)), length-take-le (to - from) (drop from keys) (omega (arith, length-drop from keys, ordered, within)), ordered) in
     let seam : keys ≡ (take from keys ++ own) ++ drop to keys =
     sym (take-append-drop from keys) ∙ ap (λ ks. take from keys ++ ks) (drop_split keys from to ordered) ∙ sym (append_assoc (take from keys) own (drop to keys)) in
     ap (take to) seam ∙ take_at (take from keys ++ own) (drop to keys) to long
+
+-- the pieces of keys, with one more
+pub more-pieces : (keys : List Key) (p : ℕ) → take (start_of (p + 1) keys) keys ≡ take (start_of p keys) keys ++ slice_range keys (start_of p keys) (start_of (p + 1) keys)
+more-pieces keys p = take-parted keys (start_of p keys) (start_of (p + 1) keys) (omega arith) (omega arith)
 
 -- no key is before the first piece, and none behind the last
 pub no-pieces : (keys : List Key) → start_of 0 keys ≡ 0

@@ -1,4 +1,5 @@
 pub mod Copied
+pub mod Copies
 pub mod Dealt
 pub mod Filtered
 pub mod Firsts

@@ -2,8 +2,9 @@
 
 ghost use Rattle.std.specs.Prelude.{◌≡◌, ◌<◌, ◌≤◌, [], IfOk, IfSome, IfNone, IsOk, OnErr, length, true, false};
 ghost use Rattle.key_numbers.specs.Keys.{IsIdOf, id_of, is_known, key_at, with_key};
+ghost use Rattle.key_numbers.specs.Private.StoredKey.{bytes_of};
 
-use crate::stored_key::{LONGEST_INLINE, StoredKey};
+use crate::stored_key::{LONGEST_INLINE, ShortKey, StoredKey};
 use indexmap::IndexSet;
 use lane_words::{MOST_RECORDS, Memory};
 use std::alloc::Global;
@@ -77,7 +78,7 @@ impl KeyTable {
         ensures same { self.new ≡ self.old }
     {
         if key.len() <= LONGEST_INLINE {
-            return Ok(find_in(&self.set, &StoredKey::short(key)));
+            return Ok(find_in(&self.set, &StoredKey::short(&ShortKey::of(key))));
         }
         let query = long_query(self.alloc, &mut self.query, key)?;
         let found = find_in(&self.set, &query);
@@ -100,6 +101,18 @@ impl KeyTable {
         Ok(number as u32)
     }
 
+    /// The number of a short key, which is numbered where it is new.
+    pub fn number_short(&mut self, key: &ShortKey) -> Result<u32, Memory>
+        requires room { length self.old < MOST_RECORDS }
+        requires size { key.now.size ≤ LONGEST_INLINE }
+        ensures ok { IfOk result (λ n. (n ≡ id_of self.old (bytes_of key.now))
+            × (self.new ≡ with_key self.old (bytes_of key.now))) }
+        ensures err { OnErr result (self.new ≡ self.old) }
+    {
+        let (number, _) = self.set.insert_full(StoredKey::short(key))?;
+        Ok(number as u32)
+    }
+
     /// The number of a key, which is numbered where it is new.
     pub fn number(&mut self, key: &[u8]) -> Result<u32, Memory>
         requires { length self.old < MOST_RECORDS }
@@ -108,8 +121,7 @@ impl KeyTable {
         ensures err { OnErr result (self.new ≡ self.old) }
     {
         if key.len() <= LONGEST_INLINE {
-            let (number, _) = self.set.insert_full(StoredKey::short(key))?;
-            return Ok(number as u32);
+            return self.number_short(&ShortKey::of(key));
         }
         if let Some(number) = self.find(key)? {
             return Ok(number);
@@ -148,7 +160,7 @@ fn stored_key(alloc: Global, key: &[u8]) -> Result<StoredKey, Memory>
     ensures { IfOk result (λ stored. stored ≡ key.now) }
 {
     if key.len() <= LONGEST_INLINE {
-        return Ok(StoredKey::short(key));
+        return Ok(StoredKey::short(&ShortKey::of(key)));
     }
     let text = Vec::from_slice(alloc, key)?;
     Ok(StoredKey::long(text))

@@ -6,6 +6,7 @@ ghost use Rattle.std.specs.Cmp as compare;
 ghost use Rattle.std.specs.Cmp.Lexicographic.{nat_list_eq_equiv};
 ghost use Rattle.std.specs.Cmp.Rules.{comparing, hashing};
 ghost use Rattle.std.specs.Str.{bytes_eq};
+ghost use Rattle.key_numbers.specs.Private.StoredKey.{IsCopyOf, bytes_of};
 
 use std::hash::{Hash, Hasher};
 use std::marker::Model;
@@ -23,6 +24,30 @@ enum Storage {
     },
     /// All bytes of a text.
     Heap(Vec<u8>),
+}
+
+/// A copy of a key of up to `LONGEST_INLINE` bytes.
+#[derive(Clone, Copy, Debug)]
+pub struct ShortKey {
+    /// The bytes of the key, and zeros.
+    bytes: [u8; LONGEST_INLINE],
+    /// How many bytes the key has.
+    size: u8,
+}
+
+impl ShortKey {
+    /// A copy of a key.
+    pub fn of(key: &[u8]) -> ShortKey
+        requires { length key.now ≤ LONGEST_INLINE }
+        ensures { IsCopyOf key.now result }
+    {
+        let mut bytes = [0u8; LONGEST_INLINE];
+        bytes[..key.len()].copy_from_slice(key);
+        ShortKey {
+            bytes,
+            size: key.len() as u8,
+        }
+    }
 }
 
 /// A key. A short one is stored inline, so that a look-up follows no pointer to it.
@@ -45,16 +70,14 @@ impl Model for StoredKey {
 
 impl StoredKey {
     /// A short key, which takes no memory.
-    pub fn short(key: &[u8]) -> StoredKey
-        requires { length key.now ≤ LONGEST_INLINE }
-        ensures { result ≡ key.now }
+    pub fn short(key: &ShortKey) -> StoredKey
+        requires { key.now.size ≤ LONGEST_INLINE }
+        ensures { result ≡ bytes_of key.now }
     {
-        let mut bytes = [0u8; LONGEST_INLINE];
-        bytes[..key.len()].copy_from_slice(key);
         StoredKey {
             storage: Storage::Inline {
-                bytes,
-                size: key.len() as u8,
+                bytes: key.bytes,
+                size: key.size,
             },
         }
     }

@@ -10,6 +10,9 @@ use Rattle.key_numbers.specs.declared.dealing.TheConstants.{PIECES}
 use Rattle.key_numbers.specs.declared.dealing.Dealt.{Dealt}
 use Rattle.key_numbers.specs.declared.shards.TheConstants.{SHARDS}
 use Rattle.key_numbers.specs.declared.shards.KeyAt.{KeyAt}
+use Rattle.key_numbers.specs.declared.stored_key.TheConstants.{LONGEST_INLINE}
+use Rattle.key_numbers.specs.declared.stored_key.ShortKey.{ShortKey}
+use Rattle.key_numbers.specs.Private.StoredKey.{IsCopyOf}
 use Rattle.key_numbers.specs.declared.numbering.NumberedShard.{NumberedShard}
 
 -- the shard of a key that this hasher hashes, by one write of all its bytes
@@ -46,6 +49,10 @@ pub record AreDealt (shard : Key → ℕ) (lists : List (Bor (List (Bor Key)))) 
 -- the keys of a shard after more records
 abbrev pub with_keys : List Key → List Key → List Key
 with_keys table row = fold with_key table row
+
+-- of those of these keys that are short these are the copies
+abbrev pub AreCopies : List Key → List ShortKey → Type 0
+AreCopies keys copies = (k : ℕ) (d : ShortKey) → k < length keys → length (slice_index_or keys k []) ≤ LONGEST_INLINE → IsCopyOf (slice_index_or keys k []) (slice_index_or copies k d)
 
 -- for each shard the key numbers of its keys, by their numbers in the shard
 abbrev pub AreGlobal : (Key → ℕ) → List Key → List (List ℕ) → Type 0

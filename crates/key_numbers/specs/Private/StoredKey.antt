@@ -1,8 +1,17 @@
 -- A key as the set of keys keeps it: a short one inline, a long one in memory of its own.
-use Rattle.std.specs.Prelude.{ℕ, ◌≤◌, ⊤, List, take}
+use Rattle.std.specs.Prelude.{ℕ, ◌≡◌, ◌≤◌, ⊤, List, take}
 use Rattle.key_numbers.specs.declared.stored_key.TheConstants.{LONGEST_INLINE}
+use Rattle.key_numbers.specs.declared.stored_key.ShortKey.{ShortKey}
 use Rattle.key_numbers.specs.declared.stored_key.Storage.{Storage}
 use Rattle.key_numbers.specs.declared.stored_key.Storage.TheVariants.{Inline, Heap}
+
+-- the bytes of a copy of a key
+abbrev pub bytes_of : ShortKey → List ℕ
+bytes_of copy = take copy.size copy.bytes
+
+-- this is a copy of a key
+abbrev pub IsCopyOf : List ℕ → ShortKey → Type 0
+IsCopyOf key copy = (copy.size ≤ LONGEST_INLINE) × (bytes_of copy ≡ key)
 
 -- the bytes of a key
 abbrev pub bytes_in : Storage → List ℕ

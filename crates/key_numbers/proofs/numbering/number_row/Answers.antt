@@ -1,31 +1,28 @@
-use Rattle.std.proofs.Common.{◌≡◌, ◌<◌, ◌∙◌, ◌∷◌, ◌++◌, [], Bor, ℕ, List, append_assoc, arith, ap, ap₂, get_or, length, map, sym, take}
-use Rattle.std.proofs.lemmas.List.{length-take, map_more}
-use Rattle.std.proofs.lemmas.List.Sums.{fold_more}
-use Rattle.key_numbers.specs.Keys.{id_of, lent, with_key}
+use Rattle.std.proofs.Common.{◌≡◌, ◌≤◌, ◌+◌, ◌*◌, ◌-◌, ◌∙◌, ◌++◌, [], Bor, List, arith, ap, drop, length, length-drop, map, sym, take}
+use Rattle.std.specs.Prelude.{slice_range}
+use Rattle.std.proofs.lemmas.List.{length-take, take_min}
+use Rattle.key_numbers.specs.Keys.{Key, id_of, lent}
 use Rattle.key_numbers.specs.Private.Sharded.{with_keys}
-use Rattle.key_numbers.proofs.Dealt.{number-next}
-use Rattle.key_numbers.proofs.ShardRecords.{few-added, lent-key, lent-long}
+use Rattle.key_numbers.specs.declared.numbering.TheConstants.{AT_ONCE}
+use Rattle.key_numbers.proofs.Dealt.{AreNumberedOn, part-numbered, piece-map, take-parted}
+use Rattle.key_numbers.proofs.ShardRecords.{few-added, lent-long}
 use Rattle.key_numbers.proofs.numbering.number_row.Goals as goal
 
-pub number-requires : goal.number-requires
-number-requires c =
+pub number_few-requires-clause-room : goal.number_few-requires-clause-room
+number_few-requires-clause-room c =
     let row = lent c.args.row.now in
-    omega (arith, ap length c.loop-k.invariant.table, few-added c.args.table.now (take c.loop-k.k row), length-take c.loop-k.k row, c.loop-k-test.true, c.requires, lent-long c.args.row.now)
+    let from = c.loop-part.part * AT_ONCE in
+    omega (arith, ap length c.loop-part.invariant.keys, few-added c.args.table.now (take from row), length-take from row, lent-long c.args.row.now, length-take (c.min-to.result - from) (drop from c.args.row.now), length-drop from c.args.row.now, c.min-to.ensures, c.requires)
 
-pub loop-k-preserved : goal.loop-k-preserved
-loop-k-preserved c =
-    let row = lent c.args.row.now in
-    let old = c.args.table.now in
-    let k = c.loop-k.k in
-    let table = c.loop-k.table in
-    let inv = c.loop-k.invariant in
-    let k_in : k < length row = omega (arith, c.loop-k-test.true, lent-long c.args.row.now) in
-    let none : Bor (List ℕ) = record { ref_ptr = (0, 0); now = [] } in
-    let key = get_or row k [] in
-    let x : key ≡ (get_or c.args.row.now k none).now = lent-key c.args.row.now k none c.loop-k-test.true in
-    let f = id_of (with_keys old row) in
-    let number : c.in_ok-number.field-0 ≡ f key = c.in_ok-number.ensures.ok.0 ∙ ap (id_of table) (sym x) ∙ ap (λ ks. id_of ks key) inv.table ∙ sym (number-next old row k k_in) in
-    let old_locals = c.args.locals.now.items in record {
-      table = c.in_ok-number.ensures.ok.1 ∙ ap (with_key table) (sym x) ∙ ap (λ ks. with_key ks key) inv.table ∙ sym (fold_more with_key old row k [] k_in);
-      locals = c.in_ok-push.ensures.items ∙ ap₂ (λ ns n. ns ++ n ∷ []) inv.locals number ∙ append_assoc old_locals (map f (take k row)) (f key ∷ []) ∙ ap (λ ns. old_locals ++ ns) (sym (map_more f row k [] k_in));
-    }
+pub loop-part-preserved : goal.loop-part-preserved
+loop-part-preserved c =
+    let keys = c.args.row.now in
+    let row = lent keys in
+    let now : Bor Key → Key = λ key. key.now in
+    let from = c.loop-part.part * AT_ONCE in
+    let to = c.min-to.result in
+    let few = lent (slice_range keys from to) in
+    let past : take ((c.loop-part.part + 1) * AT_ONCE) row ≡ take to row = sym (take_min ((c.loop-part.part + 1) * AT_ONCE) row) ∙ ap (λ n. take n row) (omega (arith, c.min-to.ensures, lent-long keys)) in
+    let whole : take ((c.loop-part.part + 1) * AT_ONCE) row ≡ take from row ++ few = past ∙ take-parted row from to (omega (arith, c.min-to.ensures, c.loop-part-test.true, c.div_ceil-part-end.ensures)) (omega (arith, c.min-to.ensures, lent-long keys)) ∙ ap (λ ks. take from row ++ ks) (sym (piece-map now keys from to)) in
+    let next = part-numbered c.args.table.now c.args.locals.now.items (take from row) few (take ((c.loop-part.part + 1) * AT_ONCE) row) c.loop-part.table c.loop-part.locals.items whole c.loop-part.invariant in
+    rw (c.in_ok-number_few.ensures.table, c.in_ok-number_few.ensures.locals) next
