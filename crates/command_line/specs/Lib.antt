@@ -1,4 +1,5 @@
 pub mod CommandLine
+pub mod Input
 pub mod Options
 pub mod Private
 pub mod Topics

@@ -1,9 +1,9 @@
 //! Which of a job's files are standard input.
 
 ghost use Rattle.std.specs.Prelude.{◌≡◌, ◌↔◌, IsTrue, codes};
-ghost use Rattle.report_cli.specs.Input.{ReadsInputTwice};
+ghost use Rattle.command_line.specs.Input.{ReadsInputTwice};
 
-use command_line::Job;
+use crate::words::Job;
 
 /// Whether a path stands for standard input, which is `-`.
 fn is_standard_input(path: &str) -> bool
