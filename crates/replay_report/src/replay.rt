@@ -71,11 +71,11 @@ fn report_of_lines<R: Threads + Sync + RandomSource>(
     ensures refused { IfErr result (λ e. (e ≡ refusal.Memory)
         ⊎ (report_of_lines options.now (records_in records) lines.items ≡ Err e)) }
 {
-    let world = loaded(rt, alloc, &records, options)?;
+    let mut world = loaded(rt, alloc, &records, options)?;
     // The logs have a copy of each key.
     drop(records);
     let topics = options.topics.as_slice();
-    text_of_lines(alloc, topics, world, lines.as_slice(), options.batch)
+    text_of_lines(alloc, topics, &mut world, lines.as_slice(), options.batch)
 }
 
 /// The text of a replay of a script over a file's records.

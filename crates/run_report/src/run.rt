@@ -7,13 +7,14 @@ ghost use Rattle.count_report.specs.Reports.{AreInRange, CountsReads, IsFaultOf,
 ghost use Rattle.run_report.specs.Private.Runs.{EndsRun, IsRunOver};
 ghost use Rattle.replay_rows.specs.ReplayRows.{closing_rows, move_rows};
 ghost use Rattle.run_report.specs.RunReport.{WritesRun, report_of_plan, report_of_run};
+ghost use Rattle.lane_words.specs.declared.Refusal.TheVariants as refusal;
 ghost use Rattle.script.specs.Plan.{plan_answer};
 
 use command_line::Options;
 use count_report::{FileRecords, file_records, logs_of};
 use devices::{Sink, Source, read_all, write_all};
 use group_machine::Cluster;
-use lane_words::{Memory, Refusal};
+use lane_words::Refusal;
 use report_rows::rows;
 use script::{Plan, Topic, read_plan};
 use std::alloc::Global;
@@ -59,19 +60,21 @@ fn outcome_of<R: Threads + Wait + RandomSource + Sync, G: Gate + Sync>(
     let logs = logs_of(rt, alloc, &records, options)?;
     // The logs have a copy of each key.
     drop(records);
-    run_cluster(rt, alloc, &logs.seal(), plan, options.batch, gate)
+    let sealed = logs.seal();
+    run_cluster(rt, alloc, &sealed, plan, options.batch, gate)
 }
 
-/// The text of the end of a run: all moves, and the closing rows.
-fn text_of_end(alloc: Global, topics: &[Topic], cluster: &Cluster) -> Result<Vec<u8>, Memory>
-    ensures { IfOk result (λ text. text.items
+/// The text of the end of a run: all moves, and the closing rows. Refused for want of memory.
+fn text_of_end(alloc: Global, topics: &[Topic], cluster: &Cluster) -> Result<Vec<u8>, Refusal>
+    ensures text { IfOk result (λ text. text.items
         ≡ move_rows topics.now cluster.now.group cluster.now.group.moves
         ++ closing_rows topics.now cluster.now) }
+    ensures kind { IfErr result (λ e. e ≡ refusal.Memory) }
 {
     let mut writer = rows::new_writer(alloc);
     replay_rows::write_moves(&mut writer, topics, cluster, 0)?;
     replay_rows::write_closing(&mut writer, topics, cluster)?;
-    rows::text_of(writer)
+    Ok(rows::text_of(writer)?)
 }
 
 /// The text of a run of a plan over some records.
@@ -92,8 +95,7 @@ fn report_of_plan<R: Threads + Wait + RandomSource + Sync, G: Gate + Sync>(
         (EndsRun (report_of_plan options.now (records_in records) plan.now)) }
 {
     let outcome = outcome_of(rt, alloc, records, plan, options, gate)?;
-    let topics = options.topics.as_slice();
-    Ok(text_of_end(alloc, topics, outcome.cluster())?)
+    text_of_end(alloc, options.topics.as_slice(), outcome.cluster())
 }
 
 /// The text of a run of the plan that a script says over a file's records.

@@ -174,19 +174,18 @@ fn write_lines(
 pub fn text_of_lines(
     alloc: Global,
     topics: &[Topic],
-    world: World,
+    world: &mut World,
     lines: &[Line],
     batch: u32,
 ) -> Result<Vec<u8>, Refusal>
     requires { 1 ≤ batch }
     ensures text { IfOk result
-        (λ text. text_of_lines topics.now batch world lines.now ≡ Ok text.items) }
+        (λ text. text_of_lines topics.now batch world.old lines.now ≡ Ok text.items) }
     ensures kind { IfErr result IsNoDeviceFault }
     ensures refused { IfErr result
-        (λ e. (e ≡ refusal.Memory) ⊎ (text_of_lines topics.now batch world lines.now ≡ Err e)) }
+        (λ e. (e ≡ refusal.Memory) ⊎ (text_of_lines topics.now batch world.old lines.now ≡ Err e)) }
 {
-    let mut world = world;
     let mut writer = rows::new_writer(alloc);
-    write_lines(&mut writer, topics, &mut world, lines, batch)?;
+    write_lines(&mut writer, topics, world, lines, batch)?;
     Ok(rows::text_of(writer)?)
 }

@@ -12,4 +12,4 @@ returns-in_err-logs-clause-refused g c =
 
 pub returns-clause-refused : goal.returns-clause-refused
 returns-clause-refused g c =
-    IfErr-weaker c.run_cluster-2.result _ _ (λ e h. refusal_ends_run c.args.options.now (records_in c.args.records) c.args.plan.now e c.in_ok-logs.ensures.accepted h) c.run_cluster-2.ensures.refused
+    IfErr-weaker c.run_cluster.result _ _ (λ e h. refusal_ends_run c.args.options.now (records_in c.args.records) c.args.plan.now e c.in_ok-logs.ensures.accepted h) c.run_cluster.ensures.refused

@@ -1,4 +1,5 @@
 use Rattle.std.proofs.Common.{◌∙◌, ◌++◌, List, ap}
+use Rattle.std.proofs.lemmas.Result.{IfOk-weaker}
 use Rattle.script.specs.declared.topics.Topic.{Topic}
 use Rattle.count_report.specs.Records.{partition_counts, records_in}
 use Rattle.group_machine.specs.Cluster.{ClusterState}
@@ -12,6 +13,8 @@ returns-clause-text g c =
     let run = c.in_ok-outcome.ensures in
     let options = c.args.options.now in
     let records = records_in c.args.records in
-    let topics = c.as_slice-topics.ensures.value in
-    text_told options records c.args.plan.now _ run.accepted (c.in_ok-text_of_end.ensures ∙ ap (λ (x : ClusterState). move_rows c.as_slice-topics.result.now x.group x.group.moves ++ closing_rows c.as_slice-topics.result.now x) c.cluster.ensures
-    ∙ ap (λ (ts : List Topic). move_rows ts s.group s.group.moves ++ closing_rows ts s) topics ∙ text_is options.topics.items (partition_counts options) records c.args.plan.now s run.run)
+    let topics = c.as_slice.ensures.value in
+    IfOk-weaker c.text_of_end.result _ _
+    (λ text is. text_told options records c.args.plan.now _ run.accepted (is ∙ ap (λ (x : ClusterState). move_rows c.as_slice.result.now x.group x.group.moves ++ closing_rows c.as_slice.result.now x) c.cluster.ensures
+    ∙ ap (λ (ts : List Topic). move_rows ts s.group s.group.moves ++ closing_rows ts s) topics ∙ text_is options.topics.items (partition_counts options) records c.args.plan.now s run.run))
+    c.text_of_end.ensures.text

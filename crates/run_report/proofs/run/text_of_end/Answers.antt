@@ -1,8 +1,8 @@
 use Rattle.std.proofs.Common.{[]}
 use Rattle.run_report.proofs.run.text_of_end.Goals as goal
 
-pub returns : goal.returns
-returns c =
+pub returns-clause-text : goal.returns-clause-text
+returns-clause-text c =
     let moves = c.in_ok-write_moves.ensures [] c.new_writer-writer.ensures in
     let whole = c.in_ok-write_closing.ensures _ moves in
-    c.text_of.ensures _ whole
+    c.in_ok-text_of.ensures _ whole
