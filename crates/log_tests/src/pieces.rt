@@ -1,0 +1,266 @@
+//! Files in pieces, beside the program that reads them in one piece.
+
+ghost use Rattle.std.specs.Prelude.{◌≤◌};
+
+use crate::drawn::{Random, rows, scraps, topic_rows};
+use crate::files::{NAMES, text_of_topics, text_whole};
+use key_file::{
+    FileKeys, KeyList, Reading, read_keys, read_keys_apart, read_keys_in_pieces,
+    read_topic_keys_in_pieces,
+};
+use lane_words::{Memory, Refusal};
+use std::alloc::Global;
+use std::hash::RandomState;
+use std::random::RandomSource;
+use std::test::Fail;
+use std::thread::Threads;
+
+/// The text of a file, or its fault.
+type Text = Result<Vec<u8>, Refusal>;
+
+/// The bytes of keys in one text, each ended by a semicolon.
+fn text_of_slices(alloc: Global, slices: &[&[u8]]) -> Result<Vec<u8>, Memory> {
+    let mut text = Vec::new(alloc);
+    for slice in slices {
+        text.extend_from_slice(slice)?;
+        text.push(b';')?;
+    }
+    Ok(text)
+}
+
+/// The keys of a file in one text.
+fn text_of_keys(alloc: Global, keys: &FileKeys) -> Result<Vec<u8>, Memory> {
+    let slices = keys.slices(alloc)?;
+    text_of_slices(alloc, &slices)
+}
+
+/// The keys of a file that is read in pieces, in one text.
+fn text_in_pieces<R: Threads + Sync>(
+    rt: &R,
+    alloc: Global,
+    file: &[u8],
+    column: u32,
+    header: bool,
+    reading: Reading,
+) -> Result<Vec<u8>, Refusal>
+    requires { 1 ≤ column }
+{
+    let keys = read_keys_in_pieces(rt, alloc, file, column, header, reading)?;
+    Ok(text_of_keys(alloc, &keys)?)
+}
+
+/// Whether a file has this text, or this fault, in some numbers of pieces.
+fn has_text_in_pieces<R: Threads + Sync>(
+    rt: &R,
+    alloc: Global,
+    file: &[u8],
+    column: u32,
+    header: bool,
+    hasher: Option<RandomState>,
+    whole: &Text,
+) -> bool
+    requires { 1 ≤ column }
+{
+    for pieces in [0, 2, 5] {
+        let reading = Reading { pieces, hasher };
+        if text_in_pieces(rt, alloc, file, column, header, reading) != *whole {
+            return false;
+        }
+    }
+    true
+}
+
+/// Whether a file has the same keys, or the same fault, as a whole and in some numbers of pieces, in
+/// which keys are looked up or none is.
+fn are_keys_same<R: Threads + Sync + RandomSource>(
+    rt: &R,
+    alloc: Global,
+    file: &[u8],
+    column: u32,
+    header: bool,
+) -> bool
+    requires { 1 ≤ column }
+{
+    let whole = text_whole(alloc, file, column, header);
+    let hasher = RandomState::new(rt).ok();
+    has_text_in_pieces(rt, alloc, file, column, header, None, &whole)
+        && has_text_in_pieces(rt, alloc, file, column, header, hasher, &whole)
+}
+
+#[test]
+fn any_bytes_are_read_the_same_in_pieces(rt: HostRuntime) -> Result<(), Fail> {
+    let mut random = Random { state: 1 };
+    for _ in 0..60 {
+        let file = scraps(rt.alloc(), &mut random)?;
+        let column = 1 + random.below(2) as u32;
+        let header = random.below(2) == 0;
+        assert!(rt; are_keys_same(&rt, rt.alloc(), &file, column, header));
+    }
+    Ok(())
+}
+
+#[test]
+fn a_fault_in_any_piece_is_told_the_same(rt: HostRuntime) -> Result<(), Fail> {
+    let mut random = Random { state: 2 };
+    for _ in 0..60 {
+        let file = rows(rt.alloc(), &mut random)?;
+        let column = 1 + random.below(3) as u32;
+        let header = random.below(2) == 0;
+        assert!(rt; are_keys_same(&rt, rt.alloc(), &file, column, header));
+    }
+    Ok(())
+}
+
+/// Adds a record whose key is 70,000 times this byte, and a short one.
+fn add_long_key(file: &mut Vec<u8>, byte: u8) -> Result<(), Memory> {
+    file.push(b'"')?;
+    for _ in 0..70_000 {
+        file.push(byte)?;
+    }
+    file.extend_from_slice(b"\",b\nc,d\n")?;
+    Ok(())
+}
+
+/// A file of three long keys.
+fn long_keys(alloc: Global) -> Result<Vec<u8>, Memory> {
+    let mut file = Vec::new(alloc);
+    for byte in [b'a', b'\n', b','] {
+        add_long_key(&mut file, byte)?;
+    }
+    Ok(file)
+}
+
+#[test]
+fn long_keys_are_read_the_same_in_pieces(rt: HostRuntime) -> Result<(), Fail> {
+    let file = long_keys(rt.alloc())?;
+    assert!(rt; are_keys_same(&rt, rt.alloc(), &file, 1, false));
+    Ok(())
+}
+
+/// Adds record i, which has a line feed in its key.
+fn add_record(file: &mut Vec<u8>, i: u64) -> Result<(), Memory> {
+    file.extend_from_slice(b"7,\"key\n")?;
+    for power in [1, 10, 100, 1000, 10_000] {
+        file.push(b'0'.wrapping_add((i / power % 10) as u8))?;
+    }
+    file.extend_from_slice(b"\"\r\n")?;
+    Ok(())
+}
+
+/// A file of so many records.
+fn file_of(alloc: Global, records: u64) -> Result<Vec<u8>, Memory> {
+    let mut file = Vec::new(alloc);
+    for i in 0..records {
+        add_record(&mut file, i)?;
+    }
+    Ok(file)
+}
+
+/// Whether keys are so many, and in one text these.
+fn are_keys(alloc: Global, keys: &FileKeys, len: usize, whole: &Text) -> Result<bool, Memory> {
+    Ok(keys.len() == len && Ok(text_of_keys(alloc, keys)?) == *whole)
+}
+
+/// Whether a file has so many keys in its second column behind its header, and the same as a whole.
+fn has_keys_apart<R: Threads + Sync + RandomSource>(
+    rt: &R,
+    alloc: Global,
+    file: &[u8],
+    len: usize,
+) -> Result<bool, Refusal> {
+    let keys = read_keys_apart(rt, alloc, file, 2, true)?;
+    Ok(are_keys(alloc, &keys, len, &text_whole(alloc, file, 2, true))?)
+}
+
+#[test]
+fn a_file_of_a_few_mebibytes_has_all_keys(rt: HostRuntime) -> Result<(), Fail> {
+    let file = file_of(rt.alloc(), 200_000)?;
+    // So many bytes are read in two pieces, where there are as many processors.
+    assert!(rt; file.len() > 2 << 20);
+    assert_eq!(rt; has_keys_apart(&rt, rt.alloc(), &file, 199_999), Ok(true));
+    Ok(())
+}
+
+/// The topics and the keys of a file, whose topics stand in the second column, in one text.
+fn topics_in_pieces<R: Threads + Sync>(
+    rt: &R,
+    alloc: Global,
+    file: &[u8],
+    column: u32,
+    header: bool,
+    pieces: usize,
+) -> Result<Vec<u8>, Refusal>
+    requires { 1 ≤ column }
+{
+    let found = read_topic_keys_in_pieces(rt, alloc, file, column, 2, &NAMES, header, pieces)?;
+    Ok(text_of_topics(alloc, &found)?)
+}
+
+/// The same of topics and keys that were read one without the other.
+fn text_of_columns(
+    alloc: Global,
+    topics: &KeyList,
+    keys: &KeyList,
+    header: bool,
+) -> Result<Vec<u8>, Refusal> {
+    let mut text = Vec::new(alloc);
+    let mut nth = if header { 2_u64 } else { 1 };
+    for i in 0..topics.len().min(keys.len()) {
+        let digit = match topics.get(i) {
+            b"a" => b'0',
+            b"b" => b'1',
+            _ => return Err(Refusal::NoSuchTopic { nth }),
+        };
+        text.push(digit)?;
+        text.extend_from_slice(keys.get(i))?;
+        text.push(b';')?;
+        nth = nth.wrapping_add(1);
+    }
+    Ok(text)
+}
+
+/// Whether a file has this text, or this fault, where each of its two columns can be read, and else
+/// a fault.
+fn has_text_of_columns(alloc: Global, file: &[u8], column: u32, header: bool, whole: &Text) -> bool
+    requires { 1 ≤ column }
+{
+    match (
+        read_keys(alloc, file, 2, header),
+        read_keys(alloc, file, column, header),
+    ) {
+        (Ok(topics), Ok(keys)) => text_of_columns(alloc, &topics, &keys, header) == *whole,
+        _ => whole.is_err(),
+    }
+}
+
+/// Whether a file has the same topics and keys, or the same fault, in one piece and in several, and
+/// as both columns have them.
+fn are_topics_same<R: Threads + Sync>(
+    rt: &R,
+    alloc: Global,
+    file: &[u8],
+    column: u32,
+    header: bool,
+) -> bool
+    requires { 1 ≤ column }
+{
+    let whole = topics_in_pieces(rt, alloc, file, column, header, 1);
+    for pieces in [0, 2, 5] {
+        if topics_in_pieces(rt, alloc, file, column, header, pieces) != whole {
+            return false;
+        }
+    }
+    has_text_of_columns(alloc, file, column, header, &whole)
+}
+
+#[test]
+fn topics_are_read_the_same_in_pieces(rt: HostRuntime) -> Result<(), Fail> {
+    let mut random = Random { state: 3 };
+    for _ in 0..60 {
+        let file = topic_rows(rt.alloc(), &mut random)?;
+        let column = 1 + random.below(3) as u32;
+        let header = random.below(2) == 0;
+        assert!(rt; are_topics_same(&rt, rt.alloc(), &file, column, header));
+    }
+    Ok(())
+}
