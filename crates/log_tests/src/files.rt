@@ -11,14 +11,33 @@ use std::thread::Threads;
 /// The names of the topics of a file that has some.
 pub const NAMES: [&[u8]; 2] = [b"a", b"b"];
 
-/// The keys of a list in one text, each ended by a semicolon.
-fn text_of(alloc: Global, keys: &KeyList) -> Result<Vec<u8>, Memory> {
-    let mut text = Vec::new(alloc);
-    for i in 0..keys.len() {
-        text.extend_from_slice(keys.get(i))?;
-        text.push(b';')?;
+/// Adds a key to a text, ended by a semicolon.
+fn add_key(text: &mut Vec<u8>, key: &[u8]) -> Result<(), Memory> {
+    text.extend_from_slice(key)?;
+    text.push(b';')?;
+    Ok(())
+}
+
+/// Adds keys to a text.
+fn add_keys(text: &mut Vec<u8>, keys: &[&[u8]]) -> Result<(), Memory> {
+    for key in keys {
+        add_key(text, key)?;
     }
-    Ok(text)
+    Ok(())
+}
+
+/// Keys in one text, each ended by a semicolon.
+pub fn text_of_slices(alloc: Global, keys: &[&[u8]]) -> Result<Vec<u8>, Memory> {
+    let mut text = Vec::new(alloc);
+    let added = add_keys(&mut text, keys);
+    added.and(Ok(text))
+}
+
+/// The keys of a list in one text.
+fn text_of(alloc: Global, keys: &KeyList) -> Result<Vec<u8>, Memory> {
+    let mut slices = Vec::new(alloc);
+    keys.add_slices(&mut slices)?;
+    text_of_slices(alloc, &slices)
 }
 
 /// The keys of a file that is read in one piece, in one text.
@@ -78,16 +97,25 @@ fn the_first_record_at_fault_is_told(rt: HostRuntime) {
     }
 }
 
-/// Topics and keys in one text: of each record the index of its topic as a digit, its key and a
-/// semicolon.
+/// Adds the index of a topic to a text, as a digit, and a key with its semicolon.
+pub fn add_both(text: &mut Vec<u8>, topic: u8, key: &[u8]) -> Result<(), Memory> {
+    text.push(b'0'.wrapping_add(topic))?;
+    add_key(text, key)
+}
+
+/// Adds the topic and the key of each record to a text.
+fn add_all(text: &mut Vec<u8>, topics: &[u8], keys: &[&[u8]]) -> Result<(), Memory> {
+    for i in 0..topics.len().min(keys.len()) {
+        add_both(text, topics[i], keys[i])?;
+    }
+    Ok(())
+}
+
+/// Topics and keys in one text.
 fn text_of_both(alloc: Global, topics: &[u8], keys: &[&[u8]]) -> Result<Vec<u8>, Memory> {
     let mut text = Vec::new(alloc);
-    for (topic, key) in topics.iter().zip(keys) {
-        text.push(b'0'.wrapping_add(*topic))?;
-        text.extend_from_slice(key)?;
-        text.push(b';')?;
-    }
-    Ok(text)
+    let added = add_all(&mut text, topics, keys);
+    added.and(Ok(text))
 }
 
 /// The topics and the keys of a file in one text.

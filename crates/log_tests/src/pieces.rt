@@ -3,7 +3,7 @@
 ghost use Rattle.std.specs.Prelude.{◌≤◌};
 
 use crate::drawn::{Random, rows, scraps, topic_rows};
-use crate::files::{NAMES, text_of_topics, text_whole};
+use crate::files::{NAMES, add_both, text_of_slices, text_of_topics, text_whole};
 use key_file::{
     FileKeys, KeyList, Reading, read_keys, read_keys_apart, read_keys_in_pieces,
     read_topic_keys_in_pieces,
@@ -17,16 +17,6 @@ use std::thread::Threads;
 
 /// The text of a file, or its fault.
 type Text = Result<Vec<u8>, Refusal>;
-
-/// The bytes of keys in one text, each ended by a semicolon.
-fn text_of_slices(alloc: Global, slices: &[&[u8]]) -> Result<Vec<u8>, Memory> {
-    let mut text = Vec::new(alloc);
-    for slice in slices {
-        text.extend_from_slice(slice)?;
-        text.push(b';')?;
-    }
-    Ok(text)
-}
 
 /// The keys of a file in one text.
 fn text_of_keys(alloc: Global, keys: &FileKeys) -> Result<Vec<u8>, Memory> {
@@ -196,7 +186,27 @@ fn topics_in_pieces<R: Threads + Sync>(
     Ok(text_of_topics(alloc, &found)?)
 }
 
-/// The same of topics and keys that were read one without the other.
+/// Adds to a text the topics and the keys that were read one without the other.
+fn add_columns(
+    text: &mut Vec<u8>,
+    topics: &KeyList,
+    keys: &KeyList,
+    header: bool,
+) -> Result<(), Refusal> {
+    let mut nth = if header { 2_u64 } else { 1 };
+    for i in 0..topics.len().min(keys.len()) {
+        let topic = match topics.get(i) {
+            b"a" => 0,
+            b"b" => 1,
+            _ => return Err(Refusal::NoSuchTopic { nth }),
+        };
+        add_both(text, topic, keys.get(i))?;
+        nth = nth.wrapping_add(1);
+    }
+    Ok(())
+}
+
+/// Those topics and keys in one text.
 fn text_of_columns(
     alloc: Global,
     topics: &KeyList,
@@ -204,19 +214,8 @@ fn text_of_columns(
     header: bool,
 ) -> Result<Vec<u8>, Refusal> {
     let mut text = Vec::new(alloc);
-    let mut nth = if header { 2_u64 } else { 1 };
-    for i in 0..topics.len().min(keys.len()) {
-        let digit = match topics.get(i) {
-            b"a" => b'0',
-            b"b" => b'1',
-            _ => return Err(Refusal::NoSuchTopic { nth }),
-        };
-        text.push(digit)?;
-        text.extend_from_slice(keys.get(i))?;
-        text.push(b';')?;
-        nth = nth.wrapping_add(1);
-    }
-    Ok(text)
+    let added = add_columns(&mut text, topics, keys, header);
+    added.and(Ok(text))
 }
 
 /// Whether a file has this text, or this fault, where each of its two columns can be read, and else
