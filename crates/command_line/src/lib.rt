@@ -2,12 +2,10 @@
 #![tactic(auto)]
 
 mod help;
-mod input;
 mod options;
 mod topics;
 mod words;
 
 pub use help::{AFTER_COUNT, AFTER_KEYCOUNT, AFTER_REPLAY, AFTER_RUN};
-pub use input::reads_input_twice;
 pub use options::Options;
 pub use words::{Job, Usage, read_words};

@@ -1,5 +1,5 @@
+pub mod Input
 pub use Rattle.command_line.specs.CommandLine
-pub use Rattle.command_line.specs.Input
 pub use Rattle.command_line.specs.Options
 pub use Rattle.command_line.specs.Topics
 pub use Rattle.count_report.specs.CountReport

@@ -1,9 +1,9 @@
 //! Which of a job's files are standard input.
 
 ghost use Rattle.std.specs.Prelude.{◌≡◌, ◌↔◌, IsTrue, codes};
-ghost use Rattle.command_line.specs.Input.{ReadsInputTwice};
+ghost use Rattle.report_cli.specs.Input.{ReadsInputTwice};
 
-use crate::words::Job;
+use command_line::Job;
 
 /// Whether a path stands for standard input, which is `-`.
 fn is_standard_input(path: &str) -> bool
