@@ -1,6 +1,6 @@
 //! A list of key numbers that rise, so that each is in it once.
 
-ghost use Rattle.std.specs.Prelude.{◌≡◌, ◌+◌, ◌<◌, IsTrue, length};
+ghost use Rattle.std.specs.Prelude.{◌≡◌, ◌+◌, ◌<◌, ◌↔◌, IsTrue, length};
 ghost use Rattle.keyed_table.specs.Counts.{HaveCounters, SumsFit, plain, raised};
 ghost use Rattle.keyed_table.specs.Private.Blocks.{DoRise};
 
@@ -66,7 +66,7 @@ impl Rising {
 
 /// Whether the numbers of a list rise.
 pub fn do_rise(ids: &[u32]) -> bool
-    ensures { IsTrue result → DoRise ids.now }
+    ensures { IsTrue result ↔ DoRise ids.now }
 {
     for at in 1..ids.len() {
         if ids[at - 1] >= ids[at] {
