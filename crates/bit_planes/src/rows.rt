@@ -158,31 +158,45 @@ impl PlaneRows {
         ensures found { IfOk result (IsIndexOf self.now.rows member) }
         ensures absent { IfErr result (IsGapFor self.now.rows member) }
     {
-        if let Some(index) = self.usual_index(member) {
+        if let Some(index) = usual_index(self.rows.as_slice(), member) {
             return Ok(index);
         }
         self.rows.binary_search_by_key(&member, |row| row.0)
     }
+}
 
-    /// The index of a member's row, where it has one and no member is missing between it and the
-    /// first one or the last one.
-    fn usual_index(&self, member: u32) -> Option<usize>
-        ensures { IfSome result (IsIndexOf self.now.rows member) }
-    {
-        let first = self.rows.first()?.0;
-        let last = self.rows.last()?.0;
-        let ahead = member.checked_sub(first)? as usize;
-        if ahead < self.rows.len() && self.rows[ahead].0 == member {
-            return Some(ahead);
-        }
-        let behind = last.checked_sub(member)? as usize + 1;
-        let index = self.rows.len().checked_sub(behind)?;
-        if self.rows[index].0 == member {
-            Some(index)
-        } else {
-            None
-        }
+/// The index of a member's row, where it has one and no member is missing between it and the first
+/// one or the last one.
+fn usual_index(rows: &[(u32, Plane)], member: u32) -> Option<usize>
+    ensures { IfSome result (IsIndexOf rows.now member) }
+{
+    let first = rows.first()?.0;
+    let ahead = member.checked_sub(first)? as usize;
+    if has_at(rows, ahead, member) {
+        return Some(ahead);
     }
+    index_before_last(rows, member)
+}
+
+/// The index of a member's row, where it has one and no member is missing between it and the last
+/// one.
+fn index_before_last(rows: &[(u32, Plane)], member: u32) -> Option<usize>
+    ensures { IfSome result (IsIndexOf rows.now member) }
+{
+    let last = rows.last()?.0;
+    let behind = last.checked_sub(member)? as usize;
+    let index = (rows.len() - 1).checked_sub(behind)?;
+    if has_at(rows, index, member) {
+        return Some(index);
+    }
+    None
+}
+
+/// Whether a member's row stands at an index.
+fn has_at(rows: &[(u32, Plane)], index: usize, member: u32) -> bool
+    ensures { IsTrue result → IsIndexOf rows.now member index }
+{
+    index < rows.len() && rows[index].0 == member
 }
 
 /// The numbers of the members that are left, in rising order.

@@ -1,10 +1,10 @@
 -- Known bytes over two calls in a row.
 use Rattle.std.proofs.Common.{◌≡◌, ◌∙◌, ◌+◌, ◌-◌, ◌≤◌, ◌<◌, arith, ℕ, zero, suc, List, [], ◌∷◌, ◌++◌, Option, Some, None, Result, Ok, Err, flat_map, get_or, take, drop, length, length-append, sym, ap, append_assoc}
-use Rattle.std.specs.Io.KnownBytes.{Appends, Consumes}
+use Rattle.std.specs.Io.KnownBytes.{Appends, Consumes, IsAtEnd}
 use Rattle.std.proofs.Math.Seq.{take-add, take-append-add}
-use Rattle.std.specs.Prelude.{OnErr}
+use Rattle.std.specs.Prelude.{Bool, true, false, if◌then◌else◌, IfSome, OnErr}
 use Rattle.devices.specs.Devices.{AppendsBeginning}
-use Rattle.std.proofs.lemmas.List.{length-drop, take-append-le, take_all}
+use Rattle.std.proofs.lemmas.List.{append-nil, length-drop, take-append-le, take_all}
 
 -- what two reads consumed, one after the other
 pub consumes_more : (a b c : Option (List ℕ)) (xs ys : List ℕ) → Consumes a b xs → Consumes b c ys → Consumes a c (xs ++ ys)
@@ -12,6 +12,18 @@ consumes_more None b c xs ys h k = tt
 consumes_more (Some a) (Some b) (Some c) xs ys h k = h ∙ ap (λ z. xs ++ z) k ∙ sym (append_assoc xs ys c)
 consumes_more (Some a) (Some b) None xs ys h k = absurd k
 consumes_more (Some a) None c xs ys h k = absurd h
+
+-- what was read up to the end is all that was left
+pub whole_read : (a b c : Option (List ℕ)) (xs : List ℕ) → Consumes a b xs → Consumes b c [] → IsAtEnd c → IfSome a (λ bytes. xs ≡ bytes)
+whole_read None b c xs h k end = tt
+whole_read (Some a) (Some b) (Some c) xs h k end = sym (h ∙ ap (λ z. xs ++ z) (k ∙ end) ∙ append-nil xs)
+whole_read (Some a) (Some b) None xs h k end = absurd k
+whole_read (Some a) None c xs h k end = absurd h
+
+-- bytes that were not refused are at the end
+pub grown : (taken : Bool) (all more new : List ℕ) → taken ≡ true → new ≡ (if taken then all ++ more else all) → new ≡ all ++ more
+grown true all more new e is = is
+grown false all more new e is = absurd (cc)
 
 -- what two writes appended, one after the other
 pub appends_more : (a b c : Option (List ℕ)) (bytes : List ℕ) (n m : ℕ) → Appends a b (take n bytes) → Appends b c (take m (drop n bytes))

@@ -89,7 +89,6 @@ fn wait(
 }
 
 /// Hashes eight keys of one length.
-#[tactic(auto, using(crate::proofs::Groups::lane_within))]
 fn hash_eight(row: [usize; LANES], keys: &[&[u8]], hashes: &mut [u32])
     requires row { (len : ℕ) × AreOfLength keys.now len row }
     requires length { length hashes.old ≡ length keys.now }

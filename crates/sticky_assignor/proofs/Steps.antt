@@ -13,6 +13,10 @@ use Rattle.sticky_assignor.specs.Private.Filling.{one_of, shares, quotas, sizes,
 use Rattle.sticky_assignor.specs.Target.{is_heavy, heavies}
 use Rattle.sticky_assignor.proofs.Balance.{heavies_cons}
 
+-- one more element of a list, of those that are still to come
+pub pushed_on : (xs more : List ℕ) (x : ℕ) (rest left whole : List ℕ) → more ≡ xs ++ x ∷ [] → left ≡ x ∷ rest → xs ++ left ≡ whole → more ++ rest ≡ whole
+pushed_on xs more x rest left whole pushed next e = ap (λ l. l ++ rest) pushed ∙ append_assoc xs (x ∷ []) rest ∙ ap (λ l. xs ++ l) (sym next) ∙ e
+
 -- the sets from index i on
 pub sets_next : (owned : SetRows) (ms : List ℕ) (i m : ℕ) → i < length ms → m ≡ get_or ms i m → sets_of owned (drop i ms) ≡ set_of owned m ∷ sets_of owned (drop (i + 1) ms)
 sets_next owned [] i m lt e = absurd (omega arith)
