@@ -17,7 +17,7 @@ use count_report::{FileRecords, file_records};
 use devices::{Sink, Source, read_all, write_all};
 use lane_words::Refusal;
 use lines::text_of_lines;
-use loading::loaded;
+use loading::world_of;
 use script::{Line, Topic, read_replay, read_replay_topics};
 use std::alloc::Global;
 use std::random::RandomSource;
@@ -60,22 +60,20 @@ fn report_of_lines<R: Threads + Sync + RandomSource>(
     rt: &R,
     alloc: Global,
     records: FileRecords,
-    lines: Vec<Line>,
+    lines: &[Line],
     options: &Options,
 ) -> Result<Vec<u8>, Refusal>
     requires options { AreInRange options.now }
     requires topics { AreOfTopics (partition_counts options.now) (records_in records) }
     ensures text { IfOk result (λ text.
-        report_of_lines options.now (records_in records) lines.items ≡ Ok text.items) }
+        report_of_lines options.now (records_in records) lines.now ≡ Ok text.items) }
     ensures kind { IfErr result IsNoDeviceFault }
     ensures refused { IfErr result (λ e. (e ≡ refusal.Memory)
-        ⊎ (report_of_lines options.now (records_in records) lines.items ≡ Err e)) }
+        ⊎ (report_of_lines options.now (records_in records) lines.now ≡ Err e)) }
 {
-    let mut world = loaded(rt, alloc, &records, options)?;
-    // The logs have a copy of each key.
-    drop(records);
+    let mut world = world_of(rt, alloc, records, options)?;
     let topics = options.topics.as_slice();
-    text_of_lines(alloc, topics, &mut world, lines.as_slice(), options.batch)
+    text_of_lines(alloc, topics, &mut world, lines, options.batch)
 }
 
 /// The text of a replay of a script over a file's records.
@@ -105,7 +103,7 @@ fn devices_report<R: Threads + Sync + RandomSource, S: Source, T: Source>(
 {
     let records = file_records(rt, alloc, file, options)?;
     let lines = script_lines(alloc, options.topics.as_slice(), script)?;
-    report_of_lines(rt, alloc, records, lines, options)
+    report_of_lines(rt, alloc, records, lines.as_slice(), options)
 }
 
 /// Replays a script over the keys of a file of comma-separated records, and writes a row for each

@@ -1,6 +1,6 @@
 //! The report of a run, from the bytes of a file and of a plan to the bytes of its rows.
 
-ghost use Rattle.std.specs.Prelude.{◌≡◌, ◌≤◌, ◌<◌, ◌+◌, ◌-◌, ◌^◌, ◌++◌, [], None, Err, Ok, IfOk, IfErr, IfSome, OnOk};
+ghost use Rattle.std.specs.Prelude.{◌≡◌, ◌≤◌, ◌<◌, ◌+◌, ◌-◌, ◌^◌, ◌++◌, ◌⊎◌, [], None, Some, Err, Ok, IfOk, IfErr, IfSome, OnOk};
 ghost use Rattle.count_report.specs.CountReport.{first_fault};
 ghost use Rattle.count_report.specs.Records.{AreOfTopics, partition_counts, records_in, records_of};
 ghost use Rattle.count_report.specs.Reports.{AreInRange, CountsReads, IsFaultOf, IsNoDeviceFault, IsNoStop, IsNoWrite, IsRefusedFor, WritesAtEndAlone, failed_reads, failed_writes};
@@ -8,6 +8,8 @@ ghost use Rattle.run_report.specs.Private.Runs.{EndsRun, IsRunOver};
 ghost use Rattle.replay_rows.specs.ReplayRows.{closing_rows, move_rows};
 ghost use Rattle.run_report.specs.RunReport.{WritesRun, report_of_plan, report_of_run};
 ghost use Rattle.lane_words.specs.declared.Refusal.TheVariants as refusal;
+ghost use Rattle.partition_log.specs.Logs.{AreLogsOf};
+ghost use Rattle.count_report.specs.Tally.{IsKeyFault};
 ghost use Rattle.script.specs.Plan.{plan_answer};
 
 use command_line::Options;
@@ -15,6 +17,7 @@ use count_report::{FileRecords, file_records, logs_of};
 use devices::{Sink, Source, read_all, write_all};
 use group_machine::Cluster;
 use lane_words::Refusal;
+use partition_log::SealedLogs;
 use report_rows::rows;
 use script::{Plan, Topic, read_plan};
 use std::alloc::Global;
@@ -38,6 +41,26 @@ fn script_plan<S: Source>(alloc: Global, script: &mut S) -> Result<Plan, Refusal
     read_plan(alloc, bytes.as_slice())
 }
 
+/// The logs of some records, which are let go: the logs have a copy of each key.
+fn sealed_logs<R: Threads + RandomSource + Sync>(
+    rt: &R,
+    alloc: Global,
+    records: FileRecords,
+    options: &Options,
+) -> Result<SealedLogs, Refusal>
+    requires options { AreInRange options.now }
+    requires topics { AreOfTopics (partition_counts options.now) (records_in records) }
+    ensures logs { IfOk result (AreLogsOf (records_in records)) }
+    ensures counts { IfOk result (λ logs. logs.counts ≡ partition_counts options.now) }
+    ensures accepted { OnOk result
+        (first_fault (partition_counts options.now) [] (records_in records) ≡ None) }
+    ensures kind { IfErr result IsKeyFault }
+    ensures refused { IfErr result (λ e. (e ≡ refusal.Memory)
+        ⊎ (first_fault (partition_counts options.now) [] (records_in records) ≡ Some e)) }
+{
+    Ok(logs_of(rt, alloc, &records, options)?.seal())
+}
+
 /// What a run of a plan over the logs of some records comes to.
 fn outcome_of<R: Threads + Wait + RandomSource + Sync, G: Gate + Sync>(
     rt: &R,
@@ -57,11 +80,8 @@ fn outcome_of<R: Threads + Wait + RandomSource + Sync, G: Gate + Sync>(
     ensures refused { IfErr result
         (EndsRun (report_of_plan options.now (records_in records) plan.now)) }
 {
-    let logs = logs_of(rt, alloc, &records, options)?;
-    // The logs have a copy of each key.
-    drop(records);
-    let sealed = logs.seal();
-    run_cluster(rt, alloc, &sealed, plan, options.batch, gate)
+    let logs = sealed_logs(rt, alloc, records, options)?;
+    run_cluster(rt, alloc, &logs, plan, options.batch, gate)
 }
 
 /// The text of the end of a run: all moves, and the closing rows. Refused for want of memory.

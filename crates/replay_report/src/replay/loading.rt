@@ -33,10 +33,31 @@ fn opened(rt: &impl RandomSource, alloc: Global, options: &Options) -> Result<Wo
 }
 
 /// A world to which the records of a file were appended, one after the other, and in which nothing
-/// else has happened.
+/// else has happened. The records are let go: its logs have a copy of each key.
 ///
 /// Refused by the first record that can't be appended.
-pub fn loaded<R: Threads + Sync + RandomSource>(
+pub fn world_of<R: Threads + Sync + RandomSource>(
+    rt: &R,
+    alloc: Global,
+    records: FileRecords,
+    options: &Options,
+) -> Result<World, Refusal>
+    requires options { AreInRange options.now }
+    requires topics { AreOfTopics (partition_counts options.now) (records_in records) }
+    ensures world { IfOk result (λ world. world
+        ≡ loaded (opening_world (partition_counts options.now)) (records_in records)) }
+    ensures valid { IfOk result IsValidWorld }
+    ensures accepted { OnOk result
+        (first_fault (partition_counts options.now) [] (records_in records) ≡ None) }
+    ensures kind { IfErr result IsKeyFault }
+    ensures refused { IfErr result (λ e. (e ≡ refusal.Memory)
+        ⊎ (first_fault (partition_counts options.now) [] (records_in records) ≡ Some e)) }
+{
+    loaded(rt, alloc, &records, options)
+}
+
+/// The same of records that are kept.
+fn loaded<R: Threads + Sync + RandomSource>(
     rt: &R,
     alloc: Global,
     records: &FileRecords,

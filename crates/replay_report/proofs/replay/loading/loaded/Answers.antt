@@ -1,4 +1,5 @@
 use Rattle.std.proofs.Common.{◌≡◌, ◌∙◌, [], ℕ, List, ap, rules, subst, sym}
+use Rattle.std.specs.Prelude.{Err}
 use Rattle.partition_log.specs.Logs.{AreLogsOf}
 use Rattle.count_report.specs.Records.{AreOfTopics, partition_counts, records_in}
 use Rattle.replay_report.specs.ReplayReport.{loaded, opening_world}
@@ -38,15 +39,13 @@ returns-in_err-load_records-clause-kind g c =
     let counts = partition_counts c.args.options.now in
     let w = c.in_ok-world.world in
     let new = c.in_ok-world.ensures in
-    let known = load_stopped counts w (records_in c.args.records.now) c.in_err-load_records.field-0.0 c.load_records.new.world new.valid (logs_are counts w new.opening) (counts_are counts w new.opening) c.requires.topics c.in_err-load_records.ensures.loads in
-    let kind = known.0 in
-    search rules
+    let same : c.from_residual-in_err-load_records.result ≡ Err c.in_err-load_records.field-0.0 = search rules in
+    rw same (load_stopped counts w (records_in c.args.records.now) c.in_err-load_records.field-0.0 c.load_records.new.world new.valid (logs_are counts w new.opening) (counts_are counts w new.opening) c.requires.topics c.in_err-load_records.ensures.loads).0
 
 pub returns-in_err-load_records-clause-refused : goal.returns-in_err-load_records-clause-refused
 returns-in_err-load_records-clause-refused g c =
     let counts = partition_counts c.args.options.now in
     let w = c.in_ok-world.world in
     let new = c.in_ok-world.ensures in
-    let known = load_stopped counts w (records_in c.args.records.now) c.in_err-load_records.field-0.0 c.load_records.new.world new.valid (logs_are counts w new.opening) (counts_are counts w new.opening) c.requires.topics c.in_err-load_records.ensures.loads in
-    let refused = known.1 in
-    search rules
+    let same : c.from_residual-in_err-load_records.result ≡ Err c.in_err-load_records.field-0.0 = search rules in
+    rw same (load_stopped counts w (records_in c.args.records.now) c.in_err-load_records.field-0.0 c.load_records.new.world new.valid (logs_are counts w new.opening) (counts_are counts w new.opening) c.requires.topics c.in_err-load_records.ensures.loads).1
