@@ -72,6 +72,19 @@ numbered-joined {E} shard keys from m n front back long a b = λ k d lt.
           subst (IsShard (from + k)) (sym (get_or-append_right front back m k d long high)) (subst (λ s. IsShard s (get_or back (k - m) d)) at (b (k - m) d (omega (arith, high, lt))))
     ]
 
+-- numbered shards, with one more
+pub numbered-more : {E : Type 0} (shard : Key → ℕ) (keys : List Key) (from n : ℕ) (found : List (Result NumberedShard E)) (one : Result NumberedShard E) → length found ≡ n → AreNumberedFrom shard keys from n found
+    → IfOk one (λ x. AreNumberedIn shard (from + n) keys x.table x.locals.items) → AreNumberedFrom shard keys from (n + 1) (found ++ one ∷ [])
+numbered-more {E} shard keys from n found one long before own = λ k d lt.
+    let IsShard : ℕ → Result NumberedShard E → Type 0 = λ s r. IfOk r (λ x. AreNumberedIn shard s keys x.table x.locals.items) in
+    elim (cases_lt k n) [
+      | inl low ↦ subst (IsShard (from + k)) (sym (get_or_append_left found (one ∷ []) d k (omega (arith, low, long)))) (before k d low)
+      | inr high ↦
+          let last : length found ≡ k = omega (arith, high, lt, long) in
+          let read : one ≡ get_or (found ++ one ∷ []) k d = sym (get_or-append_seam found one [] d) ∙ ap (λ i. get_or (found ++ one ∷ []) i d) last in
+          subst (IsShard (from + k)) read (subst (λ i. IsShard (from + i) one) (sym long ∙ last) own)
+    ]
+
 -- groups of four numbered shards, one group after another
 pub groups-numbered : {E : Type 0} (shard : Key → ℕ) (keys : List Key) (from : ℕ) (groups : List (Vec (Result NumberedShard E) Global))
     → ((g : ℕ) (d : Vec (Result NumberedShard E) Global) → g < length groups → (length (get_or groups g d).items ≡ 4) × AreNumberedFrom shard keys (from + g * 4) 4 (get_or groups g d).items)

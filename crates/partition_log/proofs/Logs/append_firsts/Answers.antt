@@ -1,10 +1,11 @@
 use Rattle.std.proofs.Common.{◌∙◌, arith, ap, length, map, subst, sym, vec_items}
+use Rattle.std.proofs.lemmas.List.{length-map}
 use Rattle.std.specs.List.{sum}
 use Rattle.key_lists.proofs.Coded.{few-firsts}
 use Rattle.key_lists.specs.Lists.{joined, keys_in}
 use Rattle.key_numbers.specs.Keys.{distinct, id_of, lent_lists}
 use Rattle.partition_log.specs.Keys.{Key, of_first}
-use Rattle.partition_log.specs.Logs.{PartitionLogs, place_in}
+use Rattle.partition_log.specs.Logs.{IsValidLogs, PartitionLogs, place_in}
 use Rattle.partition_log.specs.Private.Filled.{ArePlaced}
 use Rattle.partition_log.specs.Private.Shares.{records_of}
 use Rattle.partition_log.proofs.Sharing.{by-lists, lists-placed}
@@ -66,3 +67,30 @@ returns-clause-valid g c =
     c.requires.coded c.requires.fits c.count-partitions.ensures.count c.in_ok-shards.ensures.valid (c.deref-2.ensures.value ∙ places) (c.deref-3.ensures.value ∙ numbers)
     (c.begin_with.ensures ∙ keys) c.in_ok-logs.ensures in
     made.1
+
+pub logs_of_lists-requires-clause-coded : goal.logs_of_lists-requires-clause-coded
+logs_of_lists-requires-clause-coded g c κs within = c.requires.coded
+
+pub logs_of_lists-requires-clause-places : goal.logs_of_lists-requires-clause-places
+logs_of_lists-requires-clause-places g c κs within =
+    let all = lent_lists c.deref.result.now in
+    let place = λ (key : Key). place_in c.args.self.now (of_first key) in
+    let places = rw c.in_ok-places.was at c.in_ok-shards.ensures.places in
+    ap length (c.deref-2.ensures.value ∙ places) ∙ length-map all place ∙ ap length (ap lent_lists c.deref.ensures.value ∙ c.in_ok-keys.ensures)
+
+pub logs_of_lists-requires-clause-numbers : goal.logs_of_lists-requires-clause-numbers
+logs_of_lists-requires-clause-numbers g c κs within =
+    let all = lent_lists c.deref.result.now in
+    ap length (c.deref-3.ensures.value ∙ c.in_ok-shards.ensures.numbers) ∙ length-map all (id_of (distinct all)) ∙ ap length (ap lent_lists c.deref.ensures.value ∙ c.in_ok-keys.ensures)
+
+pub returns-in_err-keys-clause-valid : goal.returns-in_err-keys-clause-valid
+returns-in_err-keys-clause-valid g c = subst IsValidLogs c.self.view_is c.self.invariant
+
+pub returns-in_err-shards-clause-valid : goal.returns-in_err-shards-clause-valid
+returns-in_err-shards-clause-valid g c = subst IsValidLogs c.self.view_is c.self.invariant
+
+pub returns-in_err-places-clause-valid : goal.returns-in_err-places-clause-valid
+returns-in_err-places-clause-valid g c = subst IsValidLogs c.self.view_is c.self.invariant
+
+pub returns-in_err-logs-clause-valid : goal.returns-in_err-logs-clause-valid
+returns-in_err-logs-clause-valid g c = subst IsValidLogs c.self.view_is c.self.invariant

@@ -1,8 +1,10 @@
-use Rattle.std.proofs.Common.{◌∙◌, ap, map, subst, sym, vec_items}
+use Rattle.std.proofs.Common.{◌∙◌, ap, arith, length, map, subst, sym, vec_items}
+use Rattle.std.proofs.lemmas.List.{length-map}
 use Rattle.std.specs.List.{sum}
+use Rattle.key_numbers.proofs.ShardRecords.{lent-long}
 use Rattle.key_numbers.specs.Keys.{distinct, id_of, lent_lists}
 use Rattle.partition_log.specs.Appends.{lent}
-use Rattle.partition_log.specs.Logs.{PartitionLogs}
+use Rattle.partition_log.specs.Logs.{IsValidLogs, PartitionLogs}
 use Rattle.partition_log.specs.Private.Filled.{ArePlaced}
 use Rattle.partition_log.proofs.SideBySide.{all-below, side-by-side}
 use Rattle.partition_log.proofs.Logs.append_side_by_side.Goals as goal
@@ -39,3 +41,26 @@ returns-clause-valid g c =
     let all = c.in_ok-shards.ensures.keys ∙ ap distinct lists in
     (side-by-side c.args.self.now before (lent c.args.keys.now) c.begin_with.new.self c.args.places.now c.deref-2.result.now c.count.result (map vec_items c.in_ok-logs.logs.items) c.self.view_is c.self.invariant c.requires.fits
     c.count.ensures.count c.requires.places.as_many c.requires.places.goes numbered (c.begin_with.ensures ∙ all) c.in_ok-logs.ensures).1
+
+pub pieces_of-requires : goal.pieces_of-requires
+pieces_of-requires g c = omega (arith, c.requires.fits.few, lent-long c.args.keys.now)
+
+pub number_all-requires-clause-few : goal.number_all-requires-clause-few
+number_all-requires-clause-few g c κs within = omega (arith, c.requires.fits.few, ap length (ap lent_lists c.deref.ensures.value ∙ c.in_ok-pieces.ensures))
+
+pub number_all-requires-clause-beside : goal.number_all-requires-clause-beside
+number_all-requires-clause-beside g c κs within = tt
+
+pub filled_logs-requires-clause-as_many : goal.filled_logs-requires-clause-as_many
+filled_logs-requires-clause-as_many g c =
+    let all = lent_lists c.deref.result.now in
+    ap length (c.deref-2.ensures.value ∙ c.in_ok-shards.ensures.numbers) ∙ length-map all (id_of (distinct all)) ∙ ap length (ap lent_lists c.deref.ensures.value ∙ c.in_ok-pieces.ensures) ∙ sym c.requires.places.as_many
+
+pub returns-in_err-pieces-clause-valid : goal.returns-in_err-pieces-clause-valid
+returns-in_err-pieces-clause-valid g c = subst IsValidLogs c.self.view_is c.self.invariant
+
+pub returns-in_err-shards-clause-valid : goal.returns-in_err-shards-clause-valid
+returns-in_err-shards-clause-valid g c = subst IsValidLogs c.self.view_is c.self.invariant
+
+pub returns-in_err-logs-clause-valid : goal.returns-in_err-logs-clause-valid
+returns-in_err-logs-clause-valid g c = subst IsValidLogs c.self.view_is c.self.invariant
