@@ -17,7 +17,7 @@ use std::test::Fail;
 use sticky_assignor::assign;
 
 /// The rows of these members.
-fn rows_by(alloc: Global, members: &[u32], owners: &[u32]) -> Result<PlaneRows, Memory>
+pub fn rows_by(alloc: Global, members: &[u32], owners: &[u32]) -> Result<PlaneRows, Memory>
     requires { (1 ≤ length owners.now) × (length owners.now ≤ MOST_PARTITIONS) }
     ensures { IfOk result (λ rows. rows.partitions ≡ length owners.now) }
 {
@@ -43,17 +43,23 @@ fn row_by(member: u32, owners: &[u32]) -> Plane
     row
 }
 
-/// The owners by rows: 0 for a partition in no row, and the largest number for one in two rows.
+/// The owner of a partition by rows: 0 where it is in no row, and the largest number where it is in
+/// two.
+fn owner_of(q: u32, rows: &PlaneRows) -> u32 {
+    let mut owner = 0;
+    for (member, row) in rows.iter() {
+        if row.contains(q) {
+            owner = if owner == 0 { member } else { u32::MAX };
+        }
+    }
+    owner
+}
+
+/// The owners of all partitions by rows.
 fn owners_by(alloc: Global, rows: &PlaneRows) -> Result<Vec<u32>, Memory> {
     let mut owners = Vec::new(alloc);
     for q in 0..rows.partitions() {
-        let mut owner = 0;
-        for (member, row) in rows.iter() {
-            if row.contains(q) {
-                owner = if owner == 0 { member } else { u32::MAX };
-            }
-        }
-        owners.push(owner)?;
+        owners.push(owner_of(q, rows))?;
     }
     Ok(owners)
 }
@@ -90,12 +96,77 @@ fn are_apart(owned: &PlaneRows, members: &[u32]) -> bool
         if seen.meets(row) {
             return false;
         }
-        seen = seen.union(row);
+        seen.insert_all(row);
     }
     true
 }
 
-/// The owners that the assignment gives to these members, as the plain program does.
+/// Whether the assignment can be asked for these members with what they own.
+fn can_assign(members: &[u32], owned: &PlaneRows) -> bool
+    ensures some { IsTrue result → 0 < length members.now }
+    ensures rising { IsTrue result → IsRising members.now }
+    ensures rows { IsTrue result → HaveRows owned.now members.now }
+    ensures apart { IsTrue result → AreApart (sets_of owned.now members.now) }
+{
+    !members.is_empty()
+        && is_rising(members)
+        && have_rows(owned, members)
+        && are_apart(owned, members)
+}
+
+/// The owners that the assignment gives.
+fn given_by(alloc: Global, members: &[u32], owned: &PlaneRows) -> Result<Vec<u32>, Memory>
+    requires some { 0 < length members.now }
+    requires rising { IsRising members.now }
+    requires rows { HaveRows owned.now members.now }
+    requires apart { AreApart (sets_of owned.now members.now) }
+{
+    let rows = assign(alloc, owned.partitions(), members, owned)?;
+    owners_by(alloc, &rows)
+}
+
+/// The owners that the plain program gives.
+fn given_plainly(alloc: Global, members: &[u32], owned: &PlaneRows) -> Result<Vec<u32>, Memory>
+    requires some { 0 < length members.now }
+    requires rising { IsRising members.now }
+    requires rows { HaveRows owned.now members.now }
+{
+    let rows = plain_assign::assign(alloc, owned.partitions(), members, owned)?;
+    owners_by(alloc, &rows)
+}
+
+/// Checks that the plain program gives the same owners.
+fn check_plainly(
+    rt: &impl Abort,
+    alloc: Global,
+    members: &[u32],
+    owned: &PlaneRows,
+    given: &[u32],
+) -> Result<(), Memory>
+    requires some { 0 < length members.now }
+    requires rising { IsRising members.now }
+    requires rows { HaveRows owned.now members.now }
+{
+    let plainly = given_plainly(alloc, members, owned)?;
+    assert_eq!(rt; given, plainly.as_slice());
+    Ok(())
+}
+
+/// The owners that the assignment gives to these members, by the rows of what they own, as the
+/// plain program does.
+fn assigned_of(
+    rt: &impl Abort,
+    alloc: Global,
+    members: &[u32],
+    owned: &PlaneRows,
+) -> Result<Vec<u32>, Memory> {
+    assert!(rt; can_assign(members, owned));
+    let given = given_by(alloc, members, owned)?;
+    let checked = check_plainly(rt, alloc, members, owned, &given);
+    checked.and(Ok(given))
+}
+
+/// The same by the owners of what they own.
 fn assigned(
     rt: &impl Abort,
     alloc: Global,
@@ -105,15 +176,7 @@ fn assigned(
     requires { (1 ≤ length owners.now) × (length owners.now ≤ MOST_PARTITIONS) }
 {
     let owned = rows_by(alloc, members, owners)?;
-    assert!(rt; !members.is_empty());
-    assert!(rt; is_rising(members));
-    assert!(rt; have_rows(&owned, members));
-    assert!(rt; are_apart(&owned, members));
-    let rows = assign(alloc, owners.len() as u32, members, &owned)?;
-    let plain_rows = plain_assign::assign(alloc, owners.len() as u32, members, &owned)?;
-    let given = owners_by(alloc, &rows)?;
-    assert_eq!(rt; given, owners_by(alloc, &plain_rows)?);
-    Ok(given)
+    assigned_of(rt, alloc, members, &owned)
 }
 
 /// How many partitions stay with their owners.
@@ -148,7 +211,12 @@ fn are_owned(n: u32, owners: &[u32]) -> bool {
     true
 }
 
-/// One worked row: members, owners, expected owners, and how many partitions stay.
+/// Checks the owners that are given, and how many partitions stay.
+fn check_given(rt: &impl Abort, owners: &[u32], given: &[u32], expected: &[u32], stay: usize) {
+    assert_eq!(rt; (given, kept(owners, given)), (expected, stay));
+}
+
+/// One row: members, owners, expected owners, and how many partitions stay.
 fn check_row(
     rt: &impl Abort,
     alloc: Global,
@@ -160,40 +228,30 @@ fn check_row(
     requires { (1 ≤ length owners.now) × (length owners.now ≤ MOST_PARTITIONS) }
 {
     let given = assigned(rt, alloc, members, owners)?;
-    assert_eq!(rt; given.as_slice(), expected);
-    assert_eq!(rt; kept(owners, &given), stay);
+    check_given(rt, owners, &given, expected, stay);
     Ok(())
 }
 
-#[test]
-fn the_worked_rows(rt: HostRuntime) -> Result<(), Fail> {
-    check_row(
-        &rt,
-        rt.alloc(),
-        &[1, 2, 3],
-        &[1, 1, 1, 1, 1],
-        &[1, 1, 2, 2, 3],
-        2,
-    )?;
-    check_row(&rt, rt.alloc(), &[2, 7], &[7, 2, 7], &[7, 2, 7], 3)?;
-    check_row(&rt, rt.alloc(), &[1, 2, 3], &[1, 1, 2, 2], &[1, 1, 2, 3], 3)?;
-    check_row(&rt, rt.alloc(), &[1, 2, 3], &[0, 0], &[1, 2], 0)?;
-    check_row(
-        &rt,
-        rt.alloc(),
+/// The worked rows: members, owners, expected owners, and how many partitions stay.
+const WORKED: [(&[u32], &[u32], &[u32], usize); 6] = [
+    (&[1, 2, 3], &[1, 1, 1, 1, 1], &[1, 1, 2, 2, 3], 2),
+    (&[2, 7], &[7, 2, 7], &[7, 2, 7], 3),
+    (&[1, 2, 3], &[1, 1, 2, 2], &[1, 1, 2, 3], 3),
+    (&[1, 2, 3], &[0, 0], &[1, 2], 0),
+    (
         &[3, 5, 9],
         &[3, 3, 5, 5, 5, 5, 5],
         &[3, 3, 5, 5, 5, 9, 9],
         5,
-    )?;
-    check_row(
-        &rt,
-        rt.alloc(),
-        &[1, 2, 3],
-        &[1, 1, 1, 1, 2],
-        &[1, 1, 2, 3, 2],
-        3,
-    )?;
+    ),
+    (&[1, 2, 3], &[1, 1, 1, 1, 2], &[1, 1, 2, 3, 2], 3),
+];
+
+#[test]
+fn the_worked_rows(rt: HostRuntime) -> Result<(), Fail> {
+    for (members, owners, expected, stay) in WORKED {
+        check_row(&rt, rt.alloc(), members, owners, expected, stay)?;
+    }
     Ok(())
 }
 
@@ -235,66 +293,167 @@ fn most_kept(n: u32, owners: &[u32]) -> usize
     most
 }
 
+/// Whether no partition is owned by a member above n.
+fn are_at_most(n: u32, owners: &[u32]) -> bool {
+    for owner in owners {
+        if n < *owner {
+            return false;
+        }
+    }
+    true
+}
+
+/// Checks the assignment of what the members 1 to n own beside all that are balanced.
+fn check_best(rt: &impl Abort, alloc: Global, n: u32, owners: &[u32]) -> Result<(), Memory>
+    requires members { n ≤ 3 }
+    requires partitions { (1 ≤ length owners.now) × (length owners.now ≤ 4) }
+{
+    let given = assigned(rt, alloc, &[1, 2, 3][..n as usize], owners)?;
+    assert_eq!(rt;
+        (is_balanced(n, &given), kept(owners, &given)),
+        (true, most_kept(n, owners)),
+        "{owners:?}"
+    );
+    Ok(())
+}
+
+/// The same of all that the members 1 to n can own of so many partitions, by the numbers of these
+/// assignments.
+fn check_codes(
+    rt: &impl Abort,
+    alloc: Global,
+    n: u32,
+    partitions: usize,
+    codes: u32,
+) -> Result<(), Memory>
+    requires members { n ≤ 3 }
+    requires partitions { (1 ≤ partitions) × (partitions ≤ 4) }
+{
+    for code in 0..codes {
+        let owners = owners_of(code);
+        let owners = &owners[..partitions];
+        if are_at_most(n, owners) {
+            check_best(rt, alloc, n, owners)?;
+        }
+    }
+    Ok(())
+}
+
 #[test]
 fn no_balanced_assignment_keeps_more(rt: HostRuntime) -> Result<(), Fail> {
     for n in 1..=3 {
         for (partitions, codes) in [(1, 4), (2, 16), (3, 64), (4, 256)] {
-            for code in 0..codes {
-                let owners = owners_of(code);
-                let owners = &owners[..partitions];
-                if owners.iter().all(|owner| *owner <= n) {
-                    let given = assigned(&rt, rt.alloc(), &[1, 2, 3][..n as usize], owners)?;
-                    assert!(rt; is_balanced(n, &given), "{owners:?}");
-                    assert_eq!(rt; kept(owners, &given), most_kept(n, owners), "{owners:?}");
-                }
-            }
+            check_codes(&rt, rt.alloc(), n, partitions, codes)?;
         }
     }
     Ok(())
+}
+
+/// The numbers of as many members as there can be, from 1 on.
+pub fn most_members(alloc: Global) -> Result<Vec<u32>, Memory> {
+    Ok((1..MOST_MEMBERS as u32 + 1).collect(alloc)?)
+}
+
+/// The first of as many members as there can be who has not eight partitions, and how many it has.
+fn first_uneven(members: &[u32], owners: &[u32]) -> Option<(u32, usize)> {
+    for member in members {
+        let size = size_of(*member, owners);
+        if size != MOST_PARTITIONS as usize / MOST_MEMBERS {
+            return Some((*member, size));
+        }
+    }
+    None
+}
+
+/// The owners that the assignment gives to these members, as many as there can be, who have eight
+/// partitions each.
+fn spread_over(
+    rt: &impl Abort,
+    alloc: Global,
+    members: &[u32],
+    owners: &[u32],
+) -> Result<Vec<u32>, Memory>
+    requires { length owners.now ≡ MOST_PARTITIONS }
+{
+    let given = assigned(rt, alloc, members, owners)?;
+    assert_eq!(rt; first_uneven(members, &given), None);
+    Ok(given)
 }
 
 /// The owners that the assignment gives to members 1 to 512, who have eight partitions each.
 fn spread(rt: &impl Abort, alloc: Global, owners: &[u32]) -> Result<Vec<u32>, Memory>
     requires { length owners.now ≡ MOST_PARTITIONS }
 {
-    let members: Vec<u32> = (1..MOST_MEMBERS as u32 + 1).collect(alloc)?;
-    let given = assigned(rt, alloc, &members, owners)?;
-    for member in &members {
-        assert_eq!(rt;
-            size_of(*member, &given),
-            MOST_PARTITIONS as usize / MOST_MEMBERS,
-            "{member}"
-        );
+    let members = most_members(alloc)?;
+    spread_over(rt, alloc, &members, owners)
+}
+
+/// How many partitions stay with their owners where those are spread.
+fn kept_by_spread(rt: &impl Abort, alloc: Global, owners: &[u32]) -> Result<usize, Memory>
+    requires { length owners.now ≡ MOST_PARTITIONS }
+{
+    let given = spread(rt, alloc, owners)?;
+    Ok(kept(owners, &given))
+}
+
+/// Whether the owners stay as they are where they are spread.
+fn stays_by_spread(rt: &impl Abort, alloc: Global, owners: &[u32]) -> Result<bool, Memory>
+    requires { length owners.now ≡ MOST_PARTITIONS }
+{
+    let given = spread(rt, alloc, owners)?;
+    Ok(given.as_slice() == owners)
+}
+
+/// The owners of as many partitions as there can be, in turn.
+pub fn in_turn(alloc: Global) -> Result<Vec<u32>, Memory>
+    ensures { IfOk result (λ owners. length owners.items ≡ MOST_PARTITIONS) }
+{
+    let mut owners = vec![in alloc; 0; MOST_PARTITIONS as usize]?;
+    for q in 0..MOST_PARTITIONS {
+        owners[q as usize] = q % MOST_MEMBERS as u32 + 1;
     }
-    Ok(given)
+    Ok(owners)
+}
+
+/// How many partitions stay with a member who owned all of the most.
+fn kept_of_all(rt: &impl Abort, alloc: Global) -> Result<usize, Memory> {
+    let owners = vec![in alloc; 1; MOST_PARTITIONS as usize]?;
+    kept_by_spread(rt, alloc, &owners)
+}
+
+/// Whether owners in turn stay as they are.
+fn stays_in_turn(rt: &impl Abort, alloc: Global) -> Result<bool, Memory> {
+    let owners = in_turn(alloc)?;
+    stays_by_spread(rt, alloc, &owners)
+}
+
+/// How many partitions stay with a member who owned all, and whether owners in turn stay.
+fn spread_most(rt: &impl Abort, alloc: Global) -> Result<(usize, bool), Memory> {
+    Ok((kept_of_all(rt, alloc)?, stays_in_turn(rt, alloc)?))
 }
 
 #[test]
-fn spreads_the_most_partitions(rt: HostRuntime) -> Result<(), Fail> {
+fn spreads_the_most_partitions(rt: HostRuntime) {
     // All with one member, of which eight stay, and then all even, of which all stay.
-    let first = vec![in rt.alloc(); 1; MOST_PARTITIONS as usize]?;
-    let given = spread(&rt, rt.alloc(), &first)?;
-    assert_eq!(rt;
-        kept(&first, &given),
-        MOST_PARTITIONS as usize / MOST_MEMBERS
-    );
-    let mut even = vec![in rt.alloc(); 0; MOST_PARTITIONS as usize]?;
-    for q in 0..MOST_PARTITIONS {
-        even[q as usize] = q % MOST_MEMBERS as u32 + 1;
+    let share = MOST_PARTITIONS as usize / MOST_MEMBERS;
+    assert_eq!(rt; spread_most(&rt, rt.alloc()), Ok((share, true)));
+}
+
+/// The owners of as many partitions as there can be, of which the first 1366 are with member 1 and
+/// runs of 1365 with the members 2 and 3.
+fn in_runs(alloc: Global) -> Result<Vec<u32>, Memory> {
+    let mut owners = vec![in alloc; 3; MOST_PARTITIONS as usize]?;
+    for q in 0..2731 {
+        owners[q] = if q < 1366 { 1 } else { 2 };
     }
-    let given = spread(&rt, rt.alloc(), &even)?;
-    assert!(rt; given == even);
-    Ok(())
+    Ok(owners)
 }
 
 #[test]
 fn spreads_what_one_owned_over_three(rt: HostRuntime) -> Result<(), Fail> {
     // 4096 are 1366 and twice 1365: the owner keeps its first 1366, and the others take runs.
     let owners = vec![in rt.alloc(); 1; MOST_PARTITIONS as usize]?;
-    let mut expected = vec![in rt.alloc(); 3; MOST_PARTITIONS as usize]?;
-    for q in 0..2731 {
-        expected[q] = if q < 1366 { 1 } else { 2 };
-    }
+    let expected = in_runs(rt.alloc())?;
     check_row(&rt, rt.alloc(), &[1, 2, 3], &owners, &expected, 1366)?;
     Ok(())
 }

@@ -40,3 +40,13 @@ pub fn with_last(alloc: Global, numbers: &[u32], last: u32) -> Result<Vec<u32>, 
     other[index] = last;
     Ok(other)
 }
+
+/// Whether all counters are at 0.
+pub fn are_zeros(counts: &[u64]) -> bool {
+    for count in counts {
+        if *count != 0 {
+            return false;
+        }
+    }
+    true
+}

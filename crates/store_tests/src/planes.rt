@@ -1,7 +1,7 @@
 //! Sets of partitions and rows of them: each call once on its happy path, at one partition, few, a
 //! number past a multiple of 64, and the most.
 
-ghost use Rattle.std.specs.Prelude.{◌≡◌, ◌≤◌, IfOk};
+ghost use Rattle.std.specs.Prelude.{◌≡◌, ◌<◌, ◌≤◌, IfOk};
 ghost use Rattle.bit_planes.specs.PartitionSet.{partitions_of};
 
 use crate::plain_plane::PlainPlane;
@@ -80,14 +80,26 @@ fn are_parts(first: &Plane, last: &Plane, both: &Plane) -> bool
         && both.lowest(9).copy().same(both)
 }
 
+/// Whether a set is told as its elements, one by one and as text.
+fn is_both(alloc: Global, both: &Plane) -> Result<bool, Memory> {
+    let text = format!(in alloc; "{both:?}")?;
+    Ok(both.iter().eq([0, 512]) && text.as_str() == "{0, 512}")
+}
+
+/// Whether all that is told of sets past a word is so.
+fn are_told_apart(first: &Plane, last: &Plane, both: &Plane) -> bool
+    requires last { partitions_of last.now ≡ partitions_of first.now }
+    requires both { partitions_of both.now ≡ partitions_of first.now }
+{
+    are_told(first, last, both) && are_parts(first, last, both)
+}
+
 #[test]
-fn tells_sets_past_a_word(rt: HostRuntime) -> Result<(), Fail> {
+fn tells_sets_past_a_word(rt: HostRuntime) {
     let (first, last) = (Plane::of(513, &[0]), Plane::of(513, &[512]));
     let both = Plane::of(513, &[512, 0]);
-    assert!(rt; are_told(&first, &last, &both) && are_parts(&first, &last, &both));
-    assert!(rt; both.iter().eq([0, 512]));
-    assert_eq!(rt; format!(in rt.alloc(); "{both:?}")?.as_str(), "{0, 512}");
-    Ok(())
+    assert!(rt; are_told_apart(&first, &last, &both));
+    assert_eq!(rt; is_both(rt.alloc(), &both), Ok(true));
 }
 
 /// Puts rows in no order, the first one twice.
@@ -102,7 +114,10 @@ fn put_each(rows: &mut PlaneRows) -> Result<(), Memory>
 
 /// Whether a member's row is of this one partition.
 fn is_of(rows: &PlaneRows, member: u32, q: u32) -> bool {
-    rows.get(member).is_some_and(|set| set.iter().eq([q]))
+    match rows.get(member) {
+        Some(set) => set.iter().eq([q]),
+        None => false,
+    }
 }
 
 /// Whether rows are those that were put last.
@@ -115,14 +130,20 @@ fn are_put(rows: &PlaneRows) -> bool {
         && rows.get(3).is_none()
 }
 
+/// Whether a row of a walk is this member's, with this partition.
+fn is_given(row: Option<(u32, &Plane)>, member: u32, q: u32) -> bool {
+    match row {
+        Some((other, set)) => other == member && set.contains(q),
+        None => false,
+    }
+}
+
 /// Whether the walk over the rows begins with the first two.
 fn is_walked(rows: &PlaneRows) -> bool {
     let mut walk = rows.iter();
     let first = walk.next();
     let second = walk.next();
-    first.is_some_and(|(member, set)| member == 2 && set.contains(1))
-        && second.is_some_and(|(member, set)| member == 7 && set.contains(3))
-        && walk.count() == 1
+    walk.count() == 1 && is_given(first, 2, 1) && is_given(second, 7, 3)
 }
 
 #[test]
@@ -134,22 +155,48 @@ fn keeps_a_row_for_each_member(rt: HostRuntime) -> Result<(), Fail> {
     Ok(())
 }
 
-#[test]
-fn keeps_the_most_rows(rt: HostRuntime) -> Result<(), Fail> {
-    let mut rows = PlaneRows::new(rt.alloc(), MOST_PARTITIONS);
+/// The set of one of as many partitions as there can be.
+fn one_of_most(q: u32) -> Plane
+    requires { q < MOST_PARTITIONS }
+    ensures { partitions_of result ≡ MOST_PARTITIONS }
+{
+    let mut set = Plane::new(MOST_PARTITIONS);
+    set.insert(q);
+    set
+}
+
+/// Rows of as many members as there can be, each with the set of its own number, put neither in
+/// rising order nor in falling order.
+fn most_rows(alloc: Global) -> Result<PlaneRows, Memory> {
+    let mut rows = PlaneRows::new(alloc, MOST_PARTITIONS);
     for i in 0..MOST_MEMBERS as u32 {
-        // Neither in rising order nor in falling order.
         let member = i * 5 % MOST_MEMBERS as u32;
-        let mut set = Plane::new(MOST_PARTITIONS);
-        set.insert(member);
-        rows.put(member, set)?;
+        rows.put(member, one_of_most(member))?;
     }
-    assert_eq!(rt; rows.len(), MOST_MEMBERS);
-    assert!(rt; rows.members().eq(0..MOST_MEMBERS as u32));
+    Ok(rows)
+}
+
+/// The first member whose row is not the set of its own number.
+fn first_other(rows: &PlaneRows) -> Option<u32> {
     for (member, set) in rows.iter() {
-        assert!(rt; set.iter().eq([member]), "{member}");
+        if !set.iter().eq([member]) {
+            return Some(member);
+        }
     }
-    Ok(())
+    None
+}
+
+/// How many of these rows there are, whether they are of all members, and the first member whose
+/// row is not the set of its own number.
+fn told_of_most(alloc: Global) -> Result<(usize, bool, Option<u32>), Memory> {
+    let rows = most_rows(alloc)?;
+    let are_all = rows.members().eq(0..MOST_MEMBERS as u32);
+    Ok((rows.len(), are_all, first_other(&rows)))
+}
+
+#[test]
+fn keeps_the_most_rows(rt: HostRuntime) {
+    assert_eq!(rt; told_of_most(rt.alloc()), Ok((MOST_MEMBERS, true, None)));
 }
 
 /// Rows of those of the members 3 to 10 whose bit is set, each with the set of its own number, put
@@ -167,33 +214,67 @@ fn rows_of(alloc: Global, bits: u32, rising: bool) -> Result<PlaneRows, Memory>
     Ok(rows)
 }
 
+/// Whether a member's row is empty.
+pub fn is_empty(rows: &PlaneRows, member: u32) -> bool {
+    match rows.get(member) {
+        Some(set) => set.count() == 0,
+        None => false,
+    }
+}
+
+/// Takes a member's own number out of its row, where it has one, and tells whether the row is empty
+/// then.
+fn is_emptied(rows: &mut PlaneRows, member: u32) -> bool
+    requires { (rows.old.partitions ≡ 16) × (member < 16) }
+    ensures { rows.new.partitions ≡ 16 }
+{
+    rows.remove_from(member, &Plane::of(16, &[1, member]));
+    is_empty(rows, member)
+}
+
+/// The first member who is found without its bit, or not found with it, and how: by the set of its
+/// own number in the rising rows and in the falling ones, and by the empty set once this number is
+/// taken out.
+fn first_unfound(rising: &mut PlaneRows, falling: &PlaneRows, bits: u32) -> Option<(u32, [bool; 3])>
+    requires { rising.old.partitions ≡ 16 }
+{
+    for member in 0..14 {
+        let there = 3 <= member && member < 11 && bits >> (member - 3) & 1 == 1;
+        let found = is_of(rising, member, member);
+        let found_falling = is_of(falling, member, member);
+        let emptied = is_emptied(rising, member);
+        if found != there || found_falling != there || emptied != there {
+            return Some((member, [found, found_falling, emptied]));
+        }
+    }
+    None
+}
+
+/// Checks the rows of the members whose bits are set, put in rising and in falling order.
+fn check_rows(rt: &impl Abort, bits: u32, rising: &mut PlaneRows, falling: &PlaneRows)
+    requires { rising.old.partitions ≡ 16 }
+{
+    let are_same = rising.members().eq(falling.members());
+    let unfound = first_unfound(rising, falling, bits);
+    assert_eq!(rt;
+        (are_same, unfound, rising.len()),
+        (true, None, bits.count_ones() as usize),
+        "{bits}"
+    );
+}
+
+/// The same of the rows of these bits, which nobody else owns.
+fn check_bits(rt: &impl Abort, alloc: Global, bits: u32) -> Result<(), Memory> {
+    let mut rising = rows_of(alloc, bits, true)?;
+    let falling = rows_of(alloc, bits, false)?;
+    check_rows(rt, bits, &mut rising, &falling);
+    Ok(())
+}
+
 #[test]
 fn finds_rows_beside_gaps(rt: HostRuntime) -> Result<(), Fail> {
     for bits in 0..256 {
-        let mut rows = rows_of(rt.alloc(), bits, true)?;
-        let falling = rows_of(rt.alloc(), bits, false)?;
-        assert!(rt; rows.members().eq(falling.members()), "{bits}");
-        for member in 0..14 {
-            let there = 3 <= member && member < 11 && bits >> (member - 3) & 1 == 1;
-            let own = |set: &Plane| set.iter().eq([member]);
-            assert_eq!(rt;
-                rows.get(member).is_some_and(own),
-                there,
-                "{member} of {bits}"
-            );
-            assert_eq!(rt;
-                falling.get(member).is_some_and(own),
-                there,
-                "{member} of {bits}"
-            );
-            rows.remove_from(member, &Plane::of(16, &[1, member]));
-            assert_eq!(rt;
-                rows.get(member).is_some_and(|set| set.count() == 0),
-                there,
-                "{member} of {bits}"
-            );
-        }
-        assert_eq!(rt; rows.len(), bits.count_ones() as usize);
+        check_bits(&rt, rt.alloc(), bits)?;
     }
     Ok(())
 }
@@ -249,62 +330,94 @@ fn are_alike(set: &Plane, plain: &PlainPlane) -> bool {
     alike && elements.next().is_none()
 }
 
-#[test]
-fn each_call_beside_the_plain_program(rt: HostRuntime) -> Result<(), Fail> {
-    for partitions in COUNTS {
-        for kind in 0..KINDS {
-            let (set, plain) = both_ways(kind, partitions);
-            assert!(rt; are_alike(&set, &plain), "{kind} of {partitions}");
-            assert_eq!(rt; set.count(), plain.count(), "{kind} of {partitions}");
-            for n in [
-                0,
-                1,
-                63,
-                64,
-                65,
-                512,
-                set.count().saturating_sub(1),
-                partitions,
-            ] {
-                let (lowest, plainly) = (set.lowest(n), plain.lowest(n));
-                assert!(rt;
-                    are_alike(&lowest, &plainly),
-                    "{n} of {kind} of {partitions}"
-                );
-            }
-            for other in 0..KINDS {
-                check_two(
-                    &rt,
-                    both_ways(kind, partitions),
-                    both_ways(other, partitions),
-                );
-            }
+/// The first number whose lowest elements are not alike, of a set of a kind.
+fn first_lowest(set: &Plane, plain: &PlainPlane) -> Option<u32> {
+    let most = set.count().saturating_sub(1);
+    for n in [0, 1, 63, 64, 65, 512, most, set.partitions()] {
+        if !are_alike(&set.lowest(n), &plain.lowest(n)) {
+            return Some(n);
         }
     }
-    Ok(())
+    None
+}
+
+/// Checks each call on one set, as words and as truth values.
+fn check_one(rt: &impl Abort, kind: u32, set: &Plane, plain: &PlainPlane) {
+    assert_eq!(rt;
+        (are_alike(set, plain), set.count(), first_lowest(set, plain)),
+        (true, plain.count(), None),
+        "{kind} of {}",
+        set.partitions()
+    );
+}
+
+/// Whether what is in either of two sets is alike, as a new set and where it comes into the first.
+fn are_united_alike(s: &Plane, t: &Plane, plain: &PlainPlane) -> bool
+    requires { partitions_of s.now ≡ partitions_of t.now }
+{
+    let mut all = s.copy();
+    all.insert_all(t);
+    are_alike(&s.union(t), plain) && are_alike(&all, plain)
+}
+
+/// Whether what is in the first alone is alike, as a new set and where the rest is taken out of it.
+fn are_left_alike(s: &Plane, t: &Plane, plain: &PlainPlane) -> bool
+    requires { partitions_of s.now ≡ partitions_of t.now }
+{
+    let mut rest = s.copy();
+    rest.remove_all(t);
+    are_alike(&s.minus(t), plain) && are_alike(&rest, plain)
+}
+
+/// What two sets answer: whether they meet, whether the first is within the other, and whether they
+/// are the same.
+fn answers(s: &Plane, t: &Plane) -> (bool, bool, bool)
+    requires { partitions_of s.now ≡ partitions_of t.now }
+{
+    (s.meets(t), s.within(t), s.same(t))
+}
+
+/// The same of two sets of truth values.
+fn plain_answers(s: &PlainPlane, t: &PlainPlane) -> (bool, bool, bool)
+    requires { partitions_of s.now ≡ partitions_of t.now }
+{
+    (s.meets(t), s.within(t), s.same(t))
 }
 
 /// Each call on two sets, as words and as truth values.
-fn check_two(rt: &impl Abort, one: (Plane, PlainPlane), other: (Plane, PlainPlane))
-    requires words { partitions_of one.0 ≡ partitions_of other.0 }
-    requires plain { partitions_of one.1 ≡ partitions_of other.1 }
+fn check_two(rt: &impl Abort, one: &(Plane, PlainPlane), other: &(Plane, PlainPlane))
+    requires words { partitions_of one.now.0 ≡ partitions_of other.now.0 }
+    requires plain { partitions_of one.now.1 ≡ partitions_of other.now.1 }
 {
     let (s, plain_s) = one;
     let (t, plain_t) = other;
-    assert!(rt; are_alike(&s.union(&t), &plain_s.union(&plain_t)));
-    assert!(rt; are_alike(&s.minus(&t), &plain_s.minus(&plain_t)));
-    let (mut all, mut rest) = (s.copy(), s.copy());
-    all.insert_all(&t);
-    rest.remove_all(&t);
-    assert!(rt; are_alike(&all, &plain_s.union(&plain_t)));
-    assert!(rt; are_alike(&rest, &plain_s.minus(&plain_t)));
-    assert_eq!(rt; s.meets(&t), plain_s.meets(&plain_t));
-    assert_eq!(rt; s.within(&t), plain_s.within(&plain_t));
-    assert_eq!(rt; s.same(&t), plain_s.same(&plain_t));
+    assert!(rt; are_united_alike(s, t, &plain_s.union(plain_t)));
+    assert!(rt; are_left_alike(s, t, &plain_s.minus(plain_t)));
+    assert_eq!(rt; answers(s, t), plain_answers(plain_s, plain_t));
+}
+
+/// Checks each call on a set of a kind, and on this set and one of each kind.
+fn check_kind(rt: &impl Abort, kind: u32, partitions: u32)
+    requires { (1 ≤ partitions) × (partitions ≤ MOST_PARTITIONS) }
+{
+    let one = both_ways(kind, partitions);
+    check_one(rt, kind, &one.0, &one.1);
+    for other in 0..KINDS {
+        check_two(rt, &one, &both_ways(other, partitions));
+    }
 }
 
 #[test]
-fn full_sets_lose_one_element(rt: HostRuntime) -> Result<(), Fail> {
+fn each_call_beside_the_plain_program(rt: HostRuntime) {
+    for partitions in COUNTS {
+        for kind in 0..KINDS {
+            check_kind(&rt, kind, partitions);
+        }
+    }
+}
+
+#[test]
+fn full_sets_lose_one_element(rt: HostRuntime) {
     for partitions in COUNTS {
         let (mut set, mut plain) = (Plane::full(partitions), PlainPlane::full(partitions));
         assert!(rt; are_alike(&set, &plain), "{partitions}");
@@ -312,5 +425,4 @@ fn full_sets_lose_one_element(rt: HostRuntime) -> Result<(), Fail> {
         plain.remove(partitions / 2);
         assert!(rt; are_alike(&set, &plain.copy()), "{partitions}");
     }
-    Ok(())
 }

@@ -2,7 +2,7 @@
 
 ghost use Rattle.std.specs.Prelude.{◌≤◌};
 
-use crate::with_last;
+use crate::{are_zeros, with_last};
 use commit_store::Store;
 use keyed_table::Partial;
 use lane_words::{MOST_PARTITIONS, Memory, Refusal};
@@ -10,11 +10,24 @@ use partition_log::{LogRead, Logs};
 use std::alloc::Global;
 use std::process::Abort;
 use std::random::RandomSource;
-use std::test::Fail;
 
 /// Whether a record of one key comes to the first log.
 fn is_appended(logs: &mut Logs) -> bool {
     matches!(logs.append(b"21"), Ok((0, _)))
+}
+
+/// Appends this many records of one key to the first log.
+fn append_each(rt: &impl Abort, logs: &mut Logs, records: usize) {
+    for _ in 0..records {
+        assert!(rt; is_appended(logs));
+    }
+}
+
+/// Logs without records, of this many partitions.
+fn no_records(rt: &impl RandomSource, alloc: Global, partitions: u32) -> Result<Logs, Memory>
+    requires { (1 ≤ partitions) × (partitions ≤ MOST_PARTITIONS) }
+{
+    Logs::new(rt, alloc, partitions)
 }
 
 /// Logs of which the first has this many records of one key.
@@ -26,10 +39,8 @@ fn one_key(
 ) -> Result<Logs, Memory>
     requires { (1 ≤ partitions) × (partitions ≤ MOST_PARTITIONS) }
 {
-    let mut logs = Logs::new(rt, alloc, partitions)?;
-    for _ in 0..records {
-        assert!(rt; is_appended(&mut logs));
-    }
+    let mut logs = no_records(rt, alloc, partitions)?;
+    append_each(rt, &mut logs, records);
     Ok(logs)
 }
 
@@ -42,6 +53,25 @@ fn add_keys(store: &mut Store, keys: u32) -> Result<(), Memory> {
     Ok(())
 }
 
+/// A list of key numbers, counted.
+fn counted(alloc: Global, ids: &[u32]) -> Result<Partial, Memory> {
+    let list = Vec::from_slice(alloc, ids)?;
+    Partial::of(alloc, list)
+}
+
+/// What a store answers a commit of the first log from an offset on.
+fn answer(
+    rt: &impl Abort,
+    store: &mut Store,
+    logs: &Logs,
+    from: u32,
+    partial: &Partial,
+) -> Result<u32, Refusal> {
+    assert!(rt; logs.keys() as usize <= store.keys());
+    assert!(rt; logs.partitions() > 0 && store.partitions() > 0);
+    store.commit(logs, 0, from, partial)
+}
+
 /// A commit of these key numbers of the first log from an offset on.
 fn commit(
     rt: &impl Abort,
@@ -51,10 +81,8 @@ fn commit(
     from: u32,
     ids: &[u32],
 ) -> Result<Result<u32, Refusal>, Memory> {
-    assert!(rt; logs.keys() as usize <= store.keys());
-    assert!(rt; logs.partitions() > 0 && store.partitions() > 0);
-    let partial = Partial::of(alloc, Vec::from_slice(alloc, ids)?)?;
-    Ok(store.commit(logs, 0, from, &partial))
+    let partial = counted(alloc, ids)?;
+    Ok(answer(rt, store, logs, from, &partial))
 }
 
 /// Of a log of two records of one key: an offset, key numbers from there on, and the answer of their
@@ -94,24 +122,52 @@ fn has_both(store: &Store) -> bool {
         && store.count(0) == 2
 }
 
-/// Whether both records are committed when those commits were made on a store of one key, each
-/// answered so.
-fn are_both_committed(rt: &impl Abort, alloc: Global, logs: &Logs) -> Result<bool, Memory> {
+/// A store of four partitions and one key.
+fn of_one_key(alloc: Global) -> Result<Store, Memory> {
     let mut store = Store::new(alloc, 4)?;
-    add_keys(&mut store, 1)?;
-    assert_eq!(rt; first_other(rt, alloc, &mut store, logs)?, None);
-    Ok(has_both(&store))
+    let added = add_keys(&mut store, 1);
+    added.and(Ok(store))
+}
+
+/// The first of those commits that is not answered so by a store of one key, and whether both
+/// records are committed then.
+fn committed_each(
+    rt: &impl Abort,
+    alloc: Global,
+    logs: &Logs,
+) -> Result<(Option<usize>, bool), Memory> {
+    let mut store = of_one_key(alloc)?;
+    let other = first_other(rt, alloc, &mut store, logs)?;
+    Ok((other, has_both(&store)))
+}
+
+/// The same of logs of two records of one key.
+fn committed_two(
+    rt: &(impl Abort + RandomSource),
+    alloc: Global,
+) -> Result<(Option<usize>, bool), Memory> {
+    let logs = one_key(rt, alloc, 4, 2)?;
+    committed_each(rt, alloc, &logs)
 }
 
 #[test]
-fn a_commit_is_taken_exactly_where_it_fits(rt: HostRuntime) -> Result<(), Fail> {
-    let logs = one_key(&rt, rt.alloc(), 4, 2)?;
-    assert!(rt; are_both_committed(&rt, rt.alloc(), &logs)?);
-    Ok(())
+fn a_commit_is_taken_exactly_where_it_fits(rt: HostRuntime) {
+    assert_eq!(rt; committed_two(&rt, rt.alloc()), Ok((None, true)));
 }
 
 /// The answer of a commit, and the two counters after it.
 type Committed = (Result<u32, Refusal>, u64, u64);
+
+/// A store of one partition and two keys.
+fn of_two_keys(alloc: Global) -> Result<Store, Memory> {
+    Store::over(alloc, 1, 2)
+}
+
+/// The counters of the two keys.
+fn two_counts(rt: &impl Abort, store: &Store) -> (u64, u64) {
+    assert!(rt; store.keys() == 2);
+    (store.count(0), store.count(1))
+}
 
 /// A commit of these key numbers at the start of the log, and the two counters after it.
 fn committed(
@@ -120,10 +176,22 @@ fn committed(
     logs: &Logs,
     ids: &[u32],
 ) -> Result<Committed, Memory> {
-    let mut store = Store::over(alloc, 1, 2)?;
+    let mut store = of_two_keys(alloc)?;
     let answer = commit(rt, alloc, &mut store, logs, 0, ids)?;
-    assert!(rt; store.keys() == 2);
-    Ok((answer, store.count(0), store.count(1)))
+    let (first, second) = two_counts(rt, &store);
+    Ok((answer, first, second))
+}
+
+/// A commit of these key numbers but for the last, which is another.
+fn committed_but_last(
+    rt: &impl Abort,
+    alloc: Global,
+    logs: &Logs,
+    ids: &[u32],
+) -> Result<Committed, Memory> {
+    assert!(rt; !ids.is_empty());
+    let other = with_last(alloc, ids, 1)?;
+    committed(rt, alloc, logs, &other)
 }
 
 /// A commit of this many records of one key but for the last, and one of these alone.
@@ -134,40 +202,53 @@ fn last_differs(
     len: usize,
 ) -> Result<(Committed, Committed), Memory> {
     let ids = vec![in alloc; 0; len]?;
-    assert!(rt; !ids.is_empty());
-    let other = with_last(alloc, &ids, 1)?;
-    let refused = committed(rt, alloc, logs, &other)?;
+    let refused = committed_but_last(rt, alloc, logs, &ids)?;
     Ok((refused, committed(rt, alloc, logs, &ids)?))
 }
 
+/// The same of a log of this many records of one key.
+fn last_of_log_differs(
+    rt: &(impl Abort + RandomSource),
+    alloc: Global,
+    len: usize,
+) -> Result<(Committed, Committed), Memory> {
+    let logs = one_key(rt, alloc, 1, len)?;
+    last_differs(rt, alloc, &logs, len)
+}
+
 #[test]
-fn the_last_of_the_records_alone_differs(rt: HostRuntime) -> Result<(), Fail> {
+fn the_last_of_the_records_alone_differs(rt: HostRuntime) {
     for len in [17, 1000] {
-        let logs = one_key(&rt, rt.alloc(), 1, len)?;
-        let (other, same) = last_differs(&rt, rt.alloc(), &logs, len)?;
-        assert!(rt; other == (Err(Refusal::WrongRecords), 0, 0), "{len}");
-        assert!(rt; same == (Ok(len as u32), len as u64, 0), "{len}");
+        let told = last_of_log_differs(&rt, rt.alloc(), len);
+        let refused = (Err(Refusal::WrongRecords), 0, 0);
+        let taken = (Ok(len as u32), len as u64, 0);
+        assert_eq!(rt; told, Ok((refused, taken)), "{len}");
     }
-    Ok(())
 }
 
-#[test]
-fn makes_an_offset_for_each_of_as_many_partitions_as_there_may_be(
-    rt: HostRuntime,
-) -> Result<(), Fail> {
-    let mut store = Store::new(rt.alloc(), MOST_PARTITIONS)?;
-    assert_eq!(rt; store.partitions(), MOST_PARTITIONS);
+/// How many partitions a store is made of, and how many offsets and counters it has once keys are
+/// added.
+fn most_sizes(alloc: Global) -> Result<(u32, usize, usize), Memory> {
+    let mut store = Store::new(alloc, MOST_PARTITIONS)?;
+    let partitions = store.partitions();
     add_keys(&mut store, 70_000)?;
-    assert_eq!(rt; store.offsets().len(), 4096);
-    assert_eq!(rt; store.counts().len(), 70_000);
-    Ok(())
+    Ok((partitions, store.offsets().len(), store.counts().len()))
 }
 
 #[test]
-fn makes_a_counter_for_each_of_many_keys(rt: HostRuntime) -> Result<(), Fail> {
-    let store = Store::over(rt.alloc(), 3, 70_000)?;
-    assert_eq!(rt; store.offsets(), [0; 3].as_slice());
-    assert_eq!(rt; store.keys(), 70_000);
-    assert!(rt; store.counts().iter().all(|count| *count == 0));
-    Ok(())
+fn makes_an_offset_for_each_of_as_many_partitions_as_there_may_be(rt: HostRuntime) {
+    assert_eq!(rt; most_sizes(rt.alloc()), Ok((MOST_PARTITIONS, 4096, 70_000)));
+}
+
+/// Whether the offsets of a store of three partitions and many keys are all at 0, and its counters,
+/// and how many keys it has.
+fn zeros_of_many(alloc: Global) -> Result<(bool, usize, bool), Memory> {
+    let store = Store::over(alloc, 3, 70_000)?;
+    let are_new = store.offsets() == [0; 3].as_slice();
+    Ok((are_new, store.keys(), are_zeros(store.counts())))
+}
+
+#[test]
+fn makes_a_counter_for_each_of_many_keys(rt: HostRuntime) {
+    assert_eq!(rt; zeros_of_many(rt.alloc()), Ok((true, 70_000, true)));
 }

@@ -4,6 +4,7 @@
 ghost use Rattle.std.specs.Prelude.{◌≡◌, ◌+◌, ◌<◌, ◌^◌, ℕ, IfOk, IsTrue, length, slice_index_or};
 ghost use Rattle.keyed_table.specs.Counts.{HaveCounters, SumsFit};
 
+use crate::are_zeros;
 use crate::plain_partial::{PlainPartial, raise};
 use keyed_table::{Partial, Table};
 use lane_words::Memory;
@@ -19,89 +20,137 @@ fn partial(alloc: Global, ids: &[u32]) -> Result<Partial, Memory>
     Partial::of(alloc, list)
 }
 
-#[test]
-fn counts_a_list_whatever_its_order(rt: HostRuntime) -> Result<(), Fail> {
-    let lists: [&[u32]; 4] = [
-        &[8, 0, 8, 17],
-        &[0, 8, 8, 17],
-        &[17, 8, 0, 8],
-        &[8, 8, 17, 0],
-    ];
-    for ids in lists {
-        let counted = partial(rt.alloc(), ids)?;
-        assert_eq!(rt; counted.ids(), ids);
-        let expected = [(0, 1), (8, 2), (9, 0), (17, 1), (u32::MAX, 0)];
-        for (id, n) in expected {
-            assert_eq!(rt; counted.get(id), n, "{ids:?} {id}");
+/// One list in several orders.
+const ORDERS: [&[u32]; 4] = [
+    &[8, 0, 8, 17],
+    &[0, 8, 8, 17],
+    &[17, 8, 0, 8],
+    &[8, 8, 17, 0],
+];
+
+/// Numbers, and how often each is in that list.
+const COUNTS: [(u32, u64); 5] = [(0, 1), (8, 2), (9, 0), (17, 1), (u32::MAX, 0)];
+
+/// The first of these numbers, so far apart, that is not counted so often, and its count.
+fn first_other(partial: &Partial, counts: &[(u32, u64)], apart: u32) -> Option<(u32, u64)> {
+    for (number, count) in counts {
+        let id = number.saturating_mul(apart);
+        let counted = partial.get(id);
+        if counted != *count {
+            return Some((id, counted));
         }
     }
-    Ok(())
+    None
+}
+
+/// Whether the list is told in this order, and the first of those numbers that is not counted so
+/// often.
+fn counted_in(alloc: Global, ids: &[u32]) -> Result<(bool, Option<(u32, u64)>), Memory> {
+    let counted = partial(alloc, ids)?;
+    Ok((counted.ids() == ids, first_other(&counted, &COUNTS, 1)))
 }
 
 #[test]
-fn counts_nothing_of_an_empty_list(rt: HostRuntime) -> Result<(), Fail> {
-    let none = partial(rt.alloc(), &[])?;
-    assert_eq!(rt; none.ids().len(), 0);
-    assert_eq!(rt; none.get(0), 0);
-    Ok(())
+fn counts_a_list_whatever_its_order(rt: HostRuntime) {
+    for ids in ORDERS {
+        assert_eq!(rt; counted_in(rt.alloc(), ids), Ok((true, None)), "{ids:?}");
+    }
+}
+
+/// How long an empty list is, counted, and how often a number is in it.
+fn counted_of_none(alloc: Global) -> Result<(usize, u64), Memory> {
+    let none = partial(alloc, &[])?;
+    Ok((none.ids().len(), none.get(0)))
 }
 
 #[test]
-fn a_table_has_a_counter_for_each_key(rt: HostRuntime) -> Result<(), Fail> {
-    let mut table = Table::new(rt.alloc());
-    assert_eq!(rt; table.len(), 0);
-    for _ in 0..2 {
+fn counts_nothing_of_an_empty_list(rt: HostRuntime) {
+    assert_eq!(rt; counted_of_none(rt.alloc()), Ok((0, 0)));
+}
+
+/// Adds so many keys to a table.
+fn add_keys(table: &mut Table, keys: u32) -> Result<(), Memory> {
+    for _ in 0..keys {
         table.reserve()?;
         table.add_key();
     }
-    assert_eq!(rt; table.counts(), [0, 0].as_slice());
-    assert_eq!(rt; table.len(), 2);
-    assert_eq!(rt; table.get(1), 0);
     Ok(())
+}
+
+/// Whether a table has a counter at 0 for each of two keys.
+fn has_two_zeros(table: &Table) -> bool {
+    table.len() == 2 && table.get(1) == 0 && table.counts() == [0, 0].as_slice()
+}
+
+/// Whether a table has no counter, and one at 0 for each of two keys once these are added.
+fn has_counters_of_two(alloc: Global) -> Result<(bool, bool), Memory> {
+    let mut table = Table::new(alloc);
+    let was_empty = table.len() == 0;
+    add_keys(&mut table, 2)?;
+    Ok((was_empty, has_two_zeros(&table)))
 }
 
 #[test]
-fn a_table_of_zeros_has_as_many_counters_as_keys(rt: HostRuntime) -> Result<(), Fail> {
-    let table = Table::zeros(rt.alloc(), 70_000)?;
-    assert_eq!(rt; table.len(), 70_000);
-    assert!(rt; table.counts().iter().all(|count| *count == 0));
-    Ok(())
+fn a_table_has_a_counter_for_each_key(rt: HostRuntime) {
+    assert_eq!(rt; has_counters_of_two(rt.alloc()), Ok((true, true)));
 }
 
-/// Checks a count of 200,000 numbers so far apart, the first 60,000 of them three times and 10,000
-/// twice.
-fn check_many(rt: &impl Abort, alloc: Global, apart: u32) -> Result<(), Memory> {
+/// How many counters a table of zeros has, and whether they are at 0.
+fn zeros_of_many(alloc: Global) -> Result<(usize, bool), Memory> {
+    let table = Table::zeros(alloc, 70_000)?;
+    Ok((table.len(), are_zeros(table.counts())))
+}
+
+#[test]
+fn a_table_of_zeros_has_as_many_counters_as_keys(rt: HostRuntime) {
+    assert_eq!(rt; zeros_of_many(rt.alloc()), Ok((70_000, true)));
+}
+
+/// A list of 200,000 numbers so far apart, the first 60,000 of them three times and 10,000 twice.
+fn many(alloc: Global, apart: u32) -> Result<Vec<u32>, AllocError> {
     let mut ids = Vec::new(alloc);
     for i in 0..200_000_u32 {
         ids.push((i % 70_000).saturating_mul(apart))?;
     }
-    let counted = Partial::of(alloc, ids)?;
-    assert_eq!(rt; counted.ids().len(), 200_000);
-    let expected: [(u32, u64); 5] = [(0, 3), (59_999, 3), (60_000, 2), (69_999, 2), (70_000, 0)];
-    for (number, n) in expected {
-        let id = number.saturating_mul(apart);
-        assert_eq!(rt; counted.get(id), n, "{id}");
-    }
-    Ok(())
+    Ok(ids)
+}
+
+/// Numbers that stand for those of that list and for others, and how often each is in it.
+const MANY_COUNTS: [(u32, u64); 5] = [(0, 3), (59_999, 3), (60_000, 2), (69_999, 2), (70_000, 0)];
+
+/// How long that list is, counted, and the first of those numbers that is not counted so often.
+fn counted_of_many(alloc: Global, apart: u32) -> Result<(usize, Option<(u32, u64)>), Memory> {
+    let counted = Partial::of(alloc, many(alloc, apart)?)?;
+    Ok((
+        counted.ids().len(),
+        first_other(&counted, &MANY_COUNTS, apart),
+    ))
 }
 
 #[test]
-fn counts_a_list_of_many_numbers(rt: HostRuntime) -> Result<(), Fail> {
+fn counts_a_list_of_many_numbers(rt: HostRuntime) {
     // As many as the counters up to the largest, and far fewer.
-    check_many(&rt, rt.alloc(), 1)?;
-    check_many(&rt, rt.alloc(), 9)?;
-    Ok(())
+    for apart in [1, 9] {
+        assert_eq!(rt; counted_of_many(rt.alloc(), apart), Ok((200_000, None)));
+    }
+}
+
+/// A table that grew key by key.
+fn grown(alloc: Global, keys: u32) -> Result<Table, Memory> {
+    let mut table = Table::new(alloc);
+    let added = add_keys(&mut table, keys);
+    added.and(Ok(table))
+}
+
+/// How many counters a table has that grew by so many keys.
+fn grown_len(alloc: Global, keys: u32) -> Result<usize, Memory> {
+    let table = grown(alloc, keys)?;
+    Ok(table.len())
 }
 
 #[test]
-fn a_table_grows_to_many_counters(rt: HostRuntime) -> Result<(), Fail> {
-    let mut table = Table::new(rt.alloc());
-    for _ in 0..200_000_u32 {
-        table.reserve()?;
-        table.add_key();
-    }
-    assert_eq!(rt; table.len(), 200_000);
-    Ok(())
+fn a_table_grows_to_many_counters(rt: HostRuntime) {
+    assert_eq!(rt; grown_len(rt.alloc(), 200_000), Ok(200_000));
 }
 
 /// Numbers below a bound, drawn one after the other from a linear congruence.
@@ -181,6 +230,32 @@ fn each_ninth(alloc: Global, bound: u32) -> Result<Vec<u32>, AllocError> {
     Ok(ids)
 }
 
+/// The same list, counted by the plain program.
+fn plain_partial(alloc: Global, ids: &[u32]) -> Result<PlainPartial, Memory> {
+    let list = Vec::from_slice(alloc, ids)?;
+    PlainPartial::of(alloc, list)
+}
+
+/// Checks both counts of one more list, and merges them into a table of so many keys and into plain
+/// counters.
+fn check_both(
+    rt: &impl Abort,
+    keys: u32,
+    table: &mut Table,
+    counts: &mut [u64],
+    counted: &Partial,
+    plain: &PlainPartial,
+) {
+    check_gets(rt, counted, plain, keys.saturating_add(9));
+    merge(rt, table, counted);
+    merge_plainly(rt, counts, plain);
+    assert!(rt;
+        table.counts() == &*counts,
+        "{keys} {}",
+        counted.ids().len()
+    );
+}
+
 /// One more list in a table of so many keys, beside the plain program.
 fn check_list(
     rt: &impl Abort,
@@ -188,34 +263,53 @@ fn check_list(
     keys: u32,
     table: &mut Table,
     counts: &mut [u64],
-    ids: Vec<u32>,
-) -> Result<(), Memory>
-    requires { keys < 2 ^ 31 }
-{
-    let len = ids.len();
-    let plain = PlainPartial::of(alloc, Vec::from_slice(alloc, ids.as_slice())?)?;
-    let partial = Partial::of(alloc, ids)?;
-    check_gets(rt, &partial, &plain, keys + 9);
-    merge(rt, table, &partial);
-    merge_plainly(rt, counts, &plain);
-    assert!(rt; table.counts() == &*counts, "{keys} {len}");
+    ids: &[u32],
+) -> Result<(), Memory> {
+    let plain = plain_partial(alloc, ids)?;
+    let counted = partial(alloc, ids)?;
+    check_both(rt, keys, table, counts, &counted, &plain);
     Ok(())
+}
+
+/// Two drawn lists of this length, in a table of so many keys, beside the plain program.
+fn check_drawn(
+    rt: &impl Abort,
+    alloc: Global,
+    keys: u32,
+    len: usize,
+    table: &mut Table,
+    counts: &mut [u64],
+) -> Result<(), Memory>
+    requires { 0 < keys }
+{
+    for seed in 0..2 {
+        let ids = drawn(alloc, len, keys, seed)?;
+        check_list(rt, alloc, keys, table, counts, &ids)?;
+    }
+    Ok(())
+}
+
+/// A list that rises, in a table of so many keys, beside the plain program.
+fn check_rising(
+    rt: &impl Abort,
+    alloc: Global,
+    keys: u32,
+    table: &mut Table,
+    counts: &mut [u64],
+) -> Result<(), Memory> {
+    let rising = each_ninth(alloc, keys)?;
+    check_list(rt, alloc, keys, table, counts, &rising)
 }
 
 /// Two drawn lists of this length and one that rises in a table of so many keys, beside the plain
 /// program.
 fn check_lists(rt: &impl Abort, alloc: Global, keys: u32, len: usize) -> Result<(), Memory>
-    requires { (0 < keys) × (keys < 2 ^ 31) }
+    requires { 0 < keys }
 {
-    let mut table = Table::zeros(alloc, keys)?;
     let mut counts = vec![in alloc; 0; keys as usize]?;
-    let counts = counts.as_mut_slice();
-    for seed in 0..2 {
-        let ids = drawn(alloc, len, keys, seed)?;
-        check_list(rt, alloc, keys, &mut table, counts, ids)?;
-    }
-    let rising = each_ninth(alloc, keys)?;
-    check_list(rt, alloc, keys, &mut table, counts, rising)
+    let mut table = Table::zeros(alloc, keys)?;
+    check_drawn(rt, alloc, keys, len, &mut table, &mut counts)?;
+    check_rising(rt, alloc, keys, &mut table, &mut counts)
 }
 
 #[test]
@@ -229,46 +323,69 @@ fn counts_and_merges_beside_the_plain_program(rt: HostRuntime) -> Result<(), Fai
     Ok(())
 }
 
-/// A table that grew key by key.
-fn grown(alloc: Global, keys: u32) -> Result<Table, Memory> {
-    let mut table = Table::new(alloc);
-    for _ in 0..keys {
-        table.reserve()?;
-        table.add_key();
+/// A list of the last of so many keys twice, or of nothing where there is none.
+fn last_twice(alloc: Global, keys: u32) -> Result<Partial, Memory> {
+    match keys.checked_sub(1) {
+        Some(last) => partial(alloc, &[last, last]),
+        None => partial(alloc, &[]),
     }
-    Ok(table)
+}
+
+/// Whether there are so many counters, all at 0 but for that of the last of so many keys, which is
+/// at 2.
+fn has_last_twice(counts: &[u64], keys: u32, len: usize) -> bool {
+    for id in 0..counts.len() {
+        let expected = if id + 1 == keys as usize { 2 } else { 0 };
+        if counts[id] != expected {
+            return false;
+        }
+    }
+    counts.len() == len
 }
 
 /// The last key of a table counted twice, and then one key more.
 fn check_last_key(
     rt: &impl Abort,
-    alloc: Global,
-    mut table: Table,
+    table: &mut Table,
+    twice: &Partial,
     keys: u32,
 ) -> Result<(), Memory> {
-    let mut ids = Vec::new(alloc);
-    let mut expected = vec![in alloc; 0; keys as usize]?;
-    if let Some(last) = expected.last_mut() {
-        *last = 2;
-        ids.push(keys - 1)?;
-        ids.push(keys - 1)?;
-    }
-    merge(rt, &mut table, &Partial::of(alloc, ids)?);
-    assert!(rt; table.counts() == expected.as_slice(), "{keys}");
-    table.reserve()?;
-    table.add_key();
-    expected.push(0)?;
-    assert!(rt; table.counts() == expected.as_slice(), "{keys}");
+    merge(rt, table, twice);
+    assert!(rt;
+        has_last_twice(table.counts(), keys, keys as usize),
+        "{keys}"
+    );
+    add_keys(table, 1)?;
+    assert!(rt;
+        has_last_twice(table.counts(), keys, keys as usize + 1),
+        "{keys}"
+    );
     Ok(())
+}
+
+/// The same of a table of so many keys, made of zeros.
+fn check_zeros(rt: &impl Abort, alloc: Global, twice: &Partial, keys: u32) -> Result<(), Memory> {
+    let mut table = Table::zeros(alloc, keys)?;
+    check_last_key(rt, &mut table, twice, keys)
+}
+
+/// The same of a table of so many keys that grew key by key.
+fn check_grown(rt: &impl Abort, alloc: Global, twice: &Partial, keys: u32) -> Result<(), Memory> {
+    let mut table = grown(alloc, keys)?;
+    check_last_key(rt, &mut table, twice, keys)
+}
+
+/// The same of both tables, which count one list.
+fn check_tables(rt: &impl Abort, alloc: Global, keys: u32) -> Result<(), Memory> {
+    let twice = last_twice(alloc, keys)?;
+    check_zeros(rt, alloc, &twice, keys)?;
+    check_grown(rt, alloc, &twice, keys)
 }
 
 #[test]
 fn tables_of_any_length_count_their_last_key(rt: HostRuntime) -> Result<(), Fail> {
     for keys in [0, 1, 7, 8, 9, 17] {
-        let zeros = Table::zeros(rt.alloc(), keys)?;
-        check_last_key(&rt, rt.alloc(), zeros, keys)?;
-        let grown = grown(rt.alloc(), keys)?;
-        check_last_key(&rt, rt.alloc(), grown, keys)?;
+        check_tables(&rt, rt.alloc(), keys)?;
     }
     Ok(())
 }

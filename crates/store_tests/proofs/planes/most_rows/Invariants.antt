@@ -1,6 +1,6 @@
 use Rattle.std.proofs.Common.{◌≡◌}
 use Rattle.lane_words.specs.declared.limits.TheConstants.{MOST_PARTITIONS}
-use Rattle.store_tests.proofs.planes.keeps_the_most_rows.Given as goal
+use Rattle.store_tests.proofs.planes.most_rows.Given as goal
 
 abbrev pub invariant-loop-i : goal.invariant-loop-i
-invariant-loop-i g l = l.rows.partitions ≡ MOST_PARTITIONS
+invariant-loop-i l = l.rows.partitions ≡ MOST_PARTITIONS
