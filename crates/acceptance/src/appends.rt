@@ -36,15 +36,20 @@ const KEYS: [&str; 15] = [
 /// Appends records one by one, and tells the logs that come of it.
 pub fn tell_appends<R: RandomSource, W: Write>(rt: &R, stage: &mut Stage<W>) -> Result<()> {
     let mut logs = Logs::new(rt, stage.alloc, 4)?;
-    tell_appends_to(stage, &mut logs)
+    tell_appends_to(stage, &mut logs);
+    Ok(())
 }
 
 /// Appends records to logs that are new.
-fn tell_appends_to<W: Write>(stage: &mut Stage<W>, logs: &mut Logs) -> Result<()> {
+fn tell_appends_to<W: Write>(stage: &mut Stage<W>, logs: &mut Logs) {
     for key in &KEYS {
-        stage.call(format_args!("append {key}"), || logs.append(key.as_bytes()))?;
+        stage.call(
+            format_args!("append {key}"),
+            logs,
+            |logs| logs.append(key.as_bytes()),
+        );
     }
-    state::tell_logs(stage, logs)
+    state::tell_logs(stage, logs);
 }
 
 /// Places keys of two lengths.
@@ -52,7 +57,8 @@ pub fn tell_places<R: Threads + Sync, W: Write>(rt: &R, stage: &mut Stage<W>) ->
     let keys: [&[u8]; 10] = [
         b"21", b"34", b"21", b"34", b"", b"21", b"34", b"21", b"34", b"21",
     ];
-    tell_placed(rt, stage, &keys)
+    tell_placed(rt, stage, &keys);
+    Ok(())
 }
 
 /// Places the numbers from 0 on, which are more keys than one piece of work has.
@@ -60,7 +66,8 @@ pub fn tell_pieces<R: Threads + Sync, W: Write>(rt: &R, stage: &mut Stage<W>) ->
     let alloc = stage.alloc;
     let texts = numbers(alloc)?;
     let keys = keys_of(alloc, &texts)?;
-    tell_placed(rt, stage, &keys)
+    tell_placed(rt, stage, &keys);
+    Ok(())
 }
 
 /// The texts of the numbers from 0 on.
@@ -82,12 +89,10 @@ fn keys_of<'a>(alloc: Global, texts: &'a [String]) -> Result<Vec<&'a [u8]>> {
 }
 
 /// Places keys among four partitions.
-fn tell_placed<R: Threads + Sync, W: Write>(
-    rt: &R,
-    stage: &mut Stage<W>,
-    keys: &[&[u8]],
-) -> Result<()> {
-    let alloc = stage.alloc;
+fn tell_placed<R: Threads + Sync, W: Write>(rt: &R, stage: &mut Stage<W>, keys: &[&[u8]]) {
+    let mut alloc = stage.alloc;
     let partitions = Partitions::new(4);
-    stage.call("place_all", || Ok(partitions.place_all(rt, alloc, keys)?))
+    stage.call("place_all", &mut alloc, |alloc| {
+        Ok(partitions.place_all(rt, *alloc, keys)?)
+    });
 }

@@ -83,17 +83,27 @@ fn tell_in<W: Write>(stage: &mut Stage<W>, cluster: &mut Cluster, calls: &[Call]
     for call in calls {
         tell_call(stage, cluster, *call)?;
     }
-    state::tell_cluster(stage, cluster)
+    state::tell_cluster(stage, cluster);
+    Ok(())
 }
 
 /// Makes one call. What a commit hands over is made before.
 fn tell_call<W: Write>(stage: &mut Stage<W>, cluster: &mut Cluster, call: Call) -> Result<()> {
-    if let Call::Commit(member, generation, partition, from, ids) = call {
-        let partial = partial_of(stage.alloc, ids)?;
-        let commit = Commit::new(member, generation, partition, from, partial);
-        return stage.call(format_args!("{call:?}"), || committed(cluster, &commit));
-    }
-    stage.call(format_args!("{call:?}"), || replied(cluster, call))
+    let commit = &commit_of(stage.alloc, call)?;
+    stage.call(format_args!("{call:?}"), cluster, |cluster| match commit {
+        Some(commit) => committed(cluster, commit),
+        None => replied(cluster, call),
+    });
+    Ok(())
+}
+
+/// What a call commits, if it is a commit.
+fn commit_of(alloc: Global, call: Call) -> Result<Option<Commit>> {
+    let Call::Commit(member, generation, partition, from, ids) = call else {
+        return Ok(None);
+    };
+    let partial = partial_of(alloc, ids)?;
+    Ok(Some(Commit::new(member, generation, partition, from, partial)))
 }
 
 /// Gives a commit to the cluster.
@@ -113,22 +123,15 @@ fn replied(cluster: &mut Cluster, call: Call) -> Result<Reply, Refusal> {
             let (partition, offset) = cluster.append(key.as_bytes())?;
             Ok(Reply::Appended(partition, offset))
         }
-        Call::Join(text) => Ok(Reply::Joined(cluster.join(name(text)?)?)),
-        Call::JoinKept(text) => Ok(Reply::Joined(cluster.join_kept(name(text)?)?)),
-        Call::TakeOver(text) => Ok(Reply::TakenOver(cluster.take_over(&name(text)?)?)),
+        Call::Join(text) => cluster.join(name(text)?).map(Reply::Joined),
+        Call::JoinKept(text) => cluster.join_kept(name(text)?).map(Reply::Joined),
+        Call::TakeOver(text) => cluster.take_over(&name(text)?).map(Reply::TakenOver),
         Call::Sync(member) => Ok(Reply::Leased(cluster.sync(member)?.generation())),
-        Call::Rejoin(member, generation, claim) => {
-            cluster.rejoin(member, generation, &set_of(claim))?;
-            Ok(Reply::Rejoined)
-        }
-        Call::Leave(member) => {
-            cluster.leave(member)?;
-            Ok(Reply::Left)
-        }
-        Call::Lose(member) => {
-            cluster.lose(member)?;
-            Ok(Reply::Lost)
-        }
+        Call::Rejoin(member, generation, claim) => cluster
+            .rejoin(member, generation, &set_of(claim))
+            .and(Ok(Reply::Rejoined)),
+        Call::Leave(member) => cluster.leave(member).and(Ok(Reply::Left)),
+        Call::Lose(member) => cluster.lose(member).and(Ok(Reply::Lost)),
         Call::Commit(..) => Ok(Reply::Unanswered),
     }
 }

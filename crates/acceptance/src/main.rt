@@ -40,7 +40,7 @@ fn tell<R: RandomSource + Threads + Sync, W: Write>(
         "steps" => schedule::tell(rt, stage, Story::Steps),
         "run" => schedule::tell(rt, stage, Story::Run),
         "load" => schedule::tell(rt, stage, Story::Load),
-        "load_in" => schedule::tell_in_topics(rt, stage),
+        "load_in" => schedule::tell(rt, stage, Story::LoadIn),
         "settle" => schedule::tell(rt, stage, Story::Settle),
         "drain" => schedule::tell(rt, stage, Story::Drain),
         _ => bail!("there is no story {story:?}"),
@@ -52,5 +52,8 @@ fn main(rt: HostRuntime) -> Result<()> {
     let Some(story) = env::args(&rt)?.nth(1) else {
         bail!("a story is to be named");
     };
-    tell(&rt, &mut stage, story.as_str())
+    let told = tell(&rt, &mut stage, story.as_str());
+    // A line that could not be told came before what else ended the story.
+    stage.end()?;
+    told
 }

@@ -1,8 +1,8 @@
 //! Consumers that are made, and that send.
 
-use crate::schedule::{self, Call};
+use crate::schedule::{self, Call, Story};
 use crate::stage::Stage;
-use crate::state::{self, Terms};
+use crate::state::Terms;
 use anyhow::Result;
 use consumer::Consumer;
 use group_machine::Commit;
@@ -11,6 +11,7 @@ use std::alloc::Global;
 use std::fmt;
 use std::io::Write;
 use std::random::RandomSource;
+use std::thread::Threads;
 use world::World;
 
 /// A commit that was sent.
@@ -25,7 +26,7 @@ impl fmt::Debug for CommitSent {
 }
 
 /// A member that has read two records.
-const BEFORE: [Call; 5] = [
+pub const BEFORE: [Call; 5] = [
     Call::Append("21"),
     Call::Append("21"),
     Call::Join("A"),
@@ -34,11 +35,13 @@ const BEFORE: [Call; 5] = [
 ];
 
 /// Makes a consumer, and lets that of a world send what it has read.
-pub fn tell<R: RandomSource, W: Write>(rt: &R, stage: &mut Stage<W>) -> Result<()> {
-    let alloc = stage.alloc;
-    stage.call("Consumer::new", || made(alloc))?;
-    let mut world = World::new(rt, alloc, 4)?;
-    tell_sent(stage, &mut world)
+pub fn tell<R: RandomSource + Threads + Sync, W: Write>(
+    rt: &R,
+    stage: &mut Stage<W>,
+) -> Result<()> {
+    let mut alloc = stage.alloc;
+    stage.call("Consumer::new", &mut alloc, |alloc| made(*alloc));
+    schedule::tell(rt, stage, Story::Send)
 }
 
 /// How many partitions a new consumer has.
@@ -46,11 +49,9 @@ fn made(alloc: Global) -> Result<u32, Refusal> {
     Ok(Consumer::new(alloc, 4)?.partitions())
 }
 
-/// Lets the consumer of a world that is new send what it has read.
-fn tell_sent<W: Write>(stage: &mut Stage<W>, world: &mut World) -> Result<()> {
-    schedule::all_replied(world, &BEFORE)?;
-    stage.call("send", || sent(world))?;
-    state::tell_world(stage, world)
+/// Lets the consumer of a world send what it has read.
+pub fn tell_sent<W: Write>(stage: &mut Stage<W>, world: &mut World) {
+    stage.call("send", world, |world| sent(world));
 }
 
 /// The commit of what member 1 has read of partition 0.

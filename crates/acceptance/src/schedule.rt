@@ -5,9 +5,10 @@ ghost use Rattle.partitioner.specs.Place.{AreTopics};
 
 use crate::group::name;
 use crate::stage::Stage;
-use crate::state;
+use crate::{readers, state};
 use anyhow::Result;
-use lane_words::Refusal;
+use lane_words::{Memory, Refusal};
+use std::alloc::Global;
 use std::io::Write;
 use std::random::RandomSource;
 use std::thread::Threads;
@@ -69,6 +70,16 @@ const FIVE: [&[u8]; 5] = [b"21", b"4", b"foobar", b"abc", b"21"];
 /// Their topics, where there are two.
 const TOPICS: [u8; 5] = [0, 1, 1, 0, 1];
 
+/// One record is read.
+const READ: Event = Event::Poll {
+    member: 1,
+    partition: 0,
+    records: 1,
+};
+
+/// Events that take no memory themselves.
+const RUN: [Event; 4] = [READ, Event::Deliver(1), READ, Event::Deliver(1)];
+
 /// A member who has read of two partitions, and another who joins.
 const TWO_MEMBERS: [Call; 5] = [
     Call::Join("A"),
@@ -87,10 +98,14 @@ pub enum Story {
     Run,
     /// A load, of which what is left is loaded where it was refused.
     Load,
+    /// The same, of records of two topics.
+    LoadIn,
     /// A settling, with a commit of what the first member gives up.
     Settle,
     /// A draining to the ends of all logs.
     Drain,
+    /// A sending of what a member has read.
+    Send,
 }
 
 /// Tells a story of a world, and the world that comes of it.
@@ -99,8 +114,16 @@ pub fn tell<R: RandomSource + Threads + Sync, W: Write>(
     stage: &mut Stage<W>,
     story: Story,
 ) -> Result<()> {
-    let mut world = World::new(rt, stage.alloc, 4)?;
+    let mut world = new_world(rt, stage.alloc, story)?;
     tell_in(rt, stage, &mut world, story)
+}
+
+/// The world in which a story begins.
+fn new_world<R: RandomSource>(rt: &R, alloc: Global, story: Story) -> Result<World, Memory> {
+    match story {
+        Story::LoadIn => World::with_topics(rt, alloc, &[2, 3]),
+        _ => World::new(rt, alloc, 4),
+    }
 }
 
 /// Tells a story in a world that is new. It is not the world's owner: each `?` of an owner is
@@ -111,71 +134,54 @@ fn tell_in<R: Threads + Sync, W: Write>(
     world: &mut World,
     story: Story,
 ) -> Result<()> {
+    make_ready(rt, world, story)?;
     match story {
-        Story::Steps => tell_steps(stage, world)?,
-        Story::Run => tell_run(rt, stage, world)?,
-        Story::Load => tell_load(rt, stage, world)?,
-        Story::Settle => {
-            share(rt, world)?;
-            stage.call("settle", || settle(world))?;
-        }
-        Story::Drain => {
-            share(rt, world)?;
-            stage.call("drain", || drain(world, 500))?;
-        }
+        Story::Steps => tell_steps(stage, world),
+        Story::Run => stage.call("run", world, |world| run(world)),
+        Story::Load => tell_load(rt, stage, world),
+        Story::LoadIn => tell_load_in(rt, stage, world),
+        Story::Settle => stage.call("settle", world, |world| settle(world)),
+        Story::Drain => stage.call("drain", world, |world| drain(world, 500)),
+        Story::Send => readers::tell_sent(stage, world),
     }
-    state::tell_world(stage, world)
-}
-
-/// Tells a load of records of two topics, and the world that comes of it.
-pub fn tell_in_topics<R: RandomSource + Threads + Sync, W: Write>(
-    rt: &R,
-    stage: &mut Stage<W>,
-) -> Result<()> {
-    let mut world = World::with_topics(rt, stage.alloc, &[2, 3])?;
-    tell_load_in(rt, stage, &mut world)
-}
-
-fn tell_load_in<R: Threads + Sync, W: Write>(
-    rt: &R,
-    stage: &mut Stage<W>,
-    world: &mut World,
-) -> Result<()> {
-    let mut done = 0;
-    stage.call("load_in", || load_left_in(rt, world, &mut done))?;
-    state::tell_world(stage, world)
-}
-
-fn tell_steps<W: Write>(stage: &mut Stage<W>, world: &mut World) -> Result<()> {
-    for call in &STEPS {
-        stage.call(format_args!("{call:?}"), || replied(world, *call))?;
-    }
+    state::tell_world(stage, world);
     Ok(())
 }
 
-fn tell_run<R: Threads + Sync, W: Write>(
-    rt: &R,
-    stage: &mut Stage<W>,
-    world: &mut World,
-) -> Result<()> {
-    share(rt, world)?;
-    replied(world, Call::Send(1, 2))?;
-    let poll = Event::Poll {
-        member: 1,
-        partition: 0,
-        records: 1,
-    };
-    let events = [poll, Event::Deliver(1), poll, Event::Deliver(1)];
-    stage.call("run", || run(world, &events))
+/// Makes a new world the one in which a story's calls are made.
+fn make_ready<R: Threads + Sync>(rt: &R, world: &mut World, story: Story) -> Result<(), Refusal> {
+    match story {
+        Story::Steps | Story::Load | Story::LoadIn => Ok(()),
+        Story::Run => {
+            share(rt, world)?;
+            all_replied(world, &[Call::Send(1, 2)])
+        }
+        Story::Settle | Story::Drain => share(rt, world),
+        Story::Send => all_replied(world, &readers::BEFORE),
+    }
 }
 
-fn tell_load<R: Threads + Sync, W: Write>(
-    rt: &R,
-    stage: &mut Stage<W>,
-    world: &mut World,
-) -> Result<()> {
+/// Makes one event after the other.
+fn tell_steps<W: Write>(stage: &mut Stage<W>, world: &mut World) {
+    for call in &STEPS {
+        stage.call(
+            format_args!("{call:?}"),
+            world,
+            |world| replied(world, *call),
+        );
+    }
+}
+
+/// Loads records, those that are left again where the load was refused.
+fn tell_load<R: Threads + Sync, W: Write>(rt: &R, stage: &mut Stage<W>, world: &mut World) {
     let mut done = 0;
-    stage.call("load", || load_left(rt, world, &mut done))
+    stage.call("load", world, |world| load_left(rt, world, &mut done));
+}
+
+/// The same, of records of two topics.
+fn tell_load_in<R: Threads + Sync, W: Write>(rt: &R, stage: &mut Stage<W>, world: &mut World) {
+    let mut done = 0;
+    stage.call("load_in", world, |world| load_left_in(rt, world, &mut done));
 }
 
 /// Loads the records that are not loaded yet, and counts those that then are.
@@ -234,8 +240,8 @@ fn step(world: &mut World, event: Event) -> Reply {
     world.step(event)
 }
 
-fn run(world: &mut World, events: &[Event]) -> Result<Vec<Reply>, Refusal> {
-    Ok(world.run(events)?)
+fn run(world: &mut World) -> Result<Vec<Reply>, Refusal> {
+    Ok(world.run(&RUN)?)
 }
 
 fn load<R: Threads + Sync>(

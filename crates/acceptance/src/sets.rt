@@ -8,6 +8,7 @@ ghost use Rattle.sticky_assignor.specs.Balanced.{AreApart};
 ghost use Rattle.acceptance.specs.Rows.{of_three, three_members};
 
 use crate::stage::Stage;
+use crate::state::Elements;
 use anyhow::Result;
 use bit_planes::{Plane, PlaneRows};
 use coop_rebalance::withhold;
@@ -27,11 +28,8 @@ struct Rows(PlaneRows);
 impl fmt::Debug for Rows {
     fn fmt<W: fmt::Write>(&self, f: &mut fmt::Formatter<W>) -> fmt::Result {
         for (member, row) in self.0.iter() {
-            write!(f, "{member}:")?;
-            for q in row.iter() {
-                write!(f, " {q}")?;
-            }
-            write!(f, ";")?;
+            let elements = Elements(row);
+            write!(f, "{member}:{elements};")?;
         }
         Ok(())
     }
@@ -86,7 +84,8 @@ fn withheld(alloc: Global) -> Result<Rows, Refusal> {
 
 /// Assigns partitions, and withholds what the first member is to give up.
 pub fn tell<W: Write>(stage: &mut Stage<W>) -> Result<()> {
-    let alloc = stage.alloc;
-    stage.call("assign", || assigned(alloc))?;
-    stage.call("withhold", || withheld(alloc))
+    let mut alloc = stage.alloc;
+    stage.call("assign", &mut alloc, |alloc| assigned(*alloc));
+    stage.call("withhold", &mut alloc, |alloc| withheld(*alloc));
+    Ok(())
 }

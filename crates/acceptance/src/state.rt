@@ -1,7 +1,6 @@
 //! How the state that a story came to is told.
 
 use crate::stage::Stage;
-use anyhow::Result;
 use bit_planes::Plane;
 use consumer::Consumer;
 use group_machine::{Cluster, Commit, Move, Name};
@@ -12,7 +11,7 @@ use world::World;
 
 /// A set, told by its elements.
 #[derive(Drop)]
-struct Elements<'a>(&'a Plane);
+pub struct Elements<'a>(pub &'a Plane);
 
 impl fmt::Display for Elements<'_> {
     fn fmt<W: fmt::Write>(&self, f: &mut fmt::Formatter<W>) -> fmt::Result {
@@ -58,118 +57,114 @@ impl fmt::Display for Holdings<'_> {
 }
 
 /// Tells logs: each log's key numbers, and the keys.
-pub fn tell_logs<W: Write>(stage: &mut Stage<W>, logs: &Logs) -> Result<()> {
+pub fn tell_logs<W: Write>(stage: &mut Stage<W>, logs: &Logs) {
     for p in 0..logs.partitions() {
         let ids = logs.ids(p, 0, logs.len(p));
-        stage.tell(format_args!("log {p} {ids:?}"))?;
+        stage.tell(format_args!("log {p} {ids:?}"));
     }
-    tell_keys(stage, logs)
+    tell_keys(stage, logs);
 }
 
 /// Tells the keys of logs, in the order of their numbers.
-fn tell_keys<W: Write>(stage: &mut Stage<W>, logs: &Logs) -> Result<()> {
+fn tell_keys<W: Write>(stage: &mut Stage<W>, logs: &Logs) {
     for id in 0..logs.keys() {
         let key = str::from_utf8(logs.key(id)).unwrap_or("other than text");
-        stage.tell(format_args!("key {id} {key:?}"))?;
+        stage.tell(format_args!("key {id} {key:?}"));
     }
-    Ok(())
 }
 
 /// Tells a cluster: its group, its moves, its logs, and what is committed and counted.
-pub fn tell_cluster<W: Write>(stage: &mut Stage<W>, cluster: &Cluster) -> Result<()> {
-    tell_group(stage, cluster)?;
+pub fn tell_cluster<W: Write>(stage: &mut Stage<W>, cluster: &Cluster) {
+    tell_group(stage, cluster);
     for step in cluster.moves() {
-        tell_move(stage, *step)?;
+        tell_move(stage, *step);
     }
-    tell_logs(stage, cluster.logs())?;
-    tell_counts(stage, cluster)
+    tell_logs(stage, cluster.logs());
+    tell_counts(stage, cluster);
 }
 
 /// Tells a group: its generation, its phase, and its members.
-fn tell_group<W: Write>(stage: &mut Stage<W>, cluster: &Cluster) -> Result<()> {
+fn tell_group<W: Write>(stage: &mut Stage<W>, cluster: &Cluster) {
     let generation = cluster.generation();
     let phase = cluster.phase();
-    stage.tell(format_args!("generation {generation} {phase:?}"))?;
+    stage.tell(format_args!("generation {generation} {phase:?}"));
     for member in cluster.members() {
-        tell_member(stage, cluster, member)?;
+        tell_member(stage, cluster, member);
     }
-    Ok(())
 }
 
-fn tell_move<W: Write>(stage: &mut Stage<W>, step: Move) -> Result<()> {
+fn tell_move<W: Write>(stage: &mut Stage<W>, step: Move) {
     let generation = step.generation;
     let partition = step.partition;
     let last = step.last;
     let holder = step.holder;
-    stage.tell(format_args!("move {generation} {partition} {last:?} {holder}"))
+    stage.tell(format_args!("move {generation} {partition} {last:?} {holder}"));
 }
 
 /// Tells what is committed and counted.
-fn tell_counts<W: Write>(stage: &mut Stage<W>, cluster: &Cluster) -> Result<()> {
+fn tell_counts<W: Write>(stage: &mut Stage<W>, cluster: &Cluster) {
     let offsets = cluster.store().offsets();
     let counts = cluster.store().counts();
-    stage.tell(format_args!("committed {offsets:?} counted {counts:?}"))
+    stage.tell(format_args!("committed {offsets:?} counted {counts:?}"));
 }
 
 /// Tells a member: its name, what it is granted and assigned, and its flags.
-fn tell_member<W: Write>(stage: &mut Stage<W>, cluster: &Cluster, member: u32) -> Result<()> {
-    tell_name(stage, cluster.name(member), member)?;
-    tell_set(stage, "granted", cluster.granted(member))?;
-    tell_set(stage, "assigned", cluster.assigned(member))?;
+fn tell_member<W: Write>(stage: &mut Stage<W>, cluster: &Cluster, member: u32) {
+    tell_name(stage, cluster.name(member), member);
+    tell_set(stage, "granted", cluster.granted(member));
+    tell_set(stage, "assigned", cluster.assigned(member));
     let is_joined = cluster.is_joined(member);
     let is_synced = cluster.is_synced(member);
     let is_kept = cluster.is_kept(member);
-    stage.tell(format_args!("joined {is_joined} synced {is_synced} kept {is_kept}"))
+    stage.tell(format_args!("joined {is_joined} synced {is_synced} kept {is_kept}"));
 }
 
 /// Tells a member's name, if it has one.
-fn tell_name<W: Write>(stage: &mut Stage<W>, name: Option<&Name>, member: u32) -> Result<()> {
+fn tell_name<W: Write>(stage: &mut Stage<W>, name: Option<&Name>, member: u32) {
     let Some(name) = name else {
-        return Ok(());
+        return;
     };
     let name = str::from_utf8(name.text()).unwrap_or("other than text");
-    stage.tell(format_args!("member {member} {name}"))
+    stage.tell(format_args!("member {member} {name}"));
 }
 
 /// Tells a set under what it is, if there is one.
-fn tell_set<W: Write>(stage: &mut Stage<W>, what: &str, set: Option<&Plane>) -> Result<()> {
+fn tell_set<W: Write>(stage: &mut Stage<W>, what: &str, set: Option<&Plane>) {
     let Some(set) = set else {
-        return Ok(());
+        return;
     };
-    stage.tell(format_args!("{what}{}", Elements(set)))
+    stage.tell(format_args!("{what}{}", Elements(set)));
 }
 
 /// Tells a world: its cluster, its consumers, and its mail.
-pub fn tell_world<W: Write>(stage: &mut Stage<W>, world: &World) -> Result<()> {
-    tell_cluster(stage, world.cluster())?;
-    tell_consumers(stage, world)?;
+pub fn tell_world<W: Write>(stage: &mut Stage<W>, world: &World) {
+    tell_cluster(stage, world.cluster());
+    tell_consumers(stage, world);
     for commit in world.mail() {
-        tell_commit(stage, commit)?;
+        tell_commit(stage, commit);
     }
-    Ok(())
 }
 
 /// Tells the consumers of a world, member by member.
-fn tell_consumers<W: Write>(stage: &mut Stage<W>, world: &World) -> Result<()> {
+fn tell_consumers<W: Write>(stage: &mut Stage<W>, world: &World) {
     for member in 1..u32::MAX {
         let Some(consumer) = world.consumer(member) else {
             break;
         };
-        tell_consumer(stage, member, consumer)?;
+        tell_consumer(stage, member, consumer);
     }
-    Ok(())
 }
 
 /// Tells a consumer: whose it is, its generation, and what it holds.
-fn tell_consumer<W: Write>(stage: &mut Stage<W>, member: u32, consumer: &Consumer) -> Result<()> {
+fn tell_consumer<W: Write>(stage: &mut Stage<W>, member: u32, consumer: &Consumer) {
     let now = consumer.member();
     let generation = consumer.generation();
     let holdings = Holdings(consumer);
-    stage.tell(format_args!("consumer {member} {now:?} {generation}{holdings}"))
+    stage.tell(format_args!("consumer {member} {now:?} {generation}{holdings}"));
 }
 
 /// Tells a commit.
-fn tell_commit<W: Write>(stage: &mut Stage<W>, commit: &Commit) -> Result<()> {
+fn tell_commit<W: Write>(stage: &mut Stage<W>, commit: &Commit) {
     let terms = Terms(commit);
-    stage.tell(format_args!("commit {terms}"))
+    stage.tell(format_args!("commit {terms}"));
 }
