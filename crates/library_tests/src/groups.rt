@@ -4,18 +4,33 @@
 ghost use Rattle.std.specs.Prelude.{◌≤◌};
 
 use bit_planes::Plane;
-use group_machine::{Cluster, Commit, Name, Phase};
+use group_machine::{Cluster, Commit, Move, Name, Phase};
 use keyed_table::Partial;
 use lane_words::{MOST_MEMBERS, MOST_PARTITIONS, Memory, Refusal};
 use partition_log::{LogRead, Logs, SealedLogs};
 use std::alloc::Global;
 use std::process::Abort;
 use std::random::RandomSource;
-use std::test::Fail;
+
+// The calls, without what their contracts say.
+
+fn take_over(cluster: &mut Cluster, name: &Name) -> Result<u32, Refusal> {
+    cluster.take_over(name)
+}
+
+/// A cluster over these logs.
+fn over(alloc: Global, logs: Logs) -> Result<Cluster, Refusal> {
+    Ok(Cluster::over(alloc, logs)?)
+}
 
 /// Whether a set has these elements and no others.
 fn is(set: &Plane, list: &[u32]) -> bool {
-    set.count() as usize == list.len() && list.iter().all(|q| set.contains(*q))
+    for q in list {
+        if !set.contains(*q) {
+            return false;
+        }
+    }
+    set.count() as usize == list.len()
 }
 
 /// A move: generation, partition, last holder and holder.
@@ -43,8 +58,10 @@ enum Step<'a> {
     Lose(u32, Result<(), Refusal>),
     /// A record of this key is appended.
     Append(&'a [u8], Result<(u32, u32), Refusal>),
+    /// A record of this key is appended, wherever it goes.
+    Taken(&'a [u8]),
     /// A member commits in a generation, of a partition from an offset on, records of these keys.
-    Commit((u32, u32, u32, u32), &'a [u32], Result<u32, Refusal>),
+    Commit(Terms, &'a [u32], Result<u32, Refusal>),
     /// The generation, the phase, and whether the group is settled.
     Stands(u32, Phase, bool),
     /// A member is granted these partitions, and is to keep those.
@@ -75,16 +92,17 @@ enum Step<'a> {
     Called(u32, &'a [u8]),
     /// So many partitions, and so many records in this one.
     Records(u32, u32, u32),
+    /// The counts of the keys.
+    Counts(&'a [u64]),
+    /// Over the five records there is no member and nothing committed.
+    Nothing,
+    /// There is a counter for each of so many keys, at the most partitions.
+    Counters(u32),
 }
 
 /// Whether a step is answered as it says.
-fn is_answered(
-    rt: &impl Abort,
-    alloc: Global,
-    cluster: &mut Cluster,
-    step: &Step<'_>,
-) -> Result<bool, Memory> {
-    let is_so = match step {
+fn is_answered(rt: &impl Abort, alloc: Global, cluster: &mut Cluster, step: &Step<'_>) -> bool {
+    match step {
         Step::Join(text, answer) => cluster.join(name(rt, text)) == *answer,
         Step::JoinKept(text, answer) => cluster.join_kept(name(rt, text)) == *answer,
         Step::TakeOver(text, answer) => cluster.take_over(&name(rt, text)) == *answer,
@@ -95,13 +113,13 @@ fn is_answered(
         Step::Leave(member, answer) => cluster.leave(*member) == *answer,
         Step::Lose(member, answer) => cluster.lose(*member) == *answer,
         Step::Append(key, answer) => cluster.append(key) == *answer,
-        Step::Commit(terms, ids, answer) => commit(alloc, cluster, *terms, ids)? == *answer,
+        Step::Taken(key) => cluster.append(key).is_ok(),
+        Step::Commit(terms, ids, answer) => commit(alloc, cluster, *terms, ids) == *answer,
         Step::Fill => first_not_joined(rt, cluster).is_none(),
         Step::TakeOverAll(text) => first_not_taken(cluster, &name(rt, text)).is_none(),
         Step::Renew(member, count) => leased(cluster, *member) == Some(*count),
         step => is_told(rt, cluster, step),
-    };
-    Ok(is_so)
+    }
 }
 
 /// Whether a cluster is told as a step says, which calls nothing that changes it.
@@ -136,6 +154,16 @@ fn is_told_of_all(cluster: &Cluster, step: &Step<'_>) -> bool {
         Step::Records(partitions, p, records) => {
             cluster.partitions() == *partitions && has_records(cluster.logs(), *p, *records)
         }
+        step => is_told_of_counts(cluster, step),
+    }
+}
+
+/// The same of steps that tell of counts and of all logs.
+fn is_told_of_counts(cluster: &Cluster, step: &Step<'_>) -> bool {
+    match step {
+        Step::Counts(counts) => cluster.store().counts() == *counts,
+        Step::Nothing => has_nothing_committed(cluster),
+        Step::Counters(keys) => counts_each(cluster, *keys),
         _ => false,
     }
 }
@@ -159,38 +187,44 @@ fn first_other(
     alloc: Global,
     cluster: &mut Cluster,
     steps: &[Step<'_>],
-) -> Result<Option<usize>, Memory> {
+) -> Option<usize> {
     for (index, step) in steps.iter().enumerate() {
-        if !is_answered(rt, alloc, cluster, step)? {
-            return Ok(Some(index));
+        if !is_answered(rt, alloc, cluster, step) {
+            return Some(index);
         }
     }
-    Ok(None)
+    None
 }
 
-/// Whether all steps are answered as they say.
-fn are_answered(
+/// The first step that is not answered as it says, of this cluster. Few own a cluster: each `?`
+/// and each assertion is proved with all that lets go what is owned there.
+fn first_other_in(
     rt: &impl Abort,
     alloc: Global,
-    cluster: &mut Cluster,
+    cluster: Result<Cluster, Refusal>,
     steps: &[Step<'_>],
-) -> Result<bool, Memory> {
-    Ok(first_other(rt, alloc, cluster, steps)?.is_none())
+) -> Result<Option<usize>, Refusal> {
+    let mut cluster = cluster?;
+    Ok(first_other(rt, alloc, &mut cluster, steps))
 }
 
-/// The first step that is not answered as it says, of a cluster of this many partitions. Nobody
-/// else owns a cluster: each `?` and each assertion is proved with all that lets go what is owned
-/// there.
+/// A cluster of this many partitions.
+fn cluster_of(rt: &impl RandomSource, alloc: Global, partitions: u32) -> Result<Cluster, Refusal>
+    requires { (1 ≤ partitions) × (partitions ≤ MOST_PARTITIONS) }
+{
+    Ok(Cluster::new(rt, alloc, partitions)?)
+}
+
+/// The first step that is not answered as it says, of a cluster of this many partitions.
 fn first_other_of<R: Abort + RandomSource>(
     rt: &R,
     alloc: Global,
     partitions: u32,
     steps: &[Step<'_>],
-) -> Result<Option<usize>, Memory>
+) -> Result<Option<usize>, Refusal>
     requires { (1 ≤ partitions) × (partitions ≤ MOST_PARTITIONS) }
 {
-    let mut cluster = Cluster::new(rt, alloc, partitions)?;
-    first_other(rt, alloc, &mut cluster, steps)
+    first_other_in(rt, alloc, cluster_of(rt, alloc, partitions), steps)
 }
 
 /// The set of these of four partitions.
@@ -246,31 +280,52 @@ fn leases(cluster: &mut Cluster, member: u32, generation: u32, list: &[u32]) -> 
     }
 }
 
-/// What a cluster answers a commit of these terms.
-fn commit(
-    alloc: Global,
-    cluster: &mut Cluster,
-    terms: (u32, u32, u32, u32),
-    ids: &[u32],
-) -> Result<Result<u32, Refusal>, Memory> {
-    let partial = Partial::of(alloc, Vec::from_slice(alloc, ids)?)?;
-    let (member, generation, partition, from) = terms;
-    let sent = Commit::new(member, generation, partition, from, partial);
-    Ok(cluster.commit(&sent))
+/// The terms of a commit: member, generation, partition, and the offset from which on it is.
+type Terms = (u32, u32, u32, u32);
+
+/// The records of these keys, as a commit has them.
+fn partial_of(alloc: Global, ids: &[u32]) -> Result<Partial, Refusal> {
+    let ids = Vec::from_slice(alloc, ids)?;
+    Ok(Partial::of(alloc, ids)?)
 }
 
-/// The moves from the last on: generation, partition, last holder and holder.
-fn moves_end_with(cluster: &Cluster, rows: &[Moved]) -> bool {
-    let last = cluster
-        .moves()
-        .iter()
-        .rev()
-        .map(|m| (m.generation, m.partition, m.last, m.holder));
-    last.zip(rows).all(|(moved, row)| moved == *row)
+/// A commit of these terms.
+fn commit_of(alloc: Global, terms: Terms, ids: &[u32]) -> Result<Commit, Refusal> {
+    let (member, generation, partition, from) = terms;
+    let partial = partial_of(alloc, ids)?;
+    Ok(Commit::new(member, generation, partition, from, partial))
 }
+
+/// What a cluster answers a commit of these terms.
+fn commit(alloc: Global, cluster: &mut Cluster, terms: Terms, ids: &[u32]) -> Result<u32, Refusal> {
+    let sent = commit_of(alloc, terms, ids)?;
+    cluster.commit(&sent)
+}
+
+/// Whether a move is this one.
+fn is_moved(moved: &Move, row: &Moved) -> bool {
+    let (generation, partition, last, holder) = *row;
+    moved.generation == generation
+        && moved.partition == partition
+        && moved.last == last
+        && moved.holder == holder
+}
+
+/// Whether these are the last moves, from the last on.
+fn moves_end_with(cluster: &Cluster, rows: &[Moved]) -> bool {
+    for (moved, row) in cluster.moves().iter().rev().zip(rows) {
+        if !is_moved(moved, row) {
+            return false;
+        }
+    }
+    true
+}
+
+// Who names a table is proved with each row and each list in it, at each of its statements: so a
+// function that does nothing else does.
 
 /// A second member joins, and is granted what the first one gives up.
-const MOVES_ONCE_REVOKED: [Step; 19] = [
+const MOVES_ONCE_REVOKED: &[Step<'static>] = &[
     Step::Join(b"A", Ok(1)),
     Step::Join(b"B", Ok(2)),
     Step::Stands(1, Phase::Preparing, false),
@@ -292,9 +347,14 @@ const MOVES_ONCE_REVOKED: [Step; 19] = [
     Step::Owned(3, Some(2)),
 ];
 
+/// The steps of `MOVES_ONCE_REVOKED`.
+fn moves_once_revoked() -> &'static [Step<'static>] {
+    MOVES_ONCE_REVOKED
+}
+
 #[test]
 fn a_partition_moves_once_it_is_revoked(rt: HostRuntime) {
-    let other = first_other_of(&rt, rt.alloc(), 4, &MOVES_ONCE_REVOKED);
+    let other = first_other_of(&rt, rt.alloc(), 4, moves_once_revoked());
     assert_eq!(rt; other, Ok(None));
 }
 
@@ -304,7 +364,7 @@ const NONE_YET: Result<u32, Refusal> = Err(Refusal::OffsetMismatch { committed: 
 const TAKEN: Result<u32, Refusal> = Err(Refusal::OffsetMismatch { committed: 2 });
 
 /// Commits of members that are unknown, late or no owners, and those that fit.
-const FENCED_COMMITS: [Step; 18] = [
+const FENCED_COMMITS: &[Step<'static>] = &[
     Step::Append(b"21", Ok((0, 0))),
     Step::Append(b"21", Ok((0, 1))),
     Step::Join(b"A", Ok(1)),
@@ -325,14 +385,19 @@ const FENCED_COMMITS: [Step; 18] = [
     Step::Records(4, 0, 2),
 ];
 
+/// The steps of `FENCED_COMMITS`.
+fn fenced_commits() -> &'static [Step<'static>] {
+    FENCED_COMMITS
+}
+
 #[test]
 fn commits_are_fenced_and_taken_once(rt: HostRuntime) {
-    let other = first_other_of(&rt, rt.alloc(), 4, &FENCED_COMMITS);
+    let other = first_other_of(&rt, rt.alloc(), 4, fenced_commits());
     assert_eq!(rt; other, Ok(None));
 }
 
 /// A member is lost, and the other one commits.
-const ONE_IS_LOST: [Step; 13] = [
+const ONE_IS_LOST: &[Step<'static>] = &[
     Step::Append(b"21", Ok((0, 0))),
     Step::Join(b"A", Ok(1)),
     Step::Join(b"B", Ok(2)),
@@ -349,9 +414,14 @@ const ONE_IS_LOST: [Step; 13] = [
     Step::Called(1, b"A"),
 ];
 
+/// The steps of `ONE_IS_LOST`.
+fn one_is_lost() -> &'static [Step<'static>] {
+    ONE_IS_LOST
+}
+
 #[test]
 fn a_lost_member_is_fenced_off(rt: HostRuntime) {
-    let other = first_other_of(&rt, rt.alloc(), 4, &ONE_IS_LOST);
+    let other = first_other_of(&rt, rt.alloc(), 4, one_is_lost());
     assert_eq!(rt; other, Ok(None));
 }
 
@@ -365,31 +435,43 @@ const NAMES: [(&[u8], bool); 6] = [
     (b"123456789012345678901234567890123", false),
 ];
 
+/// The first of those texts that is told otherwise.
+fn first_other_name() -> Option<&'static [u8]> {
+    for (text, is_name) in &NAMES {
+        if Name::new(text).is_some() != *is_name {
+            return Some(*text);
+        }
+    }
+    None
+}
+
 #[test]
 fn names_are_of_letters_digits_and_two_marks(rt: HostRuntime) {
-    for (text, is_name) in &NAMES {
-        assert_eq!(rt; Name::new(text).is_some(), *is_name, "{text:?}");
-    }
+    assert_eq!(rt; first_other_name(), None);
 }
 
 /// The first number that is not given to one who joins under its three digits, the first one to
 /// keep its place.
 fn first_not_joined(rt: &impl Abort, cluster: &mut Cluster) -> Option<u32> {
     for member in 1..MOST_MEMBERS as u32 + 1 {
-        let joined = if member == 1 {
-            cluster.join_kept(numbered(rt, member))
-        } else {
-            cluster.join(numbered(rt, member))
-        };
-        if joined != Ok(member) {
+        if join_nth(cluster, member, numbered(rt, member)) != Ok(member) {
             return Some(member);
         }
     }
     None
 }
 
+/// One joins under this name, the first one to keep its place.
+fn join_nth(cluster: &mut Cluster, member: u32, name: Name) -> Result<u32, Refusal> {
+    if member == 1 {
+        cluster.join_kept(name)
+    } else {
+        cluster.join(name)
+    }
+}
+
 /// What a full group answers, whose first member alone keeps its place.
-const WHERE_FULL: [Step; 9] = [
+const WHERE_FULL: &[Step<'static>] = &[
     Step::Fill,
     Step::Join(b"late", Err(Refusal::TooManyMembers)),
     Step::Join(b"007", Err(Refusal::NameUsed)),
@@ -401,19 +483,29 @@ const WHERE_FULL: [Step; 9] = [
     Step::Named(b"001", Some(1)),
 ];
 
+/// The steps of `WHERE_FULL`.
+fn where_full() -> &'static [Step<'static>] {
+    WHERE_FULL
+}
+
 #[test]
 fn no_more_members_than_there_may_be_join(rt: HostRuntime) {
-    let other = first_other_of(&rt, rt.alloc(), MOST_PARTITIONS, &WHERE_FULL);
+    let other = first_other_of(&rt, rt.alloc(), MOST_PARTITIONS, where_full());
     assert_eq!(rt; other, Ok(None));
 }
 
 /// The first number that does not take over the place that A keeps, of those from 2 on.
 fn first_not_taken(cluster: &mut Cluster, name: &Name) -> Option<u32> {
-    (2..MOST_MEMBERS as u32 + 1).find(|n| cluster.take_over(name) != Ok(*n))
+    for number in 2..MOST_MEMBERS as u32 + 1 {
+        if take_over(cluster, name) != Ok(number) {
+            return Some(number);
+        }
+    }
+    None
 }
 
 /// The place of one who joins and keeps it has had all numbers.
-const NUMBERS_ARE_OVER: [Step; 8] = [
+const NUMBERS_ARE_OVER: &[Step<'static>] = &[
     Step::JoinKept(b"A", Ok(1)),
     Step::TakeOverAll(b"A"),
     Step::TakeOver(b"A", Err(Refusal::TooManyMembers)),
@@ -424,9 +516,14 @@ const NUMBERS_ARE_OVER: [Step; 8] = [
     Step::Lease(512, 1, &[0, 1, 2, 3]),
 ];
 
+/// The steps of `NUMBERS_ARE_OVER`.
+fn numbers_are_over() -> &'static [Step<'static>] {
+    NUMBERS_ARE_OVER
+}
+
 #[test]
 fn a_place_is_taken_over_as_often_as_there_are_numbers(rt: HostRuntime) {
-    let other = first_other_of(&rt, rt.alloc(), 4, &NUMBERS_ARE_OVER);
+    let other = first_other_of(&rt, rt.alloc(), 4, numbers_are_over());
     assert_eq!(rt; other, Ok(None));
 }
 
@@ -436,7 +533,7 @@ fn leased(cluster: &mut Cluster, member: u32) -> Option<u32> {
 }
 
 /// A group at its limits goes on to its second generation, and the last member leaves.
-const AT_ITS_LIMITS: [Step; 11] = [
+const AT_ITS_LIMITS: &[Step<'static>] = &[
     Step::Fill,
     Step::Renew(1, MOST_PARTITIONS),
     Step::Renew(1, 8),
@@ -450,9 +547,14 @@ const AT_ITS_LIMITS: [Step; 11] = [
     Step::Is(512, false, false, false),
 ];
 
+/// The steps of `AT_ITS_LIMITS`.
+fn at_its_limits() -> &'static [Step<'static>] {
+    AT_ITS_LIMITS
+}
+
 #[test]
 fn a_cluster_at_its_limits(rt: HostRuntime) {
-    let other = first_other_of(&rt, rt.alloc(), MOST_PARTITIONS, &AT_ITS_LIMITS);
+    let other = first_other_of(&rt, rt.alloc(), MOST_PARTITIONS, at_its_limits());
     assert_eq!(rt; other, Ok(None));
 }
 
@@ -464,16 +566,24 @@ fn append_each(logs: &mut Logs, keys: &[&[u8]]) -> Result<(), Refusal> {
     Ok(())
 }
 
+/// The five records that most rows are over.
+pub const FIVE: [&[u8]; 5] = [b"21", b"4", b"foobar", b"abc", b"21"];
+
 /// Logs of five records of four keys, of which each has a place of its own for four partitions.
-fn five_records(rt: &impl RandomSource, alloc: Global) -> Result<Logs, Refusal> {
+pub fn five_records(rt: &impl RandomSource, alloc: Global) -> Result<Logs, Refusal> {
     let mut logs = Logs::new(rt, alloc, 4)?;
-    append_each(&mut logs, &[b"21", b"4", b"foobar", b"abc", b"21"])?;
-    Ok(logs)
+    let done = append_each(&mut logs, &FIVE);
+    done.and(Ok(logs))
+}
+
+/// The same, sealed.
+pub fn five_sealed(rt: &impl RandomSource, alloc: Global) -> Result<SealedLogs, Refusal> {
+    Ok(five_records(rt, alloc)?.seal())
 }
 
 /// A cluster over them.
 fn over_five(rt: &impl RandomSource, alloc: Global) -> Result<Cluster, Refusal> {
-    Ok(Cluster::over(alloc, five_records(rt, alloc)?)?)
+    over(alloc, five_records(rt, alloc)?)
 }
 
 /// Whether a cluster over the five records has no member and nothing committed.
@@ -487,33 +597,30 @@ fn has_nothing_committed(cluster: &Cluster) -> bool {
 }
 
 #[test]
-fn a_cluster_over_logs_has_nothing_committed(rt: HostRuntime) -> Result<(), Fail> {
-    let cluster = over_five(&rt, rt.alloc())?;
-    assert!(rt; has_nothing_committed(&cluster));
-    Ok(())
+fn a_cluster_over_logs_has_nothing_committed(rt: HostRuntime) {
+    let cluster = over_five(&rt, rt.alloc());
+    let other = first_other_in(&rt, rt.alloc(), cluster, &[Step::Nothing]);
+    assert_eq!(rt; other, Ok(None));
 }
 
-/// One member commits three of the five records.
-const THREE_OF_FIVE: [Step; 5] = [
+/// One member commits three of the five records, which are counted then.
+const THREE_OF_FIVE: &[Step<'static>] = &[
     Step::Join(b"A", Ok(1)),
     Step::Lease(1, 1, &[0, 1, 2, 3]),
     Step::Commit((1, 1, 0, 0), &[0, 0], Ok(2)),
     Step::Commit((1, 1, 2, 0), &[2], Ok(1)),
     Step::Offsets(&[2, 0, 1, 0]),
+    Step::Counts(&[2, 0, 1, 0]),
 ];
 
+/// The steps of `THREE_OF_FIVE`.
+fn three_of_five() -> &'static [Step<'static>] {
+    THREE_OF_FIVE
+}
+
 /// Whether a cluster over the five records counts three of them, and has the logs that it had.
-fn counts_three(
-    rt: &impl Abort,
-    alloc: Global,
-    cluster: &mut Cluster,
-    logs: &SealedLogs,
-) -> Result<bool, Memory> {
-    Ok(
-        are_answered(rt, alloc, cluster, &THREE_OF_FIVE)?
-            && cluster.store().counts() == [2, 0, 1, 0].as_slice()
-            && logs.same(cluster.logs()),
-    )
+fn counts_three(rt: &impl Abort, alloc: Global, cluster: &mut Cluster, logs: &SealedLogs) -> bool {
+    first_other(rt, alloc, cluster, three_of_five()).is_none() && logs.same(cluster.logs())
 }
 
 /// Whether a new cluster over the five records does.
@@ -523,12 +630,12 @@ fn new_counts_three<R: Abort + RandomSource>(
     logs: &SealedLogs,
 ) -> Result<bool, Refusal> {
     let mut cluster = over_five(rt, alloc)?;
-    Ok(counts_three(rt, alloc, &mut cluster, logs)?)
+    Ok(counts_three(rt, alloc, &mut cluster, logs))
 }
 
 /// Whether one does, beside logs of the same records.
 fn keeps_five<R: Abort + RandomSource>(rt: &R, alloc: Global) -> Result<bool, Refusal> {
-    let logs = five_records(rt, alloc)?.seal();
+    let logs = five_sealed(rt, alloc)?;
     new_counts_three(rt, alloc, &logs)
 }
 
@@ -548,8 +655,8 @@ fn append_many(logs: &mut Logs, records: u32) -> Result<(), Refusal> {
 /// Logs of this many records of four bytes, each of another key.
 fn many_records(rt: &impl RandomSource, alloc: Global, records: u32) -> Result<Logs, Refusal> {
     let mut logs = Logs::new(rt, alloc, MOST_PARTITIONS)?;
-    append_many(&mut logs, records)?;
-    Ok(logs)
+    let done = append_many(&mut logs, records);
+    done.and(Ok(logs))
 }
 
 /// Whether a cluster at the most partitions has a counter for each of so many keys.
@@ -560,24 +667,27 @@ fn counts_each(cluster: &Cluster, keys: u32) -> bool {
         && cluster.store().counts().len() == keys as usize
 }
 
-/// Whether it has one for each of 100,000 keys, and for a new key one more.
-fn counts_one_more(cluster: &mut Cluster) -> bool {
-    counts_each(cluster, 100_000) && cluster.append(b"new").is_ok() && counts_each(cluster, 100_001)
+/// A cluster over 100,000 records of other keys.
+fn over_many(rt: &impl RandomSource, alloc: Global) -> Result<Cluster, Refusal> {
+    over(alloc, many_records(rt, alloc, 100_000)?)
 }
 
-/// Whether a cluster over 100,000 records of other keys does.
-fn over_many_counts(rt: &impl RandomSource, alloc: Global) -> Result<bool, Refusal> {
-    let mut cluster = Cluster::over(alloc, many_records(rt, alloc, 100_000)?)?;
-    Ok(counts_one_more(&mut cluster))
-}
+/// It has a counter for each key, and for a new key one more.
+const ONE_MORE: &[Step<'static>] = &[
+    Step::Counters(100_000),
+    Step::Taken(b"new"),
+    Step::Counters(100_001),
+];
 
 #[test]
 fn a_cluster_over_many_keys_counts_each(rt: HostRuntime) {
-    assert_eq!(rt; over_many_counts(&rt, rt.alloc()), Ok(true));
+    let cluster = over_many(&rt, rt.alloc());
+    let other = first_other_in(&rt, rt.alloc(), cluster, ONE_MORE);
+    assert_eq!(rt; other, Ok(None));
 }
 
 /// Names before and after their members join and leave.
-const NAMED: [Step; 8] = [
+const NAMED: &[Step<'static>] = &[
     Step::Named(b"A", None),
     Step::Join(b"A", Ok(1)),
     Step::Join(b"B", Ok(2)),
@@ -588,13 +698,18 @@ const NAMED: [Step; 8] = [
     Step::Named(b"AB", None),
 ];
 
+/// The steps of `NAMED`.
+fn named() -> &'static [Step<'static>] {
+    NAMED
+}
+
 #[test]
 fn a_name_tells_its_number(rt: HostRuntime) {
-    assert_eq!(rt; first_other_of(&rt, rt.alloc(), 4, &NAMED), Ok(None));
+    assert_eq!(rt; first_other_of(&rt, rt.alloc(), 4, named()), Ok(None));
 }
 
 /// A place that is taken over in each phase of a rebalance.
-const RETURNS: [Step; 38] = [
+const RETURNS: &[Step<'static>] = &[
     Step::JoinKept(b"A", Ok(1)),
     Step::Keeps(1, true),
     Step::Join(b"B", Ok(2)),
@@ -636,7 +751,12 @@ const RETURNS: [Step; 38] = [
     Step::LastMoves(&[(3, 3, Some(4), 2), (3, 2, Some(4), 2)]),
 ];
 
+/// The steps of `RETURNS`.
+fn returns() -> &'static [Step<'static>] {
+    RETURNS
+}
+
 #[test]
 fn a_kept_place_is_taken_over(rt: HostRuntime) {
-    assert_eq!(rt; first_other_of(&rt, rt.alloc(), 4, &RETURNS), Ok(None));
+    assert_eq!(rt; first_other_of(&rt, rt.alloc(), 4, returns()), Ok(None));
 }

@@ -5,6 +5,8 @@
 ghost use Rattle.std.specs.Prelude.{◌≡◌, ◌++◌, IfOk, replicate};
 
 #[cfg(test)]
+mod acts;
+#[cfg(test)]
 mod groups;
 #[cfg(test)]
 mod plans;

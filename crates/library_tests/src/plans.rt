@@ -2,10 +2,9 @@
 
 use crate::longer;
 use group_machine::Name;
-use lane_words::{MOST_MEMBERS, Memory, Refusal};
+use lane_words::{Memory, Refusal};
 use script::{Change, Plan, read_plan};
-use std::alloc::Global;
-use std::test::Fail;
+use std::alloc::{AllocError, Global};
 
 /// A change: its command and its name.
 type Said<'a> = (&'a [u8], &'a [u8]);
@@ -27,7 +26,7 @@ type Row<'a> = (&'a [u8], Read<'a>);
 
 // The calls, without what their contracts say.
 
-fn plan_of(alloc: Global, script: &[u8]) -> Result<Plan, Refusal> {
+pub fn plan_of(alloc: Global, script: &[u8]) -> Result<Plan, Refusal> {
     read_plan(alloc, script)
 }
 
@@ -39,24 +38,34 @@ fn members(plan: &Plan) -> u32 {
     plan.members()
 }
 
-fn copied(alloc: Global, plan: &Plan) -> Result<Plan, Memory> {
-    plan.copy(alloc)
+fn copied(alloc: Global, plan: &Plan) -> Result<Plan, Refusal> {
+    Ok(plan.copy(alloc)?)
 }
 
 fn is_same(plan: &Plan, other: &Plan) -> bool {
     plan.same(other)
 }
 
+/// The command of a change, and its name.
+fn parts(change: &Change) -> (&[u8], &[u8]) {
+    match change {
+        Change::Join(name) => (b"join", name.text()),
+        Change::Leave(name) => (b"leave", name.text()),
+        Change::Lose(name) => (b"lose", name.text()),
+    }
+}
+
+/// Whether a change is this one.
+fn is_change(change: &Change, said: &Said<'_>) -> bool {
+    let (command, name) = parts(change);
+    command == said.0 && name == said.1
+}
+
 /// Whether a plan has these changes, in order.
 fn has_changes(plan: &Plan, said: &[Said<'_>]) -> bool {
     let lines = changes(plan);
-    for (change, (command, name)) in lines.iter().zip(said) {
-        let (has_command, has_name) = match change {
-            Change::Join(name) => (b"join".as_slice(), name.text()),
-            Change::Leave(name) => (b"leave".as_slice(), name.text()),
-            Change::Lose(name) => (b"lose".as_slice(), name.text()),
-        };
-        if has_command != *command || has_name != *name {
+    for (change, said) in lines.iter().zip(said) {
+        if !is_change(change, said) {
             return false;
         }
     }
@@ -65,21 +74,25 @@ fn has_changes(plan: &Plan, said: &[Said<'_>]) -> bool {
 
 /// Whether a script is read so.
 fn is_read(alloc: Global, script: &[u8], read: &Read<'_>) -> bool {
-    match (plan_of(alloc, script), read) {
-        (Ok(plan), Read::Plan(said, count)) => {
-            has_changes(&plan, said) && members(&plan) == *count
-        }
-        (Err(why), Read::Refused(code, number)) => is_refusal(&why, *code, *number),
-        _ => false,
+    match plan_of(alloc, script) {
+        Ok(plan) => is_plan_read(&plan, read),
+        Err(why) => is_refusal(why, read),
     }
 }
 
-/// Whether a refusal has this number, at the line of this number.
-fn is_refusal(why: &Refusal, code: u8, number: u64) -> bool {
-    match why {
-        Refusal::BadLine { line } | Refusal::NobodyLeft { line } => {
-            why.code() == code && *line == number
-        }
+/// Whether a plan is what a script is read as.
+fn is_plan_read(plan: &Plan, read: &Read<'_>) -> bool {
+    match read {
+        Read::Plan(said, count) => members(plan) == *count && has_changes(plan, said),
+        Read::Refused(..) => false,
+    }
+}
+
+/// Whether a refusal is what a script is read as.
+fn is_refusal(why: Refusal, read: &Read<'_>) -> bool {
+    match (why, read) {
+        (Refusal::BadLine { line } | Refusal::NobodyLeft { line }, Read::Refused(code, number)) =>
+            why.code() == *code && line == *number,
         _ => false,
     }
 }
@@ -94,27 +107,36 @@ fn first_other(alloc: Global, rows: &[Row<'_>]) -> Option<usize> {
     None
 }
 
-/// Adds a line for each number from 0 on: a command and a name with the number.
-fn add_lines(out: &mut Vec<u8>, command: &[u8], count: u32) -> Result<(), Fail> {
+/// Adds a line: a command and a name with a number.
+fn add_line(out: &mut Vec<u8>, command: &[u8], number: &[u8]) -> Result<(), AllocError> {
+    out.extend_from_slice(command)?;
+    out.extend_from_slice(number)?;
+    out.extend_from_slice(b"\n")
+}
+
+/// Adds a line for each number from 0 on.
+fn add_lines(out: &mut Vec<u8>, command: &[u8], count: u32) -> Result<(), AllocError> {
     for i in 0..count {
         let number = i.to_string(*out.allocator())?;
-        out.extend_from_slice(command)?;
-        out.extend_from_slice(number.as_bytes())?;
-        out.push(b'\n')?;
+        add_line(out, command, number.as_bytes())?;
     }
     Ok(())
+}
+
+/// Whether the change of this index is that of a plan in which so many join, and then leave.
+fn is_in_order(change: &Change, index: usize, joins: usize) -> bool {
+    match change {
+        Change::Join(name) => index < joins && is_numbered(name, index),
+        Change::Leave(name) => joins <= index && is_numbered(name, index - joins),
+        Change::Lose(_) => false,
+    }
 }
 
 /// The names of so many members that join, and then of so many that leave, each in its order.
 fn are_all(plan: &Plan, joins: usize, leaves: usize) -> bool {
     let lines = changes(plan);
     for (index, change) in lines.iter().enumerate() {
-        let is_so = match change {
-            Change::Join(name) => index < joins && is_numbered(name, index),
-            Change::Leave(name) => joins <= index && is_numbered(name, index - joins),
-            Change::Lose(_) => false,
-        };
-        if !is_so {
+        if !is_in_order(change, index, joins) {
             return false;
         }
     }
@@ -232,34 +254,39 @@ fn a_line_has_256_bytes_at_most(rt: HostRuntime) {
 }
 
 /// Adds 512 joins, so many leaves and a last line.
-fn add_all(script: &mut Vec<u8>, leaves: u32, last: &[u8]) -> Result<(), Fail> {
+fn add_all(script: &mut Vec<u8>, leaves: u32, last: &[u8]) -> Result<(), AllocError> {
     add_lines(script, b"join m", 512)?;
     add_lines(script, b"leave m", leaves)?;
-    Ok(script.extend_from_slice(last)?)
+    script.extend_from_slice(last)
 }
 
 /// A script of them.
-fn script_of(alloc: Global, leaves: u32, last: &[u8]) -> Result<Vec<u8>, Fail> {
+fn script_of(alloc: Global, leaves: u32, last: &[u8]) -> Result<Vec<u8>, AllocError> {
     let mut script = Vec::new(alloc);
-    add_all(&mut script, leaves, last)?;
-    Ok(script)
+    let done = add_all(&mut script, leaves, last);
+    done.and(Ok(script))
 }
 
 /// Whether a plan is like its copy.
-fn is_copied(alloc: Global, plan: &Plan) -> Result<bool, Memory> {
+fn is_copied(alloc: Global, plan: &Plan) -> Result<bool, Refusal> {
     Ok(is_same(plan, &copied(alloc, plan)?))
 }
 
-/// Whether a script is a plan of 512 joins and so many leaves, and the plan like its copy.
+/// Whether a plan is of 512 joins and so many leaves, and like its copy.
+fn has_all(alloc: Global, plan: &Plan, leaves: usize) -> Result<bool, Refusal> {
+    Ok(members(plan) == 512 && are_all(plan, 512, leaves) && is_copied(alloc, plan)?)
+}
+
+/// Whether a script is such a plan.
 fn is_plan(alloc: Global, script: &[u8], leaves: usize) -> Result<bool, Refusal> {
     let plan = plan_of(alloc, script)?;
-    Ok(members(&plan) == 512 && are_all(&plan, 512, leaves) && is_copied(alloc, &plan)?)
+    has_all(alloc, &plan, leaves)
 }
 
 /// Whether so many leaves can follow 512 joins.
-fn may_leave(alloc: Global, leaves: u32) -> Result<bool, Fail> {
+fn may_leave(alloc: Global, leaves: u32) -> Result<bool, Refusal> {
     let script = script_of(alloc, leaves, b"")?;
-    Ok(is_plan(alloc, &script, leaves as usize)?)
+    is_plan(alloc, &script, leaves as usize)
 }
 
 /// Whether this line is refused after them, in the way that is told.
@@ -268,27 +295,25 @@ fn is_refused_after(
     leaves: u32,
     last: &[u8],
     told: &Read<'_>,
-) -> Result<bool, Fail> {
+) -> Result<bool, Refusal> {
     let script = script_of(alloc, leaves, last)?;
     Ok(is_read(alloc, &script, told))
 }
 
 #[test]
-fn at_most_512_join(rt: HostRuntime) -> Result<(), Fail> {
-    let join = may_leave(rt.alloc(), 0)?;
+fn at_most_512_join(rt: HostRuntime) {
+    let join = may_leave(rt.alloc(), 0);
     let told = Read::Refused(22, 513);
-    let is_refused = is_refused_after(rt.alloc(), 0, b"join m512\n", &told)?;
-    assert!(rt; join && is_refused);
-    Ok(())
+    let is_refused = is_refused_after(rt.alloc(), 0, b"join m512\n", &told);
+    assert_eq!(rt; (join, is_refused), (Ok(true), Ok(true)));
 }
 
 #[test]
-fn all_but_one_of_512_leave(rt: HostRuntime) -> Result<(), Fail> {
-    let leave = may_leave(rt.alloc(), 511)?;
+fn all_but_one_of_512_leave(rt: HostRuntime) {
+    let leave = may_leave(rt.alloc(), 511);
     let told = Read::Refused(27, 1024);
-    let is_refused = is_refused_after(rt.alloc(), 511, b"lose m511\n", &told)?;
-    assert!(rt; leave && is_refused);
-    Ok(())
+    let is_refused = is_refused_after(rt.alloc(), 511, b"lose m511\n", &told);
+    assert_eq!(rt; (leave, is_refused), (Ok(true), Ok(true)));
 }
 
 const UNLIKE: &[&[u8]] = &[
@@ -300,10 +325,15 @@ const UNLIKE: &[&[u8]] = &[
     b"join A\njoin B\nleave A\njoin C",
 ];
 
-/// Whether a plan is told from that of a script, from both sides.
+/// Whether two plans are told from one another, from both sides.
+fn are_unlike(plan: &Plan, other: &Plan) -> bool {
+    !is_same(plan, other) && !is_same(other, plan)
+}
+
+/// Whether a plan is told from that of a script.
 fn is_told_from(alloc: Global, plan: &Plan, script: &[u8]) -> Result<bool, Refusal> {
     let other = plan_of(alloc, script)?;
-    Ok(!is_same(plan, &other) && !is_same(&other, plan))
+    Ok(are_unlike(plan, &other))
 }
 
 /// The first of those scripts that a plan is not told from.
@@ -316,10 +346,15 @@ fn first_alike(alloc: Global, plan: &Plan) -> Result<Option<usize>, Refusal> {
     Ok(None)
 }
 
-/// Whether a plan is like its copy, from both sides, which has these changes.
-fn is_like_copy(alloc: Global, plan: &Plan, said: &[Said<'_>]) -> Result<bool, Memory> {
+/// Whether a plan is like another one, from both sides, which has these changes.
+fn is_like(plan: &Plan, other: &Plan, said: &[Said<'_>]) -> bool {
+    is_same(plan, other) && is_same(other, plan) && has_changes(other, said)
+}
+
+/// Whether a plan is like its copy, which has these changes.
+fn is_like_copy(alloc: Global, plan: &Plan, said: &[Said<'_>]) -> Result<bool, Refusal> {
     let copy = copied(alloc, plan)?;
-    Ok(is_same(plan, &copy) && is_same(&copy, plan) && has_changes(&copy, said))
+    Ok(is_like(plan, &copy, said))
 }
 
 /// Whether a plan is like itself and its copy, and like none of those scripts.
@@ -331,12 +366,17 @@ fn is_compared(alloc: Global, plan: &Plan, said: &[Said<'_>]) -> Result<bool, Re
     )
 }
 
+/// Whether the plan of a script is, which has these changes.
+fn is_plan_compared(alloc: Global, script: &[u8], said: &[Said<'_>]) -> Result<bool, Refusal> {
+    let plan = plan_of(alloc, script)?;
+    is_compared(alloc, &plan, said)
+}
+
 /// The changes of the plan that those are compared with.
 const COMPARED: [Said<'static>; 3] = [(b"join", b"A"), (b"join", b"B"), (b"leave", b"A")];
 
 #[test]
-fn plans_are_compared(rt: HostRuntime) -> Result<(), Fail> {
-    let plan = plan_of(rt.alloc(), b"join A\njoin B\nleave A")?;
-    assert_eq!(rt; is_compared(rt.alloc(), &plan, &COMPARED), Ok(true));
-    Ok(())
+fn plans_are_compared(rt: HostRuntime) {
+    let is_so = is_plan_compared(rt.alloc(), b"join A\njoin B\nleave A", &COMPARED);
+    assert_eq!(rt; is_so, Ok(true));
 }

@@ -2,38 +2,35 @@
 
 ghost use Rattle.std.specs.Prelude.{◌≤◌};
 
+use crate::groups::five_sealed;
+use crate::plans::plan_of;
 use group_machine::{Cluster, Move};
-use lane_words::{MOST_MEMBERS, Memory, Refusal};
+use lane_words::{MOST_MEMBERS, Refusal};
 use partition_log::{Logs, SealedLogs};
-use script::read_plan;
-use std::alloc::Global;
+use script::Plan;
+use std::alloc::{AllocError, Global};
 use std::random::RandomSource;
 use std::sync::Wait;
 use std::sync::atomic::{AtomicBool, AtomicU32, Ordering};
-use std::test::Fail;
 use std::thread::Threads;
 use workers::GateAnswer::{Go, NotNow, Stop};
 use workers::{Gate, GateAnswer, Outcome, Planned, run_cluster};
 
-/// The five records that most rows are over.
-const FIVE: [&[u8]; 5] = [b"21", b"4", b"foobar", b"abc", b"21"];
-
 // Who owns logs, a plan or an outcome makes few calls: each `?` and each assertion is proved with
 // all that lets go what is owned there.
 
-/// Logs of four partitions with the five records.
-fn five_logs(rt: &impl RandomSource, alloc: Global) -> Result<SealedLogs, Refusal> {
-    let mut logs = Logs::new(rt, alloc, 4)?;
-    append_five(&mut logs)?;
-    Ok(logs.seal())
-}
-
-/// Appends the five records.
-fn append_five(logs: &mut Logs) -> Result<(), Refusal> {
-    for key in &FIVE {
-        logs.append(key)?;
-    }
-    Ok(())
+/// A run of a plan, without what the contract of the call says.
+fn run<R: Threads + Wait + RandomSource + Sync, G: Gate + Sync>(
+    rt: &R,
+    alloc: Global,
+    logs: &SealedLogs,
+    plan: &Plan,
+    batch: u32,
+    gate: &G,
+) -> Result<Outcome, Refusal>
+    requires { 1 ≤ batch }
+{
+    run_cluster(rt, alloc, logs, plan, batch, gate)
 }
 
 /// Always lets commit.
@@ -98,9 +95,12 @@ fn moved(generation: u32, partition: u32, last: u32, holder: u32) -> Move {
 
 /// Whether these own the partitions, in order.
 fn owners_are(cluster: &Cluster, owners: &[u32]) -> bool {
-    (0..)
-        .zip(owners)
-        .all(|(p, owner)| cluster.owner(p) == Some(*owner))
+    for (p, owner) in (0..).zip(owners) {
+        if cluster.owner(p) != Some(*owner) {
+            return false;
+        }
+    }
+    true
 }
 
 /// Whether all five records are committed and counted, in a group of this generation with these
@@ -111,21 +111,6 @@ fn ends_with(outcome: &Outcome, generation: u32, owners: &[u32]) -> bool {
         && owners_are(cluster, owners)
         && cluster.store().offsets() == [2, 1, 1, 1].as_slice()
         && cluster.store().counts() == [2, 1, 1, 1].as_slice()
-}
-
-/// A run of the plan that a script says, over the five records.
-fn ran<R: Threads + Wait + RandomSource + Sync, G: Gate + Sync>(
-    rt: &R,
-    alloc: Global,
-    script: &[u8],
-    batch: u32,
-    gate: &G,
-) -> Result<Outcome, Refusal>
-    requires { 1 ≤ batch }
-{
-    let plan = read_plan(alloc, script)?;
-    let logs = five_logs(rt, alloc)?;
-    run_cluster(rt, alloc, &logs, &plan, batch, gate)
 }
 
 /// The moves of a run by which two of four partitions go from the first member to the second.
@@ -149,25 +134,6 @@ fn is_two_members(outcome: &Outcome) -> bool {
         && outcome.cluster().moves() == two_members_moves().as_slice()
 }
 
-/// Whether the plan of two joins comes to that.
-fn two_join<R: Threads + Wait + RandomSource + Sync, G: Gate + Sync>(
-    rt: &R,
-    alloc: Global,
-    batch: u32,
-    gate: &G,
-) -> Result<bool, Refusal>
-    requires { 1 ≤ batch }
-{
-    Ok(is_two_members(&ran(rt, alloc, TWO_JOINS, batch, gate)?))
-}
-
-#[test]
-fn two_members(rt: HostRuntime) -> Result<(), Fail> {
-    assert_eq!(rt; two_join(&rt, rt.alloc(), 1, &Open), Ok(true));
-    assert_eq!(rt; two_join(&rt, rt.alloc(), 500, &Open), Ok(true));
-    Ok(())
-}
-
 /// Whether the first member went at last, and the second has all.
 fn is_one_left(outcome: &Outcome) -> bool {
     let moves = outcome.cluster().moves();
@@ -177,7 +143,109 @@ fn is_one_left(outcome: &Outcome) -> bool {
         && moves.len() == 8
 }
 
-/// Whether a plan comes to that.
+/// Whether as many members are present as there can be.
+fn is_full(cluster: &Cluster) -> bool {
+    for member in 1..MOST_MEMBERS as u32 + 1 {
+        if !cluster.is_present(member) {
+            return false;
+        }
+    }
+    true
+}
+
+/// Whether all are present after a run to its end.
+fn are_all_present(outcome: &Outcome) -> bool {
+    let cluster = outcome.cluster();
+    ends_with(outcome, cluster.generation(), &[1, 4, 2, 3]) && is_full(cluster)
+}
+
+/// What a run comes to.
+#[derive(Clone, Copy)]
+enum End {
+    /// Two members have two partitions each.
+    TwoMembers,
+    /// The first of them went, and the second has all.
+    OneLeft,
+    /// As many are present as there can be members.
+    AllPresent,
+}
+
+/// Whether a run came to this.
+fn is_end(outcome: &Outcome, end: End) -> bool {
+    match end {
+        End::TwoMembers => is_two_members(outcome),
+        End::OneLeft => is_one_left(outcome),
+        End::AllPresent => are_all_present(outcome),
+    }
+}
+
+/// Whether a run of a plan over these logs comes to this. Nobody else owns an outcome.
+fn run_comes_to<R: Threads + Wait + RandomSource + Sync, G: Gate + Sync>(
+    rt: &R,
+    alloc: Global,
+    logs: &SealedLogs,
+    plan: &Plan,
+    batch: u32,
+    gate: &G,
+    end: End,
+) -> Result<bool, Refusal>
+    requires { 1 ≤ batch }
+{
+    let outcome = run(rt, alloc, logs, plan, batch, gate)?;
+    Ok(is_end(&outcome, end))
+}
+
+/// Whether the plan of a script does.
+fn comes_over<R: Threads + Wait + RandomSource + Sync, G: Gate + Sync>(
+    rt: &R,
+    alloc: Global,
+    logs: &SealedLogs,
+    script: &[u8],
+    batch: u32,
+    gate: &G,
+    end: End,
+) -> Result<bool, Refusal>
+    requires { 1 ≤ batch }
+{
+    let plan = plan_of(alloc, script)?;
+    run_comes_to(rt, alloc, logs, &plan, batch, gate, end)
+}
+
+/// Whether it does over the five records.
+fn comes_to<R: Threads + Wait + RandomSource + Sync, G: Gate + Sync>(
+    rt: &R,
+    alloc: Global,
+    script: &[u8],
+    batch: u32,
+    gate: &G,
+    end: End,
+) -> Result<bool, Refusal>
+    requires { 1 ≤ batch }
+{
+    let logs = five_sealed(rt, alloc)?;
+    comes_over(rt, alloc, &logs, script, batch, gate, end)
+}
+
+/// Whether the plan of two joins comes to its end.
+fn two_join<R: Threads + Wait + RandomSource + Sync, G: Gate + Sync>(
+    rt: &R,
+    alloc: Global,
+    batch: u32,
+    gate: &G,
+) -> Result<bool, Refusal>
+    requires { 1 ≤ batch }
+{
+    comes_to(rt, alloc, TWO_JOINS, batch, gate, End::TwoMembers)
+}
+
+#[test]
+fn two_members(rt: HostRuntime) {
+    let one_by_one = two_join(&rt, rt.alloc(), 1, &Open);
+    let by_many = two_join(&rt, rt.alloc(), 500, &Open);
+    assert_eq!(rt; (one_by_one, by_many), (Ok(true), Ok(true)));
+}
+
+/// Whether a plan comes to where one member is left.
 fn leaves_one<R: Threads + Wait + RandomSource + Sync>(
     rt: &R,
     alloc: Global,
@@ -186,17 +254,17 @@ fn leaves_one<R: Threads + Wait + RandomSource + Sync>(
 ) -> Result<bool, Refusal>
     requires { 1 ≤ batch }
 {
-    Ok(is_one_left(&ran(rt, alloc, script, batch, &Open)?))
+    comes_to(rt, alloc, script, batch, &Open, End::OneLeft)
 }
 
 #[test]
-fn one_leaves(rt: HostRuntime) -> Result<(), Fail> {
+fn one_leaves(rt: HostRuntime) {
     let leave = b"join A\njoin B\nleave A\n";
-    assert_eq!(rt; leaves_one(&rt, rt.alloc(), leave, 1), Ok(true));
-    assert_eq!(rt; leaves_one(&rt, rt.alloc(), leave, 500), Ok(true));
+    let one_by_one = leaves_one(&rt, rt.alloc(), leave, 1);
+    let by_many = leaves_one(&rt, rt.alloc(), leave, 500);
+    assert_eq!(rt; (one_by_one, by_many), (Ok(true), Ok(true)));
     let lose = b"join A\njoin B\nlose A\n";
     assert_eq!(rt; leaves_one(&rt, rt.alloc(), lose, 1), Ok(true));
-    Ok(())
 }
 
 /// What a gate knows of one of two members.
@@ -262,53 +330,88 @@ impl Gate for Handshake {
     }
 }
 
+/// Whether two join under this gate, and both flags are up then.
+fn both_go_on<R: Threads + Wait + RandomSource + Sync>(
+    rt: &R,
+    alloc: Global,
+    gate: &Handshake,
+) -> Result<(bool, bool), Refusal> {
+    let joined = two_join(rt, alloc, 500, gate)?;
+    Ok((joined, gate.first.is_up() && gate.second.is_up()))
+}
+
 #[test]
-fn other_worker_held(rt: HostRuntime) -> Result<(), Fail> {
+fn other_worker_held(rt: HostRuntime) {
     let gate = Handshake {
         first: Side::new(),
         second: Side::new(),
     };
-    assert_eq!(rt; two_join(&rt, rt.alloc(), 500, &gate), Ok(true));
-    assert!(rt; gate.first.is_up() && gate.second.is_up());
-    Ok(())
+    assert_eq!(rt; both_go_on(&rt, rt.alloc(), &gate), Ok((true, true)));
 }
 
 /// Whether a run was stopped by its gate, or else came to its end after all five commits.
-fn is_stopped(answer: Result<Outcome, Refusal>, asked_before: u32) -> bool {
-    match answer {
-        Ok(outcome) => asked_before >= 5 && is_two_members(&outcome),
+fn is_stopped(came_to_end: Result<bool, Refusal>, asked_before: u32) -> bool {
+    match came_to_end {
+        Ok(is_end) => asked_before >= 5 && is_end,
         Err(why) => why == Refusal::GateLimit,
     }
 }
 
+/// Whether a run is stopped by a gate that lets so many questions pass.
+fn stops_after<R: Threads + Wait + RandomSource + Sync>(
+    rt: &R,
+    alloc: Global,
+    before: u32,
+) -> bool {
+    let gate = Counting::new(before, Go, Stop);
+    is_stopped(two_join(rt, alloc, 1, &gate), before)
+}
+
 #[test]
-fn a_gate_that_stops(rt: HostRuntime) -> Result<(), Fail> {
+fn a_gate_that_stops(rt: HostRuntime) {
     for before in 0..8 {
-        let gate = Counting::new(before, Go, Stop);
-        assert!(rt; is_stopped(ran(&rt, rt.alloc(), TWO_JOINS, 1, &gate), before));
+        assert!(rt; stops_after(&rt, rt.alloc(), before));
     }
-    Ok(())
+}
+
+/// Whether two join under a gate that holds back so many questions.
+fn joins_after<R: Threads + Wait + RandomSource + Sync>(
+    rt: &R,
+    alloc: Global,
+    first: u32,
+) -> Result<bool, Refusal> {
+    let gate = Counting::new(first, NotNow, Go);
+    two_join(rt, alloc, 500, &gate)
 }
 
 #[test]
-fn a_gate_that_holds_back(rt: HostRuntime) -> Result<(), Fail> {
+fn a_gate_that_holds_back(rt: HostRuntime) {
     for first in 0..51 {
-        let gate = Counting::new(first, NotNow, Go);
-        assert_eq!(rt; two_join(&rt, rt.alloc(), 500, &gate), Ok(true));
+        assert_eq!(rt; joins_after(&rt, rt.alloc(), first), Ok(true));
     }
-    Ok(())
 }
 
-/// The plan of two joins, of which nothing was applied.
-fn planned(rt: &impl RandomSource, alloc: Global) -> Result<Planned, Refusal> {
-    let plan = read_plan(alloc, TWO_JOINS)?;
-    let logs = five_copied(rt, alloc)?;
+/// A plan of which nothing was applied, over these logs.
+fn planned_of(alloc: Global, logs: Logs, plan: Plan) -> Result<Planned, Refusal> {
     Ok(Planned::new(alloc, logs, plan)?)
+}
+
+/// The plan of two joins, over these logs.
+fn planned_over(alloc: Global, logs: Logs) -> Result<Planned, Refusal> {
+    let plan = plan_of(alloc, TWO_JOINS)?;
+    planned_of(alloc, logs, plan)
+}
+
+/// The same, over a copy of the five records.
+fn planned(rt: &impl RandomSource, alloc: Global) -> Result<Planned, Refusal> {
+    let logs = five_copied(rt, alloc)?;
+    planned_over(alloc, logs)
 }
 
 /// A copy of the logs with the five records.
 fn five_copied(rt: &impl RandomSource, alloc: Global) -> Result<Logs, Refusal> {
-    Ok(five_logs(rt, alloc)?.copy(rt, alloc)?)
+    let logs = five_sealed(rt, alloc)?;
+    Ok(logs.copy(rt, alloc)?)
 }
 
 /// A call on a plan that is carried out, or what is told of it.
@@ -377,19 +480,20 @@ fn first_other_of_two(
     first_other(&mut planned, steps)
 }
 
+/// Each line of a plan of two joins, in its turn.
+const EACH_LINE: [Step; 7] = [
+    Step::Advance(2),
+    Step::Rejoin(1),
+    Step::Advance(0),
+    Step::Rejoin(1),
+    Step::Rejoin(2),
+    Step::Settled(3, 2),
+    Step::Advance(0),
+];
+
 #[test]
-fn each_line_in_its_turn(rt: HostRuntime) -> Result<(), Fail> {
-    let steps = [
-        Step::Advance(2),
-        Step::Rejoin(1),
-        Step::Advance(0),
-        Step::Rejoin(1),
-        Step::Rejoin(2),
-        Step::Settled(3, 2),
-        Step::Advance(0),
-    ];
-    assert_eq!(rt; first_other_of_two(&rt, rt.alloc(), &steps), Ok(None));
-    Ok(())
+fn each_line_in_its_turn(rt: HostRuntime) {
+    assert_eq!(rt; first_other_of_two(&rt, rt.alloc(), &EACH_LINE), Ok(None));
 }
 
 /// The last digit of a number.
@@ -397,21 +501,20 @@ fn digit(n: u32) -> u8 {
     b'0'.wrapping_add((n % 10) as u8)
 }
 
-/// A plan of as many joins as there can be members.
-fn all_join(alloc: Global) -> Result<Vec<u8>, Memory> {
-    let mut script = Vec::new(alloc);
+/// Adds as many joins as there can be members.
+fn add_joins(script: &mut Vec<u8>) -> Result<(), AllocError> {
     for n in 0..MOST_MEMBERS as u32 {
         script.extend_from_slice(b"join ")?;
         script.extend_from_slice(&[digit(n / 100), digit(n / 10), digit(n), b'\n'])?;
     }
-    Ok(script)
+    Ok(())
 }
 
-/// Whether all are present after a run to its end.
-fn are_all_present(outcome: &Outcome) -> bool {
-    let cluster = outcome.cluster();
-    ends_with(outcome, cluster.generation(), &[1, 4, 2, 3])
-        && (1..=MOST_MEMBERS as u32).all(|member| cluster.is_present(member))
+/// A plan of them.
+fn all_join(alloc: Global) -> Result<Vec<u8>, AllocError> {
+    let mut script = Vec::new(alloc);
+    let done = add_joins(&mut script);
+    done.and(Ok(script))
 }
 
 /// Whether all are present after the run of that plan.
@@ -420,11 +523,10 @@ fn most_join<R: Threads + Wait + RandomSource + Sync>(
     alloc: Global,
 ) -> Result<bool, Refusal> {
     let script = all_join(alloc)?;
-    Ok(are_all_present(&ran(rt, alloc, script.as_slice(), 500, &Open)?))
+    comes_to(rt, alloc, &script, 500, &Open, End::AllPresent)
 }
 
 #[test]
-fn as_many_members_as_there_can_be(rt: HostRuntime) -> Result<(), Fail> {
+fn as_many_members_as_there_can_be(rt: HostRuntime) {
     assert_eq!(rt; most_join(&rt, rt.alloc()), Ok(true));
-    Ok(())
 }

@@ -2,7 +2,8 @@
 
 ghost use Rattle.std.specs.Prelude.{◌<◌};
 
-use crate::worlds::{Act, eight_names, reply_to};
+use crate::acts::{Act, eight_names, reply_to};
+use bit_planes::Plane;
 use consumer::Consumer;
 use group_machine::{Cluster, Commit, Name};
 use lane_words::Memory;
@@ -10,7 +11,7 @@ use partition_log::LogRead;
 use std::alloc::Global;
 use std::process::Abort;
 use std::random::RandomSource;
-use world::{Event, Reply, World};
+use world::{Reply, World};
 
 /// The numbers by which the long schedule is chosen: x' = 1664525 x + 1013904223, modulo 2^32.
 #[derive(Drop)]
@@ -53,107 +54,238 @@ fn chosen_event<'a>(
     ensures { result.0 < 12 }
 {
     match chosen.below(1024) {
-        0..=1 => (0, Act::Other(Event::Lose(chosen.member(given)))),
-        2..=3 => (1, Act::Other(Event::Leave(chosen.member(given)))),
+        0..=1 => (0, Act::Lose(chosen.member(given))),
+        2..=3 => (1, Act::Leave(chosen.member(given))),
         4..=9 => (2, Act::Join(chosen.below(8) as usize)),
         10..=15 => (10, Act::JoinKept(chosen.below(8) as usize)),
         16..=19 => (11, Act::TakeOver(chosen.below(8) as usize)),
-        20..=119 => (3, Act::Other(Event::Append(keys[chosen.below(8) as usize]))),
-        120..=319 => (4, Act::Other(Event::Sync(chosen.member(given)))),
-        320..=469 => (5, Act::Other(Event::Rejoin(chosen.member(given)))),
+        20..=119 => (3, Act::Append(keys[chosen.below(8) as usize])),
+        120..=319 => (4, Act::Sync(chosen.member(given))),
+        320..=469 => (5, Act::Rejoin(chosen.member(given))),
         470..=679 => {
             let member = chosen.member(given);
             let partition = chosen.below(6);
             let records = chosen.below(4);
-            let poll = Event::Poll {
+            let poll = Act::Poll {
                 member,
                 partition,
                 records,
             };
-            (6, Act::Other(poll))
+            (6, poll)
         }
         680..=859 => {
             let member = chosen.member(given);
             let partition = chosen.below(6);
-            (7, Act::Other(Event::Send { member, partition }))
+            (7, Act::Send { member, partition })
         }
-        860..=969 => (8, Act::Other(Event::Deliver(chosen.commit(sent)))),
-        _ => (9, Act::Other(Event::DeliverUnanswered(chosen.commit(sent)))),
+        860..=969 => (8, Act::Deliver(chosen.commit(sent))),
+        _ => (9, Act::DeliverUnanswered(chosen.commit(sent))),
     }
 }
 
-/// No partition is granted to two members, and where the group is settled each is granted to one,
-/// evenly.
-fn grants_are_right(rt: &impl Abort, cluster: &Cluster) {
+/// Counts a member as an owner of what it is granted.
+fn count_owner(owners: &mut [u32; 5], granted: &Plane) {
+    for p in 0..5 {
+        if granted.contains(p as u32) {
+            owners[p] = owners[p].saturating_add(1);
+        }
+    }
+}
+
+/// How many members each partition is granted to.
+fn owners_of(cluster: &Cluster) -> [u32; 5] {
     let mut owners = [0u32; 5];
+    for member in cluster.members() {
+        if let Some(granted) = cluster.granted(member) {
+            count_owner(&mut owners, granted);
+        }
+    }
+    owners
+}
+
+/// Whether no partition has two owners, and where the group is settled each has one.
+fn are_right(owners: &[u32; 5], is_settled: bool) -> bool {
+    for n in owners {
+        if *n > 1 || (is_settled && *n == 0) {
+            return false;
+        }
+    }
+    true
+}
+
+/// Whether no member is granted two partitions more than another one.
+fn is_even(cluster: &Cluster) -> bool {
     let (mut least, mut most) = (u32::MAX, 0);
     for member in cluster.members() {
         if let Some(granted) = cluster.granted(member) {
             least = least.min(granted.count());
             most = most.max(granted.count());
-            for p in 0..5 {
-                if granted.contains(p as u32) {
-                    owners[p] = owners[p].saturating_add(1);
-                }
-            }
         }
     }
-    assert!(rt; owners.iter().all(|n| *n <= 1), "{owners:?}");
-    if cluster.is_settled() {
-        assert!(rt; owners.iter().all(|n| *n == 1) && most <= least.saturating_add(1));
+    most <= least.saturating_add(1)
+}
+
+/// No partition is granted to two members, and where the group is settled each is granted to one,
+/// evenly.
+fn grants_are_right(rt: &impl Abort, cluster: &Cluster) {
+    let (owners, is_settled) = (owners_of(cluster), cluster.is_settled());
+    assert!(rt; are_right(&owners, is_settled), "{owners:?}");
+    assert!(rt; !is_settled || is_even(cluster));
+}
+
+/// The keys of a partition's records from an offset to another one, where there are so many.
+fn records_of(cluster: &Cluster, p: u32, from: u32, end: u32) -> Option<&[u32]> {
+    let logs = cluster.logs();
+    if p < logs.partitions() && from <= end && end <= logs.len(p) {
+        Some(logs.ids(p, from, end))
+    } else {
+        None
     }
+}
+
+/// The keys of a partition's records below its committed offset.
+fn committed_of(cluster: &Cluster, p: u32) -> Option<&[u32]> {
+    match cluster.store().offsets().get(p as usize) {
+        Some(committed) => records_of(cluster, p, 0, *committed),
+        None => None,
+    }
+}
+
+/// Counts each of these keys, where there are eight in all.
+fn count_ids(counts: &mut [u64; 8], ids: &[u32]) -> bool {
+    for id in ids {
+        if *id >= 8 {
+            return false;
+        }
+        counts[*id as usize] = counts[*id as usize].saturating_add(1);
+    }
+    true
+}
+
+/// Counts the keys of a partition's records below its committed offset, where there are so many.
+fn count_committed(counts: &mut [u64; 8], cluster: &Cluster, p: u32) -> bool {
+    match committed_of(cluster, p) {
+        Some(ids) => count_ids(counts, ids),
+        None => false,
+    }
+}
+
+/// The first of five partitions of which there are not so many.
+fn first_not_counted(counts: &mut [u64; 8], cluster: &Cluster) -> Option<u32> {
+    for p in 0..5 {
+        if !count_committed(counts, cluster, p) {
+            return Some(p);
+        }
+    }
+    None
 }
 
 /// Each key's count is how often it is below the committed offsets.
 fn counts_are_exact(rt: &impl Abort, cluster: &Cluster) {
-    let (logs, store) = (cluster.logs(), cluster.store());
-    let mut counts = [0u64; 8];
-    assert_eq!(rt; logs.partitions(), 5);
-    for p in 0..5u32 {
-        let committed = store.offsets().get(p as usize).copied().unwrap_or(u32::MAX);
-        assert!(rt; committed <= logs.len(p));
-        for id in logs.ids(p, 0, committed) {
-            assert!(rt; *id < 8);
-            counts[*id as usize] = counts[*id as usize].saturating_add(1);
+    let mut plain = [0u64; 8];
+    let not_counted = first_not_counted(&mut plain, cluster);
+    assert_eq!(rt; (cluster.logs().partitions(), not_counted), (5, None));
+    let counts = cluster.store().counts();
+    assert!(rt; plain.starts_with(counts), "{counts:?}, and not {plain:?}");
+}
+
+/// Whether a consumer is nowhere ahead of the cluster in a partition.
+fn is_behind(cluster: &Cluster, consumer: &Consumer, p: u32) -> bool {
+    let logs = cluster.logs();
+    let (base, position) = (consumer.base(p), consumer.position(p));
+    match cluster.store().offsets().get(p as usize) {
+        Some(committed) => {
+            base <= *committed
+                && base <= position
+                && p < logs.partitions()
+                && position <= logs.len(p)
+        }
+        None => false,
+    }
+}
+
+/// The first of five partitions in which it is ahead.
+fn first_ahead(cluster: &Cluster, consumer: &Consumer) -> Option<u32> {
+    for p in 0..5 {
+        if !is_behind(cluster, consumer, p) {
+            return Some(p);
         }
     }
-    for (count, plain) in store.counts().iter().zip(counts.iter()) {
-        assert_eq!(rt; *count, *plain);
+    None
+}
+
+/// Whether a consumer is of its member, and of the cluster's generation once the member has synced,
+/// else of an older one.
+fn is_of_member(cluster: &Cluster, member: u32, consumer: &Consumer) -> bool {
+    consumer.member() == Some(member)
+        && consumer.generation() <= cluster.generation()
+        && (consumer.generation() == cluster.generation()) == cluster.is_synced(member)
+}
+
+/// The first of five partitions that a consumer holds and its member is not granted.
+fn first_not_granted(consumer: &Consumer, granted: &Plane) -> Option<u32> {
+    for p in 0..5 {
+        if consumer.holds(p) && !granted.contains(p) {
+            return Some(p);
+        }
+    }
+    None
+}
+
+/// Whether a consumer claims a partition just where it is assigned, and holds it there.
+fn follows(consumer: &Consumer, assigned: &Plane, p: u32) -> bool {
+    let is_assigned = assigned.contains(p);
+    consumer.claim().contains(p) == is_assigned && (!is_assigned || consumer.holds(p))
+}
+
+/// The first of five partitions in which it does not.
+fn first_not_followed(consumer: &Consumer, assigned: &Plane) -> Option<u32> {
+    for p in 0..5 {
+        if !follows(consumer, assigned, p) {
+            return Some(p);
+        }
+    }
+    None
+}
+
+/// The same where its member has synced.
+fn first_not_leased(consumer: &Consumer, assigned: &Plane, is_synced: bool) -> Option<u32> {
+    if is_synced {
+        first_not_followed(consumer, assigned)
+    } else {
+        None
     }
 }
 
 /// A consumer holds only what its member is granted, follows its lease, and is nowhere ahead of the
 /// cluster.
 fn consumer_is_in_step(rt: &impl Abort, cluster: &Cluster, member: u32, consumer: &Consumer) {
-    assert_eq!(rt; cluster.logs().partitions(), 5);
-    for p in 0..5u32 {
-        let committed = cluster.store().offsets().get(p as usize).copied();
-        assert!(rt; committed.is_some_and(|offset| consumer.base(p) <= offset));
-        assert!(rt; consumer.base(p) <= consumer.position(p));
-        assert!(rt; consumer.position(p) <= cluster.logs().len(p));
-    }
+    let ahead = first_ahead(cluster, consumer);
+    assert_eq!(rt; (cluster.logs().partitions(), ahead), (5, None));
     let (Some(granted), Some(assigned)) = (cluster.granted(member), cluster.assigned(member)) else {
         return;
     };
-    let synced = cluster.is_synced(member);
-    assert_eq!(rt; consumer.member(), Some(member));
-    assert!(rt; consumer.generation() <= cluster.generation());
-    assert_eq!(rt; consumer.generation() == cluster.generation(), synced);
-    for p in 0..5u32 {
-        assert!(rt; !consumer.holds(p) || granted.contains(p));
-        assert!(rt; !synced || consumer.claim().contains(p) == assigned.contains(p));
-        assert!(rt; !synced || !assigned.contains(p) || consumer.holds(p));
+    assert!(rt; is_of_member(cluster, member, consumer));
+    let not_granted = first_not_granted(consumer, granted);
+    let not_leased = first_not_leased(consumer, assigned, cluster.is_synced(member));
+    assert_eq!(rt; (not_granted, not_leased), (None, None));
+}
+
+/// The records that a commit is of, where there is one at least and the log has so many.
+fn sent_of<'a>(cluster: &'a Cluster, commit: &Commit) -> Option<&'a [u32]> {
+    let records = commit.partial().ids().len();
+    match u32::try_from(records) {
+        Ok(n) if n > 0 => {
+            let end = commit.from().saturating_add(n);
+            records_of(cluster, commit.partition(), commit.from(), end)
+        }
+        _ => None,
     }
 }
 
 /// A commit of the mail has the records of its log.
 fn commit_is_sound(rt: &impl Abort, cluster: &Cluster, commit: &Commit) {
-    let ids = commit.partial().ids();
-    let (p, from) = (commit.partition(), commit.from());
-    assert!(rt; p < cluster.logs().partitions() && !ids.is_empty());
-    let end = u32::try_from(ids.len()).map_or(u32::MAX, |n| from.saturating_add(n));
-    assert!(rt; from <= end && end <= cluster.logs().len(p));
-    assert_eq!(rt; cluster.logs().ids(p, from, end), ids);
+    assert_eq!(rt; sent_of(cluster, commit), Some(commit.partial().ids()));
 }
 
 /// What holds after each event, by plain lists.
@@ -178,6 +310,31 @@ struct Tally {
     refused: [u32; 12],
 }
 
+impl Tally {
+    /// How many members were given a number.
+    fn given(&self) -> u32 {
+        let joined = self.accepted[2].saturating_add(self.accepted[10]);
+        joined.saturating_add(self.accepted[11])
+    }
+
+    /// One event more of a kind.
+    fn count(&mut self, kind: usize, is_refused: bool)
+        requires { kind < 12 }
+    {
+        let counts = if is_refused {
+            &mut self.refused
+        } else {
+            &mut self.accepted
+        };
+        counts[kind] = counts[kind].saturating_add(1);
+    }
+}
+
+/// How many commits were sent.
+fn sent_in(world: &World) -> u32 {
+    u32::try_from(world.mail().len()).unwrap_or(0)
+}
+
 /// One event more, whose kind and reply are counted.
 fn next_event(
     rt: &impl Abort,
@@ -187,17 +344,9 @@ fn next_event(
     chosen: &mut Chosen,
     tally: &mut Tally,
 ) {
-    let sent = u32::try_from(world.mail().len()).unwrap_or(0);
-    let given = tally.accepted[2]
-        .saturating_add(tally.accepted[10])
-        .saturating_add(tally.accepted[11]);
-    let (kind, act) = chosen_event(chosen, sent, given, keys);
+    let (kind, act) = chosen_event(chosen, sent_in(world), tally.given(), keys);
     let reply = reply_to(world, &act, names).expect(rt, "a name");
-    if let Reply::Refused(_) = reply {
-        tally.refused[kind] = tally.refused[kind].saturating_add(1);
-    } else {
-        tally.accepted[kind] = tally.accepted[kind].saturating_add(1);
-    }
+    tally.count(kind, matches!(reply, Reply::Refused(_)));
 }
 
 /// The counts of 10,000 events, after each of which the world is good.
@@ -221,13 +370,23 @@ fn mail_is_sound(rt: &impl Abort, world: &World) {
     }
 }
 
+/// Whether there are some of each kind.
+fn are_some(counts: &[u32; 12]) -> bool {
+    for n in counts {
+        if *n == 0 {
+            return false;
+        }
+    }
+    true
+}
+
 /// A world stays good over the long schedule, in which each kind of event is accepted and refused.
 fn stays_good(rt: &impl Abort, world: &mut World, names: &[Name], keys: &[&[u8]; 8]) {
     let tally = tally_of(rt, world, names, keys);
     mail_is_sound(rt, world);
     let (accepted, refused) = (tally.accepted, tally.refused);
-    assert!(rt; accepted.iter().all(|n| *n > 0), "accepted: {accepted:?}");
-    assert!(rt; refused.iter().all(|n| *n > 0), "refused: {refused:?}");
+    assert!(rt; are_some(&accepted), "accepted: {accepted:?}");
+    assert!(rt; are_some(&refused), "refused: {refused:?}");
     assert!(rt; world.cluster().generation() > 8);
 }
 

@@ -10,11 +10,30 @@ use lane_words::{Memory, Refusal};
 use script::{Action, Key, Line, Topic, read_replay, read_replay_topics};
 use std::alloc::Global;
 use std::process::Abort;
-use std::test::Fail;
+
+/// The command of a line.
+#[derive(Clone, Copy, PartialEq, Eq)]
+enum Command {
+    Append,
+    AppendIn,
+    Join,
+    Keep,
+    Return,
+    Rejoin,
+    Sync,
+    Leave,
+    Lose,
+    Poll,
+    Send,
+    Deliver,
+    Unanswered,
+    Settle,
+    Drain,
+}
 
 /// What a line says: its number, its command, its name or key, and its numbers, 0 where it has
 /// none.
-type Said<'a> = (u64, &'a [u8], &'a [u8], u32, u32);
+type Said<'a> = (u64, Command, &'a [u8], u32, u32);
 
 /// What a script is read as, among topics or without any.
 ///
@@ -22,6 +41,8 @@ type Said<'a> = (u64, &'a [u8], &'a [u8], u32, u32);
 /// proved over what all of them say, and takes minutes.
 #[derive(Clone, Copy)]
 enum Read<'a> {
+    /// This line alone.
+    One(Said<'a>),
     /// These lines.
     Lines(&'a [Said<'a>]),
     /// It is refused at the line of this number.
@@ -44,27 +65,27 @@ fn lines_of(alloc: Global, topics: &[Topic], script: &[u8]) -> Result<Vec<Line>,
 }
 
 /// The command of an action, its name or key, and its numbers.
-fn parts(action: &Action) -> (&[u8], &[u8], u32, u32) {
+fn parts(action: &Action) -> (Command, &[u8], u32, u32) {
     match action {
-        Action::Append(key) => (b"append", key.bytes(), 0, 0),
-        Action::AppendIn { topic, key } => (b"append in", key.bytes(), *topic, 0),
-        Action::Join(name) => (b"join", name.text(), 0, 0),
-        Action::Keep(name) => (b"keep", name.text(), 0, 0),
-        Action::Return(name) => (b"return", name.text(), 0, 0),
-        Action::Rejoin(name) => (b"rejoin", name.text(), 0, 0),
-        Action::Sync(name) => (b"sync", name.text(), 0, 0),
-        Action::Leave(name) => (b"leave", name.text(), 0, 0),
-        Action::Lose(name) => (b"lose", name.text(), 0, 0),
+        Action::Append(key) => (Command::Append, key.bytes(), 0, 0),
+        Action::AppendIn { topic, key } => (Command::AppendIn, key.bytes(), *topic, 0),
+        Action::Join(name) => (Command::Join, name.text(), 0, 0),
+        Action::Keep(name) => (Command::Keep, name.text(), 0, 0),
+        Action::Return(name) => (Command::Return, name.text(), 0, 0),
+        Action::Rejoin(name) => (Command::Rejoin, name.text(), 0, 0),
+        Action::Sync(name) => (Command::Sync, name.text(), 0, 0),
+        Action::Leave(name) => (Command::Leave, name.text(), 0, 0),
+        Action::Lose(name) => (Command::Lose, name.text(), 0, 0),
         Action::Poll {
             name,
             partition,
             most,
-        } => (b"poll", name.text(), *partition, *most),
-        Action::Send { name, partition } => (b"send", name.text(), *partition, 0),
-        Action::Deliver(commit) => (b"deliver", b"", *commit, 0),
-        Action::Unanswered(commit) => (b"unanswered", b"", *commit, 0),
-        Action::Settle => (b"settle", b"", 0, 0),
-        Action::Drain => (b"drain", b"", 0, 0),
+        } => (Command::Poll, name.text(), *partition, *most),
+        Action::Send { name, partition } => (Command::Send, name.text(), *partition, 0),
+        Action::Deliver(commit) => (Command::Deliver, b"", *commit, 0),
+        Action::Unanswered(commit) => (Command::Unanswered, b"", *commit, 0),
+        Action::Settle => (Command::Settle, b"", 0, 0),
+        Action::Drain => (Command::Drain, b"", 0, 0),
     }
 }
 
@@ -92,9 +113,25 @@ fn are_lines(lines: &[Line], said: &[Said<'_>]) -> bool {
 fn is_read(alloc: Global, topics: &[Topic], script: &[u8], read: &Read<'_>) -> bool
     requires { MayBeTopics topics.now }
 {
-    match (lines_of(alloc, topics, script), read) {
-        (Ok(lines), Read::Lines(said)) => are_lines(&lines, said),
-        (Err(Refusal::BadLine { line }), Read::Bad(number)) => line == *number,
+    match lines_of(alloc, topics, script) {
+        Ok(lines) => are_lines_read(&lines, read),
+        Err(why) => is_refusal(why, read),
+    }
+}
+
+/// Whether lines are what a script is read as.
+fn are_lines_read(lines: &[Line], read: &Read<'_>) -> bool {
+    match read {
+        Read::One(said) => lines.len() == 1 && is_line(&lines[0], said),
+        Read::Lines(said) => are_lines(lines, said),
+        Read::Bad(_) => false,
+    }
+}
+
+/// Whether a refusal is what a script is read as.
+fn is_refusal(why: Refusal, read: &Read<'_>) -> bool {
+    match (why, read) {
+        (Refusal::BadLine { line }, Read::Bad(number)) => line == *number,
         _ => false,
     }
 }
@@ -111,24 +148,27 @@ fn first_other(alloc: Global, topics: &[Topic], rows: &[Row<'_>]) -> Option<usiz
     None
 }
 
+// Who names a table is proved with each row and each list in it, at each of its statements: so a
+// function that does nothing else does.
+
 const FORMS: &[u8] = b"append a key, \xff\njoin A\nrejoin B-1\nsync c_2\nleave D\nlose E\n\
     poll A 0 500\nsend A 3\ndeliver 1\nunanswered 2\nsettle\ndrain\nkeep F\nreturn F\n";
 
 const SAID: &[Said<'static>] = &[
-    (1, b"append", b"a key, \xff", 0, 0),
-    (2, b"join", b"A", 0, 0),
-    (3, b"rejoin", b"B-1", 0, 0),
-    (4, b"sync", b"c_2", 0, 0),
-    (5, b"leave", b"D", 0, 0),
-    (6, b"lose", b"E", 0, 0),
-    (7, b"poll", b"A", 0, 500),
-    (8, b"send", b"A", 3, 0),
-    (9, b"deliver", b"", 1, 0),
-    (10, b"unanswered", b"", 2, 0),
-    (11, b"settle", b"", 0, 0),
-    (12, b"drain", b"", 0, 0),
-    (13, b"keep", b"F", 0, 0),
-    (14, b"return", b"F", 0, 0),
+    (1, Command::Append, b"a key, \xff", 0, 0),
+    (2, Command::Join, b"A", 0, 0),
+    (3, Command::Rejoin, b"B-1", 0, 0),
+    (4, Command::Sync, b"c_2", 0, 0),
+    (5, Command::Leave, b"D", 0, 0),
+    (6, Command::Lose, b"E", 0, 0),
+    (7, Command::Poll, b"A", 0, 500),
+    (8, Command::Send, b"A", 3, 0),
+    (9, Command::Deliver, b"", 1, 0),
+    (10, Command::Unanswered, b"", 2, 0),
+    (11, Command::Settle, b"", 0, 0),
+    (12, Command::Drain, b"", 0, 0),
+    (13, Command::Keep, b"F", 0, 0),
+    (14, Command::Return, b"F", 0, 0),
 ];
 
 const ENDS: &[Row<'static>] = &[
@@ -138,36 +178,47 @@ const ENDS: &[Row<'static>] = &[
     (b"\r", Read::Lines(&[])),
     (
         b"# x\r\njoin A\r\n",
-        Read::Lines(&[(2, b"join", b"A", 0, 0)]),
+        Read::One((2, Command::Join, b"A", 0, 0)),
     ),
-    (b"join A\r", Read::Lines(&[(1, b"join", b"A", 0, 0)])),
+    (b"join A\r", Read::One((1, Command::Join, b"A", 0, 0))),
     (
         b"\n#\n\njoin A\n\nsettle",
-        Read::Lines(&[(4, b"join", b"A", 0, 0), (6, b"settle", b"", 0, 0)]),
+        Read::Lines(&[
+            (4, Command::Join, b"A", 0, 0),
+            (6, Command::Settle, b"", 0, 0),
+        ]),
     ),
     (
         b"#\x80 not\ttext\ndrain",
-        Read::Lines(&[(2, b"drain", b"", 0, 0)]),
+        Read::One((2, Command::Drain, b"", 0, 0)),
     ),
     (
         b"append \nappend  a b \n",
-        Read::Lines(&[(1, b"append", b"", 0, 0), (2, b"append", b" a b ", 0, 0)]),
+        Read::Lines(&[
+            (1, Command::Append, b"", 0, 0),
+            (2, Command::Append, b" a b ", 0, 0),
+        ]),
     ),
     (
         b"append \r\r\n",
-        Read::Lines(&[(1, b"append", b"\r", 0, 0)]),
+        Read::One((1, Command::Append, b"\r", 0, 0)),
     ),
 ];
 
+/// The rows of `ENDS`.
+fn ends() -> &'static [Row<'static>] {
+    ENDS
+}
+
 const NUMBERS: &[Row<'static>] = &[
-    (b"poll A 00 01", Read::Lines(&[(1, b"poll", b"A", 0, 1)])),
+    (b"poll A 00 01", Read::One((1, Command::Poll, b"A", 0, 1))),
     (
         b"deliver 0000000001",
-        Read::Lines(&[(1, b"deliver", b"", 1, 0)]),
+        Read::One((1, Command::Deliver, b"", 1, 0)),
     ),
     (
         b"deliver 4294967295",
-        Read::Lines(&[(1, b"deliver", b"", 4_294_967_295, 0)]),
+        Read::One((1, Command::Deliver, b"", 4_294_967_295, 0)),
     ),
     (b"poll A 0 4294967296", Read::Bad(1)),
     (b"deliver 00000000001", Read::Bad(1)),
@@ -179,6 +230,11 @@ const NUMBERS: &[Row<'static>] = &[
     (b"deliver ", Read::Bad(1)),
     (b"deliver", Read::Bad(1)),
 ];
+
+/// The rows of `NUMBERS`.
+fn numbers() -> &'static [Row<'static>] {
+    NUMBERS
+}
 
 const BAD: &[Row<'static>] = &[
     (b"join  A", Read::Bad(1)),
@@ -215,6 +271,11 @@ const BAD: &[Row<'static>] = &[
     (b"join A\n\n\nx", Read::Bad(4)),
 ];
 
+/// The rows of `BAD`.
+fn bad() -> &'static [Row<'static>] {
+    BAD
+}
+
 /// A topic of this name, which is one, and of this many partitions.
 fn topic(rt: &impl Abort, name: &[u8], partitions: u32) -> Topic
     ensures { result ≡ record { name = name.now; partitions = partitions } }
@@ -230,18 +291,19 @@ fn a_and_b(rt: &impl Abort) -> [Topic; 2]
     [topic(rt, b"a", 2), topic(rt, b"b", 3)]
 }
 
-const AMONG: &[Row<'static>] = &[
-    (b"append a x", Read::Lines(&[(1, b"append in", b"x", 0, 0)])),
+/// Appends among topics.
+const APPENDS: &[Row<'static>] = &[
+    (b"append a x", Read::One((1, Command::AppendIn, b"x", 0, 0))),
     (
         b"append b  x",
-        Read::Lines(&[(1, b"append in", b" x", 1, 0)]),
+        Read::One((1, Command::AppendIn, b" x", 1, 0)),
     ),
     (
         b"append a x y ",
-        Read::Lines(&[(1, b"append in", b"x y ", 0, 0)]),
+        Read::One((1, Command::AppendIn, b"x y ", 0, 0)),
     ),
-    (b"append a ", Read::Lines(&[(1, b"append in", b"", 0, 0)])),
-    (b"append a a", Read::Lines(&[(1, b"append in", b"a", 0, 0)])),
+    (b"append a ", Read::One((1, Command::AppendIn, b"", 0, 0))),
+    (b"append a a", Read::One((1, Command::AppendIn, b"a", 0, 0))),
     (b"append a", Read::Bad(1)),
     (b"append", Read::Bad(1)),
     (b"append ", Read::Bad(1)),
@@ -254,21 +316,30 @@ const AMONG: &[Row<'static>] = &[
         b"# a\n\nappend b k\njoin A\nappend c x\nappend c x",
         Read::Bad(5),
     ),
-    (b"poll A a 0 5", Read::Lines(&[(1, b"poll", b"A", 0, 5)])),
-    (b"poll A a 1 5", Read::Lines(&[(1, b"poll", b"A", 1, 5)])),
+];
+
+/// The rows of `APPENDS`.
+fn appends() -> &'static [Row<'static>] {
+    APPENDS
+}
+
+/// Polls among topics.
+const POLLS: &[Row<'static>] = &[
+    (b"poll A a 0 5", Read::One((1, Command::Poll, b"A", 0, 5))),
+    (b"poll A a 1 5", Read::One((1, Command::Poll, b"A", 1, 5))),
     (
         b"poll A a 2 5",
-        Read::Lines(&[(1, b"poll", b"A", 4_294_967_295, 5)]),
+        Read::One((1, Command::Poll, b"A", 4_294_967_295, 5)),
     ),
-    (b"poll A b 0 5", Read::Lines(&[(1, b"poll", b"A", 2, 5)])),
-    (b"poll A b 2 0", Read::Lines(&[(1, b"poll", b"A", 4, 0)])),
+    (b"poll A b 0 5", Read::One((1, Command::Poll, b"A", 2, 5))),
+    (b"poll A b 2 0", Read::One((1, Command::Poll, b"A", 4, 0))),
     (
         b"poll A b 3 5",
-        Read::Lines(&[(1, b"poll", b"A", 4_294_967_295, 5)]),
+        Read::One((1, Command::Poll, b"A", 4_294_967_295, 5)),
     ),
     (
         b"poll A b 4294967295 5",
-        Read::Lines(&[(1, b"poll", b"A", 4_294_967_295, 5)]),
+        Read::One((1, Command::Poll, b"A", 4_294_967_295, 5)),
     ),
     (b"poll A b 4294967296 5", Read::Bad(1)),
     (b"poll A 0 5", Read::Bad(1)),
@@ -277,11 +348,20 @@ const AMONG: &[Row<'static>] = &[
     (b"poll A b 0 5 6", Read::Bad(1)),
     (b"poll A  b 0 5", Read::Bad(1)),
     (b"poll A. b 0 5", Read::Bad(1)),
-    (b"send A b 2", Read::Lines(&[(1, b"send", b"A", 4, 0)])),
-    (b"send A a 00", Read::Lines(&[(1, b"send", b"A", 0, 0)])),
+];
+
+/// The rows of `POLLS`.
+fn polls() -> &'static [Row<'static>] {
+    POLLS
+}
+
+/// Sends among topics, and what names none.
+const SENDS: &[Row<'static>] = &[
+    (b"send A b 2", Read::One((1, Command::Send, b"A", 4, 0))),
+    (b"send A a 00", Read::One((1, Command::Send, b"A", 0, 0))),
     (
         b"send A a 2",
-        Read::Lines(&[(1, b"send", b"A", 4_294_967_295, 0)]),
+        Read::One((1, Command::Send, b"A", 4_294_967_295, 0)),
     ),
     (b"send A 0", Read::Bad(1)),
     (b"send A b", Read::Bad(1)),
@@ -293,104 +373,154 @@ const AMONG: &[Row<'static>] = &[
     (
         b"join A\r\nrejoin A\nsync a\nleave b\nlose E\ndeliver 1\nunanswered 2\nsettle\ndrain",
         Read::Lines(&[
-            (1, b"join", b"A", 0, 0),
-            (2, b"rejoin", b"A", 0, 0),
-            (3, b"sync", b"a", 0, 0),
-            (4, b"leave", b"b", 0, 0),
-            (5, b"lose", b"E", 0, 0),
-            (6, b"deliver", b"", 1, 0),
-            (7, b"unanswered", b"", 2, 0),
-            (8, b"settle", b"", 0, 0),
-            (9, b"drain", b"", 0, 0),
+            (1, Command::Join, b"A", 0, 0),
+            (2, Command::Rejoin, b"A", 0, 0),
+            (3, Command::Sync, b"a", 0, 0),
+            (4, Command::Leave, b"b", 0, 0),
+            (5, Command::Lose, b"E", 0, 0),
+            (6, Command::Deliver, b"", 1, 0),
+            (7, Command::Unanswered, b"", 2, 0),
+            (8, Command::Settle, b"", 0, 0),
+            (9, Command::Drain, b"", 0, 0),
         ]),
     ),
 ];
 
+/// The rows of `SENDS`.
+fn sends() -> &'static [Row<'static>] {
+    SENDS
+}
+
 #[test]
 fn a_topic_stands_before_keys_and_partitions(rt: HostRuntime) {
     let topics = a_and_b(&rt);
-    assert_eq!(rt; first_other(rt.alloc(), &topics, AMONG), None);
+    let append = first_other(rt.alloc(), &topics, appends());
+    let poll = first_other(rt.alloc(), &topics, polls());
+    let send = first_other(rt.alloc(), &topics, sends());
+    assert_eq!(rt; (append, poll, send), (None, None, None));
 }
 
+/// A text, how many bytes of which kind stand behind it, and what it is read as with these.
+type LongerRow<'a> = (&'a [u8], u8, usize, Read<'a>);
+
 /// Whether a text with so many bytes of one kind behind it is read so.
-fn is_longer_read(
-    alloc: Global,
-    topics: &[Topic],
-    longer_by: (&[u8], u8, usize),
-    read: &Read<'_>,
-) -> Result<bool, Memory>
+fn is_longer_read(alloc: Global, topics: &[Topic], row: &LongerRow<'_>) -> Result<bool, Memory>
     requires { MayBeTopics topics.now }
 {
-    let (text, byte, count) = longer_by;
-    let script = longer(alloc, text, byte, count)?;
+    let (text, byte, count, read) = row;
+    let script = longer(alloc, text, *byte, *count)?;
     Ok(is_read(alloc, topics, &script, read))
 }
 
-#[test]
-fn lines_and_names_are_as_long_among_topics(rt: HostRuntime) -> Result<(), Fail> {
-    let topics = a_and_b(&rt);
-    let over = is_longer_read(
-        rt.alloc(),
-        &topics,
-        (b"append b ", b'k', 248),
-        &Read::Bad(1),
-    )?;
-    let name = is_longer_read(rt.alloc(), &topics, (b"join ", b'x', 33), &Read::Bad(1))?;
-    let said = [(1, b"append in".as_slice(), LONGEST.as_slice(), 1, 0)];
-    let lines = Read::Lines(&said);
-    let longest = is_longer_read(rt.alloc(), &topics, (b"append b ", b'k', 247), &lines)?;
-    assert!(rt; over && name && longest);
-    Ok(())
+/// The first of some such texts that is read otherwise.
+fn first_other_longer(
+    alloc: Global,
+    topics: &[Topic],
+    rows: &[LongerRow<'_>],
+) -> Result<Option<usize>, Memory>
+    requires { MayBeTopics topics.now }
+{
+    for (index, row) in rows.iter().enumerate() {
+        if !is_longer_read(alloc, topics, row)? {
+            return Ok(Some(index));
+        }
+    }
+    Ok(None)
 }
 
-/// The longest key among topics.
-const LONGEST: [u8; 247] = [b'k'; 247];
+/// A key and a name that are too long among topics, and the longest key.
+const LONG_AMONG: &[LongerRow<'static>] = &[
+    (b"append b ", b'k', 248, Read::Bad(1)),
+    (b"join ", b'x', 33, Read::Bad(1)),
+    (
+        b"append b ",
+        b'k',
+        247,
+        Read::One((1, Command::AppendIn, &[b'k'; 247], 1, 0)),
+    ),
+];
+
+/// The rows of `LONG_AMONG`.
+fn long_among() -> &'static [LongerRow<'static>] {
+    LONG_AMONG
+}
+
+#[test]
+fn lines_and_names_are_as_long_among_topics(rt: HostRuntime) {
+    let topics = a_and_b(&rt);
+    let other = first_other_longer(rt.alloc(), &topics, long_among());
+    assert_eq!(rt; other, Ok(None));
+}
 
 #[test]
 fn each_form_is_read(rt: HostRuntime) {
-    assert_eq!(rt; first_other(rt.alloc(), &[], ENDS), None);
+    assert_eq!(rt; first_other(rt.alloc(), &[], ends()), None);
 }
 
 #[test]
 fn numbers_have_one_to_ten_digits(rt: HostRuntime) {
-    assert_eq!(rt; first_other(rt.alloc(), &[], NUMBERS), None);
+    assert_eq!(rt; first_other(rt.alloc(), &[], numbers()), None);
 }
 
 #[test]
 fn what_is_no_form_is_refused_at_the_first_such_line(rt: HostRuntime) {
-    assert_eq!(rt; first_other(rt.alloc(), &[], BAD), None);
+    assert_eq!(rt; first_other(rt.alloc(), &[], bad()), None);
+}
+
+/// The longest name, and one that is too long.
+const LONG_NAMES: &[LongerRow<'static>] = &[
+    (
+        b"join ",
+        b'x',
+        32,
+        Read::One((1, Command::Join, &[b'x'; 32], 0, 0)),
+    ),
+    (b"join ", b'x', 33, Read::Bad(1)),
+];
+
+/// The rows of `LONG_NAMES`.
+fn long_names() -> &'static [LongerRow<'static>] {
+    LONG_NAMES
 }
 
 #[test]
-fn a_name_has_32_bytes_at_most(rt: HostRuntime) -> Result<(), Fail> {
-    let said = [(1, b"join".as_slice(), [b'x'; 32].as_slice(), 0, 0)];
-    let longest = is_longer_read(rt.alloc(), &[], (b"join ", b'x', 32), &Read::Lines(&said))?;
-    let over = is_longer_read(rt.alloc(), &[], (b"join ", b'x', 33), &Read::Bad(1))?;
-    assert!(rt; longest && over);
-    Ok(())
+fn a_name_has_32_bytes_at_most(rt: HostRuntime) {
+    let other = first_other_longer(rt.alloc(), &[], long_names());
+    assert_eq!(rt; other, Ok(None));
 }
 
 /// Whether the longest line is read, and also with a carriage return at its end.
-fn is_longest_read(alloc: Global, longest: &[u8], read: &Read<'_>) -> Result<bool, Memory> {
-    let is_ended_read = is_longer_read(alloc, &[], (longest, b'\r', 1), read)?;
-    Ok(is_ended_read && is_read(alloc, &[], longest, read))
+fn is_longest_read(alloc: Global, longest: &[u8], read: Read<'_>) -> Result<bool, Memory> {
+    let is_ended_read = is_longer_read(alloc, &[], &(longest, b'\r', 1, read))?;
+    Ok(is_ended_read && is_read(alloc, &[], longest, &read))
 }
 
 /// Whether a line of a command and so many bytes of a key is read, and also with that end.
-fn is_append_read(alloc: Global, count: usize, read: &Read<'_>) -> Result<bool, Memory> {
+fn is_append_read(alloc: Global, count: usize, read: Read<'_>) -> Result<bool, Memory> {
     let line = longer(alloc, b"append ", b'k', count)?;
     is_longest_read(alloc, &line, read)
 }
 
+/// What the longest line is read as.
+const LONGEST: Read<'static> = Read::One((1, Command::Append, &[b'k'; 249], 0, 0));
+
+/// A line that is too long, the longest comment, and one that is too long.
+const LONG_LINES: &[LongerRow<'static>] = &[
+    (b"append ", b'k', 250, Read::Bad(1)),
+    (b"#", b'#', 255, Read::Lines(&[])),
+    (b"#", b'#', 256, Read::Bad(1)),
+];
+
+/// The rows of `LONG_LINES`.
+fn long_lines() -> &'static [LongerRow<'static>] {
+    LONG_LINES
+}
+
 #[test]
-fn a_line_has_256_bytes_at_most(rt: HostRuntime) -> Result<(), Fail> {
-    let said = [(1, b"append".as_slice(), [b'k'; 249].as_slice(), 0, 0)];
-    let longest = is_append_read(rt.alloc(), 249, &Read::Lines(&said))?;
-    let over = is_longer_read(rt.alloc(), &[], (b"append ", b'k', 250), &Read::Bad(1))?;
-    let comment = is_longer_read(rt.alloc(), &[], (b"#", b'#', 255), &Read::Lines(&[]))?;
-    let long_comment = is_longer_read(rt.alloc(), &[], (b"#", b'#', 256), &Read::Bad(1))?;
-    assert!(rt; longest && over && comment && long_comment);
-    Ok(())
+fn a_line_has_256_bytes_at_most(rt: HostRuntime) {
+    let longest = is_append_read(rt.alloc(), 249, LONGEST);
+    let other = first_other_longer(rt.alloc(), &[], long_lines());
+    assert_eq!(rt; (longest, other), (Ok(true), Ok(None)));
 }
 
 /// Adds 20,000 lines.
@@ -404,28 +534,49 @@ fn add_many(script: &mut Vec<u8>) -> Result<(), Memory> {
 /// A script of them.
 fn long_script(alloc: Global) -> Result<Vec<u8>, Memory> {
     let mut script = Vec::new(alloc);
-    add_many(&mut script)?;
-    Ok(script)
+    let done = add_many(&mut script);
+    done.and(Ok(script))
+}
+
+/// The number of the last of some lines.
+fn last_number(lines: &[Line]) -> Option<u64> {
+    match lines.last() {
+        Some(line) => Some(line.number),
+        None => None,
+    }
 }
 
 /// How many lines a script has, and the number of the last one.
 fn count_and_last(alloc: Global, script: &[u8]) -> Result<(usize, Option<u64>), Refusal> {
     let lines = lines_of(alloc, &[], script)?;
-    Ok((lines.len(), lines.last().map(|line| line.number)))
+    Ok((lines.len(), last_number(&lines)))
+}
+
+/// The same of that script.
+fn long_count_and_last(alloc: Global) -> Result<(usize, Option<u64>), Refusal> {
+    let script = long_script(alloc)?;
+    count_and_last(alloc, &script)
 }
 
 #[test]
-fn a_long_script_is_read(rt: HostRuntime) -> Result<(), Fail> {
-    let script = long_script(rt.alloc())?;
-    let told = count_and_last(rt.alloc(), &script);
+fn a_long_script_is_read(rt: HostRuntime) {
+    let told = long_count_and_last(rt.alloc());
     assert_eq!(rt; told, Ok((20_000, Some(20_000))));
-    Ok(())
+}
+
+/// Whether a key lends these bytes, and whether it gives them away.
+fn lends_and_gives(key: Key, bytes: &[u8]) -> (bool, bool) {
+    let lends = key.bytes() == bytes;
+    (lends, key.into_bytes().as_slice() == bytes)
+}
+
+/// Whether a key of these bytes does.
+fn key_of(alloc: Global, bytes: &[u8]) -> Result<(bool, bool), Memory> {
+    let copy = bytes.to_vec(alloc)?;
+    Ok(lends_and_gives(Key::new(copy), bytes))
 }
 
 #[test]
-fn a_key_gives_its_bytes(rt: HostRuntime) -> Result<(), Fail> {
-    let key = Key::new(b"k 1".as_slice().to_vec(rt.alloc())?);
-    assert!(rt; key.bytes() == b"k 1".as_slice());
-    assert!(rt; key.into_bytes().as_slice() == b"k 1".as_slice());
-    Ok(())
+fn a_key_gives_its_bytes(rt: HostRuntime) {
+    assert_eq!(rt; key_of(rt.alloc(), b"k 1"), Ok((true, true)));
 }
