@@ -3,6 +3,7 @@
 ghost use Rattle.std.specs.Prelude.{◌≤◌};
 
 use crate::two_topics::topic;
+use csv::Writer;
 use group_machine::{Cluster, Commit, Name};
 use keyed_table::Partial;
 use lane_words::{MOST_PARTITIONS, Memory, Refusal};
@@ -12,7 +13,6 @@ use script::Topic;
 use std::alloc::Global;
 use std::process::Abort;
 use std::random::RandomSource;
-use std::test::Fail;
 
 /// A call on a cluster that is taken, or the rows that it has then.
 ///
@@ -34,6 +34,12 @@ enum Step<'a> {
     Closing(&'a [u8]),
 }
 
+/// Whether one joins under this name, and is given this number.
+fn joins(rt: &impl Abort, cluster: &mut Cluster, name: &[u8], number: u32) -> bool {
+    let name = Name::new(name).expect(rt, "a name");
+    cluster.join(name) == Ok(number)
+}
+
 /// Whether a step is taken, or tells these rows.
 fn is_so(
     rt: &impl Abort,
@@ -43,9 +49,7 @@ fn is_so(
     step: &Step<'_>,
 ) -> Result<bool, Memory> {
     let is_so = match step {
-        Step::Join(text, number) => {
-            cluster.join(Name::new(text).expect(rt, "a name")) == Ok(*number)
-        }
+        Step::Join(text, number) => joins(rt, cluster, text, *number),
         Step::Append(key) => cluster.append(key).is_ok(),
         Step::Lose(member) => cluster.lose(*member) == Ok(()),
         Step::Commit(partition, ids) => commit(alloc, cluster, *partition, ids)?,
@@ -71,6 +75,12 @@ fn first_other(
     Ok(None)
 }
 
+/// Whether a writer has written this.
+fn has_text(writer: Writer<Vec<u8>>, wanted: &[u8]) -> Result<bool, Memory> {
+    let text = rows::text_of(writer)?;
+    Ok(text.as_slice() == wanted)
+}
+
 /// Whether a cluster has these rows of moves from an index on.
 fn has_moves(
     alloc: Global,
@@ -81,8 +91,7 @@ fn has_moves(
 ) -> Result<bool, Memory> {
     let mut writer = rows::new_writer(alloc);
     write_moves(&mut writer, topics, cluster, from)?;
-    let text = rows::text_of(writer)?;
-    Ok(text.as_slice() == wanted)
+    has_text(writer, wanted)
 }
 
 /// Whether a cluster has these closing rows.
@@ -94,8 +103,19 @@ fn has_closing(
 ) -> Result<bool, Memory> {
     let mut writer = rows::new_writer(alloc);
     write_closing(&mut writer, topics, cluster)?;
-    let text = rows::text_of(writer)?;
-    Ok(text.as_slice() == wanted)
+    has_text(writer, wanted)
+}
+
+/// What member 1 sends in generation 1 of records of these keys, from the start of a log.
+fn sent(alloc: Global, partition: u32, ids: &[u32]) -> Result<Commit, Memory> {
+    let ids = Vec::from_slice(alloc, ids)?;
+    let partial = Partial::of(alloc, ids)?;
+    Ok(Commit::new(1, 1, partition, 0, partial))
+}
+
+/// Whether a cluster takes what is sent, and then has committed so many records.
+fn takes(cluster: &mut Cluster, sent: &Commit, records: usize) -> bool {
+    matches!(cluster.commit(sent), Ok(end) if end as usize == records)
 }
 
 /// Whether member 1 commits records of these keys, in generation 1 and from the start of a log.
@@ -105,13 +125,8 @@ fn commit(
     partition: u32,
     ids: &[u32],
 ) -> Result<bool, Memory> {
-    let partial = Partial::of(alloc, Vec::from_slice(alloc, ids)?)?;
-    let sent = Commit::new(1, 1, partition, 0, partial);
-    Ok(
-        cluster
-            .commit(&sent)
-            .is_ok_and(|end| end as usize == ids.len()),
-    )
+    let sent = sent(alloc, partition, ids)?;
+    Ok(takes(cluster, &sent, ids.len()))
 }
 
 /// The first step that is not so, of a cluster of this many partitions. Nobody else owns a cluster: each
@@ -216,19 +231,21 @@ fn a_partition_is_told_by_its_topic(rt: HostRuntime) {
     assert_eq!(rt; other, Ok(None));
 }
 
+/// Writes the rows of two refused lines.
+fn write_two_refused(writer: &mut Writer<Vec<u8>>) -> Result<(), Memory> {
+    write_refused(writer, 7, &Refusal::StaleGeneration)?;
+    write_refused(writer, u64::MAX, &Refusal::OffsetMismatch { committed: 5 })
+}
+
+/// Whether those are written so.
+fn are_refused(alloc: Global, wanted: &[u8]) -> Result<bool, Memory> {
+    let mut writer = rows::new_writer(alloc);
+    write_two_refused(&mut writer)?;
+    has_text(writer, wanted)
+}
+
 #[test]
-fn a_refused_line_is_told_by_its_number(rt: HostRuntime) -> Result<(), Fail> {
-    let mut writer = rows::new_writer(rt.alloc());
-    write_refused(&mut writer, 7, &Refusal::StaleGeneration)?;
-    write_refused(
-        &mut writer,
-        u64::MAX,
-        &Refusal::OffsetMismatch { committed: 5 },
-    )?;
-    let text = rows::text_of(writer)?;
-    assert_eq!(rt;
-        text.as_slice(),
-        b"refused,7,2\nrefused,18446744073709551615,11\n".as_slice()
-    );
-    Ok(())
+fn a_refused_line_is_told_by_its_number(rt: HostRuntime) {
+    let wanted = b"refused,7,2\nrefused,18446744073709551615,11\n";
+    assert_eq!(rt; are_refused(rt.alloc(), wanted), Ok(true));
 }

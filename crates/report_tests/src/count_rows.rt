@@ -9,32 +9,59 @@ use report_rows::count_rows::{count_rows_texts, write_count};
 use report_rows::rows;
 use std::alloc::Global;
 use std::random::RandomSource;
-use std::test::Fail;
 use std::thread::Threads;
 
-#[test]
-fn a_count_is_rows_of_text(rt: HostRuntime) -> Result<(), Fail> {
-    let mut logs = Logs::new(&rt, rt.alloc(), 1)?;
-    logs.append(b"plain")?;
-    logs.append(b"a,\"b")?;
-    logs.append(b"")?;
-    assert_eq!(rt; logs.keys(), 3);
-    let texts = count_rows_texts(&rt, rt.alloc(), &logs, &[7, 1, 10], 12, 18)?;
-    assert_eq!(rt; texts.len(), 1);
-    assert_eq!(rt;
-        texts[0].as_slice(),
-        b"count,plain,7\ncount,\"a,\"\"b\",1\ncount,,10\ntotal,12,18\n".as_slice()
-    );
+/// Appends a record of each key.
+fn append_each(logs: &mut Logs, keys: &[&[u8]]) -> Result<(), Refusal> {
+    for key in keys {
+        logs.append(key)?;
+    }
     Ok(())
 }
 
-/// Logs with a record of each number below this one.
-fn numbered(rt: &impl RandomSource, alloc: Global, keys: u32) -> Result<Logs, Refusal> {
+/// How many keys logs have, and whether this text alone tells these counts of theirs.
+fn told<R: Threads + Sync>(
+    rt: &R,
+    alloc: Global,
+    logs: &Logs,
+    counts: &[u64],
+    wanted: &[u8],
+) -> Result<(u32, bool), Memory> {
+    let keys = logs.keys();
+    if keys as usize != counts.len() {
+        return Ok((keys, false));
+    }
+    let texts = count_rows_texts(rt, alloc, logs, counts, 12, 18)?;
+    Ok((keys, texts.len() == 1 && texts[0].as_slice() == wanted))
+}
+
+/// The same of new logs with a record of each key.
+fn told_of_keys<R: Threads + Sync + RandomSource>(
+    rt: &R,
+    alloc: Global,
+    keys: &[&[u8]],
+    counts: &[u64],
+    wanted: &[u8],
+) -> Result<(u32, bool), Refusal> {
     let mut logs = Logs::new(rt, alloc, 1)?;
+    append_each(&mut logs, keys)?;
+    Ok(told(rt, alloc, &logs, counts, wanted)?)
+}
+
+#[test]
+fn a_count_is_rows_of_text(rt: HostRuntime) {
+    let keys = [b"plain".as_slice(), b"a,\"b", b""];
+    let rows = b"count,plain,7\ncount,\"a,\"\"b\",1\ncount,,10\ntotal,12,18\n";
+    let told = told_of_keys(&rt, rt.alloc(), &keys, &[7, 1, 10], rows);
+    assert_eq!(rt; told, Ok((3, true)));
+}
+
+/// Appends a record of each number below this one.
+fn append_numbers(logs: &mut Logs, keys: u32) -> Result<(), Refusal> {
     for key in 0..keys {
         logs.append(&key.to_le_bytes())?;
     }
-    Ok(logs)
+    Ok(())
 }
 
 /// Whether a text is several ones, one after another.
@@ -49,28 +76,40 @@ fn is_several(text: &[u8], parts: &[Vec<u8>]) -> bool {
     rest.is_empty() && parts.len() > 1
 }
 
-/// Writes the row of each key with its count, one after the other.
+/// Writes the row of each key with its count, one after the other, and the totals.
 fn write_each(writer: &mut Writer<Vec<u8>>, logs: &Logs, counts: &[u64]) -> Result<(), Memory>
     requires { length logs.now.keys ≡ length counts.now }
 {
     for id in 0..logs.keys() {
         write_count(writer, logs.key(id), counts[id as usize])?;
     }
-    Ok(())
+    rows::write_total(writer, 1, 2)
 }
 
-/// The rows of a count, made one after the other, and the totals.
+/// Those rows.
 fn rows_in_turn(alloc: Global, logs: &Logs, counts: &[u64]) -> Result<Vec<u8>, Memory>
     requires { length logs.now.keys ≡ length counts.now }
 {
     let mut writer = rows::new_writer(alloc);
     write_each(&mut writer, logs, counts)?;
-    rows::write_total(&mut writer, 1, 2)?;
     rows::text_of(writer)
 }
 
-/// Whether the texts of a count are the rows that are made one after the other, and the totals.
-fn are_made_in_turn<R: Threads + Sync>(
+/// Whether texts are the rows that are made one after the other, and the totals.
+fn are_made_in_turn(
+    alloc: Global,
+    logs: &Logs,
+    counts: &[u64],
+    texts: &[Vec<u8>],
+) -> Result<bool, Memory>
+    requires { length logs.now.keys ≡ length counts.now }
+{
+    let plain = rows_in_turn(alloc, logs, counts)?;
+    Ok(is_several(plain.as_slice(), texts))
+}
+
+/// Whether the texts of a count are.
+fn are_told_in_turn<R: Threads + Sync>(
     rt: &R,
     alloc: Global,
     logs: &Logs,
@@ -79,14 +118,32 @@ fn are_made_in_turn<R: Threads + Sync>(
     requires { length logs.now.keys ≡ length counts.now }
 {
     let texts = count_rows_texts(rt, alloc, logs, counts, 1, 2)?;
-    let plain = rows_in_turn(alloc, logs, counts)?;
-    Ok(is_several(plain.as_slice(), texts.as_slice()))
+    are_made_in_turn(alloc, logs, counts, texts.as_slice())
+}
+
+/// Whether those of a count of 3 for each key are.
+fn threes_are_told_in_turn<R: Threads + Sync>(
+    rt: &R,
+    alloc: Global,
+    logs: &Logs,
+) -> Result<bool, Memory> {
+    let counts = vec![in alloc; 3_u64; logs.keys() as usize]?;
+    are_told_in_turn(rt, alloc, logs, counts.as_slice())
+}
+
+/// Whether those of new logs with a record of each number below this one are.
+fn numbers_are_told_in_turn<R: Threads + Sync + RandomSource>(
+    rt: &R,
+    alloc: Global,
+    keys: u32,
+) -> Result<bool, Refusal> {
+    let mut logs = Logs::new(rt, alloc, 1)?;
+    append_numbers(&mut logs, keys)?;
+    Ok(threes_are_told_in_turn(rt, alloc, &logs)?)
 }
 
 #[test]
-fn many_rows_are_those_made_in_turn(rt: HostRuntime) -> Result<(), Fail> {
-    let logs = numbered(&rt, rt.alloc(), 150_000)?;
-    let counts = vec![in rt.alloc(); 3_u64; logs.keys() as usize]?;
-    assert_eq!(rt; are_made_in_turn(&rt, rt.alloc(), &logs, &counts), Ok(true));
-    Ok(())
+fn many_rows_are_those_made_in_turn(rt: HostRuntime) {
+    let are_told = numbers_are_told_in_turn(&rt, rt.alloc(), 150_000);
+    assert_eq!(rt; are_told, Ok(true));
 }

@@ -1,17 +1,19 @@
 //! The worked rows of a count, over devices that give and take little, and that fail.
 
-ghost use Rattle.std.specs.Prelude.{◌≡◌, IfOk};
-ghost use Rattle.script.specs.Topics.{AreTopics};
+ghost use Rattle.std.specs.Prelude.{◌≡◌, ◌≤◌, ◌<◌, ◌-◌, ◌^◌};
+ghost use Rattle.count_report.specs.Reports.{AreInRange};
 
 use crate::slow::{Drip, Page};
-use crate::two_topics::{a_and_b, options_of_two};
+use crate::two_topics::options_of_two;
 use crate::{FILE, TOPIC_FILE, options};
+use command_line::Options;
 use count_report::count_text;
 use devices::{FromRead, FromWrite};
 use itoa::Buffer;
-use lane_words::{Memory, Refusal};
-use script::Topic;
+use lane_words::{MOST_PARTITIONS, Memory, Refusal};
 use std::alloc::Global;
+use std::io::Write;
+use std::process::Abort;
 use std::random::RandomSource;
 use std::test::Fail;
 use std::thread::Threads;
@@ -20,123 +22,117 @@ const TOPIC_TEXT: &[u8] = b"count,21,2\ncount,abc,1\ncount,4,2\ntotal,5,5\n";
 
 const TEXT: &[u8] = b"count,21,2\ncount,4,1\ncount,foobar,1\ncount,abc,1\ntotal,5,5\n";
 
-fn drip(rt: &HostRuntime, fails_at: usize) -> Result<Drip, Memory>
-    ensures { IfOk result (λ d. d.failures ≡ 0) }
+// A count is called in functions that say nothing of it, and each owns little: each assertion is
+// proved over all that was said before it, and with all that lets go what is owned there.
+
+/// What a count of a file answers, with these options and into this writer.
+fn counted<R: Threads + Sync + RandomSource, W: Write + Drop>(
+    rt: &R,
+    alloc: Global,
+    file: &[u8],
+    options: &Options,
+    writer: W,
+) -> Result<(), Refusal>
+    requires { AreInRange options.now }
 {
-    Ok(Drip {
-        bytes: Vec::from_slice(rt.alloc(), FILE)?,
-        at: 0,
-        fails_at,
-        failures: 0,
-    })
+    let (mut file, mut sink) = (FromRead::new(file), FromWrite::new(writer));
+    count_text(rt, alloc, &mut file, options, &mut sink)
 }
 
-fn page(rt: &HostRuntime, calls: u64) -> Page
-    ensures { result.failures ≡ 0 }
+/// What a count of a file without topics answers, in this many partitions and over this text.
+fn counted_over<R: Threads + Sync + RandomSource>(
+    rt: &R,
+    alloc: Global,
+    file: &[u8],
+    partitions: u32,
+    text: &mut [u8],
+) -> Result<(), Refusal>
+    requires { (1 ≤ partitions) × (partitions ≤ MOST_PARTITIONS) }
 {
-    Page {
-        text: Vec::new(rt.alloc()),
-        calls,
-        failures: 0,
-    }
+    let options = options(alloc, partitions);
+    counted(rt, alloc, file, &options, text)
 }
 
 #[test]
-fn a_file_is_counted_whatever_the_partitions(rt: HostRuntime) -> Result<(), Fail> {
+fn a_file_is_counted_whatever_the_partitions(rt: HostRuntime) {
     for partitions in [1, 4, 5, 4096] {
-        let mut source = FromRead::new(FILE);
         let mut text = [0u8; TEXT.len()];
-        let mut sink = FromWrite::new(text.as_mut_slice());
-        count_text(
-            &rt,
-            rt.alloc(),
-            &mut source,
-            &options(rt.alloc(), partitions),
-            &mut sink,
-        )?;
-        drop(sink);
-        assert_eq!(rt; text.as_slice(), TEXT);
+        let answer = counted_over(&rt, rt.alloc(), FILE, partitions, text.as_mut_slice());
+        assert_eq!(rt; (answer, text.as_slice()), (Ok(()), TEXT));
     }
-    Ok(())
 }
 
-/// What a count of a file of these topics answers, and whether it has written this.
-fn counted_in_topics<R: Threads + Sync + RandomSource>(
+/// What a count of a file of the two topics answers, and whether it has written this.
+fn counted_in_topics<R: Threads + Sync + RandomSource + Abort>(
     rt: &R,
     alloc: Global,
-    topics: [Topic; 2],
-    bytes: &[u8],
+    file: &[u8],
     wanted: &[u8],
-) -> Result<(Result<(), Refusal>, bool), Memory>
-    requires { AreTopics topics }
-{
-    let options = options_of_two(alloc, topics)?;
+) -> Result<(Result<(), Refusal>, bool), Memory> {
+    let options = options_of_two(rt, alloc)?;
     let mut text = Vec::new(alloc);
-    let mut sink = FromWrite::new(&mut text);
-    let mut file = FromRead::new(bytes);
-    let answer = count_text(rt, alloc, &mut file, &options, &mut sink);
-    drop(sink);
+    let answer = counted(rt, alloc, file, &options, &mut text);
     Ok((answer, text.as_slice() == wanted))
 }
 
 #[test]
-fn a_file_of_two_topics_is_counted(rt: HostRuntime) -> Result<(), Fail> {
-    let steps: [(&[u8], &[u8], Result<(), Refusal>); 4] = [
+fn a_file_of_two_topics_is_counted(rt: HostRuntime) {
+    let rows: [(&[u8], &[u8], Result<(), Refusal>); 4] = [
         (TOPIC_FILE, TOPIC_TEXT, Ok(())),
         (b"21,c\n", b"", Err(Refusal::NoSuchTopic { nth: 1 })),
         (b"21,a\n21\n", b"", Err(Refusal::BadCsv { nth: 2 })),
         (b"21\n", b"", Err(Refusal::NoSuchColumn { nth: 1 })),
     ];
-    for (bytes, wanted, answer) in steps {
-        let counted = counted_in_topics(&rt, rt.alloc(), a_and_b(&rt), bytes, wanted)?;
-        assert_eq!(rt; counted, (answer, true));
+    for (file, wanted, answer) in rows {
+        let counted = counted_in_topics(&rt, rt.alloc(), file, wanted);
+        assert_eq!(rt; counted, Ok((answer, true)));
     }
-    Ok(())
+}
+
+/// What a count of the file answers, read byte by byte up to the read that fails, and written to
+/// this page.
+fn counted_slowly<R: Threads + Sync + RandomSource>(
+    rt: &R,
+    alloc: Global,
+    fails_at: usize,
+    page: &mut Page,
+) -> Result<(), Refusal>
+    requires { page.old.failures < 2 ^ 64 - 1 }
+{
+    let mut drip = Drip::new(alloc, FILE, fails_at)?;
+    let options = options(alloc, 4);
+    count_text(rt, alloc, &mut drip, &options, page)
 }
 
 #[test]
-fn a_read_that_fails_is_told_and_nothing_is_written(rt: HostRuntime) -> Result<(), Fail> {
+fn a_read_that_fails_is_told_and_nothing_is_written(rt: HostRuntime) {
     for fails_at in 0..=FILE.len() {
-        let (mut source, mut sink) = (drip(&rt, fails_at)?, page(&rt, 100));
-        let answer = count_text(
-            &rt,
-            rt.alloc(),
-            &mut source,
-            &options(rt.alloc(), 4),
-            &mut sink,
-        );
-        assert_eq!(rt; answer, Err(Refusal::ReadFailed));
-        assert_eq!(rt; sink.text.len(), 0);
+        let mut page = Page::new(rt.alloc(), 100);
+        let answer = counted_slowly(&rt, rt.alloc(), fails_at, &mut page);
+        assert_eq!(rt; (answer, page.text.len()), (Err(Refusal::ReadFailed), 0));
     }
-    let (mut source, mut sink) = (drip(&rt, 100)?, page(&rt, 100));
-    count_text(
-        &rt,
-        rt.alloc(),
-        &mut source,
-        &options(rt.alloc(), 4),
-        &mut sink,
-    )?;
-    assert_eq!(rt; sink.text.as_slice(), TEXT);
-    Ok(())
+    let mut page = Page::new(rt.alloc(), 100);
+    let answer = counted_slowly(&rt, rt.alloc(), 100, &mut page);
+    assert_eq!(rt; (answer, page.text.as_slice()), (Ok(()), TEXT));
+}
+
+/// What a count answers that may write so often, and the beginning of its text that it writes.
+fn beginning(calls: u8) -> (Result<(), Refusal>, &'static [u8]) {
+    let taken = (4 * usize::from(calls)).min(TEXT.len());
+    if taken == TEXT.len() {
+        (Ok(()), TEXT)
+    } else {
+        (Err(Refusal::WriteFailed), &TEXT[..taken])
+    }
 }
 
 #[test]
-fn a_write_that_fails_leaves_a_beginning(rt: HostRuntime) -> Result<(), Fail> {
+fn a_write_that_fails_leaves_a_beginning(rt: HostRuntime) {
     for calls in 0..=20_u8 {
-        let (mut source, mut sink) = (drip(&rt, 100)?, page(&rt, u64::from(calls)));
-        let answer = count_text(
-            &rt,
-            rt.alloc(),
-            &mut source,
-            &options(rt.alloc(), 4),
-            &mut sink,
-        );
-        let taken = (4 * usize::from(calls)).min(TEXT.len());
-        assert_eq!(rt; answer.is_ok(), taken == TEXT.len());
-        assert!(rt; answer.is_ok() || answer == Err(Refusal::WriteFailed));
-        assert_eq!(rt; sink.text.as_slice(), &TEXT[..taken]);
+        let mut page = Page::new(rt.alloc(), u64::from(calls));
+        let answer = counted_slowly(&rt, rt.alloc(), 100, &mut page);
+        assert_eq!(rt; (answer, page.text.as_slice()), beginning(calls));
     }
-    Ok(())
 }
 
 /// Adds a number in decimal, between these.
@@ -148,33 +144,50 @@ fn add(text: &mut Vec<u8>, before: &[u8], number: u32, after: &[u8]) -> Result<(
     Ok(())
 }
 
+/// Adds 300000 records of 200000 keys.
+fn add_records(file: &mut Vec<u8>) -> Result<(), Memory> {
+    for i in 0..300_000_u32 {
+        add(file, b"", i % 200_000, b",some more text\n")?;
+    }
+    Ok(())
+}
+
+/// Adds the rows of their count.
+fn add_rows(text: &mut Vec<u8>) -> Result<(), Memory> {
+    for i in 0..200_000_u32 {
+        let count = if i < 100_000 { b",2\n" } else { b",1\n" };
+        add(text, b"count,", i, count)?;
+    }
+    text.extend_from_slice(b"total,300000,300000\n")?;
+    Ok(())
+}
+
+/// What a count of a file of those records answers, over this text.
+fn records_counted<R: Threads + Sync + RandomSource>(
+    rt: &R,
+    alloc: Global,
+    text: &mut [u8],
+) -> Result<(), Refusal> {
+    let mut file = Vec::new(alloc);
+    add_records(&mut file)?;
+    counted_over(rt, alloc, file.as_slice(), 4096, text)
+}
+
+/// Whether a text begins with the rows of their count, and the byte behind them.
+fn begins_with_rows(alloc: Global, text: &[u8]) -> Result<(bool, Option<u8>), Memory> {
+    let mut rows = Vec::new(alloc);
+    add_rows(&mut rows)?;
+    Ok((
+        text.starts_with(rows.as_slice()),
+        text.get(rows.len()).copied(),
+    ))
+}
+
 #[test]
 fn a_file_of_a_few_megabytes_is_counted(rt: HostRuntime) -> Result<(), Fail> {
-    let (mut file, mut expected) = (Vec::new(rt.alloc()), Vec::new(rt.alloc()));
-    for i in 0..300_000_u32 {
-        add(&mut file, b"", i % 200_000, b",some more text\n")?;
-    }
-    for i in 0..200_000_u32 {
-        add(
-            &mut expected,
-            b"count,",
-            i,
-            if i < 100_000 { b",2\n" } else { b",1\n" },
-        )?;
-    }
-    expected.extend_from_slice(b"total,300000,300000\n")?;
-    let mut source = FromRead::new(file.as_slice());
     let mut text = vec![in rt.alloc(); 0_u8; 8 << 20]?;
-    let mut sink = FromWrite::new(text.as_mut_slice());
-    count_text(
-        &rt,
-        rt.alloc(),
-        &mut source,
-        &options(rt.alloc(), 4096),
-        &mut sink,
-    )?;
-    drop(sink);
-    assert!(rt; text.as_slice().starts_with(expected.as_slice()));
-    assert_eq!(rt; text.as_slice().get(expected.len()), Some(&0));
+    let answer = records_counted(&rt, rt.alloc(), text.as_mut_slice());
+    let begins = begins_with_rows(rt.alloc(), text.as_slice());
+    assert_eq!(rt; (answer, begins), (Ok(()), Ok((true, Some(0)))));
     Ok(())
 }

@@ -1,87 +1,101 @@
 //! Bytes that are read and written little by little, and calls that fail.
 
+ghost use Rattle.std.specs.Prelude.{◌<◌, ◌-◌, ◌^◌};
+
 use crate::slow::{Drip, Page};
-use devices::{FromRead, FromWrite, read_all, write_all, write_texts};
-use lane_words::Refusal;
+use devices::{FromRead, FromWrite, Source, read_all, write_all, write_texts};
+use lane_words::{Memory, Refusal};
+use std::alloc::Global;
 use std::test::Fail;
 
+/// Whether a source is read to its end, and gave these bytes.
+fn gives<S: Source>(alloc: Global, source: &mut S, bytes: &[u8]) -> Result<bool, Refusal>
+    requires { S.failures source.old < 2 ^ 64 - 1 }
+{
+    let all = read_all(alloc, source)?;
+    Ok(all.as_slice() == bytes)
+}
+
+/// Whether a source that gives one byte a read, and fails at one, gave these bytes, and after how
+/// many failures.
+fn drips(
+    alloc: Global,
+    bytes: &[u8],
+    fails_at: usize,
+) -> Result<(Result<bool, Refusal>, u64), Memory> {
+    let mut drip = Drip::new(alloc, bytes, fails_at)?;
+    let answer = gives(alloc, &mut drip, bytes);
+    Ok((answer, drip.failures))
+}
+
 #[test]
-fn a_source_is_read_to_its_end(rt: HostRuntime) -> Result<(), Fail> {
-    let mut drip = Drip {
-        bytes: Vec::from_slice(rt.alloc(), b"one\ntwo\n")?,
-        at: 0,
-        fails_at: 100,
-        failures: 0,
-    };
-    let all = read_all(rt.alloc(), &mut drip)?;
-    assert_eq!(rt; all.as_slice(), b"one\ntwo\n".as_slice());
+fn a_source_is_read_to_its_end(rt: HostRuntime) {
+    assert_eq!(rt; drips(rt.alloc(), b"one\ntwo\n", 100), Ok((Ok(true), 0)));
     let mut file = FromRead::new(b"three".as_slice());
-    let all = read_all(rt.alloc(), &mut file)?;
-    assert_eq!(rt; all.as_slice(), b"three".as_slice());
-    Ok(())
+    assert_eq!(rt; gives(rt.alloc(), &mut file, b"three"), Ok(true));
 }
 
 #[test]
-fn a_failed_read_is_told(rt: HostRuntime) -> Result<(), Fail> {
-    let mut drip = Drip {
-        bytes: Vec::from_slice(rt.alloc(), b"one")?,
-        at: 0,
-        fails_at: 2,
-        failures: 0,
-    };
-    assert!(rt; matches!(read_all(rt.alloc(), &mut drip), Err(Refusal::ReadFailed)));
-    assert_eq!(rt; drip.failures, 1);
-    Ok(())
+fn a_failed_read_is_told(rt: HostRuntime) {
+    let told = drips(rt.alloc(), b"one", 2);
+    assert_eq!(rt; told, Ok((Err(Refusal::ReadFailed), 1)));
 }
 
 #[test]
-fn a_text_is_written_in_pieces(rt: HostRuntime) -> Result<(), Fail> {
-    let mut page = Page {
-        text: Vec::new(rt.alloc()),
-        calls: 3,
-        failures: 0,
-    };
-    write_all(&mut page, b"0123456789")?;
-    assert_eq!(rt; page.text.as_slice(), b"0123456789".as_slice());
-    assert_eq!(rt; page.failures, 0);
+fn a_text_is_written_in_pieces(rt: HostRuntime) {
+    let mut page = Page::new(rt.alloc(), 3);
+    let answer = write_all(&mut page, b"0123456789");
+    assert_eq!(rt;
+        (answer, page.text.as_slice(), page.failures),
+        (Ok(()), b"0123456789".as_slice(), 0)
+    );
+}
+
+/// Three texts, one of them empty.
+fn three_texts(alloc: Global) -> Result<Vec<Vec<u8>>, Memory> {
+    let mut texts = Vec::new(alloc);
+    let added = add_three(alloc, &mut texts);
+    added.and(Ok(texts))
+}
+
+/// Adds those.
+fn add_three(alloc: Global, texts: &mut Vec<Vec<u8>>) -> Result<(), Memory> {
+    for text in [b"01234".as_slice(), b"", b"56789"] {
+        texts.push(Vec::from_slice(alloc, text)?)?;
+    }
     Ok(())
+}
+
+/// What a page of four writes answers to texts, whether it then has this text, what it answers
+/// where they come again, and after how many failures.
+fn written_twice(
+    alloc: Global,
+    texts: &[Vec<u8>],
+    text: &[u8],
+) -> (Result<(), Refusal>, bool, Result<(), Refusal>, u64) {
+    let mut page = Page::new(alloc, 4);
+    let first = write_texts(&mut page, texts);
+    let is_written = page.text.as_slice() == text;
+    let second = write_texts(&mut page, texts);
+    (first, is_written, second, page.failures)
 }
 
 #[test]
 fn texts_are_written_one_after_another(rt: HostRuntime) -> Result<(), Fail> {
-    let mut page = Page {
-        text: Vec::new(rt.alloc()),
-        calls: 4,
-        failures: 0,
-    };
-    let mut texts = Vec::new(rt.alloc());
-    for text in [b"01234".as_slice(), b"", b"56789"] {
-        texts.push(Vec::from_slice(rt.alloc(), text)?)?;
-    }
-    write_texts(&mut page, texts.as_slice())?;
-    assert_eq!(rt; page.text.as_slice(), b"0123456789".as_slice());
-    assert_eq!(rt;
-        write_texts(&mut page, texts.as_slice()),
-        Err(Refusal::WriteFailed)
-    );
-    assert_eq!(rt; page.failures, 1);
+    let texts = three_texts(rt.alloc())?;
+    let told = written_twice(rt.alloc(), texts.as_slice(), b"0123456789");
+    assert_eq!(rt; told, (Ok(()), true, Err(Refusal::WriteFailed), 1));
     Ok(())
 }
 
 #[test]
-fn a_failed_write_is_told(rt: HostRuntime) -> Result<(), Fail> {
-    let mut page = Page {
-        text: Vec::new(rt.alloc()),
-        calls: 1,
-        failures: 0,
-    };
+fn a_failed_write_is_told(rt: HostRuntime) {
+    let mut page = Page::new(rt.alloc(), 1);
+    let answer = write_all(&mut page, b"0123456789");
     assert_eq!(rt;
-        write_all(&mut page, b"0123456789"),
-        Err(Refusal::WriteFailed)
+        (answer, page.text.as_slice(), page.failures),
+        (Err(Refusal::WriteFailed), b"0123".as_slice(), 1)
     );
-    assert_eq!(rt; page.text.as_slice(), b"0123".as_slice());
-    assert_eq!(rt; page.failures, 1);
-    Ok(())
 }
 
 // A slice takes none of the bytes that it has no room for.

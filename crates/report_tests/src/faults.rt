@@ -38,11 +38,7 @@ fn written(
     calls: u64,
     text: &[u8],
 ) -> (Result<(), Refusal>, bool, u64) {
-    let mut page = Page {
-        text: Vec::new(alloc),
-        calls,
-        failures: 0,
-    };
+    let mut page = Page::new(alloc, calls);
     let answer = fault_line(fault, &mut page);
     (answer, page.text.as_slice() == text, page.failures)
 }

@@ -1,79 +1,76 @@
 //! Worked rows of a replay.
 
-ghost use Rattle.script.specs.Topics.{AreTopics};
+ghost use Rattle.count_report.specs.Reports.{AreInRange};
 
-use crate::two_topics::{a_and_b, options_of_two};
+use crate::two_topics::options_of_two;
 use crate::{FILE, TOPIC_FILE, options};
+use command_line::Options;
 use devices::{FromRead, FromWrite};
 use lane_words::{Memory, Refusal};
 use replay_report::replay_text;
-use script::Topic;
 use std::alloc::Global;
+use std::io::Write;
+use std::process::Abort;
 use std::random::RandomSource;
-use std::test::Fail;
 use std::thread::Threads;
 
-#[test]
-fn a_join_is_told_by_its_moves(rt: HostRuntime) -> Result<(), Fail> {
-    const TEXT: &[u8] = b"move,1,0,,A\nmove,1,1,,A\nmove,1,2,,A\nmove,1,3,,A\n\
-        owner,0,A\nowner,1,A\nowner,2,A\nowner,3,A\n\
-        offset,0,0,2\noffset,1,0,1\noffset,2,0,1\noffset,3,0,1\ntotal,0,5\n";
-    let (mut file, mut script) = (FromRead::new(FILE), FromRead::new(b"join A".as_slice()));
-    let mut text = [0u8; TEXT.len()];
-    let mut sink = FromWrite::new(text.as_mut_slice());
-    replay_text(
-        &rt,
-        rt.alloc(),
-        &mut file,
-        &mut script,
-        &options(rt.alloc(), 4),
-        &mut sink,
-    )?;
-    drop(sink);
-    assert_eq!(rt; text.as_slice(), TEXT);
-    Ok(())
+/// What a replay of a script over a file answers, with these options and into this writer.
+fn replayed<R: Threads + Sync + RandomSource, W: Write + Drop>(
+    rt: &R,
+    alloc: Global,
+    file: &[u8],
+    script: &[u8],
+    options: &Options,
+    writer: W,
+) -> Result<(), Refusal>
+    requires { AreInRange options.now }
+{
+    let (mut file, mut script) = (FromRead::new(file), FromRead::new(script));
+    let mut sink = FromWrite::new(writer);
+    replay_text(rt, alloc, &mut file, &mut script, options, &mut sink)
+}
+
+/// What a replay over the five records answers, in four partitions and into this writer.
+fn replayed_in_four<R: Threads + Sync + RandomSource, W: Write + Drop>(
+    rt: &R,
+    alloc: Global,
+    script: &[u8],
+    writer: W,
+) -> Result<(), Refusal> {
+    let options = options(alloc, 4);
+    replayed(rt, alloc, FILE, script, &options, writer)
 }
 
 #[test]
-fn a_commit_that_comes_again_is_told_as_refused(rt: HostRuntime) -> Result<(), Fail> {
+fn a_join_is_told_by_its_moves(rt: HostRuntime) {
+    const TEXT: &[u8] = b"move,1,0,,A\nmove,1,1,,A\nmove,1,2,,A\nmove,1,3,,A\n\
+        owner,0,A\nowner,1,A\nowner,2,A\nowner,3,A\n\
+        offset,0,0,2\noffset,1,0,1\noffset,2,0,1\noffset,3,0,1\ntotal,0,5\n";
+    let mut text = [0u8; TEXT.len()];
+    let answer = replayed_in_four(&rt, rt.alloc(), b"join A", text.as_mut_slice());
+    assert_eq!(rt; (answer, text.as_slice()), (Ok(()), TEXT));
+}
+
+#[test]
+fn a_commit_that_comes_again_is_told_as_refused(rt: HostRuntime) {
     const SCRIPT: &[u8] = b"join A\nsettle\npoll A 0 2\nsend A 0\ndeliver 1\ndeliver 1\n";
     const TEXT: &[u8] = b"move,1,0,,A\nmove,1,1,,A\nmove,1,2,,A\nmove,1,3,,A\nrefused,6,11\n\
         owner,0,A\nowner,1,A\nowner,2,A\nowner,3,A\n\
         offset,0,2,2\noffset,1,0,1\noffset,2,0,1\noffset,3,0,1\n\
         count,21,2\ntotal,2,5\n";
-    let (mut file, mut script) = (FromRead::new(FILE), FromRead::new(SCRIPT));
     let mut text = [0u8; TEXT.len()];
-    let mut sink = FromWrite::new(text.as_mut_slice());
-    replay_text(
-        &rt,
-        rt.alloc(),
-        &mut file,
-        &mut script,
-        &options(rt.alloc(), 4),
-        &mut sink,
-    )?;
-    drop(sink);
-    assert_eq!(rt; text.as_slice(), TEXT);
-    Ok(())
+    let answer = replayed_in_four(&rt, rt.alloc(), SCRIPT, text.as_mut_slice());
+    assert_eq!(rt; (answer, text.as_slice()), (Ok(()), TEXT));
 }
 
 #[test]
-fn a_bad_line_is_told_and_nothing_is_written(rt: HostRuntime) -> Result<(), Fail> {
-    let (mut file, mut script) = (FromRead::new(FILE), FromRead::new(b"jion A".as_slice()));
+fn a_bad_line_is_told_and_nothing_is_written(rt: HostRuntime) {
     let mut text = Vec::new(rt.alloc());
-    let mut sink = FromWrite::new(&mut text);
-    let answer = replay_text(
-        &rt,
-        rt.alloc(),
-        &mut file,
-        &mut script,
-        &options(rt.alloc(), 4),
-        &mut sink,
+    let answer = replayed_in_four(&rt, rt.alloc(), b"jion A", &mut text);
+    assert_eq!(rt;
+        (answer, text.len()),
+        (Err(Refusal::BadLine { line: 1 }), 0)
     );
-    drop(sink);
-    assert_eq!(rt; answer, Err(Refusal::BadLine { line: 1 }));
-    assert_eq!(rt; text.len(), 0);
-    Ok(())
 }
 
 const DRAINED: &[u8] = b"move,1,a,0,,A\nmove,1,a,1,,A\nmove,1,b,0,,A\nmove,1,b,1,,A\n\
@@ -86,21 +83,15 @@ const APPENDED: &[u8] = b"refused,2,1\nowner,a,0,\nowner,a,1,\nowner,b,0,\nowner
     offset,a,0,0,1\noffset,a,1,0,1\noffset,b,0,0,3\noffset,b,1,0,1\noffset,b,2,0,0\n\
     total,0,6\n";
 
-/// What a replay over a file of these topics answers, and whether it has written this.
-fn replayed_in_topics<R: Threads + Sync + RandomSource>(
+/// What a replay over a file of the two topics answers, and whether it has written this.
+fn replayed_in_topics<R: Threads + Sync + RandomSource + Abort>(
     rt: &R,
     alloc: Global,
-    topics: [Topic; 2],
     row: &Row<'_>,
-) -> Result<(Result<(), Refusal>, bool), Memory>
-    requires { AreTopics topics }
-{
-    let options = options_of_two(alloc, topics)?;
+) -> Result<(Result<(), Refusal>, bool), Memory> {
+    let options = options_of_two(rt, alloc)?;
     let mut text = Vec::new(alloc);
-    let mut sink = FromWrite::new(&mut text);
-    let (mut file, mut script) = (FromRead::new(row.0), FromRead::new(row.1));
-    let answer = replay_text(rt, alloc, &mut file, &mut script, &options, &mut sink);
-    drop(sink);
+    let answer = replayed(rt, alloc, row.0, row.1, &options, &mut text);
     Ok((answer, text.as_slice() == row.2))
 }
 
@@ -108,7 +99,7 @@ fn replayed_in_topics<R: Threads + Sync + RandomSource>(
 type Row<'a> = (&'a [u8], &'a [u8], &'a [u8], Result<(), Refusal>);
 
 #[test]
-fn a_file_of_two_topics_is_replayed(rt: HostRuntime) -> Result<(), Fail> {
+fn a_file_of_two_topics_is_replayed(rt: HostRuntime) {
     let none = b"".as_slice();
     let rows: [Row<'_>; 4] = [
         (
@@ -132,8 +123,7 @@ fn a_file_of_two_topics_is_replayed(rt: HostRuntime) -> Result<(), Fail> {
         ),
     ];
     for row in &rows {
-        let replayed = replayed_in_topics(&rt, rt.alloc(), a_and_b(&rt), row)?;
-        assert_eq!(rt; replayed, (row.3, true));
+        let replayed = replayed_in_topics(&rt, rt.alloc(), row);
+        assert_eq!(rt; replayed, Ok((row.3, true)));
     }
-    Ok(())
 }

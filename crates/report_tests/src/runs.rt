@@ -1,21 +1,20 @@
 //! Worked rows of a run, and gates that hold workers back.
 
-ghost use Rattle.std.specs.Prelude.{◌≡◌, ◌≤◌, ◌<◌};
-ghost use Rattle.script.specs.Topics.{AreTopics};
+ghost use Rattle.std.specs.Prelude.{◌≤◌};
+ghost use Rattle.count_report.specs.Reports.{AreInRange};
 ghost use Rattle.command_line.specs.declared.options.TheConstants.{MOST_BATCH};
 
-use crate::two_topics::{a_and_b, options_of_two};
+use crate::two_topics::options_of_two;
 use crate::{FILE, TOPIC_FILE};
 use command_line::Options;
 use devices::{FromRead, FromWrite};
 use lane_words::{Memory, Refusal};
 use run_report::run_text;
-use script::Topic;
 use std::alloc::Global;
+use std::process::Abort;
 use std::random::RandomSource;
 use std::sync::Wait;
 use std::sync::atomic::{AtomicBool, AtomicU32, Ordering};
-use std::test::Fail;
 use std::thread::Threads;
 use workers::GateAnswer::{Go, NotNow, Stop};
 use workers::{Gate, GateAnswer};
@@ -43,30 +42,52 @@ impl Gate for Always {
     }
 }
 
-/// What a run of a plan over the five records answers, and what it has written.
-fn ran<R: Threads + Wait + RandomSource + Sync, G: Gate + Sync>(
+/// What a run of a plan over a file answers, with these options and this gate, and into this text.
+fn ran_into<R: Threads + Wait + RandomSource + Sync, G: Gate + Sync>(
     rt: &R,
     alloc: Global,
-    plan: &[u8],
-    batch: u32,
+    devices: (&[u8], &[u8]),
+    options: &Options,
     gate: &G,
-) -> (Result<(), Refusal>, Vec<u8>)
-    requires { (1 ≤ batch) × (batch ≤ MOST_BATCH) }
+    text: &mut Vec<u8>,
+) -> Result<(), Refusal>
+    requires { AreInRange options.now }
 {
-    let options = Options {
+    let (mut file, mut plan) = (FromRead::new(devices.0), FromRead::new(devices.1));
+    let mut sink = FromWrite::new(text);
+    run_text(rt, alloc, &mut file, &mut plan, options, gate, &mut sink)
+}
+
+/// The options of four partitions and of this batch.
+fn options_of_batch(alloc: Global, batch: u32) -> Options
+    requires { (1 ≤ batch) × (batch ≤ MOST_BATCH) }
+    ensures { AreInRange result }
+{
+    Options {
         partitions: 4,
         column: 1,
         header: false,
         batch,
         topics: Vec::new(alloc),
         topic_column: 2,
-    };
+    }
+}
+
+/// What a run of a plan over the five records answers, and whether it has written this.
+fn ran<R: Threads + Wait + RandomSource + Sync, G: Gate + Sync>(
+    rt: &R,
+    alloc: Global,
+    plan: &[u8],
+    batch: u32,
+    gate: &G,
+    wanted: &[u8],
+) -> (Result<(), Refusal>, bool)
+    requires { (1 ≤ batch) × (batch ≤ MOST_BATCH) }
+{
+    let options = options_of_batch(alloc, batch);
     let mut text = Vec::new(alloc);
-    let mut sink = FromWrite::new(&mut text);
-    let (mut file, mut script) = (FromRead::new(FILE), FromRead::new(plan));
-    let answer = run_text(rt, alloc, &mut file, &mut script, &options, gate, &mut sink);
-    drop(sink);
-    (answer, text)
+    let answer = ran_into(rt, alloc, (FILE, plan), &options, gate, &mut text);
+    (answer, text.as_slice() == wanted)
 }
 
 const TOPIC_TEXT: &[u8] = b"move,1,a,0,,A\nmove,1,a,1,,A\nmove,1,b,0,,A\nmove,1,b,1,,A\n\
@@ -75,71 +96,46 @@ const TOPIC_TEXT: &[u8] = b"move,1,a,0,,A\nmove,1,a,1,,A\nmove,1,b,0,,A\nmove,1,
     offset,a,0,1,1\noffset,a,1,1,1\noffset,b,0,2,2\noffset,b,1,1,1\noffset,b,2,0,0\n\
     count,21,2\ncount,abc,1\ncount,4,2\ntotal,5,5\n";
 
-/// What a run of two members over a file of these topics answers, and what it has written.
-fn ran_in_topics<R: Threads + Wait + RandomSource + Sync>(
+/// What a run of two members over a file of the two topics answers, and whether it has written
+/// this.
+fn ran_in_topics<R: Threads + Wait + RandomSource + Sync + Abort>(
     rt: &R,
     alloc: Global,
-    topics: [Topic; 2],
     file: &[u8],
-) -> Result<(Result<(), Refusal>, Vec<u8>), Memory>
-    requires { AreTopics topics }
-{
-    let options = options_of_two(alloc, topics)?;
+    wanted: &[u8],
+) -> Result<(Result<(), Refusal>, bool), Memory> {
+    let options = options_of_two(rt, alloc)?;
     let mut text = Vec::new(alloc);
-    let mut sink = FromWrite::new(&mut text);
-    let (mut file, mut script) = (FromRead::new(file), FromRead::new(TWO));
-    let gate = Always(Go);
-    let answer = run_text(
-        rt,
-        alloc,
-        &mut file,
-        &mut script,
-        &options,
-        &gate,
-        &mut sink,
-    );
-    drop(sink);
-    Ok((answer, text))
-}
-
-/// Whether a run wrote this text and was not refused.
-fn is_text(ran: &(Result<(), Refusal>, Vec<u8>), text: &[u8]) -> bool {
-    ran.0 == Ok(()) && ran.1.as_slice() == text
-}
-
-/// Whether a run was refused for this and wrote nothing.
-fn is_refused(ran: &(Result<(), Refusal>, Vec<u8>), why: Refusal) -> bool {
-    ran.0 == Err(why) && ran.1.is_empty()
+    let answer = ran_into(rt, alloc, (file, TWO), &options, &Always(Go), &mut text);
+    Ok((answer, text.as_slice() == wanted))
 }
 
 #[test]
 fn two_members_share_the_partitions(rt: HostRuntime) {
     for batch in [1, 500] {
-        let ran = ran(&rt, rt.alloc(), TWO, batch, &Always(Go));
-        assert!(rt; is_text(&ran, TWO_TEXT));
+        let ran = ran(&rt, rt.alloc(), TWO, batch, &Always(Go), TWO_TEXT);
+        assert_eq!(rt; ran, (Ok(()), true));
     }
 }
 
 #[test]
-fn two_members_share_two_topics(rt: HostRuntime) -> Result<(), Memory> {
-    let ran = ran_in_topics(&rt, rt.alloc(), a_and_b(&rt), TOPIC_FILE)?;
-    assert!(rt; is_text(&ran, TOPIC_TEXT));
-    let ran = ran_in_topics(&rt, rt.alloc(), a_and_b(&rt), b"21,c\n")?;
-    assert!(rt; is_refused(&ran, Refusal::NoSuchTopic { nth: 1 }));
-    Ok(())
+fn two_members_share_two_topics(rt: HostRuntime) {
+    let rows: [(&[u8], &[u8], Result<(), Refusal>); 2] = [
+        (TOPIC_FILE, TOPIC_TEXT, Ok(())),
+        (b"21,c\n", b"", Err(Refusal::NoSuchTopic { nth: 1 })),
+    ];
+    for (file, wanted, answer) in rows {
+        let ran = ran_in_topics(&rt, rt.alloc(), file, wanted);
+        assert_eq!(rt; ran, Ok((answer, true)));
+    }
 }
 
 #[test]
 fn one_of_two_members_leaves(rt: HostRuntime) {
+    let plan = b"join A\njoin B\nleave A\n";
     for batch in [1, 500] {
-        let ran = ran(
-            &rt,
-            rt.alloc(),
-            b"join A\njoin B\nleave A\n",
-            batch,
-            &Always(Go),
-        );
-        assert!(rt; is_text(&ran, LEFT_TEXT));
+        let ran = ran(&rt, rt.alloc(), plan, batch, &Always(Go), LEFT_TEXT);
+        assert_eq!(rt; ran, (Ok(()), true));
     }
 }
 
@@ -153,15 +149,54 @@ fn a_plan_that_leaves_nobody_is_refused(rt: HostRuntime) {
         (b"join A\njoin A\n", Refusal::BadLine { line: 2 }),
     ];
     for (plan, why) in plans {
-        let ran = ran(&rt, rt.alloc(), plan, 500, &Always(Go));
-        assert!(rt; is_refused(&ran, why));
+        let ran = ran(&rt, rt.alloc(), plan, 500, &Always(Go), b"");
+        assert_eq!(rt; ran, (Err(why), true));
     }
 }
 
 #[test]
 fn a_gate_that_stops_leaves_nothing_written(rt: HostRuntime) {
-    let ran = ran(&rt, rt.alloc(), TWO, 500, &Always(Stop));
-    assert!(rt; is_refused(&ran, Refusal::GateLimit));
+    let ran = ran(&rt, rt.alloc(), TWO, 500, &Always(Stop), b"");
+    assert_eq!(rt; ran, (Err(Refusal::GateLimit), true));
+}
+
+/// What a gate keeps of a worker.
+#[derive(Drop)]
+struct Worker {
+    asked: AtomicU32,
+    flag: AtomicBool,
+}
+
+impl Worker {
+    fn new() -> Worker {
+        Worker {
+            asked: AtomicU32::new(0),
+            flag: AtomicBool::new(false),
+        }
+    }
+
+    /// Which question this is, from 0 on. The second one raises the flag.
+    fn question(&self) -> u32 {
+        let question = self.asked.fetch_add(1, Ordering::SeqCst);
+        if question == 1 {
+            self.flag.store(true, Ordering::SeqCst);
+        }
+        question
+    }
+
+    fn is_flag_up(&self) -> bool {
+        self.flag.load(Ordering::SeqCst)
+    }
+
+    /// Goes once the flag is up.
+    fn wait(&self) -> GateAnswer {
+        for _ in 0..1_000_000_000u64 {
+            if self.is_flag_up() {
+                return Go;
+            }
+        }
+        Stop
+    }
 }
 
 /// Holds each of two workers back until the other has come on: below generation 3 nobody commits;
@@ -169,28 +204,21 @@ fn a_gate_that_stops_leaves_nothing_written(rt: HostRuntime) {
 /// the flag of the first, and the first member's second question for the flag of the second.
 #[derive(Drop)]
 struct Handshake {
-    asked: [AtomicU32; 2],
-    flags: [AtomicBool; 2],
+    first: Worker,
+    second: Worker,
 }
 
 impl Handshake {
     fn new() -> Handshake {
         Handshake {
-            asked: [AtomicU32::new(0), AtomicU32::new(0)],
-            flags: [AtomicBool::new(false), AtomicBool::new(false)],
+            first: Worker::new(),
+            second: Worker::new(),
         }
     }
 
-    /// Goes once a flag is up.
-    fn wait_for(&self, index: usize) -> GateAnswer
-        requires { index < 2 }
-    {
-        for _ in 0..1_000_000_000u64 {
-            if self.flags[index].load(Ordering::SeqCst) {
-                return Go;
-            }
-        }
-        Stop
+    /// Whether the flags are up.
+    fn are_flags_up(&self) -> (bool, bool) {
+        (self.first.is_flag_up(), self.second.is_flag_up())
     }
 }
 
@@ -199,17 +227,14 @@ impl Gate for Handshake {
         if generation < 3 {
             return NotNow;
         }
-        if member == 0 || member > 2 {
-            return Go;
-        }
-        let index = member as usize - 1;
-        let question = self.asked[index].fetch_add(1, Ordering::SeqCst);
-        if question == 1 {
-            self.flags[index].store(true, Ordering::SeqCst);
-        }
+        let question = match member {
+            1 => self.first.question(),
+            2 => self.second.question(),
+            _ => return Go,
+        };
         match (member, question) {
-            (2, 0) => self.wait_for(0),
-            (1, 1) => self.wait_for(1),
+            (2, 0) => self.first.wait(),
+            (1, 1) => self.second.wait(),
             _ => Go,
         }
     }
@@ -218,7 +243,6 @@ impl Gate for Handshake {
 #[test]
 fn other_worker_held(rt: HostRuntime) {
     let gate = Handshake::new();
-    let ran = ran(&rt, rt.alloc(), TWO, 500, &gate);
-    assert!(rt; is_text(&ran, TWO_TEXT));
-    assert!(rt; gate.flags[0].load(Ordering::SeqCst) && gate.flags[1].load(Ordering::SeqCst));
+    let ran = ran(&rt, rt.alloc(), TWO, 500, &gate, TWO_TEXT);
+    assert_eq!(rt; (ran, gate.are_flags_up()), ((Ok(()), true), (true, true)));
 }

@@ -1,16 +1,32 @@
 //! Devices that give and take little at a time, and fail at a call of their own.
 
-ghost use Rattle.std.specs.Prelude.{ℕ, Some, drop};
+ghost use Rattle.std.specs.Prelude.{◌≡◌, ℕ, IfOk, Some, drop};
 
 use devices::{DeviceFailed, Sink, Source};
+use lane_words::Memory;
+use std::alloc::Global;
 
 /// Gives one byte a read, and fails from the read at `fails_at` on.
 #[derive(Drop)]
 pub(crate) struct Drip {
-    pub(crate) bytes: Vec<u8>,
-    pub(crate) at: usize,
-    pub(crate) fails_at: usize,
+    bytes: Vec<u8>,
+    at: usize,
+    fails_at: usize,
     pub(crate) failures: u64,
+}
+
+impl Drip {
+    /// Gives these bytes from the first on, and has not failed.
+    pub(crate) fn new(alloc: Global, bytes: &[u8], fails_at: usize) -> Result<Drip, Memory>
+        ensures { IfOk result (λ d. d.failures ≡ 0) }
+    {
+        Ok(Drip {
+            bytes: Vec::from_slice(alloc, bytes)?,
+            at: 0,
+            fails_at,
+            failures: 0,
+        })
+    }
 }
 
 impl Source for Drip {
@@ -36,8 +52,21 @@ impl Source for Drip {
 #[derive(Drop)]
 pub(crate) struct Page {
     pub(crate) text: Vec<u8>,
-    pub(crate) calls: u64,
+    calls: u64,
     pub(crate) failures: u64,
+}
+
+impl Page {
+    /// Has no text yet, and has not failed.
+    pub(crate) fn new(alloc: Global, calls: u64) -> Page
+        ensures { result.failures ≡ 0 }
+    {
+        Page {
+            text: Vec::new(alloc),
+            calls,
+            failures: 0,
+        }
+    }
 }
 
 impl Sink for Page {

@@ -21,18 +21,18 @@ pub fn topic(rt: &impl Abort, name: &[u8], partitions: u32) -> Topic
 }
 
 /// The topic a of two partitions, and b of three.
-pub fn a_and_b(rt: &impl Abort) -> [Topic; 2]
+fn a_and_b(rt: &impl Abort) -> [Topic; 2]
     ensures { AreTopics result }
 {
     [topic(rt, b"a", 2), topic(rt, b"b", 3)]
 }
 
 /// The options of a file of these topics.
-pub fn options_of_two(alloc: Global, topics: [Topic; 2]) -> Result<Options, Memory>
-    requires { AreTopics topics }
+pub fn options_of_two(rt: &impl Abort, alloc: Global) -> Result<Options, Memory>
     ensures { IfOk result AreInRange }
 {
+    let topics = Vec::from_array(alloc, a_and_b(rt))?;
     let mut options = options(alloc, 1);
-    options.topics = Vec::from_array(alloc, topics)?;
+    options.topics = topics;
     Ok(options)
 }

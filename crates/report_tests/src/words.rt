@@ -24,98 +24,33 @@ fn plain(options: &Options) -> Plain {
     )
 }
 
-/// Words of a count, with its path and its options.
-const COUNTS: [(&[&str], &str, Plain); 9] = [
-    (&["count", "f"], "f", PLAIN),
-    (&["count", ""], "", PLAIN),
-    (&["count", "--", "--header"], "--header", PLAIN),
-    (&["count", "--partitions", "0004", "f"], "f", PLAIN),
-    (
-        &[
-            "count",
-            "--partitions",
-            "4096",
-            "--column",
-            "65535",
-            "--header",
-            "f",
-        ],
-        "f",
-        FULL,
-    ),
-    (
-        &[
-            "count",
-            "f",
-            "--header",
-            "--column=65535",
-            "--partitions=4096",
-        ],
-        "f",
-        FULL,
-    ),
-    (
-        &[
-            "count",
-            "--header",
-            "--partitions=4096",
-            "f",
-            "--column",
-            "65535",
-        ],
-        "f",
-        FULL,
-    ),
-    (
-        &[
-            "count",
-            "--column=65535",
-            "--header",
-            "--partitions=4096",
-            "--",
-            "f",
-        ],
-        "f",
-        FULL,
-    ),
-    (
-        &["count", "f", "--column", "1", "--partitions", "4"],
-        "f",
-        PLAIN,
-    ),
-];
-
-/// Paths and options.
+/// Paths and options. A count has one path.
 type Told<'a> = (&'a str, &'a str, Plain);
 
-/// Whether words are answered with a count of this file, or with a job of these two files, and with
-/// these options.
+/// Words, with what they ask for.
+type Row = (&'static [&'static str], Told<'static>);
+
+/// The subcommand of a job, and what it tells.
+fn told_of<'a>(job: &Job<'a>) -> (&'static str, Told<'a>) {
+    match job {
+        Job::Count { file, options } => ("count", (*file, "", plain(options))),
+        Job::Replay {
+            file,
+            script,
+            options,
+        } => ("replay", (*file, *script, plain(options))),
+        Job::Run {
+            file,
+            script,
+            options,
+        } => ("run", (*file, *script, plain(options))),
+    }
+}
+
+/// Whether words are answered with a job of this subcommand, which tells this.
 fn is_job(answer: &Result<Job, Usage>, subcommand: &str, told: &Told<'_>) -> bool {
     match answer {
-        Ok(Job::Count { file, options }) => {
-            subcommand == "count" && *file == told.0 && plain(options) == told.2
-        }
-        Ok(
-            Job::Replay {
-                file,
-                script,
-                options,
-            },
-        ) => {
-            subcommand == "replay"
-                && *file == told.0
-                && *script == told.1
-                && plain(options) == told.2
-        }
-        Ok(
-            Job::Run {
-                file,
-                script,
-                options,
-            },
-        ) => {
-            subcommand == "run" && *file == told.0 && *script == told.1 && plain(options) == told.2
-        }
+        Ok(job) => told_of(job) == (subcommand, *told),
         Err(_) => false,
     }
 }
@@ -127,42 +62,100 @@ fn asks_for(alloc: Global, words: &[&str], subcommand: &str, told: &Told<'_>) ->
     is_job(&answer, subcommand, told)
 }
 
+/// The first row whose words do not ask for that job of this subcommand.
+fn first_other(alloc: Global, subcommand: &str, rows: &[Row]) -> Option<usize> {
+    for (i, (words, told)) in rows.iter().enumerate() {
+        if !asks_for(alloc, words, subcommand, told) {
+            return Some(i);
+        }
+    }
+    None
+}
+
+/// Words of a count, with its path and its options.
+const COUNTS: [Row; 9] = [
+    (&["count", "f"], ("f", "", PLAIN)),
+    (&["count", ""], ("", "", PLAIN)),
+    (&["count", "--", "--header"], ("--header", "", PLAIN)),
+    (&["count", "--partitions", "0004", "f"], ("f", "", PLAIN)),
+    (
+        &[
+            "count",
+            "--partitions",
+            "4096",
+            "--column",
+            "65535",
+            "--header",
+            "f",
+        ],
+        ("f", "", FULL),
+    ),
+    (
+        &[
+            "count",
+            "f",
+            "--header",
+            "--column=65535",
+            "--partitions=4096",
+        ],
+        ("f", "", FULL),
+    ),
+    (
+        &[
+            "count",
+            "--header",
+            "--partitions=4096",
+            "f",
+            "--column",
+            "65535",
+        ],
+        ("f", "", FULL),
+    ),
+    (
+        &[
+            "count",
+            "--column=65535",
+            "--header",
+            "--partitions=4096",
+            "--",
+            "f",
+        ],
+        ("f", "", FULL),
+    ),
+    (
+        &["count", "f", "--column", "1", "--partitions", "4"],
+        ("f", "", PLAIN),
+    ),
+];
+
 #[test]
 fn options_stand_round_the_path(rt: HostRuntime) {
-    for (i, (words, path, wanted)) in COUNTS.iter().enumerate() {
-        let told = (*path, "", *wanted);
-        assert!(rt; asks_for(rt.alloc(), words, "count", &told), "case {i}");
-    }
+    assert_eq!(rt; first_other(rt.alloc(), "count", &COUNTS), None);
 }
 
 /// Words of a replay, with its paths and its options.
-const REPLAYS: [(&[&str], (&str, &str), Plain); 8] = [
-    (&["replay", "f", "s"], ("f", "s"), PLAIN),
-    (&["replay", "-", "-"], ("-", "-"), PLAIN),
+const REPLAYS: [Row; 8] = [
+    (&["replay", "f", "s"], ("f", "s", PLAIN)),
+    (&["replay", "-", "-"], ("-", "-", PLAIN)),
     (
         &["replay", "f", "s", "--batch", "1"],
-        ("f", "s"),
-        (4, 1, false, 1),
+        ("f", "s", (4, 1, false, 1)),
     ),
     (
         &["replay", "f", "--batch=500", "s"],
-        ("f", "s"),
-        (4, 1, false, 500),
+        ("f", "s", (4, 1, false, 500)),
     ),
     (
         &["replay", "--partitions", "7", "f", "s"],
-        ("f", "s"),
-        (7, 1, false, 500),
+        ("f", "s", (7, 1, false, 500)),
     ),
     (
         &["replay", "--column=65535", "f", "--", "--header"],
-        ("f", "--header"),
-        (4, 65535, false, 500),
+        ("f", "--header", (4, 65535, false, 500)),
     ),
     (
         &["replay", "--header", "f", "s"],
-        ("f", "s"),
-        (4, 1, true, 500),
+        ("f", "s", (4, 1, true, 500)),
     ),
     (
         &[
@@ -176,61 +169,62 @@ const REPLAYS: [(&[&str], (&str, &str), Plain); 8] = [
             "s",
             "--partitions=1",
         ],
-        ("f", "s"),
-        (1, 2, true, 1_000_000),
+        ("f", "s", (1, 2, true, 1_000_000)),
     ),
 ];
 
 #[test]
 fn a_replay_has_two_paths_and_a_batch(rt: HostRuntime) {
-    for (i, (words, paths, wanted)) in REPLAYS.iter().enumerate() {
-        let told = (paths.0, paths.1, *wanted);
-        assert!(rt; asks_for(rt.alloc(), words, "replay", &told), "case {i}");
-    }
+    assert_eq!(rt; first_other(rt.alloc(), "replay", &REPLAYS), None);
 }
 
 /// Words of a run, with its paths and its options.
-const RUNS: [(&[&str], (&str, &str), Plain); 4] = [
-    (&["run", "f", "p"], ("f", "p"), PLAIN),
-    (&["run", "-", "-"], ("-", "-"), PLAIN),
+const RUNS: [Row; 4] = [
+    (&["run", "f", "p"], ("f", "p", PLAIN)),
+    (&["run", "-", "-"], ("-", "-", PLAIN)),
     (
         &["run", "f", "--batch=1", "p"],
-        ("f", "p"),
-        (4, 1, false, 1),
+        ("f", "p", (4, 1, false, 1)),
     ),
     (
         &["run", "--partitions", "64", "f", "p", "--batch", "1000000"],
-        ("f", "p"),
-        (64, 1, false, 1_000_000),
+        ("f", "p", (64, 1, false, 1_000_000)),
     ),
 ];
 
 #[test]
 fn a_run_has_two_paths_and_a_batch(rt: HostRuntime) {
-    for (i, (words, paths, wanted)) in RUNS.iter().enumerate() {
-        let told = (paths.0, paths.1, *wanted);
-        assert!(rt; asks_for(rt.alloc(), words, "run", &told), "case {i}");
-    }
+    assert_eq!(rt; first_other(rt.alloc(), "run", &RUNS), None);
 }
 
 /// The topics of a list, each with its number of partitions.
 type Topics<'a> = &'a [(&'a str, u32)];
 
+/// Whether a topic has this name and this many partitions.
+fn is_topic(topic: &Topic, wanted: (&str, u32)) -> bool {
+    topic.name.text() == wanted.0.as_bytes() && topic.partitions == wanted.1
+}
+
 /// Whether topics are these, in this order.
 fn are_topics(topics: &[Topic], wanted: Topics) -> bool {
-    topics.len() == wanted.len()
-        && topics.iter().zip(wanted).all(|(topic, (name, partitions))| {
-            topic.name.text() == name.as_bytes() && topic.partitions == *partitions
-        })
+    if topics.len() != wanted.len() {
+        return false;
+    }
+    for i in 0..topics.len() {
+        if !is_topic(&topics[i], wanted[i]) {
+            return false;
+        }
+    }
+    true
 }
 
 /// Whether words are answered with these topics and this column of theirs, or, where none are wanted,
 /// with what is told of a list that is none.
-fn tells(answer: &Result<Job, Usage>, wanted: Option<(Topics, u32)>) -> bool {
+fn tells(answer: &Result<Job, Usage>, wanted: Option<Topics>, column: u32) -> bool {
     match (answer, wanted) {
         (
             Ok(Job::Count { options, .. } | Job::Replay { options, .. } | Job::Run { options, .. }),
-            Some((topics, column)),
+            Some(topics),
         ) => are_topics(options.topics.as_slice(), topics) && options.topic_column == column,
         (Err(Usage::Bad(text)), None) => text.as_str() == "bad topics\n",
         _ => false,
@@ -238,9 +232,9 @@ fn tells(answer: &Result<Job, Usage>, wanted: Option<(Topics, u32)>) -> bool {
 }
 
 /// Whether words are.
-fn are_told(alloc: Global, words: &[&str], wanted: Option<(Topics, u32)>) -> bool {
+fn are_told(alloc: Global, words: &[&str], wanted: Option<Topics>, column: u32) -> bool {
     let answer = read_words(alloc, words);
-    tells(&answer, wanted)
+    tells(&answer, wanted, column)
 }
 
 /// Lists of topics, with theirs, where they are lists.
@@ -290,34 +284,36 @@ const LISTS: [(&str, Option<Topics>); 24] = [
 fn lists_of_topics_are_read(rt: HostRuntime) {
     for (i, (list, wanted)) in LISTS.iter().enumerate() {
         let words = ["count", "f", "--topics", list];
-        let wanted = wanted.map(|topics| (topics, 2));
-        assert!(rt; are_told(rt.alloc(), &words, wanted), "case {i}");
+        assert!(rt; are_told(rt.alloc(), &words, *wanted, 2), "case {i}");
     }
 }
 
 /// One topic.
 const ONE: Topics = &[("-", 1)];
 
-/// Words of each subcommand, with their topics and the column of those, where there is no fault.
-const TOPICS: [(&[&str], Option<(Topics, u32)>); 6] = [
-    (&["count", "f"], Some((&[], 2))),
-    (&["count", "--topic-column=65535", "f"], Some((&[], 65535))),
+/// Words of each subcommand, with the column of their topics, and with those, where there is no
+/// fault.
+const TOPICS: [(&[&str], u32, Option<Topics>); 6] = [
+    (&["count", "f"], 2, Some(&[])),
+    (&["count", "--topic-column=65535", "f"], 65535, Some(&[])),
     (
         &["count", "--topics=-:1", "f", "--topic-column", "1"],
-        Some((ONE, 1)),
+        1,
+        Some(ONE),
     ),
-    (&["replay", "f", "--topics=-:1", "s"], Some((ONE, 2))),
+    (&["replay", "f", "--topics=-:1", "s"], 2, Some(ONE)),
     (
         &["run", "f", "s", "--topics=-:1", "--partitions=4096"],
-        Some((ONE, 2)),
+        2,
+        Some(ONE),
     ),
-    (&["run", "f", "s", "--topics=:1"], None),
+    (&["run", "f", "s", "--topics=:1"], 2, None),
 ];
 
 #[test]
 fn each_subcommand_has_topics(rt: HostRuntime) {
-    for (i, (words, wanted)) in TOPICS.iter().enumerate() {
-        assert!(rt; are_told(rt.alloc(), words, *wanted), "case {i}");
+    for (i, (words, column, wanted)) in TOPICS.iter().enumerate() {
+        assert!(rt; are_told(rt.alloc(), words, *wanted, *column), "case {i}");
     }
 }
 
@@ -377,43 +373,50 @@ fn bad_words_are_refused(rt: HostRuntime) {
     }
 }
 
-/// The text that these words ask for, if they ask for one.
-fn asked(alloc: Global, words: &[&str]) -> Option<String> {
-    match read_words(alloc, words) {
-        Err(Usage::Help(text)) => Some(text),
-        _ => None,
-    }
-}
-
-/// Whether these words ask for a text that begins and ends so.
-fn is_asked(alloc: Global, words: &[&str], begin: &str, end: &str) -> bool {
-    match asked(alloc, words) {
-        Some(text) => is_between(text.as_str(), begin, end),
-        None => false,
-    }
-}
-
 /// Whether a text begins and ends so.
 fn is_between(text: &str, begin: &str, end: &str) -> bool {
     text.starts_with(begin) && text.trim_end().ends_with(end)
 }
 
+/// Whether words are answered with a text that begins and ends so.
+fn is_text(answer: &Result<Job, Usage>, begin: &str, end: &str) -> bool {
+    match answer {
+        Err(Usage::Help(text)) => is_between(text.as_str(), begin, end),
+        _ => false,
+    }
+}
+
+/// Whether words ask for such a text.
+fn is_asked(alloc: Global, words: &[&str], begin: &str, end: &str) -> bool {
+    let answer = read_words(alloc, words);
+    is_text(&answer, begin, end)
+}
+
+/// Words that ask for help, with how its text begins and ends.
+const HELPS: [(&[&str], &str, &str); 4] = [
+    (&["--help"], "Counts the keys of a CSV file", AFTER_KEYCOUNT),
+    (&["-h"], "Counts the keys of a CSV file", AFTER_KEYCOUNT),
+    (
+        &["help", "count"],
+        "Counts how often each key occurs in a CSV file",
+        AFTER_COUNT,
+    ),
+    (&["run", "-h"], "Runs a plan of members", AFTER_RUN),
+];
+
 #[test]
 fn help_tells_what_there_is(rt: HostRuntime) {
-    let about = "Counts the keys of a CSV file";
-    let count = "Counts how often each key occurs in a CSV file";
-    assert!(rt; is_asked(rt.alloc(), &["--help"], about, AFTER_KEYCOUNT));
-    assert!(rt; is_asked(rt.alloc(), &["-h"], about, AFTER_KEYCOUNT));
-    assert!(rt; is_asked(rt.alloc(), &["help", "count"], count, AFTER_COUNT));
-    let run = "Runs a plan of members";
-    assert!(rt; is_asked(rt.alloc(), &["run", "-h"], run, AFTER_RUN));
+    for (i, (words, begin, end)) in HELPS.iter().enumerate() {
+        assert!(rt; is_asked(rt.alloc(), words, begin, end), "case {i}");
+    }
 }
 
 #[test]
 fn the_version_names_the_kit(rt: HostRuntime) {
     let wanted = "keycount 0.1.0, proved with rattle-kit-13b logic dac8208d650f15bf";
-    assert!(rt; is_asked(rt.alloc(), &["--version"], wanted, wanted));
-    assert!(rt; is_asked(rt.alloc(), &["-V"], wanted, wanted));
+    for word in ["--version", "-V"] {
+        assert!(rt; is_asked(rt.alloc(), &[word], wanted, wanted), "{word}");
+    }
 }
 
 #[test]
