@@ -42,7 +42,8 @@ pub fn with_last(alloc: Global, numbers: &[u32], last: u32) -> Result<Vec<u32>, 
 }
 
 /// Whether all counters are at 0.
-pub fn are_zeros(counts: &[u64]) -> bool {
+#[cfg(test)]
+fn are_zeros(counts: &[u64]) -> bool {
     for count in counts {
         if *count != 0 {
             return false;
