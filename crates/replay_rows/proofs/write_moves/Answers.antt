@@ -1,4 +1,4 @@
-use Rattle.std.proofs.Common.{◌++◌, List, arith, drop, subst}
+use Rattle.std.proofs.Common.{◌++◌, List, arith, drop, subst, rules}
 use Rattle.group_machine.specs.declared.group.Move.{Move}
 use Rattle.report_rows.specs.Rows.{HasText}
 use Rattle.replay_rows.specs.ReplayRows.{move_rows}
@@ -16,3 +16,6 @@ returns c text begun =
     let whole = moves_end now.0 c.args.topics.now c.args.cluster.now.group c.moves-moves.result.now c.loop-i.i _ (omega arith) now.2 in
     let all = rw whole at now.1 in
     subst (λ (moves : List Move). HasText c.loop-i.writer (text ++ move_rows c.args.topics.now c.args.cluster.now.group (drop c.args.from moves))) c.moves-moves.ensures all
+
+pub loop-i-init : goal.loop-i-init
+loop-i-init c = search rules

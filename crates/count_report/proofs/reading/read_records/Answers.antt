@@ -33,3 +33,9 @@ returns-clause-topics g c =
     let some = named c.as_slice-topics.result.now options.topics.items c.is_empty.result topics c.is_empty.ensures c.if-is_empty.false in
     let names = names_are c.as_slice-names.result.now c.in_ok-names.names.items c.as_slice-topics.result.now options.topics.items c.as_slice-names.ensures.value c.in_ok-names.ensures topics in
     topics-among options.column options.topic_column options.header options.partitions options.topics.items c.args.bytes.now (map (λ (name : Bor (List ℕ)). name.now) c.as_slice-names.result.now) c.in_ok-keys-2.keys some names c.in_ok-keys-2.ensures.keys
+
+pub returns-in_err-keys-clause-fault : goal.returns-in_err-keys-clause-fault
+returns-in_err-keys-clause-fault g c = search rules
+
+pub returns-then-is_empty-clause-records : goal.returns-then-is_empty-clause-records
+returns-then-is_empty-clause-records g c = search rules

@@ -18,3 +18,6 @@ loop-preserved g c =
       turns = omega (arith, ap length all, length-append c.loop.all.items piece, length-take c.in-Ok.n c.read.new.buf, c.in-Ok.ensures.bound, c.in-Ok.n-test.1);
       read = rw all (consumes_more _ _ _ c.loop.all.items piece c.loop.invariant.read c.in-Ok.ensures.bytes.0);
     }
+
+pub returns-in-Err-clause-told : goal.returns-in-Err-clause-told
+returns-in-Err-clause-told g c = search rules

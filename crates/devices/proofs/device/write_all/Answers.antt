@@ -11,3 +11,9 @@ loop-taken-preserved g c =
       within = omega (arith, length-drop c.loop-taken.taken c.args.bytes.now, at_most);
       wrote = appends_more _ _ _ c.args.bytes.now c.loop-taken.taken c.in-Ok.n c.loop-taken.invariant.wrote (rw rest at c.in-Ok.ensures.bytes);
     }
+
+pub returns-in-Err-clause-kind : goal.returns-in-Err-clause-kind
+returns-in-Err-clause-kind g c = search rules
+
+pub loop-taken-init : goal.loop-taken-init
+loop-taken-init g c = search rules

@@ -13,3 +13,9 @@ pub returns-in_err-lists-clause-kind : goal.returns-in_err-lists-clause-kind
 returns-in_err-lists-clause-kind g c =
     let same : c.from_residual.result ≡ Err c.in_err-lists.field-0.0 = search rules in
     rw same (fault-kind (taking c.key-wanted.result) c.args.header c.args.file.now _ c.in_err-lists.ensures.fault)
+
+pub returns-in_err-lists-clause-fault : goal.returns-in_err-lists-clause-fault
+returns-in_err-lists-clause-fault g c = search rules
+
+pub returns-clause-keys : goal.returns-clause-keys
+returns-clause-keys g c = search rules

@@ -1,4 +1,4 @@
-use Rattle.std.proofs.Common.{◌≡◌, ◌-◌, arith, length}
+use Rattle.std.proofs.Common.{◌≡◌, ◌-◌, arith, length, rules}
 use Rattle.std.specs.Prelude.{suc}
 use Rattle.key_file.proofs.Cutting.{cuts_at, cuts_rise}
 use Rattle.key_file.proofs.join.keys_at.Goals as goal
@@ -14,3 +14,6 @@ piece_between-piece-requires c =
     let here = cuts_at c.args.file.now c.args.cuts.now 0 (length c.args.file.now) c.args.i c.requires.cuts c.requires.index in
     let rise = cuts_rise c.args.file.now c.args.cuts.now 0 (length c.args.file.now) (c.args.i - 1) c.requires.cuts (omega arith) in
     (rw up at rise, here.1.within)
+
+pub returns-else-i-eq0 : goal.returns-else-i-eq0
+returns-else-i-eq0 c = search rules

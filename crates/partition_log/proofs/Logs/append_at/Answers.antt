@@ -40,3 +40,6 @@ returns-clause-history c topic is_of there appended h =
     subst (λ (l : PartitionLogs). AreLogsOf (appended ++ (topic, key) ∷ []) l) (sym same)
     (history-at before c.args.place topic key appended c.self.invariant those (subst (λ (l : PartitionLogs). IsOfTopic l (topic, key)) (sym c.self.view_is) is_of)
     (subst (λ (l : PartitionLogs). place_in l (topic, key) ≡ c.args.place) (sym c.self.view_is) there))
+
+pub returns-clause-answer : goal.returns-clause-answer
+returns-clause-answer c = search rules

@@ -1,4 +1,4 @@
-use Rattle.std.proofs.Common.{◌≡◌, ◌<◌, ◌∙◌, ap, arith}
+use Rattle.std.proofs.Common.{◌≡◌, ◌<◌, ◌∙◌, ap, arith, rules}
 use Rattle.bit_planes.specs.PartitionSet.{elements, partitions_of}
 use Rattle.bit_planes.proofs.Sets.{in_below}
 use Rattle.workers.proofs.Read.{next_in, none_begun}
@@ -16,3 +16,6 @@ pub len-requires : goal.len-requires
 len-requires c =
     let below : c.in-Some.p < partitions_of c.args.lease.now.assigned = in_below c.args.lease.now.assigned c.in-Some.p (next_in c.args.lease.now c.args.logs.now c.loop-p.p-iterator c.in-Some.p c.next.new.self c.in-Some.ensures.steps c.loop-p.invariant) in
     omega (arith, below, c.requires)
+
+pub loop-p-preserved : goal.loop-p-preserved
+loop-p-preserved c = search rules

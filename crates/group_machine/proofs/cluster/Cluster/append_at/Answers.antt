@@ -33,3 +33,9 @@ returns-then-keys-clause-valid c = invariant_of-self-then-keys c
 
 pub returns-else-keys-clause-valid : goal.returns-else-keys-clause-valid
 returns-else-keys-clause-valid c = invariant_of-self-else-keys c
+
+pub returns-then-keys-clause-answer : goal.returns-then-keys-clause-answer
+returns-then-keys-clause-answer c = search rules
+
+pub returns-else-keys-clause-answer : goal.returns-else-keys-clause-answer
+returns-else-keys-clause-answer c = search rules

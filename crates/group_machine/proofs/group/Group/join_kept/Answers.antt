@@ -1,4 +1,4 @@
-use Rattle.std.proofs.Common.{◌∙◌, ◌≡◌, ◌+◌, ℕ, List, Ok, ap, sym, subst, length, is_some, inl, inr}
+use Rattle.std.proofs.Common.{◌∙◌, ◌≡◌, ◌+◌, ℕ, List, Ok, ap, sym, subst, length, is_some, inl, inr, rules}
 use Rattle.std.proofs.lemmas.List.{with_items_is}
 use Rattle.std.specs.Option.{option_map}
 use Rattle.lane_words.specs.Answers.{Answers}
@@ -32,3 +32,6 @@ returns-clause-valid c =
     let long = ap length c.keep.ensures ∙ length_reseated (only_of c.in_ok-number.number (option_map kept_seat)) c.deref_mut.result.now ∙ c.deref_mut.ensures.len in
     let slots = with_items_is c.join.new.self.slots c.keep.new.slots long ∙ c.keep.ensures ∙ ap (λ s. one_changed kept_seat s c.in_ok-number.number) c.deref_mut.ensures.value in
     subst IsValidGroup (sym (ap (with_slots g) slots)) (keep_good g c.in_ok-number.number c.join.ensures.valid)
+
+pub returns-clause-answer : goal.returns-clause-answer
+returns-clause-answer c = search rules

@@ -1,4 +1,4 @@
-use Rattle.std.proofs.Common.{◌∙◌, ◌≡◌, ◌<◌, Some, ap, sym, subst, length, arith}
+use Rattle.std.proofs.Common.{◌∙◌, ◌≡◌, ◌<◌, Some, ap, sym, subst, length, arith, rules}
 use Rattle.lane_words.specs.declared.limits.TheConstants.{MOST_MEMBERS}
 use Rattle.group_machine.specs.State.{GroupState, is_present, kept_in, kept_member}
 use Rattle.group_machine.specs.Steps.{handing_on}
@@ -22,3 +22,6 @@ returns-clause-valid c =
     let room : length g.slots < MOST_MEMBERS = omega (arith, c.if-len-ge-MOST_MEMBERS.false, c.len.ensures) in
     let after = c.hand_on.ensures ∙ ap (λ slots. handing_on (with_slots g slots) c.args.name.now c.in-Some.member) c.reserve.ensures.items in
     subst IsValidGroup (sym after) (handed_good g c.args.name.now c.in-Some.member c.requires (keeper_present g c.args.name.now c.in-Some.member kept) room)
+
+pub returns-then-len-ge-MOST_MEMBERS-clause-answer : goal.returns-then-len-ge-MOST_MEMBERS-clause-answer
+returns-then-len-ge-MOST_MEMBERS-clause-answer c = search rules

@@ -1,4 +1,5 @@
-use Rattle.std.proofs.Common.{◌∙◌, ◌-◌, None, ap, get_or}
+use Rattle.std.proofs.Common.{◌∙◌, ◌-◌, None, ap, get_or, arith}
+use Rattle.std.proofs.lemmas.Grind.{elements}
 use Rattle.std.proofs.Math.ListN.{set}
 use Rattle.group_machine.proofs.SlotsLemmas.{slot_with, seat_put, number_given, present_at}
 use Rattle.group_machine.proofs.group.slots.hand_out.Goals as goal
@@ -14,3 +15,6 @@ returns-in_default-clause-seat c = let x = present_at c.args.slots.now c.args.me
 
 pub returns-in_default-clause-slots : goal.returns-in_default-clause-slots
 returns-in_default-clause-slots c = let x = present_at c.args.slots.now c.args.member c.index-slots-member.result c.requires in absurd (c.in_default.not-Some x.0 (c.take-place.ensures.value ∙ x.1))
+
+pub returns-in-Some-clause-seat : goal.returns-in-Some-clause-seat
+returns-in-Some-clause-seat c = grind (arith, elements)

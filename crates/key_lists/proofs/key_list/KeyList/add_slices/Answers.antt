@@ -1,4 +1,5 @@
 use Rattle.std.proofs.Common.{◌∙◌, Bor, List, ℕ, ap, arith, map}
+use Rattle.std.proofs.lemmas.Grind.{common_steps}
 use Rattle.key_lists.proofs.Coded.{slices_more}
 use Rattle.key_lists.proofs.key_list.KeyList.add_slices.Goals as goal
 
@@ -6,3 +7,6 @@ pub loop-i-preserved : goal.loop-i-preserved
 loop-i-preserved c =
     ap (map (λ (k : Bor (List ℕ)). k.now)) c.in_ok-push.ensures.items
     ∙ slices_more c.args.slices.now.items c.loop-i.slices.items c.args.self.now c.loop-i.i c.get.result (omega arith) c.get.ensures c.loop-i.invariant
+
+pub returns : goal.returns
+returns c = grind (arith, common_steps)

@@ -1,0 +1,5 @@
+use Rattle.std.proofs.Common.{rules}
+use Rattle.commit_store.proofs.store.Store.keys.Goals as goal
+
+pub returns : goal.returns
+returns c = search rules

@@ -1,0 +1,5 @@
+use Rattle.std.proofs.Common.{rules}
+use Rattle.group_machine.proofs.cluster.Cluster.moves.Goals as goal
+
+pub returns : goal.returns
+returns c = search rules

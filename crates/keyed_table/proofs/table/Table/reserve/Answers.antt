@@ -1,0 +1,8 @@
+use Rattle.std.proofs.Common.{rules}
+use Rattle.keyed_table.proofs.table.Table.reserve.Goals as goal
+
+pub invariant_of-self : goal.invariant_of-self
+invariant_of-self c = search rules
+
+pub returns-in_ok-extend_from_slice-clause-room : goal.returns-in_ok-extend_from_slice-clause-room
+returns-in_ok-extend_from_slice-clause-room c = search rules

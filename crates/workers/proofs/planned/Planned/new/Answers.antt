@@ -1,0 +1,11 @@
+use Rattle.std.proofs.Common.{rules}
+use Rattle.workers.proofs.planned.Planned.new.Goals as goal
+
+pub invariant_of-result : goal.invariant_of-result
+invariant_of-result c = search rules
+
+pub returns-clause-applied : goal.returns-clause-applied
+returns-clause-applied c = search rules
+
+pub returns-clause-valid : goal.returns-clause-valid
+returns-clause-valid c = search rules
