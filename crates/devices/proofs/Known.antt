@@ -4,7 +4,8 @@ use Rattle.std.specs.Io.KnownBytes.{Appends, Consumes, IsAtEnd}
 use Rattle.std.proofs.Math.Seq.{take-add, take-append-add}
 use Rattle.std.specs.Prelude.{Bool, true, false, if◌then◌else◌, IfSome, OnErr}
 use Rattle.devices.specs.Devices.{AppendsBeginning}
-use Rattle.std.proofs.lemmas.List.{append-nil, length-drop, take-append-le, take_all}
+use Rattle.std.proofs.lemmas.List.{append-nil, length-drop, length-take-le, take-append-le, take_all}
+use borrow.Rule.Slice.PartMut.{post_of, put_mid}
 
 -- what two reads consumed, one after the other
 pub consumes_more : (a b c : Option (List ℕ)) (xs ys : List ℕ) → Consumes a b xs → Consumes b c ys → Consumes a c (xs ++ ys)
@@ -69,3 +70,14 @@ on_err (Err e) p = p
 -- a slice to the end is all that stands past its start
 pub slice_end : (s : ℕ) (xs : List ℕ) → take (length xs - s) (drop s xs) ≡ drop s xs
 slice_end s xs = take_all (length xs - s) (drop s xs) (omega (arith, length-drop s xs))
+
+-- a room that was read into from a place on
+pub room-filled : (filled n k : ℕ) (room buf : List ℕ) → filled ≤ length room → n ≤ length buf → take (filled + n) (put_mid filled k room buf) ≡ take filled room ++ take n buf
+room-filled filled n k room buf h within =
+    let front : length (take filled room) ≡ filled = length-take-le filled room h in
+    ap (λ m. take (m + n) (put_mid filled k room buf)) (sym front) ∙ take-append-add (take filled room) (buf ++ post_of filled k room) n
+    ∙ ap (λ xs. take filled room ++ xs) (take-append-le n buf (post_of filled k room) within)
+
+pub room-long : (filled k : ℕ) (room buf : List ℕ) → filled ≤ length room → length room - filled ≤ length buf → length room ≤ length (put_mid filled k room buf)
+room-long filled k room buf h long =
+    omega (arith, length-append (take filled room) (buf ++ post_of filled k room), length-append buf (post_of filled k room), length-take-le filled room h, long)

@@ -5,6 +5,6 @@ mod device;
 mod faults;
 
 pub use device::{
-    DeviceFailed, FromRead, FromWrite, Sink, Source, read_all, write_all, write_texts,
+    DeviceFailed, FromRead, FromWrite, Sink, Source, read_all, read_blocks, write_all, write_texts,
 };
 pub use faults::{fault_line, status};
