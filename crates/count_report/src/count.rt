@@ -15,6 +15,7 @@ use lane_words::Refusal;
 use report_rows::count_rows::count_rows_texts;
 use std::alloc::Global;
 use std::random::RandomSource;
+use std::thread;
 use std::thread::Threads;
 
 /// The text of the plain count of some records, in some texts one after another.
@@ -62,6 +63,12 @@ fn file_report<R: Threads + Sync + RandomSource, S: Source>(
     plain_report(rt, alloc, records, options)
 }
 
+/// Gives the memory of texts back, that of each on a thread of its own.
+fn let_go<R: Threads + Sync>(rt: &R, texts: Vec<Vec<u8>>) {
+    // Where memory is refused, what is left goes with the list.
+    let _ = thread::map_vec(rt, texts, &|text: Vec<u8>| drop(text));
+}
+
 /// Counts how often each key occurs in a file of comma-separated records, and writes a row for each
 /// key, in the order of first appearance, and a row of the totals.
 ///
@@ -92,5 +99,7 @@ pub fn count_text<R: Threads + Sync + RandomSource, S: Source, K: Sink>(
     ensures writes { K.failures out.new ≡ K.failures out.old + failed_writes result }
 {
     let texts = file_report(rt, alloc, file, options)?;
-    write_texts(out, texts.as_slice())
+    let written = write_texts(out, texts.as_slice());
+    let_go(rt, texts);
+    written
 }

@@ -8,8 +8,8 @@ ghost use Rattle.count_report.specs.Records.{AreOfTopics, partition_counts, reco
 ghost use Rattle.count_report.specs.Reports.{AreInRange, IsFaultOf, IsNoStop, IsNoWrite, failed_reads};
 
 use command_line::Options;
-use devices::{Source, read_all};
-use key_file::{FileKeys, TopicKeys, read_keys_apart, read_topic_keys_apart};
+use devices::{Source, read_blocks};
+use key_file::{Blocks, FileKeys, TopicKeys, pieces_for, read_keys_apart, read_topic_keys_apart};
 use lane_words::{Memory, Refusal};
 use script::Topic;
 use std::alloc::Global;
@@ -74,36 +74,36 @@ fn names_of<'a>(alloc: Global, topics: &'a [Topic]) -> Result<Vec<&'a [u8]>, Mem
     Ok(names)
 }
 
-/// The records of a file of these bytes.
+/// The records of a file.
 fn read_records<R: Threads + Sync + RandomSource>(
     rt: &R,
     alloc: Global,
-    bytes: &[u8],
+    file: &Blocks,
     options: &Options,
 ) -> Result<FileRecords, Refusal>
     requires { AreInRange options.now }
     ensures records { IfOk result
-        (λ records. records_of options.now bytes.now ≡ Ok (records_in records)) }
+        (λ records. records_of options.now file.now ≡ Ok (records_in records)) }
     ensures topics { IfOk result
         (λ records. AreOfTopics (partition_counts options.now) (records_in records)) }
     ensures kind { IfErr result IsFileFault }
     ensures fault { IfErr result
-        (λ e. (e ≡ refusal.Memory) ⊎ (records_of options.now bytes.now ≡ Err e)) }
+        (λ e. (e ≡ refusal.Memory) ⊎ (records_of options.now file.now ≡ Err e)) }
 {
     let topics = options.topics.as_slice();
     let (column, header) = (options.column, options.header);
     if topics.is_empty() {
-        let keys = read_keys_apart(rt, alloc, bytes, column, header)?;
+        let keys = read_keys_apart(rt, alloc, file, column, header)?;
         return Ok(FileRecords::Keys(keys));
     }
     let names = names_of(alloc, topics)?;
     let names = names.as_slice();
     let topic_column = options.topic_column;
-    let keys = read_topic_keys_apart(rt, alloc, bytes, column, topic_column, names, header)?;
+    let keys = read_topic_keys_apart(rt, alloc, file, column, topic_column, names, header)?;
     Ok(FileRecords::InTopics(keys))
 }
 
-/// The records of a file that is read to its end. The pieces of a long file are read side by side.
+/// The records of a file that is read to its end. The blocks of a long file are read side by side.
 pub fn file_records<R: Threads + Sync + RandomSource, S: Source>(
     rt: &R,
     alloc: Global,
@@ -122,6 +122,9 @@ pub fn file_records<R: Threads + Sync + RandomSource, S: Source>(
     ensures unstopped { IfErr result IsNoStop }
     ensures reads { S.failures file.new ≡ S.failures file.old + failed_reads result }
 {
-    let bytes = read_all(alloc, file)?;
-    read_records(rt, alloc, bytes.as_slice(), options)
+    let count = pieces_for(rt, file.expected());
+    let blocks = Blocks::of(alloc, read_blocks(rt, alloc, file, count)?)?;
+    let records = read_records(rt, alloc, &blocks, options);
+    blocks.let_go(rt);
+    records
 }

@@ -1,3 +1,4 @@
+pub mod Parts
 pub mod Cutting
 pub mod Faults
 pub mod Fields

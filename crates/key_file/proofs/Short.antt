@@ -11,7 +11,7 @@ use Rattle.lane_words.specs.declared.Refusal.TheVariants as r
 use Rattle.key_file.specs.declared.lack.Lack.{Lack}
 use Rattle.key_file.specs.declared.lack.Lack.TheVariants as l
 use Rattle.key_file.specs.Pieces.{file_records}
-use Rattle.key_file.specs.Private.Join.{fault_number}
+use Rattle.key_file.specs.Private.Pieces.{fault_number}
 use Rattle.key_file.specs.KeyFile.{Record, Taking, keyed, keys_from}
 use Rattle.key_file.specs.Private.Records.{IsBetween}
 use Rattle.key_file.proofs.Progress.{step-between}

@@ -1,23 +1,22 @@
 //! The keys of a file, whose pieces are read side by side.
 
-ghost use Rattle.std.specs.Prelude.{◌≡◌, ◌≤◌, ◌<◌, ◌^◌, ◌⊎◌, ◌∷◌, ◌++◌, Ok, Err, [], ℕ, IfOk, IfErr, List, length, map, take, slice_index, slice_index_or, slice_range, vec_len};
+ghost use Rattle.std.specs.Prelude.{◌≡◌, ◌≤◌, ◌<◌, ◌^◌, ◌⊎◌, Ok, Err, IfOk, IfErr, MatchOption, length, map, vec_len};
 ghost use Rattle.key_file.specs.KeyFile.{IsFileFault, keys_of, taken_of, topic_keys_of};
-ghost use Rattle.key_file.specs.Pieces.{file_records};
-ghost use Rattle.key_file.specs.Private.Cuts.{AreCuts};
+ghost use Rattle.key_file.specs.Pieces.{ArePieces};
 ghost use Rattle.key_file.specs.Private.FileKeys.{all_keys};
-ghost use Rattle.key_file.specs.Private.Join.{AnswerPieces, IsWidthOf};
+ghost use Rattle.key_file.specs.Private.Pieces.{AnswerAll, BeginWith, HaveNoRecord, IsBegun, bytes_of, lent};
 ghost use Rattle.key_file.specs.Private.Wanted.{taking};
 ghost use Rattle.lane_words.specs.declared.Refusal.TheVariants as refusal;
 
-use crate::cuts::cuts_of;
+use crate::blocks::Blocks;
+use crate::cuts::pieces_of;
 use crate::file_keys::FileKeys;
-use crate::join::{join_keys, keys_at, piece_between};
+use crate::join::{join_keys, keys_in};
 use crate::piece::first_width;
 use crate::topic_keys::TopicKeys;
 use crate::wanted::Wanted;
-use crate::whole::read_taken;
 use key_lists::KeyList;
-use lane_words::Refusal;
+use lane_words::{Memory, Refusal};
 use std::alloc::Global;
 use std::hash::RandomState;
 use std::random::RandomSource;
@@ -29,7 +28,7 @@ const LEAST_PIECE: usize = 1 << 20;
 
 /// How many pieces a file of this length is read in: one for each processor, unless a piece is then
 /// too short. Where it can't be told how many processors there are, it is one piece.
-fn pieces_for(rt: &impl Threads, len: usize) -> usize
+pub fn pieces_for(rt: &impl Threads, len: usize) -> usize
     ensures some { 1 ≤ result }
     ensures alone { len < LEAST_PIECE → result ≡ 1 }
 {
@@ -40,81 +39,83 @@ fn pieces_for(rt: &impl Threads, len: usize) -> usize
     processors.min(len / LEAST_PIECE).max(1)
 }
 
-/// The keys of a file, in one list.
-fn read_whole(
-    alloc: Global,
-    file: &[u8],
-    wanted: &Wanted<'_>,
-    header: bool,
-) -> Result<Vec<KeyList>, Refusal>
-    ensures keys { IfOk result
-        (λ lists. taken_of (taking wanted.now) header file.now ≡ Ok (all_keys lists.items)) }
-    ensures fault { IfErr result
-        (λ e. (e ≡ refusal.Memory) ⊎ (taken_of (taking wanted.now) header file.now ≡ Err e)) }
+/// The first of some pieces that has a record, and how many fields its first record has.
+fn first_record(alloc: Global, pieces: &[&[u8]]) -> Result<Option<(usize, usize)>, Memory>
+    ensures { IfOk result (λ found. MatchOption found (HaveNoRecord (lent pieces.now) (length pieces.now))
+        (λ first. IsBegun (lent pieces.now) first.0 first.1)) }
 {
-    let keys = read_taken(alloc, file, wanted, header)?;
-    let mut lists = Vec::new(alloc);
-    let Ok(()) = lists.push(keys) else {
-        return Err(Refusal::Memory);
-    };
-    Ok(lists)
+    for i in 0..pieces.len() {
+        if let Some(width) = first_width(alloc, pieces[i])? {
+            return Ok(Some((i, width)));
+        }
+    }
+    Ok(None)
 }
 
-/// The answers of all pieces.
+/// The answers of all pieces, of which the first has a record.
 fn found_apart<R: Threads + Sync>(
     rt: &R,
     alloc: Global,
-    file: &[u8],
-    cuts: &[usize],
+    pieces: &[&[u8]],
     wanted: &Wanted<'_>,
     header: bool,
     width: usize,
-) -> Result<Vec<Result<KeyList, Refusal>>, Refusal>
-    requires cuts { AreCuts file.now 0 cuts.now (length file.now) }
-    requires first { IsWidthOf width (file_records (take (slice_index cuts.now 0) file.now)) }
-    ensures len { IfOk result (λ found. length found.items ≡ length cuts.now) }
+) -> Result<Vec<Result<KeyList, Refusal>>, Memory>
+    requires { BeginWith width (lent pieces.now) }
+    ensures len { IfOk result (λ found. vec_len found ≡ length pieces.now) }
     ensures found { IfOk result
-        (λ found. AnswerPieces (taking wanted.now) header width file.now cuts.now found.items) }
-    ensures memory { IfErr result (λ e. e ≡ refusal.Memory) }
+        (λ found. AnswerAll (taking wanted.now) header width (lent pieces.now) found.items) }
 {
-    let Ok(found) = thread::map_indices(
+    let found = thread::map_indices(
         rt,
         alloc,
-        cuts.len(),
-        &|i| { keys_at(alloc, file, cuts, i, wanted, header, width) },
-    ) else {
-        return Err(Refusal::Memory);
-    };
+        pieces.len(),
+        &|i| { keys_in(alloc, pieces, i, wanted, header, width) },
+    )?;
     Ok(found)
 }
 
-/// The keys of a file in lists that follow one another. The file is read in up to `pieces` pieces.
+/// The keys of the file that lies in these pieces, in lists that follow one another.
 fn lists_apart<R: Threads + Sync>(
     rt: &R,
     alloc: Global,
-    file: &[u8],
+    pieces: &[&[u8]],
     wanted: &Wanted<'_>,
     header: bool,
-    pieces: usize,
 ) -> Result<Vec<KeyList>, Refusal>
-    ensures keys { IfOk result
-        (λ lists. taken_of (taking wanted.now) header file.now ≡ Ok (all_keys lists.items)) }
-    ensures fault { IfErr result
-        (λ e. (e ≡ refusal.Memory) ⊎ (taken_of (taking wanted.now) header file.now ≡ Err e)) }
+    requires pieces { ArePieces (bytes_of (lent pieces.now)) (lent pieces.now) }
+    requires few { length (bytes_of (lent pieces.now)) < 2 ^ 64 }
+    ensures keys { IfOk result (λ lists.
+        taken_of (taking wanted.now) header (bytes_of (lent pieces.now)) ≡ Ok (all_keys lists.items)) }
+    ensures fault { IfErr result (λ e. (e ≡ refusal.Memory)
+        ⊎ (taken_of (taking wanted.now) header (bytes_of (lent pieces.now)) ≡ Err e)) }
 {
-    let Ok(cuts) = cuts_of(alloc, file, pieces) else {
-        return Err(Refusal::Memory);
+    let Some((first, width)) = first_record(alloc, pieces)? else {
+        return Ok(Vec::new(alloc));
     };
-    let cuts = cuts.as_slice();
-    let first = piece_between(file, 0, cuts[0]);
-    let Ok(width) = first_width(alloc, first) else {
-        return Err(Refusal::Memory);
-    };
-    let Some(width) = width else {
-        return read_whole(alloc, file, wanted, header);
-    };
-    let found = found_apart(rt, alloc, file, cuts, wanted, header, width)?;
-    join_keys(alloc, file, cuts, wanted, header, width, found)
+    let begun = &pieces[first..];
+    let found = found_apart(rt, alloc, begun, wanted, header, width)?;
+    join_keys(alloc, begun, wanted, header, width, found)
+}
+
+/// The keys of the file that lies in these pieces.
+fn keys_apart<R: Threads + Sync>(
+    rt: &R,
+    alloc: Global,
+    pieces: &[&[u8]],
+    wanted: &Wanted<'_>,
+    header: bool,
+) -> Result<FileKeys, Refusal>
+    requires pieces { ArePieces (bytes_of (lent pieces.now)) (lent pieces.now) }
+    requires few { length (bytes_of (lent pieces.now)) < 2 ^ 64 }
+    ensures keys { IfOk result (λ keys.
+        taken_of (taking wanted.now) header (bytes_of (lent pieces.now)) ≡ Ok keys) }
+    ensures kind { IfErr result IsFileFault }
+    ensures fault { IfErr result (λ e. (e ≡ refusal.Memory)
+        ⊎ (taken_of (taking wanted.now) header (bytes_of (lent pieces.now)) ≡ Err e)) }
+{
+    let lists = lists_apart(rt, alloc, pieces, wanted, header)?;
+    Ok(FileKeys::of(lists))
 }
 
 /// What the keys of a file of this length are looked up by: nothing where it is short, since its
@@ -136,20 +137,11 @@ pub struct Reading {
     pub hasher: Option<RandomState>,
 }
 
-/// How a file of this length is read, so that it is fast.
-fn reading_for<R: Threads + RandomSource>(rt: &R, len: usize) -> Reading {
-    Reading {
-        pieces: pieces_for(rt, len),
-        hasher: hasher_for(rt, len),
-    }
-}
-
 /// The keys of a file of comma-separated records, as `read_keys` has them.
 ///
 /// The file is cut into as many pieces as `reading` names, of about the same length, however short;
 /// 0 are one. A piece for which no thread can be started is read without one, and a file of a single
-/// piece is read without any. Where the first piece has no record, the file is read in one piece.
-/// Where keys are looked up, one that comes again in its piece mostly stands there once.
+/// piece is read without any. Where keys are looked up, one that comes again in its piece mostly stands there once.
 pub fn read_keys_in_pieces<R: Threads + Sync>(
     rt: &R,
     alloc: Global,
@@ -165,22 +157,21 @@ pub fn read_keys_in_pieces<R: Threads + Sync>(
         (λ e. (e ≡ refusal.Memory) ⊎ (keys_of column header file.now ≡ Err e)) }
 {
     let wanted = Wanted::key(column, reading.hasher);
-    let lists = lists_apart(rt, alloc, file, &wanted, header, reading.pieces)?;
-    Ok(FileKeys::of(lists))
+    let pieces = pieces_of(alloc, file, reading.pieces)?;
+    keys_apart(rt, alloc, pieces.as_slice(), &wanted, header)
 }
 
 /// The keys of a file of comma-separated records, as `read_keys` has them.
 ///
-/// The file is cut into pieces, as many as there are processors, of at least 1 MiB each, and each
-/// is read in a thread of its own. A piece for which no thread can be started is read without one,
-/// and a file of a single piece is read without any. Where its beginning of a piece's length has no
-/// record, the file is read in one piece. In a file of 1 MiB or more a key that comes again in its
-/// piece mostly stands there once; where the random source fails, by which keys are looked up, each
-/// is kept.
+/// Each block of the file is read in a thread of its own. A file of a single block is cut into
+/// pieces, as many as there are processors, of at least 1 MiB each. A piece for which no thread can be
+/// started is read without one, and a file of a single piece is read without any. In a file of 1 MiB
+/// or more a key that comes again in its piece mostly stands there once; where the random source
+/// fails, by which keys are looked up, each is kept.
 pub fn read_keys_apart<R: Threads + Sync + RandomSource>(
     rt: &R,
     alloc: Global,
-    file: &[u8],
+    file: &Blocks,
     column: u32,
     header: bool,
 ) -> Result<FileKeys, Refusal>
@@ -190,8 +181,9 @@ pub fn read_keys_apart<R: Threads + Sync + RandomSource>(
     ensures fault { IfErr result
         (λ e. (e ≡ refusal.Memory) ⊎ (keys_of column header file.now ≡ Err e)) }
 {
-    let reading = reading_for(rt, file.len());
-    read_keys_in_pieces(rt, alloc, file, column, header, reading)
+    let wanted = Wanted::key(column, hasher_for(rt, file.len()));
+    let pieces = file.pieces(alloc, pieces_for(rt, file.len()))?;
+    keys_apart(rt, alloc, pieces.as_slice(), &wanted, header)
 }
 
 /// The keys and the topics of a file of comma-separated records that has several topics, whose names
@@ -220,9 +212,10 @@ pub fn read_topic_keys_in_pieces<R: Threads + Sync>(
     ensures fault { IfErr result (λ e. (e ≡ refusal.Memory) ⊎ (topic_keys_of column topic_column
         (map (λ name. name.now) names.now) header file.now ≡ Err e)) }
 {
-    let wanted = Wanted::topic_and_key(column, topic_column, names);
-    let lists = lists_apart(rt, alloc, file, &wanted, header, pieces)?;
-    Ok(TopicKeys::of(FileKeys::of(lists)))
+    let pieces = pieces_of(alloc, file, pieces)?;
+    let wanted = &Wanted::topic_and_key(column, topic_column, names);
+    let keys = keys_apart(rt, alloc, pieces.as_slice(), wanted, header)?;
+    Ok(TopicKeys::of(keys))
 }
 
 /// The keys and the topics of a file of comma-separated records that has several topics, whose names
@@ -231,7 +224,7 @@ pub fn read_topic_keys_in_pieces<R: Threads + Sync>(
 pub fn read_topic_keys_apart<R: Threads + Sync>(
     rt: &R,
     alloc: Global,
-    file: &[u8],
+    file: &Blocks,
     column: u32,
     topic_column: u32,
     names: &[&[u8]],
@@ -245,6 +238,8 @@ pub fn read_topic_keys_apart<R: Threads + Sync>(
     ensures fault { IfErr result (λ e. (e ≡ refusal.Memory) ⊎ (topic_keys_of column topic_column
         (map (λ name. name.now) names.now) header file.now ≡ Err e)) }
 {
-    let pieces = pieces_for(rt, file.len());
-    read_topic_keys_in_pieces(rt, alloc, file, column, topic_column, names, header, pieces)
+    let wanted = Wanted::topic_and_key(column, topic_column, names);
+    let pieces = file.pieces(alloc, pieces_for(rt, file.len()))?;
+    let keys = keys_apart(rt, alloc, pieces.as_slice(), &wanted, header)?;
+    Ok(TopicKeys::of(keys))
 }

@@ -1,13 +1,19 @@
 //! Where a file can be cut.
 
-ghost use Rattle.std.specs.Prelude.{◌≡◌, ◌≤◌, ◌++◌, ◌∷◌, [], ℕ, List, length, slice_index, slice_range, IfOk, IfSome, ◌<◌, false};
-ghost use Rattle.csv.specs.Reading.{is_bom};
-ghost use Rattle.key_file.specs.Private.Cuts.{AreCuts, IsCut, IsOutside, bom_length};
+ghost use Rattle.std.specs.Prelude.{◌≡◌, ◌≤◌, ◌<◌, ◌++◌, false, length, slice_index, take, IfOk, IfSome};
+ghost use Rattle.csv.specs.Reading.{is_bom, strip_bom};
+ghost use Rattle.key_file.specs.Pieces.{ArePieces};
+ghost use Rattle.key_file.specs.Private.Cuts.{IsOutside, bom_length};
+ghost use Rattle.key_file.specs.Private.Pieces.{lent};
 ghost use Rattle.key_file.specs.Stand.{in_quotes, stand_after};
 ghost use Rattle.key_file.specs.declared.stand.Stand.TheVariants as stands;
 
 use crate::stand::{Stand, stand_behind};
-use std::alloc::{AllocError, Global};
+use lane_words::Memory;
+use std::alloc::Global;
+
+/// How many bytes a byte order mark takes.
+const MARK: usize = 3;
 
 /// Whether these are the bytes of a byte order mark.
 fn is_mark(a: u8, b: u8, c: u8) -> bool
@@ -30,42 +36,37 @@ pub fn mark_length(file: &[u8]) -> usize
     }
 }
 
-/// The first cut from `from` on, and where a reader stands there, given where it stands at `from`.
-/// The file's byte order mark ends at `start`.
-fn next_cut(file: &[u8], start: usize, from: usize, stand: Stand) -> (usize, Stand)
-    requires start { start ≡ bom_length file.now }
-    requires order { (start ≤ from) × (from ≤ length file.now) }
-    requires stand { stand ≡ stand_after stands.Record (slice_range file.now start from) }
-    ensures order { from ≤ result.0 }
-    ensures cut { IsCut file.now result.0 }
-    ensures stand { result.1 ≡ stand_after stands.Record (slice_range file.now start result.0) }
+/// The first line feed that no quotes protect, where a reader stands here before the bytes.
+fn open_cut(bytes: &[u8], from: Stand) -> Option<usize>
+    ensures range { IfSome result (λ cut. cut < length bytes.now) }
+    ensures cut { IfSome result (λ cut. (slice_index bytes.now cut ≡ 10)
+        × (in_quotes (stand_after from (take cut bytes.now)) ≡ false)) }
 {
-    let mut stand = stand;
-    for i in from..file.len() {
-        let byte = file[i];
+    let mut stand = from;
+    for i in 0..bytes.len() {
+        let byte = bytes[i];
         if byte == b'\n' && !stand.is_quoted() {
-            return (i, stand);
+            return Some(i);
         }
         stand = stand.next(byte);
     }
-    (file.len(), stand)
+    None
 }
 
-/// The first line feed from `from` on and before `to` that no quotes protect, wherever a reader
-/// stands at `from`.
+/// The first line feed before `to` that no quotes protect, wherever a reader stands before the bytes.
 ///
 /// Behind a few quoted fields a reader mostly stands at the same place wherever it began.
-fn synced_cut(file: &[u8], from: usize, to: usize) -> Option<usize>
-    requires { (from ≤ to) × (to ≤ length file.now) }
-    ensures range { IfSome result (λ cut. (from ≤ cut) × (cut < to)) }
+fn synced_cut(bytes: &[u8], to: usize) -> Option<usize>
+    requires { to ≤ length bytes.now }
+    ensures range { IfSome result (λ cut. cut < length bytes.now) }
     ensures cut { IfSome result
-        (λ cut. (slice_index file.now cut ≡ 10) × IsOutside (slice_range file.now from cut)) }
+        (λ cut. (slice_index bytes.now cut ≡ 10) × IsOutside (take cut bytes.now)) }
 {
     let mut fresh = Stand::Record;
     let mut bare = Stand::Bare;
     let mut quoted = Stand::Quoted;
-    for i in from..to {
-        let byte = file[i];
+    for i in 0..to {
+        let byte = bytes[i];
         if byte == b'\n' && !quoted.is_quoted() && !fresh.is_quoted() && !bare.is_quoted() {
             return Some(i);
         }
@@ -79,55 +80,44 @@ fn synced_cut(file: &[u8], from: usize, to: usize) -> Option<usize>
 /// How many bytes are looked at for a cut that does not depend on the bytes before.
 const WINDOW: usize = 65536;
 
-/// The first cut from `aim` on, and an index from there on with where a reader stands there, given
-/// an index before, `known`, with where it stands there. The file's byte order mark ends at
-/// `start`.
-fn cut_from(
-    file: &[u8],
-    start: usize,
-    known: usize,
-    stand: Stand,
-    aim: usize,
-) -> (usize, usize, Stand)
-    requires start { start ≡ bom_length file.now }
-    requires order { (start ≤ known) × (known ≤ aim) × (aim ≤ length file.now) }
-    requires stand { stand ≡ stand_after stands.Record (slice_range file.now start known) }
-    ensures cut { IsCut file.now result.0 }
-    ensures order { (known ≤ result.0) × (result.0 ≤ result.1) × (result.1 ≤ length file.now) }
-    ensures stand { result.2 ≡ stand_after stands.Record (slice_range file.now start result.1) }
+/// Where bytes that follow the first ones of a file can be cut: before the first line feed that is
+/// seen not to be in quotes. Behind fewer than three bytes there is no cut, since they may begin a
+/// byte order mark.
+pub fn cut_behind(before: &[u8], next: &[u8]) -> Option<usize>
+    ensures range { IfSome result (λ cut. cut < length next.now) }
+    ensures cut { IfSome result (λ cut. (slice_index next.now cut ≡ 10)
+        × (in_quotes (stand_after stands.Record (strip_bom (before.now ++ take cut next.now))) ≡ false)) }
 {
-    let to = aim + WINDOW.min(file.len() - aim);
-    if let Some(cut) = synced_cut(file, aim, to) {
-        return (cut, cut + 1, Stand::Record);
+    if before.len() < MARK {
+        return None;
     }
-    let there = stand_behind(stand, &file[known..aim]);
-    let (cut, stand) = next_cut(file, start, aim, there);
-    (cut, cut, stand)
+    if let Some(cut) = synced_cut(next, WINDOW.min(next.len())) {
+        return Some(cut);
+    }
+    let start = mark_length(before);
+    open_cut(next, stand_behind(Stand::Record, &before[start..]))
 }
 
-/// Cuts of a file into at most `pieces` pieces of about the same length. The last cut is its end.
-pub fn cuts_of(alloc: Global, file: &[u8], pieces: usize) -> Result<Vec<usize>, AllocError>
-    ensures cuts { IfOk result (λ cuts. AreCuts file.now 0 cuts.items (length file.now)) }
-    ensures last { IfOk result
-        (λ cuts. (before : List ℕ) × (cuts.items ≡ before ++ length file.now ∷ [])) }
+/// A file in at most `pieces` pieces of about the same length; 0 are one.
+pub fn pieces_of(alloc: Global, file: &[u8], pieces: usize) -> Result<Vec<&[u8]>, Memory>
+    ensures { IfOk result (λ found. ArePieces file.now (lent found.items)) }
 {
-    let start = mark_length(file);
-    let mut cuts = Vec::new(alloc);
-    let mut known = start;
-    let mut stand = Stand::Record;
     let step = if pieces == 0 {
         file.len()
     } else {
         file.len() / pieces
     };
+    let mut found = Vec::new(alloc);
+    let mut rest = file;
     for _piece in 1..pieces {
-        let left = file.len() - known;
-        let aim = known + step.min(left);
-        let (cut, next, there) = cut_from(file, start, known, stand, aim);
-        known = next;
-        stand = there;
-        cuts.push(cut)?;
+        let aim = step.max(MARK).min(rest.len());
+        let Some(more) = cut_behind(&rest[..aim], &rest[aim..]) else {
+            break;
+        };
+        let cut = aim + more;
+        found.push(&rest[..cut])?;
+        rest = &rest[cut..];
     }
-    cuts.push(file.len())?;
-    Ok(cuts)
+    found.push(rest)?;
+    Ok(found)
 }

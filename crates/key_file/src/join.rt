@@ -1,13 +1,12 @@
 //! The keys of a file from those of its pieces.
 
-ghost use Rattle.std.specs.Prelude.{◌≡◌, ◌≤◌, ◌<◌, ◌+◌, ◌^◌, ◌⊎◌, ◌∷◌, ◌++◌, Ok, Err, [], ℕ, IfOk, IfErr, List, length, take, slice_index, slice_index_or, slice_range, vec_len};
+ghost use Rattle.std.specs.Prelude.{◌≡◌, ◌<◌, ◌+◌, ◌^◌, ◌⊎◌, Ok, Err, IfOk, IfErr, length, vec_len};
 ghost use Rattle.key_file.specs.KeyFile.{IsFileFault, taken_of};
-ghost use Rattle.key_file.specs.Pieces.{file_records, later_fault};
-ghost use Rattle.key_file.specs.Private.Cuts.{AreCuts};
+ghost use Rattle.key_file.specs.Pieces.{ArePieces, later_fault};
 ghost use Rattle.key_file.specs.Private.FileKeys.{all_keys};
-ghost use Rattle.key_file.specs.Private.Join.{AnswerPieces, IsWidthOf, fault_number, keys_at, without_key};
-ghost use Rattle.lane_words.specs.Answers.{Answers};
+ghost use Rattle.key_file.specs.Private.Pieces.{AnswerAll, BeginWith, bytes_of, fault_number, keys_in, lent};
 ghost use Rattle.key_file.specs.Private.Wanted.{taking};
+ghost use Rattle.lane_words.specs.Answers.{Answers};
 ghost use Rattle.lane_words.specs.declared.Refusal.TheVariants as refusal;
 
 use crate::scan::{first_keys, keys_of};
@@ -16,40 +15,23 @@ use key_lists::KeyList;
 use lane_words::Refusal;
 use std::alloc::Global;
 
-/// A piece of a file.
-pub fn piece_between(file: &[u8], from: usize, to: usize) -> &[u8]
-    requires { (from ≤ to) × (to ≤ length file.now) }
-    ensures { result.now ≡ slice_range file.now from to }
-{
-    &file[from..to]
-}
-
-/// The keys of the piece of index i.
-pub fn keys_at(
+/// The keys of the piece of index i, of pieces of which the first has a record.
+pub fn keys_in(
     alloc: Global,
-    file: &[u8],
-    cuts: &[usize],
+    pieces: &[&[u8]],
     i: usize,
     wanted: &Wanted<'_>,
     header: bool,
     width: usize,
 ) -> Result<KeyList, Refusal>
-    requires cuts { AreCuts file.now 0 cuts.now (length file.now) }
-    requires index { i < length cuts.now }
-    requires first { IsWidthOf width (file_records (take (slice_index cuts.now 0) file.now)) }
-    ensures { Answers (keys_at (taking wanted.now) header width file.now cuts.now i) result }
+    requires index { i < length pieces.now }
+    requires first { BeginWith width (lent pieces.now) }
+    ensures { Answers (keys_in (taking wanted.now) header width (lent pieces.now) i) result }
 {
     if i == 0 {
-        first_keys(
-            alloc,
-            piece_between(file, 0, cuts[0]),
-            wanted,
-            header,
-            width,
-        )
+        first_keys(alloc, pieces[0], wanted, header, width)
     } else {
-        let piece = piece_between(file, cuts[i - 1], cuts[i]);
-        keys_of(alloc, piece, wanted, width)
+        keys_of(alloc, pieces[i], wanted, width)
     }
 }
 
@@ -70,22 +52,21 @@ fn later(fault: Refusal, earlier: u64) -> Refusal
 /// has a record.
 pub fn join_keys(
     alloc: Global,
-    file: &[u8],
-    cuts: &[usize],
+    pieces: &[&[u8]],
     wanted: &Wanted<'_>,
     header: bool,
     width: usize,
     found: Vec<Result<KeyList, Refusal>>,
 ) -> Result<Vec<KeyList>, Refusal>
-    requires cuts { AreCuts file.now 0 cuts.now (length file.now) }
-    requires last { (before : List ℕ) × (cuts.now ≡ before ++ length file.now ∷ []) }
-    requires first { IsWidthOf width (file_records (take (slice_index cuts.now 0) file.now)) }
-    requires len { length found.items ≡ length cuts.now }
-    requires found { AnswerPieces (taking wanted.now) header width file.now cuts.now found.items }
-    ensures keys { IfOk result
-        (λ lists. taken_of (taking wanted.now) header file.now ≡ Ok (all_keys lists.items)) }
-    ensures fault { IfErr result
-        (λ e. (e ≡ refusal.Memory) ⊎ (taken_of (taking wanted.now) header file.now ≡ Err e)) }
+    requires pieces { ArePieces (bytes_of (lent pieces.now)) (lent pieces.now) }
+    requires few { length (bytes_of (lent pieces.now)) < 2 ^ 64 }
+    requires first { BeginWith width (lent pieces.now) }
+    requires len { vec_len found ≡ length pieces.now }
+    requires found { AnswerAll (taking wanted.now) header width (lent pieces.now) found.items }
+    ensures keys { IfOk result (λ lists.
+        taken_of (taking wanted.now) header (bytes_of (lent pieces.now)) ≡ Ok (all_keys lists.items)) }
+    ensures fault { IfErr result (λ e. (e ≡ refusal.Memory)
+        ⊎ (taken_of (taking wanted.now) header (bytes_of (lent pieces.now)) ≡ Err e)) }
 {
     let mut lists = Vec::new(alloc);
     let mut count = if header { 1u64 } else { 0 };

@@ -2,6 +2,7 @@
 #![tactic(auto)]
 
 mod apart;
+mod blocks;
 mod cuts;
 mod file_keys;
 mod join;
@@ -16,8 +17,10 @@ mod wanted;
 mod whole;
 
 pub use apart::{
-    Reading, read_keys_apart, read_keys_in_pieces, read_topic_keys_apart, read_topic_keys_in_pieces,
+    Reading, pieces_for, read_keys_apart, read_keys_in_pieces, read_topic_keys_apart,
+    read_topic_keys_in_pieces,
 };
+pub use blocks::Blocks;
 pub use file_keys::FileKeys;
 pub use key_lists::KeyList;
 pub use lack::Lack;

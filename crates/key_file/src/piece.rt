@@ -3,7 +3,7 @@
 ghost use Rattle.std.specs.Prelude.{◌≡◌, ◌≤◌, ◌<◌, ◌⊎◌, ◌∷◌, Ok, Err, [], IfOk, IfErr, OnOk, List, length, MatchOption};
 ghost use Rattle.key_file.specs.KeyFile.{IsFileFault, Record};
 ghost use Rattle.key_file.specs.Pieces.{file_records, piece_keys};
-ghost use Rattle.key_file.specs.Private.Join.{IsWidthOf};
+ghost use Rattle.key_file.specs.Private.Pieces.{IsWidthOf};
 ghost use Rattle.key_file.specs.Private.Wanted.{taking};
 ghost use Rattle.lane_words.specs.declared.Refusal.TheVariants as refusal;
 

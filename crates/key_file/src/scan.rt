@@ -7,7 +7,7 @@ ghost use Rattle.key_file.specs.KeyFile.{IsFileFault, Record, key_in, taken_of};
 ghost use Rattle.key_file.specs.Pieces.{file_records, piece_keys};
 ghost use Rattle.key_file.specs.Private.Cuts.{bom_length};
 ghost use Rattle.key_file.specs.Private.Fields.{EndsField, IsLineEnd, IsRow, IsWhole, ReadsField, ReadsRow, kept};
-ghost use Rattle.key_file.specs.Private.Join.{IsWidthOf};
+ghost use Rattle.key_file.specs.Private.Pieces.{IsWidthOf};
 ghost use Rattle.key_file.specs.Private.KeyFile.{IsFaultAt, TakesKey};
 ghost use Rattle.key_file.specs.Private.Wanted.{taking};
 ghost use Rattle.lane_words.specs.declared.Refusal.TheVariants as refusal;

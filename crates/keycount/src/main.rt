@@ -30,16 +30,41 @@ fn opened(rt: &HostRuntime, path: &str) -> Result<File, Refusal> {
     Ok(file)
 }
 
+/// What FILE is read from, and about how many bytes it has, where that is known.
+#[derive(Drop)]
+struct Input<F> {
+    reader: F,
+    expected: usize,
+}
+
+/// The file at this path, of which as many bytes are expected as the system tells.
+fn input_at(rt: &HostRuntime, path: &str) -> Result<Input<File>, Refusal> {
+    let reader = opened(rt, path)?;
+    let expected = match reader.metadata() {
+        Ok(metadata) => metadata.len() as usize,
+        Err(_) => 0,
+    };
+    Ok(Input { reader, expected })
+}
+
+/// An input of which nothing is known beforehand.
+fn stream<F: Read + Drop>(reader: F) -> Input<F> {
+    Input {
+        reader,
+        expected: 0,
+    }
+}
+
 /// Counts the keys of a file, and prints the rows.
 fn count<R: Threads + Sync + RandomSource, F: Read + Drop>(
     rt: &HostRuntime,
     threads: &R,
-    file: F,
+    file: Input<F>,
     options: &Options,
 ) -> Result<(), Refusal>
     requires { AreInRange options.now }
 {
-    let mut source = FromRead::new(file);
+    let mut source = FromRead::expecting(file.reader, file.expected);
     let mut sink = FromWrite::new(rt.stdout());
     count_text(threads, rt.alloc(), &mut source, options, &mut sink)
 }
@@ -54,8 +79,8 @@ fn count_file<R: Threads + Sync + RandomSource>(
     requires { AreInRange options.now }
 {
     match path {
-        "-" => count(rt, threads, rt.stdin(), options),
-        _ => count(rt, threads, opened(rt, path)?, options),
+        "-" => count(rt, threads, stream(rt.stdin()), options),
+        _ => count(rt, threads, input_at(rt, path)?, options),
     }
 }
 
@@ -63,13 +88,13 @@ fn count_file<R: Threads + Sync + RandomSource>(
 fn replay<R: Threads + Sync + RandomSource, F: Read + Drop, S: Read + Drop>(
     rt: &HostRuntime,
     threads: &R,
-    file: F,
+    file: Input<F>,
     script: S,
     options: &Options,
 ) -> Result<(), Refusal>
     requires { AreInRange options.now }
 {
-    let mut file = FromRead::new(file);
+    let mut file = FromRead::expecting(file.reader, file.expected);
     let mut script = FromRead::new(script);
     let mut sink = FromWrite::new(rt.stdout());
     replay_text(
@@ -94,9 +119,21 @@ fn replay_files<R: Threads + Sync + RandomSource>(
     requires { AreInRange options.now }
 {
     match (file, script) {
-        ("-", _) => replay(rt, threads, rt.stdin(), opened(rt, script)?, options),
-        (_, "-") => replay(rt, threads, opened(rt, file)?, rt.stdin(), options),
-        _ => replay(rt, threads, opened(rt, file)?, opened(rt, script)?, options),
+        ("-", _) => replay(
+            rt,
+            threads,
+            stream(rt.stdin()),
+            opened(rt, script)?,
+            options,
+        ),
+        (_, "-") => replay(rt, threads, input_at(rt, file)?, rt.stdin(), options),
+        _ => replay(
+            rt,
+            threads,
+            input_at(rt, file)?,
+            opened(rt, script)?,
+            options,
+        ),
     }
 }
 
@@ -113,13 +150,13 @@ impl Gate for OpenGate {
 fn run<R: Threads + Wait + RandomSource + Sync, F: Read + Drop, S: Read + Drop>(
     rt: &HostRuntime,
     threads: &R,
-    file: F,
+    file: Input<F>,
     script: S,
     options: &Options,
 ) -> Result<(), Refusal>
     requires { AreInRange options.now }
 {
-    let mut file = FromRead::new(file);
+    let mut file = FromRead::expecting(file.reader, file.expected);
     let mut script = FromRead::new(script);
     let mut sink = FromWrite::new(rt.stdout());
     run_text(
@@ -144,9 +181,21 @@ fn run_files<R: Threads + Wait + RandomSource + Sync>(
     requires { AreInRange options.now }
 {
     match (file, script) {
-        ("-", _) => run(rt, threads, rt.stdin(), opened(rt, script)?, options),
-        (_, "-") => run(rt, threads, opened(rt, file)?, rt.stdin(), options),
-        _ => run(rt, threads, opened(rt, file)?, opened(rt, script)?, options),
+        ("-", _) => run(
+            rt,
+            threads,
+            stream(rt.stdin()),
+            opened(rt, script)?,
+            options,
+        ),
+        (_, "-") => run(rt, threads, input_at(rt, file)?, rt.stdin(), options),
+        _ => run(
+            rt,
+            threads,
+            input_at(rt, file)?,
+            opened(rt, script)?,
+            options,
+        ),
     }
 }
 

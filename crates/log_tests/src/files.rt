@@ -2,7 +2,7 @@
 
 ghost use Rattle.std.specs.Prelude.{◌≤◌};
 
-use key_file::{KeyList, TopicKeys, read_keys, read_topic_keys_apart};
+use key_file::{Blocks, KeyList, TopicKeys, read_keys, read_topic_keys_apart};
 use lane_words::{Memory, Refusal};
 use std::alloc::Global;
 use std::test::Fail;
@@ -124,6 +124,27 @@ pub fn text_of_topics(alloc: Global, found: &TopicKeys) -> Result<Vec<u8>, Memor
     text_of_both(alloc, &topics, &keys)
 }
 
+/// The blocks of a file, each of so many bytes but for the last.
+fn parts_of(alloc: Global, file: &[u8], size: usize) -> Result<Vec<Vec<u8>>, Memory> {
+    let mut parts = Vec::new(alloc);
+    let mut rest = file;
+    for _ in 0..file.len() {
+        let n = size.min(rest.len());
+        if n == 0 {
+            break;
+        }
+        parts.push(Vec::from_slice(alloc, &rest[..n])?)?;
+        rest = &rest[n..];
+    }
+    Ok(parts)
+}
+
+/// A file that was read in blocks of so many bytes.
+pub fn file_in_blocks(alloc: Global, file: &[u8], size: usize) -> Result<Blocks, Memory> {
+    let parts = parts_of(alloc, file, size)?;
+    Blocks::of(alloc, parts)
+}
+
 /// The topics and the keys of a file whose keys stand in the first column, in one text.
 fn topics_in<R: Threads + Sync>(
     rt: &R,
@@ -134,7 +155,8 @@ fn topics_in<R: Threads + Sync>(
 ) -> Result<Vec<u8>, Refusal>
     requires { 1 ≤ topic_column }
 {
-    let found = read_topic_keys_apart(rt, alloc, file, 1, topic_column, &NAMES, header)?;
+    let file = file_in_blocks(alloc, file, file.len())?;
+    let found = read_topic_keys_apart(rt, alloc, &file, 1, topic_column, &NAMES, header)?;
     Ok(text_of_topics(alloc, &found)?)
 }
 

@@ -3,10 +3,10 @@
 ghost use Rattle.std.specs.Prelude.{◌≤◌};
 
 use crate::drawn::{Random, rows, scraps, topic_rows};
-use crate::files::{NAMES, add_both, text_of_slices, text_of_topics, text_whole};
+use crate::files::{NAMES, add_both, file_in_blocks, text_of_slices, text_of_topics, text_whole};
 use key_file::{
     FileKeys, KeyList, Reading, read_keys, read_keys_apart, read_keys_in_pieces,
-    read_topic_keys_in_pieces,
+    read_topic_keys_apart, read_topic_keys_in_pieces,
 };
 use lane_words::{Memory, Refusal};
 use std::alloc::Global;
@@ -60,8 +60,46 @@ fn has_text_in_pieces<R: Threads + Sync>(
     true
 }
 
-/// Whether a file has the same keys, or the same fault, as a whole and in some numbers of pieces, in
-/// which keys are looked up or none is.
+/// How many bytes the blocks have that a file is read in.
+const SIZES: [usize; 4] = [1, 3, 8, 50];
+
+/// The keys of a file that is read in blocks of so many bytes, in one text.
+fn text_in_blocks<R: Threads + Sync + RandomSource>(
+    rt: &R,
+    alloc: Global,
+    file: &[u8],
+    column: u32,
+    header: bool,
+    size: usize,
+) -> Result<Vec<u8>, Refusal>
+    requires { 1 ≤ column }
+{
+    let blocks = file_in_blocks(alloc, file, size)?;
+    let keys = read_keys_apart(rt, alloc, &blocks, column, header)?;
+    Ok(text_of_keys(alloc, &keys)?)
+}
+
+/// Whether a file has this text, or this fault, in blocks of some sizes.
+fn has_text_in_blocks<R: Threads + Sync + RandomSource>(
+    rt: &R,
+    alloc: Global,
+    file: &[u8],
+    column: u32,
+    header: bool,
+    whole: &Text,
+) -> bool
+    requires { 1 ≤ column }
+{
+    for size in SIZES {
+        if text_in_blocks(rt, alloc, file, column, header, size) != *whole {
+            return false;
+        }
+    }
+    true
+}
+
+/// Whether a file has the same keys, or the same fault, as a whole, in blocks, and in some numbers of
+/// pieces, in which keys are looked up or none is.
 fn are_keys_same<R: Threads + Sync + RandomSource>(
     rt: &R,
     alloc: Global,
@@ -75,6 +113,7 @@ fn are_keys_same<R: Threads + Sync + RandomSource>(
     let hasher = RandomState::new(rt).ok();
     has_text_in_pieces(rt, alloc, file, column, header, None, &whole)
         && has_text_in_pieces(rt, alloc, file, column, header, hasher, &whole)
+        && has_text_in_blocks(rt, alloc, file, column, header, &whole)
 }
 
 #[test]
@@ -151,23 +190,31 @@ fn are_keys(alloc: Global, keys: &FileKeys, len: usize, whole: &Text) -> Result<
     Ok(keys.len() == len && Ok(text_of_keys(alloc, keys)?) == *whole)
 }
 
-/// Whether a file has so many keys in its second column behind its header, and the same as a whole.
+/// Whether a file in blocks of so many bytes has so many keys in its second column behind its header,
+/// and the same as a whole.
 fn has_keys_apart<R: Threads + Sync + RandomSource>(
     rt: &R,
     alloc: Global,
     file: &[u8],
+    size: usize,
     len: usize,
 ) -> Result<bool, Refusal> {
-    let keys = read_keys_apart(rt, alloc, file, 2, true)?;
+    let blocks = file_in_blocks(alloc, file, size)?;
+    let keys = read_keys_apart(rt, alloc, &blocks, 2, true)?;
     Ok(are_keys(alloc, &keys, len, &text_whole(alloc, file, 2, true))?)
 }
 
 #[test]
 fn a_file_of_a_few_mebibytes_has_all_keys(rt: HostRuntime) -> Result<(), Fail> {
     let file = file_of(rt.alloc(), 200_000)?;
-    // So many bytes are read in two pieces, where there are as many processors.
+    // So many bytes in one block are read in two pieces, where there are as many processors.
     assert!(rt; file.len() > 2 << 20);
-    assert_eq!(rt; has_keys_apart(&rt, rt.alloc(), &file, 199_999), Ok(true));
+    for size in [file.len(), 1 << 20] {
+        assert_eq!(rt;
+            has_keys_apart(&rt, rt.alloc(), &file, size, 199_999),
+            Ok(true)
+        );
+    }
     Ok(())
 }
 
@@ -184,6 +231,41 @@ fn topics_in_pieces<R: Threads + Sync>(
 {
     let found = read_topic_keys_in_pieces(rt, alloc, file, column, 2, &NAMES, header, pieces)?;
     Ok(text_of_topics(alloc, &found)?)
+}
+
+/// The same of a file that is read in blocks of so many bytes.
+fn topics_in_blocks<R: Threads + Sync>(
+    rt: &R,
+    alloc: Global,
+    file: &[u8],
+    column: u32,
+    header: bool,
+    size: usize,
+) -> Result<Vec<u8>, Refusal>
+    requires { 1 ≤ column }
+{
+    let blocks = file_in_blocks(alloc, file, size)?;
+    let found = read_topic_keys_apart(rt, alloc, &blocks, column, 2, &NAMES, header)?;
+    Ok(text_of_topics(alloc, &found)?)
+}
+
+/// Whether a file has these topics and keys, or this fault, in blocks of some sizes.
+fn has_topics_in_blocks<R: Threads + Sync>(
+    rt: &R,
+    alloc: Global,
+    file: &[u8],
+    column: u32,
+    header: bool,
+    whole: &Text,
+) -> bool
+    requires { 1 ≤ column }
+{
+    for size in SIZES {
+        if topics_in_blocks(rt, alloc, file, column, header, size) != *whole {
+            return false;
+        }
+    }
+    true
 }
 
 /// Adds to a text the topics and the keys that were read one without the other.
@@ -232,8 +314,8 @@ fn has_text_of_columns(alloc: Global, file: &[u8], column: u32, header: bool, wh
     }
 }
 
-/// Whether a file has the same topics and keys, or the same fault, in one piece and in several, and
-/// as both columns have them.
+/// Whether a file has the same topics and keys, or the same fault, in one piece, in several and in
+/// blocks, and as both columns have them.
 fn are_topics_same<R: Threads + Sync>(
     rt: &R,
     alloc: Global,
@@ -249,7 +331,8 @@ fn are_topics_same<R: Threads + Sync>(
             return false;
         }
     }
-    has_text_of_columns(alloc, file, column, header, &whole)
+    has_topics_in_blocks(rt, alloc, file, column, header, &whole)
+        && has_text_of_columns(alloc, file, column, header, &whole)
 }
 
 #[test]

@@ -18,7 +18,7 @@ returns-then-is_empty-clause-topics g c = first-among c.args.options.now.partiti
 pub returns-in_err-keys-2-clause-fault : goal.returns-in_err-keys-2-clause-fault
 returns-in_err-keys-2-clause-fault g c =
     let options = c.args.options.now in
-    let bytes = c.args.bytes.now in
+    let bytes = c.args.file.now in
     let topics = c.as_slice-topics.ensures.value in
     let some = named c.as_slice-topics.result.now options.topics.items c.is_empty.result topics c.is_empty.ensures c.if-is_empty.false in
     let names = names_are c.as_slice-names.result.now c.in_ok-names.names.items c.as_slice-topics.result.now options.topics.items c.as_slice-names.ensures.value c.in_ok-names.ensures topics in
@@ -32,7 +32,7 @@ returns-clause-topics g c =
     let topics = c.as_slice-topics.ensures.value in
     let some = named c.as_slice-topics.result.now options.topics.items c.is_empty.result topics c.is_empty.ensures c.if-is_empty.false in
     let names = names_are c.as_slice-names.result.now c.in_ok-names.names.items c.as_slice-topics.result.now options.topics.items c.as_slice-names.ensures.value c.in_ok-names.ensures topics in
-    topics-among options.column options.topic_column options.header options.partitions options.topics.items c.args.bytes.now (map (λ (name : Bor (List ℕ)). name.now) c.as_slice-names.result.now) c.in_ok-keys-2.keys some names c.in_ok-keys-2.ensures.keys
+    topics-among options.column options.topic_column options.header options.partitions options.topics.items c.args.file.now (map (λ (name : Bor (List ℕ)). name.now) c.as_slice-names.result.now) c.in_ok-keys-2.keys some names c.in_ok-keys-2.ensures.keys
 
 pub returns-in_err-keys-clause-fault : goal.returns-in_err-keys-clause-fault
 returns-in_err-keys-clause-fault g c = search rules

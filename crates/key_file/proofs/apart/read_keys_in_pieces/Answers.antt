@@ -1,21 +1,22 @@
-use Rattle.std.proofs.Common.{rules, ◌≡◌, Err, arith}
-use Rattle.key_file.specs.Private.Wanted.{taking}
-use Rattle.key_file.proofs.Faults.{fault-kind}
-use Rattle.key_file.proofs.Joined.{keys_of-few}
+use Rattle.std.proofs.Common.{◌≡◌, arith}
+use Rattle.key_file.specs.Private.Pieces.{bytes_of, lent}
+use Rattle.key_file.proofs.Parts.{of-bytes, pieces-bytes}
 use Rattle.key_file.proofs.apart.read_keys_in_pieces.Goals as goal
 
-pub of-requires : goal.of-requires
-of-requires g c =
-    let few = keys_of-few (taking c.key-wanted.result) c.args.header c.args.file.now _ c.in_ok-lists.ensures.keys in
-    omega (arith, few)
+pub keys_apart-requires-clause-pieces : goal.keys_apart-requires-clause-pieces
+keys_apart-requires-clause-pieces g c κs within = rw c.as_slice.ensures.value (of-bytes (lent c.in_ok-pieces.pieces.items) c.args.file.now c.in_ok-pieces.ensures)
 
-pub returns-in_err-lists-clause-kind : goal.returns-in_err-lists-clause-kind
-returns-in_err-lists-clause-kind g c =
-    let same : c.from_residual.result ≡ Err c.in_err-lists.field-0.0 = search rules in
-    rw same (fault-kind (taking c.key-wanted.result) c.args.header c.args.file.now _ c.in_err-lists.ensures.fault)
-
-pub returns-in_err-lists-clause-fault : goal.returns-in_err-lists-clause-fault
-returns-in_err-lists-clause-fault g c = search rules
+pub keys_apart-requires-clause-few : goal.keys_apart-requires-clause-few
+keys_apart-requires-clause-few g c κs within =
+    let bytes : bytes_of (lent c.in_ok-pieces.pieces.items) ≡ c.args.file.now = pieces-bytes (lent c.in_ok-pieces.pieces.items) c.args.file.now c.in_ok-pieces.ensures in
+    rw (c.as_slice.ensures.value, bytes) (omega (arith))
 
 pub returns-clause-keys : goal.returns-clause-keys
-returns-clause-keys g c = search rules
+returns-clause-keys g c =
+    let bytes : bytes_of (lent c.in_ok-pieces.pieces.items) ≡ c.args.file.now = pieces-bytes (lent c.in_ok-pieces.pieces.items) c.args.file.now c.in_ok-pieces.ensures in
+    rw (c.as_slice.ensures.value, bytes, c.key-wanted.ensures) at c.keys_apart.ensures.keys
+
+pub returns-clause-fault : goal.returns-clause-fault
+returns-clause-fault g c =
+    let bytes : bytes_of (lent c.in_ok-pieces.pieces.items) ≡ c.args.file.now = pieces-bytes (lent c.in_ok-pieces.pieces.items) c.args.file.now c.in_ok-pieces.ensures in
+    rw (c.as_slice.ensures.value, bytes, c.key-wanted.ensures) at c.keys_apart.ensures.fault
