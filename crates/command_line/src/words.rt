@@ -52,7 +52,7 @@ pub enum Usage {
 }
 
 /// The version, and the line by which `rt version` tells the kit that proved it.
-const VERSION: &str = "0.1.0, proved with rattle-kit-13b logic dac8208d650f15bf";
+const VERSION: &str = "0.1.0, proved with rattle-kit-13f logic dac8208d650f15bf";
 
 /// What the help says of the option for partitions.
 const PARTITIONS_HELP: &str =

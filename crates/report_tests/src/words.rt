@@ -413,7 +413,7 @@ fn help_tells_what_there_is(rt: HostRuntime) {
 
 #[test]
 fn the_version_names_the_kit(rt: HostRuntime) {
-    let wanted = "keycount 0.1.0, proved with rattle-kit-13b logic dac8208d650f15bf";
+    let wanted = "keycount 0.1.0, proved with rattle-kit-13f logic dac8208d650f15bf";
     for word in ["--version", "-V"] {
         assert!(rt; is_asked(rt.alloc(), &[word], wanted, wanted), "{word}");
     }
