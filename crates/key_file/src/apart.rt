@@ -141,7 +141,8 @@ pub struct Reading {
 ///
 /// The file is cut into as many pieces as `reading` names, of about the same length, however short;
 /// 0 are one. A piece for which no thread can be started is read without one, and a file of a single
-/// piece is read without any. Where keys are looked up, one that comes again in its piece mostly stands there once.
+/// piece is read without any. Where keys are looked up, one that comes again in its piece mostly
+/// stands there once.
 pub fn read_keys_in_pieces<R: Threads + Sync>(
     rt: &R,
     alloc: Global,

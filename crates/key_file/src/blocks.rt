@@ -14,7 +14,9 @@ use std::thread::Threads;
 /// A piece of a file: a block from a place on, and what was added behind it.
 #[derive(Debug, Drop)]
 struct Piece {
+    /// The block, and what was added.
     block: Vec<u8>,
+    /// Where the piece begins in it.
     from: usize,
 }
 
