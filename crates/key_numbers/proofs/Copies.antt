@@ -1,5 +1,5 @@
 -- Keys that are copied before they are numbered.
-use Rattle.std.proofs.Common.{◌≡◌, ◌<◌, ◌≤◌, ◌+◌, ℕ, List, [], get_or, length, set, subst, sym, arith, inl, inr, get_or-set_same, get_or-set_other}
+use Rattle.std.proofs.Common.{◌<◌, ◌≤◌, ◌+◌, ℕ, List, [], get_or, length, set, subst, sym, arith, inl, inr, get_or-set_same, get_or-set_other}
 use Rattle.std.proofs.lemmas.Bool.{cases_eq}
 use Rattle.key_numbers.specs.Keys.{Key}
 use Rattle.key_numbers.specs.declared.stored_key.ShortKey.{ShortKey}

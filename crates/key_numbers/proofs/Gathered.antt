@@ -7,6 +7,8 @@ use Rattle.std.proofs.Math.Seq.{get_or-append_seam}
 use Rattle.key_numbers.specs.Keys.{Key, distinct, id_of}
 use Rattle.key_numbers.specs.Private.Sharded.{AreLocals, AreNumberedFrom, AreNumberedIn, AreTables, of_shard}
 use Rattle.key_numbers.specs.declared.numbering.NumberedShard.{NumberedShard}
+use Rattle.key_numbers.specs.declared.numbering.TheConstants.{OF_GROUP}
+use Rattle.key_numbers.specs.declared.shards.TheConstants.{SHARDS}
 
 -- the next one
 pub drop_next : {X : Type 0} (xs rest : List X) (n : ℕ) (x : X) → drop n xs ≡ x ∷ rest → (n < length xs) × (get_or xs n x ≡ x) × (rest ≡ drop (n + 1) xs)
@@ -87,29 +89,29 @@ numbered-more {E} shard keys from n found one long before own = λ k d lt.
 
 -- groups of four numbered shards, one group after another
 pub groups-numbered : {E : Type 0} (shard : Key → ℕ) (keys : List Key) (from : ℕ) (groups : List (Vec (Result NumberedShard E) Global))
-    → ((g : ℕ) (d : Vec (Result NumberedShard E) Global) → g < length groups → (length (get_or groups g d).items ≡ 4) × AreNumberedFrom shard keys (from + g * 4) 4 (get_or groups g d).items)
-    → (length (flat_map vec_items groups) ≡ length groups * 4) × AreNumberedFrom shard keys from (length groups * 4) (flat_map vec_items groups)
+    → ((g : ℕ) (d : Vec (Result NumberedShard E) Global) → g < length groups → (length (get_or groups g d).items ≡ OF_GROUP) × AreNumberedFrom shard keys (from + g * OF_GROUP) OF_GROUP (get_or groups g d).items)
+    → (length (flat_map vec_items groups) ≡ length groups * OF_GROUP) × AreNumberedFrom shard keys from (length groups * OF_GROUP) (flat_map vec_items groups)
 groups-numbered shard keys from [] h = (refl, λ k d lt. absurd (omega (arith, lt)))
 groups-numbered {E} shard keys from (x ∷ xs) h =
     let first = h 0 x (omega arith) in
-    let here : from + 0 * 4 ≡ from = omega arith in
-    let rest = groups-numbered shard keys (from + 4) xs (λ g d lt.
-    let at : from + suc g * 4 ≡ from + 4 + g * 4 = omega arith in
-    let one = h (suc g) d (omega (arith, lt)) in (one.0, subst (λ s. AreNumberedFrom shard keys s 4 (get_or xs g d).items) at one.1)) in
-    let own = subst (λ s. AreNumberedFrom shard keys s 4 x.items) here first.1 in
-    let many : 4 + length xs * 4 ≡ suc (length xs) * 4 = omega arith in (
+    let here : from + 0 * OF_GROUP ≡ from = omega arith in
+    let rest = groups-numbered shard keys (from + OF_GROUP) xs (λ g d lt.
+    let at : from + suc g * OF_GROUP ≡ from + OF_GROUP + g * OF_GROUP = omega arith in
+    let one = h (suc g) d (omega (arith, lt)) in (one.0, subst (λ s. AreNumberedFrom shard keys s OF_GROUP (get_or xs g d).items) at one.1)) in
+    let own = subst (λ s. AreNumberedFrom shard keys s OF_GROUP x.items) here first.1 in
+    let many : OF_GROUP + length xs * OF_GROUP ≡ suc (length xs) * OF_GROUP = omega arith in (
       omega (arith, length-append x.items (flat_map vec_items xs), first.0, rest.0, many),
-      subst (λ n. AreNumberedFrom shard keys from n (x.items ++ flat_map vec_items xs)) many (numbered-joined shard keys from 4 (length xs * 4) x.items (flat_map vec_items xs) first.0 own rest.1),
+      subst (λ n. AreNumberedFrom shard keys from n (x.items ++ flat_map vec_items xs)) many (numbered-joined shard keys from OF_GROUP (length xs * OF_GROUP) x.items (flat_map vec_items xs) first.0 own rest.1),
     )
 
 -- eight groups of which none was refused
 pub all-groups : {E F : Type 0} (shard : Key → ℕ) (keys : List Key) (found : List (Result (Vec (Result NumberedShard E) Global) F)) (groups : List (Vec (Result NumberedShard E) Global)) → found ≡ map Ok groups → length found ≡ 8
-    → ((g : ℕ) (d : Result (Vec (Result NumberedShard E) Global) F) → g < 8 → IfOk (get_or found g d) (λ group. (length group.items ≡ 4) × AreNumberedFrom shard keys (g * 4) 4 group.items))
-    → (length (flat_map vec_items groups) ≡ 32) × AreNumberedFrom shard keys 0 32 (flat_map vec_items groups)
+    → ((g : ℕ) (d : Result (Vec (Result NumberedShard E) Global) F) → g < 8 → IfOk (get_or found g d) (λ group. (length group.items ≡ OF_GROUP) × AreNumberedFrom shard keys (g * OF_GROUP) OF_GROUP group.items))
+    → (length (flat_map vec_items groups) ≡ SHARDS) × AreNumberedFrom shard keys 0 SHARDS (flat_map vec_items groups)
 all-groups {E} {F} shard keys found groups is long h =
     let eight : length groups ≡ 8 = sym (length-map {B = Result (Vec (Result NumberedShard E) Global) F} groups Ok) ∙ ap length (sym is) ∙ long in
     let whole = groups-numbered shard keys 0 groups (λ g d lt.
-    let own = subst (λ r. IfOk r (λ group. (length group.items ≡ 4) × AreNumberedFrom shard keys (g * 4) 4 group.items)) (ap (λ xs. get_or xs g (Ok d)) is ∙ get_or-map Ok groups g d (Ok d) lt) (h g (Ok d) (omega (arith, lt, eight))) in
-    let at : g * 4 ≡ 0 + g * 4 = omega arith in (own.0, subst (λ s. AreNumberedFrom shard keys s 4 (get_or groups g d).items) at own.1)) in
-    let many : length groups * 4 ≡ 32 = omega (arith, eight) in
+    let own = subst (λ r. IfOk r (λ group. (length group.items ≡ OF_GROUP) × AreNumberedFrom shard keys (g * OF_GROUP) OF_GROUP group.items)) (ap (λ xs. get_or xs g (Ok d)) is ∙ get_or-map Ok groups g d (Ok d) lt) (h g (Ok d) (omega (arith, lt, eight))) in
+    let at : g * OF_GROUP ≡ 0 + g * OF_GROUP = omega arith in (own.0, subst (λ s. AreNumberedFrom shard keys s OF_GROUP (get_or groups g d).items) at own.1)) in
+    let many : length groups * OF_GROUP ≡ SHARDS = omega (arith, eight) in
     (whole.0 ∙ many, subst (λ n. AreNumberedFrom shard keys 0 n (flat_map vec_items groups)) many whole.1)

@@ -5,6 +5,7 @@ pub mod Filtered
 pub mod Firsts
 pub mod Gathered
 pub mod Growth
+pub mod Hashed
 pub mod InShards
 pub mod Joined
 pub mod Numbers

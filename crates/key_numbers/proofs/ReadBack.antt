@@ -1,7 +1,7 @@
 -- Numbers that are read for one key after the other.
 use Rattle.std.proofs.Common.{◌≡◌, ◌∙◌, ◌+◌, ◌<◌, ℕ, List, [], length, get_or, sym, ap, arith, inl, inr, get_or-set_same, get_or-set_other}
 use Rattle.std.specs.Prelude.{slice_set}
-use Rattle.std.specs.declared.hash.RandomState.{RandomState}
+use Rattle.key_numbers.specs.declared.key_hash.KeyHash.{KeyHash}
 use Rattle.std.proofs.lemmas.Bool.{cases_eq}
 use Rattle.std.proofs.lemmas.List.{length-map}
 use Rattle.key_numbers.specs.Keys.{Key, distinct, id_of}
@@ -16,7 +16,7 @@ pub record IsRead (keys : List Key) (i s met : ℕ) (locals ids : List (List ℕ
   pub local_in : get_or (get_or locals s []) met 0 < length (get_or ids s [])
   pub number : get_or (get_or ids s []) (get_or (get_or locals s []) met 0) 0 ≡ id_of (distinct keys) (get_or keys i [])
 
-pub read-record : (hasher : RandomState) (keys : List Key) (shards : List ℕ) (locals ids : List (List ℕ)) (i : ℕ) (met : List ℕ) → AreReadable (shard_of hasher) keys shards locals ids → i < length keys
+pub read-record : (hasher : KeyHash) (keys : List Key) (shards : List ℕ) (locals ids : List (List ℕ)) (i : ℕ) (met : List ℕ) → AreReadable (shard_of hasher) keys shards locals ids → i < length keys
     → ArePassed (shard_of hasher) SHARDS keys i met → IsRead keys i (get_or shards i 0) (get_or met (get_or shards i 0) 0) locals ids
 read-record hasher keys shards locals ids i met h lt so =
     let s = get_or shards i 0 in
@@ -30,7 +30,7 @@ read-record hasher keys shards locals ids i met h lt so =
     }
 
 -- each record has a shard
-pub read-shards : (hasher : RandomState) (keys : List Key) (shards : List ℕ) (locals ids : List (List ℕ)) → AreReadable (shard_of hasher) keys shards locals ids → length shards ≡ length keys
+pub read-shards : (hasher : KeyHash) (keys : List Key) (shards : List ℕ) (locals ids : List (List ℕ)) → AreReadable (shard_of hasher) keys shards locals ids → length shards ≡ length keys
 read-shards hasher keys shards locals ids h = ap length h.sharded ∙ length-map keys (shard_of hasher)
 
 -- one number more

@@ -4,7 +4,7 @@ use Rattle.std.specs.Prelude.{if◌then◌else◌, ◌==◌, filter, slice_set}
 use Rattle.std.proofs.Math.ListN.{length-set}
 use Rattle.std.proofs.Math.Seq.{get_or-append_seam}
 use Rattle.std.specs.List.{fold}
-use Rattle.std.specs.declared.hash.RandomState.{RandomState}
+use Rattle.key_numbers.specs.declared.key_hash.KeyHash.{KeyHash}
 use Rattle.std.proofs.lemmas.Bool.{cases_eq, eq-eqb, ne_eqb}
 use Rattle.std.proofs.lemmas.List.{append-nil, get_or-map, length-map, length-replicate, take-append-drop, drop_more, take_more, length-take}
 use Rattle.std.proofs.lemmas.List.Elements.{filter-append}
@@ -125,11 +125,11 @@ pub shard-at : (shard : Key → ℕ) (keys : List Key) (shards : List ℕ) (i : 
 shard-at shard keys shards i are lt = ap (λ ss. get_or ss i 0) are ∙ get_or-map shard keys i [] 0 lt
 
 -- a shard is one of so many
-pub shard_of-below : (hasher : RandomState) (key : Key) → shard_of hasher key < SHARDS
+pub shard_of-below : (hasher : KeyHash) (key : Key) → shard_of hasher key < SHARDS
 unfolding shard_of
 shard_of-below hasher key = omega arith
 
-pub shard-below : (hasher : RandomState) (keys : List Key) (shards : List ℕ) (i : ℕ) → shards ≡ map (shard_of hasher) keys → i < length keys → get_or shards i 0 < SHARDS
+pub shard-below : (hasher : KeyHash) (keys : List Key) (shards : List ℕ) (i : ℕ) → shards ≡ map (shard_of hasher) keys → i < length keys → get_or shards i 0 < SHARDS
 shard-below hasher keys shards i are lt =
     let below = shard_of-below hasher (get_or keys i []) in
     let at = shard-at (shard_of hasher) keys shards i are lt in

@@ -1,2 +1,3 @@
+pub mod KeyHash
 pub mod Sharded
 pub mod StoredKey

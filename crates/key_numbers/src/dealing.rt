@@ -5,10 +5,10 @@ ghost use Rattle.key_numbers.specs.Keys.{lent, lent_lists};
 ghost use Rattle.key_numbers.specs.Private.Sharded.{AreDealt, IsDealt, shard_of, start_of};
 
 use crate::apart::collected;
+use crate::key_hash::KeyHash;
 use crate::shards::{SHARDS, shard_of};
 use lane_words::{MOST_RECORDS, Memory};
 use std::alloc::Global;
-use std::hash::RandomState;
 use std::thread;
 use std::thread::Threads;
 
@@ -36,14 +36,14 @@ fn no_keys<'a>(alloc: Global, each: usize) -> Result<Vec<Vec<&'a [u8]>>, Memory>
 }
 
 /// These keys, dealt to their shards.
-fn deal<'a>(alloc: Global, hasher: RandomState, keys: &[&'a [u8]]) -> Result<Dealt<'a>, Memory>
+fn deal<'a>(alloc: Global, hasher: KeyHash, keys: &[&'a [u8]]) -> Result<Dealt<'a>, Memory>
     ensures { IfOk result (IsDealt (shard_of hasher) (lent keys.now)) }
 {
     let mut shards = Vec::with_capacity(alloc, keys.len())?;
     // Somewhat more than each would have, were all shards of one size.
     let mut rows = no_keys(alloc, keys.len() / (SHARDS as usize - 1))?;
     for i in 0..keys.len() {
-        let shard = shard_of(hasher, keys[i]);
+        let shard = shard_of(&hasher, keys[i]);
         shards.push(shard)?;
         let row = &mut rows[shard as usize];
         row.push(keys[i])?;
@@ -55,7 +55,7 @@ fn deal<'a>(alloc: Global, hasher: RandomState, keys: &[&'a [u8]]) -> Result<Dea
 fn deal_apart<'a, R: Threads + Sync>(
     rt: &R,
     alloc: Global,
-    hasher: RandomState,
+    hasher: KeyHash,
     lists: &'a [&'a [&'a [u8]]],
 ) -> Result<Vec<Result<Dealt<'a>, Memory>>, Memory>
     ensures len { IfOk result (λ found. vec_len found ≡ length lists.now) }
@@ -71,7 +71,7 @@ fn deal_apart<'a, R: Threads + Sync>(
 pub fn deal_lists<'a, R: Threads + Sync>(
     rt: &R,
     alloc: Global,
-    hasher: RandomState,
+    hasher: KeyHash,
     lists: &'a [&'a [&'a [u8]]],
 ) -> Result<Vec<Dealt<'a>>, Memory>
     ensures { IfOk result (λ dealt. AreDealt (shard_of hasher) lists.now dealt.items) }
@@ -83,7 +83,7 @@ pub fn deal_lists<'a, R: Threads + Sync>(
 /// The shards of the keys of all lists, one list after another.
 pub fn all_shards(
     alloc: Global,
-    hasher: RandomState,
+    hasher: KeyHash,
     lists: &[&[&[u8]]],
     dealt: &[Dealt<'_>],
 ) -> Result<Vec<u8>, Memory>

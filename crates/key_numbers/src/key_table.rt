@@ -4,6 +4,7 @@ ghost use Rattle.std.specs.Prelude.{◌≡◌, ◌<◌, ◌≤◌, [], IfOk, IfS
 ghost use Rattle.key_numbers.specs.Keys.{IsIdOf, id_of, is_known, key_at, with_key};
 ghost use Rattle.key_numbers.specs.Private.StoredKey.{bytes_of};
 
+use crate::key_hash::KeyHash;
 use crate::stored_key::{LONGEST_INLINE, ShortKey, StoredKey};
 use indexmap::IndexSet;
 use lane_words::{MOST_RECORDS, Memory};
@@ -18,7 +19,7 @@ pub struct KeyTable {
     /// Where the keys are stored.
     alloc: Global,
     /// The keys, each at the index of its number.
-    set: IndexSet<StoredKey, RandomState>,
+    set: IndexSet<StoredKey, KeyHash>,
     /// What a long key is looked up by: it keeps its memory from one look-up to the next.
     query: Vec<u8>,
 }
@@ -35,8 +36,15 @@ impl Model for KeyTable {
 }
 
 impl KeyTable {
-    /// No keys, which are hashed by this hasher.
+    /// No keys, which are hashed by what this hasher draws.
     pub fn new(alloc: Global, hasher: RandomState) -> KeyTable
+        ensures { result ≡ [] }
+    {
+        KeyTable::hashed_by(alloc, KeyHash::of(hasher))
+    }
+
+    /// No keys, which are hashed by this.
+    pub(crate) fn hashed_by(alloc: Global, hasher: KeyHash) -> KeyTable
         ensures { result ≡ [] }
     {
         KeyTable {
@@ -131,7 +139,7 @@ impl KeyTable {
 }
 
 /// The number of a key of a set, where it is there.
-fn find_in(set: &IndexSet<StoredKey, RandomState>, key: &StoredKey) -> Option<u32>
+fn find_in(set: &IndexSet<StoredKey, KeyHash>, key: &StoredKey) -> Option<u32>
     requires { length set.now.keys ≤ MOST_RECORDS }
     ensures known { IfSome result (IsIdOf set.now.keys key.now) }
     ensures fresh { IfNone result (is_known set.now.keys key.now ≡ false) }

@@ -3,6 +3,7 @@
 ghost use Rattle.std.specs.Prelude.{◌≡◌, ◌<◌, ◌≤◌, ◌↔◌, [], IfOk, IfSome, IfNone, IsOk, IsTrue, OnErr, length, map, true, false};
 ghost use Rattle.key_numbers.specs.Keys.{IsIdOf, IsWithoutRepeats, distinct, id_of, is_known, key_at, lent_lists, with_key};
 
+use crate::key_hash::KeyHash;
 use crate::key_table::KeyTable;
 use crate::shards::Shards;
 use crate::stored_key::LONGEST_INLINE;
@@ -19,7 +20,7 @@ pub struct KeyIds {
     /// Where the keys are stored.
     alloc: Global,
     /// What the keys are hashed by.
-    hasher: RandomState,
+    hasher: KeyHash,
     /// The keys that were numbered side by side: the first ones, or none.
     shards: Shards,
     /// The keys after them, by their numbers from there on.
@@ -45,11 +46,12 @@ impl KeyIds {
         let Ok(hasher) = RandomState::new(rt) else {
             return Err(Memory);
         };
+        let hasher = KeyHash::of(hasher);
         Ok(KeyIds {
             alloc,
             hasher,
             shards: Shards::none(alloc, hasher),
-            table: KeyTable::new(alloc, hasher),
+            table: KeyTable::hashed_by(alloc, hasher),
         })
     }
 

@@ -3,6 +3,7 @@
 
 mod apart;
 mod dealing;
+mod key_hash;
 mod key_table;
 mod keys;
 mod numbering;
@@ -11,6 +12,7 @@ mod stored_key;
 
 pub use apart::collected;
 pub use dealing::pieces_of;
+pub use key_hash::KeyHash;
 pub use key_table::KeyTable;
 pub use keys::KeyIds;
 pub use shards::Shards;

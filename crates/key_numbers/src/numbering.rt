@@ -7,18 +7,18 @@ ghost use Rattle.key_numbers.specs.Private.Sharded.{AreCopies, AreDealt, AreFrom
 
 use crate::apart::collected;
 use crate::dealing::{Dealt, PIECES, all_shards, deal_lists};
+use crate::key_hash::KeyHash;
 use crate::key_table::KeyTable;
 use crate::shards::{KeyAt, SHARDS};
 use crate::stored_key::{LONGEST_INLINE, ShortKey};
 use lane_words::{MOST_RECORDS, Memory};
 use std::alloc::Global;
-use std::hash::RandomState;
 use std::thread;
 use std::thread::Threads;
 
 /// How many shards one thread numbers, one after the other: were all of them begun at once, their
 /// tables would be in one another's way in the caches.
-const OF_GROUP: u8 = 4;
+const OF_GROUP: u8 = 5;
 
 /// In how many groups the shards are numbered side by side.
 const GROUPS: usize = 8;
@@ -44,7 +44,7 @@ pub struct NumberedKeys {
 pub fn number_keys<R: Threads + Sync, T: Send + Drop, F: FnOnce() -> T + Send + Drop>(
     rt: &R,
     alloc: Global,
-    hasher: RandomState,
+    hasher: KeyHash,
     lists: &[&[&[u8]]],
     room: usize,
     beside: F,
@@ -168,7 +168,7 @@ fn number_row(table: &mut KeyTable, locals: &mut Vec<u32>, row: &[&[u8]]) -> Res
 /// Numbers the records of one shard, list by list. There is room for so many of its keys at first.
 fn number_shard(
     alloc: Global,
-    hasher: RandomState,
+    hasher: KeyHash,
     lists: &[&[&[u8]]],
     dealt: &[Dealt<'_>],
     shard: u8,
@@ -180,7 +180,7 @@ fn number_shard(
     ensures { IfOk result (λ n.
         AreNumberedIn (shard_of hasher) shard (lent_lists lists.now) n.table n.locals.items) }
 {
-    let mut table = KeyTable::new(alloc, hasher);
+    let mut table = KeyTable::hashed_by(alloc, hasher);
     table.reserve(room)?;
     let mut locals = Vec::with_capacity(alloc, room)?;
     for i in 0..dealt.len() {
@@ -193,7 +193,7 @@ fn number_shard(
 /// Numbers the records of the shards of one group, one after the other.
 fn number_group(
     alloc: Global,
-    hasher: RandomState,
+    hasher: KeyHash,
     lists: &[&[&[u8]]],
     dealt: &[Dealt<'_>],
     group: usize,
@@ -219,7 +219,7 @@ fn number_group(
 fn number_groups<R: Threads + Sync>(
     rt: &R,
     alloc: Global,
-    hasher: RandomState,
+    hasher: KeyHash,
     lists: &[&[&[u8]]],
     dealt: &[Dealt<'_>],
     room: usize,
@@ -260,7 +260,7 @@ fn in_row(
 fn number_shards<R: Threads + Sync>(
     rt: &R,
     alloc: Global,
-    hasher: RandomState,
+    hasher: KeyHash,
     lists: &[&[&[u8]]],
     dealt: &[Dealt<'_>],
     room: usize,
@@ -281,7 +281,7 @@ fn number_shards<R: Threads + Sync>(
 /// The keys of each shard, and the numbers in it of its records.
 fn tables_of(
     alloc: Global,
-    hasher: RandomState,
+    hasher: KeyHash,
     lists: &[&[&[u8]]],
     found: Vec<Result<NumberedShard, Memory>>,
 ) -> Result<(Vec<KeyTable>, Vec<Vec<u32>>), Memory>
@@ -343,7 +343,7 @@ fn push_first(ids: &mut Vec<u32>, local: u32, next: u32) -> Result<bool, Memory>
 /// The key numbers of each shard, and where each key stands.
 fn walk(
     alloc: Global,
-    hasher: RandomState,
+    hasher: KeyHash,
     lists: &[&[&[u8]]],
     shards: &[u8],
     tables: &[KeyTable],
@@ -376,7 +376,7 @@ fn walk(
 fn walk_beside<R: Threads + Sync, T: Send, F: FnOnce() -> T + Send>(
     rt: &R,
     alloc: Global,
-    hasher: RandomState,
+    hasher: KeyHash,
     lists: &[&[&[u8]]],
     dealt: Vec<Dealt<'_>>,
     shards: &[u8],
@@ -456,7 +456,7 @@ fn keys_of(tables: &[KeyTable]) -> usize {
 /// The key numbers of the records, by pieces side by side.
 fn read_pieces<R: Threads + Sync>(
     rt: &R,
-    hasher: RandomState,
+    hasher: KeyHash,
     lists: &[&[&[u8]]],
     shards: &[u8],
     locals: &[Vec<u32>],
@@ -485,7 +485,7 @@ fn read_pieces<R: Threads + Sync>(
 /// The key numbers of the records from this index on, as many as these are.
 fn read_numbers(
     from: usize,
-    hasher: RandomState,
+    hasher: KeyHash,
     lists: &[&[&[u8]]],
     shards: &[u8],
     locals: &[Vec<u32>],
@@ -510,7 +510,7 @@ fn read_numbers(
 /// How many records each shard has before this index.
 fn met_before(
     from: usize,
-    hasher: RandomState,
+    hasher: KeyHash,
     lists: &[&[&[u8]]],
     shards: &[u8],
 ) -> [usize; SHARDS as usize]

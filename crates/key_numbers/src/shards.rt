@@ -4,19 +4,19 @@ ghost use Rattle.std.specs.Prelude.{◌≡◌, ◌<◌, ◌≤◌, [], IfOk, IfS
 ghost use Rattle.key_numbers.specs.Keys.{IsIdOf, distinct, id_of, is_known, key_at, lent_lists};
 ghost use Rattle.key_numbers.specs.Private.Sharded.{AreShards, key_there, shard_of};
 
+use crate::key_hash::KeyHash;
 use crate::key_table::KeyTable;
 use crate::numbering::number_keys;
 use crate::stored_key::LONGEST_INLINE;
 use lane_words::{MOST_RECORDS, Memory};
 use std::alloc::Global;
-use std::hash::{BuildHasher, Hasher, RandomState};
 use std::marker::Model;
 use std::thread;
 use std::thread::Threads;
 
-/// How many shards there are: so many that the table of one lies in a near cache where different keys
-/// are a few million.
-pub const SHARDS: u8 = 32;
+/// How many shards there are: so many that the table of one nearly lies in a near cache where different
+/// keys are a few million.
+pub const SHARDS: u8 = 40;
 
 /// From how many keys on their memory is given back side by side: for fewer, threads take longer to
 /// start than one takes to give it back.
@@ -24,16 +24,15 @@ const WORTH_THREADS: usize = 1 << 18;
 
 /// The shard of a key, from its keyed hash: who chooses the keys can't choose their shards.
 ///
-/// It is the hash by which the shard's own table finds the key, of which the table folds one half
-/// into the other: so keys of one shard lie all over its table.
+/// It is the hash by which the shard's own table finds the key, which takes the lowest bits for the
+/// key's group: these are higher ones, so that keys of one shard lie all over its table.
+#[inline(always)]
 #[tactic(auto, unfolding(crate::specs::Private::Sharded::shard_of))]
-pub fn shard_of(hasher: RandomState, key: &[u8]) -> u8
-    ensures shard { result ≡ shard_of hasher key.now }
+pub fn shard_of(hasher: &KeyHash, key: &[u8]) -> u8
+    ensures shard { result ≡ shard_of hasher.now key.now }
     ensures within { result < SHARDS }
 {
-    let mut state = hasher.build_hasher();
-    state.write(key);
-    (state.finish() % u64::from(SHARDS)) as u8
+    (hasher.hash_of(key) / (1 << 19) % u64::from(SHARDS)) as u8
 }
 
 /// Where a key stands.
@@ -49,7 +48,7 @@ pub struct KeyAt {
 #[derive(Debug, Drop)]
 pub struct Shards {
     /// What the keys are hashed by, for their shards too.
-    hasher: RandomState,
+    hasher: KeyHash,
     /// Of each shard its keys.
     tables: Vec<KeyTable>,
     /// Of each shard the key numbers of its keys, by their numbers in the shard.
@@ -73,7 +72,7 @@ impl Model for Shards {
 
 impl Shards {
     /// No keys.
-    pub(crate) fn none(alloc: Global, hasher: RandomState) -> Shards
+    pub(crate) fn none(alloc: Global, hasher: KeyHash) -> Shards
         ensures { result ≡ [] }
     {
         Shards {
@@ -93,7 +92,7 @@ impl Shards {
     pub(crate) fn of<R: Threads + Sync, T: Send + Drop, F: FnOnce() -> T + Send + Drop>(
         rt: &R,
         alloc: Global,
-        hasher: RandomState,
+        hasher: KeyHash,
         lists: &[&[&[u8]]],
         room: usize,
         beside: F,
@@ -152,7 +151,7 @@ impl Shards {
         if self.order.is_empty() {
             return Ok(None);
         }
-        let shard = shard_of(self.hasher, key) as usize;
+        let shard = shard_of(&self.hasher, key) as usize;
         let Some(local) = find_in_shard(&mut self.tables, shard, key)? else {
             return Ok(None);
         };

@@ -92,6 +92,7 @@ impl StoredKey {
     }
 
     /// The bytes of the key.
+    #[inline(always)]
     pub fn as_slice(&self) -> &[u8]
         ensures { result.now ≡ self.now }
     {
@@ -137,6 +138,7 @@ impl Hash for StoredKey {
 
     ghost respects_eq = { Prim.search (hashing, rules) };
 
+    #[inline(always)]
     fn hash<H: Hasher>(&self, state: &mut H) {
         state.write(self.as_slice());
     }

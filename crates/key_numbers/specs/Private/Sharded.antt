@@ -1,11 +1,10 @@
 -- Keys that are numbered shard by shard, and their key numbers.
-use Rattle.std.specs.Prelude.{◌≡◌, ◌<◌, ◌≤◌, ◌+◌, ◌*◌, ◌/◌, ◌==◌, ◌%◌, ℕ, IfOk, List, Result, [], ◌∷◌, ◌++◌, All, Bool, filter, fold, length, map, min, if◌then◌else◌, slice_index_or, take}
+use Rattle.std.specs.Prelude.{◌≡◌, ◌<◌, ◌≤◌, ◌+◌, ◌*◌, ◌/◌, ◌==◌, ◌%◌, ◌^◌, ℕ, IfOk, List, Result, [], ◌∷◌, ◌++◌, All, Bool, filter, fold, length, map, min, if◌then◌else◌, slice_index_or, take}
 use Rattle.lane_words.specs.declared.limits.TheConstants.{MOST_RECORDS}
 use Rattle.std.specs.Borrow.{Bor}
-use Rattle.std.specs.RandomState.{initial_hasher}
-use Rattle.std.specs.declared.hash.RandomState.{RandomState}
-use Rattle.std.specs.Hash.DefaultHasher.{finish, write}
 use Rattle.key_numbers.specs.Keys.{Key, distinct, id_of, key_at, lent, with_key}
+use Rattle.key_numbers.specs.Private.KeyHash.{hash_of}
+use Rattle.key_numbers.specs.declared.key_hash.KeyHash.{KeyHash}
 use Rattle.key_numbers.specs.declared.dealing.TheConstants.{PIECES}
 use Rattle.key_numbers.specs.declared.dealing.Dealt.{Dealt}
 use Rattle.key_numbers.specs.declared.shards.TheConstants.{SHARDS}
@@ -15,9 +14,9 @@ use Rattle.key_numbers.specs.declared.stored_key.ShortKey.{ShortKey}
 use Rattle.key_numbers.specs.Private.StoredKey.{IsCopyOf}
 use Rattle.key_numbers.specs.declared.numbering.NumberedShard.{NumberedShard}
 
--- the shard of a key that this hasher hashes, by one write of all its bytes
-unfoldable pub shard_of : RandomState → Key → ℕ
-shard_of hasher key = finish (write (initial_hasher hasher) key) % SHARDS
+-- the shard of a key: some bits of its hash
+unfoldable pub shard_of : KeyHash → Key → ℕ
+shard_of hasher key = hash_of hasher key / 2 ^ 19 % SHARDS
 
 -- the keys of shard s, in order, where a function tells the shard of each key
 abbrev pub of_shard : (Key → ℕ) → ℕ → List Key → List Key

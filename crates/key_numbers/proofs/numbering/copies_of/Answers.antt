@@ -1,4 +1,4 @@
-use Rattle.std.proofs.Common.{◌∙◌, ◌≤◌, [], Bor, List, ℕ, arith, length, length-set, subst, sym, get_or}
+use Rattle.std.proofs.Common.{◌∙◌, ◌≤◌, [], Bor, List, ℕ, arith, length, length-set, subst, sym}
 use Rattle.key_numbers.specs.Keys.{lent}
 use Rattle.key_numbers.specs.declared.stored_key.TheConstants.{LONGEST_INLINE}
 use Rattle.key_numbers.specs.Private.StoredKey.{IsCopyOf}

@@ -1,10 +1,9 @@
-use Rattle.std.proofs.Common.{◌≡◌, ◌≤◌, ◌+◌, ◌*◌, ◌-◌, ◌∙◌, ◌++◌, [], Bor, List, arith, ap, drop, length, length-drop, map, sym, take}
+use Rattle.std.proofs.Common.{◌≡◌, ◌+◌, ◌*◌, ◌-◌, ◌∙◌, ◌++◌, Bor, arith, ap, drop, length, length-drop, sym, take}
 use Rattle.std.specs.Prelude.{slice_range}
 use Rattle.std.proofs.lemmas.List.{length-take, take_min}
-use Rattle.key_numbers.specs.Keys.{Key, id_of, lent}
-use Rattle.key_numbers.specs.Private.Sharded.{with_keys}
+use Rattle.key_numbers.specs.Keys.{Key, lent}
 use Rattle.key_numbers.specs.declared.numbering.TheConstants.{AT_ONCE}
-use Rattle.key_numbers.proofs.Dealt.{AreNumberedOn, part-numbered, piece-map, take-parted}
+use Rattle.key_numbers.proofs.Dealt.{part-numbered, piece-map, take-parted}
 use Rattle.key_numbers.proofs.ShardRecords.{few-added, lent-long}
 use Rattle.key_numbers.proofs.numbering.number_row.Goals as goal
 

@@ -7,7 +7,7 @@ use Rattle.key_numbers.proofs.ShardRecords.{lent-long, numbered-none}
 use Rattle.key_numbers.proofs.numbering.number_shard.Goals as goal
 
 pub loop-i-init : goal.loop-i-init
-loop-i-init c = rw (c.in_ok-reserve.ensures ∙ c.new-table.ensures, c.in_ok-locals.ensures.items) (numbered-none (shard_of c.args.hasher) c.args.shard (lent_lists c.args.lists.now))
+loop-i-init c = rw (c.in_ok-reserve.ensures ∙ c.hashed_by-table.ensures, c.in_ok-locals.ensures.items) (numbered-none (shard_of c.args.hasher) c.args.shard (lent_lists c.args.lists.now))
 
 pub index-row-requires : goal.index-row-requires
 index-row-requires c =
