@@ -142,6 +142,14 @@ found-coded lists found coded is long h =
     let at : get_or found i (Ok d) ≡ Ok (get_or coded i d) = ap (λ (fs : List (Result CodedPart Memory)). get_or fs i (Ok d)) is ∙ get_or-map Ok coded i d (Ok d) (omega (arith, lt, many)) in
     rw at at own)
 
+-- what holds of what was found, where nothing was refused
+pub found-all : {A : Type 0} (P : A → Type 0) (found : List (Result A Memory)) (all : List A) → found ≡ map Ok all
+    → ((i : ℕ) (d : Result A Memory) → i < length found → IfOk (get_or found i d) P) → All P all
+found-all {A} P found all is h = λ k d lt.
+    let at : get_or found k (Ok d) ≡ Ok (get_or all k d) = ap (λ fs. get_or fs k (Ok d)) is ∙ get_or-map Ok all k d (Ok d) lt in
+    let own = h k (Ok d) (omega (arith, lt, ap length is, length-map {B = Result A Memory} all Ok)) in
+    rw at at own
+
 -- ---- the keys of the parts
 -- one more key among those that are added
 added-more : (ks zs : List Key) (z : Key) → fold with_key ks (with_key zs z) ≡ with_key (fold with_key ks zs) z

@@ -23,6 +23,14 @@ keys_in coded = lent coded.keys.items
 abbrev pub codes_in : CodedPart → List ℕ
 codes_in coded = coded.codes.now
 
+-- each of these keys has at most so many bytes
+abbrev pub AreUpTo : ℕ → List Key → Type 0
+AreUpTo longest keys = All (λ (key : Key). length key ≤ longest) keys
+
+-- a coded list tells how long its longest key is
+abbrev pub TellsLongest : CodedPart → Type 0
+TellsLongest coded = AreUpTo coded.longest (keys_in coded)
+
 -- a list is coded
 abbrev pub IsCoded : List Key → CodedPart → Type 0
 IsCoded part coded = AreCodes part (keys_in coded) (codes_in coded)

@@ -1,7 +1,7 @@
 //! Lists in which keys that come again stand once, by their keys and codes.
 
-ghost use Rattle.std.specs.Prelude.{◌≡◌, ◌<◌, [], ℕ, IfOk, length, slice_index_or, vec_len};
-ghost use Rattle.key_lists.specs.Lists.{AreCoded, IsCoded};
+ghost use Rattle.std.specs.Prelude.{◌≡◌, ◌<◌, [], ℕ, All, IfOk, length, slice_index_or, vec_len};
+ghost use Rattle.key_lists.specs.Lists.{AreCoded, IsCoded, TellsLongest};
 
 use crate::key_list::KeyList;
 use key_numbers::collected;
@@ -15,6 +15,8 @@ use std::thread::Threads;
 pub struct CodedPart<'a> {
     /// The keys. One that comes again may stand more than once.
     pub keys: Vec<&'a [u8]>,
+    /// How many bytes the longest of them has.
+    pub longest: usize,
     /// Of each record where its key stands among them.
     pub codes: &'a [usize],
 }
@@ -28,6 +30,8 @@ fn code_parts<'a, R: Threads + Sync>(
     ensures len { IfOk result (λ found. vec_len found ≡ length lists.now) }
     ensures found { IfOk result (λ found. (i : ℕ) (d : _) → i < length lists.now
         → IfOk (slice_index_or found.items i d) (IsCoded (slice_index_or lists.now i []))) }
+    ensures longest { IfOk result (λ found. (i : ℕ) (d : _) → i < length lists.now
+        → IfOk (slice_index_or found.items i d) TellsLongest) }
 {
     let found = thread::map_indices(rt, alloc, lists.len(), &|i| lists[i].coded(alloc))?;
     Ok(found)
@@ -39,7 +43,8 @@ pub fn coded_parts<'a, R: Threads + Sync>(
     alloc: Global,
     lists: &'a [KeyList],
 ) -> Result<Vec<CodedPart<'a>>, Memory>
-    ensures { IfOk result (λ coded. AreCoded lists.now coded.items) }
+    ensures coded { IfOk result (λ coded. AreCoded lists.now coded.items) }
+    ensures longest { IfOk result (λ coded. All TellsLongest coded.items) }
 {
     let found = code_parts(rt, alloc, lists)?;
     collected(alloc, found)

@@ -2,7 +2,7 @@
 
 ghost use Rattle.std.specs.Prelude.{◌≡◌, ◌<◌, ◌^◌, ◌∷◌, ◌++◌, [], ℕ, Some, IfOk, OnOk, OnErr, length, map, slice_get};
 ghost use Rattle.key_numbers.specs.Keys.{key_at};
-ghost use Rattle.key_lists.specs.Lists.{IsCoded};
+ghost use Rattle.key_lists.specs.Lists.{IsCoded, TellsLongest};
 ghost use Rattle.key_lists.specs.Private.KeyStore.{TakesCode};
 
 use crate::coding::CodedPart;
@@ -136,11 +136,13 @@ impl KeyList {
 
     /// The list's keys, and the codes of its records among them.
     pub fn coded(&self, alloc: Global) -> Result<CodedPart<'_>, Memory>
-        ensures { IfOk result (IsCoded self.now) }
+        ensures coded { IfOk result (IsCoded self.now) }
+        ensures longest { IfOk result TellsLongest }
     {
-        let keys = self.keys.slices(alloc)?;
+        let (keys, longest) = self.keys.slices(alloc)?;
         Ok(CodedPart {
             keys,
+            longest,
             codes: self.codes.as_slice(),
         })
     }

@@ -177,7 +177,7 @@ impl Logs {
 }
 
 /// Whether none of these keys is too long.
-pub fn are_short(keys: &[&[u8]]) -> bool
+fn are_short(keys: &[&[u8]]) -> bool
     ensures { IsTrue result → AreShort (lent keys.now) }
 {
     for i in 0..keys.len() {

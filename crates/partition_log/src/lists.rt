@@ -1,8 +1,8 @@
 //! Appends of the keys of lists at once.
 
-ghost use Rattle.std.specs.Prelude.{◌≡◌, ◌<◌, ◌≤◌, true, false, IfErr, IfOk, IsTrue, OnErr, OnOk, length, map};
+ghost use Rattle.std.specs.Prelude.{◌≡◌, ◌<◌, ◌≤◌, true, false, All, IfErr, IfOk, IsTrue, OnErr, OnOk, length, map};
 ghost use Rattle.std.specs.Thread.{IsSync};
-ghost use Rattle.key_lists.specs.Lists.{AreCoded, joined, keys_in};
+ghost use Rattle.key_lists.specs.Lists.{AreCoded, TellsLongest, joined, keys_in};
 ghost use Rattle.partition_log.specs.Appends.{AreAppended, AreStoppedAfter, GrowByRecords, in_first, lent, placed};
 ghost use Rattle.key_numbers.specs.Keys.{distinct, id_of, lent_lists};
 ghost use Rattle.partition_log.specs.Keys.{of_first};
@@ -11,12 +11,13 @@ ghost use Rattle.partition_log.specs.Private.Filled.{AreShort, CanGoSideBySide};
 ghost use Rattle.partition_log.specs.Private.Shares.{records_of};
 
 use crate::Logs;
-use crate::appends::{SIDE_BY_SIDE, are_short};
+use crate::appends::SIDE_BY_SIDE;
 use crate::shares::logs_of_lists;
 use key_lists::{CodedPart, KeyList, coded_parts};
 use key_numbers::Shards;
-use lane_words::{MOST_RECORDS, Memory, Refusal};
+use lane_words::{LONGEST_KEY, MOST_RECORDS, Memory, Refusal};
 use std::alloc::Global;
+use std::thread;
 use std::thread::Threads;
 
 impl Logs {
@@ -83,6 +84,7 @@ impl Logs {
             return Ok(false);
         }
         self.append_firsts(rt, &coded)?;
+        let_go(rt, coded);
         Ok(true)
     }
 
@@ -205,12 +207,19 @@ fn slices_of(alloc: Global, lists: &[KeyList]) -> Result<Vec<&[u8]>, Memory>
     Ok(keys)
 }
 
+/// Gives the memory of coded lists back, that of each in a thread of its own.
+fn let_go<R: Threads + Sync>(rt: &R, coded: Vec<CodedPart<'_>>) {
+    // Where memory is refused, what is left goes with the list.
+    let _ = thread::map_vec(rt, coded, &|part: CodedPart<'_>| drop(part));
+}
+
 /// Whether no key of coded lists is too long.
 fn are_all_short(coded: &[CodedPart<'_>]) -> bool
+    requires { All TellsLongest coded.now }
     ensures { IsTrue result → AreShort (joined (map keys_in coded.now)) }
 {
     for i in 0..coded.len() {
-        if !are_short(coded[i].keys.as_slice()) {
+        if coded[i].longest > LONGEST_KEY {
             return false;
         }
     }
