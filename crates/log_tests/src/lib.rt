@@ -13,6 +13,8 @@ mod files;
 #[cfg(test)]
 mod hashes;
 #[cfg(test)]
+mod key_hashes;
+#[cfg(test)]
 mod keys;
 #[cfg(test)]
 mod lists;
