@@ -92,24 +92,6 @@ row-numbered shard s keys xs ys zs table locals seam so =
       locals_of = ap₂ (λ ms ns. ms ++ ns) so.locals_of (sym numbers) ∙ sym (map-append f before row) ∙ ap (map f) (sym more);
     }
 
--- a row that is numbered in parts: its first keys, and those of one more part
-pub record AreNumberedOn (old : List Key) (was : List ℕ) (row table : List Key) (locals : List ℕ) : Type 0 where
-  pub keys : table ≡ with_keys old row
-  pub numbers : locals ≡ was ++ map (id_of (with_keys old row)) row
-
-pub part-numbered : (old : List Key) (was : List ℕ) (xs ys whole table : List Key) (locals : List ℕ) → whole ≡ xs ++ ys → AreNumberedOn old was xs table locals
-    → AreNumberedOn old was whole (with_keys table ys) (locals ++ map (id_of (with_keys table ys)) ys)
-part-numbered old was xs ys whole table locals seam so =
-    let first = with_keys old xs in
-    let all : with_keys old whole ≡ with_keys first ys = ap (with_keys old) seam ∙ fold-append with_key old xs ys in
-    let same : with_keys table ys ≡ with_keys old whole = ap (λ ks. with_keys ks ys) so.keys ∙ sym all in
-    let f = id_of (with_keys old whole) in
-    let before : map (id_of first) xs ≡ map f xs = sym (ids-stay old xs ys) ∙ ap (λ ks. map (id_of ks) xs) (sym all) in
-    let joined : map f xs ++ map f ys ≡ map f whole = sym (map-append f xs ys) ∙ ap (map f) (sym seam) in record {
-      keys = same;
-      numbers = ap₂ (λ ms ns. ms ++ ns) so.numbers (ap (λ ks. map (id_of ks) ys) same) ∙ append_assoc was (map (id_of first) xs) (map f ys) ∙ ap (λ ns. was ++ ns) (ap (λ ns. ns ++ map f ys) before ∙ joined);
-    }
-
 -- there is room for the keys of a row
 pub row-room : (shard : Key → ℕ) (s : ℕ) (keys xs ys zs : List Key) (table : List Key) (locals : List ℕ) → keys ≡ (xs ++ ys) ++ zs → IsNumberedTo shard s keys xs table locals
     → length table + length (of_shard shard s ys) ≤ length keys

@@ -1,5 +1,4 @@
 pub mod Copied
-pub mod Copies
 pub mod Dealt
 pub mod Filtered
 pub mod Firsts

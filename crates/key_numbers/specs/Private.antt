@@ -1,3 +1,4 @@
+pub mod DealtKey
 pub mod KeyHash
 pub mod Sharded
 pub mod StoredKey

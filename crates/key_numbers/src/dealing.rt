@@ -1,10 +1,11 @@
 //! Keys that are dealt to their shards, list by list, side by side.
 
-ghost use Rattle.std.specs.Prelude.{◌≡◌, ◌<◌, ◌≤◌, ◌+◌, ℕ, [], IfOk, length, map, replicate, slice_index_or, vec_len};
+ghost use Rattle.std.specs.Prelude.{◌≡◌, ◌<◌, ◌≤◌, ◌+◌, ℕ, [], IfOk, length, map, replicate, slice_index_or, vec_items, vec_len};
 ghost use Rattle.key_numbers.specs.Keys.{lent, lent_lists};
 ghost use Rattle.key_numbers.specs.Private.Sharded.{AreDealt, IsDealt, shard_of, start_of};
 
 use crate::apart::collected;
+use crate::dealt_key::DealtKey;
 use crate::key_hash::KeyHash;
 use crate::shards::{SHARDS, shard_of};
 use lane_words::{MOST_RECORDS, Memory};
@@ -21,12 +22,12 @@ pub struct Dealt<'a> {
     /// Of each key its shard, in order.
     pub shards: Vec<u8>,
     /// Of each shard its keys, in order.
-    pub rows: Vec<Vec<&'a [u8]>>,
+    pub rows: Vec<Vec<DealtKey<'a>>>,
 }
 
 /// No key, of each shard, with room for so many.
-fn no_keys<'a>(alloc: Global, each: usize) -> Result<Vec<Vec<&'a [u8]>>, Memory>
-    ensures { IfOk result (λ rows. map (λ row. lent row.items) rows.items ≡ replicate SHARDS []) }
+fn no_keys<'a>(alloc: Global, each: usize) -> Result<Vec<Vec<DealtKey<'a>>>, Memory>
+    ensures { IfOk result (λ rows. map vec_items rows.items ≡ replicate SHARDS []) }
 {
     let mut rows = Vec::with_capacity(alloc, SHARDS as usize)?;
     for _s in 0..SHARDS as usize {
@@ -46,7 +47,7 @@ fn deal<'a>(alloc: Global, hasher: KeyHash, keys: &[&'a [u8]]) -> Result<Dealt<'
         let shard = shard_of(&hasher, keys[i]);
         shards.push(shard)?;
         let row = &mut rows[shard as usize];
-        row.push(keys[i])?;
+        row.push(DealtKey::of(keys[i]))?;
     }
     Ok(Dealt { shards, rows })
 }

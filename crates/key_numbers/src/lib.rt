@@ -3,6 +3,7 @@
 
 mod apart;
 mod dealing;
+mod dealt_key;
 mod key_hash;
 mod key_table;
 mod keys;

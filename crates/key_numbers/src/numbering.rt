@@ -1,16 +1,15 @@
 //! Keys that are numbered shard by shard, side by side.
 
 ghost use Rattle.std.specs.Prelude.{◌≡◌, ◌≤◌, ◌<◌, ◌+◌, ◌*◌, ◌++◌, ℕ, [], List, IfOk, OnOk, flat_map, length, map, replicate, slice_index_or, slice_set, vec_items, vec_len};
-ghost use Rattle.key_numbers.specs.Keys.{Key, distinct, id_of, lent, lent_lists, with_key};
-ghost use Rattle.key_numbers.specs.Private.StoredKey.{IsCopyOf};
-ghost use Rattle.key_numbers.specs.Private.Sharded.{AreCopies, AreDealt, AreFrom, AreGlobal, AreLocals, AreNumberedFrom, AreNumberedIn, AreOrdered, ArePassed, AreReadable, AreTables, is_first, shard_of, with_first, with_first_at, with_keys};
+ghost use Rattle.key_numbers.specs.Keys.{distinct, id_of, lent_lists};
+ghost use Rattle.key_numbers.specs.Private.Sharded.{AreDealt, AreFrom, AreGlobal, AreLocals, AreNumberedFrom, AreNumberedIn, AreOrdered, ArePassed, AreReadable, AreTables, is_first, shard_of, with_first, with_first_at, with_keys};
 
 use crate::apart::collected;
 use crate::dealing::{Dealt, PIECES, all_shards, deal_lists};
+use crate::dealt_key::DealtKey;
 use crate::key_hash::KeyHash;
 use crate::key_table::KeyTable;
 use crate::shards::{KeyAt, SHARDS};
-use crate::stored_key::{LONGEST_INLINE, ShortKey};
 use lane_words::{MOST_RECORDS, Memory};
 use std::alloc::Global;
 use std::thread;
@@ -22,9 +21,6 @@ const OF_GROUP: u8 = 5;
 
 /// In how many groups the shards are numbered side by side.
 const GROUPS: usize = 8;
-
-/// How many keys are copied before they are numbered.
-const AT_ONCE: usize = 8;
 
 /// Keys that are numbered.
 #[derive(Drop)]
@@ -90,77 +86,20 @@ pub struct NumberedShard {
     locals: Vec<u32>,
 }
 
-/// A copy of a key, where it is short.
-fn copy_of(key: &[u8]) -> ShortKey
-    ensures { length key.now ≤ LONGEST_INLINE → IsCopyOf key.now result }
-{
-    if key.len() <= LONGEST_INLINE {
-        ShortKey::of(key)
-    } else {
-        ShortKey::of(&[])
-    }
-}
-
-/// Copies of those of a few keys that are short.
-fn copies_of(keys: &[&[u8]]) -> [ShortKey; AT_ONCE]
-    requires { length keys.now ≤ AT_ONCE }
-    ensures { AreCopies (lent keys.now) result }
-{
-    let mut copies = [ShortKey::of(&[]); AT_ONCE];
-    for k in 0..keys.len() {
-        copies[k] = copy_of(keys[k]);
-    }
-    copies
-}
-
-/// The number of one of a few keys, which is numbered where it is new.
-fn number_copied(
-    table: &mut KeyTable,
-    copies: &[ShortKey; AT_ONCE],
-    keys: &[&[u8]],
-    k: usize,
-) -> Result<u32, Memory>
-    requires room { length table.old < MOST_RECORDS }
-    requires range { (k < length keys.now) × (length keys.now ≤ AT_ONCE) }
-    requires copies { AreCopies (lent keys.now) copies.now }
-    ensures { let key = slice_index_or (lent keys.now) k [] in IfOk result
-        (λ n. (n ≡ id_of table.old key) × (table.new ≡ with_key table.old key)) }
-{
-    let key = keys[k];
-    if key.len() <= LONGEST_INLINE {
-        table.number_short(&copies[k])
-    } else {
-        table.number(key)
-    }
-}
-
-/// Numbers a few more records of a shard. Their keys are copied first: they lie far apart, and so
-/// they are all waited for at once.
-fn number_few(table: &mut KeyTable, locals: &mut Vec<u32>, keys: &[&[u8]]) -> Result<(), Memory>
-    requires few { length keys.now ≤ AT_ONCE }
-    requires room { length table.old + length keys.now ≤ MOST_RECORDS }
-    ensures table { OnOk result (table.new ≡ with_keys table.old (lent keys.now)) }
-    ensures locals { OnOk result (locals.new.items ≡ locals.old.items
-        ++ map (id_of (with_keys table.old (lent keys.now))) (lent keys.now)) }
-{
-    let copies = copies_of(keys);
-    for k in 0..keys.len() {
-        locals.push(number_copied(table, &copies, keys, k)?)?;
-    }
-    Ok(())
-}
-
 /// Numbers more records of a shard.
-fn number_row(table: &mut KeyTable, locals: &mut Vec<u32>, row: &[&[u8]]) -> Result<(), Memory>
+fn number_row(
+    table: &mut KeyTable,
+    locals: &mut Vec<u32>,
+    row: &[DealtKey<'_>],
+) -> Result<(), Memory>
     requires { length table.old + length row.now ≤ MOST_RECORDS }
-    ensures table { OnOk result (table.new ≡ with_keys table.old (lent row.now)) }
+    ensures table { OnOk result (table.new ≡ with_keys table.old row.now) }
     ensures locals { OnOk result (locals.new.items ≡ locals.old.items
-        ++ map (id_of (with_keys table.old (lent row.now))) (lent row.now)) }
+        ++ map (id_of (with_keys table.old row.now)) row.now) }
 {
-    for part in 0..row.len().div_ceil(AT_ONCE) {
-        let from = part * AT_ONCE;
-        let to = row.len().min(from + AT_ONCE);
-        number_few(table, locals, &row[from..to])?;
+    for k in 0..row.len() {
+        let number = row[k].number_in(table)?;
+        locals.push(number)?;
     }
     Ok(())
 }

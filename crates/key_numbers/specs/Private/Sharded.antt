@@ -1,5 +1,5 @@
 -- Keys that are numbered shard by shard, and their key numbers.
-use Rattle.std.specs.Prelude.{◌≡◌, ◌<◌, ◌≤◌, ◌+◌, ◌*◌, ◌/◌, ◌==◌, ◌%◌, ◌^◌, ℕ, IfOk, List, Result, [], ◌∷◌, ◌++◌, All, Bool, filter, fold, length, map, min, if◌then◌else◌, slice_index_or, take}
+use Rattle.std.specs.Prelude.{◌≡◌, ◌<◌, ◌≤◌, ◌+◌, ◌*◌, ◌/◌, ◌==◌, ◌%◌, ◌^◌, ℕ, IfOk, List, Result, [], ◌∷◌, ◌++◌, All, Bool, filter, fold, length, map, min, if◌then◌else◌, slice_index_or, take, vec_items}
 use Rattle.lane_words.specs.declared.limits.TheConstants.{MOST_RECORDS}
 use Rattle.std.specs.Borrow.{Bor}
 use Rattle.key_numbers.specs.Keys.{Key, distinct, id_of, key_at, lent, with_key}
@@ -9,9 +9,6 @@ use Rattle.key_numbers.specs.declared.dealing.TheConstants.{PIECES}
 use Rattle.key_numbers.specs.declared.dealing.Dealt.{Dealt}
 use Rattle.key_numbers.specs.declared.shards.TheConstants.{SHARDS}
 use Rattle.key_numbers.specs.declared.shards.KeyAt.{KeyAt}
-use Rattle.key_numbers.specs.declared.stored_key.TheConstants.{LONGEST_INLINE}
-use Rattle.key_numbers.specs.declared.stored_key.ShortKey.{ShortKey}
-use Rattle.key_numbers.specs.Private.StoredKey.{IsCopyOf}
 use Rattle.key_numbers.specs.declared.numbering.NumberedShard.{NumberedShard}
 
 -- the shard of a key: some bits of its hash
@@ -28,7 +25,7 @@ start_of p keys = min (p * (length keys / PIECES + 1)) (length keys)
 
 -- of each shard its keys, in order
 abbrev pub rows_in : Dealt → List (List Key)
-rows_in dealt = map (λ row. lent row.items) dealt.rows.items
+rows_in dealt = map vec_items dealt.rows.items
 
 -- rows of so many shards: each has its keys, in order
 pub record AreRows (shard : Key → ℕ) (count : ℕ) (keys : List Key) (rows : List (List Key)) : Type 0 where
@@ -48,10 +45,6 @@ pub record AreDealt (shard : Key → ℕ) (lists : List (Bor (List (Bor Key)))) 
 -- the keys of a shard after more records
 abbrev pub with_keys : List Key → List Key → List Key
 with_keys table row = fold with_key table row
-
--- of those of these keys that are short these are the copies
-abbrev pub AreCopies : List Key → List ShortKey → Type 0
-AreCopies keys copies = (k : ℕ) (d : ShortKey) → k < length keys → length (slice_index_or keys k []) ≤ LONGEST_INLINE → IsCopyOf (slice_index_or keys k []) (slice_index_or copies k d)
 
 -- for each shard the key numbers of its keys, by their numbers in the shard
 abbrev pub AreGlobal : (Key → ℕ) → List Key → List (List ℕ) → Type 0

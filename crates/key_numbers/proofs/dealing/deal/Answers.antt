@@ -1,6 +1,6 @@
 use Rattle.std.proofs.Common.{◌≡◌, ◌<◌, ◌∙◌, ◌∷◌, ◌++◌, [], Bor, Vec, Global, List, arith, ap, ap₂, ◌+◌, get_or, length, map, subst, sym, take}
 use Rattle.std.specs.Prelude.{slice_set}
-use Rattle.std.proofs.lemmas.List.{get_or-map, map_more, length-map, map-append, map-set}
+use Rattle.std.proofs.lemmas.List.{get_or-map, map_more, length-map, map-set}
 use Rattle.key_numbers.specs.Keys.{Key, lent}
 use Rattle.key_numbers.specs.Private.Sharded.{AreRows, shard_of}
 use Rattle.key_numbers.specs.declared.shards.TheConstants.{SHARDS}
@@ -21,7 +21,7 @@ loop-i-preserved c =
     let i = c.loop-i.i in
     let f = shard_of c.args.hasher in
     let rows = c.loop-i.rows.items in
-    let keys_of : Vec (Bor Key) Global → List Key = λ row. lent row.items in
+    let keys_of : Vec Key Global → List Key = λ row. row.items in
     let each : List (List Key) = map keys_of rows in
     let s = c.shard_of-shard.result in
     let i_in : i < length all = omega (arith, c.loop-i-test.true, lent-long keys) in
@@ -33,7 +33,7 @@ loop-i-preserved c =
     let own = c.index_mut-row.result.now in
     let old : get_or each s [] ≡ keys_of own = get_or-map keys_of rows s own [] lt ∙ ap keys_of (sym c.index_mut-row.ensures.value) in
     let new : keys_of c.push-in-loop-i.new.self ≡ get_or each s [] ++ get_or all i [] ∷ [] =
-    ap lent c.in_ok-push-2.ensures.items ∙ map-append (λ (key : Bor Key). key.now) own.items (get_or keys i none ∷ []) ∙ ap₂ (λ ks k. ks ++ k ∷ []) (sym old) (sym x) in
+    c.in_ok-push-2.ensures.items ∙ ap₂ (λ ks k. ks ++ k ∷ []) (sym old) (c.of.ensures ∙ sym x) in
     let more : map keys_of (slice_set rows s c.push-in-loop-i.new.self) ≡ slice_set each s (get_or each s [] ++ get_or all i [] ∷ []) = map-set keys_of rows s c.push-in-loop-i.new.self ∙ ap (slice_set each s) new in record {
       shards = c.in_ok-push.ensures.items ∙ ap₂ (λ ss n. ss ++ n ∷ []) c.loop-i.invariant.shards at ∙ sym (map_more f all i [] i_in);
       rows = subst (λ (ls : List (List Key)). AreRows f SHARDS (take (i + 1) all) ls) (sym more) (dealt-more f SHARDS all i each s i_in at below c.loop-i.invariant.rows);

@@ -1,4 +1,4 @@
-use Rattle.std.proofs.Common.{◌≡◌, map, take}
+use Rattle.std.proofs.Common.{◌≡◌, map, take, vec_items}
 use Rattle.key_numbers.specs.Keys.{lent}
 use Rattle.key_numbers.specs.Private.Sharded.{AreRows, shard_of}
 use Rattle.key_numbers.specs.declared.shards.TheConstants.{SHARDS}
@@ -7,5 +7,5 @@ use Rattle.key_numbers.proofs.dealing.deal.Given as goal
 abbrev pub invariant-loop-i : goal.invariant-loop-i
 invariant-loop-i l = record {
   shards : l.shards.items ≡ map (shard_of l.fn.hasher) (take l.i (lent l.keys));
-  rows : AreRows (shard_of l.fn.hasher) SHARDS (take l.i (lent l.keys)) (map (λ row. lent row.items) l.rows.items);
+  rows : AreRows (shard_of l.fn.hasher) SHARDS (take l.i (lent l.keys)) (map vec_items l.rows.items);
 }

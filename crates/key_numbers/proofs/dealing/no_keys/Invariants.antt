@@ -1,6 +1,5 @@
-use Rattle.std.proofs.Common.{◌≡◌, [], map, replicate}
-use Rattle.key_numbers.specs.Keys.{lent}
+use Rattle.std.proofs.Common.{◌≡◌, [], map, replicate, vec_items}
 use Rattle.key_numbers.proofs.dealing.no_keys.Given as goal
 
 abbrev pub invariant-loop-s : goal.invariant-loop-s
-invariant-loop-s l = map (λ row. lent row.items) l.rows.items ≡ replicate l._s []
+invariant-loop-s l = map vec_items l.rows.items ≡ replicate l._s []

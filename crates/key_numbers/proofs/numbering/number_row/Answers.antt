@@ -1,27 +1,29 @@
-use Rattle.std.proofs.Common.{◌≡◌, ◌+◌, ◌*◌, ◌-◌, ◌∙◌, ◌++◌, Bor, arith, ap, drop, length, length-drop, sym, take}
-use Rattle.std.specs.Prelude.{slice_range}
-use Rattle.std.proofs.lemmas.List.{length-take, take_min}
-use Rattle.key_numbers.specs.Keys.{Key, lent}
-use Rattle.key_numbers.specs.declared.numbering.TheConstants.{AT_ONCE}
-use Rattle.key_numbers.proofs.Dealt.{part-numbered, piece-map, take-parted}
-use Rattle.key_numbers.proofs.ShardRecords.{few-added, lent-long}
+use Rattle.std.proofs.Common.{◌≡◌, ◌<◌, ◌∙◌, ◌∷◌, ◌++◌, [], append_assoc, arith, ap, ap₂, get_or, length, map, sym, take}
+use Rattle.std.proofs.lemmas.List.{get_or_read, length-take, map_more}
+use Rattle.std.proofs.lemmas.List.Sums.{fold_more}
+use Rattle.key_numbers.specs.Keys.{id_of, with_key}
+use Rattle.key_numbers.specs.Private.Sharded.{with_keys}
+use Rattle.key_numbers.proofs.Dealt.{number-next}
+use Rattle.key_numbers.proofs.ShardRecords.{few-added}
 use Rattle.key_numbers.proofs.numbering.number_row.Goals as goal
 
-pub number_few-requires-clause-room : goal.number_few-requires-clause-room
-number_few-requires-clause-room c =
-    let row = lent c.args.row.now in
-    let from = c.loop-part.part * AT_ONCE in
-    omega (arith, ap length c.loop-part.invariant.keys, few-added c.args.table.now (take from row), length-take from row, lent-long c.args.row.now, length-take (c.min-to.result - from) (drop from c.args.row.now), length-drop from c.args.row.now, c.min-to.ensures, c.requires)
+pub number_in-requires : goal.number_in-requires
+number_in-requires c =
+    let row = c.args.row.now in
+    omega (arith, ap length c.loop-k.invariant.table, few-added c.args.table.now (take c.loop-k.k row), length-take c.loop-k.k row, c.loop-k-test.true, c.requires)
 
-pub loop-part-preserved : goal.loop-part-preserved
-loop-part-preserved c =
-    let keys = c.args.row.now in
-    let row = lent keys in
-    let now : Bor Key → Key = λ key. key.now in
-    let from = c.loop-part.part * AT_ONCE in
-    let to = c.min-to.result in
-    let few = lent (slice_range keys from to) in
-    let past : take ((c.loop-part.part + 1) * AT_ONCE) row ≡ take to row = sym (take_min ((c.loop-part.part + 1) * AT_ONCE) row) ∙ ap (λ n. take n row) (omega (arith, c.min-to.ensures, lent-long keys)) in
-    let whole : take ((c.loop-part.part + 1) * AT_ONCE) row ≡ take from row ++ few = past ∙ take-parted row from to (omega (arith, c.min-to.ensures, c.loop-part-test.true, c.div_ceil-part-end.ensures)) (omega (arith, c.min-to.ensures, lent-long keys)) ∙ ap (λ ks. take from row ++ ks) (sym (piece-map now keys from to)) in
-    let next = part-numbered c.args.table.now c.args.locals.now.items (take from row) few (take ((c.loop-part.part + 1) * AT_ONCE) row) c.loop-part.table c.loop-part.locals.items whole c.loop-part.invariant in
-    rw (c.in_ok-number_few.ensures.table, c.in_ok-number_few.ensures.locals) next
+pub loop-k-preserved : goal.loop-k-preserved
+loop-k-preserved c =
+    let row = c.args.row.now in
+    let old = c.args.table.now in
+    let k = c.loop-k.k in
+    let inv = c.loop-k.invariant in
+    let k_in : k < length row = omega (arith, c.loop-k-test.true) in
+    let key = get_or row k [] in
+    let f = id_of (with_keys old row) in
+    let read : c.index-row-k.result ≡ key = get_or_read row k c.index-row-k.result k_in c.index-row-k.is [] in
+    let number : c.in_ok-number.number ≡ f key = c.in_ok-number.ensures.0 ∙ ap₂ id_of inv.table read ∙ sym (number-next old row k k_in) in
+    let old_locals = c.args.locals.now.items in record {
+      table = c.in_ok-number.ensures.1 ∙ ap₂ with_key inv.table read ∙ sym (fold_more with_key old row k [] k_in);
+      locals = c.in_ok-push.ensures.items ∙ ap₂ (λ ns n. ns ++ n ∷ []) inv.locals number ∙ append_assoc old_locals (map f (take k row)) (f key ∷ []) ∙ ap (λ ns. old_locals ++ ns) (sym (map_more f row k [] k_in));
+    }

@@ -3,7 +3,7 @@ use Rattle.std.proofs.lemmas.List.{get_or-map, length-map}
 use Rattle.key_numbers.specs.Keys.{Key, id_of, lent, lent_lists}
 use Rattle.key_numbers.specs.Private.Sharded.{of_shard, shard_of, with_keys}
 use Rattle.key_numbers.proofs.Dealt.{lists-more, lists-parted, row-numbered, row-room}
-use Rattle.key_numbers.proofs.ShardRecords.{lent-long, numbered-none}
+use Rattle.key_numbers.proofs.ShardRecords.{numbered-none}
 use Rattle.key_numbers.proofs.numbering.number_shard.Goals as goal
 
 pub loop-i-init : goal.loop-i-init
@@ -13,7 +13,7 @@ pub index-row-requires : goal.index-row-requires
 index-row-requires c =
     let own = get_or c.args.dealt.now c.loop-i.i c.index-dealt-i.result in
     let e : Bor (List (Bor Key)) = record { ref_ptr = (0, 0); now = [] } in
-    let keys_of : Vec (Bor Key) Global → List Key = λ row. lent row.items in
+    let keys_of : Vec Key Global → List Key = λ row. row.items in
     let dealt = c.requires.dealt.are c.loop-i.i c.index-dealt-i.result e (omega (arith, c.loop-i-test.true, c.requires.dealt.as_many)) in
     let counted : length own.rows.items ≡ vec_len own.rows = search rules in
     omega (arith, c.requires.shard, dealt.rows.each, length-map own.rows.items keys_of, counted)
@@ -25,14 +25,14 @@ number_row-requires c =
     let i = c.loop-i.i in
     let own = get_or c.args.dealt.now i c.index-dealt-i.result in
     let e : Bor (List (Bor Key)) = record { ref_ptr = (0, 0); now = [] } in
-    let keys_of : Vec (Bor Key) Global → List Key = λ row. lent row.items in
+    let keys_of : Vec Key Global → List Key = λ row. row.items in
     let i_in : i < length lists = omega (arith, c.loop-i-test.true, c.requires.dealt.as_many) in
     let rows = (c.requires.dealt.are i c.index-dealt-i.result e i_in).rows in
     let lt : c.args.shard < length own.rows.items = omega (arith, c.requires.shard, rows.each, length-map own.rows.items keys_of) in
-    let row : lent c.as_slice.result.now ≡ of_shard f c.args.shard (lent (get_or lists i e).now) =
-    ap lent c.as_slice.ensures.value ∙ ap keys_of c.index-row.ensures ∙ sym (get_or-map keys_of own.rows.items c.args.shard c.index-row.result.now [] lt) ∙ rows.are c.args.shard c.requires.shard in
+    let row : c.as_slice.result.now ≡ of_shard f c.args.shard (lent (get_or lists i e).now) =
+    c.as_slice.ensures.value ∙ ap keys_of c.index-row.ensures ∙ sym (get_or-map keys_of own.rows.items c.args.shard c.index-row.result.now [] lt) ∙ rows.are c.args.shard c.requires.shard in
     let room = row-room f c.args.shard (lent_lists lists) (lent_lists (take i lists)) (lent (get_or lists i e).now) (lent_lists (drop (i + 1) lists)) c.loop-i.table c.loop-i.locals.items (lists-parted lists i e i_in) c.loop-i.invariant in
-    omega (arith, room, ap length row, lent-long c.as_slice.result.now, c.requires.few)
+    omega (arith, room, ap length row, c.requires.few)
 
 pub loop-i-preserved : goal.loop-i-preserved
 loop-i-preserved c =
@@ -43,11 +43,11 @@ loop-i-preserved c =
     let locals = c.loop-i.locals.items in
     let own = get_or c.args.dealt.now i c.index-dealt-i.result in
     let e : Bor (List (Bor Key)) = record { ref_ptr = (0, 0); now = [] } in
-    let keys_of : Vec (Bor Key) Global → List Key = λ row. lent row.items in
+    let keys_of : Vec Key Global → List Key = λ row. row.items in
     let i_in : i < length lists = omega (arith, c.loop-i-test.true, c.requires.dealt.as_many) in
     let rows = (c.requires.dealt.are i c.index-dealt-i.result e i_in).rows in
     let lt : c.args.shard < length own.rows.items = omega (arith, c.requires.shard, rows.each, length-map own.rows.items keys_of) in
-    let row : lent c.as_slice.result.now ≡ of_shard f c.args.shard (lent (get_or lists i e).now) =
-    ap lent c.as_slice.ensures.value ∙ ap keys_of c.index-row.ensures ∙ sym (get_or-map keys_of own.rows.items c.args.shard c.index-row.result.now [] lt) ∙ rows.are c.args.shard c.requires.shard in
+    let row : c.as_slice.result.now ≡ of_shard f c.args.shard (lent (get_or lists i e).now) =
+    c.as_slice.ensures.value ∙ ap keys_of c.index-row.ensures ∙ sym (get_or-map keys_of own.rows.items c.args.shard c.index-row.result.now [] lt) ∙ rows.are c.args.shard c.requires.shard in
     let next = row-numbered f c.args.shard (lent_lists lists) (lent_lists (take i lists)) (lent (get_or lists i e).now) (lent_lists (drop (i + 1) lists)) table locals (lists-parted lists i e i_in) c.loop-i.invariant in
     rw (c.in_ok-number_row.ensures.table ∙ ap (with_keys table) row, c.in_ok-number_row.ensures.locals ∙ ap (λ ks. locals ++ map (id_of (with_keys table ks)) ks) row, lists-more lists i e i_in) next
