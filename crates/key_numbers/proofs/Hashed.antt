@@ -1,7 +1,17 @@
--- The hash of a short key, word by word.
-use Rattle.std.proofs.Common.{ℕ, ◌≡◌, ◌+◌, ◌*◌, ◌<◌, ◌≤◌, ◌∙◌, List, [], ◌∷◌, ap, arith, drop, get_or, length, refl, sym, zero, suc}
+-- The seeds, one by one, and the hash of a short key, word by word.
+use Rattle.std.proofs.Common.{ℕ, ◌≡◌, ◌+◌, ◌*◌, ◌<◌, ◌≤◌, ◌∙◌, List, [], ◌∷◌, ap, arith, drop, get_or, get_or-set_other, get_or-set_same, inl, inr, length, refl, sym, zero, suc}
+use Rattle.std.specs.Prelude.{slice_set}
+use Rattle.std.proofs.lemmas.Bool.{cases_eq}
 use Rattle.std.proofs.Math.Seq.{drop-cons}
 use Rattle.key_numbers.specs.Private.KeyHash.{with_product, with_products, word_from}
+
+-- one more seed
+pub seed-more : (f : ℕ → ℕ) (seeds : List ℕ) (i seed : ℕ) → i < length seeds → seed ≡ f i → ((k : ℕ) → k < i → get_or seeds k 0 ≡ f k) → (k : ℕ) → k < i + 1 → get_or (slice_set seeds i seed) k 0 ≡ f k
+seed-more f seeds i seed lt is so = λ k below.
+    elim (cases_eq k i) [
+      | inl same ↦ ap (λ m. get_or (slice_set seeds i seed) m 0) same ∙ get_or-set_same seeds i seed 0 lt ∙ is ∙ ap f (sym same)
+      | inr other ↦ get_or-set_other seeds i k seed 0 other ∙ so k (omega (arith, below, other))
+    ]
 
 -- one more word
 one_more_word : (key : List ℕ) (sum seed : ℕ) (seeds : List ℕ) (at : ℕ) → at + 4 ≤ length key → with_products sum (seed ∷ seeds) (drop at key) ≡ with_products (with_product sum seed (word_from key at)) seeds (drop (at + 4) key)

@@ -3,7 +3,7 @@
 ghost use Rattle.std.specs.Prelude.{◌≡◌, ◌≤◌, ◌<◌, ◌+◌, ◌∷◌, [], bit_xor, length};
 ghost use Rattle.std.specs.Hash.DefaultHasher.{finish, write};
 ghost use Rattle.std.specs.RandomState.{initial_hasher};
-ghost use Rattle.key_numbers.specs.Private.KeyHash.{hash_of, sum_of, with_product, with_products, word_from};
+ghost use Rattle.key_numbers.specs.Private.KeyHash.{IsDrawn, hash_of, sum_of, with_product, with_products, word_from};
 
 use crate::stored_key::LONGEST_INLINE;
 use std::fmt;
@@ -33,7 +33,7 @@ pub struct KeyHash {
     long: RandomState,
 }
 
-/// The hash of what is written, which is a key as a rule, at once.
+/// The hash of what is written: of one key, as a rule, by one write.
 #[derive(Clone, Copy)]
 pub struct KeyHasher {
     /// What keys are hashed by.
@@ -99,8 +99,11 @@ fn sip_hash_of(hasher: RandomState, key: &[u8]) -> u64
 }
 
 impl KeyHash {
-    /// A hash of keys whose seeds are drawn by this hasher.
-    pub fn of(hasher: RandomState) -> KeyHash {
+    /// A hash of keys whose seeds are drawn by this hasher: each is what the hasher gives of its place.
+    /// Long keys are hashed by the hasher itself.
+    pub fn of(hasher: RandomState) -> KeyHash
+        ensures { IsDrawn hasher result }
+    {
         let mut seeds = [0; SEEDS];
         for i in 0..SEEDS {
             seeds[i] = hasher.hash_one(i);

@@ -1,5 +1,6 @@
-//! The hash of keys. What it is by the seeds is proved; that they are drawn, and that all of a key
-//! counts, is told here: two different keys are of one hash once in 2^33 draws.
+//! The hash of keys. What it is by its seeds is proved, and that a hasher gives them; that they are
+//! others each time, and that all of a key counts, is told here: two different keys are of one hash
+//! once in 2^33 draws.
 
 ghost use Rattle.std.specs.Prelude.{◌≤◌, ◌+◌};
 

@@ -1,12 +1,25 @@
 -- The hash of a key. Of a short one it is a multilinear hash (Lemire and Kaser, Strongly universal
 -- string hashing is fast, The Computer Journal 57, 2014): a sum of products of its words with seeds,
 -- in words of 64 bits, of which the 33 highest bits are kept. Of a long one it is SipHash.
-use Rattle.std.specs.Prelude.{ℕ, ◌+◌, ◌*◌, ◌/◌, ◌%◌, ◌^◌, List, [], ◌∷◌, if◌then◌else◌, length, nat_le, slice_index}
+use Rattle.std.specs.Prelude.{ℕ, ◌≡◌, ◌<◌, ◌+◌, ◌*◌, ◌/◌, ◌%◌, ◌^◌, List, [], ◌∷◌, if◌then◌else◌, length, nat_le, slice_index}
+use Rattle.std.specs.Hash.{usize}
 use Rattle.std.specs.Hash.DefaultHasher.{finish, write}
+use Rattle.std.specs.List.{fold}
 use Rattle.std.specs.RandomState.{initial_hasher}
+use Rattle.std.specs.declared.random_state.RandomState.{RandomState}
 use Rattle.key_numbers.specs.declared.key_hash.KeyHash.{KeyHash}
-use Rattle.key_numbers.specs.declared.key_hash.TheConstants.{ADDED, OF_LENGTH}
+use Rattle.key_numbers.specs.declared.key_hash.TheConstants.{ADDED, OF_LENGTH, SEEDS}
 use Rattle.key_numbers.specs.declared.stored_key.TheConstants.{LONGEST_INLINE}
+
+-- the seed of a number: what SipHash, whose own keys are drawn, gives of it
+abbrev pub seed_of : RandomState → ℕ → ℕ
+seed_of hasher n = finish (fold write (initial_hasher hasher) (usize n))
+
+-- a hash of keys is drawn by this hasher: each of its seeds is that of its place, and long keys are
+-- hashed by the hasher itself
+pub record IsDrawn (hasher : RandomState) (hash : KeyHash) : Type 0 where
+  pub seeds : (i : ℕ) → i < SEEDS → slice_index hash.seeds i ≡ seed_of hasher i
+  pub long : hash.long ≡ hasher
 
 -- the word of four bytes, the lowest first
 abbrev pub word_of : ℕ → ℕ → ℕ → ℕ → ℕ
