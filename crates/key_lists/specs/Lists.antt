@@ -1,6 +1,6 @@
 -- The keys of records in a few keys: each record has a code, which is where its key stands among
 -- them. A key that comes again needs no place of its own, but may have one.
-use Rattle.std.specs.Prelude.{◌≡◌, ◌<◌, ◌≤◌, ℕ, List, [], ◌∷◌, All, flat_map, length, map}
+use Rattle.std.specs.Prelude.{◌≡◌, ◌<◌, ◌≤◌, ℕ, List, [], ◌∷◌, All, flat_map, length, map, max}
 use Rattle.key_numbers.specs.Keys.{Key, distinct, key_at, lent}
 use Rattle.key_lists.specs.declared.coding.CodedPart.{CodedPart}
 
@@ -23,13 +23,14 @@ keys_in coded = lent coded.keys.items
 abbrev pub codes_in : CodedPart → List ℕ
 codes_in coded = coded.codes.now
 
--- each of these keys has at most so many bytes
-abbrev pub AreUpTo : ℕ → List Key → Type 0
-AreUpTo longest keys = All (λ (key : Key). length key ≤ longest) keys
+-- how many bytes the longest of these keys has: 0 where there is none
+abbrev pub longest_of : List Key → ℕ
+longest_of [] = 0
+longest_of (key ∷ keys) = max (length key) (longest_of keys)
 
 -- a coded list tells how long its longest key is
 abbrev pub TellsLongest : CodedPart → Type 0
-TellsLongest coded = AreUpTo coded.longest (keys_in coded)
+TellsLongest coded = coded.longest ≡ longest_of (keys_in coded)
 
 -- a list is coded
 abbrev pub IsCoded : List Key → CodedPart → Type 0

@@ -15,7 +15,7 @@ use std::thread::Threads;
 pub struct CodedPart<'a> {
     /// The keys. One that comes again may stand more than once.
     pub keys: Vec<&'a [u8]>,
-    /// How many bytes the longest of them has.
+    /// How many bytes the longest of them has: 0 where there is none.
     pub longest: usize,
     /// Of each record where its key stands among them.
     pub codes: &'a [usize],

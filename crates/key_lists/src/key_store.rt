@@ -2,7 +2,7 @@
 
 ghost use Rattle.std.specs.Prelude.{◌≡◌, ◌<◌, ◌^◌, ◌++◌, ◌∷◌, [], IfNone, IfOk, IfSome, OnErr, OnOk, false, length, map, slice_index_or};
 ghost use Rattle.key_numbers.specs.Keys.{key_at, lent};
-ghost use Rattle.key_lists.specs.Lists.{AreUpTo};
+ghost use Rattle.key_lists.specs.Lists.{longest_of};
 ghost use Rattle.key_lists.specs.Private.KeyStore.{TakesCode, looked_up};
 
 use crate::key_text::KeyText;
@@ -106,15 +106,13 @@ impl KeyStore {
     /// The slices of all keys, in order, and how long the longest of them is.
     pub fn slices(&self, alloc: Global) -> Result<(Vec<&[u8]>, usize), Memory>
         ensures slices { IfOk result (λ r. lent r.0.items ≡ self.now) }
-        ensures longest { IfOk result (λ r. AreUpTo r.1 self.now) }
+        ensures longest { IfOk result (λ r. r.1 ≡ longest_of self.now) }
     {
         let mut slices = Vec::with_capacity(alloc, self.len())?;
         let mut longest = 0;
         for i in 0..self.len() {
             let key = self.get(i);
-            if longest < key.len() {
-                longest = key.len();
-            }
+            longest = longest.max(key.len());
             slices.push(key)?;
         }
         Ok((slices, longest))

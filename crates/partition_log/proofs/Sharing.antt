@@ -7,9 +7,10 @@ use Rattle.std.proofs.lemmas.List.Concat.{flat_map-append}
 use Rattle.std.proofs.lemmas.List.Elements.{All-append, All-cons, All-drop, All-head, All-push, All-tail, All-take}
 use Rattle.lane_words.specs.declared.Memory.{Memory}
 use Rattle.key_numbers.specs.Keys.{Key, key_at}
-use Rattle.key_lists.specs.Lists.{AreCoded, IsCoded, codes_in, joined, keys_in}
+use Rattle.key_lists.specs.Lists.{AreCoded, IsCoded, TellsLongest, codes_in, joined, keys_in}
 use Rattle.key_lists.specs.declared.coding.CodedPart.{CodedPart}
 use Rattle.key_lists.proofs.Coded.{distinct-parts, read-codes}
+use Rattle.key_lists.proofs.Longest.{all-up-to, longest-up-to}
 use Rattle.partition_log.specs.Private.Filled.{ArePlaced, AreShort, CanGoSideBySide, filled}
 use Rattle.partition_log.specs.Private.Shares.{AreMerged, IsFillable, by_codes, in_row, numbers_in, places_in, read_by, records_of}
 use Rattle.partition_log.specs.declared.shares.Share.{Share}
@@ -166,6 +167,24 @@ records-short (part ∷ parts) (c ∷ coded) so short =
     let both = left-short (keys_in c) (joined (map keys_in coded)) short in
     All-append (λ (key : Key). length key ≤ LONGEST_KEY) part (joined parts)
     (subst AreShort so.0.same_records (one-short (keys_in c) (codes_in c) so.0.within both.0)) (records-short parts coded so.1 both.1)
+
+-- the keys of coded lists are short where the longest of each list is
+pub lists-short : (coded : List CodedPart) → All TellsLongest coded → All (λ (one : CodedPart). one.longest ≤ LONGEST_KEY) coded → AreShort (joined (map keys_in coded))
+lists-short [] tells short = λ i d lt. absurd (omega (arith, lt))
+lists-short (one ∷ coded) tells short =
+    let tells_own : TellsLongest one = All-head TellsLongest one coded tells in
+    All-append (λ (key : Key). length key ≤ LONGEST_KEY) (keys_in one) (joined (map keys_in coded))
+    (all-up-to LONGEST_KEY (keys_in one) (omega (arith, tells_own, All-head (λ (one : CodedPart). one.longest ≤ LONGEST_KEY) one coded short)))
+    (lists-short coded (All-tail TellsLongest one coded tells) (All-tail (λ (one : CodedPart). one.longest ≤ LONGEST_KEY) one coded short))
+
+-- and only there
+pub longest-short : (coded : List CodedPart) → All TellsLongest coded → AreShort (joined (map keys_in coded)) → All (λ (one : CodedPart). one.longest ≤ LONGEST_KEY) coded
+longest-short [] tells short = λ i d lt. absurd (omega (arith, lt))
+longest-short (one ∷ coded) tells short =
+    let both = left-short (keys_in one) (joined (map keys_in coded)) short in
+    let tells_own : TellsLongest one = All-head TellsLongest one coded tells in
+    All-cons (λ (one : CodedPart). one.longest ≤ LONGEST_KEY) one coded (omega (arith, tells_own, longest-up-to LONGEST_KEY (keys_in one) both.0))
+    (longest-short coded (All-tail TellsLongest one coded tells) both.1)
 
 -- ---- one share more
 pub joined-next : (coded : List CodedPart) (i from : ℕ) (d : CodedPart) → i < length coded → from ≡ length (joined (map keys_in (take i coded)))

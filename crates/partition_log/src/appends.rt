@@ -1,6 +1,6 @@
 //! Appends of several records at once.
 
-ghost use Rattle.std.specs.Prelude.{◌≡◌, ◌<◌, ℕ, All, length, map, zip, IfErr, IfOk, IsTrue, OnErr, OnOk};
+ghost use Rattle.std.specs.Prelude.{◌≡◌, ◌↔◌, ◌<◌, ℕ, All, length, map, zip, IfErr, IfOk, IsTrue, OnErr, OnOk};
 ghost use Rattle.partitioner.specs.Place.{AreTopics};
 ghost use Rattle.partition_log.specs.Appends.{AreAppended, AreStoppedAfter, GrowByRecords, in_first, lent, placed};
 ghost use Rattle.partition_log.specs.Keys.{of_first};
@@ -178,7 +178,7 @@ impl Logs {
 
 /// Whether none of these keys is too long.
 fn are_short(keys: &[&[u8]]) -> bool
-    ensures { IsTrue result → AreShort (lent keys.now) }
+    ensures { IsTrue result ↔ AreShort (lent keys.now) }
 {
     for i in 0..keys.len() {
         if keys[i].len() > LONGEST_KEY {

@@ -1,6 +1,6 @@
 //! Appends of the keys of lists at once.
 
-ghost use Rattle.std.specs.Prelude.{◌≡◌, ◌<◌, ◌≤◌, true, false, All, IfErr, IfOk, IsTrue, OnErr, OnOk, length, map};
+ghost use Rattle.std.specs.Prelude.{◌≡◌, ◌↔◌, ◌<◌, ◌≤◌, true, false, All, IfErr, IfOk, IsTrue, OnErr, OnOk, length, map};
 ghost use Rattle.std.specs.Thread.{IsSync};
 ghost use Rattle.key_lists.specs.Lists.{AreCoded, TellsLongest, joined, keys_in};
 ghost use Rattle.partition_log.specs.Appends.{AreAppended, AreStoppedAfter, GrowByRecords, in_first, lent, placed};
@@ -216,7 +216,7 @@ fn let_go<R: Threads + Sync>(rt: &R, coded: Vec<CodedPart<'_>>) {
 /// Whether no key of coded lists is too long.
 fn are_all_short(coded: &[CodedPart<'_>]) -> bool
     requires { All TellsLongest coded.now }
-    ensures { IsTrue result → AreShort (joined (map keys_in coded.now)) }
+    ensures { IsTrue result ↔ AreShort (joined (map keys_in coded.now)) }
 {
     for i in 0..coded.len() {
         if coded[i].longest > LONGEST_KEY {

@@ -13,7 +13,7 @@ append_firsts-requires-clause-coded g c κs within =
 pub append_firsts-requires-clause-fits : goal.append_firsts-requires-clause-fits
 append_firsts-requires-clause-fits g c κs within =
     let so = rw (← c.deref-2.ensures.value) at c.in_ok-coded.ensures.coded in
-    let short = subst (λ cs. AreShort (joined (map keys_in cs))) (c.deref.ensures.value ∙ sym c.deref-2.ensures.value) (c.are_all_short.ensures c.if-not-are_all_short.false) in
+    let short = subst (λ cs. AreShort (joined (map keys_in cs))) (c.deref.ensures.value ∙ sym c.deref-2.ensures.value) (c.are_all_short.ensures.0 c.if-not-are_all_short.false) in
     subst (λ parts. CanGoSideBySide c.args.self.now (joined parts)) (sym (coded-records c.args.lists.now c.deref-2.result.now so))
     (record { none = c.requires.none; some = c.requires.some; few = c.requires.few; short = records-short c.args.lists.now c.deref-2.result.now so short })
 

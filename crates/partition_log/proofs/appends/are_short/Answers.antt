@@ -1,4 +1,4 @@
-use Rattle.std.proofs.Common.{◌<◌, ◌≤◌, ◌∷◌, [], Bor, List, ℕ, arith, get_or, length, subst, sym, take}
+use Rattle.std.proofs.Common.{◌<◌, ◌≤◌, ◌∷◌, [], Bor, List, ℕ, ap, arith, get_or, length, refl, subst, sym, take}
 use Rattle.std.proofs.lemmas.List.{take_all, take_more}
 use Rattle.std.proofs.lemmas.List.Elements.{All-append, All-cons, All-nil}
 use Rattle.lane_words.specs.declared.limits.TheConstants.{LONGEST_KEY}
@@ -21,5 +21,16 @@ loop-i-preserved c =
     let i_in : i < length (lent keys) = omega (arith, c.loop-i-test.true, lent-long keys) in
     subst AreShort (sym (take_more (lent keys) i [] i_in)) (All-append is_short (take i (lent keys)) (x ∷ []) c.loop-i.invariant (All-cons is_short x [] short (All-nil is_short)))
 
+pub returns-then-keys-i-gt-LONGEST_KEY : goal.returns-then-keys-i-gt-LONGEST_KEY
+returns-then-keys-i-gt-LONGEST_KEY c =
+    let keys = c.args.keys.now in
+    let i = c.loop-i.i in
+    let none : Bor (List ℕ) = record { ref_ptr = (0, 0); now = [] } in
+    let text = ap length (lent-key keys i none c.loop-i-test.true) in
+    ((λ no. cc no), λ all. absurd (omega (arith, c.if-keys-i-gt-LONGEST_KEY.true, text, all i [] (omega (arith, c.loop-i-test.true, lent-long keys)))))
+
 pub returns : goal.returns
-returns c = λ yes. subst AreShort (take_all c.loop-i.i (lent c.args.keys.now) (omega (arith, c.loop-i-test.false, lent-long c.args.keys.now))) c.loop-i.invariant
+returns c =
+    let keys = c.args.keys.now in
+    let short : AreShort (lent keys) = subst AreShort (take_all c.loop-i.i (lent keys) (omega (arith, c.loop-i-test.false, lent-long keys))) c.loop-i.invariant in
+    ((λ yes. short), λ all. refl)
