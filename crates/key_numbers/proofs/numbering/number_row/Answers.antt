@@ -1,4 +1,5 @@
 use Rattle.std.proofs.Common.{◌≡◌, ◌<◌, ◌∙◌, ◌∷◌, ◌++◌, [], append_assoc, arith, ap, ap₂, get_or, length, map, sym, take}
+use Rattle.std.proofs.lemmas.Grind.{common_steps}
 use Rattle.std.proofs.lemmas.List.{get_or_read, length-take, map_more}
 use Rattle.std.proofs.lemmas.List.Sums.{fold_more}
 use Rattle.key_numbers.specs.Keys.{id_of, with_key}
@@ -27,3 +28,6 @@ loop-k-preserved c =
       table = c.in_ok-number.ensures.1 ∙ ap₂ with_key inv.table read ∙ sym (fold_more with_key old row k [] k_in);
       locals = c.in_ok-push.ensures.items ∙ ap₂ (λ ns n. ns ++ n ∷ []) inv.locals number ∙ append_assoc old_locals (map f (take k row)) (f key ∷ []) ∙ ap (λ ns. old_locals ++ ns) (sym (map_more f row k [] k_in));
     }
+
+pub returns-clause-table : goal.returns-clause-table
+returns-clause-table c = grind (arith, common_steps)
