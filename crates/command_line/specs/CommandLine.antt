@@ -75,9 +75,10 @@ run_app = with_script (new_app (codes "run"))
 -- the program without its subcommands: it requires one, and has `--version`
 abbrev pub keycount_top : App
 keycount_top =
-    let top = new_app (codes "keycount") in
-    record top {
-      top = record top.top { no_binary_name = true; subcommand_required = true; has_version = true };
+    let app = new_app (codes "keycount") in
+    let top = app.top in
+    record app {
+      top = record top { no_binary_name = true; subcommand_required = true; has_version = true };
     }
 
 -- the program
@@ -161,7 +162,7 @@ IsBadListTold (Help text) = ⊥
 IsBadListTold (Bad text) = string_bytes text ≡ bad_topics
 IsBadListTold Memory = ⊤
 
--- Why there is no job: clap rejects the words (a request for help or for the version becomes `Help`,
+-- Why there is no job: clap rejects the words (a request for help or the version becomes `Help`,
 -- any other error `Bad`), or it accepts them and the list of topics is not valid.
 abbrev pub IsRefusal : List Text → Usage → Type 0
 IsRefusal words (Help text) =

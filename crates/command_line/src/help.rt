@@ -43,8 +43,8 @@ macro_rules! text {
     };
     ($done:tt count_rows $($rest:tt)*) => {
         text!($done
-            "  count,KEY,N              the number of records with this key, for each key in order of\n"
-            "                           first appearance\n"
+            "  count,KEY,N              the number of records with this key; keys come in order\n"
+            "                           of first appearance\n"
             "  total,N,N                the number of records, twice\n"
             $($rest)*)
     };
