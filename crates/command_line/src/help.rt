@@ -57,7 +57,7 @@ macro_rules! text {
         text!($done
             "\nFaults, as one line on standard error; only fault 26 can come after output:\n"
             "  fault 20                 a key is longer than 65,535 bytes\n"
-            "  fault 21                 more than 4,294,967,295 records in a partition, or keys\n"
+            "  fault 21                 more than 4,294,967,295 keys, or records in one partition\n"
             $($rest)*)
     };
     ($done:tt fault_22 $($rest:tt)*) => {
@@ -108,14 +108,13 @@ pub const AFTER_COUNT: &str = text!([]
 pub const AFTER_REPLAY: &str = text!([]
     "Lines of a script:\n"
     changes
-    "  keep NAME                a new member joins as a static member: it has a seat of its name\n"
-    "  return NAME              a new member takes over the seat of this name\n"
+    "  keep NAME                a new static member joins: its seat can be taken over\n"
+    "  return NAME              a new member takes over the seat of the static member NAME\n"
     "  sync NAME                the member fetches its assignment\n"
     "  rejoin NAME              the member revokes what it has to give up, and rejoins\n"
     "  poll NAME P N            the member reads at most N records of partition P\n"
     "  send NAME P              the member sends a commit of what it has read of partition P\n"
-    "  deliver C                commit C reaches the group, and the answer the member; the first\n"
-    "                           commit sent is 1\n"
+    "  deliver C                commit C is delivered and answered; the first one sent is 1\n"
     "  unanswered C             as deliver, but the answer is lost\n"
     "  append KEY               a record with this key is appended\n"
     "  settle                   the members sync and rejoin until the rebalance is complete\n"
@@ -141,16 +140,16 @@ pub const AFTER_REPLAY: &str = text!([]
 
 /// Below the options of `run`.
 pub const AFTER_RUN: &str = text!([]
-    "Lines of a plan, after each of which a member is left:\n"
+    "Lines of a plan; at least one member must remain after each:\n"
     changes comment
     "\n"
     rows move_row owner_row
-    "  offset,P,END,END         the end offset of partition P, up to which all is committed\n"
+    "  offset,P,END,END         the end offset of partition P, which is also committed\n"
     count_rows topics_note
     "The rows do not depend on how the threads are scheduled.\n"
     faults_20_and_21 fault_22 faults_23_to_26
-    "  fault 27 at line N       no member is left after line N; line 0: the plan has no change\n"
-    "  fault 28                 the threads ended with other logs or members than file and plan\n"
+    "  fault 27 at line N       no member is left after line N; line 0: the plan has no lines\n"
+    "  fault 28                 the result of the threads does not match file and plan\n"
     faults_32_and_90
     "\nExample:\n"
     "  printf '21\\n4\\nfoobar\\nabc\\n21\\n' > keys.csv\n"

@@ -61,10 +61,11 @@ const PARTITIONS_HELP: &str = "Number of partitions, 1 to 4096 [default: 4]";
 const COLUMN_HELP: &str = "Column of the key, 1 to 65535 [default: 1]";
 
 /// The help of `--topics`.
-const TOPICS_HELP: &str = "1 to 8 topics with N partitions each, 4096 in all, as NAME:N,NAME:N";
+const TOPICS_HELP: &str =
+    "1 to 8 topics as NAME:N,NAME:N with N partitions each, at most 4096 in all";
 
 /// The help of `--topic-column`.
-const TOPIC_COLUMN_HELP: &str = "Column of the topic, 1 to 65535 [default: 2]";
+const TOPIC_COLUMN_HELP: &str = "Column of the topic, 1 to 65535; used with --topics [default: 2]";
 
 /// The error for a list of topics that is not valid.
 const BAD_TOPICS: &str = "bad topics\n";
