@@ -114,7 +114,7 @@ pub const AFTER_REPLAY: &str = text!([]
     "  rejoin NAME              the member revokes what it has to give up, and rejoins\n"
     "  poll NAME P N            the member reads at most N records of partition P\n"
     "  send NAME P              the member sends a commit of what it has read of partition P\n"
-    "  deliver C                commit C is delivered and answered; the first one sent is 1\n"
+    "  deliver C                commit C is delivered and answered; commits count from 1\n"
     "  unanswered C             as deliver, but the answer is lost\n"
     "  append KEY               a record with this key is appended\n"
     "  settle                   the members sync and rejoin until the rebalance is complete\n"
@@ -144,11 +144,11 @@ pub const AFTER_RUN: &str = text!([]
     changes comment
     "\n"
     rows move_row owner_row
-    "  offset,P,END,END         the end offset of partition P, which is also committed\n"
+    "  offset,P,END,END         the end offset of partition P, twice: all is committed\n"
     count_rows topics_note
     "The rows do not depend on how the threads are scheduled.\n"
     faults_20_and_21 fault_22 faults_23_to_26
-    "  fault 27 at line N       no member is left after line N; line 0: the plan has no lines\n"
+    "  fault 27 at line N       no member is left after line N; line 0: the plan has no join\n"
     "  fault 28                 the result of the threads does not match file and plan\n"
     faults_32_and_90
     "\nExample:\n"
