@@ -3,12 +3,12 @@
 
     bench/hostile_keys.py COUNT [--blocks N] [--others PARTITIONS]
 
-The keys go to standard output, one to a line, each of N blocks of 8 bytes, 1 where it is not named. No two are equal, none
-has a byte that a record needs quotes for, and each is hashed again as the definition says.
+The keys go to standard output, one per line, each of N blocks of 8 bytes (default 1). No two are equal, none needs quotes in a
+record, and each is verified with the definition of the hash.
 
-Murmur2 has no secret, and each of its steps can be undone: from any state the first word of a block can be what one likes,
-and there is one second word by which the block ends in a wanted state. So a block has 2^32 forms that end alike. In a key
-each block but the last is one of two forms, and the last brings it to its hash."""
+Murmur2 has no secret, and each of its steps can be inverted: for any state and any first word of a block there is one second
+word that leads to a wanted state. So 2^32 forms of a block lead to the same state. Each block of a key except the last has one
+of two forms, and the last block leads to the hash."""
 
 from __future__ import annotations
 
@@ -27,30 +27,30 @@ from simulator.records import MIX, WORD, murmur2
 SEED = 1729
 BLOCK = 8
 LETTERS = b"abcdefghijklmnopqrstuvwxyzABCDEFGHIJKLMNOPQRSTUVWXYZ0123456789"
-# A hash without its highest bit, which is what places are told by.
+# The mask for the hash without its highest bit, which selects the partition.
 LOW = 0x7FFFFFFF
 START = 0x9747B28C
 INVERSE = pow(MIX, -1, 1 << 32)
-# What a field of a record is quoted for, and what ends one.
+# The bytes for which a field is quoted.
 SPECIAL = frozenset(b',"\r\n')
-# The hash that the keys share: the one of the record that the first test of the hash names.
+# The hash that the keys share.
 SHARED = murmur2(b"21")
 
 
 def mixed(word: int) -> int:
-    """What a word of a key adds to the state."""
+    """The mixed word, which is added to the state."""
     word = word * MIX & WORD
     return (word ^ word >> 24) * MIX & WORD
 
 
 def unmixed(value: int) -> int:
-    """The word that adds this."""
+    """The inverse of `mixed`."""
     value = value * INVERSE & WORD
     return (value ^ value >> 24) * INVERSE & WORD
 
 
 def unfinished(value: int) -> int:
-    """The state after the last word of a key that has this hash."""
+    """The state after the last word of a key with this hash."""
     value ^= value >> 15 ^ value >> 30
     value = value * INVERSE & WORD
     return value ^ value >> 13 ^ value >> 26
@@ -64,18 +64,18 @@ def block_to(state: int, first: int, wanted: int) -> bytes:
 
 
 def words() -> Iterator[int]:
-    """All words of four letters or digits, each once."""
+    """All words of four letters or digits."""
     for letters in product(LETTERS, repeat=4):
         yield int.from_bytes(bytes(letters), "little")
 
 
 def is_plain(block: bytes) -> bool:
-    """Whether a block has no byte that needs care."""
+    """Whether a block needs no quotes."""
     return not SPECIAL.intersection(block)
 
 
 def beginnings(rng: Random, blocks: int) -> Iterator[tuple[bytes, int]]:
-    """All that the first blocks can be, each of two forms, with the state that they leave, again and again."""
+    """All values of the first blocks, each in two forms, with the state that they lead to; repeated forever."""
     state = START ^ (blocks + 1) * BLOCK
     forms = []
     for _ in range(blocks):
@@ -88,8 +88,8 @@ def beginnings(rng: Random, blocks: int) -> Iterator[tuple[bytes, int]]:
 
 
 def keys(rng: Random, blocks: int, partitions: int) -> Iterator[bytes]:
-    """Keys of one hash, or, where partitions are named, of any hash whose partition is that of the shared one. The word
-    that the last block begins with is another for each."""
+    """Keys with the shared hash, or, if there are `partitions`, with any hash of the same partition. The last block of each
+    begins with another word."""
     part = (SHARED & LOW) % partitions if partitions else 0
     for word, (beginning, state) in zip(words(), beginnings(rng, blocks - 1)):
         value = SHARED
@@ -101,7 +101,7 @@ def keys(rng: Random, blocks: int, partitions: int) -> Iterator[bytes]:
 
 
 def checked(key: bytes, partitions: int) -> bytes:
-    """A key, once the plain hash says of it what it should."""
+    """The key, after its hash was verified."""
     value = murmur2(key)
     if value != SHARED if not partitions else (value & LOW) % partitions != (SHARED & LOW) % partitions:
         raise SystemExit(f"{key!r} has the hash {value:#x}")

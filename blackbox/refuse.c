@@ -1,11 +1,11 @@
-/* Refuses one call of the program that it is loaded into: of malloc and realloc, of read, of write to standard output, of an
-   opening of a file, of getentropy, or of a start of a thread.
-   REFUSE is the kind of call, REFUSE_NTH its number, counted from 1; the file REFUSE_MARK is made when it is refused. With
-   REFUSE_LASTS every later call of the kind is refused too.
-   With REFUSE_BETWEEN only calls between two marks are counted and refused: a line that begins with '>', and the line '<',
-   each written to standard output by one write. The first mark goes into REFUSE_MARK with each call that is refused after it.
-   With the word "once" there, none is refused any more after the second mark.
-   With REFUSE_SHORT each read and write moves one byte at the most. */
+/* Fault injection: lets one call of the program that it is preloaded into fail. The kinds of calls are malloc and realloc, read,
+   write to standard output, opening a file, getentropy, and starting a thread.
+   REFUSE is the kind, REFUSE_NTH the number of the call, counted from 1; the file REFUSE_MARK is created when it fails. With
+   REFUSE_LASTS every later call of the kind fails too.
+   With REFUSE_BETWEEN only calls between two marks are counted and fail: a line that begins with '>', and the line '<', each
+   written to standard output by one write. The first mark is appended to REFUSE_MARK with each call that fails after it. If
+   REFUSE_BETWEEN is "once", no call fails after the second mark.
+   With REFUSE_SHORT each read and write transfers at most one byte. */
 #define _GNU_SOURCE
 #include <dlfcn.h>
 #include <errno.h>
@@ -23,11 +23,11 @@ extern void *__libc_realloc(void *, size_t);
 
 static atomic_long count;
 
-/* Whether a call is being made between two marks, and whether one in which something was refused is over. */
+/* Whether the program is between two marks, and whether marks with a failure between them are over. */
 static atomic_int is_between, is_over;
-/* Whether something was refused. */
+/* Whether a call has failed. */
 static atomic_int has_refused;
-/* The first mark of those that were written last. */
+/* The last opening mark. */
 static char first_mark[256];
 static size_t first_mark_size;
 
@@ -47,7 +47,7 @@ static int refuses(const char *kind) {
     return 1;
 }
 
-/* Looks whether what goes to standard output is a mark. */
+/* Notices marks on standard output. */
 static void notice(const char *text, size_t size) {
     const char *between = getenv("REFUSE_BETWEEN");
     if (!between || size == 0)
@@ -82,12 +82,12 @@ void *realloc(void *old, size_t size) {
     return __libc_realloc(old, size);
 }
 
-/* The files in which the system tells how many processors there are: nobody's input, and not refused. */
+/* The files in which the system says how many processors there are: no input of the program, so they never fail. */
 static int is_systems(const char *path) {
     return strncmp(path, "/sys/", 5) == 0 || strncmp(path, "/proc/", 6) == 0;
 }
 
-/* Which descriptors are of such files. */
+/* The descriptors of such files. */
 enum { DESCRIPTORS = 1024 };
 static atomic_char of_system[DESCRIPTORS];
 

@@ -1,1 +1,1 @@
-"""The parts of bench/run."""
+"""The modules of bench/run and bench/hostile."""

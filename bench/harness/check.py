@@ -1,4 +1,4 @@
-"""The counts that programs tell, each program in a form of its own, and whether they are the same."""
+"""The counts that programs print, each in its own format, and their comparison."""
 
 from __future__ import annotations
 
@@ -13,17 +13,17 @@ from typing import Callable, Iterable, Iterator, Sequence
 
 from harness.measure import ENVIRONMENT
 
-# Some keys, and as many counts.
+# Keys, and their counts.
 Batch = tuple[Sequence[str], Sequence[str]]
 Reader = Callable[[Path], Iterator[Batch]]
 
-# How many rows of an output are held at once.
+# The number of rows that are held in memory.
 HELD = 500
 
 
 @dataclass(frozen=True)
 class Totals:
-    """The hash of the sorted pairs of key and count, how many there are, and the sum of the counts."""
+    """The hash of the sorted pairs of key and count, their number, and the sum of the counts."""
 
     digest: str
     keys: int
@@ -39,7 +39,7 @@ class Totals:
 
 
 def csv_batches(path: Path) -> Iterator[list[list[str]]]:
-    """The records of a CSV file, each byte of it as a character."""
+    """The records of a CSV file, with bytes as characters."""
     with open(path, encoding="latin-1", newline="") as file:
         rows = csv.reader(file)
         while batch := list(islice(rows, HELD)):
@@ -47,9 +47,9 @@ def csv_batches(path: Path) -> Iterator[list[list[str]]]:
 
 
 def columns(rows: Sequence[Sequence[str]], width: int) -> list[tuple[str, ...]]:
-    """The columns of rows, which have to be of this width."""
+    """The columns of rows, which must have this width."""
     if any(len(row) != width for row in rows):
-        raise ValueError(f"a row has not {width} fields")
+        raise ValueError(f"a row does not have {width} fields")
     return list(zip(*rows)) if rows else [()] * width
 
 
@@ -62,7 +62,7 @@ def counted_rows(path: Path) -> Iterator[Batch]:
             rows.pop()
         tags, keys, counts = columns(rows, 3)
         if any(tag != "count" for tag in tags):
-            raise ValueError("a row is no row of a count")
+            raise ValueError("a row is not one of a count")
         records += sum(map(int, counts))
         yield keys, counts
     if total != ["total", str(records), str(records)]:
@@ -85,7 +85,7 @@ def counted_lines(path: Path) -> Iterator[Batch]:
 
 
 def counts_by_csv(path: Path, column: int) -> Iterator[Batch]:
-    """The counts of an input by Python's own reader of CSV. All keys are held."""
+    """The counts of an input by Python's csv. All keys are held in memory."""
     held: Counter[str] = Counter()
     for rows in csv_batches(path):
         held.update(row[column - 1] for row in rows)
@@ -93,14 +93,14 @@ def counts_by_csv(path: Path, column: int) -> Iterator[Batch]:
 
 
 def totals(batches: Iterable[Batch], scratch: Path) -> Totals:
-    """The totals of some pairs. They are sorted by sort, in little memory."""
-    keys_told, records = 0, 0
+    """The totals of pairs, which are sorted by sort, in little memory."""
+    keys_seen, records = 0, 0
     command = ["sort", "-S", "256M", "-T", str(scratch)]
     sorter = subprocess.Popen(command, stdin=subprocess.PIPE, stdout=subprocess.PIPE, env=ENVIRONMENT)
     with sorter, sorter.stdout as lines:
         with sorter.stdin as sink:
             for keys, counts in batches:
-                keys_told += len(keys)
+                keys_seen += len(keys)
                 records += sum(map(int, counts))
                 text = "".join(f"{key}\t{count}\n" for key, count in zip(keys, counts))
                 sink.write(text.encode("latin-1"))
@@ -109,4 +109,4 @@ def totals(batches: Iterable[Batch], scratch: Path) -> Totals:
             digest.update(block)
     if sorter.returncode != 0:
         raise OSError(f"sort ended with status {sorter.returncode}")
-    return Totals(digest.hexdigest(), keys_told, records)
+    return Totals(digest.hexdigest(), keys_seen, records)

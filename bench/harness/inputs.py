@@ -1,4 +1,4 @@
-"""The inputs, which are made from a fixed seed: the same bytes on every machine."""
+"""The inputs, made from a fixed seed: the same bytes on every machine."""
 
 from __future__ import annotations
 
@@ -37,13 +37,13 @@ class Input:
 
     @property
     def stamp(self) -> Path:
-        """Where it is noted how the file was made."""
+        """The file that notes how the input was made."""
         return self.path.with_suffix(".made")
 
 
 @dataclass(frozen=True)
 class Made:
-    """What is noted of a made file: the maker, how long the file is, and the hash of its bytes."""
+    """The note about a made file: the maker, and the size and the hash of the file."""
 
     maker: str
     size: int
@@ -62,7 +62,7 @@ def lines_of(records: Iterator[str] | list[str]) -> str:
 
 
 def zipf(count: int) -> list[float]:
-    """Summed weights of which the one of rank n is 1/n."""
+    """Cumulative weights, where rank n weighs 1/n."""
     return list(accumulate(1 / rank for rank in range(1, count + 1)))
 
 
@@ -77,8 +77,7 @@ def short_keys(records: int) -> Iterator[str]:
 
 
 def distinct_words() -> Iterator[str]:
-    """Words of 16 digits, no two the same: the steps of a generator of full period, each mixed so that it can be
-    told back."""
+    """Different words of 16 digits: the states of a generator with full period, mixed by a bijection."""
     state = SEED
     while True:
         state = (state * 6364136223846793005 + 1442695040888963407) & WORD
@@ -93,28 +92,28 @@ def distinct_keys(records: int) -> Iterator[str]:
 
 
 def field(text: str) -> str:
-    """A field of a record, in quotes where it needs them."""
+    """A field of a record, quoted if necessary."""
     if "," in text or '"' in text:
         return '"' + text.replace('"', '""') + '"'
     return text
 
 
 def customer(number: int) -> str:
-    """A name: of nine, two have a comma, and one a comma and quotes."""
+    """A name: two of nine have a comma, and one a comma and quotes."""
     if number % 9 == 0:
         return f'The "{number}" Shop, Ltd'
     return f"Customer {number}, Sons" if number % 3 == 0 else f"Customer {number}"
 
 
 def item(number: int) -> str:
-    """A key: of two hundred, three have a comma, and one quotes."""
+    """A key: three of two hundred have a comma, and one quotes."""
     if number % 200 == 0:
         return f'item-{number} 3" wide'
     return f"item-{number}, red" if number % 50 == 0 else f"item-{number}"
 
 
 def note(number: int) -> str:
-    """A note: of four, one has a comma and quotes."""
+    """A note: one of four has a comma and quotes."""
     return f'said "call {number}", twice' if number % 4 == 0 else f"note {number}"
 
 
@@ -163,12 +162,12 @@ def digest_of(path: Path) -> str:
 
 
 def maker() -> str:
-    """Tells makers of inputs apart: the hash of this file."""
+    """The version of the maker: the hash of this file."""
     return digest_of(Path(__file__))
 
 
 def noted(target: Input) -> Made | None:
-    """What is noted of an input, where this maker made it and it is still the same."""
+    """The note about an input, if this maker made it and it has not changed."""
     try:
         made = Made(**json.loads(target.stamp.read_text()))
         same = made.maker == maker() and made.digest == digest_of(target.path)
@@ -178,7 +177,7 @@ def noted(target: Input) -> Made | None:
 
 
 def write(target: Input) -> Made:
-    """Writes an input, and tells what is to be noted."""
+    """Writes an input, and returns its note."""
     digest, size = hashlib.sha256(), 0
     part = target.path.with_suffix(".part")
     with open(part, "wb") as file:
@@ -191,7 +190,7 @@ def write(target: Input) -> Made:
 
 
 def make(target: Input) -> Made:
-    """Makes an input, unless it is there."""
+    """Makes an input, unless it exists."""
     made = noted(target)
     if made is not None:
         return made

@@ -1,10 +1,10 @@
 """Runs a pipeline: `launch.py OUTPUT WORD... [\\| WORD...]...`, with the output of its last program to the file OUTPUT.
 
-It tells in one line the seconds by the clock, the seconds of processors, the largest peak of its programs in bytes, and
-the first status that is not 0.
+It prints one line: the wall-clock seconds, the processor seconds, the largest peak of its programs in bytes, and the first
+status that is not 0.
 
-It is a program of its own, which imports little: what Linux tells as the peak of a child is at least what the child had
-when it was forked, which is the memory of its parent."""
+It is a program of its own and imports little, since the peak that Linux reports for a child is at least the memory of its
+parent at the fork."""
 
 from __future__ import annotations
 
@@ -12,12 +12,12 @@ import os
 import sys
 import time
 
-# What ru_maxrss counts in.
+# The unit of ru_maxrss.
 KIB = 1024
 
 
 def pipeline_of(words: list[str]) -> list[list[str]]:
-    """The words of each program, from words with bars between programs."""
+    """The words of each program; bars separate programs."""
     pipeline: list[list[str]] = [[]]
     for word in words:
         if word == "|":
@@ -28,7 +28,7 @@ def pipeline_of(words: list[str]) -> list[list[str]]:
 
 
 def start(words: list[str], source: int, sink: int) -> int:
-    """Starts a program, and tells its process."""
+    """Starts a program, and returns its process."""
     process = os.fork()
     if process != 0:
         return process
@@ -43,7 +43,7 @@ def start(words: list[str], source: int, sink: int) -> int:
 
 
 def start_all(pipeline: list[list[str]], output: int) -> list[int]:
-    """Starts the programs of a pipeline, and tells their processes."""
+    """Starts the programs of a pipeline, and returns their processes."""
     processes = []
     source = os.open(os.devnull, os.O_RDONLY)
     for words in pipeline[:-1]:

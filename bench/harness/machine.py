@@ -1,4 +1,4 @@
-"""What the measures were taken on."""
+"""The machine that was measured on."""
 
 from __future__ import annotations
 
@@ -21,13 +21,13 @@ def named_line(path: str, name: str) -> str:
 
 
 def memory() -> str:
-    """How much memory there is."""
+    """The size of the memory."""
     size = named_line("/proc/meminfo", "MemTotal").split()[0]
     return f"{int(size) * 1024 / 1e9:.1f} GB of memory" if size.isdigit() else "unknown memory"
 
 
 def machine_line() -> str:
-    """The machine: its processors, its memory, its kernel, and how busy it was."""
+    """The machine: its processors, its memory, its kernel, and its load."""
     model = named_line("/proc/cpuinfo", "model name")
     count = len(os.sched_getaffinity(0))
     system = f"{platform.system()} {platform.release()}"

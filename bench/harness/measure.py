@@ -1,4 +1,4 @@
-"""Runs of programs: how long they take, and how much memory."""
+"""Runs of programs: their time and memory."""
 
 from __future__ import annotations
 
@@ -12,10 +12,10 @@ from typing import Sequence
 
 Pipeline = Sequence[Sequence[str]]
 
-# By every program, bytes are compared as bytes.
+# All programs compare bytes.
 ENVIRONMENT = {**os.environ, "LC_ALL": "C"}
 
-# From how many seconds on a run is long.
+# The seconds from which on a run is long.
 LONG = 1.0
 
 NOWHERE = Path(os.devnull)
@@ -27,14 +27,13 @@ class Failed(Exception):
 
 
 class TooSlow(Exception):
-    """A program took longer than it was given."""
+    """A program took longer than its limit."""
 
 
 @dataclass(frozen=True)
 class Run:
-    """One run: seconds by the clock, seconds of processors, and the peak of memory in bytes.
-
-    Of a pipeline, the peak is the one of its largest process."""
+    """One run: wall-clock seconds, processor seconds, and the peak of memory in bytes, of a pipeline that of its largest
+    process."""
 
     wall: float
     cpu: float
@@ -42,7 +41,7 @@ class Run:
 
 
 def barred(pipeline: Pipeline) -> list[str]:
-    """The words of a pipeline, with a bar between programs."""
+    """The words of a pipeline, with bars between programs."""
     words = list(pipeline[0])
     for program in pipeline[1:]:
         words += ["|", *program]
@@ -50,7 +49,7 @@ def barred(pipeline: Pipeline) -> list[str]:
 
 
 def launched(words: Sequence[str], limit: float) -> tuple[str, str]:
-    """What a launch tells, and what is written to standard error meanwhile. It is ended where it takes too long."""
+    """The standard output and standard error of a launch, which is killed if it takes too long."""
     streams = {"stdin": subprocess.DEVNULL, "stdout": subprocess.PIPE, "stderr": subprocess.PIPE}
     with subprocess.Popen(words, **streams, text=True, env=ENVIRONMENT, start_new_session=True) as process:
         try:
@@ -65,24 +64,23 @@ def launched(words: Sequence[str], limit: float) -> tuple[str, str]:
 def run(pipeline: Pipeline, output: Path, limit: float) -> Run:
     """Runs a pipeline to its end, with its output to a file, and within a limit of seconds."""
     words = [sys.executable, "-I", "-S", str(LAUNCH), str(output), *barred(pipeline)]
-    told, faults = launched(words, limit)
-    if not told:
+    printed, faults = launched(words, limit)
+    if not printed:
         raise Failed(f"it can't be launched: {faults.strip()}")
-    wall, cpu, peak, fault = told.split()
+    wall, cpu, peak, fault = printed.split()
     if fault != "0":
         raise Failed(f"status {fault}: {faults.partition(os.linesep)[0]}".rstrip(": "))
     return Run(float(wall), float(cpu), int(peak))
 
 
 def floor() -> int:
-    """The least peak that can be told: the one of a program that does nothing, which is that of its launch."""
+    """The lowest peak that can be measured: that of a program that does nothing, which is the launcher's."""
     return max(run([["true"]], NOWHERE, 60).peak for _ in range(5))
 
 
 def runs_each(seconds: Sequence[float], wanted: int, budget: float) -> list[int]:
-    """How many more runs each program gets, from how long one run of each takes: as many as wanted, and where that is
-    over the budget, fewer of those that take the longest. The first program gets all, and so do short ones, of which
-    little time is to be had."""
+    """How many more runs each program gets, by the seconds of one run: as many as wanted, or, if they exceed the budget, fewer
+    of the longest ones. The first program and short ones always get all of them."""
     runs = [wanted] * len(seconds)
     long = [i for i in range(1, len(runs)) if seconds[i] >= LONG]
     while sum(n * s for n, s in zip(runs, seconds)) > budget:

@@ -1,4 +1,4 @@
-"""The programs that are measured: ours, what else counts keys, and the limits."""
+"""The programs that are measured: ours, its peers, and the limits."""
 
 from __future__ import annotations
 
@@ -17,7 +17,7 @@ OURS = "keycount"
 
 @dataclass(frozen=True)
 class Program:
-    """A program over some input. A limit tells no counts, and has no reader."""
+    """A program over some input. A limit prints no counts, and has no reader."""
 
     name: str
     pipeline: Pipeline
@@ -26,7 +26,7 @@ class Program:
 
 @dataclass(frozen=True)
 class Tool:
-    """What a program needs to be there, the Debian package that has it, and the words that tell its version."""
+    """The command that a program needs, its Debian package, and the options that print its version."""
 
     command: str
     package: str
@@ -49,7 +49,7 @@ def ours(program: Path, target: Input) -> Program:
 
 
 def awk(name: str, target: Input) -> Program:
-    """An awk, which splits at every comma where it has to split."""
+    """An awk, which splits at every comma."""
     column = target.shape.column
     key, split = ("$0", []) if column == 1 else (f"${column}", ["-F,"])
     text = f"{{ n[{key}]++ }} END {{ for (k in n) print n[k], k }}"
@@ -57,7 +57,7 @@ def awk(name: str, target: Input) -> Program:
 
 
 def sort_uniq(target: Input) -> Program:
-    """sort and uniq, after a cut at every comma where there has to be one."""
+    """sort and uniq, after a cut at every comma for another column than the first."""
     path, column = str(target.path), target.shape.column
     first = [["sort", path]] if column == 1 else [["cut", "-d,", f"-f{column}", path], ["sort"]]
     return Program("sort | uniq -c", [*first, ["uniq", "-c"]], counted_lines)
@@ -71,19 +71,19 @@ def miller(target: Input) -> Program:
 
 
 def rust_peer(built: Path, target: Input) -> Program:
-    """The Rust program beside this one."""
+    """The Rust program in bench/peer."""
     words = [str(built), str(target.path), str(target.shape.column)]
     return Program("Rust peer", [words], counted_rows)
 
 
 def limits(target: Input) -> list[Program]:
-    """What no program that reads the file can be below."""
+    """Lower bounds for programs that read the file."""
     path = str(target.path)
     return [Program("cat", [["cat", path]], None), Program("wc -l", [["wc", "-l", path]], None)]
 
 
 def makers(built: Path) -> dict[str, Callable[[Input], Program]]:
-    """What makes the peers, by their names."""
+    """The makers of the peers, by name."""
     return {
         "mawk": lambda target: awk("mawk", target),
         "gawk": lambda target: awk("gawk", target),
@@ -94,19 +94,19 @@ def makers(built: Path) -> dict[str, Callable[[Input], Program]]:
 
 
 def build_peer(source: Path, built: Path) -> bool:
-    """Builds the Rust peer, and tells whether that could be done."""
+    """Builds the Rust peer, and returns whether that succeeded."""
     command = ["rustc", "--edition", "2021", "-O", "-o", str(built), str(source)]
     return subprocess.run(command, stderr=subprocess.DEVNULL, check=False).returncode == 0
 
 
-def is_there(name: str) -> bool:
-    """Whether what a peer needs is there."""
+def is_installed(name: str) -> bool:
+    """Whether a peer is installed."""
     return shutil.which(TOOLS[name].command) is not None
 
 
 def version_of(name: str) -> str:
-    """What a peer's tool tells of itself: the first line, up to a comma."""
+    """The version of a peer: the first line that it prints, up to a comma."""
     tool = TOOLS[name]
-    told = subprocess.run([tool.command, *tool.version], capture_output=True, check=False)
-    lines = (told.stdout or told.stderr).decode(errors="replace").splitlines()
+    done = subprocess.run([tool.command, *tool.version], capture_output=True, check=False)
+    lines = (done.stdout or done.stderr).decode(errors="replace").splitlines()
     return lines[0].partition(",")[0].strip() if lines else tool.command

@@ -1,4 +1,4 @@
-"""Replays and runs: no other program does this, so they stand in tables of their own, beside a count of the same file."""
+"""Replays and runs. No other program does this, so they have tables of their own, with a count of the same file."""
 
 from __future__ import annotations
 
@@ -15,13 +15,13 @@ HEAD = ("runs", "median s", "min..max s", "CPU s", "peak MB", "time/count")
 
 
 class Wrong(Exception):
-    """A replay or a run printed what it should not."""
+    """A replay or a run printed a wrong result."""
 
 
 @dataclass(frozen=True)
 class Job:
-    """A subcommand, a file, a script and the number of partitions, and what has to come out: how many records are
-    committed and appended, and among how many members the partitions are spread."""
+    """A subcommand, a file, a script and a number of partitions, and the expected result: the number of committed records,
+    which are all, and of members that own partitions."""
 
     command: str
     name: str
@@ -37,11 +37,11 @@ class Job:
         return [[str(program), *words]]
 
     def count(self, program: Path) -> measure.Pipeline:
-        """A count of the same file, over as many partitions."""
+        """A count of the same file, over the same number of partitions."""
         return [[str(program), "count", str(self.file), "--partitions", str(self.partitions)]]
 
     def check(self, output: Path) -> None:
-        """Refuses an output with another total, with an owner too few, or with an unbalanced assignment."""
+        """Fails for a wrong total, a partition without an owner, or an unbalanced assignment."""
         owners: Counter[str] = Counter()
         last: list[str] = []
         with output.open(newline="", encoding="latin-1") as rows:
@@ -61,7 +61,7 @@ def written(path: Path, lines: Iterable[str]) -> Path:
 
 
 def joins(folder: Path, members: int) -> Job:
-    """Members that join one after the other, each with the whole rebalance, over the most partitions there are."""
+    """Members join one by one, each with a complete rebalance, over the maximum number of partitions."""
     lines = (line for number in range(members) for line in (f"join m{number}", "settle"))
     script = written(folder / f"joins-{members}", lines)
     name = f"{members} joins, each settled, 4096 partitions"
@@ -69,14 +69,14 @@ def joins(folder: Path, members: int) -> Job:
 
 
 def drains(folder: Path, file: Path, records: int) -> Job:
-    """Sixteen members, all read and committed; then a loss, a join, and all that is left."""
+    """Sixteen members drain all logs; then a loss, a join, and another drain."""
     lines = [*(f"join m{number}" for number in range(16)), "drain", "lose m3", "join m16", "drain"]
     name = f"{records:,} records, 16 joins, drain, a loss, a join, drain, 64 partitions"
     return Job("replay", name, file, written(folder / "drains", lines), 64, records, 16)
 
 
 def members(folder: Path, file: Path, records: int, count: int) -> Job:
-    """A run in which so many members join, each a thread, and read all."""
+    """A run in which `count` members join, one thread each, and read all records."""
     plan = written(folder / f"members-{count}", (f"join m{number}" for number in range(count)))
     name = f"{records:,} records, {count} member{'s' if count > 1 else ''}, 64 partitions"
     return Job("run", name, file, plan, 64, records, count)
@@ -93,7 +93,7 @@ def row(name: str, result: Result, count: Result) -> Sequence[str]:
 
 
 def measured(program: Path, job: Job, scratch: Path, runs: int, limit: float) -> Sequence[str]:
-    """The row of a job that was run in turn with the count of its file, after a run that is checked."""
+    """The row of a job, whose runs alternate with counts of its file, after a run that is checked."""
     output = scratch / "printed"
     measure.run(job.pipeline(program), output, limit)
     job.check(output)

@@ -1,4 +1,4 @@
-"""What was measured, as tables."""
+"""Tables of the measurements."""
 
 from __future__ import annotations
 
@@ -15,7 +15,7 @@ NONE = "-"
 
 @dataclass
 class Result:
-    """The runs of a program over an input, or why none of its runs counts."""
+    """The runs of a program over an input, or why they do not count."""
 
     name: str
     runs: list[Run] = field(default_factory=list)
@@ -24,7 +24,7 @@ class Result:
 
     @property
     def mean(self) -> float:
-        """The mean of its seconds, which is none where there are no runs."""
+        """The mean of its seconds, 0 without runs."""
         return fmean(run.wall for run in self.runs) if self.runs else 0.0
 
     @property
@@ -45,25 +45,25 @@ class Result:
 
 @dataclass(frozen=True)
 class Scale:
-    """What results are told by: ours, how many runs were wanted, and the least peak that can be told."""
+    """What results are compared with: ours, the planned number of runs, and the lowest peak that can be measured."""
 
     ours: Result
     wanted: int
     floor: int
 
-    def is_told(self, peak: int) -> bool:
-        """Whether a peak is one of the program, and not of its launch."""
+    def is_measurable(self, peak: int) -> bool:
+        """Whether a peak is that of the program, and not of its launch."""
         return peak > self.floor * 1.05
 
 
 def runs_cell(result: Result, scale: Scale) -> str:
-    """How many runs there were, with a mark where they are fewer than wanted."""
+    """The number of runs, with a mark if they are fewer than planned."""
     return f"{len(result.runs)}{'*' if len(result.runs) < scale.wanted else ''}"
 
 
 def peak_cells(result: Result, scale: Scale) -> list[str]:
     """The peak, and its ratio to ours."""
-    if not scale.is_told(result.peak):
+    if not scale.is_measurable(result.peak):
         return [f"<={scale.floor / MB:.1f}", NONE]
     return [f"{result.peak / MB:.1f}", f"{result.peak / scale.ours.peak:.2f}"]
 
@@ -87,7 +87,7 @@ def plain(rows: Sequence[Sequence[str]]) -> str:
 
 
 def plain_line(row: Sequence[str], widths: Sequence[int]) -> str:
-    """A row, with the name at the left and numbers at the right."""
+    """A row, with the name left-aligned and the numbers right-aligned."""
     numbers = (cell.rjust(width) for cell, width in zip(row[1:], widths[1:]))
     return "  ".join([row[0].ljust(widths[0]), *numbers])
 
@@ -104,19 +104,19 @@ def markdown_line(row: Sequence[str]) -> str:
 
 
 def notes(results: Iterable[Result], scale: Scale) -> list[str]:
-    """What the table can't hold."""
+    """The notes below a table."""
     results = list(results)
     found = [f"{result.verdict}: {result.name}: {result.reason}" for result in results if result.verdict]
     if any(0 < len(result.runs) < scale.wanted for result in results):
-        found.append(f"* fewer than {scale.wanted} runs: the time for this input would not have held more")
+        found.append(f"* fewer than {scale.wanted} runs, for lack of time")
     return found
 
 
 def growth(tenth: Iterable[Result], full: Iterable[Result], scale: Scale) -> list[str]:
-    """How many times as much a tenth becomes at full size: ten times is linear."""
+    """The ratio of the full size to a tenth: 10 is linear."""
     before = {result.name: result for result in tenth if result.runs}
     both = [(before[result.name], result) for result in full if result.runs and result.name in before]
     times = [f"{after.name} {after.wall / small.wall:.1f}" for small, after in both]
-    told = [pair for pair in both if all(scale.is_told(result.peak) for result in pair)]
-    peaks = [f"{after.name} {after.peak / small.peak:.1f}" for small, after in told]
+    measurable = [pair for pair in both if all(scale.is_measurable(result.peak) for result in pair)]
+    peaks = [f"{after.name} {after.peak / small.peak:.1f}" for small, after in measurable]
     return [f"growth of time, full / tenth: {', '.join(times)}", f"growth of memory, full / tenth: {', '.join(peaks)}"]

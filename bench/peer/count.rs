@@ -1,7 +1,7 @@
-//! The count that one would write for the day with Rust's standard library alone: `count FILE COLUMN`.
+//! The count that one would write ad hoc with Rust's standard library: `count FILE COLUMN`.
 //!
-//! The file is read whole and split at its line feeds, so no field may have one. The keys are slices of the text,
-//! but for those with doubled quotes, and are hashed by std's default hasher.
+//! The file is read as a whole and split at its line feeds, so fields must not contain any. The keys are slices of the
+//! text, except for those with doubled quotes, and are hashed by std's default hasher.
 
 use std::borrow::Cow;
 use std::collections::HashMap;
@@ -9,7 +9,7 @@ use std::io::{self, BufWriter, Write};
 use std::process::ExitCode;
 use std::{env, fs};
 
-/// The field of this column, counted from 1, as it stands in the line.
+/// The field of this column, counted from 1, with its quotes.
 fn field(line: &[u8], column: usize) -> Option<&[u8]> {
     let (mut nth, mut start, mut quoted) = (1, 0, false);
     for (at, &byte) in line.iter().enumerate() {
@@ -62,7 +62,7 @@ fn counts(text: &[u8], column: usize) -> Option<Vec<(Cow<'_, [u8]>, u64)>> {
     Some(counts)
 }
 
-/// Writes a field, in quotes where it needs them.
+/// Writes a field, quoted if necessary.
 fn write_field(out: &mut impl Write, field: &[u8]) -> io::Result<()> {
     if !field.iter().any(|byte| b",\"\r\n".contains(byte)) {
         return out.write_all(field);
@@ -90,7 +90,7 @@ fn write_rows(counts: &[(Cow<'_, [u8]>, u64)]) -> io::Result<()> {
     out.flush()
 }
 
-/// Counts the keys of a file, or tells why it can't.
+/// Counts the keys of a file, or returns why it can't.
 fn count_file(path: &str, column: usize) -> Result<(), String> {
     let text = fs::read(path).map_err(|error| format!("{path}: {error}"))?;
     let counts = counts(&text, column).ok_or("a record lacks the column")?;
@@ -104,7 +104,7 @@ fn main() -> ExitCode {
         return ExitCode::from(2);
     };
     let Ok(column @ 1..) = column.parse() else {
-        eprintln!("COLUMN is a number from 1 on");
+        eprintln!("COLUMN must be a number from 1");
         return ExitCode::from(2);
     };
     match count_file(path, column) {

@@ -1,4 +1,4 @@
-"""The program of these sources, and how it is run."""
+"""The program of the current sources, and runs of it."""
 import os
 import subprocess
 from functools import lru_cache
@@ -8,7 +8,7 @@ from typing import Iterator, NamedTuple
 FOLDER = Path(__file__).resolve().parent.parent
 TOP = FOLDER.parent
 
-# What a part yields: the name of a case, and its faults, which are looked for as they are taken.
+# What a part yields: the names of cases with their faults, which are found while they are iterated.
 Cases = Iterator[tuple[str, Iterator[str]]]
 
 
@@ -23,9 +23,9 @@ class Outcome(NamedTuple):
 
 @lru_cache
 def program() -> Path:
-    """The program of the sources as they are; where there is none yet it is built, which is told on standard error."""
-    told = subprocess.run([TOP / "release" / "program"], stdout=subprocess.PIPE, stdin=subprocess.DEVNULL, check=True)
-    return Path(os.fsdecode(told.stdout.removesuffix(b"\n")))
+    """The program of the current sources; if there is none, it is built, with progress on standard error."""
+    located = subprocess.run([TOP / "release" / "locate"], stdout=subprocess.PIPE, stdin=subprocess.DEVNULL, check=True)
+    return Path(os.fsdecode(located.stdout.removesuffix(b"\n")))
 
 
 def run(words: list[bytes], folder: str | Path, environment: dict[str, str] | None = None, stdout: int = subprocess.PIPE,
@@ -36,8 +36,8 @@ def run(words: list[bytes], folder: str | Path, environment: dict[str, str] | No
 
 
 def text_of(value: str | list | dict) -> bytes:
-    """A text of a row: Latin-1, a character a byte; a list of pairs of a text and how often it is repeated; or a file."""
+    """A text of a row: Latin-1, one character per byte; a list of pairs of a text and its repetitions; or a file."""
     if isinstance(value, dict):
         return (FOLDER / value["file"]).read_bytes()
-    pieces = [(value, 1)] if isinstance(value, str) else value
-    return b"".join(text.encode("latin-1") * times for text, times in pieces)
+    parts = [(value, 1)] if isinstance(value, str) else value
+    return b"".join(text.encode("latin-1") * times for text, times in parts)

@@ -1,11 +1,11 @@
-"""Calls of the system that are refused in turn: the first of a kind, then the second, until a run makes no such call any
-more. Growths (malloc and realloc), reads, writes, starts of threads, openings of files and random bytes are refused, over
-several files, scripts and plans: once that call alone, and once every later one of its kind too. And devices that move one
-byte a call, which change nothing; of short runs each of these calls is refused in turn too.
+"""Fault injection: the first system call of a kind fails, then the second, and so on until a run makes no more such calls. The
+kinds are allocations (malloc and realloc), reads, writes, starts of threads, openings of files and random bytes, over several
+files, scripts and plans: that call alone fails, or every later one of its kind too. Reads and writes of one byte per call
+must change nothing; in short runs each of these calls fails in turn too.
 
-What may come is the kind's fault, with nothing written (after a refused write: a beginning of the text), or, of a growth
-alone, the very outcome that comes with nothing refused: the C library may do without the memory that it asked for. A long
-file is counted without threads too, and its keys are looked up or not."""
+The run must end with the fault of its kind and without output (after a failed write: with a prefix of it). After a failed
+allocation it may also end as usual: the C library can do without some memory. A long file can be counted without threads and
+without random bytes."""
 import os
 import subprocess
 import tempfile
@@ -16,33 +16,33 @@ from .program import FOLDER, Cases, Outcome, run
 
 FAULTS = {"malloc": b"fault 90\n", "thread": b"fault 90\n", "random": b"fault 90\n", "open": b"fault 25\n",
           "read": b"fault 25\n", "write": b"fault 26\n"}
-# The most bytes of a run of which each is read and written by a call that is refused in turn.
-MOST_BYTES = 1_000
+# The maximum size of a run in which each byte is read and written by a call that fails in turn.
+MAX_BYTES = 1_000
 FIVE = b"21\n4\nfoobar\nabc\n21\n"
 FIVE_COUNTS = b"count,21,2\ncount,4,1\ncount,foobar,1\ncount,abc,1\ntotal,5,5\n"
 FOUR_MOVES = b"move,1,0,,A\nmove,1,1,,A\nmove,1,2,,A\nmove,1,3,,A\n"
-# Quoted fields with commas, line feeds and double quotes; a header; keys of 22 and 23 bytes, and the longest; many keys.
+# Quoted fields with commas, line feeds and double quotes; a header; keys of 22, 23 and the maximum number of bytes; many keys.
 QUOTED = (b'number,"the\nkey"\n1,"a,b"\n"2","say ""so"""\n3,"two\nlines"\n4,plain\n5,"a,b"\n6,\n')
 QUOTED_COUNTS = b'count,"a,b",2\ncount,"say ""so""",1\ncount,"two\nlines",1\ncount,plain,1\ncount,,1\ntotal,6,6\n'
 LONG_KEYS = [b"k" * 22, b"k" * 23, b"k" * 65_535, b"k" * 22, b"k" * 65_535]
 MANY_KEYS = [b"%d" % n for n in range(1500)] + [b"a key of its own memory %d" % n for n in range(150)]
-# More than 2 MiB in quotes, with a line feed in each key, so that blocks are read and none begins at a record.
+# More than 2 MiB in quotes, with a line feed in each key: the file is read in chunks, and none begins at a record.
 KEYS_IN_BLOCKS = [b'"' + bytes([97 + n % 10]) * 30_000 + b"\n" + b"k" * 30_000 + b'"' for n in range(40)]
 SCRIPT = (b"join A\r\n# a comment\njoin B\nsettle\nappend 21\nappend " + b"long" * 60 + b"\npoll A 0 2\nsend A 0\ndeliver 1\n"
           b"poll B 2 5\nsend B 2\nunanswered 2\njoin C\nrejoin A\nlose B\nsync C\nleave A\nsettle\ndrain\ndeliver 1\n")
 
 
 class Subject(NamedTuple):
-    """A run whose calls are refused in turn."""
+    """A run whose system calls fail in turn."""
 
     name: str
     words: str
     files: dict[str, bytes]
-    # How it ends where none is; where this is None, that is what a run shows, which the rows hold to what it should be.
+    # The outcome without failures; if it is None, a run shows it, whose rows are tested elsewhere.
     outcome: Outcome | None = None
-    # The kinds of calls that it does not come to.
+    # The kinds of calls that it does not make.
     without: frozenset[str] = frozenset({"thread"})
-    # The kinds that it may do without, so that a refusal changes nothing.
+    # The kinds that it can do without.
     spared: frozenset[str] = frozenset({"malloc"})
 
 
@@ -91,7 +91,7 @@ SUBJECTS = [
 
 
 def is_right(subject: Subject, wanted: Outcome, kind: str, ended: Outcome) -> bool:
-    """Whether a run may end so in which a call of this kind was refused."""
+    """Whether a run may end like this after a call of this kind failed."""
     if ended == wanted:
         return kind in subject.spared
     written = wanted.stdout.startswith(ended.stdout) if kind == "write" else ended.stdout == b""
@@ -99,12 +99,12 @@ def is_right(subject: Subject, wanted: Outcome, kind: str, ended: Outcome) -> bo
 
 
 class Sweep:
-    """A subject in its folder, with the library that refuses its calls."""
+    """A subject in its folder, with the library that makes its calls fail."""
 
     def __init__(self, subject: Subject, library: Path, folder: Path) -> None:
         self.subject, self.library, self.folder = subject, library, folder
         self.words = [word.encode() for word in subject.words.split()]
-        self.refused: dict[str, int] = {}
+        self.failures: dict[str, int] = {}
         for name, text in subject.files.items():
             (folder / name).write_bytes(text)
         shown = run(self.words, folder)
@@ -115,45 +115,45 @@ class Sweep:
         return run(self.words, self.folder, dict(os.environ, LD_PRELOAD=str(self.library), **environment))
 
     def faults(self, kind: str, **how: str) -> Iterator[str]:
-        """Refuses the first call of this kind, then the second, until a run makes no such call any more."""
+        """Lets the first call of this kind fail, then the second, until a run makes no more such calls."""
         mark = self.folder / "mark"
         if not self.is_well:
-            yield "it does not end well where nothing is refused"
+            yield "it does not end as it should without failures"
         for nth in range(1, 20_000):
             ended = self.run(REFUSE=kind, REFUSE_NTH=str(nth), REFUSE_MARK=str(mark), **how)
             if not mark.exists():
-                self.refused[f"short {kind}" if "REFUSE_SHORT" in how else kind] = nth - 1
+                self.failures[f"short {kind}" if "REFUSE_SHORT" in how else kind] = nth - 1
                 if ended != self.wanted or (nth == 1) != (kind in self.subject.without):
-                    yield f"with nothing refused (call {nth}) it ends with {ended}"
+                    yield f"with no failure (call {nth}) it ends with {ended}"
                 return
             mark.unlink()
             if not is_right(self.subject, self.wanted, kind, ended):
-                yield f"with call {nth} refused it ends with {ended}"
+                yield f"after call {nth} failed it ends with {ended}"
 
     def is_short(self) -> bool:
-        """Whether it reads and writes so little that each byte's call can be refused in turn."""
+        """Whether it reads and writes so little that the call of each byte can fail in turn."""
         read = sum(len(text) for text in self.subject.files.values())
-        return max(read, len(self.wanted.stdout)) <= MOST_BYTES
+        return max(read, len(self.wanted.stdout)) <= MAX_BYTES
 
     def short_faults(self) -> Iterator[str]:
-        """Devices that move one byte a call change nothing."""
+        """Reads and writes of one byte per call change nothing."""
         ended = self.run(REFUSE_SHORT="1")
         if ended != self.wanted:
             yield f"it ends with {ended}"
 
 
 def cases() -> Cases:
-    with tempfile.TemporaryDirectory() as room:
-        library = Path(room) / "refuse.so"
+    with tempfile.TemporaryDirectory() as top:
+        library = Path(top) / "refuse.so"
         subprocess.run(["cc", "-shared", "-fPIC", "-O1", "-o", str(library), str(FOLDER / "refuse.c")], check=True)
         for subject in SUBJECTS:
-            folder = Path(tempfile.mkdtemp(dir=room))
+            folder = Path(tempfile.mkdtemp(dir=top))
             sweep = Sweep(subject, library, folder)
             for kind in FAULTS:
-                yield f"{subject.name}, each {kind} refused in turn", sweep.faults(kind)
-                yield f"{subject.name}, each {kind} and all after it", sweep.faults(kind, REFUSE_LASTS="1")
-            yield f"{subject.name}, one byte a call", sweep.short_faults()
+                yield f"{subject.name}, each {kind} fails", sweep.faults(kind)
+                yield f"{subject.name}, each {kind} and all later ones fail", sweep.faults(kind, REFUSE_LASTS="1")
+            yield f"{subject.name}, one byte per call", sweep.short_faults()
             for kind in ("read", "write") if sweep.is_short() else ():
-                yield f"{subject.name}, one byte a call, each {kind} refused in turn", sweep.faults(kind, REFUSE_SHORT="1")
-            told = ", ".join(f"{kind} {times}" for kind, times in sweep.refused.items())
-            print(f"refused in turn of {subject.name}: {told}", flush=True)
+                yield f"{subject.name}, one byte per call, each {kind} fails", sweep.faults(kind, REFUSE_SHORT="1")
+            failures = ", ".join(f"{kind} {times}" for kind, times in sweep.failures.items())
+            print(f"failures in {subject.name}: {failures}", flush=True)

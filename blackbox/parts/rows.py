@@ -1,10 +1,9 @@
 """The rows of rows.json.
 
-A row is the words after the program's name, the files that stand in the folder it runs in, and what it must print. Text is
-Latin-1, a character a byte; a text may also be a list of pairs of a text and how often it is repeated, or an object whose
-`file` is a file of this folder with the text. A `stdout` of null is not compared. A `stderr` that is an object with `error`
-is a usage text: a first line with this error, what the words should have been, and where there is help. `stdin`, where it
-stands, is what standard input has."""
+A row has the words after the program's name, the files in the folder that it runs in, and what it must print. Text is Latin-1,
+one character per byte; a text can also be a list of pairs of a text and its repetitions, or an object whose `file` names a
+file in this folder. A `stdout` of null is not compared. A `stderr` that is an object with `error` is clap's text: a first line
+with this error, the usage, and a pointer to the help. `stdin` is the standard input."""
 import json
 import tempfile
 from pathlib import Path
@@ -13,12 +12,12 @@ from typing import Iterator
 from .program import FOLDER, Cases, run, text_of
 
 
-def is_told(wanted: str | list | dict, told: bytes) -> bool:
-    """Whether standard error has what a row wants."""
+def is_wanted(wanted: str | list | dict, printed: bytes) -> bool:
+    """Whether standard error is what a row wants."""
     if not isinstance(wanted, dict) or "error" not in wanted:
-        return told == text_of(wanted)
-    first, *rest = told.decode("latin-1").split("\n")
-    # A value out of range is told with the range, and needs no usage; all else comes with the usage of its command.
+        return printed == text_of(wanted)
+    first, *rest = printed.decode("latin-1").split("\n")
+    # The error for a value out of range names the range, without a usage; all others come with the usage of their command.
     usages = [line for line in rest if line.startswith("Usage: keycount")]
     return (first == f"error: {wanted['error']}" and rest[-3:] == ["", "For more information, try '--help'.", ""]
             and len(usages) == (0 if first.startswith("error: invalid value") else 1))
@@ -31,7 +30,7 @@ def row_faults(row: dict) -> Iterator[str]:
         done = run([word.encode("latin-1") for word in row["words"]], folder, stdin=text_of(row.get("stdin", "")))
     if row["stdout"] is not None and done.stdout != text_of(row["stdout"]):
         yield f"standard output is {done.stdout[:300]!r}"
-    if not is_told(row["stderr"], done.stderr):
+    if not is_wanted(row["stderr"], done.stderr):
         yield f"standard error is {done.stderr[:300]!r}"
     if done.status != row["status"]:
         yield f"the status is {done.status}"

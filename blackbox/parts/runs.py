@@ -1,4 +1,4 @@
-"""Runs of one plan by threads, again and again; a device that takes nothing, and a reader that goes away."""
+"""Many runs of one plan; a full output device, and a reader that goes away."""
 import os
 import signal
 import subprocess
@@ -15,7 +15,7 @@ RUNS = 300
 
 
 def full_device_faults() -> Iterator[str]:
-    """Nothing fits on /dev/full: the write fails."""
+    """Writes to /dev/full fail."""
     with tempfile.TemporaryDirectory() as folder, open("/dev/full", "wb") as full:
         (Path(folder) / "f").write_bytes(b"21\n4\n")
         done = run([b"count", b"f"], folder, stdout=full.fileno())
@@ -24,8 +24,8 @@ def full_device_faults() -> Iterator[str]:
 
 
 def gone_reader_faults(is_ignored: bool) -> Iterator[str]:
-    """A reader that takes one byte of a long text and goes away, as head does. Where the signal of that is ignored, the
-    write fails; else the signal may end the program, without a word."""
+    """A reader that closes a long output after a byte, as head does. If SIGPIPE is ignored, the write fails; otherwise the
+    signal may end the program without a message."""
     with tempfile.TemporaryDirectory() as folder:
         (Path(folder) / "f").write_bytes(b"".join(b"%d\n" % n for n in range(200_000)))
         with subprocess.Popen([os.fsencode(program()), b"count", b"f"], cwd=folder, stdout=subprocess.PIPE,
@@ -33,15 +33,15 @@ def gone_reader_faults(is_ignored: bool) -> Iterator[str]:
             assert started.stdout and started.stderr
             first = started.stdout.read(1)
             started.stdout.close()
-            told, status = started.stderr.read(), started.wait(120)
+            message, status = started.stderr.read(), started.wait(120)
     ends = {(b"fault 26\n", 3)} | (set() if is_ignored else {(b"", -signal.SIGPIPE)})
-    if first != b"c" or (told, status) not in ends:
-        yield f"it begins with {first!r}, tells {told!r} and ends with status {status}"
+    if first != b"c" or (message, status) not in ends:
+        yield f"it begins with {first!r}, prints {message!r} and ends with status {status}"
 
 
 def many_runs_faults() -> Iterator[str]:
-    """However the threads fall, a run prints what a replay does that settles after each line and drains at the end, and that
-    ends with what a count prints."""
+    """However the threads are scheduled, a run prints what a replay prints that settles after each line and drains at the end;
+    and the end of this is what a count prints."""
     with tempfile.TemporaryDirectory() as folder:
         files = {"records": RECORDS, "plan": "".join(f"{line}\n" for line in PLAN).encode(),
                  "script": "".join(f"{line}\nsettle\n" for line in PLAN).encode() + b"drain\n"}
@@ -61,5 +61,5 @@ def many_runs_faults() -> Iterator[str]:
 def cases() -> Cases:
     yield "a full output device", full_device_faults()
     yield "a reader that goes away", gone_reader_faults(False)
-    yield "a reader that goes away, where the signal is ignored", gone_reader_faults(True)
+    yield "a reader that goes away, with SIGPIPE ignored", gone_reader_faults(True)
     yield f"{RUNS} runs of a plan", many_runs_faults()

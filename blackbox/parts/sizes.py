@@ -1,5 +1,5 @@
-"""Files and texts of many sizes, up to some MiB, and each limit that can be reached. What must come is worked out here: the
-places of keys by murmur2, and the counts by a Counter."""
+"""Files and outputs of many sizes, up to some MiB, and each limit that can be reached. The expected output is computed here:
+the partitions of keys by murmur2, and the counts by a Counter."""
 import tempfile
 from collections import Counter
 from functools import lru_cache
@@ -31,7 +31,7 @@ def place(key: bytes, partitions: int) -> int:
 
 
 def field(key: bytes) -> bytes:
-    """A key as a row has it."""
+    """A key as a field of a row."""
     return b'"%s"' % key.replace(b'"', b'""') if any(byte in key for byte in b',"\r\n') else key
 
 
@@ -41,7 +41,7 @@ def counts(keys: Keys) -> bytes:
 
 
 def text_of_one(keys: Keys, partitions: int) -> bytes:
-    """What a run of one member prints, and a replay that drains by one."""
+    """What a run with one member prints, and so does a replay with one that drains."""
     ends = Counter(place(key, partitions) for key in keys)
     each = range(partitions)
     return (b"".join(b"move,1,%d,,A\n" % p for p in each) + b"".join(b"owner,%d,A\n" % p for p in each)
@@ -52,13 +52,13 @@ def lines(keys: Keys) -> bytes:
     return b"".join(field(key) + b"\n" for key in keys)
 
 
-def fitted(size: int, beside: int, end: Callable[[int], int]) -> Keys:
-    """Different keys of about 1000 bytes, of which a text has exactly this size that has so many bytes beside each key, and
-    at its end so many for a number of keys."""
+def fitted(size: int, extra: int, end: Callable[[int], int]) -> Keys:
+    """Different keys of about 1000 bytes, which make a text of exactly this size that has `extra` more bytes for each key, and
+    at its end those that `end` returns for the number of keys."""
     number = max(1, size // 1000)
-    bare = size - end(number) - number * beside
-    common = bare // number
-    return [b"%0*d" % (common, n) for n in range(number - 1)] + [b"x" * (bare - common * (number - 1))]
+    total = size - end(number) - number * extra
+    common = total // number
+    return [b"%0*d" % (common, n) for n in range(number - 1)] + [b"x" * (total - common * (number - 1))]
 
 
 def faults(words: str, files: dict[str, bytes], wanted: bytes | Outcome, stdin: bytes = b"") -> Iterator[str]:
@@ -68,7 +68,7 @@ def faults(words: str, files: dict[str, bytes], wanted: bytes | Outcome, stdin: 
             (Path(folder) / name).write_bytes(text)
         ended = run([word.encode() for word in words.split()], folder, stdin=stdin)
     if ended != wanted:
-        yield f"`{words}` ends with {ended}, and not with {wanted}"
+        yield f"`{words}` ends with {ended}, not with {wanted}"
 
 
 def each_faults(keys: Keys, partitions: int, options: str = "") -> Iterator[str]:
@@ -82,7 +82,7 @@ def each_faults(keys: Keys, partitions: int, options: str = "") -> Iterator[str]
 
 
 def size_faults(power: int) -> Iterator[str]:
-    """Files, and then texts, of two to this power of bytes, one less and one more."""
+    """Files, and then outputs, of two to this power of bytes, one less and one more."""
     for size in range((1 << power) - 1, (1 << power) + 2):
         keys = fitted(size, 1, lambda number: 0)
         assert len(lines(keys)) == size
@@ -94,7 +94,7 @@ def size_faults(power: int) -> Iterator[str]:
 
 def file_sizes() -> Cases:
     for power in range(5, 24):
-        yield f"a file and a text of about {1 << power} bytes", size_faults(power)
+        yield f"a file and an output of about {1 << power} bytes", size_faults(power)
     for size in (MIB, 2 * MIB, 4 * MIB, 8 * MIB):
         for partitions in (1, 64):
             keys = fitted(size + 1, 1, lambda number: 0)
@@ -103,7 +103,7 @@ def file_sizes() -> Cases:
     yield "count, replay and run of some MiB of quoted fields", each_faults(keys, 4)
     keys = [b"%d" % (n * n % 250_007) for n in range(400_000)]
     yield "count, replay and run of 400,000 records of many keys", each_faults(keys, 64, "--batch 1000")
-    # So many different keys that their tables are let go side by side.
+    # Enough different keys that their tables are dropped in parallel.
     keys = [b"%d" % (n * 7919 % 300_007) for n in range(400_000)]
     yield "a count of 400,000 records of 300,007 keys", faults("count f", {"f": lines(keys)}, counts(keys))
 
@@ -126,11 +126,11 @@ def script_sizes() -> Cases:
         b"move,1,0,,A\nrefused,65540,30\nowner,0,A\noffset,0,0,1\ntotal,0,1\n")
     names = [b"%032d" % n for n in range(512)]
     joins = b"".join(b"join %s\n" % name for name in names)
-    yield "replay: 512 members, and one more", most_members_faults(names, joins)
+    yield "replay: 512 members, and one more", max_members_faults(names, joins)
 
 
-def most_members_faults(names: Keys, joins: bytes) -> Iterator[str]:
-    """512 members over 512 partitions: each comes to have one, in one generation; a 513th is refused."""
+def max_members_faults(names: Keys, joins: bytes) -> Iterator[str]:
+    """512 members over 512 partitions: each gets one, in one generation; a 513th is refused."""
     files = {"f": b"k\n", "s": joins + b"join Z\n"}
     with tempfile.TemporaryDirectory() as folder:
         for name, text in files.items():
@@ -155,7 +155,7 @@ def limits() -> Cases:
 
         yield ends("a key of 65536 bytes", longest + b"k\n", Outcome(b"", b"fault 20\n", 1))
         yield ends("a quoted key of 65536 bytes", b'a\n"%s"\n' % (b'""' * 65_536), Outcome(b"", b"fault 20\n", 1))
-        yield ends("a long field that is no key", b"k," + b"z" * 3 * MIB + b"\n", text([b"k"]))
+        yield ends("a long field that is not the key", b"k," + b"z" * 3 * MIB + b"\n", text([b"k"]))
         yield ends("column 65535", b"," * 65_534 + b"k\n", text([b"k"]), "--column 65535")
         yield ends("column 65535 of 65534", b"," * 65_533 + b"k\n", Outcome(b"", b"fault 23 at record 1\n", 1),
                    "--column 65535")

@@ -1,1 +1,1 @@
-"""What blackbox/simulate is made of."""
+"""The modules of blackbox/simulate."""

@@ -1,4 +1,4 @@
-"""The laws of a group: what joins, departures and moves have to be among themselves."""
+"""The laws of a group: how joins, departures and moves must fit together."""
 
 from __future__ import annotations
 
@@ -10,22 +10,22 @@ MOST_MEMBERS = 512
 
 
 class Broken(Exception):
-    """A law that an output broke."""
+    """A law that the output breaks."""
 
 
 def require(holds: bool, law: str, *details: object) -> None:
-    """Tells a law that is broken."""
+    """Raises `Broken` unless the law holds."""
     if not holds:
         raise Broken(law.format(*details))
 
 
 def name_of(member: bytes) -> bytes:
-    """The name of a member. Who took over a place has the name of the one before, and is told apart by a number behind it."""
+    """The name of a member. A member that took over a seat has the old one's name, with a number appended here."""
     return member.partition(b"#")[0]
 
 
 class Move(NamedTuple):
-    """A printed move, by the members that its names stand for."""
+    """A printed move, with members in place of names."""
 
     partition: int
     last: bytes
@@ -37,16 +37,16 @@ def is_balanced(sizes: Sequence[int]) -> bool:
     return max(sizes) - min(sizes) <= 1
 
 
-def most_kept(sizes: Sequence[int], partitions: int) -> int:
-    """How many partitions a balanced assignment can leave with their owners, who own so many each: of each owner an even
-    share, and one more of as many owners as partitions are over."""
+def most_retained(sizes: Sequence[int], partitions: int) -> int:
+    """How many partitions a balanced assignment can leave with owners of these many partitions: an even share of each owner,
+    and one more of as many owners as there are partitions left over."""
     share, over = divmod(partitions, len(sizes))
     return sum(min(size, share) for size in sizes) + min(over, sum(size > share for size in sizes))
 
 
-def dealt(members: list[bytes], owned: dict[bytes, list[int]], partitions: int) -> dict[int, bytes]:
-    """Who has each partition where the rules of ties decide: the first heavy members have one more, and then the first
-    others; each keeps its lowest partitions; and the rest, in order, fills the gaps in order of members."""
+def target_of(members: list[bytes], owned: dict[bytes, list[int]], partitions: int) -> dict[int, bytes]:
+    """The owner of each partition in the target assignment. Ties are broken by order: first the members with more than an even
+    share get one more, then the others; each retains its lowest partitions; the rest fills the gaps in order of members."""
     share, over = divmod(partitions, len(members))
     by_need = sorted(members, key=lambda name: len(owned[name]) <= share)
     quota = {name: share + (nth < over) for nth, name in enumerate(by_need)}
@@ -57,32 +57,32 @@ def dealt(members: list[bytes], owned: dict[bytes, list[int]], partitions: int) 
 
 
 class Group:
-    """Who is present, and who holds what as the moves tell it."""
+    """The members that are present, and their partitions by the printed moves."""
 
     def __init__(self, partitions: int) -> None:
         self.partitions = partitions
         self.generation = 0
-        # The newest member of each name, and how many numbers were given.
+        # The newest member of each name, and the number of members that ever joined.
         self.newest: dict[bytes, bytes] = {}
         self.given = 0
-        # In the order of their numbers.
+        # By member number.
         self.present: list[bytes] = []
-        self.kept: set[bytes] = set()
+        self.static: set[bytes] = set()
         self.joined: set[bytes] = set()
         self.synced: set[bytes] = set()
         self.preparing = False
-        # Who was last granted each partition, since which generation, and which were given up since the last completion.
+        # The last owner of each partition, its generation, and the partitions that were revoked since the last completion.
         self.holder = [NOBODY] * partitions
         self.since = [0] * partitions
         self.released: set[int] = set()
-        # What each has to give up.
+        # The partitions that each member must revoke.
         self.excess: dict[bytes, list[int]] = {}
-        # Of the completions since the last join or departure: how many, their moves, and the least that they need.
+        # Since the last join or departure: the number of completions, of their moves, and of the moves that are necessary.
         self.changed = True
         self.rounds = self.moved = self.least = 0
 
     def owned(self) -> dict[bytes, list[int]]:
-        """What each present member is granted, in order."""
+        """The partitions of each present member, in order."""
         owned: dict[bytes, list[int]] = {name: [] for name in self.present}
         for partition, holder in enumerate(self.holder):
             if holder in owned and partition not in self.released:
@@ -90,7 +90,7 @@ class Group:
         return owned
 
     def owner(self, partition: int) -> bytes:
-        """Who is granted a partition."""
+        """The owner of a partition."""
         holder = self.holder[partition]
         return holder if holder in self.present and partition not in self.released else NOBODY
 
@@ -99,29 +99,29 @@ class Group:
         return bool(self.present) and self.joined.issuperset(self.present)
 
     def member(self, name: bytes) -> bytes:
-        """The member that a name stands for."""
+        """The newest member of a name."""
         return self.newest.get(name, name)
 
     def move(self, partition: int, last: bytes, holder: bytes) -> Move:
-        """A move as it is printed, with names. What had the partition is told by its name alone."""
+        """A printed move. The old owner is printed by its name alone."""
         was = self.holder[partition] if partition < self.partitions else NOBODY
         return Move(partition, was if name_of(was) == last else last, self.member(holder))
 
     def number(self, name: bytes, member: bytes) -> None:
-        """A member gets the next number."""
+        """Gives a member the next number."""
         self.newest[name] = member
         self.given += 1
         self.present.append(member)
 
     def take_over(self, name: bytes) -> bytes:
-        """A new member has the place of the one that keeps it under a name: all that it is granted, and what of it it has to
-        give up. It has joined where that one had, and has not synced."""
+        """A new member takes over the seat of a static member: its partitions, and those of them that it must revoke. It has
+        joined if the old one had, and has not synced."""
         old, new = self.member(name), b"%s#%d" % (name, self.given)
         for partition in self.owned()[old]:
             self.holder[partition] = new
         self.present.remove(old)
         self.number(name, new)
-        self.kept.add(new)
+        self.static.add(new)
         self.excess[new] = self.excess.pop(old, [])
         if old in self.joined:
             self.joined.add(new)
@@ -148,8 +148,8 @@ class Group:
         self.released.update(self.excess.pop(name, []))
 
     def check_moves(self, moves: list[Move]) -> None:
-        """The laws of the moves of one completion: each partition once, in order; from who had it, who is gone or has
-        given it up, to one who is present."""
+        """The laws of the moves of one completion: each partition at most once, in order, from its last owner, which is gone
+        or has revoked it, to a present member."""
         numbers = [move.partition for move in moves]
         require(numbers == sorted(set(numbers)), "generation {} moves partitions twice or out of order", self.generation)
         for partition, last, holder in moves:
@@ -158,44 +158,44 @@ class Group:
             require(last == self.holder[partition], "{}: moved from {}, but {} had it", at, last, self.holder[partition])
             require(holder in self.present, "{}: moved to {}, who is not present", at, holder)
             if last in self.present:
-                require(partition in self.released, "{}: it has two owners, since {} did not give it up", at, last)
-                require(self.since[partition] + 2 <= self.generation, "{}: moved again at once", at)
+                require(partition in self.released, "{}: it has two owners, since {} did not revoke it", at, last)
+                require(self.since[partition] + 2 <= self.generation, "{}: moved again in the next generation", at)
 
     def check_owners(self, moves: list[Move], owned: dict[bytes, list[int]]) -> None:
-        """After a completion each partition has an owner who is present. Whoever was given one has no more than a balanced
-        share, and was the one to get it by the rules of ties; what others are to have by them, they are to give up."""
+        """After a completion each partition has a present owner. A member that got one has at most a balanced share, and is
+        its owner in the target assignment; each member must revoke what the target gives to others."""
         share = -(-self.partitions // len(self.present))
-        target = dealt(self.present, owned, self.partitions)
+        target = target_of(self.present, owned, self.partitions)
         after = self.owned()
         for partition, _, holder in moves:
-            require(len(after[holder]) <= share, "generation {}: {} is given too much", self.generation, holder)
-            require(target[partition] == holder, "generation {}: partition {} is moved to {}, and is to be {}'s",
+            require(len(after[holder]) <= share, "generation {}: {} gets too many", self.generation, holder)
+            require(target[partition] == holder, "generation {}: partition {} is moved to {}, not to {}",
                     self.generation, partition, holder, target[partition])
         missing = set(range(self.partitions)).difference(*after.values())
-        require(not missing, "generation {}: nobody has the partitions {}", self.generation, missing)
+        require(not missing, "generation {}: nobody owns the partitions {}", self.generation, missing)
         self.excess = {name: [partition for partition in after[name] if target[partition] != name] for name in self.present}
 
-    def check_stickiness(self, moves: int, kept: list[int]) -> None:
-        """From the first completion after a join or a departure to the end of the rebalance as few partitions move as a
-        balanced assignment allows, and two completions bring it there."""
+    def check_stickiness(self, moves: int, sizes: list[int]) -> None:
+        """From the first completion after a join or a departure to the end of the rebalance, as few partitions move as balance
+        allows, and two completions are enough."""
         if self.changed:
             self.rounds = self.moved = 0
-            self.least = self.partitions - most_kept(kept, self.partitions)
+            self.least = self.partitions - most_retained(sizes, self.partitions)
             self.changed = False
         self.rounds += 1
         self.moved += moves
         balanced = is_balanced([len(partitions) for partitions in self.owned().values()])
-        require(balanced == (not any(self.excess.values())), "generation {}: balance {}, and to give up {}",
+        require(balanced == (not any(self.excess.values())), "generation {}: balanced {}, to revoke {}",
                 self.generation, balanced, self.excess)
         if balanced:
-            require(self.moved == self.least, "generation {}: {} moves, where {} are enough",
+            require(self.moved == self.least, "generation {}: {} moves, but {} are enough",
                     self.generation, self.moved, self.least)
         else:
             require(self.rounds < 2, "generation {}: two completions do not balance", self.generation)
-            require(self.moved < self.least, "generation {}: {} moves, and not balanced", self.generation, self.moved)
+            require(self.moved < self.least, "generation {}: {} moves and not balanced", self.generation, self.moved)
 
     def complete(self, moves: list[Move]) -> None:
-        """The next completion, with these moves."""
+        """Makes the next completion, with these moves."""
         self.generation += 1
         self.check_moves(moves)
         owned = self.owned()
@@ -211,5 +211,5 @@ class Group:
     def check_settled(self) -> None:
         """A settled group is balanced."""
         sizes = Counter(self.holder)
-        require(is_balanced([sizes[name] for name in self.present]), "generation {}: settled, and not balanced",
+        require(is_balanced([sizes[name] for name in self.present]), "generation {}: settled but not balanced",
                 self.generation)

@@ -1,4 +1,4 @@
-"""The laws of a replay: what its printed text has to be, by its script and its records alone."""
+"""The laws of a replay: what it must print, by its script and its records alone."""
 
 from __future__ import annotations
 
@@ -9,15 +9,15 @@ from simulator.group import MOST_MEMBERS, Group, Move, name_of, require
 from simulator.records import Options, read, row
 from simulator.scripts import lines_of
 
-TAKEN = 0
+ACCEPTED = 0
 HISTORY = (b"move", b"refused")
-# The lines of a member that joined before: its name stands for the newest of that name.
+# Lines about a member that joined before: the newest of its name.
 OF_A_MEMBER = ("rejoin", "sync", "leave", "lose", "poll", "send")
 
 
 @dataclass(frozen=True)
 class Commit:
-    """A commit of the mail."""
+    """A commit in the mail."""
 
     member: bytes
     generation: int
@@ -27,7 +27,7 @@ class Commit:
 
 
 class Logs:
-    """The appended records, by partition, and the keys in order of first appearance."""
+    """The appended records by partition, and the keys in order of first appearance."""
 
     def __init__(self, options: Options, keyed: list[tuple[int, bytes]]) -> None:
         self.options = options
@@ -44,34 +44,34 @@ class Logs:
         return len(self.partitions[partition])
 
     def counts(self, committed: list[int]) -> list[bytes]:
-        """The rows of what lies below the committed offsets, each record taken once."""
+        """The `count` rows of the records below the committed offsets."""
         counts = Counter(key for log, offset in zip(self.partitions, committed) for key in log[:offset])
         return [row(b"count", key, b"%d" % counts[key]) for key in self.keys if counts[key]]
 
 
 class Ledger:
-    """What the lines of a script and the printed rows tell so far, and which answer each line has to have by it."""
+    """The state after the lines and rows so far, and the answer that the next line must get."""
 
     def __init__(self, options: Options, keyed: list[tuple[int, bytes]]) -> None:
         self.options = options
         self.batch = options.batch or 500
         self.logs = Logs(options, keyed)
         self.group = Group(options.total())
-        # Of each who ever joined: the generation of its last lease, and by partition its base and position.
+        # Of each member that ever joined: the generation of its last lease, and its base and position by partition.
         self.leased: dict[bytes, int] = {}
         self.held: dict[bytes, dict[int, list[int]]] = {}
-        # Those who know that they are no members any more.
+        # The members that know that they are out of the group.
         self.out: set[bytes] = set()
         self.committed = [0] * options.total()
         self.mail: list[Commit] = []
-        # The commits of the mail that were taken, and the rows that are not looked at yet, the next one last.
+        # The commits in the mail that were accepted, and the rows that are not checked yet, the next one last.
         self.accepted: set[int] = set()
         self.history: list[list[bytes]] = []
 
     # Rows
 
     def follow(self, script: bytes, history: list[list[bytes]]) -> None:
-        """Goes through the lines with the moves and refusals that were printed for them."""
+        """Checks the lines against the moves and refusals that were printed for them."""
         self.history = history[::-1]
         for number, line in lines_of(script):
             verb, arguments = parts_of(line, self.options)
@@ -79,13 +79,13 @@ class Ledger:
                 arguments[0] = self.group.member(arguments[0])
             code = self.take_refusal(number)
             wanted = getattr(self, f"answer_to_{verb}")(*arguments)
-            require(code == wanted, "line {}, {}, is answered by {}, and not by {}", number, line, code, wanted)
-            after = getattr(self, f"after_{verb}" if code == TAKEN else f"after_refused_{verb}", None)
-            if after and code == TAKEN:
+            require(code == wanted, "line {}, {}, is answered by {}, not by {}", number, line, code, wanted)
+            after = getattr(self, f"after_{verb}" if code == ACCEPTED else f"after_refused_{verb}", None)
+            if after and code == ACCEPTED:
                 after(*arguments)
             elif after:
                 after(code, *arguments)
-        require(not self.history, "no line makes the row {}", self.history[-1:])
+        require(not self.history, "no line explains the row {}", self.history[-1:])
 
     def take_refusal(self, line: int) -> int:
         """The code of this line's refusal, or 0."""
@@ -93,7 +93,7 @@ class Ledger:
             fields = self.history.pop()
             require(len(fields) == 3 and fields[2].isdigit() and int(fields[2]) > 0, "line {}: the row {}", line, fields)
             return int(fields[2])
-        return TAKEN
+        return ACCEPTED
 
     def take_moves(self) -> list[Move]:
         """The moves of the next generation, which are the next rows."""
@@ -101,10 +101,10 @@ class Ledger:
         head = [b"move", b"%d" % (self.group.generation + 1)]
         while self.history and self.history[-1][:2] == head:
             fields = self.history.pop()[2:]
-            told, names = fields[:-2], fields[-2:]
-            require(len(told) == len(self.options.told(0)) and told[-1].isdigit(), "a move of {}", fields)
-            require(not self.options.topics or told[0] in self.options.names(), "a move of {}", fields)
-            moves.append(self.group.move(self.options.partition(told), *names))
+            printed, names = fields[:-2], fields[-2:]
+            require(len(printed) == len(self.options.fields_of(0)) and printed[-1].isdigit(), "a move of {}", fields)
+            require(not self.options.topics or printed[0] in self.options.names(), "a move of {}", fields)
+            moves.append(self.group.move(self.options.partition(printed), *names))
         return moves
 
     # The group
@@ -114,7 +114,7 @@ class Ledger:
             self.group.complete(self.take_moves())
 
     def lease(self, name: bytes) -> None:
-        """A sync: what a member is to keep and does not hold it holds from the committed offset on."""
+        """A sync: the member reads its new partitions from the committed offsets on."""
         self.group.synced.add(name)
         self.leased[name] = self.group.generation
         excess = self.group.excess.get(name, [])
@@ -123,19 +123,19 @@ class Ledger:
                 self.held[name].setdefault(partition, [self.committed[partition]] * 2)
 
     def give_up(self, name: bytes) -> None:
-        """A rejoin: the member drops what it has to give up."""
+        """A rejoin: the member drops the partitions that it must revoke."""
         for partition in self.group.excess.get(name, []):
             self.held[name].pop(partition, None)
         self.group.rejoin(name)
 
     def answer_to_stranger(self, name: bytes) -> int:
-        """The answer to a name that is not present: whoever was a member is told once, and then knows it."""
+        """The answer to a name that is not present: a former member gets 1, and then knows that it is out."""
         return 16 if name in self.out else 1
 
     def answer_to_join(self, name: bytes) -> int:
         if name in self.group.newest:
             return 8
-        return 9 if self.group.given == MOST_MEMBERS else TAKEN
+        return 9 if self.group.given == MOST_MEMBERS else ACCEPTED
 
     def after_join(self, name: bytes) -> None:
         self.group.join(name)
@@ -145,29 +145,29 @@ class Ledger:
     answer_to_keep = answer_to_join
 
     def after_keep(self, name: bytes) -> None:
-        self.group.kept.add(name)
+        self.group.static.add(name)
         self.after_join(name)
 
     def answer_to_return(self, name: bytes) -> int:
         member = self.group.member(name)
-        if member not in self.group.present or member not in self.group.kept:
+        if member not in self.group.present or member not in self.group.static:
             return 33
-        return 9 if self.group.given == MOST_MEMBERS else TAKEN
+        return 9 if self.group.given == MOST_MEMBERS else ACCEPTED
 
     def after_return(self, name: bytes) -> None:
-        """A new member has the place of the old one, whose consumer goes on without knowing. It holds nothing yet."""
+        """A new member has the seat of the old one, whose consumer is not notified. It holds nothing yet."""
         member = self.group.take_over(name)
         self.held[member], self.leased[member] = {}, 0
 
     def answer_to_leave(self, name: bytes) -> int:
-        return TAKEN if name in self.group.present else self.answer_to_stranger(name)
+        return ACCEPTED if name in self.group.present else self.answer_to_stranger(name)
 
     def after_leave(self, name: bytes) -> None:
         self.out.add(name)
         self.after_lose(name)
 
     def answer_to_lose(self, name: bytes) -> int:
-        return TAKEN if name in self.group.present else 1
+        return ACCEPTED if name in self.group.present else 1
 
     def after_lose(self, name: bytes) -> None:
         self.group.part(name)
@@ -176,7 +176,7 @@ class Ledger:
     def answer_to_sync(self, name: bytes) -> int:
         if name not in self.group.present:
             return self.answer_to_stranger(name)
-        return 3 if name in self.group.joined else TAKEN
+        return 3 if name in self.group.joined else ACCEPTED
 
     def after_sync(self, name: bytes) -> None:
         self.lease(name)
@@ -189,7 +189,7 @@ class Ledger:
             return 2
         if name in group.joined:
             return 7
-        return TAKEN if group.preparing or group.excess[name] else 4
+        return ACCEPTED if group.preparing or group.excess[name] else 4
 
     def after_rejoin(self, name: bytes) -> None:
         self.give_up(name)
@@ -202,10 +202,10 @@ class Ledger:
     after_refused_rejoin = after_refused_leave = after_refused_sync
 
     def answer_to_settle(self) -> int:
-        return TAKEN if self.group.present else 19
+        return ACCEPTED if self.group.present else 19
 
     def after_settle(self) -> None:
-        """A completion where the group prepares, and one more where somebody has something to give up then."""
+        """One completion if a rebalance is in progress, and another if a member must then revoke partitions."""
         if self.group.preparing:
             self.all_take_turns()
         if any(self.group.excess.values()):
@@ -215,7 +215,7 @@ class Ledger:
         self.group.check_settled()
 
     def all_take_turns(self) -> None:
-        """All who have not joined sync, commit what is pending of what they give up, and rejoin."""
+        """All who have not joined sync, commit what is pending of the partitions that they revoke, and rejoin."""
         for name in self.group.present:
             if name not in self.group.joined:
                 self.lease(name)
@@ -227,12 +227,12 @@ class Ledger:
     # Commits
 
     def answer_to_holder(self, name: bytes, partition: int) -> int:
-        """The answer of a consumer that is asked for a partition."""
+        """The answer of a consumer to a request for a partition."""
         if name not in self.held:
             return 1
         if name in self.out:
             return 16
-        return TAKEN if partition in self.held[name] else 15
+        return ACCEPTED if partition in self.held[name] else 15
 
     def answer_to_poll(self, name: bytes, partition: int, _records: int) -> int:
         return self.answer_to_holder(name, partition)
@@ -243,7 +243,7 @@ class Ledger:
 
     def answer_to_send(self, name: bytes, partition: int) -> int:
         answer = self.answer_to_holder(name, partition)
-        if answer == TAKEN and len(set(self.held[name][partition])) == 1:
+        if answer == ACCEPTED and len(set(self.held[name][partition])) == 1:
             return 14
         return answer
 
@@ -252,27 +252,27 @@ class Ledger:
         self.mail.append(Commit(name, self.leased[name], partition, base, position - base))
 
     def answer_to_commit(self, commit: Commit) -> int:
-        """The answer of the cluster to a commit."""
+        """The cluster's answer to a commit."""
         if commit.member not in self.group.present:
             return 1
         if commit.generation != self.group.generation:
             return 2
         if self.group.owner(commit.partition) != commit.member:
             return 10
-        return TAKEN if commit.start == self.committed[commit.partition] else 11
+        return ACCEPTED if commit.start == self.committed[commit.partition] else 11
 
     def answer_to_deliver(self, number: int) -> int:
         return self.answer_to_commit(self.mail[number - 1]) if 0 < number <= len(self.mail) else 17
 
     def take(self, number: int) -> None:
-        """A commit is taken, which is once at most."""
+        """A commit is accepted, at most once."""
         commit = self.mail[number - 1]
-        require(number not in self.accepted, "commit {} is taken twice", number)
+        require(number not in self.accepted, "commit {} is accepted twice", number)
         self.accepted.add(number)
         self.committed[commit.partition] = commit.start + commit.records
 
     def learn(self, commit: Commit) -> None:
-        """The consumer of a commit is told the committed offset."""
+        """The consumer of a commit learns the committed offset."""
         span = self.held[commit.member].get(commit.partition)
         if span:
             span[0] = self.committed[commit.partition]
@@ -289,14 +289,14 @@ class Ledger:
             self.learn(self.mail[number - 1])
 
     def answer_to_unanswered(self, number: int) -> int:
-        return TAKEN if 0 < number <= len(self.mail) else 17
+        return ACCEPTED if 0 < number <= len(self.mail) else 17
 
     def after_unanswered(self, number: int) -> None:
-        if self.answer_to_deliver(number) == TAKEN:
+        if self.answer_to_deliver(number) == ACCEPTED:
             self.take(number)
 
     def commit_pending(self, name: bytes, partition: int) -> None:
-        """What is pending is sent and delivered, and once more where the consumer was behind."""
+        """What is pending is sent and delivered, once more if the consumer was behind."""
         span = self.held[name].get(partition, [0, 0])
         while span[0] < span[1]:
             self.after_send(name, partition)
@@ -315,10 +315,10 @@ class Ledger:
                     self.after_poll(name, partition, self.batch)
                     self.commit_once(name, partition)
         ends = [self.logs.end(partition) for partition in range(self.group.partitions)]
-        require(self.committed == ends, "a drain commits to {}, and not to {}", self.committed, ends)
+        require(self.committed == ends, "a drain commits up to {}, not {}", self.committed, ends)
 
     def commit_once(self, name: bytes, partition: int) -> None:
-        """What a drain sends and delivers after a poll."""
+        """Sends and delivers what a drain has polled."""
         span = self.held[name][partition]
         if span[0] < span[1]:
             self.after_send(name, partition)
@@ -327,7 +327,7 @@ class Ledger:
             self.learn(self.mail[-1])
 
     def answer_to_append(self, _topic: int, _key: bytes) -> int:
-        return TAKEN
+        return ACCEPTED
 
     def after_append(self, topic: int, key: bytes) -> None:
         self.logs.append(topic, key)
@@ -335,36 +335,36 @@ class Ledger:
     # The end
 
     def check_end(self, rows: list[list[bytes]]) -> None:
-        """The laws of the closing rows: the owners are those of the moves, the offsets those of the commits, and the counts
-        those of the records below the offsets."""
-        told = [self.options.told(partition) for partition in range(len(self.committed))]
-        owners = [row(b"owner", *told[partition], name_of(self.group.owner(partition))) for partition in range(len(told))]
-        ends = [b"%d" % self.logs.end(partition) for partition in range(len(told))]
-        offsets = [row(b"offset", *told[partition], b"%d" % offset, ends[partition])
+        """The laws of the last rows: owners follow from the moves, offsets from the commits, and counts from the records below
+        the offsets."""
+        printed = [self.options.fields_of(partition) for partition in range(len(self.committed))]
+        owners = [row(b"owner", *printed[partition], name_of(self.group.owner(partition))) for partition in range(len(printed))]
+        ends = [b"%d" % self.logs.end(partition) for partition in range(len(printed))]
+        offsets = [row(b"offset", *printed[partition], b"%d" % offset, ends[partition])
                    for partition, offset in enumerate(self.committed)]
         total = [row(b"total", b"%d" % sum(self.committed), b"%d" % sum(map(int, ends)))]
         wanted = [*owners, *offsets, *self.logs.counts(self.committed), *total]
         written = [row(*fields) for fields in rows]
         wrong = [pair for pair in zip(written, wanted) if pair[0] != pair[1]]
-        require(written == wanted, "{} closing rows, where there have to be {}; the first difference: {}",
+        require(written == wanted, "{} rows at the end instead of {}; the first difference: {}",
                 len(written), len(wanted), wrong[:1])
 
 
 def parts_of(line: bytes, options: Options) -> tuple[str, list[bytes | int]]:
-    """The first word of a line, and what follows it: a topic and a key, or a name, a partition over all topics and numbers,
-    or numbers."""
+    """The first word of a line, and its arguments: a topic and a key; or a name, a partition counted over all topics, and
+    numbers; or numbers."""
     verb, _, rest = line.partition(b" ")
     if verb == b"append":
         return verb.decode(), [*appended(rest, options)]
     words = rest.split(b" ") if rest else []
     names = 0 if verb in (b"deliver", b"unanswered") else 1
-    told = len(options.told(0)) if verb in (b"poll", b"send") else 0
-    partition = [options.partition(words[1:1 + told])] if told else []
-    return verb.decode(), [*words[:names], *partition, *map(int, words[names + told:])]
+    printed = len(options.fields_of(0)) if verb in (b"poll", b"send") else 0
+    partition = [options.partition(words[1:1 + printed])] if printed else []
+    return verb.decode(), [*words[:names], *partition, *map(int, words[names + printed:])]
 
 
 def appended(text: bytes, options: Options) -> tuple[int, bytes]:
-    """The topic and the key of what stands after `append` and a space."""
+    """The topic and the key of the text after `append` and a space."""
     if not options.topics:
         return 0, text
     topic, _, key = text.partition(b" ")
@@ -377,14 +377,14 @@ def appended_keys(script: bytes, options: Options) -> list[bytes]:
 
 
 def rows_of(text: bytes) -> list[list[bytes]]:
-    """The rows of a text, which has to be written as the program writes."""
+    """The rows of a text, which must have the program's CSV dialect."""
     rows = read(text)
-    require(b"".join(row(*fields) for fields in rows) == text, "rows are not written by the dialect")
+    require(b"".join(row(*fields) for fields in rows) == text, "rows are not in the CSV dialect")
     return rows
 
 
 def check_replay(options: Options, keyed: list[tuple[int, bytes]], script: bytes, text: bytes) -> None:
-    """Every law of a replay's text."""
+    """Checks all laws of a replay's text."""
     rows = rows_of(text)
     start = next((at for at, fields in enumerate(rows) if fields[0] not in HISTORY), len(rows))
     ledger = Ledger(options, keyed)
@@ -393,6 +393,6 @@ def check_replay(options: Options, keyed: list[tuple[int, bytes]], script: bytes
 
 
 def count_text(keys: list[bytes]) -> bytes:
-    """What a count prints: the numbers of a Counter in order of first appearance."""
+    """What `count` prints: the numbers of a Counter in order of first appearance."""
     rows = [row(b"count", key, b"%d" % number) for key, number in Counter(keys).items()]
     return b"".join(rows) + row(b"total", b"%d" % len(keys), b"%d" % len(keys))

@@ -1,4 +1,4 @@
-"""Ways to alter an outcome so that a law is broken, by which the simulator is tried itself."""
+"""Ways to alter an outcome so that it breaks a law, which test the simulator itself."""
 
 from __future__ import annotations
 
@@ -16,22 +16,22 @@ CODES = b"1 2 3 4 7 8 10 11 14 15 16 17 19 33".split()
 
 
 def of_kind(rows: Rows, kind: bytes) -> list[int]:
-    """Where the rows of a kind stand."""
+    """The indices of the rows of a kind."""
     return [at for at, fields in enumerate(rows) if fields[0] == kind]
 
 
 def changed(rows: Rows, at: int, column: int, value: bytes) -> Rows:
-    """Rows with another value in one place."""
+    """Rows with another value in one field."""
     return [*rows[:at], [*rows[at][:column], value, *rows[at][column + 1:]], *rows[at + 1:]]
 
 
 def adding(kind: bytes, column: int, change: int) -> Callable[[Random, Trial, Rows], Rows | None]:
     """A way that changes a number in a row of a kind."""
     def way(rng: Random, _trial: Trial, rows: Rows) -> Rows | None:
-        places = [at for at in of_kind(rows, kind) if int(rows[at][column]) + change >= 0]
-        if not places:
+        indices = [at for at in of_kind(rows, kind) if int(rows[at][column]) + change >= 0]
+        if not indices:
             return None
-        at = rng.choice(places)
+        at = rng.choice(indices)
         return changed(rows, at, column, b"%d" % (int(rows[at][column]) + change))
     return way
 
@@ -39,26 +39,26 @@ def adding(kind: bytes, column: int, change: int) -> Callable[[Random, Trial, Ro
 def dropping(kind: bytes) -> Callable[[Random, Trial, Rows], Rows | None]:
     """A way that drops a row of a kind."""
     def way(rng: Random, _trial: Trial, rows: Rows) -> Rows | None:
-        places = of_kind(rows, kind)
-        at = rng.choice(places) if places else 0
-        return [*rows[:at], *rows[at + 1:]] if places else None
+        indices = of_kind(rows, kind)
+        at = rng.choice(indices) if indices else 0
+        return [*rows[:at], *rows[at + 1:]] if indices else None
     return way
 
 
 def repeating(kind: bytes) -> Callable[[Random, Trial, Rows], Rows | None]:
-    """A way that tells a row of a kind twice."""
+    """A way that repeats a row of a kind."""
     def way(rng: Random, _trial: Trial, rows: Rows) -> Rows | None:
-        places = of_kind(rows, kind)
-        at = rng.choice(places) if places else 0
-        return [*rows[:at], rows[at], *rows[at:]] if places else None
+        indices = of_kind(rows, kind)
+        at = rng.choice(indices) if indices else 0
+        return [*rows[:at], rows[at], *rows[at:]] if indices else None
     return way
 
 
 def swapping(kind: bytes) -> Callable[[Random, Trial, Rows], Rows | None]:
-    """A way that swaps what the last field of two rows of a kind says."""
+    """A way that swaps the last fields of two rows of a kind."""
     def way(rng: Random, _trial: Trial, rows: Rows) -> Rows | None:
-        places = of_kind(rows, kind)
-        pairs = [(one, other) for one in places[:40] for other in places[:40] if rows[one][-1] != rows[other][-1]]
+        indices = of_kind(rows, kind)
+        pairs = [(one, other) for one in indices[:40] for other in indices[:40] if rows[one][-1] != rows[other][-1]]
         if not pairs:
             return None
         one, other = rng.choice(pairs)
@@ -67,28 +67,28 @@ def swapping(kind: bytes) -> Callable[[Random, Trial, Rows], Rows | None]:
 
 
 def swap_count_rows(rng: Random, _trial: Trial, rows: Rows) -> Rows | None:
-    places = of_kind(rows, b"count")
-    if len(places) < 2:
+    indices = of_kind(rows, b"count")
+    if len(indices) < 2:
         return None
-    at = rng.choice(places[1:])
+    at = rng.choice(indices[1:])
     return [*rows[:at - 1], rows[at], rows[at - 1], *rows[at + 1:]]
 
 
 def shift_a_count(rng: Random, _trial: Trial, rows: Rows) -> Rows | None:
-    """One count more and another less, so that the sum stays."""
-    places = of_kind(rows, b"count")
-    if len(places) < 2:
+    """One count more and another less, with the same sum."""
+    indices = of_kind(rows, b"count")
+    if len(indices) < 2:
         return None
-    one, other = rng.sample(places, 2)
+    one, other = rng.sample(indices, 2)
     rows = changed(rows, one, 2, b"%d" % (int(rows[one][2]) + 1))
     return changed(rows, other, 2, b"%d" % (int(rows[other][2]) - 1))
 
 
 def shift_an_offset(rng: Random, _trial: Trial, rows: Rows) -> Rows | None:
-    """A record more committed of one partition and one less of another, so that the sum stays."""
-    places = of_kind(rows, b"offset")
-    less = [at for at in places if int(rows[at][2]) > 0]
-    more = [at for at in places if int(rows[at][2]) < int(rows[at][3]) and at not in less[:1]]
+    """One committed record more in one partition and one less in another, with the same sum."""
+    indices = of_kind(rows, b"offset")
+    less = [at for at in indices if int(rows[at][2]) > 0]
+    more = [at for at in indices if int(rows[at][2]) < int(rows[at][3]) and at not in less[:1]]
     if not less or not more:
         return None
     rows = changed(rows, less[0], 2, b"%d" % (int(rows[less[0]][2]) - 1))
@@ -107,20 +107,20 @@ def count_one_more(rng: Random, _trial: Trial, rows: Rows) -> Rows | None:
 
 
 def give_away(rng: Random, trial: Trial, rows: Rows) -> Rows | None:
-    """A partition's last move, and its owner, are another member's."""
+    """A partition's last move and its owner name another member."""
     owners = of_kind(rows, b"owner")
     names = sorted({rows[at][2] for at in owners} - {b""})
-    places = [at for at in owners if rows[at][2]]
-    if len(names) < 2 or len(places) < 3:
+    indices = [at for at in owners if rows[at][2]]
+    if len(names) < 2 or len(indices) < 3:
         return None
-    at = rng.choice(places)
+    at = rng.choice(indices)
     other = rng.choice([name for name in names if name != rows[at][2]])
     last = max(move for move in of_kind(rows, b"move") if rows[move][2] == rows[at][1])
     return changed(changed(rows, at, 2, other), last, 4, other)
 
 
 def exchange(rng: Random, _trial: Trial, rows: Rows) -> Rows | None:
-    """Two members change a partition for another at the last completion, without need."""
+    """Two members exchange partitions at the last completion, without need."""
     owners = [at for at in of_kind(rows, b"owner") if rows[at][2]]
     moves = of_kind(rows, b"move")
     if not moves:
@@ -141,7 +141,7 @@ def exchange(rng: Random, _trial: Trial, rows: Rows) -> Rows | None:
 
 
 def refuse_a_line(rng: Random, trial: Trial, rows: Rows) -> Rows | None:
-    """A line that was taken is refused."""
+    """A line that was accepted is refused."""
     if "script" not in trial.files:
         return None
     refused = {rows[at][1] for at in of_kind(rows, b"refused")}
@@ -155,10 +155,10 @@ def refuse_a_line(rng: Random, trial: Trial, rows: Rows) -> Rows | None:
 
 
 def change_a_code(rng: Random, _trial: Trial, rows: Rows) -> Rows | None:
-    places = of_kind(rows, b"refused")
-    if not places:
+    indices = of_kind(rows, b"refused")
+    if not indices:
         return None
-    at = rng.choice(places)
+    at = rng.choice(indices)
     return changed(rows, at, 2, rng.choice([code for code in CODES if code != rows[at][2]]))
 
 
@@ -169,19 +169,19 @@ ROW_WAYS: dict[str, Way] = {
     "two members exchange partitions without need": exchange,
     "an owner row is missing": dropping(b"owner"),
     "a move is missing": dropping(b"move"),
-    "a move is told twice": repeating(b"move"),
+    "a move is printed twice": repeating(b"move"),
     "the holders of two moves are swapped": swapping(b"move"),
     "a move is a generation late": adding(b"move", 1, 1),
     "a move is a generation early": adding(b"move", 1, -1),
     "a move is of the next partition": adding(b"move", 2, 1),
     "a refusal is missing": dropping(b"refused"),
-    "a line is refused that was taken": refuse_a_line,
+    "a line is refused that was accepted": refuse_a_line,
     "a refusal has another code": change_a_code,
     "a refusal is of the next line": adding(b"refused", 1, 1),
     "a count is one more": adding(b"count", 2, 1),
     "a count is one less": adding(b"count", 2, -1),
     "a count is missing": dropping(b"count"),
-    "two counts stand in the other order": swap_count_rows,
+    "two counts are in the wrong order": swap_count_rows,
     "a count is shifted to another key": shift_a_count,
     "a record is counted twice, everywhere": count_one_more,
     "an offset is one more": adding(b"offset", 2, 1),
@@ -213,7 +213,7 @@ OUTCOME_WAYS: dict[str, Callable[[Outcome], "Outcome | None"]] = {
     "a carriage return is added": lambda out: out._replace(stdout=out.stdout[:-1] + b"\r\n") if out.stdout else None,
     "the text is missing": lambda out: out._replace(stdout=b"") if out.stdout else None,
     "the status is another": lambda out: out._replace(status=out.status ^ 1),
-    "something is told beside": lambda out: out._replace(stderr=out.stderr + b"warning\n"),
+    "there is a warning too": lambda out: out._replace(stderr=out.stderr + b"warning\n"),
     "a fault has another number": lambda out: out._replace(stderr=next_number(out.stderr)) if out.stderr else None,
     "a fault comes with a row": lambda out: out._replace(stdout=b"total,0,0\n") if out.stderr else None,
 }
@@ -221,7 +221,7 @@ WAYS = [*ROW_WAYS, *OUTCOME_WAYS]
 
 
 def altered(rng: Random, trial: Trial, outcomes: list[Outcome]) -> Iterator[tuple[str, Outcome]]:
-    """The last outcome of a trial altered in each way that applies, with the way's name."""
+    """The last outcome of a trial, altered in each way that applies, with the way's name."""
     outcome = outcomes[-1]
     for name, change in OUTCOME_WAYS.items():
         other = change(outcome)
@@ -231,8 +231,8 @@ def altered(rng: Random, trial: Trial, outcomes: list[Outcome]) -> Iterator[tupl
     for name, way in ROW_WAYS.items():
         altered_rows = way(rng, trial, rows) if rows else None
         if altered_rows is not None and altered_rows != rows:
-            told = topical_rows(altered_rows, trial.options)
-            yield name, outcome._replace(stdout=b"".join(row(*fields) for fields in told))
+            printed = topical_rows(altered_rows, trial.options)
+            yield name, outcome._replace(stdout=b"".join(row(*fields) for fields in printed))
 
 
 def difference(one: Outcome, other: Outcome) -> str:

@@ -15,7 +15,7 @@ LATE = -1
 
 
 class Outcome(NamedTuple):
-    """How a run of the program ended."""
+    """The outcome of a run of the program."""
 
     stdout: bytes
     stderr: bytes
@@ -33,7 +33,7 @@ def run(program: Path, words: list[bytes], folder: Path) -> Outcome:
 
 
 def outcomes(program: Path, files: dict[str, bytes], runs: list[list[bytes]]) -> list[Outcome]:
-    """How runs end in a folder with these files."""
+    """The outcomes of runs in a folder with these files."""
     with tempfile.TemporaryDirectory(prefix="simulate-") as folder:
         for name, text in files.items():
             (Path(folder) / name).write_bytes(text)

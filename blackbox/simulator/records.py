@@ -1,4 +1,4 @@
-"""Files of records: random ones, what Python's csv reads in them, and where the records of a key go."""
+"""Files of records: random ones, what Python's csv reads in them, and the partition of a key."""
 
 from __future__ import annotations
 
@@ -19,8 +19,8 @@ csv.field_size_limit(1 << 30)
 
 @dataclass(frozen=True)
 class Options:
-    """The options of a run of the program. A batch of 0 is none. Topics are names with their numbers of partitions; without
-    any, all records are of one topic that has no name."""
+    """The options of a run of the program. A batch of 0 means the default. Topics are names with their numbers of partitions;
+    without any, all records are in one topic without a name."""
 
     partitions: int = 4
     column: int = 1
@@ -44,40 +44,40 @@ class Options:
         return [name for name, _ in self.topics]
 
     def counts(self) -> list[int]:
-        """How many partitions each topic has."""
+        """The number of partitions of each topic."""
         return [count for _, count in self.topics] or [self.partitions]
 
     def total(self) -> int:
-        """How many partitions there are, over all topics."""
+        """The number of partitions of all topics."""
         return sum(self.counts())
 
-    def befores(self) -> list[int]:
-        """How many partitions stand before those of each topic."""
+    def first_partitions(self) -> list[int]:
+        """The first partition of each topic, counted over all topics."""
         return [0, *accumulate(self.counts())]
 
     def place(self, topic: int, key: bytes) -> int:
-        """The partition that the records of a key in a topic go to, counted over all topics."""
-        return self.befores()[topic] + place(key, self.counts()[topic])
+        """The partition of a key in a topic, counted over all topics."""
+        return self.first_partitions()[topic] + place(key, self.counts()[topic])
 
-    def told(self, partition: int) -> list[bytes]:
-        """How a partition is told: by its number, or by the name of its topic and its number there. One past the last is one
-        past those of the last topic."""
+    def fields_of(self, partition: int) -> list[bytes]:
+        """The fields that name a partition: its number, or the name of its topic and its number there. The partition after the
+        last one is in the last topic."""
         if not self.topics:
             return [b"%d" % partition]
-        topic = max(nth for nth in range(len(self.topics)) if self.befores()[nth] <= partition)
-        return [self.topics[topic][0], b"%d" % (partition - self.befores()[topic])]
+        topic = max(nth for nth in range(len(self.topics)) if self.first_partitions()[nth] <= partition)
+        return [self.topics[topic][0], b"%d" % (partition - self.first_partitions()[topic])]
 
-    def partition(self, told: list[bytes]) -> int:
-        """The partition that is told so; one that its topic does not have is one that nobody holds."""
-        number = int(told[-1])
+    def partition(self, fields: list[bytes]) -> int:
+        """The partition of these fields; one that its topic does not have is one that nobody holds."""
+        number = int(fields[-1])
         if not self.topics:
             return number
-        topic = self.names().index(told[0])
-        return self.befores()[topic] + number if number < self.counts()[topic] else NO_PARTITION
+        topic = self.names().index(fields[0])
+        return self.first_partitions()[topic] + number if number < self.counts()[topic] else NO_PARTITION
 
 
 def random_options(rng: Random, batch: bool) -> Options:
-    """Few partitions mostly, and all of them seldom."""
+    """Random options: mostly few partitions, seldom the maximum."""
     partitions = rng.choices((rng.randint(1, 4), rng.randint(5, 17), rng.randint(63, 130), 4096), (60, 30, 9, 1))[0]
     column = rng.choices((1, 2, 3), (70, 20, 10))[0]
     batches = (0, 1, 2, 7, 500, 1_000_000)
@@ -87,7 +87,7 @@ def random_options(rng: Random, batch: bool) -> Options:
 
 
 def random_topics(rng: Random) -> tuple[tuple[bytes, int], ...]:
-    """Up to eight topics, of few partitions mostly."""
+    """Up to eight topics, mostly with few partitions."""
     names = rng.sample((b"a", b"b", b"orders", b"clicks-2", b"T", b"_", b"a-b_c", b"t" * 32), rng.choice((1, 2, 2, 3, 5, 8)))
     return tuple((name, rng.choices((rng.randint(1, 4), rng.randint(5, 40), 500), (70, 28, 2))[0]) for name in names)
 
@@ -98,18 +98,18 @@ def quoted(field: bytes) -> bytes:
 
 
 def row(*fields: bytes) -> bytes:
-    """A row as the program has to write it: quoted exactly where it must be."""
+    """A row as the program must write it: quoted only where necessary."""
     return b",".join(quoted(field) if set(field) & set(b',"\r\n') else field for field in fields) + b"\n"
 
 
 def read(text: bytes) -> list[list[bytes]]:
-    """The records of a text. Blank lines are none, and a byte order mark in front is dropped."""
+    """The records of a text. Blank lines are skipped, and so is a byte order mark at the beginning."""
     lines = io.StringIO(text.removeprefix(b"\xef\xbb\xbf").decode("latin-1"), newline="")
     return [[field.encode("latin-1") for field in record] for record in csv.reader(lines) if record]
 
 
 def record_fault(records: list[list[bytes]], options: Options) -> bytes:
-    """What is told of the first bad record, and nothing where all are good."""
+    """The fault of the first bad record, or nothing."""
     for number, record in enumerate(records, 1):
         if len(record) != len(records[0]):
             return b"fault 24 at record %d\n" % number
@@ -123,7 +123,7 @@ def record_fault(records: list[list[bytes]], options: Options) -> bytes:
 
 
 def keyed(records: list[list[bytes]], options: Options) -> list[tuple[int, bytes]]:
-    """The topics and the keys of good records, in order."""
+    """The topics and keys of good records, in order."""
     return [(topic_of(record, options), record[options.column - 1]) for record in records[options.header:]]
 
 
@@ -133,16 +133,16 @@ def topic_of(record: list[bytes], options: Options) -> int:
 
 
 def plain_rows(rows: list[list[bytes]], options: Options) -> list[list[bytes]]:
-    """Rows of topics as they are with partitions counted over all topics."""
+    """Rows with topics, rewritten with partitions counted over all topics."""
     at = {b"move": 2, b"owner": 1, b"offset": 1} if options.topics else {}
     return [[*fields[:at[fields[0]]], b"%d" % options.partition(fields[at[fields[0]]:at[fields[0]] + 2]),
              *fields[at[fields[0]] + 2:]] if fields[0] in at else fields for fields in rows]
 
 
 def topical_rows(rows: list[list[bytes]], options: Options) -> list[list[bytes]]:
-    """Plain rows as they are told of topics."""
+    """Plain rows, rewritten with topics."""
     at = {b"move": 2, b"owner": 1, b"offset": 1} if options.topics else {}
-    return [[*fields[:at[fields[0]]], *options.told(int(fields[at[fields[0]]])), *fields[at[fields[0]] + 1:]]
+    return [[*fields[:at[fields[0]]], *options.fields_of(int(fields[at[fields[0]]])), *fields[at[fields[0]] + 1:]]
             if fields[0] in at else fields for fields in rows]
 
 
@@ -161,12 +161,12 @@ def murmur2(key: bytes) -> int:
 
 
 def place(key: bytes, partitions: int) -> int:
-    """The partition that the records of a key go to."""
+    """The partition of a key."""
     return (murmur2(key) & 0x7FFFFFFF) % partitions
 
 
 def random_key(rng: Random) -> bytes:
-    """A key: mostly short, of letters or of bytes that need care."""
+    """A key: mostly short, of letters or of special bytes."""
     length = rng.choices((0, 1, rng.randint(2, 9), rng.randint(10, 40), rng.randint(41, 700)), (4, 30, 50, 14, 2))[0]
     alphabets = (b"abc0123456789", b'a,"\n\r \xff', bytes(range(256)), b"\xc3\xa4\xe2\x82\xac")
     letters = rng.choices(alphabets, (50, 25, 15, 10))[0]
@@ -174,18 +174,18 @@ def random_key(rng: Random) -> bytes:
 
 
 def random_keys(rng: Random) -> list[bytes]:
-    """Keys to draw from."""
+    """A few keys to choose from."""
     return [random_key(rng) for _ in range(rng.choice((1, 3, 12, 40)))]
 
 
 def written(rng: Random, field: bytes, alone: bool) -> bytes:
-    """A field as a careful writer writes it, who quotes sometimes without need."""
+    """A field in valid CSV, sometimes quoted without need."""
     needed = set(field) & set(b',"\r\n') or (alone and not field)
     return quoted(field) if needed or rng.random() < 0.1 else field
 
 
 def careful_file(rng: Random, options: Options, keys: list[bytes]) -> bytes:
-    """Records of a width, with line ends and blank lines of all kinds; seldom one of another width, or a long key."""
+    """Records of one width, with all kinds of line ends and blank lines; seldom one of another width, or a long key."""
     widest = max(options.column, options.topic_column if options.topics else 0)
     width = max(1, widest + rng.choices((0, 1, 2, -1), (60, 20, 17, 3))[0])
     count = rng.choices((0, rng.randint(1, 12), rng.randint(13, 60), rng.randint(61, 400)), (5, 45, 40, 10))[0]
@@ -199,7 +199,7 @@ def careful_file(rng: Random, options: Options, keys: list[bytes]) -> bytes:
         pieces.append(b",".join(written(rng, field, len(record) == 1) for field in record))
         pieces.append(end * rng.choices((1, 2), (95, 5))[0])
     if rng.random() < 0.01:
-        # The longest key there is, and one that is longer by a byte.
+        # The longest valid key, or one that is a byte longer.
         record = [b"k" * (LONGEST_KEY + rng.randint(0, 1))] * width
         if options.topics and width >= options.topic_column:
             record[options.topic_column - 1] = rng.choice(options.names())
@@ -210,11 +210,11 @@ def careful_file(rng: Random, options: Options, keys: list[bytes]) -> bytes:
 
 
 def careless_file(rng: Random) -> bytes:
-    """Bytes without a plan, most of which mean something to a reader of records."""
+    """Random bytes, most of which are special in CSV."""
     letters = rng.choice((b'ab,"\n', b'a,"\r\n\xff', b'ab"\n', b"ab\n\r"))
     return bytes(rng.choice(letters) for _ in range(rng.choice((1, 3, 8, 40, 200))))
 
 
 def random_file(rng: Random, options: Options, keys: list[bytes]) -> bytes:
-    """A file of records, of which one in six is careless."""
+    """A file of records, or with a chance of one in six one of random bytes."""
     return careless_file(rng) if rng.random() < 0.16 else careful_file(rng, options, keys)

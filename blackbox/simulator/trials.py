@@ -1,4 +1,4 @@
-"""The trials: what is run, and what its output has to be."""
+"""The trials: what is run, and what it must print."""
 
 from __future__ import annotations
 
@@ -14,19 +14,19 @@ from simulator.records import Options, read, row, topical_rows
 
 
 def check_fault(fault: bytes, outcome: Outcome) -> None:
-    """A fault is told alone, with its status."""
-    require(outcome == Outcome(b"", fault, 1), "it ends with {}, and not with {} alone", outcome, fault)
+    """A fault is printed alone, with its exit status."""
+    require(outcome == Outcome(b"", fault, 1), "it ends with {}, not with {} alone", outcome, fault)
 
 
 def check_done(outcome: Outcome) -> None:
-    """Nothing is told but the text."""
+    """There is no fault."""
     require((outcome.stderr, outcome.status) == (b"", 0), "it ends with {}, {}", outcome.status, outcome.stderr[:200])
 
 
 @dataclass(frozen=True)
 class Trial:
-    """Files, runs of the program over them, and the check of their outcomes, which tells what is broken. The options are those
-    of the last run."""
+    """Files, runs of the program over them, and the check of their outcomes, which raises `Broken`. The options are those of
+    the last run."""
 
     kind: str
     options: Options
@@ -37,7 +37,7 @@ class Trial:
 
 @dataclass(frozen=True)
 class Input:
-    """A file of records, with the options, and what is read in it: the first bad record or the keys."""
+    """A file of records with options, and what is read in it: the fault of the first bad record, or the keys."""
 
     options: Options
     pool: list[bytes]
@@ -51,12 +51,12 @@ class Input:
         return [key for _, key in self.keyed]
 
     def long_key(self) -> bytes:
-        """The fault of a key that is too long, where there is one."""
+        """The fault of a key that is too long, or nothing."""
         return b"fault 20\n" if any(len(key) > records.LONGEST_KEY for key in self.keys) else b""
 
 
 def random_input(rng: Random, batch: bool, good: bool, one_topic: bool = False) -> Input:
-    """A file with its options; one whose records are good, or of one topic, where that is asked."""
+    """A file with options; with good records or with one topic, where that is asked for."""
     while True:
         options = records.random_options(rng, batch)
         if one_topic:
@@ -71,7 +71,7 @@ def random_input(rng: Random, batch: bool, good: bool, one_topic: bool = False) 
 
 
 def count_trial(rng: Random) -> Trial:
-    """A count has the records of Python's csv and the numbers of a Counter, or the fault of the first bad record."""
+    """A count prints the counts of Python's csv and Counter, or the fault of the first bad record."""
     source = random_input(rng, batch=False, good=False)
 
     def check(outcomes: list[Outcome]) -> None:
@@ -86,7 +86,7 @@ def count_trial(rng: Random) -> Trial:
 
 
 def replay_trial(rng: Random, wild: bool) -> Trial:
-    """A replay keeps the laws, and after a last drain it ends with what a count prints."""
+    """A replay obeys the laws, and after a drain at the end it prints the counts of all records."""
     source = random_input(rng, batch=True, good=True)
     script = scripts.random_script(rng, source.options, source.pool, wild)
     lines = [line for _, line in scripts.lines_of(script)]
@@ -104,12 +104,12 @@ def replay_trial(rng: Random, wild: bool) -> Trial:
 
 
 def last_line(script: bytes) -> int:
-    """The number of the last line that says something."""
+    """The number of the last line that is not a comment."""
     return max((number for number, _ in scripts.lines_of(script)), default=0)
 
 
 def run_trial(rng: Random) -> Trial:
-    """A run prints what a replay of its plan does that settles after each line and drains at the end."""
+    """A run prints what a replay prints that settles after each line of its plan and drains at the end."""
     source = random_input(rng, batch=True, good=True)
     plan = scripts.random_plan(rng)
     script = scripts.settled_after_each(plan)
@@ -127,20 +127,20 @@ def run_trial(rng: Random) -> Trial:
 
 
 def faulty_lines(rng: Random, command: bytes, options: Options, pool: list[bytes]) -> tuple[bytes, bytes]:
-    """A script or a plan with a fault, and what is told of it."""
+    """A script or a plan with a fault, and the fault."""
     if command == b"replay":
         script = scripts.random_script(rng, options, pool, wild=True)
         bad = scripts.BAD + (scripts.BAD_AMONG_TOPICS if options.topics else [])
         spoiled, line = scripts.spoiled(rng, script, bad)
     elif rng.random() < 0.3:
-        return scripts.forsaken_plan(rng)
+        return scripts.deserted_plan(rng)
     else:
         spoiled, line = scripts.spoiled(rng, scripts.random_plan(rng), scripts.BAD + scripts.BAD_IN_PLAN)
     return spoiled, b"fault 22 at line %d\n" % line
 
 
 def fault_trial(rng: Random) -> Trial:
-    """The first fault is told, alone: of the records, then of the lines, then of the keys."""
+    """The first fault is printed alone: of the records, then of the lines, then of the keys."""
     command = rng.choice((b"replay", b"run"))
     source = random_input(rng, batch=True, good=False)
     script, fault = faulty_lines(rng, command, source.options, source.pool)
@@ -153,11 +153,11 @@ def fault_trial(rng: Random) -> Trial:
 
 
 def one_topic_trial(rng: Random) -> Trial:
-    """One topic alone gives the rows of as many partitions without one, but for its name."""
+    """A single topic gives the rows of a run without topics over the same number of partitions, except for its name."""
     source = random_input(rng, batch=True, good=True, one_topic=True)
     name, count = source.options.topics[0]
     plain = replace(source.options, partitions=count, topics=())
-    # The name of the topic makes lines longer, which may not be too long then.
+    # The name of the topic makes lines longer, and they must not get too long.
     short = [key for key in source.pool if len(key) < 200]
     command = rng.choice((b"replay", b"run"))
     script = scripts.random_script(rng, plain, short, wild=True) if command == b"replay" else scripts.random_plan(rng)

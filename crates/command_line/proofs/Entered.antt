@@ -1,4 +1,4 @@
--- The subcommand that clap entered, and what clap has tested of it.
+-- The subcommand that clap entered, and what clap has checked of it.
 use Rattle.std.proofs.Common.{◌≡◌, ◌∙◌, ◌≤◌, ◌++◌, ◌&&◌, ◌||◌, not, cond, refl, ap, ap₂, sym, subst, arith, zero, suc, ℕ, List, [], ◌∷◌, length, drop, Option, Some, None, is_some, IsSome, Bool, true, false, true≢false, codes, inl, inr}
 use Rattle.std.specs.Prelude.{⊤, ◌⊎◌, IfErr, IfOk, IsErrAnd, Result, Ok, Err, unwrap_or, option_and_then, option_map, encode_utf8, slice_get, find, fold, Box, pos}
 use Rattle.std.specs.Box.{box_value}
@@ -74,14 +74,14 @@ top_settings c0 c1 c2 c3 version h k l m =
     ap app_of_fields (m ∙ ap (λ (f : Command-F Command). record f { version = Some version }) set)
     ∙ ap (λ (a : App). record a { top = record a.top { no_binary_name = true; subcommand_required = true; has_version = true } }) h
 
--- ---- what the getters tell
+-- ---- what the getters return
 
--- a flag, from what its getter tells
+-- a flag, from what its getter returns
 pub flag_is : (o : Option Text) (given : Bool) → (o ≡ None → given ≡ false) → (o ≡ Some (codes "true") → given ≡ true) → (o ≡ Some (codes "false") → given ≡ false) → IsFlag o given
 flag_is None given n y z = n refl
 flag_is (Some t) given n y z = (λ e. y (ap Some e), λ e. z (ap Some e))
 
--- a text that clap's parser of positive numbers takes has a plus at most, and digits of a number in the range
+-- a text that clap's number parser accepts is an optional plus and the digits of a number in range
 pub unsigned_of : (most : ℕ) (t : Text) → IsSignedIn (pos 1) (pos most) t
     → IsNumeral 10 (without_leading_plus t) × (1 ≤ digits_value 10 (without_leading_plus t)) × (digits_value 10 (without_leading_plus t) ≤ most)
 unsigned_of most t passed = go (starts_with_minus t) refl
@@ -96,7 +96,7 @@ unsigned_of most t passed = go (starts_with_minus t) refl
         let high_ok = rw minus at passed.3 in
         (numeral, omega (arith, ints), omega (arith, ints))
 
--- a number that clap has tested lies in its range, as the default does
+-- a number that clap has checked is in range, as the default is
 pub number_in : (o : Option Text) (default most n : ℕ) → (1 ≤ default) × (default ≤ most) → ReadsNumber o most → IsNumber o default n → (1 ≤ n) × (n ≤ most)
 number_in None default most n fits reads is = rw is fits
 number_in (Some t) default most n fits reads is =
@@ -126,7 +126,7 @@ none_of (k ∷ ks) b e = let no : ⊥ = cc in absurd no
 some_kind : (k : ErrorKind) (ks : Kinds) → k ∷ ks ≡ [] → ⊥
 some_kind k ks e = cc
 
--- no row has the id, so that a new one goes to the end
+-- no row has the id, so a new one goes to the end
 joined : (P : Row → Type 0) (id : Text) (change : Row → List Row) (missing rows : List Row) → has_row id rows ≡ false → Each P rows → Each P missing → Each P (at_row id change missing rows)
 joined P id change missing [] e all more = more
 joined P id change missing (r ∷ rs) e all more = go (bytes_eq r.id id) e (λ f. joined P id change missing rs f all.1 more)
@@ -143,7 +143,7 @@ without_none id (r ∷ rs) e = go (bytes_eq r.id id) e (without_none id rs)
     go true e rest = absurd (true≢false e)
     go false e rest = ap (λ xs. r ∷ xs) (rest e)
 
--- a use of an argument that may not be repeated, with its first value tested, adds one row
+-- a use of an argument that may not be repeated, with its first value checked, adds one row
 set_use : (P : Row → Type 0) (a : Rule) (v : Text) (vs : List Text) (rows : List Row) → set_fault false a (v ∷ vs) rows ≡ []
     → (accepts a.ignore_case (parser_of_value a.parser) v ≡ true → P (record { id = a.id; values = v ∷ vs; count = None; source = Some CommandLine; reading = reading_by a }))
     → Each P rows → Each P (with_values a.id (reading_by a) CommandLine (v ∷ vs) (without a.id rows))
@@ -163,7 +163,7 @@ set_use P a v vs rows e row all =
     passed k true e = refl
     passed k false e = absurd (some_kind _ _ e)
 
--- the steps of a level that clap does not refuse: the walk, the subcommand below it, and the last check
+-- the steps of a level that clap accepts: the walk, the subcommand below it, and the last check
 level_parts : (s : Shape) (names : Names) (words : List Text) (has : Bool) (below : Kinds) → level_fault s names nothing_held words has below ≡ []
     → (walk_fault s names (walk_from nothing_held) words ≡ []) × (below ≡ []) × (check_fault s (rows_after s.rules names words) has ≡ [])
 level_parts s names words has below e =
@@ -174,7 +174,7 @@ level_parts s names words has below e =
     let default_ok = none_of (defaults_fault (settled s.rules end).rows s.rules) _ settle_ok.1 in
     (walk_ok.0, below_ok.0, default_ok.1)
 
--- ---- a walk that clap does not refuse keeps what each use keeps
+-- ---- an invariant of each use is one of an accepted walk
 
 module _ (P : Row → Type 0) (s : Shape) where
   abbrev Keeps : Rule → Type 0
@@ -412,7 +412,7 @@ module _ (s : Shape) (names : Names) (helps : not s.disable_help_subcommand ≡ 
       let parts = none_of _ _ e in
       walk_stop rest (walked s.rules names w word) parts.1 (turn_stop w.stopped w word parts.0 refl r)
 
--- ---- what clap has tested of the subcommands
+-- ---- what clap has checked of the subcommands
 
 abbrev keycount_built : App
 keycount_built = built keycount_app
@@ -436,7 +436,7 @@ help_shape = shape_at 3
 abbrev Named : Text → ℕ → Row → Type 0
 Named name most r = bytes_eq r.id name ≡ true → ReadsNumber (slice_get r.values 0) most
 
--- the row has a value, which is a number in the range where it is a number's row
+-- the row has a value; that of a numeric option is a number in range
 abbrev RowPasses : Row → Type 0
 RowPasses r = IsSome (slice_get r.values 0) × Named (codes "partitions") 4096 r × Named (codes "column") 65535 r × Named (codes "batch") 1000000 r
     × Named (codes "topic-column") 65535 r
@@ -450,7 +450,7 @@ replay_rule k = unwrap_or (slice_get replay_shape.rules k) (path (codes "file"))
 other : {A : Type 0} → false ≡ true → A
 other e = absurd (true≢false (sym e))
 
--- a use of a rule keeps what each row has
+-- a use of a rule adds only rows that pass
 abbrev KeepsRows : Rule → Type 0
 KeepsRows = Keeps RowPasses count_shape
 
@@ -493,7 +493,7 @@ batch_keeps (v ∷ vs) rows e r =
 help_keeps : KeepsRows (count_rule 6)
 help_keeps values rows e r = absurd (some_kind _ _ (none_of _ _ e).1)
 
--- a default adds nothing to rows that pass but rows that pass
+-- a default adds only rows that pass
 abbrev DefaultKeepsRows : Rule → Type 0
 DefaultKeepsRows = KeepsDefault RowPasses count_shape
 
@@ -601,7 +601,7 @@ replay_taken = script_taken replay_shape replay_keeps replay_defaults paths_give
 run_taken : (words : List Text) → level_fault run_shape [] nothing_held words false [] ≡ [] → TakesScript (rows_after run_shape.rules [] words)
 run_taken = script_taken run_shape replay_keeps replay_defaults paths_given
 
--- what clap has tested of the words after the subcommand of this name
+-- what clap has checked of the words after the subcommand of this name
 abbrev Takes : Text → List Row → Type 0
 Takes name rows = ((name ≡ codes "count") × TakesCount rows) ⊎ (((name ≡ codes "replay") × TakesScript rows) ⊎ ((name ≡ codes "run") × TakesScript rows))
 
@@ -619,7 +619,7 @@ not_named_help t e = go (bytes_eq (codes "help") t) refl
         let is : codes "help" ≡ t = (bytes_eq-Decides (codes "help") t).0 same in
         absurd (true≢false (ap (λ u. bytes_eq u (codes "help")) is ∙ e))
 
--- where clap does not refuse what is below it, a walk that stopped at a subcommand other than `help` stopped at that of a job
+-- an accepted walk that stopped at a subcommand other than `help` stopped at that of a job
 job_entered : (stop : Option (Text × List Text)) → StopsElsewhere stop → is_some (entered keycount_built stop) ≡ true → entered_fault keycount_built stop ≡ []
     → (name : Text) × (rows : List Row) × (entered keycount_built stop ≡ Some (name, rows)) × Takes name rows
 job_entered None help some e = absurd (true≢false (sym some))
@@ -643,7 +643,7 @@ subcommand_given : (rows : List Row) (has : Bool) → check_fault keycount_built
 subcommand_given rows true e = refl
 subcommand_given rows false e = absurd (some_kind _ _ e)
 
--- words that clap takes name a job, with what its arguments want
+-- words that clap accepts name a job, with its arguments
 pub taken_job : (words : List Text) → fault_of keycount_app words ≡ [] → (name : Text) × (rows : List Row) × (subcommand_of keycount_app words ≡ Some (name, rows)) × Takes name rows
 taken_job words e =
     let stop = (walk keycount_built.top.rules (names_of keycount_built) nothing_held words).stopped in
@@ -651,7 +651,7 @@ taken_job words e =
     let elsewhere = walk_stop keycount_built.top (names_of keycount_built) refl words (walk_from nothing_held) parts.0 tt in
     job_entered stop elsewhere (subcommand_given (matches_of keycount_app words) _ parts.2) parts.1
 
--- the answer to an error of clap's
+-- what an error of clap becomes
 pub told : (words : List Text) (usage : Usage) (e : Error) (kinds : Kinds) → kinds ≡ fault_of keycount_app words → Tells usage (kind_of e) → HasKind kinds e → IsRefusal words usage
 told words (Help text) e kinds same tells (inl memory) =
     elim tells [
@@ -667,13 +667,13 @@ told words (Bad text) e kinds same tells (inl memory) = absurd (tells.2 memory)
 told words (Bad text) e kinds same tells (inr among) = inl (kind_of e, subst (λ ks. IsAmong (kind_of e) ks) same among, tells.0, tells.1)
 told words Memory e kinds same tells has = tt
 
--- what is told of a list of topics that is none
+-- the error for a list of topics that is not valid
 pub bad_told : (rows : List Row) (usage : Usage) → IsBadList (first_of (codes "topics") rows) → IsBadListTold usage → TellsBadList rows usage
 bad_told rows (Help text) bad tells = tells
 bad_told rows (Bad text) bad tells = (bad, tells)
 bad_told rows Memory bad tells = tt
 
--- the answer to a list of topics that is none, where clap took the words
+-- the same, where clap accepted the words
 pub list_told : (words : List Text) (name : Text) (rows : List Row) (usage : Usage) → fault_of keycount_app words ≡ []
     → subcommand_of keycount_app words ≡ Some (name, rows) → TellsBadList rows usage → IsRefusal words usage
 list_told words name rows (Help text) taken found tells = absurd tells
@@ -687,7 +687,7 @@ topics_of_job rows (Count file options) has = (options.topics.items, has.1.topic
 topics_of_job rows (Replay file script options) has = (options.topics.items, has.options_are.topics)
 topics_of_job rows (Run file script options) has = (options.topics.items, has.options_are.topics)
 
--- words whose list is none give no job, and nothing else is told of them
+-- words with a bad list give no job and no other error
 pub bad_list_told : (words : List Text) (answer : Result Job Usage) → IfOk answer (IsJobOf words) → IfErr answer (IsRefusal words)
     → HaveBadList words → IsErrAnd answer IsBadListTold
 bad_list_told words (Ok job) is refusal bad =
@@ -699,7 +699,7 @@ bad_list_told words (Err (Bad text)) is (inl fault) bad = absurd (subst (λ kind
 bad_list_told words (Err (Bad text)) is (inr list) bad = list.1
 bad_list_told words (Err Memory) is refusal bad = tt
 
--- the matches of words that clap takes: the subcommand of a job, with what its arguments want
+-- the matches of words that clap accepts: the subcommand of a job, with its arguments
 pub record MatchesJob (words : List Text) (m : ArgMatches) : Type 0 where
   pub taken : fault_of keycount_app words ≡ []
   pub name : Text
@@ -722,7 +722,7 @@ matches_are command words m app found faults =
       tested = job.3;
     }
 
--- the name and the rows that two getters tell are those of the matches
+-- the name and the rows that two getters return are those of the matches
 pub told_rows : {Z : Type 0} (o : Option (Box SubCommand Z)) (wanted name : Text) (rows told_by : List Row) → subcommand_rows o ≡ Some (wanted, rows)
     → Some name ≡ option_map (λ b. (out-SubCommand (box_value b)).name.now) o → Some told_by ≡ option_map (λ p. p.1) (subcommand_rows o)
     → (wanted ≡ name) × (rows ≡ told_by)

@@ -1,4 +1,4 @@
--- Lists of topics, as they are read item by item.
+-- Lists of topics, parsed item by item.
 use Rattle.std.proofs.Common.{◌≡◌, ◌∙◌, ◌≢◌, ◌+◌, ◌<◌, ◌≤◌, refl, sym, ap, subst, ℕ, Bool, true, false, cond, ◌&&◌, Option, Some, None, Err, List, [], ◌∷◌, ◌++◌, map, length, take, drop, get_or, arith, length-append, take-append-drop}
 use Rattle.std.proofs.lemmas.Bool.Decides.{nat_tests}
 use Rattle.std.proofs.lemmas.List.{get_or_append_left, get_or_at, drop_all, drop_more, length-map, length_push}
@@ -17,7 +17,7 @@ use Rattle.script.specs.declared.topics.Topic.{Topic}
 use Rattle.command_line.specs.Private.Topics.{MayFollow, count_of}
 use Rattle.command_line.specs.Topics.{AreTopicsOf, IsBadList, is_colon, is_comma, is_count, topic_of}
 
--- no topics keep the rules of topics
+-- no topics are valid together
 pub no_topics : MayBeTopics []
 no_topics = record {
   few = omega arith;
@@ -27,7 +27,7 @@ no_topics = record {
   within = omega arith;
 }
 
--- topics and one that may follow them keep the rules of topics
+-- valid topics and one that may follow them are valid together
 pub more_known : (topics : List Topic) (topic : Topic) → MayBeTopics topics → MayFollow topics topic
     → is_name topic.name ≡ true → 1 ≤ topic.partitions → MayBeTopics (topics ++ topic ∷ [])
 more_known topics topic known follows named some = record {
@@ -38,7 +38,7 @@ more_known topics topic known follows named some = record {
   within = rw (sum_by_push (λ (t : Topic). t.partitions) topics topic) follows.within;
 }
 
--- in a list of topics each may follow those before it
+-- in a valid list each topic may follow those before it
 pub has_followed : (before : List Topic) (topic : Topic) (more : List Topic) → MayBeTopics (before ++ topic ∷ more)
     → MayFollow before topic
 has_followed before topic more known =
@@ -57,7 +57,7 @@ has_followed before topic more known =
           omega (arith, sums, rest, all);
     }
 
--- where all items of a list say something, the one after these says what comes after what these say
+-- where all items parse, the item after the first ones parses to what follows theirs
 pub said_next : {A B : Type 0} (f : A → Option B) (items : List A) (item : A) (rest : List A) (said all : List B)
     → map f items ≡ map Some said → map f (items ++ item ∷ rest) ≡ map Some all
     → (next : B) × (more : List B) × (f item ≡ Some next) × (all ≡ said ++ next ∷ more)
@@ -76,7 +76,7 @@ said_next f (a ∷ others) item rest (s ∷ ss) (b ∷ bs) e h =
     let more : bs ≡ ss ++ next.0 ∷ next.1 = next.3 in
     (next.0, next.1, next.2, cc)
 
--- a list, up to one of its elements and from it on
+-- a list split at one of its elements
 pub split_there : {X : Type 0} (all before : List X) (n : ℕ) (item : X) → before ≡ take n all
     → (n < length all) × (item ≡ get_or all n item) → all ≡ before ++ item ∷ drop (n + 1) all
 split_there all before n item so_far turn =
@@ -85,7 +85,7 @@ split_there all before n item so_far turn =
     ∙ ap (λ back. before ++ back) (drop_more all n item turn.0)
     ∙ ap (λ x. before ++ x ∷ drop (n + 1) all) (sym turn.1)
 
--- a list with an item that says nothing says no topics
+-- a list with an item that does not parse is not valid
 pub nothing_in : (list : List ℕ) (before : List (List ℕ)) (item : List ℕ) (rest : List (List ℕ)) (said : List Topic)
     → slice_split is_comma list ≡ before ++ item ∷ rest → map topic_of before ≡ map Some said → topic_of item ≡ None
     → IsBadList (Some list)
@@ -95,7 +95,7 @@ nothing_in list before item rest said there so_far none topics says =
     let no : ⊥ = cc in
     no
 
--- and neither does one with an item whose topic may not follow those before it
+-- nor is one with an item whose topic may not follow those before it
 pub no_room_in : (list : List ℕ) (before : List (List ℕ)) (item : List ℕ) (rest : List (List ℕ)) (said : List Topic) (topic : Topic)
     → slice_split is_comma list ≡ before ++ item ∷ rest → map topic_of before ≡ map Some said → topic_of item ≡ Some topic
     → (MayFollow said topic → ⊥) → IsBadList (Some list)
@@ -105,7 +105,7 @@ no_room_in list before item rest said topic there so_far is never topics says =
     let same : next.0 ≡ topic = cc in
     never (subst (λ t. MayFollow said t) same (has_followed said next.0 next.1 (subst MayBeTopics next.3 says.rules.known)))
 
--- a list has an item, and so what it says has a topic
+-- a list has an item, and so a topic
 pub some_said : (list : List ℕ) (topics : List Topic) → map topic_of (slice_split is_comma list) ≡ map Some topics
     → 1 ≤ length topics
 some_said list topics says =
@@ -122,7 +122,7 @@ no_name_or_count : (b : Bool) (topic : Topic) → cond (b && false) (Some topic)
 no_name_or_count true topic = refl
 no_name_or_count false topic = refl
 
--- what an item says has a name, and partitions
+-- a parsed topic has a valid name and number of partitions
 pub topic_said : (item : List ℕ) (topic : Topic) → topic_of item ≡ Some topic
     → (is_name topic.name ≡ true) × (1 ≤ topic.partitions) × (topic.partitions ≤ 4096)
 unfolding topic_of
@@ -141,14 +141,14 @@ topic_said item topic e =
     at true false named counts e = let no : ⊥ = cc in absurd no
     at false counted named counts e = let no : ⊥ = cc in absurd no
 
--- an item without a colon says nothing
+-- an item without a colon does not parse
 pub nothing_said : (item : List ℕ) → position_or_len is_colon item ≡ length item → topic_of item ≡ None
 unfolding topic_of
 nothing_said item e =
     let none : after_first is_colon item ≡ [] = drop_all (position_or_len is_colon item + 1) item (omega (arith, e)) in
     rw none (no_name_or_count (is_name (before_first is_colon item)) _)
 
--- the topics that the words give keep the rules of topics
+-- the topics of the words are valid together
 pub may_be_topics : (list : Option (List ℕ)) (topics : List Topic) → AreTopicsOf list topics → MayBeTopics topics
 may_be_topics None topics none = rw none no_topics
 may_be_topics (Some list) topics says = says.rules.known
@@ -157,7 +157,7 @@ refused : (b : Bool) (n : ℕ) → (b ≡ true → ⊥) → cond b (Some n) None
 refused true n never = absurd (never refl)
 refused false n never = refl
 
--- digits that are no number of 32 bits say no number of partitions
+-- digits that do not fit in 32 bits are not a number of partitions
 pub no_count : {E : Type 0} (digits : List ℕ) (e : E) → ParsesUnsigned 32 10 digits (Err e)
     → list_all is_ascii_digit digits ≡ true → count_of digits ≡ None
 no_count {E} digits e parses all =

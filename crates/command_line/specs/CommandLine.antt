@@ -19,7 +19,7 @@ use Rattle.command_line.specs.declared.options.TheConstants.{LAST_COLUMN, DEFAUL
 use Rattle.command_line.specs.Options.{AreInRange}
 use Rattle.command_line.specs.Topics.{AreTopicsOf, IsBadList}
 
--- an option that takes a number from 1 to this
+-- an option whose value is a number from 1 to `most`
 abbrev pub number_option : Text → ℕ → Rule
 number_option name most = record (new_rule name) {
   long = Some name;
@@ -28,7 +28,7 @@ number_option name most = record (new_rule name) {
   action = Some action.Set;
 }
 
--- an option that takes a text
+-- an option whose value is any text
 abbrev pub text_option : Text → Rule
 text_option name = record (new_rule name) {
   long = Some name;
@@ -40,11 +40,11 @@ text_option name = record (new_rule name) {
 abbrev pub flag : Text → Rule
 flag name = record (new_rule name) { long = Some name; action = Some action.SetTrue }
 
--- a path that has to be given
+-- a required path
 abbrev pub path : Text → Rule
 path name = record (new_rule name) { value_names = 1; required = true; action = Some action.Set }
 
--- a command with the options of all subcommands
+-- the options that all subcommands have
 abbrev pub with_options : App → App
 with_options app =
     let partitions = with_rule app (number_option (codes "partitions") MOST_PARTITIONS) in
@@ -57,7 +57,7 @@ with_options app =
 abbrev pub count_app : App
 count_app = with_options (with_rule (new_app (codes "count")) (path (codes "file")))
 
--- a command that reads a file and a script, with the options of all subcommands and a batch
+-- what `replay` and `run` have: a file, a script, the common options and `--batch`
 abbrev pub with_script : App → App
 with_script app =
     let file = with_rule app (path (codes "file")) in
@@ -72,12 +72,13 @@ replay_app = with_script (new_app (codes "replay"))
 abbrev pub run_app : App
 run_app = with_script (new_app (codes "run"))
 
--- the program without its subcommands, of which it wants one; it tells its version
+-- the program without its subcommands: it requires one, and has `--version`
 abbrev pub keycount_top : App
 keycount_top =
-    let top = new_app (codes "keycount") in
-    record top {
-      top = record top.top { no_binary_name = true; subcommand_required = true; has_version = true };
+    let app = new_app (codes "keycount") in
+    let top = app.top in
+    record app {
+      top = record top { no_binary_name = true; subcommand_required = true; has_version = true };
     }
 
 -- the program
@@ -86,18 +87,18 @@ keycount_app =
     let count = with_subcommand keycount_top count_app.top in
     with_subcommand (with_subcommand count replay_app.top) run_app.top
 
--- n is the number that a text reads as, or the default where there is none
+-- n is the number that the text denotes, or the default without one
 abbrev pub IsNumber : Option Text → ℕ → ℕ → Type 0
 IsNumber None default n = n ≡ default
 IsNumber (Some text) default n = ParsesUnsigned {E = ℕ} 32 10 text (Ok n)
 
--- a flag is as clap finds it
+-- the value of a flag
 abbrev pub IsFlag : Option Text → Bool → Type 0
 IsFlag None given = given ≡ false
 IsFlag (Some text) given =
     (text ≡ codes "true" → given ≡ true) × (text ≡ codes "false" → given ≡ false)
 
--- the options of all subcommands are those that clap found, and each is in its range
+-- the options are those that clap found, and each is within its bounds
 pub record HasOptions (rows : List Row) (options : Options) : Type 0 where
   pub partitions : IsNumber (first_of (codes "partitions") rows) 4 options.partitions
   pub column : IsNumber (first_of (codes "column") rows) 1 options.column
@@ -106,14 +107,14 @@ pub record HasOptions (rows : List Row) (options : Options) : Type 0 where
   pub topic_column : IsNumber (first_of (codes "topic-column") rows) 2 options.topic_column
   pub in_range : AreInRange options
 
--- the paths, the options and the batch of a job with a script are those that clap found
+-- the paths and options of a job with a script are those that clap found
 pub record HasScript (rows : List Row) (file script : Text) (options : Options) : Type 0 where
   pub file_is : first_of (codes "file") rows ≡ Some file
   pub script_is : first_of (codes "script") rows ≡ Some script
   pub options_are : HasOptions rows options
   pub batch : IsNumber (first_of (codes "batch") rows) DEFAULT_BATCH options.batch
 
--- the job has the files and the options that clap found; the batch of a count is the default
+-- the job has the files and options that clap found; the batch of a count is the default
 abbrev pub HasJob : List Row → Job → Type 0
 HasJob rows (Count file options) = (first_of (codes "file") rows ≡ Some file.now)
     × HasOptions rows options × (options.batch ≡ DEFAULT_BATCH)
@@ -126,25 +127,24 @@ name_of (Count file options) = codes "count"
 name_of (Replay file script options) = codes "replay"
 name_of (Run file script options) = codes "run"
 
--- the job is what the words say: clap takes them, and finds the subcommand with its files and
--- options
+-- the job that the words ask for: clap accepts them, and finds its subcommand, files and options
 pub record IsJobOf (words : List Text) (job : Job) : Type 0 where
   pub rows : List Row
   pub taken : fault_of keycount_app words ≡ []
   pub subcommand : subcommand_of keycount_app words ≡ Some (name_of job, rows)
   pub found : HasJob rows job
 
--- what the words may ask for in place of a job: help, or the version
+-- a request instead of a job: for help or for the version
 abbrev pub IsRequest : ErrorKind → Type 0
 IsRequest k = (k ≡ kind.DisplayHelp) ⊎ (k ≡ kind.DisplayVersion)
 
--- clap refuses the words, and they ask neither for help nor for the version
+-- clap rejects the words, and not for a request for help or for the version
 abbrev pub AreNotUnderstood : List Text → Type 0
 AreNotUnderstood words =
     (k : ErrorKind) × IsAmong k (fault_of keycount_app words) × (k ≢ kind.DisplayHelp)
     × (k ≢ kind.DisplayVersion)
 
--- clap takes the words, and what they give as a list of topics is none
+-- clap accepts the words, and the value of `--topics` is not a list of topics
 pub record HaveBadList (words : List Text) : Type 0 where
   pub name : Text
   pub rows : List Row
@@ -152,20 +152,21 @@ pub record HaveBadList (words : List Text) : Type 0 where
   pub subcommand : subcommand_of keycount_app words ≡ Some (name, rows)
   pub list : IsBadList (first_of (codes "topics") rows)
 
--- what is told of a list that is none
+-- the error for a list of topics that is not valid
 abbrev pub bad_topics : Text
 bad_topics = codes "bad topics\n"
 
--- a list that is none is told, if memory is there for it
+-- the list is reported as not valid, unless memory runs out
 abbrev pub IsBadListTold : Usage → Type 0
 IsBadListTold (Help text) = ⊥
 IsBadListTold (Bad text) = string_bytes text ≡ bad_topics
 IsBadListTold Memory = ⊤
 
--- Why words name no job: clap refuses them, and help and the version are told as help, another fault
--- as bad words; or it takes them, and their list of topics is none.
+-- Why there is no job: clap rejects the words (a request for help or the version becomes `Help`,
+-- any other error `Bad`), or it accepts them and the list of topics is not valid.
 abbrev pub IsRefusal : List Text → Usage → Type 0
-IsRefusal words (Help text) = (k : ErrorKind) × IsAmong k (fault_of keycount_app words) × IsRequest k
+IsRefusal words (Help text) =
+    (k : ErrorKind) × IsAmong k (fault_of keycount_app words) × IsRequest k
 IsRefusal words (Bad text) =
     AreNotUnderstood words ⊎ (HaveBadList words × (string_bytes text ≡ bad_topics))
 IsRefusal words Memory = ⊤

@@ -1,4 +1,4 @@
--- A list of topics, as the words tell one.
+-- The value of `--topics`: a list of topics.
 use Rattle.std.specs.Prelude.{◌≡◌, ℕ, ◌==◌, ◌&&◌, nat_le, Bool, if◌then◌else◌, List, [], length, map, Option, Some, None}
 use Rattle.std.specs.Char.{is_ascii_digit}
 use Rattle.std.specs.List.{after_first, before_first, list_all, slice_split}
@@ -15,8 +15,8 @@ is_comma byte = byte == 44
 abbrev pub is_colon : ℕ → Bool
 is_colon byte = byte == 58
 
--- 1 to `MOST_DIGITS` decimal digits, of a number from 1 to `MOST_PARTITIONS`; there may be zeros in
--- front
+-- 1 to `MOST_DIGITS` decimal digits of a number from 1 to `MOST_PARTITIONS`; leading zeros are
+-- allowed
 abbrev pub is_count : List ℕ → Bool
 is_count digits =
     list_all is_ascii_digit digits
@@ -25,8 +25,7 @@ is_count digits =
     && nat_le 1 (digits_value 10 digits)
     && nat_le (digits_value 10 digits) MOST_PARTITIONS
 
--- NAME:N, a topic: what stands before the first colon is its name, and what stands behind it tells
--- how many partitions it has
+-- an item NAME:N, split at its first colon: a topic of this name with N partitions
 unfoldable pub topic_of : List ℕ → Option Topic
 topic_of item =
     let name = before_first is_colon item in
@@ -35,16 +34,16 @@ topic_of item =
     then Some (record { name = name; partitions = digits_value 10 digits })
     else None
 
--- a list says topics: its items, which commas part, are these topics, and they keep their rules
+-- the list, split at its commas, is of these topics, and they are valid together
 pub record SaysTopics (list : List ℕ) (topics : List Topic) : Type 0 where
   pub items : map topic_of (slice_split is_comma list) ≡ map Some topics
   pub rules : AreTopics topics
 
--- the topics of a list, or none where no list is given
+-- the topics of a list; none without a list
 abbrev pub AreTopicsOf : Option (List ℕ) → List Topic → Type 0
 AreTopicsOf None topics = topics ≡ []
 AreTopicsOf (Some list) topics = SaysTopics list topics
 
--- a list is given that says no topics
+-- there is a list, and it is not one of topics
 abbrev pub IsBadList : Option (List ℕ) → Type 0
 IsBadList list = (topics : List Topic) → AreTopicsOf list topics → ⊥

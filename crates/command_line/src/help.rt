@@ -1,105 +1,157 @@
-//! What the help says below the options: the rows that a job prints, its faults, its statuses, and
-//! an example.
+//! What `--help` prints below the options: script lines, rows, faults, exit statuses and examples.
+//!
+//! Each sentence stands here once. `release/generate` makes the tables of the man page from what
+//! the program prints: the name of an entry begins in column 3, and its text in column 28.
 
-/// Of the program.
+/// These literals and parts, concatenated. A part is what several commands have in common.
+///
+/// `concat!` takes literals alone, so the macro replaces the parts one by one, and collects the
+/// literals in brackets.
+macro_rules! text {
+    ([$($done:literal)*]) => {
+        concat!($($done),*)
+    };
+    ([$($done:literal)*] $next:literal $($rest:tt)*) => {
+        text!([$($done)* $next] $($rest)*)
+    };
+    ($done:tt changes $($rest:tt)*) => {
+        text!($done
+            "  join NAME                a new member joins the group\n"
+            "  leave NAME               the member leaves the group\n"
+            "  lose NAME                the group removes the member, which is not notified\n"
+            $($rest)*)
+    };
+    ($done:tt comment $($rest:tt)*) => {
+        text!($done
+            "  # TEXT                   a comment; empty lines are skipped too\n"
+            $($rest)*)
+    };
+    ($done:tt rows $($rest:tt)*) => {
+        text!($done
+            "Rows, as CSV on standard output:\n"
+            $($rest)*)
+    };
+    ($done:tt move_row $($rest:tt)*) => {
+        text!($done
+            "  move,GEN,P,OLD,NEW       generation GEN moved partition P from OLD to NEW\n"
+            $($rest)*)
+    };
+    ($done:tt owner_row $($rest:tt)*) => {
+        text!($done
+            "  owner,P,NAME             the member that owns partition P at the end\n"
+            $($rest)*)
+    };
+    ($done:tt count_rows $($rest:tt)*) => {
+        text!($done
+            "  count,KEY,N              the number of records with this key; keys come in order\n"
+            "                           of first appearance\n"
+            "  total,N,N                the number of records, twice\n"
+            $($rest)*)
+    };
+    ($done:tt topics_note $($rest:tt)*) => {
+        text!($done
+            "With --topics, each P is preceded by the name of a topic, and is a partition of it.\n"
+            $($rest)*)
+    };
+    ($done:tt faults_20_and_21 $($rest:tt)*) => {
+        text!($done
+            "\nFaults, as one line on standard error; only fault 26 can come after output:\n"
+            "  fault 20                 a key is longer than 65,535 bytes\n"
+            "  fault 21                 more than 4,294,967,295 keys, or records in one partition\n"
+            $($rest)*)
+    };
+    ($done:tt fault_22 $($rest:tt)*) => {
+        text!($done
+            "  fault 22 at line N       line N is not a valid script line, or not valid at this\n"
+            "                           point of a plan\n"
+            $($rest)*)
+    };
+    ($done:tt faults_23_to_26 $($rest:tt)*) => {
+        text!($done
+            "  fault 23 at record N     record N has no such column\n"
+            "  fault 24 at record N     record N has more or fewer fields than the first record\n"
+            "  fault 25                 a file could not be opened or read\n"
+            "  fault 26                 the output could not be written completely\n"
+            $($rest)*)
+    };
+    ($done:tt faults_32_and_90 $($rest:tt)*) => {
+        text!($done
+            "  fault 32 at record N     the topic of record N is not listed in --topics\n"
+            "  fault 90                 out of memory, or a thread could not be started\n"
+            "\nExit status:\n"
+            "  0                        success\n"
+            "  1                        invalid input: faults 20 to 24, 27 and 32\n"
+            "  2                        invalid command line\n"
+            "  3                        all other faults\n"
+            $($rest)*)
+    };
+}
+
+/// Below the options of `keycount`.
 pub const AFTER_KEYCOUNT: &str = "\
-A job's rows go to standard output, a fault to standard error; 'keycount count --help' and its
-sisters tell them.
+Rows are printed on standard output, and a fault as one line on standard error. The help of a
+command lists both.
 
 Example:
   printf '21\\n4\\n21\\n' | keycount count -";
 
-/// Of `count`.
-pub const AFTER_COUNT: &str = "\
-Rows:
-  count,KEY,N              the records of a key, for each key, in order of first appearance
-  total,N,N                the records, twice
+/// Below the options of `count`.
+pub const AFTER_COUNT: &str = text!([]
+    rows count_rows
+    faults_20_and_21 faults_23_to_26 faults_32_and_90
+    "\nExample:\n"
+    "  printf '21\\n4\\nfoobar\\nabc\\n21\\n' > keys.csv\n"
+    "  keycount count keys.csv"
+);
 
-Faults ('fault CODE', before anything is printed but for 26):
-  20                       a key is longer than 65,535 bytes
-  21                       a partition has its 4,294,967,295 records, or there are as many keys
-  23 at record N           the record has no such column
-  24 at record N           the record has another number of fields than the first
-  25                       the file could not be opened or read
-  26                       the output could not be written
-  32 at record N           the topic of the record is none of --topics
-  90                       memory was refused
+/// Below the options of `replay`.
+pub const AFTER_REPLAY: &str = text!([]
+    "Lines of a script:\n"
+    changes
+    "  keep NAME                a new static member joins: its seat can be taken over\n"
+    "  return NAME              a new member takes over the seat of the static member NAME\n"
+    "  sync NAME                the member fetches its assignment\n"
+    "  rejoin NAME              the member revokes what it has to give up, and rejoins\n"
+    "  poll NAME P N            the member reads at most N records of partition P\n"
+    "  send NAME P              the member sends a commit of what it has read of partition P\n"
+    "  deliver C                commit C is delivered and answered; commits count from 1\n"
+    "  unanswered C             as deliver, but the answer is lost\n"
+    "  append KEY               a record with this key is appended\n"
+    "  settle                   the members sync and rejoin until the rebalance is complete\n"
+    "  drain                    as settle; then the members read and commit all records\n"
+    comment
+    "With --topics: poll NAME TOPIC P N, send NAME TOPIC P, append TOPIC KEY\n\n"
+    rows move_row
+    "  refused,LINE,CODE        this line of the script was refused; the script continues\n"
+    owner_row
+    "  offset,P,COMMITTED,END   the committed offset and the end offset of partition P\n"
+    "  count,KEY,N              the number of committed records with this key\n"
+    "  total,COMMITTED,ALL      the number of committed records, and of all records\n"
+    topics_note
+    faults_20_and_21 fault_22 faults_23_to_26
+    "  fault 31                 a line of the script would exceed generation 4,294,967,295\n"
+    faults_32_and_90
+    "\nExamples:\n"
+    "  printf '21\\n4\\nfoobar\\nabc\\n21\\n' > keys.csv\n"
+    "  printf 'join A\\njoin B\\nsettle\\ndrain\\n' | keycount replay keys.csv -\n"
+    "  printf '21,a\\nabc,b\\n21,b\\n4,a\\n4,b\\n' > topics.csv\n"
+    "  printf 'join A\\nsettle\\njoin B\\ndrain\\n' | keycount replay --topics a:2,b:3 topics.csv -"
+);
 
-Status: 0 done, 1 faults 20 to 24 and 32, 2 words that are not understood, 3 other faults
-
-Example:
-  printf '21\\n4\\nfoobar\\nabc\\n21\\n' > keys.csv
-  keycount count keys.csv";
-
-/// Of `replay`.
-pub const AFTER_REPLAY: &str = "\
-Lines of a script:
-  join NAME, rejoin NAME, sync NAME, leave NAME, lose NAME, poll NAME P N, send NAME P,
-  deliver C, unanswered C, append KEY, settle, drain; # begins a comment
-  keep NAME                joins as 'join' does, and keeps its place under the name
-  return NAME              a new member takes over the place that is kept under the name; refused
-                           by 33 where nobody present keeps one under it
-  With --topics: append TOPIC KEY, poll NAME TOPIC P N, send NAME TOPIC P
-
-Rows:
-  move,GEN,P,OLD,NEW       at the completion of generation GEN partition P went from OLD to NEW
-  refused,LINE,CODE        this line of the script was refused; the script goes on
-  owner,P,NAME             at the end: who is granted the partition
-  offset,P,COMMITTED,END   at the end: how many of its records are committed, and how many it has
-  count,KEY,N              at the end: how many records of the key are committed
-  total,COMMITTED,ALL      at the end: the records that are committed, and all
-  With --topics, where P is counted in its topic: move,GEN,TOPIC,P,OLD,NEW, owner,TOPIC,P,NAME,
-  offset,TOPIC,P,COMMITTED,END
-
-Faults ('fault CODE', before anything is printed but for 26):
-  20                       a key is longer than 65,535 bytes
-  21                       a partition has its 4,294,967,295 records, or there are as many keys
-  22 at line N             line N of the script is none that there is
-  23 at record N           the record has no such column
-  24 at record N           the record has another number of fields than the first
-  25                       a file could not be opened or read
-  26                       the output could not be written
-  31                       a line would pass generation 4,294,967,295
-  32 at record N           the topic of the record is none of --topics
-  90                       memory was refused
-
-Status: 0 done, 1 faults 20 to 24 and 32, 2 words that are not understood, 3 other faults
-
-Examples:
-  printf '21\\n4\\nfoobar\\nabc\\n21\\n' > keys.csv
-  printf 'join A\\njoin B\\nsettle\\ndrain\\n' | keycount replay keys.csv -
-  printf '21,a\\nabc,b\\n21,b\\n4,a\\n4,b\\n' > topics.csv
-  printf 'join A\\nsettle\\njoin B\\ndrain\\n' | keycount replay --topics a:2,b:3 topics.csv -";
-
-/// Of `run`.
-pub const AFTER_RUN: &str = "\
-Lines of a plan:
-  join NAME, leave NAME, lose NAME; # begins a comment. Somebody is there at the end.
-
-Rows, the same however the threads fall:
-  move,GEN,P,OLD,NEW       at the completion of generation GEN partition P went from OLD to NEW
-  owner,P,NAME             at the end: who is granted the partition
-  offset,P,END,END         at the end: how many records the partition has, all of them committed
-  count,KEY,N              how many records of the key were counted
-  total,N,N                the records, twice
-  With --topics, where P is counted in its topic: move,GEN,TOPIC,P,OLD,NEW, owner,TOPIC,P,NAME,
-  offset,TOPIC,P,END,END
-
-Faults ('fault CODE', before anything is printed but for 26):
-  20                       a key is longer than 65,535 bytes
-  21                       a partition has its 4,294,967,295 records, or there are as many keys
-  22 at line N             line N of the plan is none that there is, or may not come after the others
-  23 at record N           the record has no such column
-  24 at record N           the record has another number of fields than the first
-  25                       a file could not be opened or read
-  26                       the output could not be written
-  27 at line N             after line N of the plan nobody is there; 0: the plan says nothing
-  28                       what the threads shared differed from what was read
-  32 at record N           the topic of the record is none of --topics
-  90                       memory, or a thread, was refused
-
-Status: 0 done, 1 faults 20 to 24, 27 and 32, 2 words that are not understood, 3 other faults
-
-Example:
-  printf '21\\n4\\nfoobar\\nabc\\n21\\n' > keys.csv
-  printf 'join A\\njoin B\\nleave A\\n' | keycount run keys.csv -";
+/// Below the options of `run`.
+pub const AFTER_RUN: &str = text!([]
+    "Lines of a plan; at least one member must remain after each:\n"
+    changes comment
+    "\n"
+    rows move_row owner_row
+    "  offset,P,END,END         the end offset of partition P, twice: all is committed\n"
+    count_rows topics_note
+    "The rows do not depend on how the threads are scheduled.\n"
+    faults_20_and_21 fault_22 faults_23_to_26
+    "  fault 27 at line N       no member is left after line N; line 0: the plan has no join\n"
+    "  fault 28                 the result of the threads does not match file and plan\n"
+    faults_32_and_90
+    "\nExample:\n"
+    "  printf '21\\n4\\nfoobar\\nabc\\n21\\n' > keys.csv\n"
+    "  printf 'join A\\njoin B\\nleave A\\n' | keycount run keys.csv -"
+);

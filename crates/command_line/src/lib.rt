@@ -1,4 +1,9 @@
-//! The command line of keycount: words to a job.
+//! The command line: the program's arguments become a job, help, or a usage error.
+//!
+//! `read_words` returns a job exactly as clap parses the words: the subcommand with its files, and
+//! options within their bounds. Words that clap rejects never give a job, nor does a list of topics
+//! that is not valid. The text of `--help` is in `help`. Tests: `report_tests/src/words.rt`, and
+//! the rows of `blackbox/`.
 #![tactic(auto)]
 
 mod help;

@@ -2,28 +2,28 @@
 
 use script::Topic;
 
-/// How the records of a file are counted.
+/// The options of a job. The type does not check the bounds; `read_words` does.
 #[derive(Debug, Drop)]
 pub struct Options {
-    /// The partitions that the keys are spread over where there are no topics, from 1 to 4096.
+    /// The number of partitions, from 1 to 4096; unused with topics.
     pub partitions: u32,
-    /// The column of the key, counted from 1.
+    /// The column of the key, from 1 to `LAST_COLUMN`.
     pub column: u32,
-    /// Whether the first record is a header.
+    /// Whether the first record is a header, which is not counted.
     pub header: bool,
-    /// The most records of one poll.
+    /// The maximum number of records per poll, from 1 to `MOST_BATCH`.
     pub batch: u32,
-    /// The topics, each with partitions of its own; none where the records are of no topic.
+    /// The topics, each with its own partitions; empty without `--topics`.
     pub topics: Vec<Topic>,
-    /// The column of the topic, counted from 1, where there are topics.
+    /// The column of the topic, from 1 to `LAST_COLUMN`; unused without topics.
     pub topic_column: u32,
 }
 
-/// The records of one poll where the words do not say, as many as Kafka's consumers take.
+/// The default of `--batch`: that of Kafka's `max.poll.records`.
 pub const DEFAULT_BATCH: u32 = 500;
 
-/// The most records of one poll.
+/// The largest `--batch`.
 pub const MOST_BATCH: u32 = 1_000_000;
 
-/// The last column that can be named.
+/// The largest `--column` and `--topic-column`.
 pub const LAST_COLUMN: u32 = 65_535;

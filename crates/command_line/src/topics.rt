@@ -1,4 +1,4 @@
-//! Lists of topics: what the option `--topics` gives.
+//! The value of `--topics`: a list of topics.
 
 ghost use Rattle.std.specs.Prelude.{◌≡◌, ◌≤◌, ◌↔◌, IfOk, IsTrue, List, ℕ};
 ghost use Rattle.std.specs.Char.{is_ascii_digit};
@@ -12,10 +12,10 @@ use lane_words::{MOST_PARTITIONS, MOST_TOPICS};
 use script::Topic;
 use std::alloc::{AllocError, Global};
 
-/// The most digits of a number of partitions.
+/// The maximum number of digits of a number of partitions.
 const MOST_DIGITS: usize = 4;
 
-/// The topics that a list says, if it is one.
+/// Parses a list `NAME:N,NAME:N`; `None` where it is not valid.
 pub fn topics_said(alloc: Global, list: &str) -> Result<Option<Vec<Topic>>, AllocError>
     ensures { IfOk result (TellsTopics list.now) }
 {
@@ -32,7 +32,7 @@ pub fn topics_said(alloc: Global, list: &str) -> Result<Option<Vec<Topic>>, Allo
     Ok(Some(topics))
 }
 
-/// The topic that an item of a list says, if it is one.
+/// Parses an item `NAME:N`.
 #[tactic(auto, unfolding(crate::specs::Topics::topic_of))]
 fn topic_of(item: &str) -> Option<Topic>
     ensures { result ≡ topic_of item.now }
@@ -43,7 +43,7 @@ fn topic_of(item: &str) -> Option<Topic>
     Some(Topic { name, partitions })
 }
 
-/// The number of partitions that digits say, if they say one.
+/// Parses a number of partitions, from 1 to `MOST_PARTITIONS`.
 fn count_of(digits: &str) -> Option<u32>
     ensures { result ≡ count_of digits.now }
 {
@@ -63,8 +63,8 @@ fn has_digits_alone(text: &str) -> bool
     text.as_bytes().iter().all(|byte| byte.is_ascii_digit())
 }
 
-/// Whether a topic may come after these: there is room for one more, none of them has its name, and
-/// all together have no more than `MOST_PARTITIONS` partitions.
+/// Whether a topic may follow these: they are fewer than `MOST_TOPICS`, none has its name, and all
+/// together have at most `MOST_PARTITIONS` partitions.
 fn may_follow(topics: &[Topic], topic: &Topic) -> bool
     requires known { MayBeTopics topics.now }
     requires few { topic.now.partitions ≤ MOST_PARTITIONS }
@@ -82,7 +82,7 @@ fn is_new(topics: &[Topic], name: &Name) -> bool
     topics.iter().all(|topic| topic.name.text() != name.text())
 }
 
-/// How many partitions topics have.
+/// The number of partitions of all topics.
 fn partitions_in(topics: &[Topic]) -> u32
     requires { MayBeTopics topics.now }
     ensures { result ≡ partitions_in topics.now }

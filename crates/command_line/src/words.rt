@@ -1,4 +1,4 @@
-//! The words of a command line: a subcommand, its options and its files.
+//! Parses the words of a command line: a subcommand, its options and its files.
 
 ghost use Rattle.std.specs.Prelude.{◌≡◌, ◌≤◌, ◌-◌, ◌^◌, false, IfOk, IfErr, IsErrAnd, IsSome, Some, map, codes};
 ghost use Rattle.clap.specs.Words.{app_of, fault_of, first_of, found_of, kind_of, rows_of, rule_of};
@@ -18,7 +18,7 @@ use lane_words::MOST_PARTITIONS;
 use script::Topic;
 use std::alloc::{AllocError, Global};
 
-/// What the program is to do.
+/// What the program is asked to do.
 #[derive(Debug, Drop)]
 pub enum Job<'a> {
     /// Counts the keys of a file.
@@ -32,7 +32,7 @@ pub enum Job<'a> {
         script: &'a str,
         options: Options,
     },
-    /// Runs a plan over the keys of a file, by a thread for each member.
+    /// Runs a plan over the keys of a file, one thread per member.
     Run {
         file: &'a str,
         script: &'a str,
@@ -40,41 +40,40 @@ pub enum Job<'a> {
     },
 }
 
-/// Why the words name no job.
+/// Why there is no job.
 #[derive(Debug, Drop)]
 pub enum Usage {
-    /// They ask for help or for the version: the text is for standard output.
+    /// The words ask for help or for the version: the text is for standard output.
     Help(String),
-    /// They are not understood: the text is for standard error.
+    /// The words are not valid: the text is for standard error.
     Bad(String),
-    /// Memory was refused.
+    /// Out of memory.
     Memory,
 }
 
-/// The version, and the line by which `rt version` tells the kit that proved it.
+/// The version, and the line that `rt version` prints for the kit that proved it.
 const VERSION: &str = "0.1.0, proved with rattle-kit-13f logic dac8208d650f15bf";
 
-/// What the help says of the option for partitions.
-const PARTITIONS_HELP: &str =
-    "How many partitions the keys are spread over, 1 to 4096 [default: 4]";
+/// The help of `--partitions`.
+const PARTITIONS_HELP: &str = "Number of partitions, 1 to 4096 [default: 4]";
 
-/// What the help says of the option for the column.
-const COLUMN_HELP: &str = "Which column has the key, 1 to 65535 [default: 1]";
+/// The help of `--column`.
+const COLUMN_HELP: &str = "Column of the key, 1 to 65535 [default: 1]";
 
-/// What the help says of the option for topics.
-const TOPICS_HELP: &str = "1 to 8 topics, NAME:N,NAME:N, each of N partitions, at most 4096 in all";
+/// The help of `--topics`.
+const TOPICS_HELP: &str =
+    "1 to 8 topics as NAME:N,NAME:N with N partitions each, at most 4096 in all";
 
-/// What the help says of the option for the column of the topic.
-const TOPIC_COLUMN_HELP: &str =
-    "Which column has the topic, 1 to 65535, with --topics [default: 2]";
+/// The help of `--topic-column`.
+const TOPIC_COLUMN_HELP: &str = "Column of the topic, 1 to 65535; used with --topics [default: 2]";
 
-/// What is told of a list of topics that is none.
+/// The error for a list of topics that is not valid.
 const BAD_TOPICS: &str = "bad topics\n";
 
-/// What the help says of the option for the batch.
-const BATCH_HELP: &str = "The most records of one poll, 1 to 1000000 [default: 500]";
+/// The help of `--batch`.
+const BATCH_HELP: &str = "Maximum number of records per poll, 1 to 1000000 [default: 500]";
 
-/// A path that has to be given.
+/// A required path.
 fn path<'a>(alloc: Global, name: &'a str, shown: &'a str, help: &'a str) -> Arg<'a>
     ensures rule { rule_of result ≡ path name.now }
     ensures local { result.global ≡ false }
@@ -86,7 +85,7 @@ fn path<'a>(alloc: Global, name: &'a str, shown: &'a str, help: &'a str) -> Arg<
         .action(ArgAction::Set)
 }
 
-/// The file that is read.
+/// The path of the CSV file.
 fn file_path<'a>(alloc: Global) -> Arg<'a>
     ensures rule { rule_of result ≡ path (codes "file") }
     ensures local { result.global ≡ false }
@@ -95,11 +94,11 @@ fn file_path<'a>(alloc: Global) -> Arg<'a>
         alloc,
         "file",
         "FILE",
-        "The CSV file to read; - is standard input",
+        "CSV file to read; - is standard input",
     )
 }
 
-/// An option that takes a number from 1 to this.
+/// An option that takes a number from 1 to `most`.
 fn number_option<'a>(alloc: Global, name: &'a str, help: &'a str, most: u32) -> Arg<'a>
     ensures rule { rule_of result ≡ number_option name.now most }
     ensures local { result.global ≡ false }
@@ -112,7 +111,7 @@ fn number_option<'a>(alloc: Global, name: &'a str, help: &'a str, most: u32) -> 
         .action(ArgAction::Set)
 }
 
-/// The option for a list of topics.
+/// The option `--topics`.
 fn topics_option<'a>(alloc: Global) -> Arg<'a>
     ensures rule { rule_of result ≡ text_option (codes "topics") }
     ensures local { result.global ≡ false }
@@ -124,21 +123,21 @@ fn topics_option<'a>(alloc: Global) -> Arg<'a>
         .action(ArgAction::Set)
 }
 
-/// The flag that the file has a header.
+/// The flag `--header`.
 fn header_flag<'a>(alloc: Global) -> Arg<'a>
     ensures rule { rule_of result ≡ flag (codes "header") }
     ensures local { result.global ≡ false }
 {
     Arg::new(alloc, "header")
         .long("header")
-        .help("Passes over the first record")
+        .help("Skip the first record, which is a header")
         .action(ArgAction::SetTrue)
 }
 
-/// A command with one more argument, if there was memory for the command.
+/// Adds an argument to a command, if there was memory for the command.
 ///
-/// Commands are handed on as results: each `?` where a command is owned is one more way to let all
-/// of it go, which the proofs pay for. Here is the one of all arguments.
+/// Commands are passed on as results: each `?` where a command is owned is one more way to drop it,
+/// which the proofs pay for. Here is the only one for arguments.
 fn with_arg<'a>(
     command: Result<Command<'a>, AllocError>,
     arg: Arg<'a>,
@@ -150,7 +149,7 @@ fn with_arg<'a>(
     command?.arg(arg)
 }
 
-/// A command with one more subcommand, if there was memory for both.
+/// Adds a subcommand, if there was memory for both.
 fn with_subcommand<'a>(
     command: Result<Command<'a>, AllocError>,
     added: Result<Command<'a>, AllocError>,
@@ -162,7 +161,7 @@ fn with_subcommand<'a>(
     command?.subcommand(added?)
 }
 
-/// A command with the options of all subcommands.
+/// Adds the options that all subcommands have.
 fn with_options<'a>(
     alloc: Global,
     command: Result<Command<'a>, AllocError>,
@@ -185,13 +184,13 @@ fn count_command<'a>(alloc: Global) -> Result<Command<'a>, AllocError>
     ensures { IfOk result (IsCommand count_app) }
 {
     let command = Command::new(alloc, "count")
-        .about("Counts how often each key occurs in a CSV file")
+        .about("Count how often each key occurs in a CSV file")
         .after_help(AFTER_COUNT)
         .arg(file_path(alloc));
     with_options(alloc, command)
 }
 
-/// A command that reads a file and a script, with the options of all subcommands and a batch.
+/// Adds what `replay` and `run` have: a file, a script, the common options and `--batch`.
 fn with_script<'a>(
     alloc: Global,
     command: Command<'a>,
@@ -214,9 +213,9 @@ fn replay_command<'a>(alloc: Global) -> Result<Command<'a>, AllocError>
     ensures { IfOk result (IsCommand replay_app) }
 {
     let command = Command::new(alloc, "replay")
-        .about("Replays a script of members over the keys of a CSV file")
+        .about("Replay a script of group events over the keys of a CSV file")
         .after_help(AFTER_REPLAY);
-    with_script(alloc, command, "The script to replay; - is standard input")
+    with_script(alloc, command, "Script to replay; - is standard input")
 }
 
 /// The subcommand `run`.
@@ -224,21 +223,21 @@ fn run_command<'a>(alloc: Global) -> Result<Command<'a>, AllocError>
     ensures { IfOk result (IsCommand run_app) }
 {
     let command = Command::new(alloc, "run")
-        .about("Runs a plan of members over the keys of a CSV file, a thread for each member")
+        .about("Count the keys with one thread per member, while members join and leave")
         .after_help(AFTER_RUN);
     with_script(
         alloc,
         command,
-        "The plan: who joins, leaves and is lost; - is standard input",
+        "Plan of the joins and departures; - is standard input",
     )
 }
 
-/// The program without its subcommands.
+/// The program, without its subcommands.
 fn top_command<'a>(alloc: Global) -> Result<Command<'a>, AllocError>
     ensures { IfOk result (λ c. app_of c ≡ keycount_top) }
 {
     Command::new(alloc, "keycount")
-        .about("Counts the keys of a CSV file")
+        .about("Count the keys of a CSV file in a cluster whose members join and leave")
         .after_help(AFTER_KEYCOUNT)
         .no_binary_name(true)
         .subcommand_required(true)
@@ -246,7 +245,7 @@ fn top_command<'a>(alloc: Global) -> Result<Command<'a>, AllocError>
         .bin_name("keycount")
 }
 
-/// The program and its subcommands.
+/// The program, with its subcommands.
 fn keycount_command<'a>(alloc: Global) -> Result<Command<'a>, AllocError>
     ensures { IfOk result (λ c. app_of c ≡ keycount_app) }
 {
@@ -255,7 +254,7 @@ fn keycount_command<'a>(alloc: Global) -> Result<Command<'a>, AllocError>
     with_subcommand(command, run_command(alloc))
 }
 
-/// The text that an argument gives, which clap has asked for.
+/// The value of an argument that clap has required.
 fn text_of<'a>(given: &ArgMatches<'a>, id: &str) -> &'a str
     requires { IsSome (first_of id.now (rows_of (found_of given.now))) }
     ensures { first_of id.now (rows_of (found_of given.now)) ≡ Some result.now }
@@ -266,7 +265,7 @@ fn text_of<'a>(given: &ArgMatches<'a>, id: &str) -> &'a str
     text
 }
 
-/// The number that an option gives, which clap has tested.
+/// The number of an option, which clap has checked, or its default.
 fn number_of(given: &ArgMatches, id: &str, default: u32) -> u32
     requires { ReadsNumber (first_of id.now (rows_of (found_of given.now))) (2 ^ 32 - 1) }
     ensures { IsNumber (first_of id.now (rows_of (found_of given.now))) default result }
@@ -280,7 +279,7 @@ fn number_of(given: &ArgMatches, id: &str, default: u32) -> u32
     number
 }
 
-/// What is told of a list of topics that is none.
+/// The usage error for a list of topics that is not valid.
 fn bad_list(alloc: Global) -> Usage
     ensures { IsBadListTold result }
 {
@@ -290,7 +289,7 @@ fn bad_list(alloc: Global) -> Usage
     }
 }
 
-/// The topics that an option gives, none where it is not given.
+/// The topics of `--topics`; none without the option.
 fn topics_of(alloc: Global, given: &ArgMatches) -> Result<Vec<Topic>, Usage>
     ensures topics { let list = first_of (codes "topics") (rows_of (found_of given.now)) in
         IfOk result (λ topics. AreTopicsOf list topics.items) }
@@ -306,7 +305,7 @@ fn topics_of(alloc: Global, given: &ArgMatches) -> Result<Vec<Topic>, Usage>
     }
 }
 
-/// The options of all subcommands, from what clap found, with this batch.
+/// The options of a job, from what clap found, with this batch.
 fn options_of(alloc: Global, given: &ArgMatches, batch: u32) -> Result<Options, Usage>
     requires tested { TakesOptions (rows_of (found_of given.now)) }
     requires batch { (1 ≤ batch) × (batch ≤ MOST_BATCH) }
@@ -325,7 +324,7 @@ fn options_of(alloc: Global, given: &ArgMatches, batch: u32) -> Result<Options, 
     })
 }
 
-/// The job of `count`, from what clap found after it.
+/// The job of `count`, from what clap found.
 fn count_job<'a>(alloc: Global, given: &ArgMatches<'a>) -> Result<Job<'a>, Usage>
     requires { TakesCount (rows_of (found_of given.now)) }
     ensures job { IfOk result (IsJobOfRows (codes "count") (rows_of (found_of given.now))) }
@@ -336,7 +335,7 @@ fn count_job<'a>(alloc: Global, given: &ArgMatches<'a>) -> Result<Job<'a>, Usage
     Ok(Job::Count { file, options })
 }
 
-/// The paths and the options of a job with a script, from what clap found.
+/// The paths and options of a job with a script, from what clap found.
 fn scripted<'a>(alloc: Global, given: &ArgMatches<'a>) -> Result<(&'a str, &'a str, Options), Usage>
     requires { TakesScript (rows_of (found_of given.now)) }
     ensures script { IfOk result
@@ -350,7 +349,7 @@ fn scripted<'a>(alloc: Global, given: &ArgMatches<'a>) -> Result<(&'a str, &'a s
     Ok((file, script, options))
 }
 
-/// The job of `replay`, from what clap found after it.
+/// The job of `replay`, from what clap found.
 fn replay_job<'a>(alloc: Global, given: &ArgMatches<'a>) -> Result<Job<'a>, Usage>
     requires { TakesScript (rows_of (found_of given.now)) }
     ensures job { IfOk result (IsJobOfRows (codes "replay") (rows_of (found_of given.now))) }
@@ -364,7 +363,7 @@ fn replay_job<'a>(alloc: Global, given: &ArgMatches<'a>) -> Result<Job<'a>, Usag
     })
 }
 
-/// The job of `run`, from what clap found after it.
+/// The job of `run`, from what clap found.
 fn run_job<'a>(alloc: Global, given: &ArgMatches<'a>) -> Result<Job<'a>, Usage>
     requires { TakesScript (rows_of (found_of given.now)) }
     ensures job { IfOk result (IsJobOfRows (codes "run") (rows_of (found_of given.now))) }
@@ -378,7 +377,7 @@ fn run_job<'a>(alloc: Global, given: &ArgMatches<'a>) -> Result<Job<'a>, Usage>
     })
 }
 
-/// What is answered to an error of clap's.
+/// What an error of clap becomes.
 fn usage_of(alloc: Global, error: Error) -> Usage
     ensures { Tells result (kind_of error) }
 {
@@ -393,10 +392,11 @@ fn usage_of(alloc: Global, error: Error) -> Usage
     }
 }
 
-/// Reads the words after the program's name. A job comes only of words that clap takes and whose list
-/// of topics is one, help and the version only where they ask for one of them, and `Bad` only where
-/// they have another fault, or where clap takes them and their list is none: that is told as
-/// `bad topics`, and never gives a job.
+/// Parses the words after the program's name.
+///
+/// Errors: `Help` only where the words ask for help or for the version; `Bad` only where clap
+/// rejects them for another reason, or accepts them and the value of `--topics` is not a list of
+/// topics (the text is then `bad topics`); `Memory` where memory runs out.
 pub fn read_words<'a>(alloc: Global, words: &'a [&'a str]) -> Result<Job<'a>, Usage>
     ensures job { IfOk result (IsJobOf (map (λ w. w.now) words.now)) }
     ensures usage { IfErr result (IsRefusal (map (λ w. w.now) words.now)) }

@@ -392,16 +392,14 @@ fn is_asked(alloc: Global, words: &[&str], begin: &str, end: &str) -> bool {
     is_text(&answer, begin, end)
 }
 
-/// Words that ask for help, with how its text begins and ends.
-const HELPS: [(&[&str], &str, &str); 4] = [
-    (&["--help"], "Counts the keys of a CSV file", AFTER_KEYCOUNT),
-    (&["-h"], "Counts the keys of a CSV file", AFTER_KEYCOUNT),
-    (
-        &["help", "count"],
-        "Counts how often each key occurs in a CSV file",
-        AFTER_COUNT,
-    ),
-    (&["run", "-h"], "Runs a plan of members", AFTER_RUN),
+/// Words that ask for help, with how its text begins and ends. The rows of blackbox have it whole.
+const HELPS: [(&[&str], &str, &str); 6] = [
+    (&["--help"], "Count the keys of a CSV file", AFTER_KEYCOUNT),
+    (&["-h"], "Count the keys of a CSV file", AFTER_KEYCOUNT),
+    (&["help", "count"], "Count how often", AFTER_COUNT),
+    (&["count", "--help"], "Count how often", AFTER_COUNT),
+    (&["replay", "--help"], "Replay a script", AFTER_REPLAY),
+    (&["run", "-h"], "Count the keys with one thread", AFTER_RUN),
 ];
 
 #[test]
@@ -422,71 +420,4 @@ fn the_version_names_the_kit(rt: HostRuntime) {
 #[test]
 fn a_job_has_no_version(rt: HostRuntime) {
     assert!(rt; are_bad(rt.alloc(), &["count", "--version"]));
-}
-
-#[test]
-fn help_lists_the_arguments(rt: HostRuntime) {
-    let wanted = "Counts how often each key occurs in a CSV file
-
-Usage: keycount count [OPTIONS] <FILE>
-
-Arguments:
-  <FILE>  The CSV file to read; - is standard input
-
-Options:
-      --partitions <N>    How many partitions the keys are spread over, 1 to 4096 [default: 4]
-      --column <N>        Which column has the key, 1 to 65535 [default: 1]
-      --header            Passes over the first record
-      --topics <LIST>     1 to 8 topics, NAME:N,NAME:N, each of N partitions, at most 4096 in all
-      --topic-column <N>  Which column has the topic, 1 to 65535, with --topics [default: 2]
-  -h, --help              Print help
-
-";
-    assert!(rt; is_asked(rt.alloc(), &["count", "--help"], wanted, AFTER_COUNT));
-}
-
-#[test]
-fn help_of_a_replay_lists_the_arguments(rt: HostRuntime) {
-    let wanted = "Replays a script of members over the keys of a CSV file
-
-Usage: keycount replay [OPTIONS] <FILE> <SCRIPT>
-
-Arguments:
-  <FILE>    The CSV file to read; - is standard input
-  <SCRIPT>  The script to replay; - is standard input
-
-Options:
-      --partitions <N>    How many partitions the keys are spread over, 1 to 4096 [default: 4]
-      --column <N>        Which column has the key, 1 to 65535 [default: 1]
-      --header            Passes over the first record
-      --topics <LIST>     1 to 8 topics, NAME:N,NAME:N, each of N partitions, at most 4096 in all
-      --topic-column <N>  Which column has the topic, 1 to 65535, with --topics [default: 2]
-      --batch <N>         The most records of one poll, 1 to 1000000 [default: 500]
-  -h, --help              Print help
-
-";
-    assert!(rt; is_asked(rt.alloc(), &["replay", "--help"], wanted, AFTER_REPLAY));
-}
-
-#[test]
-fn help_of_a_run_lists_the_arguments(rt: HostRuntime) {
-    let wanted = "Runs a plan of members over the keys of a CSV file, a thread for each member
-
-Usage: keycount run [OPTIONS] <FILE> <SCRIPT>
-
-Arguments:
-  <FILE>    The CSV file to read; - is standard input
-  <SCRIPT>  The plan: who joins, leaves and is lost; - is standard input
-
-Options:
-      --partitions <N>    How many partitions the keys are spread over, 1 to 4096 [default: 4]
-      --column <N>        Which column has the key, 1 to 65535 [default: 1]
-      --header            Passes over the first record
-      --topics <LIST>     1 to 8 topics, NAME:N,NAME:N, each of N partitions, at most 4096 in all
-      --topic-column <N>  Which column has the topic, 1 to 65535, with --topics [default: 2]
-      --batch <N>         The most records of one poll, 1 to 1000000 [default: 500]
-  -h, --help              Print help
-
-";
-    assert!(rt; is_asked(rt.alloc(), &["run", "--help"], wanted, AFTER_RUN));
 }

@@ -1,4 +1,4 @@
--- What clap has tested of the words, and how its errors are told.
+-- What clap has checked of the words, and what its errors become.
 use Rattle.std.specs.Prelude.{◌≡◌, ℕ, List, Option, Some, None, codes, false, ⊤, ◌≢◌, IsSome, pos, string_bytes}
 use Rattle.clap.specs.Simple.{App, app_of}
 use Rattle.clap.specs.Values.{IsSignedIn}
@@ -15,47 +15,46 @@ use Rattle.command_line.specs.declared.words.Usage.{Usage}
 use Rattle.command_line.specs.declared.words.Usage.TheVariants.{Help, Bad, Memory}
 use Rattle.command_line.specs.declared.options.TheConstants.{LAST_COLUMN, MOST_BATCH}
 
--- a text, if there is one, is a number from 1 to this
+-- the text, if there is one, denotes a number from 1 to `most`
 abbrev pub ReadsNumber : Option Text → ℕ → Type 0
 ReadsNumber None most = ⊤
 ReadsNumber (Some text) most = IsSignedIn (pos 1) (pos most) text
 
--- what clap has tested of the options of all subcommands
+-- what clap has checked of the options of all subcommands
 pub record TakesOptions (rows : List Row) : Type 0 where
   pub partitions : ReadsNumber (first_of (codes "partitions") rows) MOST_PARTITIONS
   pub column : ReadsNumber (first_of (codes "column") rows) LAST_COLUMN
   pub topic_column : ReadsNumber (first_of (codes "topic-column") rows) LAST_COLUMN
 
--- what clap has tested of the words after `count`
+-- what clap has checked of the words after `count`
 pub record TakesCount (rows : List Row) : Type 0 where
   pub file : IsSome (first_of (codes "file") rows)
   pub options : TakesOptions rows
 
--- what clap has tested of the words after `replay` or `run`
+-- what clap has checked of the words after `replay` or `run`
 pub record TakesScript (rows : List Row) : Type 0 where
   pub file : IsSome (first_of (codes "file") rows)
   pub script : IsSome (first_of (codes "script") rows)
   pub options : TakesOptions rows
   pub batch : ReadsNumber (first_of (codes "batch") rows) MOST_BATCH
 
--- a command is read as this one, and has no global argument
+-- clap parses by this command as by `app`, and it has no global argument
 pub record IsCommand (app : App) (c : Command) : Type 0 where
   pub read_as : app_of c ≡ app
   pub local : (out-Command c).has_globals ≡ false
 
--- the answer to an error of clap's: help and the version are told as help, another fault as bad
--- words
+-- what an error of clap becomes: a request for help or for the version `Help`, any other `Bad`
 abbrev pub Tells : Usage → ErrorKind → Type 0
 Tells (Help text) k = IsRequest k
 Tells (Bad text) k =
     (k ≢ kind.DisplayHelp) × (k ≢ kind.DisplayVersion) × (k ≢ kind.OutOfMemory)
 Tells Memory k = ⊤
 
--- the job of the subcommand of this name has the files and the options that clap found
+-- the job of the subcommand of this name, with the files and options that clap found
 abbrev pub IsJobOfRows : Text → List Row → Job → Type 0
 IsJobOfRows name rows job = (name_of job ≡ name) × HasJob rows job
 
--- a list of topics that is none is told, and only where the one that clap found is none
+-- a list of topics is reported as not valid only where the one that clap found is not
 abbrev pub TellsBadList : List Row → Usage → Type 0
 TellsBadList rows (Help text) = ⊥
 TellsBadList rows (Bad text) =

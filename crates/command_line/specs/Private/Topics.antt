@@ -1,4 +1,4 @@
--- Lists of topics, as they are read item by item.
+-- Lists of topics, parsed item by item.
 use Rattle.std.specs.Prelude.{◌≢◌, ℕ, ◌+◌, ◌<◌, ◌≤◌, if◌then◌else◌, List, length, Option, Some, None, Vec}
 use Rattle.std.specs.Global.{Global}
 use Rattle.std.specs.List.{All}
@@ -8,7 +8,7 @@ use Rattle.script.specs.Topics.{partitions_in}
 use Rattle.script.specs.declared.topics.Topic.{Topic}
 use Rattle.command_line.specs.Topics.{is_count, IsBadList, SaysTopics}
 
--- the number of partitions that digits say
+-- the number of partitions that the digits denote
 abbrev pub count_of : List ℕ → Option ℕ
 count_of digits = if is_count digits then Some (digits_value 10 digits) else None
 
@@ -16,13 +16,13 @@ count_of digits = if is_count digits then Some (digits_value 10 digits) else Non
 abbrev pub IsNew : List Topic → List ℕ → Type 0
 IsNew topics name = All (λ topic. topic.name ≢ name) topics
 
--- a topic may come after these
+-- the topic may follow these in a list
 pub record MayFollow (topics : List Topic) (topic : Topic) : Type 0 where
   pub room : length topics < MOST_TOPICS
   pub named : IsNew topics topic.name
   pub within : partitions_in topics + topic.partitions ≤ MOST_PARTITIONS
 
--- the topics are those that the list says, and there are none where it says none
+-- the topics of the list, or `None` where it is not valid
 abbrev pub TellsTopics : List ℕ → Option (Vec Topic Global) → Type 0
 TellsTopics list None = IsBadList (Some list)
 TellsTopics list (Some topics) = SaysTopics list topics.items
