@@ -6,7 +6,7 @@ use Rattle.sticky_assignor.specs.Balanced.{IsBalanced}
 use Rattle.group_machine.specs.declared.group.Seat.{Seat}
 use Rattle.group_machine.specs.declared.group.Phase.TheVariants.{Empty, Preparing, Stable}
 use Rattle.group_machine.specs.State.{GroupState, member_of, members, is_present, is_joined, granted_of, assigned_of, is_anybody, last_holder}
-use Rattle.group_machine.specs.Rounds.{is_settled}
+use Rattle.group_machine.specs.Settled.{is_settled}
 
 -- within the limits of partitions and of members over all, with a last holder or none for each
 -- partition
@@ -34,12 +34,6 @@ AllFit g = (m : ℕ) (seat : Seat) → member_of g m ≡ Some seat → IsFit g.p
 -- whoever is granted a partition is its last holder
 abbrev pub IsHeldByLast : GroupState → Type 0
 IsHeldByLast g = (m q : ℕ) → is_in (granted_of g m) q ≡ true → last_holder g q ≡ Some m
-
--- within the limits, no partition is granted twice, and each member's sets are fit
-pub record IsSound (g : GroupState) : Type 0 where
-  pub sized : IsSized g
-  pub apart : IsApart g
-  pub fit : AllFit g
 
 -- each member's granted set is balanced with the others'
 abbrev pub IsGrantBalanced : GroupState → Type 0

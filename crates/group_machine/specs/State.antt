@@ -1,5 +1,5 @@
 -- What contracts see of a group.
-use Rattle.std.specs.Prelude.{◌≡◌, ℕ, ◌+◌, ◌<◌, zero, suc, Bool, false, List, [], ◌∷◌, Option, Some, None, is_some, map, replicate, slice_index_or, slice_get, ◌&&◌, if◌then◌else◌}
+use Rattle.std.specs.Prelude.{ℕ, ◌+◌, zero, suc, Bool, false, List, [], ◌∷◌, Option, Some, None, is_some, replicate, slice_index_or, slice_get, ◌&&◌, if◌then◌else◌}
 use Rattle.std.specs.List.{position}
 use Rattle.std.specs.Option.{option_map, option_map_or, option_or}
 use Rattle.std.specs.Str.{bytes_eq}
@@ -10,7 +10,7 @@ use Rattle.group_machine.specs.declared.group.Seat.{Seat}
 use Rattle.group_machine.specs.declared.group.Move.{Move}
 use Rattle.group_machine.specs.declared.group.Phase.{Phase}
 use Rattle.group_machine.specs.declared.group.Phase.TheVariants.{Empty}
-use Rattle.group_machine.specs.Slots.{seat_of, present, members_in, granted_in, owner_in, is_anybody_in}
+use Rattle.group_machine.specs.Slots.{seat_of, members_in, granted_in, owner_in, is_anybody_in}
 
 -- A group: its generation, its phase, how many partitions there are, the members by their numbers,
 -- for each partition the member that was last granted it, and the moves so far
@@ -85,13 +85,6 @@ assigned_of g member = seat_assigned g.partitions (member_of g member)
 abbrev pub granted_rows : GroupState → SetRows
 granted_rows g = granted_in g.partitions g.slots
 
--- what each present member is to keep
-abbrev pub assigned_rows : GroupState → SetRows
-assigned_rows g = record {
-  partitions = g.partitions;
-  rows = map (λ m. (m.0, m.1.assigned)) (present g.slots);
-}
-
 -- the present member that is granted a partition
 abbrev pub owner_of : GroupState → ℕ → Option ℕ
 owner_of g q = owner_in g.slots q
@@ -108,10 +101,6 @@ name_at slots (suc k) = option_map (λ s. s.name) (slice_get slots k)
 abbrev pub name_of : GroupState → ℕ → Option (List ℕ)
 name_of g member = name_at g.slots member
 
--- all names that were given, in the order of their numbers
-abbrev pub names : GroupState → List (List ℕ)
-names g = map (λ s. s.name) g.slots
-
 -- the number of the last slot with a name, of those from number m on
 abbrev pub number_from : ℕ → List Slot → List ℕ → Option ℕ
 number_from m [] name = None
@@ -125,13 +114,6 @@ number_in slots name = number_from 1 slots name
 -- where it was given to nobody
 abbrev pub member_named : GroupState → List ℕ → Option ℕ
 member_named g name = number_in g.slots name
-
--- a name has a number, is the name of that number, and of no later one
-pub record HasNumber (g : GroupState) (name : List ℕ) : Type 0 where
-  pub index : ℕ
-  pub number : member_named g name ≡ Some (index + 1)
-  pub named : slice_get (names g) index ≡ Some name
-  pub newest : (later : ℕ) → index < later → slice_get (names g) later ≡ Some name → ⊥
 
 -- a slot is of a present member that keeps its place under this name
 abbrev pub is_kept_as : List ℕ → Slot → Bool

@@ -16,7 +16,7 @@ use Rattle.group_machine.specs.Slots.{is_anybody_in, one_changed, without_seat}
 use Rattle.group_machine.specs.State.{GroupState, member_of, granted_of, is_present, kept_member}
 use Rattle.group_machine.specs.Moves.{held_by}
 use Rattle.group_machine.specs.Completion.{is_over, completed}
-use Rattle.group_machine.specs.Rounds.{is_stable, agrees}
+use Rattle.group_machine.specs.Settled.{is_stable, agrees}
 
 -- the answer of a step, unless its completion would pass the last generation
 abbrev pub unless_over : {A : Type 0} → GroupState → A → Result A Refusal

@@ -5,7 +5,7 @@ ghost use Rattle.std.specs.List.{sum};
 ghost use Rattle.lane_words.specs.Answers.{Answers};
 ghost use Rattle.group_machine.specs.State.{assigned_of, granted_of, is_joined, is_kept, is_present, is_synced, member_named, member_of, members, name_of, opening, owner_of};
 ghost use Rattle.group_machine.specs.Steps.{join_answer, joined_by, joined_kept_by, leave_answer, left_by, rejoin_answer, rejoined_by, synced_by, take_over_answer, taken_over_by};
-ghost use Rattle.group_machine.specs.Rounds.{is_settled};
+ghost use Rattle.group_machine.specs.Settled.{is_settled};
 ghost use Rattle.group_machine.specs.Cluster.{AreCounts, AreLogsOf, ClusterState, GrowByRecords, IsDue, IsOfTopic, IsPlaceOf, IsValidCluster, answer_at, append_answer, appended_at, appended_to, cluster_commit_answer, cluster_sync_answer, committed_at, committed_by, fence, of_first, place_in, with_group, without_room};
 
 use crate::commit::Commit;

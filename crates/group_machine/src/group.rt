@@ -6,7 +6,7 @@ ghost use Rattle.lane_words.specs.Answers.{Answers};
 ghost use Rattle.bit_planes.specs.PartitionSet.{is_same};
 ghost use Rattle.group_machine.specs.State.{opening, is_present, member_of, is_anybody};
 ghost use Rattle.group_machine.specs.Completion.{complete, completed};
-ghost use Rattle.group_machine.specs.Rounds.{is_settled, is_stable};
+ghost use Rattle.group_machine.specs.Settled.{is_settled, is_stable};
 ghost use Rattle.group_machine.specs.Steps.{newcomer, join_answer, joined_by, joined_kept_by, handing_on, take_over_answer, taken_over_by, rejoin_refusal, rejoin_answer, rejoined_by, sync_answer, synced_by, leave_answer, left_by};
 ghost use Rattle.group_machine.specs.Good.{IsValidGroup};
 ghost use Rattle.group_machine.specs.Private.Changes.{after, HasRoom, IsChanged, IsCompletion, IsLeasable, IsPlanned, IsRefused};

@@ -7,7 +7,7 @@ ghost use Rattle.std.specs.Str.{bytes_eq};
 ghost use Rattle.group_machine.specs.Slots.{is_anybody_in, seat_of, one_changed, without_seat};
 ghost use Rattle.group_machine.specs.Steps.{handed_seat, kept_seat, phase_left, rejoined_seat, synced_seat};
 ghost use Rattle.group_machine.specs.State.{is_kept_as};
-ghost use Rattle.group_machine.specs.Rounds.{agrees};
+ghost use Rattle.group_machine.specs.Settled.{agrees};
 ghost use Rattle.group_machine.specs.Private.Walks.{AreSeatsOver};
 
 use super::{Phase, Seat, Slot};
