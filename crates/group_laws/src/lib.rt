@@ -1,6 +1,6 @@
 //! Laws of the consumer group: theorems about any sequence of its steps, for the crates above.
 //!
-//! `group_machine` proves each step against its definition and shows that a valid group stays valid.
+//! `group_machine` proves each step against its definition, and that a valid group stays valid.
 //! This crate states what follows from those definitions. No law has code: each is a function
 //! without a body, whose contract is the law.
 //!

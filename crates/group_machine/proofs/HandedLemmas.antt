@@ -205,7 +205,7 @@ handed_settled g name m here =
     ∙ ap (λ xs. list_all {X = ℕ × Seat} (λ r. agrees r.1) xs) (sym sp.all))
 
 -- the members before and after it: one is taken out, and its successor is the last
-record IsHandedList (g : GroupState) (name : List ℕ) (m : ℕ) : Type 0 where
+pub record IsHandedList (g : GroupState) (name : List ℕ) (m : ℕ) : Type 0 where
   pub front : List ℕ
   pub behind : List ℕ
   pub was : members g ≡ front ++ m ∷ behind
