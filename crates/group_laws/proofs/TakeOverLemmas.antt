@@ -76,7 +76,7 @@ handed_on g name m kept =
         present = handed_has is_some (λ x. refl) g name m ∙ here;
         unsynced = ap seat_synced (handed_new g name m) ∙ not_synced (member_of g m);
       };
-      place = record {
+      seat = record {
         was_present = here;
         gone = ap is_some (handed_gone g name m here);
         named = named_new g name m ∙ sym k.named;

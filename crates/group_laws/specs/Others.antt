@@ -1,11 +1,11 @@
--- What a step leaves of the members that it is not about.
+-- What a step preserves of the members that it is not about.
 use Rattle.std.specs.Prelude.{◌≡◌, ℕ, ◌+◌, ◌≤◌, ◌⊎◌, true, false, Ok}
 use Rattle.bit_planes.specs.PartitionSet.{PartitionSet, is_in}
 use Rattle.group_machine.specs.State.{GroupState, member_of, is_present, is_joined, is_synced, is_kept, granted_of, assigned_of, name_of}
 use Rattle.group_machine.specs.Good.{IsValidGroup}
 use Rattle.group_machine.specs.Steps.{rejoin_answer}
 
--- a member is as it was, in the generation as it was
+-- a member is unchanged, in the same generation
 pub record IsAsBefore (old new : GroupState) (n : ℕ) : Type 0 where
   pub generation : new.generation ≡ old.generation
   pub joined : is_joined new n ≡ is_joined old n
@@ -13,33 +13,33 @@ pub record IsAsBefore (old new : GroupState) (n : ℕ) : Type 0 where
   pub granted : granted_of new n ≡ granted_of old n
   pub assigned : assigned_of new n ≡ assigned_of old n
 
--- the next generation was completed, in which a member has neither joined nor synced yet
+-- the next generation is complete, and in it a member has neither joined nor synced yet
 pub record IsInNextGeneration (old new : GroupState) (n : ℕ) : Type 0 where
   pub generation : new.generation ≡ old.generation + 1
   pub joined : is_joined new n ≡ false
   pub synced : is_synced new n ≡ false
 
--- a member is present as it was, is granted all that it was granted, and is as it was or in the
--- next generation
+-- a member is present if it was, is granted at least what it was granted, and is unchanged or in
+-- the next generation
 pub record LeavesMember (old new : GroupState) (n : ℕ) : Type 0 where
   pub present : is_present new n ≡ is_present old n
   pub granted : (q : ℕ) → is_in (granted_of old n) q ≡ true → is_in (granted_of new n) q ≡ true
   pub either : IsAsBefore old new n ⊎ IsInNextGeneration old new n
 
--- a step that is about one member leaves each other, and the generation never falls
+-- a step about one member preserves all others, and never lowers the generation
 pub record LeavesOthers (old new : GroupState) (about : ℕ) : Type 0 where
   pub partitions : new.partitions ≡ old.partitions
   pub rises : old.generation ≤ new.generation
   pub others : (n : ℕ) → (n ≡ about → ⊥) → LeavesMember old new n
 
--- a member that joined: it was not there, it is present now, and it has not synced
+-- a member that is new: it was not present, it is present now, and it has not synced
 pub record IsNewcomer (old new : GroupState) (n : ℕ) : Type 0 where
   pub new_number : is_present old n ≡ false
   pub present : is_present new n ≡ true
   pub unsynced : is_synced new n ≡ false
 
--- the member n has the place of m, which is gone, under the same name: it has joined where m had,
--- and is granted and is to keep what m was
+-- the static member n has the seat of m, which is gone, under the same name: it has joined if m
+-- had, and is granted and assigned what m was
 pub record HasPlaceOf (old new : GroupState) (m n : ℕ) : Type 0 where
   pub was_present : is_present old m ≡ true
   pub gone : is_present new m ≡ false
@@ -49,13 +49,13 @@ pub record HasPlaceOf (old new : GroupState) (m n : ℕ) : Type 0 where
   pub granted : granted_of new n ≡ granted_of old m
   pub assigned : assigned_of new n ≡ assigned_of old m
 
--- the place of m was handed on to n, which is new, and each other member is as it was, in the
--- generation as it was
+-- the seat of m was handed on to n, which is new, and all other members are unchanged, in the same
+-- generation
 pub record IsHandedOn (old new : GroupState) (m n : ℕ) : Type 0 where
   pub partitions : new.partitions ≡ old.partitions
   pub generation : new.generation ≡ old.generation
   pub newcomer : IsNewcomer old new n
-  pub place : HasPlaceOf old new m n
+  pub seat : HasPlaceOf old new m n
   pub others : (k : ℕ) → (k ≡ m → ⊥) → (k ≡ n → ⊥) → member_of new k ≡ member_of old k
 
 -- a rejoin that is accepted, in a valid group
@@ -64,8 +64,7 @@ pub record IsAcceptedRejoin
   pub valid : IsValidGroup g
   pub accepted : rejoin_answer g member generation claim ≡ Ok tt
 
--- a member has joined again, in the generation as it was: it is granted what it was to keep, and no
--- more
+-- a member has rejoined in the same generation, and is granted exactly what it was assigned
 pub record HasRejoined (old new : GroupState) (n : ℕ) : Type 0 where
   pub generation : new.generation ≡ old.generation
   pub joined : is_joined new n ≡ true
@@ -73,14 +72,14 @@ pub record HasRejoined (old new : GroupState) (n : ℕ) : Type 0 where
   pub granted : granted_of new n ≡ assigned_of old n
   pub assigned : assigned_of new n ≡ assigned_of old n
 
--- a member that rejoined is granted what it was to keep, and has joined or is in the next
+-- a member that rejoined is granted at least what it was assigned, and has joined or is in the next
 -- generation
 pub record LeavesRejoined (old new : GroupState) (n : ℕ) : Type 0 where
   pub present : is_present new n ≡ true
   pub granted : (q : ℕ) → is_in (assigned_of old n) q ≡ true → is_in (granted_of new n) q ≡ true
   pub either : HasRejoined old new n ⊎ IsInNextGeneration old new n
 
--- a member that synced: it has synced now, and all else of it is as it was
+-- a member that synced: it has synced now, and is otherwise unchanged
 pub record LeavesSynced (old new : GroupState) (n : ℕ) : Type 0 where
   pub present : is_present new n ≡ is_present old n
   pub generation : new.generation ≡ old.generation

@@ -1,4 +1,4 @@
--- Where a rebalance ends.
+-- The result of a rebalance, by rounds.
 use Rattle.std.specs.Prelude.{map, false, if◌then◌else◌}
 use Rattle.bit_planes.specs.SetRows.{SetRows}
 use Rattle.group_machine.specs.declared.group.Seat.{Seat}
@@ -8,13 +8,13 @@ use Rattle.group_machine.specs.Slots.{present, each_changed}
 use Rattle.group_machine.specs.Completion.{complete}
 use Rattle.group_machine.specs.Settled.{is_settled}
 
--- within the limits, no partition is granted twice, and each member's sets are fit
+-- the part of the invariant that rounds need: limits, disjoint grants, consistent seats
 pub record IsSound (g : GroupState) : Type 0 where
   pub sized : IsSized g
   pub apart : IsApart g
   pub fit : AllFit g
 
--- what each present member is to keep
+-- what each present member is assigned
 abbrev pub assigned_rows : GroupState → SetRows
 assigned_rows g = record {
   partitions = g.partitions;
@@ -24,23 +24,24 @@ assigned_rows g = record {
 abbrev pub bare_seat : Seat → Seat
 bare_seat seat = record seat { joined = false; synced = false }
 
--- the group without its flags: the same, with nobody joined or synced
+-- the group with all flags cleared
 abbrev pub bare : GroupState → GroupState
 bare g = record g { slots = each_changed (λ m. bare_seat) g.slots }
 
 abbrev pub yielded_seat : Seat → Seat
 yielded_seat seat = record seat { joined = false; synced = false; granted = seat.assigned }
 
--- each member gives up what it is not to keep
+-- the group after each member has revoked what it is not assigned
 abbrev pub yielded : GroupState → GroupState
 yielded g = record g { slots = each_changed (λ m. yielded_seat) g.slots }
 
--- one round: each member's granted set becomes its assigned one, then one completion
+-- one round: all members revoke, then one completion
 abbrev pub round : GroupState → GroupState
 round g = complete (yielded g)
 
--- where a rebalance ends, whatever the order of its calls: the group itself where nobody is
--- present, or else the first settled one of it, one round and two rounds, without flags
+-- the group in which a rebalance ends, whatever the order of its calls, without flags: the group
+-- itself if nobody is present or it is settled, else the group after one round if that is settled,
+-- else after two
 abbrev pub finish : GroupState → GroupState
 finish g =
     if is_anybody g

@@ -69,7 +69,7 @@ pub fn a_kept_join_is_a_join()
         → join_answer g name ≡ Ok number → LeavesOthers g (joined_kept_by g name) number }
     ensures newcomer { (g : GroupState) (name : List ℕ) (number : ℕ) → IsValidGroup g
         → join_answer g name ≡ Ok number → IsNewcomer g (joined_kept_by g name) number }
-    ensures kept { (g : GroupState) (name : List ℕ) (number : ℕ) → IsValidGroup g
+    ensures static { (g : GroupState) (name : List ℕ) (number : ℕ) → IsValidGroup g
         → join_answer g name ≡ Ok number → is_kept (joined_kept_by g name) number ≡ true }
 {}
 
@@ -84,7 +84,7 @@ pub fn take_over_hands_on()
 pub fn take_over_starts_nothing()
     ensures settled { (g : GroupState) (name : List ℕ)
         → is_settled (taken_over_by g name) ≡ is_settled g }
-    ensures without_flags { (g : GroupState) (name : List ℕ)
+    ensures flags { (g : GroupState) (name : List ℕ)
         → bare (taken_over_by g name) ≡ taken_over_by (bare g) name }
 {}
 

@@ -13,13 +13,13 @@ is_stable Empty = false
 is_stable Preparing = false
 is_stable Stable = true
 
--- a member has nothing to give up
+-- a member has nothing to revoke
 abbrev pub agrees : Seat → Bool
 agrees seat = is_same seat.granted seat.assigned
 
 abbrev pub all_agree : GroupState → Bool
 all_agree g = list_all (λ m. agrees m.1) (present g.slots)
 
--- stable, and nobody has anything to give up
+-- stable, and no member has anything to revoke
 abbrev pub is_settled : GroupState → Bool
 is_settled g = is_stable g.phase && all_agree g

@@ -236,6 +236,7 @@ impl Cluster {
         ensures history { OnOk result
             (GrowByRecords (of_first key.now ∷ []) self.old.logs self.new.logs) }
     {
+        // Reading the field gives the proof its invariant: there is a first topic.
         let _ = &self.logs;
         self.append_in(0, key)
     }

@@ -142,7 +142,7 @@ leaves_handed_on s g m n valid on = record {
   valid = valid;
   partitions = on.partitions;
   others = λ k ne here. elim (is_it m k) [
-    | inl old ↦ absurd (let gone : is_present g k ≡ false = ap (is_present g) old ∙ on.place.gone in cc)
+    | inl old ↦ absurd (let gone : is_present g k ≡ false = ap (is_present g) old ∙ on.seat.gone in cc)
     | inr other ↦ handed_leaves s.group g m n on k other ne
   ];
   committed = λ p. omega arith;

@@ -4,5 +4,5 @@ use Rattle.group_laws.proofs.laws.take_over_starts_nothing.Goals as goal
 pub returns-clause-settled : goal.returns-clause-settled
 returns-clause-settled c = taken_settled
 
-pub returns-clause-without_flags : goal.returns-clause-without_flags
-returns-clause-without_flags c = taken_bare
+pub returns-clause-flags : goal.returns-clause-flags
+returns-clause-flags c = taken_bare
