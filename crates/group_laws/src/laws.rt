@@ -69,7 +69,7 @@ pub fn a_kept_join_is_a_join()
         → join_answer g name ≡ Ok number → LeavesOthers g (joined_kept_by g name) number }
     ensures newcomer { (g : GroupState) (name : List ℕ) (number : ℕ) → IsValidGroup g
         → join_answer g name ≡ Ok number → IsNewcomer g (joined_kept_by g name) number }
-    ensures static { (g : GroupState) (name : List ℕ) (number : ℕ) → IsValidGroup g
+    ensures value { (g : GroupState) (name : List ℕ) (number : ℕ) → IsValidGroup g
         → join_answer g name ≡ Ok number → is_kept (joined_kept_by g name) number ≡ true }
 {}
 

@@ -7,5 +7,5 @@ returns-clause-others c = kept_join_leaves
 pub returns-clause-newcomer : goal.returns-clause-newcomer
 returns-clause-newcomer c = kept_join_brings
 
-pub returns-clause-static : goal.returns-clause-static
-returns-clause-static c = kept_join_keeps
+pub returns-clause-value : goal.returns-clause-value
+returns-clause-value c = kept_join_keeps
