@@ -29,7 +29,8 @@ impl Model for PlaneRows {
 
     ghost view = { λ a. record { partitions = a.partitions; rows = a.rows.items } };
 
-    ghost invariant = { λ a. IsValidRows (record { partitions = a.partitions; rows = a.rows.items }) };
+    ghost invariant = { λ a.
+        IsValidRows (record { partitions = a.partitions; rows = a.rows.items }) };
 }
 
 impl PlaneRows {

@@ -74,6 +74,12 @@ pub record IsExact (s : Commits) (l : PartitionLogs) : Type 0 where
 abbrev pub AreEndsCommitted : Commits → PartitionLogs → Type 0
 AreEndsCommitted s l = (p : ℕ) → p < l.partitions → committed_at s p ≡ length (log_at l p)
 
+-- a store is exact over valid logs, and the ends of all of them are committed
+pub record IsFullyCommitted (s : Commits) (l : PartitionLogs) : Type 0 where
+  pub valid : IsValidLogs l
+  pub exact : IsExact s l
+  pub ends : AreEndsCommitted s l
+
 -- the counter of each key is the number of times that it is among these
 abbrev pub HasPlainCounts : Commits → PartitionLogs → List Key → Type 0
 HasPlainCounts s l appended = (x : Key) → count_at s (id_of l.keys x) ≡ plain appended x

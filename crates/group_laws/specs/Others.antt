@@ -1,9 +1,9 @@
 -- What a step preserves of the members that it is not about.
-use Rattle.std.specs.Prelude.{◌≡◌, ℕ, ◌+◌, ◌≤◌, ◌⊎◌, true, false, Ok}
+use Rattle.std.specs.Prelude.{◌≡◌, ℕ, ◌+◌, ◌≤◌, ◌⊎◌, List, Some, true, false, Ok}
 use Rattle.bit_planes.specs.PartitionSet.{PartitionSet, is_in}
-use Rattle.group_machine.specs.State.{GroupState, member_of, is_present, is_joined, is_synced, is_kept, granted_of, assigned_of, name_of}
+use Rattle.group_machine.specs.State.{GroupState, member_of, is_present, is_joined, is_synced, is_kept, granted_of, assigned_of, name_of, kept_member}
 use Rattle.group_machine.specs.Good.{IsValidGroup}
-use Rattle.group_machine.specs.Steps.{rejoin_answer}
+use Rattle.group_machine.specs.Steps.{join_answer, rejoin_answer, take_over_answer}
 
 -- a member is unchanged, in the same generation
 pub record IsAsBefore (old new : GroupState) (n : ℕ) : Type 0 where
@@ -58,11 +58,26 @@ pub record IsHandedOn (old new : GroupState) (m n : ℕ) : Type 0 where
   pub seat : HasPlaceOf old new m n
   pub others : (k : ℕ) → (k ≡ m → ⊥) → (k ≡ n → ⊥) → member_of new k ≡ member_of old k
 
+-- a join that is accepted, in a valid group, with the new number
+pub record IsAcceptedJoin (g : GroupState) (name : List ℕ) : Type 0 where
+  pub number : ℕ
+  pub valid : IsValidGroup g
+  pub accepted : join_answer g name ≡ Ok number
+
 -- a rejoin that is accepted, in a valid group
-pub record IsAcceptedRejoin
-    (g : GroupState) (member generation : ℕ) (claim : PartitionSet) : Type 0 where
+pub record IsAcceptedRejoin (g : GroupState) (member : ℕ) : Type 0 where
+  pub generation : ℕ
+  pub claim : PartitionSet
   pub valid : IsValidGroup g
   pub accepted : rejoin_answer g member generation claim ≡ Ok tt
+
+-- a take-over that is accepted, in a valid group, with the old and the new number
+pub record IsAcceptedTakeOver (g : GroupState) (name : List ℕ) : Type 0 where
+  pub member : ℕ
+  pub number : ℕ
+  pub valid : IsValidGroup g
+  pub from : kept_member g name ≡ Some member
+  pub accepted : take_over_answer g name ≡ Ok number
 
 -- a member has rejoined in the same generation, and is granted exactly what it was assigned
 pub record HasRejoined (old new : GroupState) (n : ℕ) : Type 0 where

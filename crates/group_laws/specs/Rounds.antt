@@ -1,5 +1,5 @@
 -- The result of a rebalance, by rounds.
-use Rattle.std.specs.Prelude.{map, false, if◌then◌else◌}
+use Rattle.std.specs.Prelude.{◌≡◌, map, true, false, if◌then◌else◌}
 use Rattle.bit_planes.specs.SetRows.{SetRows}
 use Rattle.group_machine.specs.declared.group.Seat.{Seat}
 use Rattle.group_machine.specs.State.{GroupState, is_anybody}
@@ -8,8 +8,9 @@ use Rattle.group_machine.specs.Slots.{present, each_changed}
 use Rattle.group_machine.specs.Completion.{complete}
 use Rattle.group_machine.specs.Settled.{is_settled}
 
--- the part of the invariant that rounds need: limits, disjoint grants, consistent seats
+-- the part of the invariant that rounds need, and a member
 pub record IsSound (g : GroupState) : Type 0 where
+  pub anybody : is_anybody g ≡ true
   pub sized : IsSized g
   pub apart : IsApart g
   pub fit : AllFit g

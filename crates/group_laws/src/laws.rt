@@ -1,23 +1,21 @@
 //! The laws. The end of a rebalance is the group in which it ends, whatever the order of its calls.
 
 ghost use Rattle.std.specs.Prelude.{◌≡◌, ◌≤◌, ◌+◌, ◌++◌, ◌∷◌, [], ℕ, List, true, false, Ok, Some, length, slice_get};
-ghost use Rattle.bit_planes.specs.PartitionSet.{PartitionSet};
-ghost use Rattle.group_machine.specs.State.{GroupState, is_anybody, is_kept, is_present, kept_member};
+ghost use Rattle.group_machine.specs.State.{GroupState, is_anybody, is_kept, is_present};
 ghost use Rattle.group_machine.specs.Completion.{next_rows_of};
 ghost use Rattle.group_machine.specs.Moves.{takes, taker};
 ghost use Rattle.group_machine.specs.Settled.{is_settled};
-ghost use Rattle.group_machine.specs.Steps.{join_answer, joined_by, joined_kept_by, leave_answer, left_by, rejoined_by, synced_by, take_over_answer, taken_over_by};
+ghost use Rattle.group_machine.specs.Steps.{joined_by, joined_kept_by, leave_answer, left_by, rejoined_by, synced_by, taken_over_by};
 ghost use Rattle.group_machine.specs.Good.{IsValidGroup};
 ghost use Rattle.group_laws.specs.Names.{HasNumber, names};
 ghost use Rattle.group_laws.specs.Rounds.{bare, round, finish, IsSound};
 ghost use Rattle.group_laws.specs.Passes.{turned, passed, is_calm};
-ghost use Rattle.group_laws.specs.Others.{IsAcceptedRejoin, IsHandedOn, IsNewcomer, LeavesOthers, LeavesRejoined, LeavesSynced};
+ghost use Rattle.group_laws.specs.Others.{IsAcceptedJoin, IsAcceptedRejoin, IsAcceptedTakeOver, IsHandedOn, IsNewcomer, LeavesOthers, LeavesRejoined, LeavesSynced};
 
-/// Two rounds settle a group with a member, if no partition is granted to two members and the sets
-/// of each member are consistent.
+/// Two rounds settle a group with a member, if no partition is granted to two members and each
+/// member's seat is consistent.
 pub fn two_rounds_settle()
-    ensures { (g : GroupState) → IsSound g → is_anybody g ≡ true
-        → is_settled (round (round g)) ≡ true }
+    ensures { (g : GroupState) → IsSound g → is_settled (round (round g)) ≡ true }
 {}
 
 /// A sync does not change the end of a rebalance, including moves and last holders.
@@ -27,8 +25,7 @@ pub fn sync_keeps_the_end()
 
 /// An accepted rejoin does not change the end of a rebalance, including moves and last holders.
 pub fn rejoin_keeps_the_end()
-    ensures { (g : GroupState) (member generation : ℕ) (claim : PartitionSet)
-        → IsAcceptedRejoin g member generation claim
+    ensures { (g : GroupState) (member : ℕ) → IsAcceptedRejoin g member
         → finish (rejoined_by g member) ≡ finish g }
 {}
 
@@ -47,37 +44,36 @@ pub fn four_passes_settle()
 /// A completion moves no partition to two members: whoever takes one is the member that the moves
 /// name.
 pub fn one_member_takes_a_partition()
-    ensures { (g : GroupState) → IsSound g → is_anybody g ≡ true → (q member : ℕ)
+    ensures { (g : GroupState) → IsSound g → (q member : ℕ)
         → takes g (next_rows_of g) q member ≡ true → taker g (next_rows_of g) q ≡ Some member }
 {}
 
 /// A join leaves all other members.
 pub fn join_leaves_others()
-    ensures { (g : GroupState) (name : List ℕ) (number : ℕ) → IsValidGroup g
-        → join_answer g name ≡ Ok number → LeavesOthers g (joined_by g name) number }
+    ensures { (g : GroupState) (name : List ℕ) (a : IsAcceptedJoin g name)
+        → LeavesOthers g (joined_by g name) a.number }
 {}
 
 /// The member that joins is new and has not synced.
 pub fn join_brings_a_newcomer()
-    ensures { (g : GroupState) (name : List ℕ) (number : ℕ) → IsValidGroup g
-        → join_answer g name ≡ Ok number → IsNewcomer g (joined_by g name) number }
+    ensures { (g : GroupState) (name : List ℕ) (a : IsAcceptedJoin g name)
+        → IsNewcomer g (joined_by g name) a.number }
 {}
 
 /// Both hold when a static member joins, and it is static then.
 pub fn a_kept_join_is_a_join()
-    ensures others { (g : GroupState) (name : List ℕ) (number : ℕ) → IsValidGroup g
-        → join_answer g name ≡ Ok number → LeavesOthers g (joined_kept_by g name) number }
-    ensures newcomer { (g : GroupState) (name : List ℕ) (number : ℕ) → IsValidGroup g
-        → join_answer g name ≡ Ok number → IsNewcomer g (joined_kept_by g name) number }
-    ensures value { (g : GroupState) (name : List ℕ) (number : ℕ) → IsValidGroup g
-        → join_answer g name ≡ Ok number → is_kept (joined_kept_by g name) number ≡ true }
+    ensures others { (g : GroupState) (name : List ℕ) (a : IsAcceptedJoin g name)
+        → LeavesOthers g (joined_kept_by g name) a.number }
+    ensures newcomer { (g : GroupState) (name : List ℕ) (a : IsAcceptedJoin g name)
+        → IsNewcomer g (joined_kept_by g name) a.number }
+    ensures value { (g : GroupState) (name : List ℕ) (a : IsAcceptedJoin g name)
+        → is_kept (joined_kept_by g name) a.number ≡ true }
 {}
 
 /// A take-over moves the seat of a static member to the next number.
 pub fn take_over_hands_on()
-    ensures { (g : GroupState) (name : List ℕ) (member number : ℕ) → IsValidGroup g
-        → kept_member g name ≡ Some member → take_over_answer g name ≡ Ok number
-        → IsHandedOn g (taken_over_by g name) member number }
+    ensures { (g : GroupState) (name : List ℕ) (a : IsAcceptedTakeOver g name)
+        → IsHandedOn g (taken_over_by g name) a.member a.number }
 {}
 
 /// A take-over does not change whether the group is settled, and does not depend on the flags.
@@ -95,22 +91,19 @@ pub fn take_over_starts_nothing()
 pub fn take_over_keeps_the_end()
     ensures settled { (g : GroupState) (name : List ℕ) → is_settled g ≡ true
         → finish (taken_over_by g name) ≡ taken_over_by (finish g) name }
-    ensures generation { (g : GroupState) (name : List ℕ) (number : ℕ) → IsValidGroup g
-        → take_over_answer g name ≡ Ok number
+    ensures generation { (g : GroupState) (name : List ℕ) → IsAcceptedTakeOver g name
         → (finish (taken_over_by g name)).generation ≡ (finish g).generation }
 {}
 
 /// An accepted rejoin leaves all other members.
 pub fn rejoin_leaves_others()
-    ensures { (g : GroupState) (member generation : ℕ) (claim : PartitionSet)
-        → IsAcceptedRejoin g member generation claim
+    ensures { (g : GroupState) (member : ℕ) → IsAcceptedRejoin g member
         → LeavesOthers g (rejoined_by g member) member }
 {}
 
 /// A member that rejoins is granted what it was assigned.
 pub fn rejoin_leaves_what_is_kept()
-    ensures { (g : GroupState) (member generation : ℕ) (claim : PartitionSet)
-        → IsAcceptedRejoin g member generation claim
+    ensures { (g : GroupState) (member : ℕ) → IsAcceptedRejoin g member
         → LeavesRejoined g (rejoined_by g member) member }
 {}
 

@@ -29,3 +29,9 @@ AreApart rows = (q : ℕ) → holders rows q ≤ 1
 abbrev pub AreBelow : ℕ → List PartitionSet → Type 0
 AreBelow partitions [] = Unit {0}
 AreBelow partitions (row ∷ rows) = (partitions_of row ≡ partitions) × AreBelow partitions rows
+
+-- what members own: at least one row, and disjoint rows of this many partitions
+pub record AreOwned (partitions : ℕ) (rows : List PartitionSet) : Type 0 where
+  pub some : 0 < length rows
+  pub below : AreBelow partitions rows
+  pub apart : AreApart rows

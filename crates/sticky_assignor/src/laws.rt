@@ -1,15 +1,15 @@
 //! Laws of the target assignment.
 
-ghost use Rattle.std.specs.Prelude.{◌≡◌, ◌<◌, ℕ, List, length};
+ghost use Rattle.std.specs.Prelude.{◌≡◌, ℕ, List};
 ghost use Rattle.bit_planes.specs.PartitionSet.{PartitionSet};
-ghost use Rattle.sticky_assignor.specs.Balanced.{AreApart, AreBelow, IsBalanced};
+ghost use Rattle.sticky_assignor.specs.Balanced.{AreBelow, AreOwned, IsBalanced};
 ghost use Rattle.sticky_assignor.specs.Kept.{KeepsMost};
 ghost use Rattle.sticky_assignor.specs.Target.{target};
 
 /// Each target assignment is balanced.
 pub fn target_is_balanced()
     ensures { (partitions : ℕ) (owned : List PartitionSet)
-        → 0 < length owned → AreBelow partitions owned → AreApart owned
+        → AreOwned partitions owned
         → IsBalanced partitions (target partitions owned) }
 {}
 

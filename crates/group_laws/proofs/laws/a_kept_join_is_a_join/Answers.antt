@@ -2,10 +2,10 @@ use Rattle.group_laws.proofs.TakeOverLemmas.{kept_join_leaves, kept_join_brings,
 use Rattle.group_laws.proofs.laws.a_kept_join_is_a_join.Goals as goal
 
 pub returns-clause-others : goal.returns-clause-others
-returns-clause-others c = kept_join_leaves
+returns-clause-others c g name a = kept_join_leaves g name a.number a.valid a.accepted
 
 pub returns-clause-newcomer : goal.returns-clause-newcomer
-returns-clause-newcomer c = kept_join_brings
+returns-clause-newcomer c g name a = kept_join_brings g name a.number a.valid a.accepted
 
 pub returns-clause-value : goal.returns-clause-value
-returns-clause-value c = kept_join_keeps
+returns-clause-value c g name a = kept_join_keeps g name a.number a.valid a.accepted

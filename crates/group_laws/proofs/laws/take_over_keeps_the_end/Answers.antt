@@ -6,4 +6,4 @@ pub returns-clause-settled : goal.returns-clause-settled
 returns-clause-settled c = taken_end
 
 pub returns-clause-generation : goal.returns-clause-generation
-returns-clause-generation c = taken_generation
+returns-clause-generation c g name a = taken_generation g name a.number a.valid a.accepted
