@@ -1,4 +1,4 @@
--- Four passes make a group calm: after the first it is one round away from a settled group, after
+-- Four passes settle and sync a group: after the first it is one round away from a settled group, after
 -- the second it is settled or its last round is prepared, after the third it is settled, and in the
 -- fourth all sync.
 use Rattle.std.proofs.Common.{ℕ, ◌≡◌, ◌∙◌, ◌==◌, Bool, true, false, ◌&&◌, ◌||◌, ◌⊎◌, inl, inr, not, List, [], ◌∷◌, Option, Some, None, is_some, refl, ap, sym, subst, cond}
@@ -157,7 +157,7 @@ pass_ends g valid any = elim (passed_keeps EndsOrWaits kept g valid first) [ inl
     first : EndsOrWaits g (members g)
     first = elim (which_phase g valid any) [ inl phase ↦ inr (waits_all g phase) | inr stable ↦ inl (stable_round g valid stable any) ]
 
--- ---- the second pass: whoever has something to give up is in a list
+-- ---- the second pass: each member with something to revoke is in a list
 record IsGiving (g : GroupState) (rest : List ℕ) : Type 0 where
   pub phase : g.phase ≡ Stable
   pub listed : (n : ℕ) → is_present g n ≡ true → is_same (granted_of g n) (assigned_of g n) ≡ false → Listed n rest
@@ -178,7 +178,7 @@ due_agrees false false same j s e = absurd (false≢true s)
 due_agrees false true true j s e = refl
 due_agrees false true false j s e = absurd (false≢true (sym e))
 
--- a rejoin has begun the round, or whoever has something to give up is in a list
+-- a rejoin has begun the round, or each member with something to revoke is in a list
 abbrev HasBegun : GroupState → List ℕ → Type 0
 HasBegun g rest = (g.phase ≡ Preparing) ⊎ IsGiving g rest
 

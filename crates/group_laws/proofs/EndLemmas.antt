@@ -1,4 +1,4 @@
--- Where the end of a join or a leave lies, and what an end leaves.
+-- The result of a rebalance after a join or a leave, and what a rebalance preserves.
 use Rattle.std.proofs.Common.{ℕ, suc, ◌≡◌, ◌+◌, ◌≤◌, ◌==◌, Bool, true, false, ◌&&◌, List, [], ◌∷◌, ◌++◌, Option, None, is_some, map, refl, ap, sym, ◌∙◌, arith, cond}
 use Rattle.std.proofs.lemmas.Bool.{false≢true}
 use Rattle.std.specs.Option.{option_map}
@@ -22,7 +22,7 @@ use Rattle.group_laws.proofs.AssignedLemmas.{HasPartitions, has_partitions}
 use Rattle.group_laws.proofs.OtherLemmas.{joining_others}
 use Rattle.group_laws.proofs.FinishLemmas.{end_of, end_same, completed_finish}
 
--- ---- an end sees no flags
+-- ---- the result ignores flags
 pub settled_bare : (g : GroupState) → is_settled (bare g) ≡ is_settled g
 settled_bare g = ap (λ t. is_stable g.phase && t) (all_each agrees (λ m. bare_seat) (λ m x. refl) g.slots)
 
@@ -32,7 +32,7 @@ finish_bare g =
     let base : bare (bare g) ≡ bare g = ap (λ s. with_slots g s) (each_two (λ m. bare_seat) (λ m. bare_seat) g.slots) in
     end_same (is_anybody g) (is_anybody (bare g)) (is_settled g) (is_settled (bare g)) (is_settled (round g)) (is_settled (round (bare g))) (bare g) (bare (bare g)) (round g) (round (bare g)) (round (round g)) (round (round (bare g))) (any_each (λ m. bare_seat) g.slots) (settled_bare g) (ap is_settled same) base same (ap round same)
 
--- groups that are the same without their flags end in the same place
+-- groups that differ in flags alone have the same result
 one_end : (g h : GroupState) → bare g ≡ bare h → finish g ≡ finish h
 one_end g h e = sym (finish_bare g) ∙ ap finish e ∙ finish_bare h
 

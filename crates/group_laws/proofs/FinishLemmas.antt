@@ -1,4 +1,4 @@
--- Where a rebalance ends.
+-- The result of a rebalance.
 use Rattle.std.proofs.Common.{ℕ, ◌≡◌, ◌+◌, ◌==◌, Bool, true, false, ◌&&◌, ◌||◌, not, List, [], ◌∷◌, ◌++◌, Option, Some, None, Result, Ok, Err, map, refl, ap, sym, ◌∙◌, cond}
 use Rattle.std.proofs.lemmas.Bool.{false≢true}
 use Rattle.std.specs.Option.{option_map_or}
@@ -65,7 +65,7 @@ number_map f (x ∷ xs) = ap (λ rs. (x.0, f x.0) ∷ rs) (number_map f xs)
 rows_by_members : (w : SetRows) → IsValidRows w → w ≡ record { partitions = w.partitions; rows = sets_by (set_of w) (rows.members w) }
 rows_by_members w valid = paired w valid.rising ∙ ap (λ rs. record { partitions = w.partitions; rows = rs }) (pair_map (set_of w) (rows.members w))
 
--- what a round assigns is what members are to keep after it
+-- what a round assigns is what members are assigned after it
 pub round_assigned : (g : GroupState) → AreGranted (assigned_rows g) → rows.members (assigned_rows g) ≡ members g → assigned_rows (round g) ≡ next_rows (assigned_rows g)
 round_assigned g owned same =
     let w : SetRows = next_rows (assigned_rows g) in
@@ -147,7 +147,7 @@ bare_round g = ap (λ s. with_slots (round g) s) (each_two (λ m. bare_seat) (co
 any_round : (g : GroupState) → is_anybody (round g) ≡ is_anybody g
 any_round g = any_each (completed_seat (next_rows (granted_rows (yielded g)))) (yielded g).slots ∙ any_each (λ m. yielded_seat) g.slots
 
--- ---- where a rebalance ends
+-- ---- the result of a rebalance
 abbrev pub end_of : (any now once : Bool) (here one two : GroupState) → GroupState
 end_of any now once here one two = cond any (cond now here (cond once one two)) here
 
@@ -155,7 +155,7 @@ later : (a0 a1 s0 s1 s2 : Bool) (b0 b1 r1 r2 r3 : GroupState) → a0 ≡ true �
 later a0 a1 s0 true s2 b0 b1 r1 r2 r3 x0 x1 y0 y2 e = rw (x0, x1, y0) e
 later a0 a1 s0 false s2 b0 b1 r1 r2 r3 x0 x1 y0 y2 e = rw (x0, x1, y0, y2) refl
 
--- a completion changes nothing of where a rebalance ends
+-- a completion does not change the result of a rebalance
 pub completed_finish : (g : GroupState) → HasPartitions g → AllFit g → IsApart g → is_settled g ≡ false → finish (completed g) ≡ finish g
 completed_finish g has fit apart unsettled = go (is_ready g) refl
   where
@@ -220,7 +220,7 @@ same_end a0 a1 s0 s1 s1' b0 b0' r1 r1' r2 r2' t a b c d e = rw (a, t, b, c, d, e
 pub rejoining_round : (g : GroupState) (member : ℕ) → round (rejoining g member) ≡ round g
 rejoining_round g member = ap (λ s. complete (with_slots g s)) (forgets yielded_seat rejoined_seat (λ x. refl) g.slots member)
 
--- before its completion a rejoin changes nothing of where the rebalance ends
+-- before its completion a rejoin does not change the result of the rebalance
 pub rejoining_finish : (g : GroupState) (member : ℕ) → is_anybody g ≡ true → is_settled g ≡ false → finish (rejoining g member) ≡ finish g
 rejoining_finish g member any un =
     let same : round (rejoining g member) ≡ round g = rejoining_round g member in

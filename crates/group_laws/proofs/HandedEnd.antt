@@ -1,4 +1,4 @@
--- Where a rebalance ends after a place is handed on.
+-- The result of a rebalance after a seat is handed on.
 use Rattle.std.proofs.Common.{ℕ, zero, suc, ◌≡◌, ◌+◌, ◌<◌, true, List, [], ◌∷◌, ◌++◌, length, length-append, map, refl, ap, sym, ◌∙◌, subst, arith, ◌==◌, Bool, false, Option, Some, None, inl, inr, cond}
 use Rattle.std.specs.Prelude.{Ok}
 use Rattle.std.specs.Option.{option_map, option_map_or}
@@ -104,14 +104,14 @@ handed_round g name m good here room =
     (λ s. let n = round_lying now valid some s in let w = near_before g name m n.0 here n.1 in lying_round g good any w.0 w.1)
     (λ s. let n = round_lying g good any s in let w = handed_near g name m n.0 good here n.1 in lying_round now valid some w.0 w.1)
 
--- ---- so it ends in the same generation
+-- ---- so the generation of the result is the same
 end_generation : (any now once : Bool) (here one two : GroupState) → (end_of any now once here one two).generation ≡ cond any (cond now here.generation (cond once one.generation two.generation)) here.generation
 end_generation true true once here one two = refl
 end_generation true false true here one two = refl
 end_generation true false false here one two = refl
 end_generation false now once here one two = refl
 
--- the generation in which a rebalance ends, by whether it is settled now, and after one round
+-- the generation of the result, by whether it is settled now, and after one round
 abbrev ends_in : Bool → Bool → Bool → ℕ → ℕ
 ends_in any now once n = cond any (cond now n (cond once (n + 1) (n + 1 + 1))) n
 

@@ -75,7 +75,7 @@ next_keeps r owned keeps m q e = next_in r m q ∙ go (granted_to_other r.rows m
         let n = other_says r owned.valid m q h in
         absurd (n.1 (target_apart r owned m n.0 q mine (keeps n.0 q n.2)))
 
--- ---- a round that keeps what members are to keep
+-- ---- a round that keeps what members are assigned
 settled_round : (g : GroupState) → AreGranted (assigned_rows g) → Keeps (assigned_rows g) (next_rows (assigned_rows g)) → is_settled (round g) ≡ true
 settled_round g owned keeps =
     let r : SetRows = assigned_rows g in
@@ -92,7 +92,7 @@ settled_round g owned keeps =
     let next : SetRows = next_rows (granted_rows (yielded g)) in
     all_of agrees (round g).slots (λ m x is. settled_by next (ap next_rows (granted_yielded g)) m x (sym (seat_each (completed_seat next) (yielded g).slots m) ∙ is))
 
--- where what members are to keep lies in balanced rows, the group is settled after one round
+-- where what members are assigned lies in balanced rows, the group is settled after one round
 pub lying_round : (g : GroupState) → IsValidGroup g → is_anybody g ≡ true → (f : ℕ → PartitionSet) → LieInBalanced g f → is_settled (round g) ≡ true
 lying_round g valid any f lie =
     let r : SetRows = assigned_rows g in
@@ -109,7 +109,7 @@ or_first : (a b : Bool) → a ≡ true → (a || b) ≡ true
 or_first true b e = refl
 or_first false b e = absurd (false≢true e)
 
--- what a member agrees to keep is in its next row
+-- what a settled member is assigned is in its next row
 agrees_keeps : (p : ℕ) (next : SetRows) (m : ℕ) (o : Option Seat) → ((x : Seat) → o ≡ Some x → partitions_of x.assigned ≡ partitions_of (set_of next m)) → ((y : Seat) → option_map (completed_seat next m) (option_map yielded_seat o) ≡ Some y → agrees y ≡ true) → (q : ℕ) → is_in (seat_assigned p o) q ≡ true → is_in (set_of next m) q ≡ true
 agrees_keeps p next m None over agree q e = absurd (false≢true (sym (in_empty p q) ∙ e))
 agrees_keeps p next m (Some x) over agree q e =

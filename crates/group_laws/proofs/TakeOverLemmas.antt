@@ -1,4 +1,4 @@
--- Kept places, and what a take-over of one leaves.
+-- Static members, and what a take-over preserves.
 use Rattle.std.proofs.Common.{ℕ, suc, ◌≡◌, ◌+◌, ◌<◌, Bool, true, false, ◌&&◌, not, ◌⊎◌, List, [], ◌∷◌, ◌++◌, Option, Some, None, Result, Ok, Err, is_some, length, slice_get, cond, nat_lt, nat_le, refl, ap, sym, ◌∙◌, subst, arith, inl, inr}
 use Rattle.std.proofs.lemmas.Bool.{false≢true}
 use Rattle.std.proofs.lemmas.Bool.Decides.{nat_tests}
@@ -167,7 +167,7 @@ taken_end g name settled =
     ∙ taken_bare g name
     ∙ ap (λ h. taken_over_by h name) (sym (settled_end g settled))
 
--- ---- a join of a member that keeps its place
+-- ---- a join of a static member
 keep_same : {X : Type 0} (h : Option Seat → X) → ((x : Seat) → h (Some (kept_seat x)) ≡ h (Some x)) → (g : GroupState) (member m : ℕ) → h (member_of (keeping g member) m) ≡ h (member_of g m)
 keep_same h same g member m = flag_same kept_seat h same g member m
 

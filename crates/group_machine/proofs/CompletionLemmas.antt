@@ -1,4 +1,4 @@
--- A completion leaves a good group.
+-- A completion leaves a valid group.
 use Rattle.std.proofs.Common.{slice_index_or, length, ℕ, ◌≡◌, Bool, true, false, ◌&&◌, ◌||◌, ◌⊎◌, inl, inr, List, Option, Some, None, map, refl, ap, sym, ◌∙◌, subst, arith, is_some}
 use Rattle.std.proofs.lemmas.Bool.{false≢true}
 use Rattle.std.proofs.lemmas.List.FromFn.{length-map-range_with_len}

@@ -1,4 +1,4 @@
--- A place that is handed on.
+-- A seat that is handed on.
 use Rattle.std.proofs.Common.{ℕ, zero, suc, ◌≡◌, ◌+◌, ◌<◌, ◌==◌, Bool, true, false, ◌&&◌, ◌⊎◌, inl, inr, List, [], ◌∷◌, ◌++◌, Option, Some, None, is_some, length, length-append, map, slice_get, cond, refl, ap, sym, ◌∙◌, subst, arith}
 use Rattle.std.proofs.lemmas.Bool.{false≢true, cases_eq}
 use Rattle.std.proofs.lemmas.List.{map-append}
@@ -194,7 +194,7 @@ all_moved t xs ys a b same =
     ∙ ap (λ c. list_all t xs && (c && list_all t ys)) same
     ∙ sym (list_all-append t xs (a ∷ ys))
 
--- a place that is handed on leaves whether the group is settled
+-- a seat that is handed on leaves whether the group is settled
 pub handed_settled : (g : GroupState) (name : List ℕ) (m : ℕ) → is_present g m ≡ true → is_settled (handing_on g name m) ≡ is_settled g
 handed_settled g name m here =
     let x = some_of (member_of g m) here in

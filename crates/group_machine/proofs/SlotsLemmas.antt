@@ -122,6 +122,6 @@ present_at slots member d e =
     let x = some_is (seat_of slots member) e in
     (x.0, seat_at slots member d given.0 given.1 ∙ x.1)
 
--- the seat at a place is that of the next number
+-- the seat at an index is that of the next number
 pub seat_of_index : (slots : List Slot) (i : ℕ) (s : Slot) (x : Seat) → i < length slots → s ≡ get_or slots i s → s.seat ≡ Some x → seat_of slots (suc i) ≡ Some x
 seat_of_index slots i s x lt e is = sym (seat_at_index slots i s lt) ∙ ap (λ t. t.seat) (sym e) ∙ is

@@ -1,4 +1,4 @@
--- Each step leaves a good group.
+-- Each step leaves a valid group.
 use Rattle.std.proofs.Common.{ℕ, zero, suc, ◌≡◌, ◌<◌, ◌≤◌, ◌==◌, Bool, true, false, ◌&&◌, ◌||◌, ◌⊎◌, inl, inr, List, [], ◌∷◌, ◌++◌, Option, Some, None, length, map, slice_get, refl, ap, sym, ◌∙◌, subst, arith, is_some, cond, replicate, length-append}
 use Rattle.std.proofs.lemmas.Bool.{false≢true}
 use Rattle.std.specs.List.{list_any, list_all}
@@ -308,7 +308,7 @@ sync_flag = record { joined = λ x. refl; granted = λ x. refl; assigned = λ x.
 pub sync_good : (g : GroupState) (member : ℕ) → IsValidGroup g → IsValidGroup (synced_by g member)
 sync_good g member good = flag_good synced_seat sync_flag g member good
 
--- ---- keeping a place
+-- ---- becoming static
 keep_flag : IsFlag kept_seat
 keep_flag = record { joined = λ x. refl; granted = λ x. refl; assigned = λ x. refl }
 

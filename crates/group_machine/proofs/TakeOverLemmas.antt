@@ -1,4 +1,4 @@
--- Kept places, and what a take-over of one leaves.
+-- Static members, and what a take-over preserves.
 use Rattle.std.proofs.Common.{ℕ, zero, suc, ◌≡◌, ◌+◌, ◌<◌, true, List, [], ◌∷◌, Option, Some, None, is_some, length, get_or, slice_get, refl, ap, ◌∙◌, arith}
 use Rattle.std.proofs.lemmas.Bool.{false≢true}
 use Rattle.std.proofs.lemmas.List.Quantifiers.{position-Some}
@@ -13,7 +13,7 @@ use Rattle.group_machine.specs.Slots.{seat_in}
 use Rattle.group_machine.specs.State.{GroupState, member_of, is_present, seat_kept, name_of, is_kept_as, kept_member}
 use Rattle.group_machine.proofs.SlotsLemmas.{slot_with}
 
--- ---- who keeps a place
+-- ---- static members
 slot_got : (slots : List Slot) (k : ℕ) (d : Slot) → k < length slots → slice_get slots k ≡ Some (get_or slots k d)
 slot_got [] k d lt = absurd (omega arith)
 slot_got (s ∷ slots) zero d lt = refl
@@ -27,7 +27,7 @@ one_more : (o : Option ℕ) (m : ℕ) → option_map (λ k. k + 1) o ≡ Some m 
 one_more None m e = cc
 one_more (Some k) m e = let same : k + 1 ≡ m = cc in (k, refl, omega (arith, same))
 
--- who keeps its place under a name is present, keeps it, and has the name
+-- the static member of a name is present, is static, and has the name
 pub record IsKeeper (g : GroupState) (name : List ℕ) (m : ℕ) : Type 0 where
   pub seat : Seat
   pub here : member_of g m ≡ Some seat
