@@ -108,7 +108,7 @@ less_there inside old m i s t row seen valid index at less_is =
     (ap (λ (x : ℕ × PartitionSet). record inside { rows = set inside.rows i x }) element
     ∙ ap (λ (rows : Rows). record inside { rows = rows }) (less_at inside.rows m i s row valid.rising here.within here.there)))
 
--- the row at an index is of as many partitions
+-- the row at an index is over the same number of partitions
 pub below_there : (inside old : SetRows) (m i : ℕ) (row : ℕ × PartitionSet) → inside ≡ old → IsValidRows inside → IsIndexOf old.rows m i → row ≡ get_or inside.rows i row → partitions_of row.1 ≡ old.partitions
 below_there inside old m i row seen valid index at =
     let here : IsIndexOf inside.rows m i = subst (λ (r : SetRows). IsIndexOf r.rows m i) (sym seen) index in

@@ -144,7 +144,7 @@ put_last (row ∷ rows) m s below =
     let other : row.0 ≢ m = omega (arith, first) in
     rw (eq_other row.0 m other, le-ltb m row.0 (omega (arith, first))) (ap (λ rest. row ∷ rest) (put_last rows m s (λ i lt. below (suc i) (omega arith))))
 
--- ---- rows that look-ups tell apart
+-- ---- rows that look-ups distinguish
 found_none_below : (rows : List (ℕ × PartitionSet)) (m : ℕ) → ((i : ℕ) → i < length (map (λ row. row.0) rows) → m < get_or (map (λ row. row.0) rows) i 0) → find_row rows m ≡ None
 found_none_below [] m above = refl
 found_none_below (row ∷ rows) m above =

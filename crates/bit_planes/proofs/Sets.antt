@@ -137,7 +137,7 @@ pub how_many-le : (n : ℕ) (f : ℕ → Bool) → how_many n f ≤ n
 how_many-le zero f = omega arith
 how_many-le (suc n) f = omega (arith, how_many-le n f, one_le (f n))
 
--- two disjoint conditions are counted apart
+-- two disjoint conditions are counted separately
 pub how_many-add : (n : ℕ) (f g h : ℕ → Bool) → ((q : ℕ) → q < n → one (h q) ≡ one (f q) + one (g q)) → how_many n h ≡ how_many n f + how_many n g
 how_many-add zero f g h add = refl
 how_many-add (suc n) f g h add = omega (arith, add n (omega arith), how_many-add n f g h (λ q lt. add q (omega arith)))
@@ -376,7 +376,7 @@ in_full_all p q = elim (cases_lt q p) [
   | inr le ↦ let e = partitions_full p in past (full_set p) q (omega arith) ∙ sym (le-ltb q p le)
 ]
 
--- ---- what an answer tells
+-- ---- what an answer implies
 pub rank_more : (s : PartitionSet) (q : ℕ) → rank s (q + 1) ≡ rank s q + one (is_in s q)
 rank_more s q = let next : q + 1 ≡ suc q = omega arith in rw next (rank_next s q)
 
@@ -436,7 +436,7 @@ rank_in s q h = omega (arith, rank_more s q, one_of (is_in s q) h)
 pub rank_out : (s : PartitionSet) (q : ℕ) → is_in s q ≡ false → rank s (q + 1) ≡ rank s q
 rank_out s q h = omega (arith, rank_more s q, ap one h)
 
--- ---- what a test of two memberships tells
+-- ---- what a test of two memberships implies
 pub union_told : (s t u : PartitionSet) → partitions_of s ≡ partitions_of t → partitions_of u ≡ partitions_of s → ((q : ℕ) → q < partitions_of s → is_in u q ≡ (is_in s q || is_in t q)) → u ≡ union s t
 union_told s t u len same told = same_set u (union s t) (same ∙ sym (partitions_union s t)) (λ q lt. told q (omega (arith, lt, same)) ∙ sym (in_union s t q len))
 

@@ -1,9 +1,9 @@
--- A set of partitions for each of some members.
+-- Tables of sets of partitions by member number.
 use Rattle.std.specs.Prelude.{◌≡◌, ℕ, ◌<◌, ◌≤◌, ◌==◌, nat_lt, List, [], ◌∷◌, Option, Some, None, length, map, if◌then◌else◌, slice_index_or}
 use Rattle.lane_words.specs.declared.limits.TheConstants.{MOST_PARTITIONS}
 use Rattle.bit_planes.specs.PartitionSet.{PartitionSet, partitions_of, empty_set, minus}
 
--- sets of as many partitions, by the numbers of their members, which rise
+-- sets over the same number of partitions, in rising order of their members
 pub record SetRows : Type 0 where
   pub partitions : ℕ
   pub rows : List (ℕ × PartitionSet)
@@ -12,7 +12,7 @@ pub record SetRows : Type 0 where
 abbrev pub no_rows : ℕ → SetRows
 no_rows partitions = record { partitions = partitions; rows = [] }
 
--- the numbers of the members, in rising order
+-- the members, in rising order
 abbrev pub members : SetRows → List ℕ
 members r = map (λ row. row.0) r.rows
 
@@ -31,15 +31,15 @@ put_row (row ∷ rows) m s =
     else if nat_lt m row.0 then (m, s) ∷ row ∷ rows
     else row ∷ put_row rows m s
 
--- the rows with this set for this member, and the others as they were
+-- the rows with this set for this member
 abbrev pub with_row : SetRows → ℕ → PartitionSet → SetRows
 with_row r m s = record r { rows = put_row r.rows m s }
 
--- a row of this member without some partitions, and any other row as it was
+-- this member's row without some partitions; any other row unchanged
 abbrev pub less_row : ℕ → PartitionSet → (ℕ × PartitionSet) → (ℕ × PartitionSet)
 less_row m s row = if row.0 == m then (row.0, minus row.1 s) else row
 
--- the rows where this member's set is without some partitions
+-- the rows with some partitions removed from this member's set
 abbrev pub with_less : SetRows → ℕ → PartitionSet → SetRows
 with_less r m s = record r { rows = map (less_row m s) r.rows }
 
@@ -47,7 +47,7 @@ abbrev pub set_or_empty : ℕ → Option PartitionSet → PartitionSet
 set_or_empty partitions None = empty_set partitions
 set_or_empty partitions (Some s) = s
 
--- a member's set, and the empty set of a member without a row
+-- a member's set; the empty set if it has no row
 abbrev pub set_of : SetRows → ℕ → PartitionSet
 set_of r m = set_or_empty r.partitions (row_of r m)
 
@@ -59,16 +59,16 @@ sets_of r ms = map (set_of r) ms
 abbrev pub HaveSameRows : SetRows → SetRows → Type 0
 HaveSameRows r s = (m : ℕ) → row_of r m ≡ row_of s m
 
--- numbers that rise
+-- strictly increasing numbers
 abbrev pub IsRising : List ℕ → Type 0
 IsRising ms = (i j : ℕ) → i < j → j < length ms → slice_index_or ms i 0 < slice_index_or ms j 0
 
--- each set is of this many partitions
+-- each set is over this many partitions
 abbrev pub AreOver : ℕ → List (ℕ × PartitionSet) → Type 0
 AreOver partitions [] = Unit {0}
 AreOver partitions (row ∷ rows) = (partitions_of row.1 ≡ partitions) × AreOver partitions rows
 
--- what rows keep
+-- the invariant of rows
 pub record IsValidRows (r : SetRows) : Type 0 where
   pub some : 1 ≤ r.partitions
   pub few : r.partitions ≤ MOST_PARTITIONS

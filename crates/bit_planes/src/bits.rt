@@ -1,4 +1,4 @@
-//! Words in whose bits numbers are marked: number q by bit q % 64 of word q / 64.
+//! Bit sets over slices of words: bit q % 64 of word q / 64 stands for the number q.
 
 ghost use Rattle.std.specs.Prelude.{◌≡◌, ◌<◌, ◌≤◌, ◌+◌, ◌*◌, ◌==◌, ◌&&◌, ◌||◌, ◌↔◌, ℕ, not, nat_lt, length, IsTrue, MatchOption};
 ghost use Rattle.bit_planes.specs.Private.Bits.{AreClearFrom, HasBitsBelow, HasLowestBits, IsLowestFrom, bit_of, is_bit};
@@ -6,10 +6,10 @@ ghost use Rattle.bit_planes.specs.PartitionSet.{any_below, how_many};
 
 use lane_words::MOST_PARTITIONS;
 
-/// How many bits a word has.
+/// Bits per word.
 pub const WORD_BITS: u32 = 64;
 
-/// How many words mark the numbers below this one.
+/// The number of words that hold the bits of the numbers below `partitions`.
 pub fn words_for(partitions: u32) -> usize
     requires { partitions ≤ MOST_PARTITIONS }
     ensures enough { partitions ≤ 64 * result }
@@ -18,7 +18,7 @@ pub fn words_for(partitions: u32) -> usize
     partitions.div_ceil(WORD_BITS) as usize
 }
 
-/// The bits below `n`, or all where there are no more.
+/// A word with the bits below `n` set; all of them from 64 on.
 pub fn bits_below(n: u32) -> u64
     ensures { HasBitsBelow n result }
 {
@@ -29,14 +29,14 @@ pub fn bits_below(n: u32) -> u64
     }
 }
 
-/// How many bits of a word are set.
+/// The number of set bits in a word.
 pub fn count_in(word: u64) -> u32
     ensures { result ≡ how_many 64 (is_bit word) }
 {
     word.count_ones()
 }
 
-/// The `n` lowest bits of a word, or all where there are no more.
+/// The `n` lowest set bits of a word; all of them where it has fewer.
 pub fn lowest_bits(word: u64, n: u32) -> u64
     ensures { HasLowestBits n word result }
 {
@@ -48,13 +48,13 @@ pub fn lowest_bits(word: u64, n: u32) -> u64
     }
     let mut rest = word;
     for _ in 0..n {
-        // The lowest bit that is left is cleared.
+        // Clears the lowest set bit.
         rest &= rest.wrapping_sub(1);
     }
     word & !rest
 }
 
-/// Whether a number is marked, which lies below the words' end.
+/// Whether bit `q` is set. `q` is within the words.
 pub fn is_set(words: &[u64], q: u32) -> bool
     requires { q < 64 * length words.now }
     ensures { result ≡ bit_of words.now q }
@@ -62,7 +62,7 @@ pub fn is_set(words: &[u64], q: u32) -> bool
     words[(q / WORD_BITS) as usize] >> (q % WORD_BITS) & 1 == 1
 }
 
-/// Marks a number, which lies below the words' end.
+/// Sets bit `q`, which is within the words.
 pub fn set(words: &mut [u64], q: u32)
     requires { q < 64 * length words.old }
     ensures marks { (n : ℕ) → bit_of words.new n ≡ (bit_of words.old n || (n == q)) }
@@ -71,7 +71,7 @@ pub fn set(words: &mut [u64], q: u32)
     words[(q / WORD_BITS) as usize] |= 1 << (q % WORD_BITS);
 }
 
-/// Takes the mark of a number away, which lies below the words' end.
+/// Clears bit `q`, which is within the words.
 pub fn clear(words: &mut [u64], q: u32)
     requires { q < 64 * length words.old }
     ensures marks { (n : ℕ) → bit_of words.new n ≡ (bit_of words.old n && not (n == q)) }
@@ -80,7 +80,7 @@ pub fn clear(words: &mut [u64], q: u32)
     words[(q / WORD_BITS) as usize] &= !(1 << (q % WORD_BITS));
 }
 
-/// Marks the numbers below `n` and no others.
+/// Sets the bits below `n` and clears all others.
 pub fn fill_below(words: &mut [u64], n: u32)
     requires { length words.old ≤ 64 }
     ensures marks { (q : ℕ) → q < 64 * length words.old → bit_of words.new q ≡ nat_lt q n }
@@ -91,7 +91,7 @@ pub fn fill_below(words: &mut [u64], n: u32)
     }
 }
 
-/// Leaves the `n` lowest marks, or all where there are no more.
+/// Clears all but the `n` lowest set bits.
 pub fn keep_lowest(words: &mut [u64], n: u32)
     ensures marks { (q : ℕ) → bit_of words.new q
         ≡ (bit_of words.old q && nat_lt (how_many q (bit_of words.old)) n) }
@@ -99,7 +99,7 @@ pub fn keep_lowest(words: &mut [u64], n: u32)
 {
     let mut left = n;
     for i in 0..words.len() {
-        // Most words of most sets have no marks: these stay, and nothing is counted.
+        // Most words of most sets are zero: skip them without counting.
         if words[i] != 0 {
             let kept = lowest_bits(words[i], left);
             words[i] = kept;
@@ -108,7 +108,7 @@ pub fn keep_lowest(words: &mut [u64], n: u32)
     }
 }
 
-/// Marks what is marked in `b`, which is as long.
+/// Sets in `a` all bits that are set in `b`, which has the same length.
 pub fn or_into(a: &mut [u64], b: &[u64])
     requires { length a.old ≡ length b.now }
     ensures marks { (q : ℕ) → bit_of a.new q ≡ (bit_of a.old q || bit_of b.now q) }
@@ -117,7 +117,7 @@ pub fn or_into(a: &mut [u64], b: &[u64])
     lane_words::or_into(a, b);
 }
 
-/// Takes the marks away that are in `b`, which is as long.
+/// Clears in `a` all bits that are set in `b`, which has the same length.
 pub fn and_not_into(a: &mut [u64], b: &[u64])
     requires { length a.old ≡ length b.now }
     ensures marks { (q : ℕ) → bit_of a.new q ≡ (bit_of a.old q && not (bit_of b.now q)) }
@@ -126,7 +126,7 @@ pub fn and_not_into(a: &mut [u64], b: &[u64])
     lane_words::and_not_into(a, b);
 }
 
-/// Whether some number is marked in both, which are as long.
+/// Whether some bit is set in both. They have the same length.
 pub fn any_and(a: &[u64], b: &[u64]) -> bool
     requires { length a.now ≡ length b.now }
     ensures { result ≡ any_below (64 * length a.now) (λ q. bit_of a.now q && bit_of b.now q) }
@@ -134,7 +134,7 @@ pub fn any_and(a: &[u64], b: &[u64]) -> bool
     lane_words::any_and(a, b)
 }
 
-/// Whether each number that is marked in `a` is marked in `b`, which is as long.
+/// Whether each bit that is set in `a` is set in `b`, which has the same length.
 pub fn is_within(a: &[u64], b: &[u64]) -> bool
     requires { length a.now ≡ length b.now }
     ensures { result
@@ -143,7 +143,7 @@ pub fn is_within(a: &[u64], b: &[u64]) -> bool
     lane_words::is_within(a, b)
 }
 
-/// Whether the same numbers are marked in both, which are as long.
+/// Whether the same bits are set in both. They have the same length.
 pub fn are_equal(a: &[u64], b: &[u64]) -> bool
     requires { length a.now ≡ length b.now }
     ensures { IsTrue result ↔ ((q : ℕ) → bit_of a.now q ≡ bit_of b.now q) }
@@ -151,7 +151,7 @@ pub fn are_equal(a: &[u64], b: &[u64]) -> bool
     lane_words::equal64(a, b)
 }
 
-/// How many numbers are marked.
+/// The number of set bits.
 pub fn count(words: &[u64]) -> u32
     requires { length words.now ≤ 64 }
     ensures { result ≡ how_many (64 * length words.now) (bit_of words.now) }
@@ -159,7 +159,7 @@ pub fn count(words: &[u64]) -> u32
     lane_words::count_ones(words) as u32
 }
 
-/// The lowest number from another on whose bit is set, if there is one.
+/// The lowest set bit at or above `from`, if there is one.
 pub fn lowest_from(words: &[u64], from: u32) -> Option<u32>
     requires { length words.now ≤ 64 }
     ensures { MatchOption result (AreClearFrom words.now from) (IsLowestFrom words.now from) }

@@ -1,4 +1,4 @@
-//! The elements of a set in rising order.
+//! Iteration over the elements of a set.
 
 ghost use Rattle.std.specs.Prelude.{◌≡◌, ◌≤◌, length};
 ghost use Rattle.std.specs.Iterator.{YieldsFirst, item_count};
@@ -8,12 +8,12 @@ use crate::plane::Plane;
 use lane_words::MOST_PARTITIONS;
 use std::marker::Model;
 
-/// The elements of a set that are left, in rising order.
+/// An iterator over the elements of a set, in rising order.
 #[derive(Debug, Drop)]
 pub struct Elements<'a> {
     /// The set.
     plane: &'a Plane,
-    /// The elements below this have been given.
+    /// The elements below this have been returned.
     from: u32,
 }
 
@@ -28,7 +28,7 @@ impl<'a> Model for Elements<'a> {
 }
 
 impl<'a> Elements<'a> {
-    /// All elements of a set.
+    /// Starts at the lowest element.
     pub(crate) fn new(plane: &'a Plane) -> Elements<'a>
         ensures value { result ≡ elements plane.now }
         ensures few { length result ≤ MOST_PARTITIONS }

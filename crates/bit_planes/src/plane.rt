@@ -11,16 +11,16 @@ use lane_words::MOST_PARTITIONS;
 use std::fmt;
 use std::marker::Model;
 
-/// How many words mark the most partitions.
+/// The number of words for the most partitions.
 const WORDS: usize = (MOST_PARTITIONS / WORD_BITS) as usize;
 
-/// A set of partitions, of which there are 1 to 4096. It stands in place: no call on it takes
-/// memory.
+/// A set of partitions, of which there are 1 to 4096. It is stored inline: no call on it
+/// allocates.
 #[derive(Drop)]
 pub struct Plane {
-    /// How many partitions there are.
+    /// The number of partitions.
     partitions: u32,
-    /// Each number of the set is marked by a bit. From `partitions` on no bit is set.
+    /// A bit for each element. No bit is set at or above `partitions`.
     words: [u64; WORDS],
 }
 
@@ -36,7 +36,7 @@ impl Model for Plane {
 }
 
 impl Plane {
-    /// The empty set of this many partitions, 1 to 4096.
+    /// The empty set over this many partitions, 1 to 4096.
     pub fn new(partitions: u32) -> Plane
         requires { (1 ≤ partitions) × (partitions ≤ MOST_PARTITIONS) }
         ensures value { result ≡ empty_set partitions }
@@ -49,7 +49,7 @@ impl Plane {
         }
     }
 
-    /// The set of all of this many partitions, 1 to 4096.
+    /// The set of all partitions, of which there are this many, 1 to 4096.
     pub fn full(partitions: u32) -> Plane
         requires { (1 ≤ partitions) × (partitions ≤ MOST_PARTITIONS) }
         ensures value { result ≡ full_set partitions }
@@ -61,7 +61,7 @@ impl Plane {
         Plane { partitions, words }
     }
 
-    /// The set of these of this many partitions, 1 to 4096.
+    /// The set of these elements, over this many partitions, 1 to 4096.
     pub fn of(partitions: u32, elements: &[u32]) -> Plane
         requires some { (1 ≤ partitions) × (partitions ≤ MOST_PARTITIONS) }
         requires below { All (λ q. q < partitions) elements.now }
@@ -76,7 +76,7 @@ impl Plane {
         set
     }
 
-    /// An equal set.
+    /// A copy of the set.
     pub fn copy(&self) -> Plane
         ensures { result ≡ self.now }
     {
@@ -86,7 +86,7 @@ impl Plane {
         }
     }
 
-    /// How many partitions there are: the elements are below it.
+    /// The number of partitions. All elements are below it.
     pub fn partitions(&self) -> u32
         ensures value { result ≡ partitions_of self.now }
         ensures bounds { (1 ≤ result) × (result ≤ MOST_PARTITIONS) }
@@ -94,7 +94,7 @@ impl Plane {
         self.partitions
     }
 
-    /// Puts a partition into the set.
+    /// Adds a partition to the set.
     pub fn insert(&mut self, q: u32)
         requires { q < partitions_of self.old }
         ensures value { self.new ≡ with_one self.old q }
@@ -104,8 +104,8 @@ impl Plane {
         bits::set(&mut self.words, q);
     }
 
-    /// Takes a number out of the set. One that is not in it, as each that is no partition, leaves
-    /// it as it was.
+    /// Removes a number from the set, which stays as it was if the number is not in it. Numbers at
+    /// or above the number of partitions are allowed.
     pub fn remove(&mut self, q: u32)
         ensures value { self.new ≡ without_one self.old q }
         ensures elements { (n : ℕ) → is_in self.new n ≡ (is_in self.old n && not (n == q)) }
@@ -116,7 +116,7 @@ impl Plane {
         }
     }
 
-    /// Whether a number is in the set, which none is that is no partition.
+    /// Whether a number is in the set. No number at or above the number of partitions is.
     pub fn contains(&self, q: u32) -> bool
         ensures value { result ≡ is_in self.now q }
         ensures below { IsTrue result → q < partitions_of self.now }
@@ -124,7 +124,7 @@ impl Plane {
         q < self.partitions && bits::is_set(&self.words, q)
     }
 
-    /// Puts what is in the other set, which is of as many partitions, into this one.
+    /// Adds all elements of the other set, which is over the same number of partitions.
     pub fn insert_all(&mut self, other: &Plane)
         requires { partitions_of self.old ≡ partitions_of other.now }
         ensures value { self.new ≡ union self.old other.now }
@@ -135,7 +135,7 @@ impl Plane {
         bits::or_into(&mut self.words[..used], &other.words[..used]);
     }
 
-    /// Takes what is in the other set, which is of as many partitions, out of this one.
+    /// Removes all elements of the other set, which is over the same number of partitions.
     pub fn remove_all(&mut self, other: &Plane)
         requires { partitions_of self.old ≡ partitions_of other.now }
         ensures value { self.new ≡ minus self.old other.now }
@@ -147,7 +147,7 @@ impl Plane {
         bits::and_not_into(&mut self.words[..used], &other.words[..used]);
     }
 
-    /// What is in this set or in the other, which is of as many partitions.
+    /// The union with a set over the same number of partitions.
     pub fn union(&self, other: &Plane) -> Plane
         requires { partitions_of self.now ≡ partitions_of other.now }
         ensures value { result ≡ union self.now other.now }
@@ -159,7 +159,8 @@ impl Plane {
         all
     }
 
-    /// What is in this set and not in the other, which is of as many partitions.
+    /// The difference: the elements that are not in the other set, which is over the same number of
+    /// partitions.
     pub fn minus(&self, other: &Plane) -> Plane
         requires { partitions_of self.now ≡ partitions_of other.now }
         ensures value { result ≡ minus self.now other.now }
@@ -172,7 +173,7 @@ impl Plane {
         rest
     }
 
-    /// The `n` lowest elements, or all where there are no more.
+    /// The `n` lowest elements; all of them where there are fewer.
     pub fn lowest(&self, n: u32) -> Plane
         ensures value { result ≡ lowest n self.now }
         ensures elements { (q : ℕ)
@@ -188,7 +189,8 @@ impl Plane {
         }
     }
 
-    /// Whether some number is in both this set and the other, which is of as many partitions.
+    /// Whether the set shares an element with the other, which is over the same number of
+    /// partitions.
     pub fn meets(&self, other: &Plane) -> bool
         requires { partitions_of self.now ≡ partitions_of other.now }
         ensures value { result ≡ meets self.now other.now }
@@ -199,7 +201,7 @@ impl Plane {
         bits::any_and(&self.words[..used], &other.words[..used])
     }
 
-    /// Whether each element is in the other set, which is of as many partitions.
+    /// Whether each element is in the other set, which is over the same number of partitions.
     pub fn within(&self, other: &Plane) -> bool
         requires { partitions_of self.now ≡ partitions_of other.now }
         ensures value { result ≡ is_within self.now other.now }
@@ -210,7 +212,7 @@ impl Plane {
         bits::is_within(&self.words[..used], &other.words[..used])
     }
 
-    /// Whether the other, which is of as many partitions, is the same set.
+    /// Whether the other set, which is over the same number of partitions, is equal.
     pub fn same(&self, other: &Plane) -> bool
         requires { partitions_of self.now ≡ partitions_of other.now }
         ensures value { result ≡ is_same self.now other.now }
@@ -220,7 +222,7 @@ impl Plane {
         bits::are_equal(&self.words[..used], &other.words[..used])
     }
 
-    /// How many elements there are.
+    /// The number of elements.
     pub fn count(&self) -> u32
         ensures value { result ≡ size self.now }
         ensures most { result ≤ partitions_of self.now }
@@ -236,7 +238,7 @@ impl Plane {
         Elements::new(self)
     }
 
-    /// The lowest element that is not below `from`, if there is one.
+    /// The lowest element at or above `from`, if there is one.
     pub(crate) fn lowest_from(&self, from: u32) -> Option<u32>
         ensures value { MatchOption result
             ((q : ℕ) → from ≤ q → is_in self.now q ≡ false)
@@ -247,7 +249,7 @@ impl Plane {
     }
 }
 
-/// A set is printed as its elements.
+/// Prints the set as its elements.
 impl fmt::Debug for Plane {
     fn fmt<W: fmt::Write>(&self, f: &mut fmt::Formatter<W>) -> fmt::Result {
         f.debug_set().entries(self.iter()).finish()

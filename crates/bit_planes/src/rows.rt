@@ -1,4 +1,4 @@
-//! A set for each of some members.
+//! A table of sets by member number.
 
 ghost use Rattle.std.specs.Prelude.{◌≡◌, ◌≢◌, ◌<◌, ◌≤◌, ℕ, [], length, None, Some, IsTrue, MatchOption, IfSome, IfOk, IfErr, OnOk, OnErr};
 ghost use Rattle.std.specs.Iterator.{YieldsFirst, YieldsFirstBy, item_count};
@@ -12,13 +12,13 @@ use lane_words::{MOST_PARTITIONS, Memory};
 use std::alloc::Global;
 use std::marker::Model;
 
-/// A set of partitions for each of some members: a map from member numbers. All sets are of as many
-/// partitions, 1 to 4096, which it tells also where it has no row.
+/// A map from member numbers to sets of partitions. All sets are over the same number of
+/// partitions, 1 to 4096, which an empty table has too.
 #[derive(Debug, Drop)]
 pub struct PlaneRows {
-    /// How many partitions there are.
+    /// The number of partitions.
     partitions: u32,
-    /// The sets by member, rising.
+    /// The sets, in rising order of the members.
     rows: Vec<(u32, Plane)>,
 }
 
@@ -29,11 +29,12 @@ impl Model for PlaneRows {
 
     ghost view = { λ a. record { partitions = a.partitions; rows = a.rows.items } };
 
-    ghost invariant = { λ a. IsValidRows (record { partitions = a.partitions; rows = a.rows.items }) };
+    ghost invariant = { λ a.
+        IsValidRows (record { partitions = a.partitions; rows = a.rows.items }) };
 }
 
 impl PlaneRows {
-    /// No rows yet, of sets of this many partitions, 1 to 4096. It takes no memory.
+    /// A table without rows, for sets over this many partitions, 1 to 4096. It allocates nothing.
     pub fn new(alloc: Global, partitions: u32) -> PlaneRows
         requires { (1 ≤ partitions) × (partitions ≤ MOST_PARTITIONS) }
         ensures value { result ≡ no_rows partitions }
@@ -45,8 +46,8 @@ impl PlaneRows {
         }
     }
 
-    /// No rows yet, of sets of this many partitions, 1 to 4096, with room for this many rows. Refused
-    /// for want of memory alone.
+    /// A table without rows, for sets over this many partitions, 1 to 4096, with capacity for `n`
+    /// rows. It fails only when out of memory.
     pub fn with_room(alloc: Global, partitions: u32, rows: usize) -> Result<PlaneRows, Memory>
         requires { (1 ≤ partitions) × (partitions ≤ MOST_PARTITIONS) }
         ensures value { IfOk result (λ r. r ≡ no_rows partitions) }
@@ -58,7 +59,7 @@ impl PlaneRows {
         })
     }
 
-    /// How many partitions there are: the elements of each set are below it.
+    /// The number of partitions. All elements of each set are below it.
     pub fn partitions(&self) -> u32
         ensures value { result ≡ self.now.partitions }
         ensures valid { IsValidRows self.now }
@@ -66,8 +67,8 @@ impl PlaneRows {
         self.partitions
     }
 
-    /// Gives a member this set, of as many partitions, in place of the one that it may have, and
-    /// leaves every other row. Refused for want of memory alone, with everything as it was.
+    /// Sets the row of a member, over the same number of partitions, and leaves every other row as
+    /// it was. It fails only when out of memory, and then changes nothing.
     pub fn put(&mut self, member: u32, plane: Plane) -> Result<(), Memory>
         requires { partitions_of plane ≡ self.old.partitions }
         ensures value { OnOk result (self.new ≡ with_row self.old member plane) }
@@ -90,8 +91,8 @@ impl PlaneRows {
         }
     }
 
-    /// Takes what is in a set, of as many partitions, out of a member's row, where it has one, and
-    /// leaves every other row. It takes no memory.
+    /// Removes the elements of a set, over the same number of partitions, from a member's row if it
+    /// has one, and leaves every other row as it was. It allocates nothing.
     pub fn remove_from(&mut self, member: u32, plane: &Plane)
         requires { partitions_of plane.now ≡ self.old.partitions }
         ensures value { self.new ≡ with_less self.old member plane.now }
@@ -106,7 +107,7 @@ impl PlaneRows {
         }
     }
 
-    /// The set of a member, or nothing where it has no row. It takes no memory.
+    /// The row of a member, or nothing if it has none. It allocates nothing.
     pub fn get(&self, member: u32) -> Option<&Plane>
         ensures value { MatchOption result
             (row_of self.now member ≡ None)
@@ -121,14 +122,14 @@ impl PlaneRows {
         }
     }
 
-    /// The numbers of the members, in rising order. It takes no memory.
+    /// The member numbers, in rising order. It allocates nothing.
     pub fn members(&self) -> Members<'_>
         ensures { result ≡ members self.now }
     {
         Members { rows: &self.rows }
     }
 
-    /// The members with their sets, in rising order of the members. It takes no memory.
+    /// The member numbers with their sets, in rising order. It allocates nothing.
     pub fn iter(&self) -> Rows<'_>
         ensures value { result ≡ self.now.rows }
         ensures valid { IsValidRows self.now }
@@ -136,14 +137,14 @@ impl PlaneRows {
         Rows { rows: &self.rows }
     }
 
-    /// How many members have a row.
+    /// The number of rows.
     pub fn len(&self) -> usize
         ensures { result ≡ length self.now.rows }
     {
         self.rows.len()
     }
 
-    /// Whether a member's number is above all that have a row.
+    /// Whether a member number is above all that have a row.
     fn is_above_all(&self, member: u32) -> bool
         ensures { IsTrue result → IsGapFor self.now.rows member (length self.now.rows) }
     {
@@ -153,7 +154,7 @@ impl PlaneRows {
         }
     }
 
-    /// The index of a member's row, or the index where it would go.
+    /// The index of a member's row, or the index at which to insert one.
     fn search(&self, member: u32) -> Result<usize, usize>
         ensures found { IfOk result (IsIndexOf self.now.rows member) }
         ensures absent { IfErr result (IsGapFor self.now.rows member) }
@@ -165,8 +166,8 @@ impl PlaneRows {
     }
 }
 
-/// The index of a member's row, where it has one and no member is missing between it and the first
-/// one or the last one.
+/// The index of a member's row, if it has one and no number is missing between it and the first or
+/// the last row. In most tables none is missing, so this needs no search.
 fn usual_index(rows: &[(u32, Plane)], member: u32) -> Option<usize>
     ensures { IfSome result (IsIndexOf rows.now member) }
 {
@@ -178,8 +179,7 @@ fn usual_index(rows: &[(u32, Plane)], member: u32) -> Option<usize>
     index_before_last(rows, member)
 }
 
-/// The index of a member's row, where it has one and no member is missing between it and the last
-/// one.
+/// The index of a member's row, if it has one and no number is missing between it and the last row.
 fn index_before_last(rows: &[(u32, Plane)], member: u32) -> Option<usize>
     ensures { IfSome result (IsIndexOf rows.now member) }
 {
@@ -192,17 +192,17 @@ fn index_before_last(rows: &[(u32, Plane)], member: u32) -> Option<usize>
     None
 }
 
-/// Whether a member's row stands at an index.
+/// Whether a member's row is at this index.
 fn has_at(rows: &[(u32, Plane)], index: usize, member: u32) -> bool
     ensures { IsTrue result → IsIndexOf rows.now member index }
 {
     index < rows.len() && rows[index].0 == member
 }
 
-/// The numbers of the members that are left, in rising order.
+/// An iterator over the member numbers, in rising order.
 #[derive(Debug, Drop)]
 pub struct Members<'a> {
-    /// The rows whose members have not been given.
+    /// The rows whose members have not been returned.
     rows: &'a [(u32, Plane)],
 }
 
@@ -214,10 +214,10 @@ impl<'a> Model for Members<'a> {
     ghost view = { λ a. map (λ row. row.0) a.rows.now };
 }
 
-/// The rows that are left, in rising order of their members.
+/// An iterator over the rows, in rising order of the members.
 #[derive(Debug, Drop)]
 pub struct Rows<'a> {
-    /// The rows that have not been given.
+    /// The rows that have not been returned.
     rows: &'a [(u32, Plane)],
 }
 

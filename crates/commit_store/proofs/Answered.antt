@@ -1,4 +1,4 @@
--- What an accepted commit tells.
+-- What an accepted commit implies.
 use Rattle.std.proofs.Common.{◌≡◌, ◌+◌, ◌<◌, ◌≤◌, ℕ, Bool, true, false, List, Ok, Err, length, refl, arith, inl, inr}
 use Rattle.std.specs.Prelude.{◌==◌, nat_lt, not, if◌then◌else◌}
 use Rattle.std.specs.Str.{bytes_eq}

@@ -134,7 +134,7 @@ counter-exact s room l e = record {
   spare = λ n le. one_at_0 s.counts n ∙ e.spare n le;
 }
 
--- a known key keeps its number
+-- an interned key keeps its number
 same-number : (ks : List Key) (k x : Key) → IsWithoutRepeats ks → is_known ks x ≡ true → id_of (with_key ks k) x ≡ id_of ks x
 same-number ks k x apart h =
     let g = grows ks k in
@@ -144,7 +144,7 @@ same-number ks k x apart h =
     let new = known (with_key ks k) x (among (with_key ks k) x (id_of ks x) within stands) in
     stays_apart ks k apart (id_of (with_key ks k) x) (id_of ks x) new.0 within (new.1 ∙ sym stands)
 
--- a key that was new has no number of one that was known
+-- a key that was new has no number of one that was interned
 later-number : (ks : List Key) (k x : Key) → is_known ks x ≡ false → length ks ≤ id_of (with_key ks k) x
 later-number ks k x h =
     elim (cases_lt (id_of (with_key ks k) x) (length ks)) [

@@ -29,7 +29,7 @@ pub sum-push : (xs : List ℕ) (v : ℕ) → sum (xs ++ v ∷ []) ≡ sum xs + v
 sum-push [] v = omega (arith, sum-cons v [])
 sum-push (x ∷ xs) v = omega (arith, sum-cons x xs, sum-cons x (xs ++ v ∷ []), sum-push xs v)
 
--- numbers below a bound add up to at most so many times the bound
+-- numbers below a bound add up to at most their number times the bound
 pub sum-most : (xs : List ℕ) (most : ℕ) → ((i : ℕ) → get_or xs i 0 ≤ most) → sum xs ≤ length xs * most
 sum-most [] most h = omega arith
 sum-most (x ∷ xs) most h =
@@ -77,7 +77,7 @@ own-count id ids =
 more-count : (id : ℕ) (ids : List ℕ) (x : ℕ) → plain ids x ≤ plain (id ∷ ids) x
 more-count id ids x = omega (arith, plain-cons id ids x)
 
--- counters that are raised by a list add up to so much more as the list is long
+-- counters that are raised by a list add up to as much more as the list is long
 pub sum_raised : (counts ids : List ℕ) → HaveCounters counts ids → sum (raised counts ids) ≡ sum counts + length ids
 unfolding raised
 sum_raised counts [] have = omega (arith, raised-none 0 counts)

@@ -1,4 +1,4 @@
--- How a store is seen.
+-- The view of a store's fields.
 use Rattle.commit_store.specs.Commits.{Commits}
 use Rattle.commit_store.specs.declared.store.Store.TheInside.{Inside}
 

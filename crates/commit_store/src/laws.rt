@@ -1,18 +1,18 @@
-//! Laws of stores over logs.
+//! Laws of a store and its logs.
 
 ghost use Rattle.std.specs.Prelude.{ℕ, List};
-ghost use Rattle.commit_store.specs.Commits.{IsValidLogs, AreEndsCommitted, AreLogsOf, Commits, HasPlainCounts, IsExact, IsPlaceOf, Key, Keyed, PartitionLogs, keys_in, with_record_at};
+ghost use Rattle.commit_store.specs.Commits.{IsValidLogs, AreLogsOf, Commits, HasPlainCounts, IsExact, IsFullyCommitted, IsPlaceOf, Key, Keyed, PartitionLogs, keys_in, with_record_at};
 
-/// A record that is appended leaves a store exact: it is past every committed offset, and a new
-/// key's counter is 0.
+/// Appending a record leaves a store exact: the record is past every committed offset, and the
+/// counter of a new key is 0.
 pub fn an_append_keeps_exact()
-    ensures { (s : Commits) (l : PartitionLogs) (place : ℕ) (key : Key) → IsValidLogs l
-        → IsPlaceOf l key place → IsExact s l → IsExact s (with_record_at l place key) }
+    ensures { (s : Commits) (l : PartitionLogs) (p : ℕ) (key : Key) → IsValidLogs l
+        → IsPlaceOf l key p → IsExact s l → IsExact s (with_record_at l p key) }
 {}
 
-/// Where the ends of all logs are committed, the counter of each key is how often it was appended.
+/// If the ends of all logs are committed, each key's counter is the number of its records.
 pub fn all_committed_is_the_plain_count()
-    ensures { (s : Commits) (l : PartitionLogs) (appended : List Keyed) → IsValidLogs l
-        → AreLogsOf appended l → IsExact s l → AreEndsCommitted s l
+    ensures { (s : Commits) (l : PartitionLogs) (appended : List Keyed)
+        → IsFullyCommitted s l → AreLogsOf appended l
         → HasPlainCounts s l (keys_in appended) }
 {}

@@ -9,11 +9,11 @@ use partition_log::LogRead;
 use std::alloc::Global;
 use std::marker::Model;
 
-/// For each of 1 to 4096 partitions the committed offset, which is that of the next record to be
-/// read, and for each key number how often the key is in the committed records.
+/// The committed offset of each of 1 to 4096 partitions, which is the offset of the next record to
+/// read, and for each key number the count of that key in the committed records.
 ///
-/// An offset and its counts are taken together: after each call the counters add up to the
-/// committed offsets.
+/// Offsets and counts change together: after each call the counters add up to the committed
+/// offsets.
 #[derive(Debug, Drop)]
 pub struct Store {
     /// The committed offsets, in the order of the partitions.
@@ -34,8 +34,8 @@ impl Model for Store {
 }
 
 impl Store {
-    /// A store of this many partitions, with nothing committed and no counters. Refused for want of
-    /// memory.
+    /// A store for this many partitions, with nothing committed and no counters. It fails only when
+    /// out of memory.
     pub fn new(alloc: Global, partitions: u32) -> Result<Store, Memory>
         requires { (1 ≤ partitions) × (partitions ≤ MOST_PARTITIONS) }
         ensures partitions { IfOk result (λ store. length store.offsets ≡ partitions) }
@@ -46,8 +46,8 @@ impl Store {
         Store::over(alloc, partitions, 0)
     }
 
-    /// A store of this many partitions, with nothing committed and a counter at 0 for each of this
-    /// many key numbers. Refused for want of memory.
+    /// A store for this many partitions, with nothing committed and a counter at 0 for each of this
+    /// many key numbers. It fails only when out of memory.
     pub fn over(alloc: Global, partitions: u32, keys: u32) -> Result<Store, Memory>
         requires { (1 ≤ partitions) × (partitions ≤ MOST_PARTITIONS) }
         ensures partitions { IfOk result (λ store. length store.offsets ≡ partitions) }
@@ -60,8 +60,8 @@ impl Store {
         Ok(Store { committed, counts })
     }
 
-    /// Makes room for at least one counter more. Refused, with all else as it was, for want of
-    /// memory.
+    /// Reserves capacity for at least one more counter. It fails only when out of memory, and then
+    /// changes nothing.
     pub fn reserve_key(&mut self) -> Result<(), Memory>
         ensures same { self.new ≡ record self.old { room = self.new.room } }
         ensures room { OnOk result (1 ≤ self.new.room) }
@@ -70,8 +70,8 @@ impl Store {
         self.counts.reserve()
     }
 
-    /// A counter at 0 for the next key number, in the room that was made for it. It takes no
-    /// memory.
+    /// Adds a counter at 0 for the next key number, in the capacity reserved for it. It allocates
+    /// nothing.
     pub fn add_key(&mut self)
         requires { 1 ≤ self.old.room }
         ensures added { self.new ≡ record self.old
@@ -81,13 +81,14 @@ impl Store {
         self.counts.add_key();
     }
 
-    /// Commits the records of log `p` from the offset `from` on whose key numbers are the list of
-    /// the partial count, and answers the new committed offset: it goes past them, and each counter
-    /// rises by how often its key is among them. It takes no memory.
+    /// Commits the records of log `p` from offset `from` on, whose key numbers `partial` lists, and
+    /// returns the new committed offset, which is the one after them. Each counter rises by the
+    /// number of times its key is among them. It allocates nothing.
     ///
-    /// Refused, with everything as it was, by the first that holds: an empty list (`EmptyCommit`);
-    /// an offset other than the committed one, which is told (`OffsetMismatch`); records past the
-    /// log's end (`PastEnd`); numbers other than the log's there (`WrongRecords`).
+    /// It fails, and then changes nothing, with the first of these that applies: the list is empty
+    /// (`EmptyCommit`); `from` is not the committed offset, which the refusal reports
+    /// (`OffsetMismatch`); the records end past the log (`PastEnd`); the key numbers differ from
+    /// the log's (`WrongRecords`).
     pub fn commit<L: LogRead>(
         &mut self,
         logs: &L,
@@ -128,7 +129,7 @@ impl Store {
         self.committed.as_slice()
     }
 
-    /// How often a key is in the committed records, by its number.
+    /// The count of a key, by its number, in the committed records.
     pub fn count(&self, id: u32) -> u64
         requires { id < length self.now.counts }
         ensures { result ≡ count_at self.now id }
@@ -136,21 +137,21 @@ impl Store {
         self.counts.get(id)
     }
 
-    /// The counters, in the order of their key numbers.
+    /// The counters, in order of their key numbers.
     pub fn counts(&self) -> &[u64]
         ensures { result.now ≡ self.now.counts }
     {
         self.counts.counts()
     }
 
-    /// How many partitions there are.
+    /// The number of partitions.
     pub fn partitions(&self) -> u32
         ensures { result ≡ length self.now.offsets }
     {
         self.committed.len() as u32
     }
 
-    /// How many counters there are.
+    /// The number of counters.
     pub fn keys(&self) -> usize
         ensures { result ≡ length self.now.counts }
     {
@@ -158,7 +159,7 @@ impl Store {
     }
 }
 
-/// This many offsets of 0.
+/// A list of this many offsets, all 0.
 fn zeros(alloc: Global, count: usize) -> Result<Vec<u32>, Memory>
     ensures { IfOk result (λ zeros. zeros.items ≡ replicate count 0) }
 {
@@ -166,7 +167,7 @@ fn zeros(alloc: Global, count: usize) -> Result<Vec<u32>, Memory>
     Ok(zeros)
 }
 
-/// The offset past the records of a commit, or why it is refused.
+/// The offset after the records of a commit, or why it is refused.
 fn next_offset<L: LogRead>(
     logs: &L,
     p: u32,

@@ -1,4 +1,4 @@
--- A consumer: what it holds, how far it has read, and what it has not committed yet.
+-- A consumer: what it holds, how far it has read, and what is pending.
 use Rattle.std.specs.Prelude.{◌≡◌, ℕ, ◌+◌, ◌-◌, ◌≤◌, Bool, true, false, not, nat_le, ◌==◌, min, max, List, Option, Some, None, is_none, is_some, Result, Ok, Err, length, map, replicate, slice_index_or, slice_range, slice_set, if◌then◌else◌}
 use Rattle.std.specs.List.{range_with_len}
 use Rattle.std.specs.Option.{option_map, option_map_or, unwrap_or}
@@ -11,9 +11,9 @@ use Rattle.partition_log.specs.Logs.{PartitionLogs, log_at}
 use Rattle.group_machine.specs.Cluster.{CommitTerms, LeaseTerms, start_of}
 use Rattle.consumer.specs.declared.held.Held.{Held}
 
--- A consumer of this many partitions: its member number where it is in the group; the generation
--- and the partitions of its last lease; and for each partition, where it holds it, from which
--- offset on it has not committed (the base), and at which offset it reads on (the position)
+-- A consumer: its member number if it is in the group; the generation and the partitions of its
+-- last lease; and for each partition that it holds, the base, below which its records are
+-- committed, and the position, at which it reads on
 pub record ConsumerState : Type 0 where
   pub partitions : ℕ
   pub member : Option ℕ
@@ -31,22 +31,22 @@ out_of_group partitions = record {
   held = replicate partitions None;
 }
 
--- the offsets of a partition that is held
+-- the offsets of a partition, if it is held
 abbrev pub held_at : ConsumerState → ℕ → Option Held
 held_at c p = slice_index_or c.held p None
 
 abbrev pub is_held : ConsumerState → ℕ → Bool
 is_held c p = is_some (held_at c p)
 
--- the base of a partition, and 0 of one that is not held
+-- the base of a partition; 0 if it is not held
 abbrev pub base_of : ConsumerState → ℕ → ℕ
 base_of c p = option_map_or (λ h. h.base) (held_at c p) 0
 
--- the position in a partition, and 0 in one that is not held
+-- the position in a partition; 0 if it is not held
 abbrev pub position_of : ConsumerState → ℕ → ℕ
 position_of c p = option_map_or (λ h. h.position) (held_at c p) 0
 
--- what a consumer keeps
+-- the invariant of a consumer
 pub record IsValidConsumer (c : ConsumerState) : Type 0 where
   pub some_partitions : 1 ≤ c.partitions
   pub few_partitions : c.partitions ≤ MOST_PARTITIONS
@@ -59,8 +59,7 @@ pub record IsValidConsumer (c : ConsumerState) : Type 0 where
 abbrev pub joined_as : ConsumerState → ℕ → ConsumerState
 joined_as c member = record (out_of_group c.partitions) { member = Some member }
 
--- a partition that is leased anew is read from the committed offset on; what was held stays as it
--- was
+-- a newly leased partition is read from the committed offset on; what was held stays as it was
 abbrev pub leased_slot : LeaseTerms → ℕ → Option Held → Option Held
 leased_slot lease p (Some h) = Some h
 leased_slot lease p None =
@@ -68,8 +67,8 @@ leased_slot lease p None =
     then Some (record { base = start_of lease p; position = start_of lease p })
     else None
 
--- the consumer with a lease: it gives nothing up yet (KIP-429: what is kept is read on during a
--- rebalance)
+-- the consumer with a lease: it gives nothing up yet (KIP-429: retained partitions are read during
+-- a rebalance)
 abbrev pub leased : ConsumerState → LeaseTerms → ConsumerState
 leased c lease = record c {
   generation = lease.generation;
@@ -78,14 +77,14 @@ leased c lease = record c {
 }
 
 -- ---- polling
--- why nothing can be read or sent of a partition: the consumer is out, or does not hold it
+-- whether a partition can be read: the consumer may be out of the group, or not hold it
 abbrev pub hold_answer : ConsumerState → ℕ → Result (Unit {0}) Refusal
 hold_answer c p =
     if is_none c.member then Err r.OutOfGroup
     else if not (is_held c p) then Err r.NotHeld
     else Ok tt
 
--- how many records a poll of at most n reads: what the log has past the position
+-- the number of records that a poll of at most n reads
 abbrev pub polled_count : ConsumerState → PartitionLogs → ℕ → ℕ → ℕ
 polled_count c l p n = min n (length (log_at l p) - position_of c p)
 
@@ -96,7 +95,7 @@ poll_answer c l p n = result_and (hold_answer c p) (Ok (polled_count c l p n))
 abbrev pub with_held : ConsumerState → ℕ → Held → ConsumerState
 with_held c p h = record c { held = slice_set c.held p (Some h) }
 
--- the position is past what was read, and all else is as it was
+-- the consumer after a poll: only the position moves
 abbrev pub polled : ConsumerState → PartitionLogs → ℕ → ℕ → ConsumerState
 polled c l p n =
     with_held c p (record { base = base_of c p; position = position_of c p + polled_count c l p n })
@@ -106,17 +105,17 @@ abbrev pub IsWithinLogs : ConsumerState → PartitionLogs → Type 0
 IsWithinLogs c l = (p : ℕ) → position_of c p ≤ length (log_at l p)
 
 -- ---- sending
--- whether there is anything to send
+-- whether a partition has pending records
 abbrev pub sendable_answer : ConsumerState → ℕ → Result (Unit {0}) Refusal
 sendable_answer c p =
     result_and (hold_answer c p)
     (if base_of c p == position_of c p then Err r.EmptyCommit else Ok tt)
 
--- the key numbers of what is pending: the log's records from the base to the position
+-- the key numbers of the pending records: the log's from the base to the position
 abbrev pub pending : ConsumerState → PartitionLogs → ℕ → List ℕ
 pending c l p = slice_range (log_at l p) (base_of c p) (position_of c p)
 
--- the commit of all that is pending
+-- the commit of all pending records
 abbrev pub commit_of : ConsumerState → PartitionLogs → ℕ → CommitTerms
 commit_of c l p = record {
   member = unwrap_or c.member 0;
@@ -130,8 +129,8 @@ abbrev pub send_answer : ConsumerState → PartitionLogs → ℕ → Result Comm
 send_answer c l p = result_and (sendable_answer c p) (Ok (commit_of c l p))
 
 -- ---- answers
--- the offsets once this one is known to be committed: what is committed is pending no more, and a
--- base that was past it goes back
+-- the offsets once this one is known to be committed: committed records are no longer pending, and
+-- a base that was past it goes back
 abbrev pub realigned_held : Held → ℕ → Held
 realigned_held h committed = record {
   base = committed;
@@ -145,9 +144,8 @@ realigned_slot c p committed (Some h) = with_held c p (realigned_held h committe
 abbrev pub realigned : ConsumerState → ℕ → ℕ → ConsumerState
 realigned c p committed = realigned_slot c p committed (held_at c p)
 
--- the consumer after the answer to a commit of a partition: it is out where its member is not
--- known; an offset that is told, by an acceptance or a mismatch, realigns it; every other answer
--- changes nothing
+-- the consumer after the reply to a commit of a partition: it is out if its member is unknown; the
+-- offset of an accepted commit or of a mismatch realigns it; any other reply changes nothing
 abbrev pub answered_by : ConsumerState → ℕ → Result ℕ Refusal → ConsumerState
 answered_by c p (Ok committed) = realigned c p committed
 answered_by c p (Err r.UnknownMember) = out_of_group c.partitions
@@ -155,7 +153,7 @@ answered_by c p (Err (r.OffsetMismatch committed)) = realigned c p committed
 answered_by c p (Err refusal) = c
 
 -- ---- giving up
--- what is not assigned is dropped, with what is pending of it
+-- what is not assigned is dropped, with its pending records
 abbrev pub given_up : ConsumerState → ConsumerState
 given_up c = record c {
   held = map (λ p. if is_in c.assigned p then held_at c p else None)

@@ -10,18 +10,18 @@ use bit_planes::Plane;
 use group_machine::Lease;
 use lane_words::MOST_PARTITIONS;
 
-/// How far a partition is read.
+/// The offsets of a partition that is held.
 #[derive(Clone, Copy, Debug, PartialEq, Eq)]
 pub struct Held {
-    /// The offset up to which all records are known to be committed.
+    /// The base: all records below it are known to be committed.
     pub base: u32,
-    /// The offset of the next record to be read: what is before it and not below the base is
+    /// The position: the offset of the next record to read. The records from the base up to it are
     /// pending.
     pub position: u32,
 }
 
 impl Held {
-    /// The same, once the records below this offset are known to be committed, and no more.
+    /// The offsets once exactly the records below this offset are known to be committed.
     pub(crate) fn realigned(self, committed: u32) -> Held
         ensures { result ≡ realigned_held self committed }
     {
@@ -37,7 +37,7 @@ impl Held {
     }
 }
 
-/// What is leased and not held yet is held from the committed offset on.
+/// Holds what is leased and not held yet, from the committed offset on.
 pub fn lease(held: &mut [Option<Held>], holding: &mut Plane, lease: &Lease)
     requires few { length held.old ≤ MOST_PARTITIONS }
     requires one_each { length held.old ≡ partitions_of lease.now.assigned }
@@ -56,7 +56,7 @@ pub fn lease(held: &mut [Option<Held>], holding: &mut Plane, lease: &Lease)
     *holding = holding.union(lease.assigned());
 }
 
-/// What is not assigned is dropped.
+/// Drops what is not assigned.
 pub fn give_up(held: &mut [Option<Held>], holding: &mut Plane, assigned: &Plane)
     requires few { length held.old ≤ MOST_PARTITIONS }
     requires one_each { length held.old ≡ partitions_of assigned.now }

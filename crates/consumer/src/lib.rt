@@ -1,5 +1,14 @@
-//! A consumer: it reads the partitions that it holds, sends commits of what it read, and learns
-//! what became of them.
+//! One consumer of a group: it reads the partitions that it holds and sends commits.
+//!
+//! What it promises:
+//! - Each call is exactly the step that `specs/Consumer.antt` defines: what it returns and the
+//!   state after it. A refusal is the first that applies, in order, and changes nothing.
+//! - The invariant of `Consumer`: no base is past its position, and a consumer that is out of the
+//!   group is the same as a new one.
+//! - `send` makes the commit of exactly the log's records from the base to the position. Only `new`
+//!   and `send` allocate.
+//!
+//! Tests: `cluster_tests` for single calls, `driver_tests` for schedules.
 #![tactic(auto)]
 
 ghost use Rattle.std.specs.Prelude.{◌≡◌, ◌≤◌, ℕ, Some, Ok, Err, IfOk, IfErr, OnOk, OnErr};
@@ -19,13 +28,13 @@ use partition_log::LogRead;
 use std::alloc::Global;
 use std::marker::Model;
 
-/// One consumer of a group, as it knows itself.
+/// The state of one consumer, as it knows it.
 ///
-/// For each partition that it holds it has a base, up to which it knows the records to be
-/// committed, and a position, at which it reads on: the records between them are pending. What it
-/// holds takes at most 16 bytes a partition.
+/// Each partition that it holds has a base and a position. Records below the base are known to be
+/// committed, reading continues at the position, and the records between them are pending. This
+/// takes at most 16 bytes a partition.
 ///
-/// It may lag behind the cluster: whoever is lost goes on as before until an answer tells it.
+/// It can lag behind the cluster: a consumer that is lost goes on until a reply says so.
 #[derive(Debug, Drop)]
 pub struct Consumer {
     alloc: Global,
@@ -50,8 +59,8 @@ impl Model for Consumer {
 }
 
 impl Consumer {
-    /// A consumer of 1 to 4096 partitions that is out of a group. Refused for want of memory alone;
-    /// no other call but `send` takes memory.
+    /// A consumer of 1 to 4096 partitions, out of the group. It fails only when out of memory; no
+    /// other call but `send` allocates.
     pub fn new(alloc: Global, partitions: u32) -> Result<Consumer, Memory>
         requires { (1 ≤ partitions) × (partitions ≤ MOST_PARTITIONS) }
         ensures value { IfOk result (λ consumer. consumer ≡ out_of_group partitions) }
@@ -69,7 +78,7 @@ impl Consumer {
         })
     }
 
-    /// It has joined as this member: it is in, of generation 0, and holds nothing.
+    /// Records that it has joined as this member: it is in generation 0 and holds nothing.
     pub fn joined(&mut self, member: u32)
         ensures { self.new ≡ joined_as self.old member }
     {
@@ -77,8 +86,8 @@ impl Consumer {
         self.member = Some(member);
     }
 
-    /// It takes a lease of its member: what it does not hold yet of the leased partitions it reads
-    /// from their committed offsets on. What it held it keeps until it gives up.
+    /// Takes a lease of its member. It reads newly leased partitions from their committed offsets
+    /// on, and holds all others until it gives them up.
     pub fn take_lease(&mut self, lease: &Lease)
         requires member { self.old.member ≡ Some lease.now.member }
         requires partitions { partitions_of lease.now.assigned ≡ self.old.partitions }
@@ -89,11 +98,10 @@ impl Consumer {
         self.assigned = lease.assigned().copy();
     }
 
-    /// Reads at most `n` records of a partition on from its position, and answers how many there
-    /// were.
+    /// Reads at most `n` records of a partition from its position on. Returns the number read.
     ///
-    /// Refused, with everything as it was: a consumer that is out (`OutOfGroup`); a partition that
-    /// it does not hold (`NotHeld`), as each past the last.
+    /// Errors, which change nothing: it is out of the group (`OutOfGroup`); it does not hold the
+    /// partition, or the partition does not exist (`NotHeld`).
     pub fn poll<L: LogRead>(&mut self, logs: &L, p: u32, n: u32) -> Result<u32, Refusal>
         requires partitions { (L.contents logs.now).partitions ≡ self.old.partitions }
         requires within { IsWithinLogs self.old (L.contents logs.now) }
@@ -110,10 +118,10 @@ impl Consumer {
         Ok(count)
     }
 
-    /// Whether anything is pending of a partition.
+    /// Whether a partition has pending records.
     ///
-    /// Refused: a consumer that is out (`OutOfGroup`); a partition that it does not hold
-    /// (`NotHeld`); one of which nothing is pending (`EmptyCommit`).
+    /// Errors: it is out of the group (`OutOfGroup`); it does not hold the partition (`NotHeld`);
+    /// nothing is pending (`EmptyCommit`).
     pub fn sendable(&self, p: u32) -> Result<(), Refusal>
         ensures { result ≡ sendable_answer self.now p }
     {
@@ -121,8 +129,8 @@ impl Consumer {
         Ok(())
     }
 
-    /// The commit of all that is pending of a partition, in the name of its member and of the
-    /// generation of its lease. Refused as `sendable` is, and for want of memory.
+    /// The commit of all pending records of a partition, by its member in the generation of its
+    /// lease. It fails as `sendable` does, and when out of memory.
     pub fn send<L: LogRead>(&self, logs: &L, p: u32) -> Result<Commit, Refusal>
         requires partitions { (L.contents logs.now).partitions ≡ self.now.partitions }
         requires within { IsWithinLogs self.now (L.contents logs.now) }
@@ -134,10 +142,10 @@ impl Consumer {
         Ok(Commit::new(member, self.generation, p, held.base, partial))
     }
 
-    /// It learns what became of a commit of this partition. Where its member is not known any more,
-    /// it is out and drops all. Where an offset is told, as the new committed one or with a
-    /// mismatch, its base becomes that offset, and so does its position where it is less, or where
-    /// the base was past it. Every other answer changes nothing.
+    /// Takes the reply to a commit of this partition. If its member is unknown, it drops everything
+    /// and is out of the group. If the reply has an offset, of an accepted commit or of a mismatch,
+    /// the base becomes that offset, and so does the position if it is lower or if the base was
+    /// past that offset. Any other reply changes nothing.
     pub fn answered(&mut self, p: u32, reply: Result<u32, Refusal>)
         ensures { self.new ≡ answered_by self.old p reply }
     {
@@ -149,7 +157,7 @@ impl Consumer {
         }
     }
 
-    /// What it claims when it rejoins: the partitions of its last lease. None where it is out.
+    /// What it claims when it rejoins: the partitions of its last lease. None if it is out.
     pub fn claim(&self) -> Plane
         ensures value { result ≡ self.now.assigned }
         ensures valid { IsValidConsumer self.now }
@@ -157,14 +165,14 @@ impl Consumer {
         self.assigned.copy()
     }
 
-    /// It drops what it holds and is not assigned, with what is pending of that.
+    /// Drops what it holds and is not assigned, with its pending records.
     pub fn give_up(&mut self)
         ensures { self.new ≡ given_up self.old }
     {
         held::give_up(&mut self.held, &mut self.holding, &self.assigned);
     }
 
-    /// It drops all, and is out of the group.
+    /// Drops everything and leaves the group.
     pub fn drop_all(&mut self)
         ensures { self.new ≡ out_of_group self.old.partitions }
     {
@@ -175,7 +183,7 @@ impl Consumer {
         self.holding = Plane::new(self.partitions);
     }
 
-    /// How many partitions there are.
+    /// The number of partitions.
     pub fn partitions(&self) -> u32
         ensures value { result ≡ self.now.partitions }
         ensures valid { IsValidConsumer self.now }
@@ -183,14 +191,14 @@ impl Consumer {
         self.partitions
     }
 
-    /// The number of its member; nothing where it is out.
+    /// Its member number; nothing if it is out.
     pub fn member(&self) -> Option<u32>
         ensures { result ≡ self.now.member }
     {
         self.member
     }
 
-    /// The generation of its last lease; 0 before the first, and where it is out.
+    /// The generation of its last lease; 0 before the first one, and if it is out.
     pub fn generation(&self) -> u32
         ensures { result ≡ self.now.generation }
     {
@@ -204,22 +212,22 @@ impl Consumer {
         self.held_at(p).is_some()
     }
 
-    /// The base of a partition: the offset up to which it knows the records to be committed; 0
-    /// where it is not held.
+    /// The base of a partition: all records below it are known to be committed. It is 0 if the
+    /// partition is not held.
     pub fn base(&self, p: u32) -> u32
         ensures { result ≡ base_of self.now p }
     {
         self.held_at(p).map_or(0, |held| held.base)
     }
 
-    /// The offset of the next record of a partition that it reads; 0 where it is not held.
+    /// The offset of the next record to read; 0 if the partition is not held.
     pub fn position(&self, p: u32) -> u32
         ensures { result ≡ position_of self.now p }
     {
         self.held_at(p).map_or(0, |held| held.position)
     }
 
-    /// The offsets of a partition, where it is held.
+    /// The offsets of a partition, if it is held.
     fn held_at(&self, p: u32) -> Option<Held>
         ensures { result ≡ held_at self.now p }
     {
@@ -229,7 +237,7 @@ impl Consumer {
         }
     }
 
-    /// The member in whose name a partition is read, and the partition's offsets.
+    /// Its member number, and the offsets of a partition that it holds.
     fn hold(&self, p: u32) -> Result<(u32, Held), Refusal>
         ensures held { IfOk result (IsHold self.now p) }
         ensures refused { IfErr result (λ why. hold_answer self.now p ≡ Err why) }
@@ -243,7 +251,7 @@ impl Consumer {
         Ok((member, held))
     }
 
-    /// The same, where something is pending.
+    /// The same, if the partition has pending records.
     fn pending(&self, p: u32) -> Result<(u32, Held), Refusal>
         ensures held { IfOk result (IsHold self.now p) }
         ensures some { IfOk result (λ h. sendable_answer self.now p ≡ Ok tt) }
@@ -256,7 +264,7 @@ impl Consumer {
         Ok((member, held))
     }
 
-    /// The offset up to which a partition is committed is known to be this one.
+    /// Realigns a partition to an offset that is known to be committed.
     fn realign(&mut self, p: u32, committed: u32)
         ensures { self.new ≡ realigned self.old p committed }
     {

@@ -47,7 +47,7 @@ same_found (Some s) b there back = sym (there s refl)
 same_of : (r s : SetRows) → HasRowsOf r s → HasRowsOf s r → HaveSameRows r s
 same_of r s here there m = same_found (row_of r m) (row_of s m) (there m) (here m)
 
--- what the second of two answers tells of rows, where the first was yes
+-- what the second of two answers implies for rows, where the first was yes
 pub tells_equal : (r s : SetRows) (b : Bool) → IsValidRows r → IsValidRows s → r.partitions ≡ s.partitions
     → HasRowsOf r s → IsTrue b ↔ HasRowsOf s r → IsTrue b ↔ (r ≡ s)
 tells_equal r s b valid valid' below here there = (

@@ -8,7 +8,7 @@ use Rattle.bit_planes.proofs.RowLaws.{over_at}
 abbrev Rows : Type 0
 Rows = List (ℕ × PartitionSet)
 
--- a row is of as many partitions
+-- a row is over the same number of partitions
 pub item_over : (r : SetRows) (items : Rows) (i : ℕ) (item : ℕ × PartitionSet) → IsValidRows r → items ≡ r.rows → i < length items → item ≡ get_or items i item → partitions_of item.1 ≡ r.partitions
 item_over r items i item valid same lt at =
     let inside : i < length r.rows = subst (λ (rows : Rows). i < length rows) same lt in

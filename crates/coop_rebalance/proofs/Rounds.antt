@@ -123,7 +123,7 @@ off_lies granted [] (row ∷ rows) len = absurd (omega arith)
 off_lies granted (m ∷ ms) [] len = absurd (omega arith)
 off_lies granted (m ∷ ms) (row ∷ rows) len = (λ q. rw (in_off granted m row q) (and_most (is_in row q) (granted_to_other granted m q)), off_lies granted ms rows (omega arith))
 
--- ---- nothing is withheld from apart rows by rows that lie in them
+-- ---- nothing is withheld from disjoint rows by rows that lie in them
 lies_others : (ms : List ℕ) (rows bs : List PartitionSet) (m q : ℕ) → Lies rows bs → others ms rows m q ≤ others ms bs m q
 lies_others [] rows bs m q lies = omega arith
 lies_others (n ∷ ms) [] [] m q lies = omega arith
@@ -187,7 +187,7 @@ within_paired p (n ∷ ms) (row ∷ rows) (b ∷ bs) lies m =
       | false ↦ within_paired p ms rows bs lies.1 m
     ]
 
--- what the next rows of rows that are apart are, with the target
+-- what the next rows of disjoint rows are, with the target
 pub record AreNext (p : ℕ) (ms : List ℕ) (gs ts ws : List PartitionSet) : Type 0 where
   pub long : length ws ≡ length ms
   pub over : AreBelow p ws
@@ -367,7 +367,7 @@ given_apart_paired p ms gs len rising some over apart =
     ∙ ap (λ rows. unions gs rows) (sets_paired p ms ws n.long rising) in
     subst (λ r. AreApart (together g r)) (sym (next_paired p ms gs len rising)) (subst AreApart (sym same) (given_apart_lists p ms gs ts len n.target_long rising over n.target_over apart ta))
 
--- What is granted and what is given besides stay apart
+-- What is granted and what is assigned stay disjoint
 pub given_apart : (g : SetRows) → IsValidRows g → 0 < length g.rows → AreApart (sets_of g (members g)) → AreApart (together g (next_rows g))
 given_apart g valid some apart =
     let ms : List ℕ = members g in

@@ -1,5 +1,5 @@
--- What a member is not to be given yet: KIP-429 has a partition that changes its owner revoked by
--- the old one before it is assigned to the new.
+-- What is withheld from a member for now. By KIP-429 the old owner of a partition revokes it before
+-- it is assigned to the new one.
 use Rattle.std.specs.Prelude.{◌≡◌, ℕ, ◌==◌, Bool, false, ◌&&◌, ◌||◌, not, List, [], ◌∷◌, map}
 use Rattle.bit_planes.specs.PartitionSet.{PartitionSet, partitions_of, is_in, set_where}
 use Rattle.bit_planes.specs.SetRows.{SetRows, set_of}
@@ -21,7 +21,7 @@ withheld_row granted row =
 unfoldable pub withheld : SetRows → SetRows → SetRows
 withheld target granted = record target { rows = map (withheld_row granted.rows) target.rows }
 
--- each member has what the target gives it and no other is granted
+-- each member has its part of the target that no other is granted
 abbrev pub AreWithoutOthers : SetRows → SetRows → SetRows → Type 0
 AreWithoutOthers rows target granted = (m q : ℕ)
     → is_in (set_of rows m) q

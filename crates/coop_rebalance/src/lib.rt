@@ -1,5 +1,14 @@
-//! Cooperative rebalancing: a partition that changes its owner is revoked by the old one before it
-//! is given to the new.
+//! Cooperative rebalancing: the old owner of a partition revokes it before the new owner gets it
+//! (KIP-429).
+//!
+//! What it promises:
+//! - [`withhold`] returns each member's target row without what any other member is granted.
+//!   [`withhold_in_place`] does the same to the given rows. [`to_give`] and [`added`] are the
+//!   differences between granted and assigned sets, and [`is_final`] their equality.
+//! - Laws: a second round retains all that the first one assigned and withholds nothing; what a
+//!   round assigns lies within its balanced target; granted and newly assigned sets stay disjoint.
+//!
+//! Tests: `cluster_tests`.
 #![tactic(auto)]
 
 mod laws;

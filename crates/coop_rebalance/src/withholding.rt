@@ -1,4 +1,4 @@
-//! What members may be given at once, and what they have to give up first.
+//! What members get at once, and what others have to revoke first.
 
 ghost use Rattle.std.specs.Prelude.{◌≡◌, ◌&&◌, ◌||◌, ◌↔◌, ℕ, not, IfOk, IsTrue};
 ghost use Rattle.bit_planes.specs.PartitionSet.{partitions_of, is_in, minus};
@@ -11,11 +11,11 @@ use bit_planes::{Plane, PlaneRows};
 use lane_words::Memory;
 use std::alloc::Global;
 
-/// Each member's row of the target without what any other member is granted, of as many partitions.
-/// So a partition that is to change its owner is given to nobody until the present one has given it
-/// up, which is KIP-429's rule.
+/// Each member's target row without what any other member is granted. Both are over the same number
+/// of partitions. So nobody gets a partition that changes its owner until the present owner has
+/// revoked it, which is the rule of KIP-429.
 ///
-/// Its cost is linear in members times partitions. It is refused for want of memory alone.
+/// The cost is linear in members times partitions. It fails only when out of memory.
 pub fn withhold(alloc: Global, target: &PlaneRows, granted: &PlaneRows) -> Result<PlaneRows, Memory>
     requires { target.now.partitions ≡ granted.now.partitions }
     ensures value { IfOk result (λ rows. rows ≡ withheld target.now granted.now) }
@@ -34,8 +34,8 @@ pub fn withhold(alloc: Global, target: &PlaneRows, granted: &PlaneRows) -> Resul
     Ok(rows)
 }
 
-/// The same in place, where what is granted is of the same members and of as many partitions. It
-/// takes no memory.
+/// `withhold` in place, where `granted` has rows of the same members, over the same number of
+/// partitions. It allocates nothing.
 pub fn withhold_in_place(rows: &mut PlaneRows, granted: &PlaneRows)
     requires partitions { rows.old.partitions ≡ granted.now.partitions }
     requires members { members rows.old ≡ members granted.now }
@@ -50,8 +50,8 @@ pub fn withhold_in_place(rows: &mut PlaneRows, granted: &PlaneRows)
     }
 }
 
-/// What a member has to give up: what it is granted and not assigned, of as many partitions. It
-/// takes no memory.
+/// What a member has to revoke: what is granted and not assigned to it. Both sets are over the same
+/// number of partitions. It allocates nothing.
 pub fn to_give(granted: &Plane, assigned: &Plane) -> Plane
     requires { partitions_of granted.now ≡ partitions_of assigned.now }
     ensures value { result ≡ minus granted.now assigned.now }
@@ -62,8 +62,8 @@ pub fn to_give(granted: &Plane, assigned: &Plane) -> Plane
     granted.minus(assigned)
 }
 
-/// What a member gets anew: what it is assigned and not granted, of as many partitions. It takes no
-/// memory.
+/// What a member gains: what is assigned and not granted to it. Both sets are over the same number
+/// of partitions. It allocates nothing.
 pub fn added(assigned: &Plane, granted: &Plane) -> Plane
     requires { partitions_of assigned.now ≡ partitions_of granted.now }
     ensures value { result ≡ minus assigned.now granted.now }
@@ -74,8 +74,9 @@ pub fn added(assigned: &Plane, granted: &Plane) -> Plane
     assigned.minus(granted)
 }
 
-/// Whether each member is granted what it is assigned, of as many partitions. Where a member has a
-/// row on one side only, also an empty one, it is not. It takes no memory.
+/// Whether each member is granted exactly what it is assigned. Both are over the same number of
+/// partitions. It is false if a member has a row on one side only, even an empty one. It allocates
+/// nothing.
 pub fn is_final(granted: &PlaneRows, assigned: &PlaneRows) -> bool
     requires { granted.now.partitions ≡ assigned.now.partitions }
     ensures rows { IsTrue result ↔ HaveSameRows granted.now assigned.now }
@@ -84,7 +85,7 @@ pub fn is_final(granted: &PlaneRows, assigned: &PlaneRows) -> bool
     has_rows_of(granted, assigned) && has_rows_of(assigned, granted)
 }
 
-/// Whether each row of the others is in these rows too.
+/// Whether these rows contain each row of the other table.
 fn has_rows_of(rows: &PlaneRows, others: &PlaneRows) -> bool
     requires { rows.now.partitions ≡ others.now.partitions }
     ensures rows { IsTrue result ↔ HasRowsOf rows.now others.now }
@@ -101,24 +102,24 @@ fn has_rows_of(rows: &PlaneRows, others: &PlaneRows) -> bool
     true
 }
 
-/// What is granted to some member, and what to two or more.
+/// The partitions that are granted to at least one member, and to at least two.
 #[derive(Debug, Drop)]
 struct Grants {
-    /// What one or more members are granted.
+    /// Granted to one or more members.
     some: Plane,
-    /// What two or more members are granted.
+    /// Granted to two or more members.
     several: Plane,
 }
 
 impl Grants {
-    /// Collects what members are granted.
+    /// Collects both sets from the granted rows.
     fn of(granted: &PlaneRows) -> Grants
         ensures { AreGrants result.some result.several granted.now }
     {
         let mut some = Plane::new(granted.partitions());
         let mut several = Plane::new(granted.partitions());
         for (_, row) in granted.iter() {
-            // In a group the rows are disjoint, so this is seldom so.
+            // In a group the rows are disjoint, so this is rare.
             if row.meets(&some) {
                 several.insert_all(&row.minus(&row.minus(&some)));
             }
@@ -127,7 +128,7 @@ impl Grants {
         Grants { some, several }
     }
 
-    /// What members other than this one are granted.
+    /// What all members other than this one are granted.
     fn of_others(&self, granted: &PlaneRows, member: u32) -> Plane
         requires { AreGrants self.now.some self.now.several granted.now }
         ensures elements { (q : ℕ) → is_in result q ≡ granted_to_other granted.now.rows member q }
@@ -139,7 +140,7 @@ impl Grants {
         }
     }
 
-    /// What members other than the one with this row are granted.
+    /// What all members other than the one with this row are granted.
     fn beside(&self, own: &Plane) -> Plane
         requires some { partitions_of self.now.some ≡ partitions_of own.now }
         requires several { partitions_of self.now.several ≡ partitions_of own.now }

@@ -1,16 +1,16 @@
 -- What the target and the withheld rows give each member.
 use Rattle.std.proofs.Common.{ℕ, suc, ◌≡◌, ◌<◌, ◌≤◌, ◌==◌, Bool, true, false, ◌&&◌, ◌||◌, ◌⊎◌, inl, inr, not, List, [], ◌∷◌, map, cond, refl, ap, sym, ◌∙◌, subst, arith}
-use Rattle.std.specs.Prelude.{Some, IsTrue}
+use Rattle.std.specs.Prelude.{Some}
 use Rattle.std.proofs.lemmas.Bool.{false≢true}
-use Rattle.bit_planes.specs.PartitionSet.{PartitionSet, is_in, is_within}
+use Rattle.bit_planes.specs.PartitionSet.{PartitionSet, is_in}
 use Rattle.bit_planes.specs.SetRows.{SetRows, IsValidRows, members, find_row, set_or_empty, set_of, sets_of}
 use Rattle.bit_planes.proofs.Sets.{both_true, same_set, in_empty}
 use Rattle.sticky_assignor.specs.Balanced.{AreBelow, IsBalanced}
 use Rattle.sticky_assignor.proofs.AssignedLaws.{members_assigned, assigned_kept, below_assigned}
-use Rattle.coop_rebalance.specs.Rounds.{AreGranted, target_rows, next_rows, LiesInTarget, Settles}
+use Rattle.coop_rebalance.specs.Rounds.{AreGranted, target_rows, next_rows, LiesInTarget}
 use Rattle.coop_rebalance.specs.Withheld.{granted_to_other}
 use Rattle.coop_rebalance.proofs.WithheldRows.{set_withheld}
-use Rattle.coop_rebalance.proofs.Rounds.{next_within, settles}
+use Rattle.coop_rebalance.proofs.Rounds.{next_within}
 use Rattle.group_machine.proofs.SlotsLemmas.{number_is, same_id, other_id}
 use Rattle.group_machine.proofs.PresentLemmas.{Listed, RisesFrom, rises}
 use Rattle.group_machine.proofs.Rows.{apart_says, balanced_apart, member_listed, set_over, sets_below}
@@ -87,16 +87,6 @@ found_other p (row ∷ rows) m n q ne e = go (λ h. found_other p rows m n q ne 
 pub other_of : (r : SetRows) (m n q : ℕ) → (m ≡ n → ⊥) → is_in (set_of r n) q ≡ true → granted_to_other r.rows m q ≡ true
 other_of r m n q ne e = found_other r.partitions r.rows m n q ne e
 
--- ---- the second round keeps everything and withholds nothing
-second : (r : SetRows) → AreGranted r → Settles (next_rows r)
-second r owned = settles r owned.valid owned.some owned.apart
-
-pub second_all : (r : SetRows) → AreGranted r → next_rows (next_rows r) ≡ target_rows (next_rows r)
-second_all r owned = (second r owned).all
-
-pub second_within : (r : SetRows) → AreGranted r → (m : ℕ) → IsTrue (is_within (set_of (next_rows r) m) (set_of (target_rows (next_rows r)) m))
-second_within r owned m = (second r owned).keeps m
-
 -- ---- by look-up
 pub next_in_target : (r : SetRows) → (m q : ℕ) → is_in (set_of (next_rows r) m) q ≡ true → is_in (set_of (target_rows r) m) q ≡ true
 next_in_target r m q e = (both_true (is_in (set_of (target_rows r) m) q) (not (granted_to_other r.rows m q)) (sym (next_in r m q) ∙ e)).0
@@ -111,7 +101,6 @@ next_not_other r m n q e h = go (m == n) refl
   where
     free : granted_to_other r.rows m q ≡ false
     free = true_not (granted_to_other r.rows m q) ((both_true (is_in (set_of (target_rows r) m) q) (not (granted_to_other r.rows m q)) (sym (next_in r m q) ∙ e)).1)
-
     go : (b : Bool) → (m == n) ≡ b → m ≡ n
     go true is = number_is m n is
     go false is = absurd (false≢true (sym free ∙ other_of r m n q (λ same. false≢true (sym is ∙ ap (λ k. m == k) (sym same) ∙ same_id m)) h))

@@ -36,7 +36,7 @@ get_of [] k s e = cc
 get_of (t ∷ slots) zero s e = let same : t ≡ s = cc in sym same
 get_of (t ∷ slots) (suc k) s e = get_of slots k s e
 
--- the slot at a place after the change
+-- the slot at an index after the change
 abbrev pub slot_after : Change → ℕ → Slot → Slot
 slot_after change i s = slot_with s.name (seat_after change (i + 1) s.seat)
 
@@ -71,7 +71,7 @@ no_seat : (o : Option Seat) → option_map (λ x. x.joined) o ≡ None → o ≡
 no_seat None e = refl
 no_seat (Some x) e = cc
 
--- one place more: of one that has joined, of one that is not present, and of one that has not joined
+-- one index more: of one that has joined, of one that is not present, and of one that has not joined
 pub any_more : (change : Change) (slots : List Slot) (i : ℕ) (s : Slot) (before : Bool) → i < length slots → s ≡ get_or slots i s → option_map (λ x. x.joined) (seat_after change (i + 1) s.seat) ≡ Some true
     → (before || is_anybody_in (drop i (mid change slots))) ≡ (true || is_anybody_in (drop (i + 1) (mid change slots)))
 any_more change slots i s before lt e is =

@@ -31,7 +31,7 @@ pub stepped_partitions : {A : Type 0} (old new before : GroupState) (answer : Re
 stepped_partitions old new before (Ok v) ok err same = ap (λ g. g.partitions) ok ∙ completed_partitions before ∙ same
 stepped_partitions old new before (Err why) ok err same = ap (λ g. g.partitions) err
 
--- another good group of as many partitions
+-- another valid group with the same number of partitions
 pub regrouped : (s : ClusterState) (g : GroupState) → IsValidCluster s → IsValidGroup g → g.partitions ≡ s.group.partitions → IsValidCluster (with_group s g)
 regrouped s g c good same = record {
   good = good;
@@ -129,7 +129,7 @@ commit-kept g l old new p ids answer k ok err exact =
     }
 
 -- ---- leases
--- what a member is to keep is a set of the group's partitions
+-- what a member is assigned is a set of the group's partitions
 pub assigned_over : (g : GroupState) → AllFit g → (m : ℕ) → partitions_of (assigned_of g m) ≡ g.partitions
 assigned_over g fit m = go (member_of g m) (λ x is. fit m x is)
   where

@@ -1,5 +1,5 @@
--- A completion leaves a good group.
-use Rattle.std.proofs.Common.{slice_index_or, length, ℕ, ◌≡◌, Bool, true, false, ◌&&◌, ◌||◌, ◌⊎◌, inl, inr, List, Option, Some, None, map, refl, ap, sym, ◌∙◌, subst, arith, is_some, cond}
+-- A completion leaves a valid group.
+use Rattle.std.proofs.Common.{slice_index_or, length, ℕ, ◌≡◌, Bool, true, false, ◌&&◌, ◌||◌, ◌⊎◌, inl, inr, List, Option, Some, None, map, refl, ap, sym, ◌∙◌, subst, arith, is_some}
 use Rattle.std.proofs.lemmas.Bool.{false≢true}
 use Rattle.std.proofs.lemmas.List.FromFn.{length-map-range_with_len}
 use Rattle.std.specs.Option.{option_or, option_map}
@@ -12,13 +12,13 @@ use Rattle.group_machine.specs.declared.group.Seat.{Seat}
 use Rattle.group_machine.specs.declared.group.Phase.TheVariants.{Empty, Preparing}
 use Rattle.group_machine.specs.State.{GroupState, member_of, members, is_anybody, seat_joined, seat_granted, seat_assigned, granted_of, granted_rows, last_holder}
 use Rattle.group_machine.specs.Moves.{takers}
-use Rattle.group_machine.specs.Completion.{all_joined, is_ready, completed_seat, complete, completed}
-use Rattle.group_machine.specs.Rounds.{is_stable, agrees, all_agree}
+use Rattle.group_machine.specs.Completion.{all_joined, is_ready, completed_seat, complete}
+use Rattle.group_machine.specs.Settled.{is_stable, agrees, all_agree}
 use Rattle.group_machine.specs.Good.{IsFit, IsValidGroup}
+use Rattle.group_machine.specs.Private.Changes.{IsChanged}
 use Rattle.group_machine.proofs.SlotsLemmas.{seat_each}
 use Rattle.group_machine.proofs.PresentLemmas.{Listed, listed_present, numbers_each, length_reseated, any_each, all_says, some_not}
 use Rattle.group_machine.proofs.Rows.{map_same, member_listed, set_over}
-use Rattle.group_machine.specs.Private.Changes.{IsChanged}
 use Rattle.group_machine.proofs.Below.{target_kept, target_below, target_balanced, next_members, next_kept, next_below, next_in_target, next_not_other, next_apart, next_is_target}
 use Rattle.group_machine.proofs.GroupLemmas.{members_granted, set_granted, granted_owned, granted_over}
 use Rattle.group_machine.proofs.TakerLemmas.{held_after}
@@ -185,11 +185,3 @@ complete_good g n e =
       empty = (λ s. cc, λ s. absurd (false≢true (sym s ∙ any_each (completed_seat next) g.slots ∙ any)));
       counted = λ a. omega arith;
     }
-
--- a completion, where there is one, leaves a good group
-pub completed_good : (g : GroupState) → IsChanged g → IsValidGroup (completed g)
-completed_good g n = go (is_ready g) refl
-  where
-    go : (b : Bool) → is_ready g ≡ b → IsValidGroup (cond b (complete g) g)
-    go true e = complete_good g n e
-    go false e = next_good g n e

@@ -1,31 +1,27 @@
 -- A group's rows, and the look-up of one member.
-use Rattle.std.proofs.Common.{ℕ, suc, ◌≡◌, ◌<◌, ◌≤◌, true, List, [], ◌∷◌, Option, Some, None, length, map, slice_get, refl, ap, sym, ◌∙◌, subst, arith}
+use Rattle.std.proofs.Common.{ℕ, suc, ◌≡◌, ◌<◌, true, List, [], ◌∷◌, Option, Some, None, length, map, slice_get, refl, ap, sym, ◌∙◌, subst, arith}
 use Rattle.std.specs.Option.{option_map}
-use Rattle.lane_words.specs.declared.limits.TheConstants.{MOST_PARTITIONS}
-use Rattle.bit_planes.specs.PartitionSet.{PartitionSet, partitions_of, is_in}
 use Rattle.bit_planes.specs.SetRows as rows
+use Rattle.bit_planes.specs.PartitionSet.{PartitionSet, partitions_of, is_in}
 use Rattle.bit_planes.specs.SetRows.{SetRows, set_or_empty, set_of, sets_of, IsValidRows, AreOver}
-use Rattle.bit_planes.proofs.Sets.{partitions_empty, within_says}
+use Rattle.bit_planes.proofs.Sets.{partitions_empty}
 use Rattle.sticky_assignor.specs.Balanced.{AreApart}
 use Rattle.coop_rebalance.specs.Rounds.{AreGranted}
 use Rattle.group_machine.specs.declared.group.Slot.{Slot}
 use Rattle.group_machine.specs.declared.group.Seat.{Seat}
 use Rattle.group_machine.specs.Slots.{seat_in, and_member, present_from, present}
-use Rattle.group_machine.specs.State.{GroupState, member_of, members, is_anybody, seat_granted, seat_assigned, granted_of, assigned_of, granted_rows, assigned_rows}
+use Rattle.group_machine.specs.State.{GroupState, member_of, members, is_anybody, seat_granted, granted_of, granted_rows}
 use Rattle.group_machine.specs.Good.{IsSized, IsFit, AllFit, IsApart}
 use Rattle.group_machine.proofs.PresentLemmas.{RisesFrom, rising, present_rises, find_present, any_count}
 use Rattle.group_machine.proofs.Rows.{apart_of}
 
 -- ---- rows of the present members
-numbers_of : (h : Seat → PartitionSet) (xs : List (ℕ × Seat)) → map {A = ℕ × PartitionSet} (λ row. row.0) (map (λ r. (r.0, h r.1)) xs) ≡ map (λ r. r.0) xs
+pub numbers_of : (h : Seat → PartitionSet) (xs : List (ℕ × Seat)) → map {A = ℕ × PartitionSet} (λ row. row.0) (map (λ r. (r.0, h r.1)) xs) ≡ map (λ r. r.0) xs
 numbers_of h [] = refl
 numbers_of h (x ∷ xs) = ap (λ r. x.0 ∷ r) (numbers_of h xs)
 
 pub members_granted : (g : GroupState) → rows.members (granted_rows g) ≡ members g
 members_granted g = numbers_of (λ x. x.granted) (present g.slots)
-
-pub members_assigned : (g : GroupState) → rows.members (assigned_rows g) ≡ members g
-members_assigned g = numbers_of (λ x. x.assigned) (present g.slots)
 
 granted_found : (p : ℕ) (o : Option Seat) → set_or_empty p (option_map (λ x. x.granted) o) ≡ seat_granted p o
 granted_found p None = refl
@@ -34,13 +30,6 @@ granted_found p (Some x) = refl
 pub set_granted : (g : GroupState) (m : ℕ) → set_of (granted_rows g) m ≡ granted_of g m
 set_granted g m = ap (λ o. set_or_empty g.partitions o) (find_present (λ x. x.granted) g.slots m) ∙ granted_found g.partitions (member_of g m)
 
-assigned_found : (p : ℕ) (o : Option Seat) → set_or_empty p (option_map (λ x. x.assigned) o) ≡ seat_assigned p o
-assigned_found p None = refl
-assigned_found p (Some x) = refl
-
-pub set_assigned : (g : GroupState) (m : ℕ) → set_of (assigned_rows g) m ≡ assigned_of g m
-set_assigned g m = ap (λ o. set_or_empty g.partitions o) (find_present (λ x. x.assigned) g.slots m) ∙ assigned_found g.partitions (member_of g m)
-
 pub members_rise : (g : GroupState) → RisesFrom 1 (members g)
 members_rise g = present_rises 1 g.slots
 
@@ -48,7 +37,7 @@ over_and : (p : ℕ) (h : Seat → PartitionSet) (m : ℕ) (o : Option Seat) (xs
 over_and p h m None xs here rest = rest
 over_and p h m (Some x) xs here rest = (here x refl, rest)
 
-over_from : (p : ℕ) (h : Seat → PartitionSet) (m : ℕ) (slots : List Slot) → ((k : ℕ) (x : Seat) → seat_in (slice_get slots k) ≡ Some x → partitions_of (h x) ≡ p) → AreOver p (map (λ r. (r.0, h r.1)) (present_from m slots))
+pub over_from : (p : ℕ) (h : Seat → PartitionSet) (m : ℕ) (slots : List Slot) → ((k : ℕ) (x : Seat) → seat_in (slice_get slots k) ≡ Some x → partitions_of (h x) ≡ p) → AreOver p (map (λ r. (r.0, h r.1)) (present_from m slots))
 over_from p h m [] each = tt
 over_from p h m (s ∷ slots) each = over_and p h m s.seat (present_from (suc m) slots) (λ x is. each 0 x is) (over_from p h (suc m) slots (λ k x is. each (suc k) x is))
 
@@ -60,29 +49,14 @@ granted_kept g sized fit = record {
   over = over_from g.partitions (λ x. x.granted) 1 g.slots (λ k x is. (fit (suc k) x is).granted_below);
 }
 
--- a group has 1 to the most partitions
-abbrev pub HasPartitions : GroupState → Type 0
-HasPartitions g = (1 ≤ g.partitions) × (g.partitions ≤ MOST_PARTITIONS)
-
-pub has_partitions : (g : GroupState) → IsSized g → HasPartitions g
-has_partitions g sized = (sized.some_partitions, sized.few_partitions)
-
-assigned_kept : (g : GroupState) → HasPartitions g → AllFit g → IsValidRows (assigned_rows g)
-assigned_kept g has fit = record {
-  some = has.0;
-  few = has.1;
-  rising = rising 1 (rows.members (assigned_rows g)) (subst (RisesFrom 1) (sym (members_assigned g)) (members_rise g));
-  over = over_from g.partitions (λ x. x.assigned) 1 g.slots (λ k x is. (fit (suc k) x is).assigned_below);
-}
-
-length_map : {A B : Type 0} (f : A → B) (xs : List A) → length (map f xs) ≡ length xs
+pub length_map : {A B : Type 0} (f : A → B) (xs : List A) → length (map f xs) ≡ length xs
 length_map f [] = refl
 length_map f (x ∷ xs) = ap (λ n. suc n) (length_map f xs)
 
 pub some_members : (g : GroupState) → is_anybody g ≡ true → 0 < length (members g)
 some_members g any = omega (arith, any_count g.slots any, length_map (λ r. r.0) (present g.slots))
 
-rows_apart : (r : SetRows) → RisesFrom 1 (rows.members r) → ((m n q : ℕ) → is_in (set_of r m) q ≡ true → is_in (set_of r n) q ≡ true → m ≡ n) → AreApart (sets_of r (rows.members r))
+pub rows_apart : (r : SetRows) → RisesFrom 1 (rows.members r) → ((m n q : ℕ) → is_in (set_of r m) q ≡ true → is_in (set_of r n) q ≡ true → m ≡ n) → AreApart (sets_of r (rows.members r))
 rows_apart r up alone = apart_of (set_of r) 1 (rows.members r) up alone
 
 pub granted_owned : (g : GroupState) → IsSized g → AllFit g → IsApart g → is_anybody g ≡ true → AreGranted (granted_rows g)
@@ -91,22 +65,6 @@ granted_owned g sized fit apart any = record {
   some = omega (arith, any_count g.slots any, length_map {B = ℕ × PartitionSet} (λ (m : ℕ × Seat). (m.0, m.1.granted)) (present g.slots));
   apart = rows_apart (granted_rows g) (subst (RisesFrom 1) (sym (members_granted g)) (members_rise g)) (λ m n q e h.
       apart m n q (ap (λ s. is_in s q) (sym (set_granted g m)) ∙ e) (ap (λ s. is_in s q) (sym (set_granted g n)) ∙ h));
-}
-
--- ---- a member's sets
-granted_within : (p : ℕ) (o : Option Seat) → ((x : Seat) → o ≡ Some x → IsFit p x) → (q : ℕ) → is_in (seat_assigned p o) q ≡ true → is_in (seat_granted p o) q ≡ true
-granted_within p None fit q e = e
-granted_within p (Some x) fit q e = within_says x.assigned x.granted ((fit x refl).within) q e
-
-pub assigned_in_granted : (g : GroupState) → AllFit g → (m q : ℕ) → is_in (assigned_of g m) q ≡ true → is_in (granted_of g m) q ≡ true
-assigned_in_granted g fit m q e = granted_within g.partitions (member_of g m) (λ x is. fit m x is) q e
-
-pub assigned_owned : (g : GroupState) → HasPartitions g → AllFit g → IsApart g → is_anybody g ≡ true → AreGranted (assigned_rows g)
-assigned_owned g has fit apart any = record {
-  valid = assigned_kept g has fit;
-  some = omega (arith, any_count g.slots any, length_map {B = ℕ × PartitionSet} (λ (m : ℕ × Seat). (m.0, m.1.assigned)) (present g.slots));
-  apart = rows_apart (assigned_rows g) (subst (RisesFrom 1) (sym (members_assigned g)) (members_rise g)) (λ m n q e h.
-      apart m n q (assigned_in_granted g fit m q (ap (λ s. is_in s q) (sym (set_assigned g m)) ∙ e)) (assigned_in_granted g fit n q (ap (λ s. is_in s q) (sym (set_assigned g n)) ∙ h)));
 }
 
 pub granted_over : (g : GroupState) → AllFit g → (m : ℕ) → partitions_of (granted_of g m) ≡ g.partitions

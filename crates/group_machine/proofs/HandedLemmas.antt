@@ -1,4 +1,4 @@
--- A place that is handed on.
+-- A seat that is handed on.
 use Rattle.std.proofs.Common.{ℕ, zero, suc, ◌≡◌, ◌+◌, ◌<◌, ◌==◌, Bool, true, false, ◌&&◌, ◌⊎◌, inl, inr, List, [], ◌∷◌, ◌++◌, Option, Some, None, is_some, length, length-append, map, slice_get, cond, refl, ap, sym, ◌∙◌, subst, arith}
 use Rattle.std.proofs.lemmas.Bool.{false≢true, cases_eq}
 use Rattle.std.proofs.lemmas.List.{map-append}
@@ -14,7 +14,7 @@ use Rattle.group_machine.specs.declared.group.Slot.{Slot}
 use Rattle.group_machine.specs.declared.group.Seat.{Seat}
 use Rattle.group_machine.specs.Slots.{seat_in, seat_of, and_member, present_from, present, reseated_from, only_of, without_seat}
 use Rattle.group_machine.specs.State.{GroupState, member_of, members, is_present, is_anybody, is_joined, seat_joined, seat_granted, seat_assigned, granted_of, assigned_of, last_holder}
-use Rattle.group_machine.specs.Rounds.{is_stable, agrees, is_settled}
+use Rattle.group_machine.specs.Settled.{is_stable, agrees, is_settled}
 use Rattle.group_machine.specs.Steps.{handed_seat, successor, handing_on}
 use Rattle.group_machine.specs.Good.{IsFit, LieInBalanced, IsValidGroup}
 use Rattle.group_machine.proofs.SlotsLemmas.{same_id, other_id, number_given, seat_without, reseated_same, reseated_not}
@@ -23,7 +23,7 @@ use Rattle.group_machine.proofs.Rows.{map_same}
 use Rattle.group_machine.proofs.GroupLemmas.{granted_over}
 use Rattle.group_machine.proofs.CompletionLemmas.{seat_behind, some_of}
 use Rattle.group_machine.proofs.StepLemmas.{IsFlag, fit_flag, any_of_present}
-use Rattle.group_machine.proofs.OtherLemmas.{seat_before, seat_last}
+use Rattle.group_machine.proofs.JoinLemmas.{seat_before, seat_last}
 
 -- ---- rows of which one goes to the end
 holders_append : (xs ys : List PartitionSet) (q : ℕ) → holders (xs ++ ys) q ≡ holders xs q + holders ys q
@@ -45,22 +45,7 @@ row_moved [] ys x i lt = row_last ys x i lt
 row_moved (y ∷ xs) ys x zero lt = (0, omega arith, refl)
 row_moved (y ∷ xs) ys x (suc i) lt = let r = row_moved xs ys x i (omega arith) in (suc r.0, omega (arith, r.1), r.2)
 
-last_row : (ys : List PartitionSet) (x : PartitionSet) → row_at (ys ++ x ∷ []) (length ys) ≡ x
-last_row [] x = refl
-last_row (y ∷ ys) x = last_row ys x
-
-front_row : (ys : List PartitionSet) (x : PartitionSet) (i : ℕ) → i < length ys → row_at (ys ++ x ∷ []) i ≡ row_at ys i
-front_row [] x i lt = absurd (omega arith)
-front_row (y ∷ ys) x zero lt = refl
-front_row (y ∷ ys) x (suc i) lt = front_row ys x i (omega arith)
-
-row_back : (xs ys : List PartitionSet) (x : PartitionSet) (i : ℕ) → i < length (xs ++ x ∷ ys) → (j : ℕ) × (j < length ((xs ++ ys) ++ x ∷ [])) × (row_at (xs ++ x ∷ ys) i ≡ row_at ((xs ++ ys) ++ x ∷ []) j)
-row_back [] ys x zero lt = (length ys, omega (arith, length-append ys (x ∷ [])), sym (last_row ys x))
-row_back [] ys x (suc i) lt = (i, omega (arith, length-append ys (x ∷ [])), sym (front_row ys x i (omega arith)))
-row_back (y ∷ xs) ys x zero lt = (0, omega arith, refl)
-row_back (y ∷ xs) ys x (suc i) lt = let r = row_back xs ys x i (omega arith) in (suc r.0, omega (arith, r.1), r.2)
-
-holders_moved : (xs ys : List PartitionSet) (x : PartitionSet) (q : ℕ) → holders ((xs ++ ys) ++ x ∷ []) q ≡ holders (xs ++ x ∷ ys) q
+pub holders_moved : (xs ys : List PartitionSet) (x : PartitionSet) (q : ℕ) → holders ((xs ++ ys) ++ x ∷ []) q ≡ holders (xs ++ x ∷ ys) q
 holders_moved xs ys x q =
     let last : holders ((xs ++ ys) ++ x ∷ []) q ≡ holders (xs ++ ys) q + (one (is_in x q) + 0) = holders_append (xs ++ ys) (x ∷ []) q in
     let before : holders (xs ++ x ∷ ys) q ≡ holders xs q + (one (is_in x q) + holders ys q) = holders_append xs (x ∷ ys) q in
@@ -74,17 +59,6 @@ balanced_moved p xs ys x b = record {
       let l = row_moved xs ys x j lj in
       let here : size_at ((xs ++ ys) ++ x ∷ []) i ≡ size_at (xs ++ x ∷ ys) k.0 = ap size k.2 in
       let there : size_at ((xs ++ ys) ++ x ∷ []) j ≡ size_at (xs ++ x ∷ ys) l.0 = ap size l.2 in
-      omega (arith, here, there, b.even k.0 l.0 k.1 l.1);
-}
-
-balanced_back : (p : ℕ) (xs ys : List PartitionSet) (x : PartitionSet) → IsBalanced p ((xs ++ ys) ++ x ∷ []) → IsBalanced p (xs ++ x ∷ ys)
-balanced_back p xs ys x b = record {
-  once = λ q lt. sym (holders_moved xs ys x q) ∙ b.once q lt;
-  even = λ i j li lj.
-      let k = row_back xs ys x i li in
-      let l = row_back xs ys x j lj in
-      let here : size_at (xs ++ x ∷ ys) i ≡ size_at ((xs ++ ys) ++ x ∷ []) k.0 = ap size k.2 in
-      let there : size_at (xs ++ x ∷ ys) j ≡ size_at ((xs ++ ys) ++ x ∷ []) l.0 = ap size l.2 in
       omega (arith, here, there, b.even k.0 l.0 k.1 l.1);
 }
 
@@ -220,7 +194,7 @@ all_moved t xs ys a b same =
     ∙ ap (λ c. list_all t xs && (c && list_all t ys)) same
     ∙ sym (list_all-append t xs (a ∷ ys))
 
--- a place that is handed on leaves whether the group is settled
+-- a seat that is handed on leaves whether the group is settled
 pub handed_settled : (g : GroupState) (name : List ℕ) (m : ℕ) → is_present g m ≡ true → is_settled (handing_on g name m) ≡ is_settled g
 handed_settled g name m here =
     let x = some_of (member_of g m) here in
@@ -231,14 +205,14 @@ handed_settled g name m here =
     ∙ ap (λ xs. list_all {X = ℕ × Seat} (λ r. agrees r.1) xs) (sym sp.all))
 
 -- the members before and after it: one is taken out, and its successor is the last
-record IsHandedList (g : GroupState) (name : List ℕ) (m : ℕ) : Type 0 where
+pub record IsHandedList (g : GroupState) (name : List ℕ) (m : ℕ) : Type 0 where
   pub front : List ℕ
   pub behind : List ℕ
   pub was : members g ≡ front ++ m ∷ behind
   pub now : members (handing_on g name m) ≡ (front ++ behind) ++ suc (length g.slots) ∷ []
   pub others : (k : ℕ) → Listed k (front ++ behind) → (k ≡ m → ⊥) × (k ≡ suc (length g.slots) → ⊥)
 
-handed_list : (g : GroupState) (name : List ℕ) (m : ℕ) → is_present g m ≡ true → IsHandedList g name m
+pub handed_list : (g : GroupState) (name : List ℕ) (m : ℕ) → is_present g m ≡ true → IsHandedList g name m
 handed_list g name m here =
     let x = some_of (member_of g m) here in
     let sp = split_at g.slots m x.0 x.1 in
@@ -262,15 +236,15 @@ handed_list g name m here =
     taken_out k y e is = let none : None ≡ Some y = ap (λ b. cond b None (seat_of g.slots k)) (sym (ap (λ n. n == m) e ∙ same_id m)) ∙ is in cc
 
 -- rows by the members before and after
-abbrev AreHanded : GroupState → ℕ → (ℕ → PartitionSet) → (ℕ → PartitionSet) → Type 0
+abbrev pub AreHanded : GroupState → ℕ → (ℕ → PartitionSet) → (ℕ → PartitionSet) → Type 0
 AreHanded g m f h = ((k : ℕ) → (k ≡ m → ⊥) → (k ≡ suc (length g.slots) → ⊥) → h k ≡ f k) × (h (suc (length g.slots)) ≡ f m)
 
-handed_rows : (g : GroupState) (name : List ℕ) (m : ℕ) (f h : ℕ → PartitionSet) → (l : IsHandedList g name m) → AreHanded g m f h → map h (members (handing_on g name m)) ≡ (map f l.front ++ map f l.behind) ++ f m ∷ []
+pub handed_rows : (g : GroupState) (name : List ℕ) (m : ℕ) (f h : ℕ → PartitionSet) → (l : IsHandedList g name m) → AreHanded g m f h → map h (members (handing_on g name m)) ≡ (map f l.front ++ map f l.behind) ++ f m ∷ []
 handed_rows g name m f h l same =
     ap (λ (ms : List ℕ). map h ms) l.now
     ∙ rows_renamed f h l.front l.behind m (suc (length g.slots)) (λ k at. let o = l.others k at in same.0 k o.0 o.1) same.1
 
-rows_before : (g : GroupState) (name : List ℕ) (m : ℕ) (f : ℕ → PartitionSet) → (l : IsHandedList g name m) → map f (members g) ≡ map f l.front ++ f m ∷ map f l.behind
+pub rows_before : (g : GroupState) (name : List ℕ) (m : ℕ) (f : ℕ → PartitionSet) → (l : IsHandedList g name m) → map f (members g) ≡ map f l.front ++ f m ∷ map f l.behind
 rows_before g name m f l = ap (λ (ms : List ℕ). map f ms) l.was ∙ map-append f l.front (m ∷ l.behind)
 
 pub handed_balanced : (g : GroupState) (name : List ℕ) (m : ℕ) (f h : ℕ → PartitionSet) → is_present g m ≡ true → AreHanded g m f h → IsBalanced g.partitions (map f (members g)) → IsBalanced g.partitions (map h (members (handing_on g name m)))
@@ -278,12 +252,6 @@ handed_balanced g name m f h here same b =
     let l = handed_list g name m here in
     let p : ℕ = g.partitions in
     subst (IsBalanced p) (sym (handed_rows g name m f h l same)) (balanced_moved p (map f l.front) (map f l.behind) (f m) (subst (IsBalanced p) (rows_before g name m f l) b))
-
-pub balanced_before : (g : GroupState) (name : List ℕ) (m : ℕ) (f h : ℕ → PartitionSet) → is_present g m ≡ true → AreHanded g m f h → IsBalanced g.partitions (map h (members (handing_on g name m))) → IsBalanced g.partitions (map f (members g))
-balanced_before g name m f h here same b =
-    let l = handed_list g name m here in
-    let p : ℕ = g.partitions in
-    subst (IsBalanced p) (sym (rows_before g name m f l)) (balanced_back p (map f l.front) (map f l.behind) (f m) (subst (IsBalanced p) (handed_rows g name m f h l same) b))
 
 -- ---- last holders
 holder_handed : (g : GroupState) (name : List ℕ) (m q : ℕ) → q < length g.last → last_holder (handing_on g name m) q ≡ cond (is_in (granted_of g m) q) (Some (length g.slots + 1)) (last_holder g q)

@@ -1,5 +1,5 @@
 -- The present members: what their list and the look-up of one say of each other.
-use Rattle.std.proofs.Common.{ℕ, zero, suc, ◌≡◌, ◌+◌, ◌<◌, ◌≤◌, Bool, true, false, ◌&&◌, ◌||◌, ◌⊎◌, inl, inr, List, [], ◌∷◌, Option, Some, None, is_some, length, map, get_or, slice_get, refl, ap, sym, ◌∙◌, arith, inl, inr}
+use Rattle.std.proofs.Common.{ℕ, zero, suc, ◌≡◌, ◌+◌, ◌<◌, ◌≤◌, Bool, true, false, ◌&&◌, ◌||◌, ◌⊎◌, inl, inr, List, [], ◌∷◌, Option, Some, None, is_some, length, map, get_or, slice_get, refl, ap, sym, ◌∙◌, arith}
 use Rattle.std.proofs.lemmas.Bool.{false≢true}
 use Rattle.std.specs.List.{list_any, list_all}
 use Rattle.std.specs.Option.{option_map}
@@ -196,21 +196,6 @@ listed_present slots member at =
     let r = listed_from member 1 slots at in
     let is : member ≡ suc r.0 = omega (arith, r.1) in
     (r.2, ap (λ n. seat_of slots n) is ∙ r.3)
-
-and_listed : (n m : ℕ) (o : Option Seat) (rows : List (ℕ × Seat)) → ((n ≡ m) × (x : Seat) × (o ≡ Some x)) ⊎ Listed n (map (λ r. r.0) rows) → Listed n (map (λ r. r.0) (and_member m o rows))
-and_listed n m None rows (inl h) = let none = h.2 in cc
-and_listed n m None rows (inr at) = at
-and_listed n m (Some x) rows (inl h) = inl h.0
-and_listed n m (Some x) rows (inr at) = inr at
-
-from_listed : (n m : ℕ) (slots : List Slot) (k : ℕ) (x : Seat) → n ≡ m + k → seat_in (slice_get slots k) ≡ Some x → Listed n (map (λ r. r.0) (present_from m slots))
-from_listed n m [] k x e is = cc
-from_listed n m (s ∷ slots) zero x e is = and_listed n m s.seat (present_from (suc m) slots) (inl (omega (arith, e), x, is))
-from_listed n m (s ∷ slots) (suc k) x e is = and_listed n m s.seat (present_from (suc m) slots) (inr (from_listed n (suc m) slots k x (omega (arith, e)) is))
-
-pub present_listed : (slots : List Slot) (member : ℕ) (x : Seat) → seat_of slots member ≡ Some x → Listed member (map (λ r. r.0) (present slots))
-present_listed slots zero x is = cc
-present_listed slots (suc k) x is = from_listed (suc k) 1 slots k x (omega arith) is
 
 numbers_kept : (f : ℕ → Seat → Seat) (xs : List (ℕ × Seat)) → map {A = ℕ × Seat} (λ r. r.0) (map (λ r. (r.0, f r.0 r.1)) xs) ≡ map (λ r. r.0) xs
 numbers_kept f [] = refl

@@ -40,11 +40,6 @@ only_none false f e = refl
 pub seat_without : (slots : List Slot) (member m : ℕ) → seat_of (without_seat slots member) m ≡ cond (m == member) None (seat_of slots m)
 seat_without slots member m = seat_of_reseated (only_of member (λ before. None)) (λ n. only_none (n == member) (λ before. None) refl) slots m
 
--- ---- changes one after the other
-pub reseated_two : (m : ℕ) (f g : ℕ → Option Seat → Option Seat) (slots : List Slot) → reseated_from m f (reseated_from m g slots) ≡ reseated_from m (λ n o. f n (g n o)) slots
-reseated_two m f g [] = refl
-reseated_two m f g (s ∷ slots) = ap (λ r. slot_with s.name (f m (g m s.seat)) ∷ r) (reseated_two (suc m) f g slots)
-
 pub reseated_same : (m : ℕ) (f g : ℕ → Option Seat → Option Seat) (slots : List Slot) → ((k : ℕ) → k < length slots → f (m + k) (seat_in (slice_get slots k)) ≡ g (m + k) (seat_in (slice_get slots k))) → reseated_from m f slots ≡ reseated_from m g slots
 reseated_same m f g [] same = refl
 reseated_same m f g (s ∷ slots) same =
@@ -58,23 +53,6 @@ reseated_same m f g (s ∷ slots) same =
 pub reseated_not : (m : ℕ) (slots : List Slot) → reseated_from m (λ n o. o) slots ≡ slots
 reseated_not m [] = refl
 reseated_not m (s ∷ slots) = ap (λ r. s ∷ r) (reseated_not (suc m) slots)
-
--- changes that agree at each present member are one
-on_seat_same : (f g : Seat → Seat) (o : Option Seat) → ((x : Seat) → o ≡ Some x → f x ≡ g x) → option_map f o ≡ option_map g o
-on_seat_same f g None same = refl
-on_seat_same f g (Some x) same = ap (λ y. Some y) (same x refl)
-
-pub each_same : (f g : ℕ → Seat → Seat) (slots : List Slot) → ((m : ℕ) (x : Seat) → seat_of slots m ≡ Some x → f m x ≡ g m x) → each_changed f slots ≡ each_changed g slots
-each_same f g slots same = reseated_same 1 (λ m. option_map (f m)) (λ m. option_map (g m)) slots (λ k lt.
-    let e : 1 + k ≡ suc k = omega arith in
-    ap (λ n. option_map (f n) (seat_in (slice_get slots k))) e ∙ on_seat_same (f (suc k)) (g (suc k)) (seat_in (slice_get slots k)) (λ x is. same (suc k) x is) ∙ ap (λ n. option_map (g n) (seat_in (slice_get slots k))) (sym e))
-
-on_seat_two : (f g : Seat → Seat) (o : Option Seat) → option_map f (option_map g o) ≡ option_map (λ x. f (g x)) o
-on_seat_two f g None = refl
-on_seat_two f g (Some x) = refl
-
-pub each_two : (f g : ℕ → Seat → Seat) (slots : List Slot) → each_changed f (each_changed g slots) ≡ each_changed (λ m x. f m (g m x)) slots
-each_two f g slots = reseated_two 1 (λ m. option_map (f m)) (λ m. option_map (g m)) slots ∙ reseated_same 1 (λ m o. option_map (f m) (option_map (g m) o)) (λ m. option_map (λ x. f m (g m x))) slots (λ k lt. on_seat_two (f (1 + k)) (g (1 + k)) (seat_in (slice_get slots k)))
 
 -- a change of one member is a change of each that touches only it
 abbrev pub at_only : ℕ → (Seat → Seat) → ℕ → Seat → Seat
@@ -144,6 +122,6 @@ present_at slots member d e =
     let x = some_is (seat_of slots member) e in
     (x.0, seat_at slots member d given.0 given.1 ∙ x.1)
 
--- the seat at a place is that of the next number
+-- the seat at an index is that of the next number
 pub seat_of_index : (slots : List Slot) (i : ℕ) (s : Slot) (x : Seat) → i < length slots → s ≡ get_or slots i s → s.seat ≡ Some x → seat_of slots (suc i) ≡ Some x
 seat_of_index slots i s x lt e is = sym (seat_at_index slots i s lt) ∙ ap (λ t. t.seat) (sym e) ∙ is

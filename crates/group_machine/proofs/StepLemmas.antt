@@ -1,4 +1,4 @@
--- Each step leaves a good group.
+-- Each step leaves a valid group.
 use Rattle.std.proofs.Common.{ℕ, zero, suc, ◌≡◌, ◌<◌, ◌≤◌, ◌==◌, Bool, true, false, ◌&&◌, ◌||◌, ◌⊎◌, inl, inr, List, [], ◌∷◌, ◌++◌, Option, Some, None, length, map, slice_get, refl, ap, sym, ◌∙◌, subst, arith, is_some, cond, replicate, length-append}
 use Rattle.std.proofs.lemmas.Bool.{false≢true}
 use Rattle.std.specs.List.{list_any, list_all}
@@ -12,14 +12,14 @@ use Rattle.group_machine.specs.declared.group.Seat.{Seat}
 use Rattle.group_machine.specs.Slots.{seat_in, seat_of, each_changed, one_changed, only_of, present}
 use Rattle.group_machine.specs.State.{GroupState, opening, member_of, members, is_present, is_anybody, is_joined, seat_joined, seat_granted, seat_assigned, granted_of, assigned_of}
 use Rattle.group_machine.specs.Completion.{all_joined}
-use Rattle.group_machine.specs.Rounds.{is_stable, agrees, is_settled}
-use Rattle.group_machine.specs.Steps.{new_seat, newcomer, joining, joined_by, rejoined_seat, rejoining, rejoined_by, synced_seat, synced_by, kept_seat, keeping, leaving, left_by}
+use Rattle.group_machine.specs.Settled.{is_stable, agrees, is_settled}
+use Rattle.group_machine.specs.Steps.{new_seat, newcomer, joining, rejoined_seat, rejoining, synced_seat, synced_by, kept_seat, keeping, leaving}
 use Rattle.group_machine.specs.Good.{IsApart, IsFit, AllFit, IsValidGroup}
 use Rattle.group_machine.specs.Private.Changes.{IsChanged}
 use Rattle.group_machine.proofs.SlotsLemmas.{seat_each, seat_without, one_is_each, at_only}
 use Rattle.group_machine.proofs.PresentLemmas.{numbers_each, length_reseated, any_each, any_of, all_of, present_each}
 use Rattle.group_machine.proofs.Rows.{map_same}
-use Rattle.group_machine.proofs.CompletionLemmas.{completed_good, seat_behind, some_of}
+use Rattle.group_machine.proofs.CompletionLemmas.{seat_behind, some_of}
 
 -- ---- seats that are changed one by one
 abbrev pub with_slots : GroupState → List Slot → GroupState
@@ -135,9 +135,6 @@ joining_changed g name good room =
     counts true e h = good.counted e
     counts false e h = absurd (false≢true (sym h ∙ alone_joined g name e))
 
-pub join_good : (g : GroupState) (name : List ℕ) → IsValidGroup g → length g.slots < MOST_MEMBERS → IsValidGroup (joined_by g name)
-join_good g name good room = completed_good (joining g name) (joining_changed g name good room)
-
 -- ---- rejoining
 pub any_of_present : (g : GroupState) (member : ℕ) → is_present g member ≡ true → is_anybody g ≡ true
 any_of_present g member e = let x = some_of (member_of g member) e in any_of g.slots member x.0 x.1
@@ -179,9 +176,6 @@ rejoining_changed g member good here =
       counted = λ e h. good.counted any;
     }
 
-pub rejoin_good : (g : GroupState) (member : ℕ) → IsValidGroup g → is_present g member ≡ true → IsValidGroup (rejoined_by g member)
-rejoin_good g member good here = completed_good (rejoining g member) (rejoining_changed g member good here)
-
 -- ---- leaving
 left_seat : (b : Bool) (o : Option Seat) (x : Seat) → cond b None o ≡ Some x → o ≡ Some x
 left_seat true o x e = cc
@@ -217,9 +211,6 @@ leaving_changed g member good here =
       gone = λ e. rw e refl;
       counted = λ e h. good.counted any;
     }
-
-pub leave_good : (g : GroupState) (member : ℕ) → IsValidGroup g → is_present g member ≡ true → IsValidGroup (left_by g member)
-leave_good g member good here = completed_good (leaving g member) (leaving_changed g member good here)
 
 -- ---- flags
 all_map : (p : Seat → Bool) (f : ℕ → Seat → Seat) → ((m : ℕ) (x : Seat) → p (f m x) ≡ p x) → (xs : List (ℕ × Seat)) → list_all {X = ℕ × Seat} (λ r. p r.1) (map (λ r. (r.0, f r.0 r.1)) xs) ≡ list_all (λ r. p r.1) xs
@@ -311,25 +302,13 @@ flag_good f flag g member good =
     }
 
 -- ---- syncing
-sync_flag : IsFlag synced_seat
+pub sync_flag : IsFlag synced_seat
 sync_flag = record { joined = λ x. refl; granted = λ x. refl; assigned = λ x. refl }
-
-pub synced_same : {X : Type 0} (h : Option Seat → X) → ((x : Seat) → h (Some (synced_seat x)) ≡ h (Some x)) → (g : GroupState) (member m : ℕ) → h (member_of (synced_by g member) m) ≡ h (member_of g m)
-synced_same h same g member m = flag_same synced_seat h same g member m
-
-pub any_synced : (g : GroupState) (member : ℕ) → is_anybody (synced_by g member) ≡ is_anybody g
-any_synced g member = any_flag synced_seat g member
-
-pub members_synced : (g : GroupState) (member : ℕ) → members (synced_by g member) ≡ members g
-members_synced g member = members_flag synced_seat g member
-
-pub settled_synced : (g : GroupState) (member : ℕ) → is_settled (synced_by g member) ≡ is_settled g
-settled_synced g member = settled_flag synced_seat sync_flag g member
 
 pub sync_good : (g : GroupState) (member : ℕ) → IsValidGroup g → IsValidGroup (synced_by g member)
 sync_good g member good = flag_good synced_seat sync_flag g member good
 
--- ---- keeping a place
+-- ---- becoming static
 keep_flag : IsFlag kept_seat
 keep_flag = record { joined = λ x. refl; granted = λ x. refl; assigned = λ x. refl }
 

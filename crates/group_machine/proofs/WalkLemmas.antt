@@ -1,4 +1,4 @@
--- Walks over slots: rows of those before a place, and seats that are given place by place.
+-- Walks over slots: rows of those before an index, and seats that are written one by one.
 use Rattle.std.proofs.Common.{ℕ, zero, suc, ◌≡◌, ◌+◌, ◌<◌, ◌≤◌, ◌==◌, Bool, true, false, List, [], ◌∷◌, ◌++◌, Option, Some, None, is_some, IsSome, length, map, get_or, slice_get, cond, take, drop, nat_lt, refl, ap, sym, ◌∙◌, arith, inl, inr}
 use Rattle.std.proofs.lemmas.Bool.{false≢true, cases_lt}
 use Rattle.std.proofs.lemmas.Bool.Decides.{nat_tests}
@@ -14,7 +14,7 @@ use Rattle.group_machine.specs.Slots.{seat_in, seat_of, and_member, present_from
 use Rattle.group_machine.proofs.SlotsLemmas.{slot_with, same_id, other_default}
 use Rattle.group_machine.proofs.MovesLemmas.{present_take}
 
--- ---- rows of the members before a place
+-- ---- rows of the members before an index
 append_none : {A : Type 0} (xs : List A) → xs ++ [] ≡ xs
 append_none [] = refl
 append_none (x ∷ xs) = ap (λ r. x ∷ r) (append_none xs)
@@ -64,8 +64,8 @@ granted_more p slots i s x lt e is =
 pub granted_same : (p : ℕ) (slots : List Slot) (i : ℕ) (s : Slot) → i < length slots → s ≡ get_or slots i s → s.seat ≡ None → granted_in p (take i slots) ≡ granted_in p (take (i + 1) slots)
 granted_same p slots i s lt e none = ap (λ xs. record { partitions = p; rows = rows_of xs }) (sym (present_absent slots i s lt e none))
 
--- ---- seats that are given place by place
--- the slots, with the seats before a place changed
+-- ---- seats that are written one by one
+-- the slots, with the seats before an index changed
 abbrev pub AreGiven : (ℕ → Option Seat → Option Seat) → List Slot → List Slot → ℕ → Type 0
 AreGiven f before now index = (k : ℕ) → slice_get now k ≡ cond (nat_lt k index) (slice_get (reseated_from 1 f before) k) (slice_get before k)
 
@@ -97,7 +97,7 @@ lt_is a b lt = grind (arith, nat_tests)
 ge_is : (a b : ℕ) → b ≤ a → nat_lt a b ≡ false
 ge_is a b le = grind (arith, nat_tests)
 
--- one place more, where the slot there is the changed one and the others are as they were
+-- one index more, where the slot there is the changed one and the others are as they were
 given_more : (f : ℕ → Option Seat → Option Seat) (before now after : List Slot) (index : ℕ) → AreGiven f before now index → ((k : ℕ) → (k ≡ index → ⊥) → slice_get after k ≡ slice_get now k) → slice_get after index ≡ slice_get (reseated_from 1 f before) index → AreGiven f before after (index + 1)
 given_more f before now after index given others here k = elim (cases_lt k index) [
   | inl lt ↦ others k (λ e. omega (arith, e)) ∙ given k ∙ ap (λ b. cond b (slice_get (reseated_from 1 f before) k) (slice_get before k)) (lt_is k index lt ∙ sym (lt_is k (index + 1) (omega arith)))
@@ -141,7 +141,7 @@ length_same : (m : ℕ) (f : ℕ → Option Seat → Option Seat) (slots : List 
 length_same m f [] = refl
 length_same m f (s ∷ slots) = ap (λ n. suc n) (length_same (suc m) f slots)
 
--- all places
+-- all indices
 pub given_all : (f : ℕ → Option Seat → Option Seat) (before now : List Slot) (index : ℕ) → AreGiven f before now index → length before ≤ index → now ≡ reseated_from 1 f before
 given_all f before now index given le = same_slots now (reseated_from 1 f before) (λ k. elim (cases_lt k index) [
   | inl lt ↦ given k ∙ ap (λ b. cond b (slice_get (reseated_from 1 f before) k) (slice_get before k)) (lt_is k index lt)
@@ -169,14 +169,14 @@ no_seat : (o : Option Seat) → is_some o ≡ false → o ≡ None
 no_seat None e = refl
 no_seat (Some x) e = absurd (false≢true (sym e))
 
--- the same, by the slot at the place
+-- the same, by the slot at the index
 pub given_set_at : (f : ℕ → Option Seat → Option Seat) (before now : List Slot) (index : ℕ) (d : Slot) (new : Option Seat) → AreGiven f before now index → index < length now → new ≡ f (index + 1) (get_or now index d).seat → AreGiven f before (set now index (slot_with (get_or now index d).name new)) (index + 1)
 given_set_at f before now index d new given lt e = rw e (given_set f before now index (get_or now index d) given lt (other_default now index d (get_or now index d) lt))
 
 pub given_seat_at : (f : ℕ → Option Seat → Option Seat) (before now : List Slot) (index : ℕ) (d : Slot) (x : Seat) → AreGiven f before now index → index < length now → (get_or now index d).seat ≡ Some x → seat_of before (suc index) ≡ Some x
 given_seat_at f before now index d x given lt is = given_seat f before now index (get_or now index d) x given lt (other_default now index d (get_or now index d) lt) is
 
--- ---- the members from a place on
+-- ---- the members from an index on
 drop_from : (m : ℕ) (slots : List Slot) (i : ℕ) (s : Slot) → i < length slots → s ≡ get_or slots i s → present_from m (drop i slots) ≡ and_member m s.seat (present_from (suc m) (drop (suc i) slots))
 drop_from m [] i s lt e = absurd (omega arith)
 drop_from m (t ∷ slots) zero s lt e = ap (λ u. and_member m u.seat (present_from (suc m) slots)) (sym e)

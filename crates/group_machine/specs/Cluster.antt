@@ -1,4 +1,4 @@
--- A cluster: a group of members, the logs they read, and the store of what they committed.
+-- A cluster: a group, the logs that it reads, and the store of committed offsets and counts.
 use Rattle.std.specs.Prelude.{◌≡◌, ℕ, true, not, ◌==◌, List, [], ◌∷◌, ◌++◌, Result, Ok, Err, length, slice_index_or, if◌then◌else◌}
 use Rattle.std.specs.Result.{result_and}
 use Rattle.lane_words.specs.declared.Refusal.{Refusal}
@@ -12,7 +12,7 @@ use Rattle.group_machine.specs.State.{GroupState, assigned_of, granted_of, is_pr
 use Rattle.group_machine.specs.Good.{IsValidGroup}
 use Rattle.group_machine.specs.Steps.{sync_answer}
 
--- a commit that is sent: of which member and in which generation, and of which records: those of a
+-- a commit: its member, the generation in which it was sent, and its records, which are those of a
 -- partition from an offset on, by their key numbers
 pub record CommitTerms : Type 0 where
   pub member : ℕ
@@ -21,31 +21,30 @@ pub record CommitTerms : Type 0 where
   pub from : ℕ
   pub ids : List ℕ
 
--- a lease: what a member is to keep in a generation, and at which offset each partition is
--- committed
+-- a lease: what a member is assigned in a generation, and the committed offset of each partition
 pub record LeaseTerms : Type 0 where
   pub member : ℕ
   pub generation : ℕ
   pub assigned : PartitionSet
   pub starts : List ℕ
 
--- the committed offset of a partition by a lease
+-- the committed offset of a partition in a lease
 abbrev pub start_of : LeaseTerms → ℕ → ℕ
 start_of lease p = slice_index_or lease.starts p 0
 
--- the group, the logs, and the store, of which the room that is reserved for counters is not seen:
--- it is always 0 here
+-- the group, the logs and the store. The store's reserved capacity is not part of the state: here
+-- it is always 0
 pub record ClusterState : Type 0 where
   pub group : GroupState
   pub logs : PartitionLogs
   pub store : Commits
 
--- a store without the room that is reserved in it
+-- a store without its reserved capacity
 abbrev pub without_room : Commits → Commits
 without_room s = record s { room = 0 }
 
--- What a cluster keeps: its group is valid, its store is exact over its logs, all three have the
--- same partitions, and each key has a counter
+-- The invariant of a cluster: its group is valid, its store is exact over its logs, all three have
+-- the same number of partitions, and each key has a counter
 pub record IsValidCluster (s : ClusterState) : Type 0 where
   pub good : IsValidGroup s.group
   pub logs : IsValidLogs s.logs
@@ -55,10 +54,10 @@ pub record IsValidCluster (s : ClusterState) : Type 0 where
   pub a_counter_each : length s.store.counts ≡ length s.logs.keys
 
 -- ---- commit
--- What a commit answers, in this order: nobody present has its number; it is of another generation,
--- so its sender has missed a rebalance; its partition is not granted to the member, as none past
--- the last is; else what the store answers. A member that was lost or that lags behind is fenced
--- off by the first three (KIP-429: its partitions count as lost)
+-- Whether the group accepts a commit, in this order: its member is not present; it is of another
+-- generation, so its sender has missed a rebalance; its partition is not granted to the member.
+-- This fences members that were lost or lag behind (KIP-429: their partitions count as lost). The
+-- store decides about the rest
 abbrev pub fence : GroupState → CommitTerms → Result (Unit {0}) Refusal
 fence g c =
     if not (is_present g c.member) then Err r.UnknownMember
@@ -70,38 +69,37 @@ abbrev pub cluster_commit_answer : ClusterState → CommitTerms → Result ℕ R
 cluster_commit_answer s c =
     result_and (fence s.group c) (commit_answer s.store s.logs c.partition c.from c.ids)
 
--- a commit is due: its member is present, of this generation, is granted the partition, and the
--- store takes it
+-- a commit is due: its member is present, of this generation and granted the partition, and the
+-- store accepts it
 pub record IsDue (s : ClusterState) (c : CommitTerms) : Type 0 where
   pub present : is_present s.group c.member ≡ true
   pub current : c.generation ≡ s.group.generation
   pub granted : is_in (granted_of s.group c.member) c.partition ≡ true
   pub fits : Fits s.store s.logs c.partition c.from c.ids
 
--- the store takes it, and all else is as it was
+-- the cluster after an accepted commit: only the store changes
 abbrev pub committed_by : ClusterState → CommitTerms → ClusterState
 committed_by s c = record s { store = with_commit s.store c.partition c.ids }
 
 -- ---- append
--- a key that is new has a counter at 0
+-- the store with a counter at 0 for a new key
 abbrev pub with_counter_for : PartitionLogs → Key → Commits → Commits
 with_counter_for l key store =
     if is_known l.keys key then store else (record store { counts = store.counts ++ 0 ∷ [] })
 
--- one record more at the end of the log of this partition, a counter at 0 for a new key, and all
--- else as it was
+-- one more record at the end of the log of this partition, and a counter at 0 for a new key
 abbrev pub appended_at : ClusterState → ℕ → Key → ClusterState
 appended_at s place key = record s {
   logs = with_record_at s.logs place key;
   store = with_counter_for s.logs key s.store;
 }
 
--- the same, of a record that goes to its place
+-- the same at the partition of the record's key
 abbrev pub appended_to : ClusterState → Keyed → ClusterState
 appended_to s keyed = appended_at s (place_in s.logs keyed) keyed.1
 
 -- ---- sync
--- what a member is leased: what it is to keep, and the committed offsets
+-- the lease of a member: what it is assigned, and the committed offsets
 abbrev pub lease_of : ClusterState → ℕ → LeaseTerms
 lease_of s member = record {
   member = member;
@@ -113,6 +111,6 @@ lease_of s member = record {
 abbrev pub cluster_sync_answer : ClusterState → ℕ → Result LeaseTerms Refusal
 cluster_sync_answer s member = result_and (sync_answer s.group member) (Ok (lease_of s member))
 
--- a step of the group alone
+-- a step that changes the group alone
 abbrev pub with_group : ClusterState → GroupState → ClusterState
 with_group s group = record s { group = group }

@@ -13,14 +13,13 @@ use Rattle.group_machine.specs.Moves.{moves_to, last_after}
 abbrev pub all_joined : GroupState → Bool
 all_joined g = all_joined_in g.slots
 
--- a completion comes where somebody is present and all who are have joined
+-- a completion happens as soon as at least one member is present and all have joined
 abbrev pub is_ready : GroupState → Bool
 is_ready g = is_ready_in g.slots
 
--- a member keeps its row of the next assignment. What it is granted it may go on reading until it
--- gives it up, and what it is to keep it is granted at once (KIP-429: kept partitions are read
--- during a rebalance, a partition that moves is revoked before it is assigned). It has neither
--- joined nor synced
+-- a member is assigned its next row. It goes on reading what it is granted until it revokes it, and
+-- is granted what it is assigned at once (KIP-429: a member reads its retained partitions during a
+-- rebalance, and a partition that moves is revoked before it is assigned). Its flags are cleared
 abbrev pub completed_seat : SetRows → ℕ → Seat → Seat
 completed_seat next member seat = record seat {
   joined = false;
@@ -29,7 +28,7 @@ completed_seat next member seat = record seat {
   assigned = set_of next member;
 }
 
--- the next generation, in which each present member has its row of these
+-- the next generation, with these rows assigned
 abbrev pub completed_with : GroupState → SetRows → GroupState
 completed_with g next = record {
   generation = g.generation + 1;
@@ -40,8 +39,7 @@ completed_with g next = record {
   moves = g.moves ++ moves_to g next;
 }
 
--- the rows of the next generation: each member's sticky target of what is granted, without what any
--- other member is granted
+-- the next rows: each member's row of the sticky target, without what any other member is granted
 abbrev pub next_rows_of : GroupState → SetRows
 next_rows_of g = next_rows (granted_rows g)
 

@@ -1,4 +1,4 @@
--- What a group keeps.
+-- The invariant of a group.
 use Rattle.std.specs.Prelude.{ℕ, ◌≡◌, ◌<◌, ◌≤◌, ◌↔◌, true, false, map, length, Some}
 use Rattle.lane_words.specs.declared.limits.TheConstants.{MOST_MEMBERS, MOST_PARTITIONS}
 use Rattle.bit_planes.specs.PartitionSet.{PartitionSet, partitions_of, is_in, is_within}
@@ -6,9 +6,9 @@ use Rattle.sticky_assignor.specs.Balanced.{IsBalanced}
 use Rattle.group_machine.specs.declared.group.Seat.{Seat}
 use Rattle.group_machine.specs.declared.group.Phase.TheVariants.{Empty, Preparing, Stable}
 use Rattle.group_machine.specs.State.{GroupState, member_of, members, is_present, is_joined, granted_of, assigned_of, is_anybody, last_holder}
-use Rattle.group_machine.specs.Rounds.{is_settled}
+use Rattle.group_machine.specs.Settled.{is_settled}
 
--- within the limits of partitions and of members over all, with a last holder or none for each
+-- within the limits of partitions and of member numbers, with a last holder or none for each
 -- partition
 pub record IsSized (g : GroupState) : Type 0 where
   pub some_partitions : 1 ≤ g.partitions
@@ -20,8 +20,8 @@ pub record IsSized (g : GroupState) : Type 0 where
 abbrev pub IsApart : GroupState → Type 0
 IsApart g = (m n q : ℕ) → is_in (granted_of g m) q ≡ true → is_in (granted_of g n) q ≡ true → m ≡ n
 
--- a member's sets are over the group's partitions; what it is to keep is granted to it, and is all
--- of that once it has joined
+-- a member's sets are over the group's partitions; what it is assigned is granted to it, and is all
+-- that is granted to it once it has joined
 pub record IsFit (partitions : ℕ) (seat : Seat) : Type 0 where
   pub granted_below : partitions_of seat.granted ≡ partitions
   pub assigned_below : partitions_of seat.assigned ≡ partitions
@@ -31,27 +31,21 @@ pub record IsFit (partitions : ℕ) (seat : Seat) : Type 0 where
 abbrev pub AllFit : GroupState → Type 0
 AllFit g = (m : ℕ) (seat : Seat) → member_of g m ≡ Some seat → IsFit g.partitions seat
 
--- whoever is granted a partition is its last holder
+-- a member that is granted a partition is its last holder
 abbrev pub IsHeldByLast : GroupState → Type 0
 IsHeldByLast g = (m q : ℕ) → is_in (granted_of g m) q ≡ true → last_holder g q ≡ Some m
 
--- within the limits, no partition is granted twice, and each member's sets are fit
-pub record IsSound (g : GroupState) : Type 0 where
-  pub sized : IsSized g
-  pub apart : IsApart g
-  pub fit : AllFit g
-
--- each member's granted set is balanced with the others'
+-- the granted sets are balanced
 abbrev pub IsGrantBalanced : GroupState → Type 0
 IsGrantBalanced g = IsBalanced g.partitions (map (λ m. granted_of g m) (members g))
 
--- what members are to keep lies within balanced rows of the group's partitions
+-- the assigned sets lie within balanced rows over the group's partitions
 pub record LieInBalanced (g : GroupState) (rows : ℕ → PartitionSet) : Type 0 where
   pub below : (m : ℕ) → partitions_of (rows m) ≡ g.partitions
   pub balanced : IsBalanced g.partitions (map rows (members g))
   pub within : (m : ℕ) → is_within (assigned_of g m) (rows m) ≡ true
 
--- what holds of a group after each step
+-- the invariant, which each step preserves
 pub record IsValidGroup (g : GroupState) : Type 0 where
   pub sized : IsSized g
   pub apart : IsApart g

@@ -3,10 +3,8 @@ pub mod Completion
 pub mod Good
 pub mod Moves
 pub mod Name
-pub mod Others
-pub mod Passes
 pub mod Private
-pub mod Rounds
+pub mod Settled
 pub mod Slots
 pub mod State
 pub mod Steps

@@ -18,7 +18,7 @@ abbrev pub is_name : List ℕ → Bool
 is_name text =
     nat_le 1 (length text) && nat_le (length text) LONGEST_NAME && list_all is_name_byte text
 
--- a name in place: the first of its bytes
+-- the text of a stored name: its first bytes
 abbrev pub text_in : ℕ → List ℕ → List ℕ
 text_in size bytes = take size bytes
 

@@ -1,5 +1,4 @@
--- Members by their numbers. Slot k is of member number k + 1: it has its name and, while the member
--- is present, its seat.
+-- Members by number. Slot k is member k + 1: its name and, while it is present, its seat.
 use Rattle.std.specs.Prelude.{ℕ, zero, suc, Bool, ◌&&◌, List, [], ◌∷◌, Option, Some, None, ◌==◌, is_some, map, find, slice_get, if◌then◌else◌}
 use Rattle.std.specs.List.{list_any, list_all}
 use Rattle.std.specs.Option.{option_map, option_and_then}
@@ -20,16 +19,16 @@ abbrev pub and_member : ℕ → Option Seat → List (ℕ × Seat) → List (ℕ
 and_member m None members = members
 and_member m (Some seat) members = (m, seat) ∷ members
 
--- the present members of the slots of the numbers from m on
+-- the present members of these slots, of which the first is member m
 abbrev pub present_from : ℕ → List Slot → List (ℕ × Seat)
 present_from m [] = []
 present_from m (s ∷ slots) = and_member m s.seat (present_from (suc m) slots)
 
--- the present members with their seats, in rising order of numbers
+-- the present members with their seats, in rising order
 abbrev pub present : List Slot → List (ℕ × Seat)
 present slots = present_from 1 slots
 
--- the numbers of the present members, in rising order
+-- the present members, in rising order
 abbrev pub members_in : List Slot → List ℕ
 members_in slots = map (λ m. m.0) (present slots)
 
@@ -40,22 +39,22 @@ granted_in partitions slots = record {
   rows = map (λ m. (m.0, m.1.granted)) (present slots);
 }
 
--- the present member that is granted a partition
+-- the present member that a partition is granted to
 abbrev pub owner_in : List Slot → ℕ → Option ℕ
 owner_in slots q = option_map (λ m. m.0) (find (λ m. is_in m.1.granted q) (present slots))
 
--- somebody is present
+-- at least one member is present
 abbrev pub is_anybody_in : List Slot → Bool
 is_anybody_in slots = list_any (λ s. is_some s.seat) slots
 
 abbrev pub all_joined_in : List Slot → Bool
 all_joined_in slots = list_all (λ m. m.1.joined) (present slots)
 
--- somebody is present, and all who are have joined
+-- at least one member is present, and all have joined
 abbrev pub is_ready_in : List Slot → Bool
 is_ready_in slots = is_anybody_in slots && all_joined_in slots
 
--- the slots from number m on, each with the seat that f gives for its number and its seat
+-- the slots, of which the first is member m, with the seats that f returns
 abbrev pub reseated_from : ℕ → (ℕ → Option Seat → Option Seat) → List Slot → List Slot
 reseated_from m f [] = []
 reseated_from m f (s ∷ slots) =
@@ -68,7 +67,7 @@ only_of member f m seat = if m == member then f seat else seat
 abbrev pub each_changed : (ℕ → Seat → Seat) → List Slot → List Slot
 each_changed f slots = reseated_from 1 (λ m. option_map (f m)) slots
 
--- the slots with the seat of one member changed, where it is present
+-- the slots with the seat of one member changed, if it is present
 abbrev pub one_changed : (Seat → Seat) → List Slot → ℕ → List Slot
 one_changed f slots member = reseated_from 1 (only_of member (option_map f)) slots
 
@@ -76,6 +75,6 @@ one_changed f slots member = reseated_from 1 (only_of member (option_map f)) slo
 abbrev pub with_seat : List Slot → ℕ → Option Seat → List Slot
 with_seat slots member seat = reseated_from 1 (only_of member (λ before. seat)) slots
 
--- the slots without one member
+-- the slots with the seat of one member removed
 abbrev pub without_seat : List Slot → ℕ → List Slot
 without_seat slots member = with_seat slots member None

@@ -1,5 +1,5 @@
--- What contracts see of a group.
-use Rattle.std.specs.Prelude.{◌≡◌, ℕ, ◌+◌, ◌<◌, zero, suc, Bool, false, List, [], ◌∷◌, Option, Some, None, is_some, map, replicate, slice_index_or, slice_get, ◌&&◌, if◌then◌else◌}
+-- The state of a group, as contracts see it.
+use Rattle.std.specs.Prelude.{ℕ, ◌+◌, zero, suc, Bool, false, List, [], ◌∷◌, Option, Some, None, is_some, replicate, slice_index_or, slice_get, ◌&&◌, if◌then◌else◌}
 use Rattle.std.specs.List.{position}
 use Rattle.std.specs.Option.{option_map, option_map_or, option_or}
 use Rattle.std.specs.Str.{bytes_eq}
@@ -10,10 +10,10 @@ use Rattle.group_machine.specs.declared.group.Seat.{Seat}
 use Rattle.group_machine.specs.declared.group.Move.{Move}
 use Rattle.group_machine.specs.declared.group.Phase.{Phase}
 use Rattle.group_machine.specs.declared.group.Phase.TheVariants.{Empty}
-use Rattle.group_machine.specs.Slots.{seat_of, present, members_in, granted_in, owner_in, is_anybody_in}
+use Rattle.group_machine.specs.Slots.{seat_of, members_in, granted_in, owner_in, is_anybody_in}
 
--- A group: its generation, its phase, how many partitions there are, the members by their numbers,
--- for each partition the member that was last granted it, and the moves so far
+-- A group: its generation, its phase, the number of partitions, the members by number, the last
+-- holder of each partition, and the moves so far
 pub record GroupState : Type 0 where
   pub generation : ℕ
   pub phase : Phase
@@ -22,7 +22,7 @@ pub record GroupState : Type 0 where
   pub last : List (Option ℕ)
   pub moves : List Move
 
--- nobody has joined
+-- a group that nobody has joined
 abbrev pub opening : ℕ → GroupState
 opening partitions = record {
   generation = 0;
@@ -33,14 +33,14 @@ opening partitions = record {
   moves = [];
 }
 
--- the one look-up: a member's seat, nothing where it is not present
+-- a member's seat; nothing if it is not present
 abbrev pub member_of : GroupState → ℕ → Option Seat
 member_of g member = seat_of g.slots member
 
 abbrev pub is_present : GroupState → ℕ → Bool
 is_present g member = is_some (member_of g member)
 
--- the numbers of the present members, in rising order
+-- the present members, in rising order
 abbrev pub members : GroupState → List ℕ
 members g = members_in g.slots
 
@@ -56,14 +56,14 @@ seat_synced seat = option_map_or (λ s. s.synced) seat false
 abbrev pub seat_kept : Option Seat → Bool
 seat_kept seat = option_map_or (λ s. s.kept) seat false
 
--- the flags of a member; those of one that is not present are false
+-- the flags of a member; false if it is not present
 abbrev pub is_joined : GroupState → ℕ → Bool
 is_joined g member = seat_joined (member_of g member)
 
 abbrev pub is_synced : GroupState → ℕ → Bool
 is_synced g member = seat_synced (member_of g member)
 
--- it keeps its place under its name
+-- whether a member is static
 abbrev pub is_kept : GroupState → ℕ → Bool
 is_kept g member = seat_kept (member_of g member)
 
@@ -73,11 +73,11 @@ seat_granted partitions seat = option_map_or (λ s. s.granted) seat (empty_set p
 abbrev pub seat_assigned : ℕ → Option Seat → PartitionSet
 seat_assigned partitions seat = option_map_or (λ s. s.assigned) seat (empty_set partitions)
 
--- what a member may read and commit; nothing where it is not present
+-- what a member may read and commit; empty if it is not present
 abbrev pub granted_of : GroupState → ℕ → PartitionSet
 granted_of g member = seat_granted g.partitions (member_of g member)
 
--- what a member is to keep
+-- what a member is assigned
 abbrev pub assigned_of : GroupState → ℕ → PartitionSet
 assigned_of g member = seat_assigned g.partitions (member_of g member)
 
@@ -85,18 +85,11 @@ assigned_of g member = seat_assigned g.partitions (member_of g member)
 abbrev pub granted_rows : GroupState → SetRows
 granted_rows g = granted_in g.partitions g.slots
 
--- what each present member is to keep
-abbrev pub assigned_rows : GroupState → SetRows
-assigned_rows g = record {
-  partitions = g.partitions;
-  rows = map (λ m. (m.0, m.1.assigned)) (present g.slots);
-}
-
--- the present member that is granted a partition
+-- the present member that a partition is granted to
 abbrev pub owner_of : GroupState → ℕ → Option ℕ
 owner_of g q = owner_in g.slots q
 
--- the member that was last granted a partition, present or not
+-- the last holder of a partition, present or not
 abbrev pub last_holder : GroupState → ℕ → Option ℕ
 last_holder g q = slice_index_or g.last q None
 
@@ -104,15 +97,11 @@ abbrev pub name_at : List Slot → ℕ → Option (List ℕ)
 name_at slots zero = None
 name_at slots (suc k) = option_map (λ s. s.name) (slice_get slots k)
 
--- the name of a member that was given a number, present or not
+-- the name of a member number that was given out, present or not
 abbrev pub name_of : GroupState → ℕ → Option (List ℕ)
 name_of g member = name_at g.slots member
 
--- all names that were given, in the order of their numbers
-abbrev pub names : GroupState → List (List ℕ)
-names g = map (λ s. s.name) g.slots
-
--- the number of the last slot with a name, of those from number m on
+-- the member number of the last of these slots with a name, of which the first is member m
 abbrev pub number_from : ℕ → List Slot → List ℕ → Option ℕ
 number_from m [] name = None
 number_from m (s ∷ slots) name =
@@ -121,25 +110,17 @@ number_from m (s ∷ slots) name =
 abbrev pub number_in : List Slot → List ℕ → Option ℕ
 number_in slots name = number_from 1 slots name
 
--- the number that a name stands for: the newest of those that it was given to, present or not; none
--- where it was given to nobody
+-- the newest member number with a name, present or not; none if nobody has joined under it
 abbrev pub member_named : GroupState → List ℕ → Option ℕ
 member_named g name = number_in g.slots name
 
--- a name has a number, is the name of that number, and of no later one
-pub record HasNumber (g : GroupState) (name : List ℕ) : Type 0 where
-  pub index : ℕ
-  pub number : member_named g name ≡ Some (index + 1)
-  pub named : slice_get (names g) index ≡ Some name
-  pub newest : (later : ℕ) → index < later → slice_get (names g) later ≡ Some name → ⊥
-
--- a slot is of a present member that keeps its place under this name
+-- a slot is of a present static member of this name
 abbrev pub is_kept_as : List ℕ → Slot → Bool
 is_kept_as name slot = bytes_eq slot.name name && seat_kept slot.seat
 
 abbrev pub kept_in : List Slot → List ℕ → Option ℕ
 kept_in slots name = option_map (λ k. k + 1) (position (is_kept_as name) slots)
 
--- the present member that keeps its place under a name
+-- the present static member of a name
 abbrev pub kept_member : GroupState → List ℕ → Option ℕ
 kept_member g name = kept_in g.slots name

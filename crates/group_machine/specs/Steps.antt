@@ -1,5 +1,5 @@
--- The steps of a group. Each answers what its table of refusals says, in the table's order, and a
--- refused one changes nothing.
+-- The steps of a group. Each step has a definition of its answer, by cases in the order of its
+-- refusals, and one of the state after it. A refused step changes nothing.
 use Rattle.std.specs.Prelude.{ℕ, ◌+◌, Bool, true, false, not, ◌&&◌, ◌==◌, List, [], ◌∷◌, ◌++◌, Option, Some, None, Result, Ok, Err, is_some, length, nat_le, if◌then◌else◌}
 use Rattle.std.specs.List.{list_any}
 use Rattle.std.specs.Option.{option_map, option_map_or}
@@ -16,7 +16,7 @@ use Rattle.group_machine.specs.Slots.{is_anybody_in, one_changed, without_seat}
 use Rattle.group_machine.specs.State.{GroupState, member_of, granted_of, is_present, kept_member}
 use Rattle.group_machine.specs.Moves.{held_by}
 use Rattle.group_machine.specs.Completion.{is_over, completed}
-use Rattle.group_machine.specs.Rounds.{is_stable, agrees}
+use Rattle.group_machine.specs.Settled.{is_stable, agrees}
 
 -- the answer of a step, unless its completion would pass the last generation
 abbrev pub unless_over : {A : Type 0} → GroupState → A → Result A Refusal
@@ -39,7 +39,7 @@ new_seat partitions = record {
 abbrev pub newcomer : ℕ → List ℕ → Slot
 newcomer partitions name = record { name = name; seat = Some (new_seat partitions) }
 
--- the group with one member more, before a completion
+-- the group with one more member, before a completion
 abbrev pub joining : GroupState → List ℕ → GroupState
 joining g name = record g {
   slots = g.slots ++ newcomer g.partitions name ∷ [];
@@ -56,31 +56,31 @@ join_answer g name =
 abbrev pub joined_by : GroupState → List ℕ → GroupState
 joined_by g name = completed (joining g name)
 
--- ---- join of a member that keeps its place
+-- ---- join of a static member
 abbrev pub kept_seat : Seat → Seat
 kept_seat seat = record seat { kept = true }
 
--- the group with this member's place kept under its name
+-- the group with this member made static
 abbrev pub keeping : GroupState → ℕ → GroupState
 keeping g member = record g { slots = one_changed kept_seat g.slots member }
 
--- a join, and the member that joined keeps its place
+-- a join, and the member that joined is static
 abbrev pub joined_kept_by : GroupState → List ℕ → GroupState
 joined_kept_by g name = keeping (joined_by g name) (length g.slots + 1)
 
 -- ---- rejoin
--- what it was not to keep it gives up
+-- it revokes what it is not assigned
 abbrev pub rejoined_seat : Seat → Seat
 rejoined_seat seat = record seat { joined = true; granted = seat.assigned }
 
--- the group with this member joined again, before a completion
+-- the group with this member rejoined, before a completion
 abbrev pub rejoining : GroupState → ℕ → GroupState
 rejoining g member = record g {
   slots = one_changed rejoined_seat g.slots member;
   phase = Preparing;
 }
 
--- why a rejoin is refused, but for the last generation
+-- why a rejoin is refused, apart from the limit of generations
 abbrev pub rejoin_refusal : GroupState → ℕ → PartitionSet → Option Seat → Option Refusal
 rejoin_refusal g generation claim None = Some r.UnknownMember
 rejoin_refusal g generation claim (Some seat) =
@@ -113,11 +113,11 @@ sync_answer g member = sync_seat_answer (member_of g member)
 abbrev pub synced_by : GroupState → ℕ → GroupState
 synced_by g member = record g { slots = one_changed synced_seat g.slots member }
 
--- ---- leave and lose, which are one
+-- ---- leave and lose, which are the same
 abbrev pub phase_left : List Slot → Phase
 phase_left slots = if is_anybody_in slots then Preparing else Empty
 
--- what is left of a group, before a completion
+-- the group with these slots left, before a completion
 abbrev pub left : GroupState → List Slot → GroupState
 left g slots = record g { slots = slots; phase = phase_left slots }
 
@@ -132,26 +132,26 @@ abbrev pub left_by : GroupState → ℕ → GroupState
 left_by g member = completed (leaving g member)
 
 -- ---- take over
--- a place that is handed on: who takes it has not synced
+-- a seat that is handed on: its new member has not synced
 abbrev pub handed_seat : Seat → Seat
 handed_seat seat = record seat { synced = false }
 
--- who takes a member's place over, under the same name
+-- the slot that takes a member's seat over, under the same name
 abbrev pub successor : GroupState → List ℕ → ℕ → Slot
 successor g name member = record {
   name = name;
   seat = option_map handed_seat (member_of g member);
 }
 
--- a member's place is handed on to the next number, which is the last holder of what it is granted
--- with it. Nothing of the group moves by that
+-- the group with a member's seat handed on to the next number, which becomes the last holder of
+-- what it is granted. This makes no moves
 abbrev pub handing_on : GroupState → List ℕ → ℕ → GroupState
 handing_on g name member = record g {
   slots = without_seat g.slots member ++ successor g name member ∷ [];
   last = held_by (length g.slots + 1) (granted_of g member) g.last;
 }
 
--- the number that takes the place over, which is the next one
+-- the number that takes the seat over, which is the next one
 abbrev pub take_over_answer : GroupState → List ℕ → Result ℕ Refusal
 take_over_answer g name =
     if not (is_some (kept_member g name)) then Err r.NotKept

@@ -1,11 +1,11 @@
-//! The cluster: members, logs, and what was committed of them.
+//! The cluster: a group of members, the logs that they read, and the committed offsets and counts.
 
 ghost use Rattle.std.specs.Prelude.{◌≡◌, ◌+◌, ◌≤◌, ◌∷◌, ℕ, [], Ok, Some, None, MatchOption, IfOk, IfSome, OnOk, OnErr, is_some, length, replicate};
 ghost use Rattle.std.specs.List.{sum};
 ghost use Rattle.lane_words.specs.Answers.{Answers};
 ghost use Rattle.group_machine.specs.State.{assigned_of, granted_of, is_joined, is_kept, is_present, is_synced, member_named, member_of, members, name_of, opening, owner_of};
 ghost use Rattle.group_machine.specs.Steps.{join_answer, joined_by, joined_kept_by, leave_answer, left_by, rejoin_answer, rejoined_by, synced_by, take_over_answer, taken_over_by};
-ghost use Rattle.group_machine.specs.Rounds.{is_settled};
+ghost use Rattle.group_machine.specs.Settled.{is_settled};
 ghost use Rattle.group_machine.specs.Cluster.{AreCounts, AreLogsOf, ClusterState, GrowByRecords, IsDue, IsOfTopic, IsPlaceOf, IsValidCluster, answer_at, append_answer, appended_at, appended_to, cluster_commit_answer, cluster_sync_answer, committed_at, committed_by, fence, of_first, place_in, with_group, without_room};
 
 use crate::commit::Commit;
@@ -20,12 +20,12 @@ use std::alloc::Global;
 use std::marker::Model;
 use std::random::RandomSource;
 
-/// Consumers that read partitioned logs, in one group: which partition is read by whom, and what
-/// was committed.
+/// One consumer group over partitioned logs: which member reads which partition, and what is
+/// committed.
 ///
-/// The group is that of Kafka's cooperative rebalancing (KIP-429) with the balance of its sticky
-/// assignor. After each call no partition is granted to two present members, and the counter of
-/// each key is how often the key is in the records below the committed offsets, each taken once.
+/// The group rebalances cooperatively (KIP-429), with the balance of Kafka's sticky assignor. After
+/// each call no partition is granted to two present members, and the counter of each key is the
+/// number of times that the key is in the records below the committed offsets.
 #[derive(Debug, Drop)]
 pub struct Cluster {
     alloc: Global,
@@ -46,9 +46,8 @@ impl Model for Cluster {
 }
 
 impl Cluster {
-    /// A cluster of 1 to 4096 partitions of one topic, with nobody present and nothing appended.
-    /// Refused for want of memory, or where the random source fails, from which the hasher of the
-    /// keys is drawn.
+    /// A cluster of one topic with 1 to 4096 partitions, without members and records. It fails when
+    /// out of memory, or if the random source, which seeds the hasher of the keys, fails.
     pub fn new(rt: &impl RandomSource, alloc: Global, partitions: u32) -> Result<Cluster, Memory>
         requires { (1 ≤ partitions) × (partitions ≤ MOST_PARTITIONS) }
         ensures group { IfOk result (λ cluster. cluster.group ≡ opening partitions) }
@@ -63,7 +62,7 @@ impl Cluster {
         Cluster::over(alloc, logs)
     }
 
-    /// The same, of as many partitions of each topic as these numbers say.
+    /// A cluster of several topics, with these numbers of partitions.
     pub fn with_topics(
         rt: &impl RandomSource,
         alloc: Global,
@@ -82,8 +81,8 @@ impl Cluster {
         Cluster::over(alloc, logs)
     }
 
-    /// A cluster over given logs, with nobody present, nothing committed, and a counter at 0 for
-    /// each key. Refused for want of memory.
+    /// A cluster over the given logs, without members, with nothing committed and a counter at 0
+    /// for each key. It fails only when out of memory.
     pub fn over(alloc: Global, logs: Logs) -> Result<Cluster, Memory>
         ensures group { IfOk result (λ cluster. cluster.group ≡ opening logs.partitions) }
         ensures logs { IfOk result (λ cluster. cluster.logs ≡ logs) }
@@ -104,11 +103,11 @@ impl Cluster {
         })
     }
 
-    /// A new member joins, and gets the next number, from 1 on.
+    /// A new member joins. Returns its number, which is the next one, from 1 on.
     ///
-    /// Refused, with everything as it was: a name that was used (`NameUsed`); a 513th member
-    /// (`TooManyMembers`); a completion past the last generation (`GenerationsOver`); want of
-    /// memory.
+    /// Errors, which change nothing: the name was used before (`NameUsed`); 512 numbers were given
+    /// out (`TooManyMembers`); the step would complete a generation past the last
+    /// (`GenerationsOver`); out of memory.
     pub fn join(&mut self, name: Name) -> Result<u32, Refusal>
         ensures answer { Answers (join_answer self.old.group name) result }
         ensures ok { OnOk result (self.new ≡ with_group self.old (joined_by self.old.group name)) }
@@ -117,8 +116,8 @@ impl Cluster {
         self.group.join(self.alloc, name)
     }
 
-    /// A new member joins as by `join`, and keeps its place under its name: if its process ends
-    /// unnoticed, `take_over` gives the place to another number. Refused as `join` is.
+    /// A new static member joins as by `join`. If its process ends unnoticed, `take_over` gives its
+    /// seat to another member number. It fails as `join` does.
     pub fn join_kept(&mut self, name: Name) -> Result<u32, Refusal>
         ensures answer { Answers (join_answer self.old.group name) result }
         ensures ok { OnOk result (self.new
@@ -128,13 +127,13 @@ impl Cluster {
         self.group.join_kept(self.alloc, name)
     }
 
-    /// The place that is kept under a name goes to a new member, which gets the next number and has
-    /// not synced: it is granted and is to keep what the old one was, which is no longer present.
-    /// The generation, the phase and the moves stay (KIP-345: a member that comes back under its
-    /// name starts no rebalance).
+    /// A static member comes back under its name (KIP-345). Its seat goes to the next member
+    /// number, which is returned; the old number is no longer present. The new one has the granted
+    /// and the assigned partitions of the old, and has not synced. Generation, phase and moves do
+    /// not change: this starts no rebalance.
     ///
-    /// Refused, with everything as it was: no present member keeps its place under this name
-    /// (`NotKept`); a 513th member (`TooManyMembers`); want of memory.
+    /// Errors, which change nothing: no present static member has this name (`NotKept`); 512
+    /// numbers were given out (`TooManyMembers`); out of memory.
     pub fn take_over(&mut self, name: &Name) -> Result<u32, Refusal>
         ensures answer { Answers (take_over_answer self.old.group name.now) result }
         ensures ok { OnOk result (self.new
@@ -144,13 +143,15 @@ impl Cluster {
         self.group.take_over(name)
     }
 
-    /// A member gives up what it was not to keep, tells what it keeps, and joins the rebalance.
+    /// A member revokes what it is not assigned and rejoins, claiming the partitions that it
+    /// retains.
     ///
-    /// Refused, with everything as it was: a member that is not present (`UnknownMember`); another
-    /// generation than the group's (`StaleGeneration`); one that joined (`AlreadyJoined`); one that
-    /// has not synced (`SyncFirst`); in a stable group one with nothing to give (`NothingToGive`);
-    /// a claim other than what it is to keep (`ClaimDiffers`), as one of another number of
-    /// partitions; a completion past the last generation (`GenerationsOver`); want of memory.
+    /// Errors, which change nothing, in this order: the member is not present (`UnknownMember`);
+    /// the generation is not the group's (`StaleGeneration`); the member has rejoined already
+    /// (`AlreadyJoined`) or has not synced (`SyncFirst`); the group is stable and the member has
+    /// nothing to revoke (`NothingToGive`); the claim is not what it is assigned, or is over
+    /// another number of partitions (`ClaimDiffers`); the step would complete a generation past the
+    /// last (`GenerationsOver`); out of memory.
     pub fn rejoin(&mut self, member: u32, generation: u32, claim: &Plane) -> Result<(), Refusal>
         ensures answer { Answers (rejoin_answer self.old.group member generation claim.now) result }
         ensures ok { OnOk result (self.new
@@ -160,10 +161,10 @@ impl Cluster {
         self.group.rejoin(self.alloc, member, generation, claim)
     }
 
-    /// A member learns what it is to keep in this generation, and where to read on.
+    /// A member syncs. Returns its lease: its assigned partitions, and the offsets to read from.
     ///
-    /// Refused, with everything as it was: a member that is not present (`UnknownMember`); one that
-    /// has joined the rebalance that is to come (`RebalanceInProgress`); want of memory.
+    /// Errors, which change nothing: the member is not present (`UnknownMember`); it has joined the
+    /// pending rebalance (`RebalanceInProgress`); out of memory.
     pub fn sync(&mut self, member: u32) -> Result<Lease, Refusal>
         ensures answer { Answers (cluster_sync_answer self.old member) result }
         ensures ok { OnOk result (self.new
@@ -175,10 +176,10 @@ impl Cluster {
         Ok(lease)
     }
 
-    /// A member leaves. What it was granted is free for others.
+    /// A member leaves and frees its partitions.
     ///
-    /// Refused, with everything as it was: a member that is not present (`UnknownMember`); a
-    /// completion past the last generation (`GenerationsOver`); want of memory.
+    /// Errors, which change nothing: the member is not present (`UnknownMember`); the step would
+    /// complete a generation past the last (`GenerationsOver`); out of memory.
     pub fn leave(&mut self, member: u32) -> Result<(), Refusal>
         ensures answer { Answers (leave_answer self.old.group member) result }
         ensures ok { OnOk result (self.new ≡ with_group self.old (left_by self.old.group member)) }
@@ -187,7 +188,8 @@ impl Cluster {
         self.group.leave(self.alloc, member)
     }
 
-    /// A member is lost: as if it had left, whatever it still does. Refused as `leave` is.
+    /// A member is lost. The group treats it as if it had left, whatever it still does. It fails as
+    /// `leave` does.
     pub fn lose(&mut self, member: u32) -> Result<(), Refusal>
         ensures answer { Answers (leave_answer self.old.group member) result }
         ensures ok { OnOk result (self.new ≡ with_group self.old (left_by self.old.group member)) }
@@ -196,14 +198,14 @@ impl Cluster {
         self.leave(member)
     }
 
-    /// Takes a commit whole, and answers the new committed offset of its partition. It takes no
-    /// memory.
+    /// Applies a commit as a whole. Returns the new committed offset of its partition. It allocates
+    /// nothing.
     ///
-    /// Refused, with everything as it was, by the first that holds: its member is not present
-    /// (`UnknownMember`); it is of another generation (`StaleGeneration`); the partition is not
-    /// granted to the member (`NotOwner`), as one past the last; no records (`EmptyCommit`); an
-    /// offset other than the committed one (`OffsetMismatch`); records past the log's end
-    /// (`PastEnd`); numbers other than the log's (`WrongRecords`).
+    /// Errors, which change nothing, in this order: the member is not present (`UnknownMember`);
+    /// the commit is of another generation (`StaleGeneration`); the partition is not granted to the
+    /// member, or does not exist (`NotOwner`); the commit has no records (`EmptyCommit`); it does
+    /// not begin at the committed offset (`OffsetMismatch`); it ends past the log (`PastEnd`); its
+    /// key numbers differ from the log's (`WrongRecords`).
     pub fn commit(&mut self, commit: &Commit) -> Result<u32, Refusal>
         ensures answer { result ≡ cluster_commit_answer self.old commit.now }
         ensures accepts { IsDue self.old commit.now
@@ -221,11 +223,11 @@ impl Cluster {
         )
     }
 
-    /// Appends a record of this key to the log of its place in the first topic, and answers the
-    /// partition and the record's offset. A new key gets a counter at 0.
+    /// Appends a record with this key to the first topic. Returns the partition of the key and the
+    /// offset of the record. A new key gets a counter at 0.
     ///
-    /// Refused, with everything as it was, as `Logs::append` is: `KeyTooLong`, `LogFull`, and for
-    /// want of memory.
+    /// It fails as `Logs::append` does, and then changes nothing: `KeyTooLong`, `LogFull`, and out
+    /// of memory.
     pub fn append(&mut self, key: &[u8]) -> Result<(u32, u32), Refusal>
         ensures answer { Answers (append_answer self.old.logs (of_first key.now)) result }
         ensures ok { OnOk result (self.new ≡ appended_to self.old (of_first key.now)) }
@@ -234,12 +236,12 @@ impl Cluster {
         ensures history { OnOk result
             (GrowByRecords (of_first key.now ∷ []) self.old.logs self.new.logs) }
     {
+        // Reading the field gives the proof its invariant: there is a first topic.
         let _ = &self.logs;
         self.append_in(0, key)
     }
 
-    /// The same, to the log of the key's place in the topic of this index. Partitions are counted
-    /// over all topics.
+    /// Appends to the topic of this index. Partitions are numbered over all topics.
     pub fn append_in(&mut self, topic: u8, key: &[u8]) -> Result<(u32, u32), Refusal>
         requires { IsOfTopic self.old.logs (topic, key.now) }
         ensures answer { Answers (append_answer self.old.logs (topic, key.now)) result }
@@ -253,7 +255,7 @@ impl Cluster {
         self.append_at(place, key)
     }
 
-    /// The same, where the key's place in some topic is known.
+    /// Appends to the partition of the key in some topic, which the caller has computed.
     pub fn append_at(&mut self, place: u32, key: &[u8]) -> Result<(u32, u32), Refusal>
         requires { IsPlaceOf self.old.logs key.now place }
         ensures answer { Answers (answer_at self.old.logs place key.now) result }
@@ -286,7 +288,7 @@ impl Cluster {
         self.group.phase
     }
 
-    /// How many topics there are.
+    /// The number of topics.
     pub fn topics(&self) -> usize
         ensures topics { result ≡ length self.now.logs.counts }
         ensures valid { IsValidCluster self.now }
@@ -294,7 +296,7 @@ impl Cluster {
         self.logs.topics()
     }
 
-    /// How many partitions there are, of all topics.
+    /// The number of partitions of all topics.
     pub fn partitions(&self) -> u32
         ensures count { result ≡ self.now.group.partitions }
         ensures valid { IsValidCluster self.now }
@@ -309,28 +311,28 @@ impl Cluster {
         self.seat(member).is_some()
     }
 
-    /// Whether a member has joined the rebalance that is to come; false where it is not present.
+    /// Whether a member has joined the pending rebalance; false if it is not present.
     pub fn is_joined(&self, member: u32) -> bool
         ensures { result ≡ is_joined self.now.group member }
     {
         self.seat(member).is_some_and(|seat| seat.joined)
     }
 
-    /// Whether a member has synced since the last completion; false where it is not present.
+    /// Whether a member has synced since the last completion; false if it is not present.
     pub fn is_synced(&self, member: u32) -> bool
         ensures { result ≡ is_synced self.now.group member }
     {
         self.seat(member).is_some_and(|seat| seat.synced)
     }
 
-    /// Whether a member keeps its place under its name; false where it is not present.
+    /// Whether a member is static; false if it is not present.
     pub fn is_kept(&self, member: u32) -> bool
         ensures { result ≡ is_kept self.now.group member }
     {
         self.seat(member).is_some_and(|seat| seat.kept)
     }
 
-    /// What a member may read and commit; nothing where it is not present.
+    /// The partitions that a member may read and commit; nothing if it is not present.
     pub fn granted(&self, member: u32) -> Option<&Plane>
         ensures present { is_some result ≡ is_present self.now.group member }
         ensures granted { IfSome result (λ plane. plane.now ≡ granted_of self.now.group member) }
@@ -339,7 +341,7 @@ impl Cluster {
         Some(&seat.granted)
     }
 
-    /// What a member is to keep; nothing where it is not present.
+    /// The partitions that a member retains; nothing if it is not present.
     pub fn assigned(&self, member: u32) -> Option<&Plane>
         ensures present { is_some result ≡ is_present self.now.group member }
         ensures assigned { IfSome result (λ plane. plane.now ≡ assigned_of self.now.group member) }
@@ -348,14 +350,14 @@ impl Cluster {
         Some(&seat.assigned)
     }
 
-    /// The present member that is granted a partition.
+    /// The present member that a partition is granted to.
     pub fn owner(&self, partition: u32) -> Option<u32>
         ensures { result ≡ owner_of self.now.group partition }
     {
         members::owner_of(&self.group.slots, partition)
     }
 
-    /// The name of each member that was given a number, present or not.
+    /// The name of a member number that was given out, present or not.
     pub fn name(&self, member: u32) -> Option<&Name>
         ensures { MatchOption result (name_of self.now.group member ≡ None)
             (λ name. name_of self.now.group member ≡ Some name.now) }
@@ -363,15 +365,14 @@ impl Cluster {
         members::name_of(&self.group.slots, member)
     }
 
-    /// The number that a name stands for, present or not: the newest that has it; none where nobody
-    /// joined under it.
+    /// The newest member number that has this name, present or not; none if nobody joined under it.
     pub fn member_named(&self, name: &Name) -> Option<u32>
         ensures { result ≡ member_named self.now.group name.now }
     {
         members::number_named(&self.group.slots, name)
     }
 
-    /// The numbers of the present members, in rising order.
+    /// The present members, in rising order.
     pub fn members(&self) -> Members<'_>
         ensures { result ≡ members self.now.group }
     {
@@ -385,7 +386,7 @@ impl Cluster {
         &self.group.moves
     }
 
-    /// Whether the group is stable, and nobody has anything to give up.
+    /// Whether the group is stable and no member has anything to revoke.
     pub fn is_settled(&self) -> bool
         ensures { result ≡ is_settled self.now.group }
     {
@@ -408,7 +409,7 @@ impl Cluster {
         &self.store
     }
 
-    /// What a member has, while it is present.
+    /// The seat of a present member.
     fn seat(&self, member: u32) -> Option<&Seat>
         ensures { MatchOption result (member_of self.now.group member ≡ None)
             (λ seat. member_of self.now.group member ≡ Some seat.now) }
@@ -416,7 +417,7 @@ impl Cluster {
         slots::seat_of(&self.group.slots, member)
     }
 
-    /// What a member is leased, or why it is not.
+    /// The lease of a member, or why it gets none.
     fn lease(&self, member: u32) -> Result<Lease, Refusal>
         ensures { Answers (cluster_sync_answer self.now member) result }
     {
@@ -430,7 +431,7 @@ impl Cluster {
         })
     }
 
-    /// Whether the group lets a commit through, or why not.
+    /// Whether the group accepts a commit, or why not. It fences members that are lost or behind.
     fn may_commit(&self, commit: &Commit) -> Result<(), Refusal>
         ensures { result ≡ fence self.now.group commit.now }
     {

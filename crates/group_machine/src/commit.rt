@@ -1,4 +1,4 @@
-//! Commits: what members hand to a cluster.
+//! Commits, which members send to a cluster.
 
 ghost use Rattle.std.specs.Prelude.{◌≡◌};
 ghost use Rattle.group_machine.specs.Cluster.{CommitTerms};
@@ -6,8 +6,8 @@ ghost use Rattle.group_machine.specs.Cluster.{CommitTerms};
 use keyed_table::Partial;
 use std::marker::Model;
 
-/// A commit: the records of a partition from an offset on, by the numbers of their keys with the
-/// counts of these, in the name of a member in a generation.
+/// A commit of the records of a partition from an offset on, by a member in a generation. The
+/// records are listed by their key numbers, with a count for each.
 #[derive(Debug, Drop)]
 pub struct Commit {
     member: u32,
@@ -33,7 +33,7 @@ impl Model for Commit {
 }
 
 impl Commit {
-    /// A commit of these terms. It takes no memory.
+    /// Makes a commit. It allocates nothing.
     pub fn new(member: u32, generation: u32, partition: u32, from: u32, partial: Partial) -> Commit
         ensures { result
             ≡ record {
@@ -81,7 +81,7 @@ impl Commit {
         self.from
     }
 
-    /// The key numbers of its records, with their counts.
+    /// The key numbers of its records, and their counts.
     pub fn partial(&self) -> &Partial
         ensures { result.now ≡ self.now.ids }
     {

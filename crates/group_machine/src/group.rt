@@ -1,4 +1,4 @@
-//! The group of members, and its steps.
+//! The group and its steps.
 
 ghost use Rattle.std.specs.Prelude.{◌≡◌, ◌+◌, ◌<◌, ◌≤◌, ℕ, List, true, length, IfOk, IfErr, OnOk, OnErr, Ok, Err, Some, None};
 ghost use Rattle.std.specs.Vec.{vec_len, vec_capacity};
@@ -6,7 +6,7 @@ ghost use Rattle.lane_words.specs.Answers.{Answers};
 ghost use Rattle.bit_planes.specs.PartitionSet.{is_same};
 ghost use Rattle.group_machine.specs.State.{opening, is_present, member_of, is_anybody};
 ghost use Rattle.group_machine.specs.Completion.{complete, completed};
-ghost use Rattle.group_machine.specs.Rounds.{is_settled, is_stable};
+ghost use Rattle.group_machine.specs.Settled.{is_settled, is_stable};
 ghost use Rattle.group_machine.specs.Steps.{newcomer, join_answer, joined_by, joined_kept_by, handing_on, take_over_answer, taken_over_by, rejoin_refusal, rejoin_answer, rejoined_by, sync_answer, synced_by, leave_answer, left_by};
 ghost use Rattle.group_machine.specs.Good.{IsValidGroup};
 ghost use Rattle.group_machine.specs.Private.Changes.{after, HasRoom, IsChanged, IsCompletion, IsLeasable, IsPlanned, IsRefused};
@@ -31,74 +31,72 @@ use std::alloc::Global;
 pub enum Phase {
     /// Nobody is present.
     Empty,
-    /// Members are to rejoin before the next generation.
+    /// A rebalance is pending: members rejoin before the next generation.
     Preparing,
-    /// A generation stands.
+    /// A generation is complete.
     Stable,
 }
 
-/// A partition that a member was given at a completion and was not granted just before.
+/// A partition that a completion granted to a member that did not have it.
 #[derive(Clone, Copy, Debug, PartialEq, Eq)]
 pub struct Move {
-    /// The generation that was completed.
+    /// The completed generation.
     pub generation: u32,
     /// The partition, from 0.
     pub partition: u32,
-    /// The member that was last granted it, present or not; none at first.
+    /// The member that had it last, present or not; none at first.
     pub last: Option<u32>,
     /// The member that has it now.
     pub holder: u32,
 }
 
-/// What a present member has.
+/// The seat of a present member: its flags and its partitions.
 #[derive(Debug, Drop)]
 pub struct Seat {
-    /// Whether it has joined the rebalance that is to come.
+    /// Whether it has joined the pending rebalance.
     pub joined: bool,
     /// Whether it has synced in this generation.
     pub synced: bool,
-    /// Whether it keeps its place under its name, for another number to take over.
+    /// Whether it is static: another member number can take its seat over by name.
     pub kept: bool,
-    /// What it may read and commit.
+    /// The partitions that it may read and commit.
     pub granted: Plane,
-    /// What the last completion gave it to keep.
+    /// The partitions that the last completion assigned to it.
     pub assigned: Plane,
 }
 
-/// A member number that was given: its name, and its seat while it is present.
+/// A member number that was given out: its name, and its seat while it is present.
 #[derive(Debug, Drop)]
 pub struct Slot {
-    /// Its name, which stands for the newest of the numbers that have it: a later one has it where
-    /// this one's place was taken over.
+    /// Its name. A later number has the same name if it took this one's seat over.
     pub name: Name,
-    /// What it has, while it is present.
+    /// Its seat, while it is present.
     pub seat: Option<Seat>,
 }
 
-/// The group of members: who is present, what each may read, and what each is to keep.
+/// The group: which members are present, what each may read, and what each is assigned.
 ///
-/// Its steps are those of Kafka's cooperative rebalancing (KIP-429): a member that joins is given
-/// nothing that another still holds, and a partition moves once its holder has rejoined without it.
-/// What a valid group is the steps ask for and leave; the cluster, which has the one group, keeps
-/// it.
+/// It rebalances as KIP-429 says: a member that joins gets nothing that another still holds, and a
+/// partition moves once its holder has rejoined without it. Each step requires a valid group and
+/// leaves one; `Cluster` has the invariant.
 #[derive(Debug, Drop)]
 pub struct Group {
     /// The generation: 0 until the first completion.
     pub generation: u32,
-    /// Whether it is empty, prepares a generation or is stable.
+    /// The phase.
     pub phase: Phase,
-    /// How many partitions there are.
+    /// The number of partitions.
     pub partitions: u32,
-    /// The members by their numbers: slot k is of member k + 1.
+    /// The members by number: slot k is member k + 1.
     pub slots: Vec<Slot>,
-    /// The member that was last granted each partition.
+    /// The last holder of each partition.
     pub last: Vec<Option<u32>>,
     /// The moves so far, in order.
     pub moves: Vec<Move>,
 }
 
 impl Group {
-    /// A group that nobody has joined. Refused for want of memory alone.
+    /// A group without members. It fails only when out of memory.
     pub fn new(alloc: Global, partitions: u32) -> Result<Group, Memory>
         requires { (1 ≤ partitions) × (partitions ≤ MOST_PARTITIONS) }
         ensures opening { IfOk result (λ g. group_view g ≡ opening partitions) }
@@ -113,8 +111,7 @@ impl Group {
         })
     }
 
-    /// A member joins under a name that was never used, and is answered its number: 1 for the
-    /// first, then one more for each.
+    /// A member joins under a name that was never used. Returns its number, which is the next one.
     pub fn join(&mut self, alloc: Global, name: Name) -> Result<u32, Refusal>
         requires { IsValidGroup (group_view self.old) }
         ensures answer { Answers (join_answer (group_view self.old) name) result }
@@ -137,7 +134,7 @@ impl Group {
         Ok(number)
     }
 
-    /// A member joins as by `join`, and keeps its place under its name.
+    /// A static member joins as by `join`.
     pub fn join_kept(&mut self, alloc: Global, name: Name) -> Result<u32, Refusal>
         requires { IsValidGroup (group_view self.old) }
         ensures answer { Answers (join_answer (group_view self.old) name) result }
@@ -150,7 +147,7 @@ impl Group {
         Ok(number)
     }
 
-    /// The place that is kept under a name goes to the next number, which is answered.
+    /// The next number takes the seat of the static member of this name over, and is returned.
     pub fn take_over(&mut self, name: &Name) -> Result<u32, Refusal>
         requires { IsValidGroup (group_view self.old) }
         ensures answer { Answers (take_over_answer (group_view self.old) name.now) result }
@@ -171,7 +168,7 @@ impl Group {
         Ok(number)
     }
 
-    /// A member gives up what it is not to keep, with a claim of what it keeps, and joins.
+    /// A member revokes what it is not assigned and rejoins, claiming what it retains.
     pub fn rejoin(
         &mut self,
         alloc: Global,
@@ -196,7 +193,7 @@ impl Group {
         Ok(())
     }
 
-    /// What a member is to keep, where it may sync.
+    /// The partitions that a member is assigned, if it may sync.
     pub fn leasable(&self, member: u32) -> Result<&Plane, Refusal>
         ensures may { IfOk result
             (λ assigned. IsLeasable (group_view self.now) member assigned.now) }
@@ -211,7 +208,7 @@ impl Group {
         Ok(&seat.assigned)
     }
 
-    /// A present member has learnt what it is to keep.
+    /// Marks a present member as synced.
     pub fn mark_synced(&mut self, member: u32)
         requires here { is_present (group_view self.old) member ≡ true }
         requires valid { IsValidGroup (group_view self.old) }
@@ -221,7 +218,7 @@ impl Group {
         slots::mark_synced(&mut self.slots, member);
     }
 
-    /// A member leaves, or is lost, which is the same: it is taken out with its sets.
+    /// A member leaves or is lost, which is the same.
     pub fn leave(&mut self, alloc: Global, member: u32) -> Result<(), Refusal>
         requires { IsValidGroup (group_view self.old) }
         ensures answer { Answers (leave_answer (group_view self.old) member) result }
@@ -239,7 +236,7 @@ impl Group {
         Ok(())
     }
 
-    /// Whether the group is stable, and nobody has anything to give up.
+    /// Whether the group is stable and no member has anything to revoke.
     pub fn is_settled(&self) -> bool
         requires { IsValidGroup (group_view self.now) }
         ensures { result ≡ is_settled (group_view self.now) }
@@ -247,7 +244,7 @@ impl Group {
         is_stable(self.phase) && slots::all_agree(&self.slots)
     }
 
-    /// A member's place is handed on to the next number, under this name. It takes no memory.
+    /// Moves the seat of a member to the next number, under this name. It allocates nothing.
     fn hand_on(&mut self, name: &Name, member: u32)
         requires valid { IsValidGroup (group_view self.old) }
         requires here { is_present (group_view self.old) member ≡ true }
@@ -264,7 +261,7 @@ impl Group {
         self.slots.push_reserved(Slot { name, seat });
     }
 
-    /// Why a rejoin is refused, but for the last generation.
+    /// Why a rejoin is refused, apart from the limit of generations.
     fn why_no_rejoin(&self, member: u32, generation: u32, claim: &Plane) -> Option<Refusal>
         requires { IsValidGroup (group_view self.now) }
         ensures { result ≡ rejoin_refusal (group_view self.now) generation claim.now
@@ -291,9 +288,9 @@ impl Group {
         None
     }
 
-    /// Plans the completion that comes after a change, if one does: it takes all memory that this
-    /// needs, with room for the moves, and changes nothing. Refused, in this order: a completion
-    /// past the last generation (`GenerationsOver`); want of memory.
+    /// Plans the completion that a change leads to, if it leads to one: allocates all that it
+    /// needs, reserves capacity for the moves, and changes nothing. Errors: the generation would
+    /// pass the last (`GenerationsOver`); out of memory.
     fn plan_completion(
         &mut self,
         alloc: Global,
@@ -321,7 +318,7 @@ impl Group {
         Ok(Some(completion))
     }
 
-    /// The completion after a change.
+    /// The completion that a change leads to.
     fn completion_after(&self, alloc: Global, change: Change) -> Result<Completion, Memory>
         requires valid { IsValidGroup (group_view self.now) }
         requires changed { (name : List ℕ) → IsChanged (after change name (group_view self.now)) }
@@ -342,7 +339,7 @@ impl Group {
         })
     }
 
-    /// The next generation, where a completion was planned for this state. It takes no memory.
+    /// Applies the planned completion, if there is one. It allocates nothing.
     fn complete(&mut self, planned: Option<Completion>)
         requires changed { IsChanged (group_view self.old) }
         requires planned { IsPlanned (group_view self.old) planned }
@@ -355,7 +352,7 @@ impl Group {
         }
     }
 
-    /// The next generation, by the completion that was planned for this state. It takes no memory.
+    /// Applies the planned completion. It allocates nothing.
     fn make(&mut self, completion: &Completion)
         requires changed { IsChanged (group_view self.old) }
         requires more { self.old.generation < LAST_GENERATION }
@@ -373,7 +370,7 @@ impl Group {
     }
 }
 
-/// A member that has joined and is granted nothing yet.
+/// The slot of a member that has just joined, without partitions.
 fn newcomer(partitions: u32, name: Name) -> Slot
     requires { (1 ≤ partitions) × (partitions ≤ MOST_PARTITIONS) }
     ensures { result ≡ newcomer partitions name }
@@ -390,7 +387,7 @@ fn newcomer(partitions: u32, name: Name) -> Slot
     }
 }
 
-/// Whether a generation stands.
+/// Whether a generation is complete.
 fn is_stable(phase: Phase) -> bool
     ensures { result ≡ is_stable phase }
 {
@@ -400,7 +397,7 @@ fn is_stable(phase: Phase) -> bool
     }
 }
 
-/// Whether two sets are the same, at whatever P.
+/// Whether two sets are equal. They may be over different numbers of partitions.
 fn is_equal(claim: &Plane, assigned: &Plane) -> bool
     ensures { result ≡ is_same claim.now assigned.now }
 {

@@ -1,4 +1,4 @@
-//! Leases: what a cluster hands to a member that syncs.
+//! Leases, which a cluster returns to a member that syncs.
 
 ghost use Rattle.std.specs.Prelude.{◌≡◌, ◌<◌};
 ghost use Rattle.bit_planes.specs.PartitionSet.{partitions_of};
@@ -7,8 +7,8 @@ ghost use Rattle.group_machine.specs.Cluster.{LeaseTerms, start_of};
 use bit_planes::Plane;
 use std::marker::Model;
 
-/// What a member is to keep in a generation, and from which offset on each of these partitions is
-/// to be read.
+/// The partitions that a member is assigned in a generation, and the offset from which to read each
+/// of them.
 #[derive(Debug, Drop)]
 pub struct Lease {
     pub(crate) member: u32,
@@ -36,28 +36,28 @@ impl Model for Lease {
 }
 
 impl Lease {
-    /// The member that it is given to.
+    /// The member that it is for.
     pub fn member(&self) -> u32
         ensures { result ≡ self.now.member }
     {
         self.member
     }
 
-    /// The generation for which it is given.
+    /// The generation that it is for.
     pub fn generation(&self) -> u32
         ensures { result ≡ self.now.generation }
     {
         self.generation
     }
 
-    /// The partitions that the member is to keep.
+    /// The partitions that the member is assigned.
     pub fn assigned(&self) -> &Plane
         ensures { result.now ≡ self.now.assigned }
     {
         &self.assigned
     }
 
-    /// The committed offset of a partition, which is that of the next record to be read.
+    /// The committed offset of a partition, which is the offset of the next record to read.
     pub fn start(&self, p: u32) -> u32
         requires { p < partitions_of self.now.assigned }
         ensures { result ≡ start_of self.now p }

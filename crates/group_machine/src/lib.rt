@@ -1,25 +1,29 @@
-//! The cluster: members who share partitions, the logs that they read, and what they committed.
+//! The cluster: a consumer group, the logs that it reads, and the committed offsets and counts.
+//!
+//! `Cluster` is one deterministic state machine. Each event is a call, and nothing happens by
+//! itself: there are no timers.
+//!
+//! What it promises:
+//! - Each call that changes a `Cluster` is exactly the step that `specs/Steps.antt` and
+//!   `specs/Cluster.antt` define: what it returns and the state after it. A refusal is the first
+//!   that applies, in order, and changes nothing.
+//! - `commit` allocates nothing, and accepts a commit exactly when no refusal applies.
+//! - The invariant of `Cluster`: no partition is granted to two present members; what a member is
+//!   assigned is granted to it, and is all of that once it has joined; a settled assignment is
+//!   balanced, and in a stable group the assigned sets lie within a balanced assignment; the phase
+//!   says who is present and who has joined; the store is exact over the logs.
+//!
+//! `group_laws` states what follows for sequences of steps. Tests: `driver_tests`.
 #![tactic(auto)]
 
 mod cluster;
 mod commit;
 mod group;
-mod laws;
 mod lease;
 mod name;
 
 pub use cluster::Cluster;
 pub use commit::Commit;
 pub use group::{Members, Move, Phase};
-pub use laws::{
-    a_join_adds_its_name, a_join_ends_where_it_ends_without_flags, a_kept_join_is_a_join,
-    a_leave_ends_where_it_ends_without_flags, a_leave_takes_one_out, a_name_has_its_number,
-    a_turn_keeps_the_end, an_end_adds_at_most_two_generations, an_end_leaves_who_is_there,
-    four_passes_settle, join_brings_a_newcomer, join_leaves_others, leave_leaves_others,
-    leave_takes_its_member_out, one_member_takes_a_partition, rejoin_keeps_the_end,
-    rejoin_leaves_others, rejoin_leaves_what_is_kept, sync_keeps_the_end, sync_leaves_others,
-    sync_marks_its_member, take_over_hands_on, take_over_keeps_the_end, take_over_starts_nothing,
-    two_rounds_settle,
-};
 pub use lease::Lease;
 pub use name::Name;

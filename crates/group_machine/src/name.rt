@@ -6,16 +6,15 @@ ghost use Rattle.group_machine.specs.Name.{is_name, is_name_byte};
 
 use std::marker::Model;
 
-/// The most bytes of a name.
+/// The limit of a name, in bytes.
 const LONGEST_NAME: usize = 32;
 
-/// A member's name: 1 to 32 ASCII letters, digits, `-` and `_`. It lies in place and takes no
-/// memory.
+/// A member's name: 1 to 32 ASCII letters, digits, `-` and `_`. It is stored inline.
 #[derive(Debug, Drop)]
 pub struct Name {
-    /// The name, and zeros after it.
+    /// The name, followed by zeros.
     bytes: [u8; LONGEST_NAME],
-    /// How many of the bytes are the name.
+    /// The length of the name.
     size: u8,
 }
 
@@ -31,7 +30,7 @@ impl Model for Name {
 }
 
 impl Name {
-    /// The name of this text, if it is one.
+    /// Parses a name. Returns nothing if the text is not one.
     pub fn new(text: &[u8]) -> Option<Name>
         ensures { result ≡ (if is_name text.now then Some text.now else None) }
     {
@@ -46,7 +45,7 @@ impl Name {
         })
     }
 
-    /// An equal name.
+    /// A copy of the name.
     pub fn copy(&self) -> Name
         ensures { result ≡ self.now }
     {
@@ -75,14 +74,14 @@ fn is_name(text: &[u8]) -> bool
     has_name_bytes(text)
 }
 
-/// Whether each byte may stand in a name.
+/// Whether a name may contain each of these bytes.
 fn has_name_bytes(text: &[u8]) -> bool
     ensures { result ≡ list_all is_name_byte text.now }
 {
     text.iter().all(|byte| is_name_byte(*byte))
 }
 
-/// Whether a byte may stand in a name.
+/// Whether a name may contain this byte.
 fn is_name_byte(byte: u8) -> bool
     ensures { result ≡ is_name_byte byte }
 {

@@ -20,7 +20,7 @@ use Rattle.partition_log.proofs.Parted.{sum-plus, sum-same, sum-zero}
 use Rattle.partition_log.proofs.Valid.{place-below}
 use Rattle.commit_store.specs.Commits.{committed_at}
 use Rattle.group_machine.specs.Cluster.{ClusterState, IsValidCluster}
-use Rattle.group_machine.specs.Rounds.{bare, bare_seat}
+use Rattle.group_laws.specs.Rounds.{bare, bare_seat}
 use Rattle.group_machine.specs.Slots.{each_changed, present, reseated_from}
 use Rattle.group_machine.specs.State.{GroupState, name_of, owner_of}
 use Rattle.group_machine.specs.declared.group.Move.{Move}

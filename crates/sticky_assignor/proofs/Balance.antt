@@ -31,7 +31,7 @@ Fits [] (row ∷ rows) = ⊥
 Fits (q ∷ qs) [] = ⊥
 Fits (q ∷ qs) (row ∷ rows) = (size row ≤ q) × Fits qs rows
 
--- the rows and what is free are apart
+-- the rows and what is free are disjoint
 abbrev Clear : List PartitionSet → PartitionSet → Type 0
 Clear rows free = (q : ℕ) → holders rows q + one (is_in free q) ≤ 1
 

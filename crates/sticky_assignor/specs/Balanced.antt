@@ -1,8 +1,8 @@
--- Balanced rows. A row is the set of the partitions that one member owns, or is to own.
+-- Balanced rows. A row is the set of partitions that one member owns.
 use Rattle.std.specs.Prelude.{◌≡◌, ◌+◌, ◌<◌, ◌≤◌, ℕ, List, [], ◌∷◌, length, slice_index_or}
 use Rattle.bit_planes.specs.PartitionSet.{PartitionSet, partitions_of, is_in, one, size, empty_set}
 
--- how many rows have a partition
+-- the number of rows with a partition
 abbrev pub holders : List PartitionSet → ℕ → ℕ
 holders [] q = 0
 holders (row ∷ rows) q = one (is_in row q) + holders rows q
@@ -29,3 +29,9 @@ AreApart rows = (q : ℕ) → holders rows q ≤ 1
 abbrev pub AreBelow : ℕ → List PartitionSet → Type 0
 AreBelow partitions [] = Unit {0}
 AreBelow partitions (row ∷ rows) = (partitions_of row ≡ partitions) × AreBelow partitions rows
+
+-- what members own: at least one row, and disjoint rows of this many partitions
+pub record AreOwned (partitions : ℕ) (rows : List PartitionSet) : Type 0 where
+  pub some : 0 < length rows
+  pub below : AreBelow partitions rows
+  pub apart : AreApart rows

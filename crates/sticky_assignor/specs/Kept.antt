@@ -1,19 +1,19 @@
--- How much stays where it is.
+-- Retained partitions: those that stay with their owners.
 use Rattle.std.specs.Prelude.{◌≡◌, ◌≤◌, ℕ, ◌+◌, ◌&&◌, List, [], ◌∷◌, length}
 use Rattle.bit_planes.specs.PartitionSet.{PartitionSet, partitions_of, is_in, how_many}
 use Rattle.sticky_assignor.specs.Balanced.{AreBelow, IsBalanced}
 
--- how many partitions are in both sets
+-- the number of partitions in both sets
 abbrev pub in_both : PartitionSet → PartitionSet → ℕ
 in_both s t = how_many (partitions_of s) (λ q. is_in s q && is_in t q)
 
--- how many partitions stay with their owners, over all members
+-- the number of retained partitions, over all members
 abbrev pub kept : List PartitionSet → List PartitionSet → ℕ
 kept [] rows = 0
 kept (own ∷ owned) [] = 0
 kept (own ∷ owned) (row ∷ rows) = in_both own row + kept owned rows
 
--- of what was owned, no balanced rows keep more
+-- no balanced rows retain more of what was owned
 abbrev pub KeepsMost : ℕ → List PartitionSet → List PartitionSet → Type 0
 KeepsMost partitions owned rows = (others : List PartitionSet) → length others ≡ length owned
     → AreBelow partitions others → IsBalanced partitions others

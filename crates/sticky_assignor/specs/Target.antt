@@ -5,15 +5,15 @@ pub use Rattle.lane_words.specs.Sums.{sum_below}
 use Rattle.bit_planes.specs.PartitionSet.{PartitionSet, is_in, set_where, one, any_below, rank, size, union, lowest}
 pub use Rattle.sticky_assignor.specs.Balanced.{row_at}
 
--- a member is heavy where it owns more than an even share
+-- a member is heavy if it owns more than an even share
 abbrev pub is_heavy : ℕ → PartitionSet → Bool
 is_heavy share row = nat_lt share (size row)
 
 abbrev pub heavies : ℕ → List PartitionSet → ℕ
 heavies share rows = count_by (is_heavy share) rows
 
--- how many partitions a member is to own: an even share, and one more for the first of the heavy
--- members and, for what is left of the remainder, for the first of the others
+-- the number of partitions that a member is to own: an even share, plus one for the first heavy
+-- members and, as far as the remainder reaches, for the first others
 abbrev pub quota_of : ℕ → List PartitionSet → ℕ → ℕ
 quota_of partitions owned i =
     let share = partitions / length owned in
@@ -25,11 +25,11 @@ quota_of partitions owned i =
     else nat_lt (i - heavy_before) (more - for_heavy)
     )
 
--- what a member keeps of what it owns: up to its quota, the lowest numbers first
+-- what a member retains: the lowest partitions that it owns, up to its quota
 abbrev pub kept_row : ℕ → List PartitionSet → ℕ → PartitionSet
 kept_row partitions owned i = lowest (quota_of partitions owned i) (row_at owned i)
 
--- the partitions that nobody keeps
+-- the partitions that nobody retains
 abbrev pub free_set : ℕ → List PartitionSet → PartitionSet
 free_set partitions owned =
     set_where partitions (λ q.
@@ -56,7 +56,7 @@ abbrev pub rows_by : ℕ → (ℕ → PartitionSet) → List PartitionSet
 rows_by zero f = []
 rows_by (suc n) f = f 0 ∷ rows_by n (λ i. f (suc i))
 
--- each member has what it keeps and what it takes
+-- each member has what it retains and what it takes
 unfoldable pub target : ℕ → List PartitionSet → List PartitionSet
 target partitions owned =
     rows_by (length owned) (λ i. union (kept_row partitions owned i) (taken_row partitions owned i))

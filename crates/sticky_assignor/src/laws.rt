@@ -1,25 +1,25 @@
-//! What the target is: laws of its definition.
+//! Laws of the target assignment.
 
-ghost use Rattle.std.specs.Prelude.{◌≡◌, ◌<◌, ℕ, List, length};
+ghost use Rattle.std.specs.Prelude.{◌≡◌, ℕ, List};
 ghost use Rattle.bit_planes.specs.PartitionSet.{PartitionSet};
-ghost use Rattle.sticky_assignor.specs.Balanced.{AreApart, AreBelow, IsBalanced};
+ghost use Rattle.sticky_assignor.specs.Balanced.{AreBelow, AreOwned, IsBalanced};
 ghost use Rattle.sticky_assignor.specs.Kept.{KeepsMost};
 ghost use Rattle.sticky_assignor.specs.Target.{target};
 
-/// Each target is balanced.
+/// Each target assignment is balanced.
 pub fn target_is_balanced()
     ensures { (partitions : ℕ) (owned : List PartitionSet)
-        → 0 < length owned → AreBelow partitions owned → AreApart owned
+        → AreOwned partitions owned
         → IsBalanced partitions (target partitions owned) }
 {}
 
-/// No balanced rows leave more partitions with their owners.
+/// No balanced assignment leaves more partitions with their owners.
 pub fn target_keeps_most()
     ensures { (partitions : ℕ) (owned : List PartitionSet)
         → AreBelow partitions owned → KeepsMost partitions owned (target partitions owned) }
 {}
 
-/// Nothing moves where the rows are balanced already.
+/// Nothing moves if the assignment is balanced already.
 pub fn balanced_stays()
     ensures { (partitions : ℕ) (rows : List PartitionSet)
         → AreBelow partitions rows → IsBalanced partitions rows → target partitions rows ≡ rows }

@@ -1,5 +1,11 @@
-//! The sticky assignment: who is to own which partition, so that the sizes are even and as much as
-//! can stays with its owner, as Kafka's StickyAssignor documents it.
+//! The sticky assignment: which member gets which partition, so that the sizes are even and as many
+//! partitions as possible stay with their owners, as Kafka's StickyAssignor documents it.
+//!
+//! What it promises: [`assign`] returns exactly the target that `specs/Target.antt` defines. The
+//! target is balanced, no balanced assignment over the same members leaves more partitions with
+//! their owners, and an assignment that is balanced already does not change.
+//!
+//! Tests: `cluster_tests`.
 #![tactic(auto)]
 
 ghost use Rattle.std.specs.Prelude.{◌≡◌, ◌<◌, ◌≤◌, length, IfOk, IsSome};
@@ -17,13 +23,12 @@ use lane_words::{MOST_PARTITIONS, Memory};
 pub use laws::{balanced_stays, target_is_balanced, target_keeps_most};
 use std::alloc::Global;
 
-/// The rows that the members are to own, of this many partitions: balanced, and of all balanced
-/// rows those that leave the most partitions with their owners.
+/// The target assignment: balanced, and of all balanced assignments one that leaves the most
+/// partitions with their owners.
 ///
-/// There is at least one member, the numbers of the members rise, and `owned`, of as many
-/// partitions, has a row for each of them; these rows are disjoint. What `owned` has of other
-/// members is disregarded. Refused for want of memory alone. Its cost is linear in members times
-/// partitions.
+/// There is at least one member and the member numbers rise. `owned`, over the same number of
+/// partitions, has a row for each member, and these rows are disjoint; rows of other members are
+/// ignored. It fails only when out of memory. The cost is linear in members times partitions.
 pub fn assign(
     alloc: Global,
     partitions: u32,
@@ -49,7 +54,7 @@ pub fn assign(
     fill(alloc, free, &counts, &quotas, members, owned)
 }
 
-/// How many partitions each member owns.
+/// The number of partitions that each member owns.
 fn counts_of(alloc: Global, members: &[u32], owned: &PlaneRows) -> Result<Vec<u32>, Memory>
     requires { HaveRows owned.now members.now }
     ensures { IfOk result (λ ns. ns.items ≡ sizes (sets_of owned.now members.now)) }
@@ -61,7 +66,7 @@ fn counts_of(alloc: Global, members: &[u32], owned: &PlaneRows) -> Result<Vec<u3
     Ok(counts)
 }
 
-/// How many partitions each member is to own, by how many each owns.
+/// The number of partitions that each member is to own, from the number that each owns now.
 fn quotas_of(alloc: Global, partitions: u32, counts: &[u32]) -> Result<Vec<u32>, Memory>
     requires few { partitions ≤ MOST_PARTITIONS }
     requires some { 0 < length counts.now }
@@ -74,7 +79,7 @@ fn quotas_of(alloc: Global, partitions: u32, counts: &[u32]) -> Result<Vec<u32>,
     shares_of(alloc, share, for_heavy, more - for_heavy, counts)
 }
 
-/// How many members own more than an even share.
+/// The number of members that own more than an even share.
 fn count_heavy(share: u32, counts: &[u32]) -> usize
     ensures { result ≡ heavies_by share counts.now }
 {
@@ -87,7 +92,8 @@ fn count_heavy(share: u32, counts: &[u32]) -> usize
     heavy
 }
 
-/// An even share for each member, and one more for the first heavy ones and for the first others.
+/// An even share for each member, plus one for the first `for_heavy` members above the share and
+/// for the first `for_others` of the rest.
 fn shares_of(
     alloc: Global,
     share: u32,
@@ -113,7 +119,7 @@ fn shares_of(
     Ok(quotas)
 }
 
-/// One, as long as some are left.
+/// One while some are left, then zero.
 fn one_of(left: usize) -> u32
     ensures one { result ≡ one_of left }
     ensures most { result ≤ 1 }
@@ -121,7 +127,7 @@ fn one_of(left: usize) -> u32
     if left == 0 { 0 } else { 1 }
 }
 
-/// The partitions that no member keeps.
+/// The partitions that no member retains.
 fn free_beside(counts: &[u32], quotas: &[u32], members: &[u32], owned: &PlaneRows) -> Plane
     requires sized { counts.now ≡ sizes (sets_of owned.now members.now) }
     requires long { length quotas.now ≡ length members.now }
@@ -137,7 +143,7 @@ fn free_beside(counts: &[u32], quotas: &[u32], members: &[u32], owned: &PlaneRow
     free
 }
 
-/// Takes out what a member keeps of its row, which has so many elements: the lowest, up to its
+/// Removes what a member retains of its row, which has `count` elements: the lowest, up to its
 /// quota.
 fn remove_kept(free: &mut Plane, row: &Plane, count: u32, quota: u32)
     requires below { partitions_of free.old ≡ partitions_of row.now }
@@ -152,8 +158,7 @@ fn remove_kept(free: &mut Plane, row: &Plane, count: u32, quota: u32)
     }
 }
 
-/// The rows: what each member keeps, and of the free partitions, in rising order, what its quota
-/// lacks.
+/// The rows: what each member retains, filled up to its quota with free partitions in rising order.
 fn fill(
     alloc: Global,
     all_free: Plane,
@@ -178,8 +183,8 @@ fn fill(
     Ok(rows)
 }
 
-/// What a member keeps of its row, which has so many elements, and what its quota lacks, which is
-/// taken from the free partitions.
+/// What a member retains of its row, which has `count` elements, filled up to its quota from the
+/// free partitions.
 fn filled_row(free: &mut Plane, row: &Plane, count: u32, quota: u32) -> Plane
     requires below { partitions_of free.old ≡ partitions_of row.now }
     requires sized { count ≡ size row.now }
@@ -200,7 +205,7 @@ fn filled_row(free: &mut Plane, row: &Plane, count: u32, quota: u32) -> Plane
     filled
 }
 
-/// What a member owns.
+/// The row of a member, which has one.
 fn row_of(owned: &PlaneRows, member: u32) -> &Plane
     requires { IsSome (row_of owned.now member) }
     ensures value { result.now ≡ set_of owned.now member }

@@ -1,6 +1,6 @@
-//! The sticky assignment: the worked rows, the assignment beside a search over all assignments, and
-//! as many members and partitions as there can be. Here an assignment is the list of its
-//! partitions' owners, 0 where nobody owns a partition.
+//! The sticky assignor: worked examples, a comparison with a search over all assignments, and the
+//! most members and partitions. An assignment is written as the list of its partitions' owners, 0
+//! for a partition that nobody owns.
 
 ghost use Rattle.std.specs.Prelude.{◌≡◌, ◌<◌, ◌≤◌, length, IfOk, IsTrue};
 ghost use Rattle.bit_planes.specs.PartitionSet.{partitions_of};
@@ -43,8 +43,7 @@ fn row_by(member: u32, owners: &[u32]) -> Plane
     row
 }
 
-/// The owner of a partition by rows: 0 where it is in no row, and the largest number where it is in
-/// two.
+/// The owner of a partition: 0 if it is in no row, and the largest number if it is in two.
 fn owner_of(q: u32, rows: &PlaneRows) -> u32 {
     let mut owner = 0;
     for (member, row) in rows.iter() {
@@ -55,7 +54,7 @@ fn owner_of(q: u32, rows: &PlaneRows) -> u32 {
     owner
 }
 
-/// The owners of all partitions by rows.
+/// The owners of all partitions.
 fn owners_by(alloc: Global, rows: &PlaneRows) -> Result<Vec<u32>, Memory> {
     let mut owners = Vec::new(alloc);
     for q in 0..rows.partitions() {
@@ -101,7 +100,7 @@ fn are_apart(owned: &PlaneRows, members: &[u32]) -> bool
     true
 }
 
-/// Whether the assignment can be asked for these members with what they own.
+/// Whether these members and rows meet what `assign` requires.
 fn can_assign(members: &[u32], owned: &PlaneRows) -> bool
     ensures some { IsTrue result → 0 < length members.now }
     ensures rising { IsTrue result → IsRising members.now }
@@ -114,7 +113,7 @@ fn can_assign(members: &[u32], owned: &PlaneRows) -> bool
         && are_apart(owned, members)
 }
 
-/// The owners that the assignment gives.
+/// The owners by `assign`.
 fn given_by(alloc: Global, members: &[u32], owned: &PlaneRows) -> Result<Vec<u32>, Memory>
     requires some { 0 < length members.now }
     requires rising { IsRising members.now }
@@ -125,7 +124,7 @@ fn given_by(alloc: Global, members: &[u32], owned: &PlaneRows) -> Result<Vec<u32
     owners_by(alloc, &rows)
 }
 
-/// The owners that the plain program gives.
+/// The owners by the reference implementation.
 fn given_plainly(alloc: Global, members: &[u32], owned: &PlaneRows) -> Result<Vec<u32>, Memory>
     requires some { 0 < length members.now }
     requires rising { IsRising members.now }
@@ -135,7 +134,7 @@ fn given_plainly(alloc: Global, members: &[u32], owned: &PlaneRows) -> Result<Ve
     owners_by(alloc, &rows)
 }
 
-/// Checks that the plain program gives the same owners.
+/// Checks that the reference implementation returns the same owners.
 fn check_plainly(
     rt: &impl Abort,
     alloc: Global,
@@ -152,8 +151,7 @@ fn check_plainly(
     Ok(())
 }
 
-/// The owners that the assignment gives to these members, by the rows of what they own, as the
-/// plain program does.
+/// The owners by `assign`, from rows, checked against the reference implementation.
 fn assigned_of(
     rt: &impl Abort,
     alloc: Global,
@@ -166,7 +164,7 @@ fn assigned_of(
     checked.and(Ok(given))
 }
 
-/// The same by the owners of what they own.
+/// The owners by `assign`, from a list of owners.
 fn assigned(
     rt: &impl Abort,
     alloc: Global,
@@ -179,7 +177,7 @@ fn assigned(
     assigned_of(rt, alloc, members, &owned)
 }
 
-/// How many partitions stay with their owners.
+/// The number of partitions that stay with their owners.
 fn kept(owners: &[u32], others: &[u32]) -> usize {
     let mut kept: usize = 0;
     for (owner, other) in owners.iter().zip(others) {
@@ -190,7 +188,7 @@ fn kept(owners: &[u32], others: &[u32]) -> usize {
     kept
 }
 
-/// How many partitions a member owns.
+/// The number of partitions that a member owns.
 fn size_of(member: u32, owners: &[u32]) -> usize {
     let mut size: usize = 0;
     for owner in owners {
@@ -211,12 +209,12 @@ fn are_owned(n: u32, owners: &[u32]) -> bool {
     true
 }
 
-/// Checks the owners that are given, and how many partitions stay.
+/// Checks the new owners, and how many partitions stay.
 fn check_given(rt: &impl Abort, owners: &[u32], given: &[u32], expected: &[u32], stay: usize) {
     assert_eq!(rt; (given, kept(owners, given)), (expected, stay));
 }
 
-/// One row: members, owners, expected owners, and how many partitions stay.
+/// Checks one example: members, owners, expected owners, and how many partitions stay.
 fn check_row(
     rt: &impl Abort,
     alloc: Global,
@@ -232,7 +230,7 @@ fn check_row(
     Ok(())
 }
 
-/// The worked rows: members, owners, expected owners, and how many partitions stay.
+/// Worked examples: members, owners, expected owners, and how many partitions stay.
 const WORKED: [(&[u32], &[u32], &[u32], usize); 6] = [
     (&[1, 2, 3], &[1, 1, 1, 1, 1], &[1, 1, 2, 2, 3], 2),
     (&[2, 7], &[7, 2, 7], &[7, 2, 7], 3),
@@ -255,7 +253,7 @@ fn the_worked_rows(rt: HostRuntime) -> Result<(), Fail> {
     Ok(())
 }
 
-/// The assignment of a number, by its digits to the base 4.
+/// The assignment with this code: its digits in base 4.
 fn owners_of(code: u32) -> [u32; 4] {
     let mut owners = [0; 4];
     let mut rest = code;
@@ -266,7 +264,7 @@ fn owners_of(code: u32) -> [u32; 4] {
     owners
 }
 
-/// Whether each partition is owned, by one of the members 1 to n, of whom none has two more than
+/// Whether each partition is owned by one of the members 1 to n, and no member owns two more than
 /// another.
 fn is_balanced(n: u32, owners: &[u32]) -> bool {
     let (mut least, mut most) = (usize::MAX, 0);
@@ -278,7 +276,7 @@ fn is_balanced(n: u32, owners: &[u32]) -> bool {
     most.saturating_sub(least) <= 1 && are_owned(n, owners)
 }
 
-/// The most that a balanced assignment of these partitions to the members 1 to n keeps.
+/// The most partitions that a balanced assignment to the members 1 to n leaves with their owners.
 fn most_kept(n: u32, owners: &[u32]) -> usize
     requires { length owners.now ≤ 4 }
 {
@@ -303,7 +301,7 @@ fn are_at_most(n: u32, owners: &[u32]) -> bool {
     true
 }
 
-/// Checks the assignment of what the members 1 to n own beside all that are balanced.
+/// Checks the assignment to the members 1 to n against all balanced assignments.
 fn check_best(rt: &impl Abort, alloc: Global, n: u32, owners: &[u32]) -> Result<(), Memory>
     requires members { n ≤ 3 }
     requires partitions { (1 ≤ length owners.now) × (length owners.now ≤ 4) }
@@ -317,8 +315,7 @@ fn check_best(rt: &impl Abort, alloc: Global, n: u32, owners: &[u32]) -> Result<
     Ok(())
 }
 
-/// The same of all that the members 1 to n can own of so many partitions, by the numbers of these
-/// assignments.
+/// The same for all that the members 1 to n can own of this many partitions, by code.
 fn check_codes(
     rt: &impl Abort,
     alloc: Global,
@@ -349,12 +346,12 @@ fn no_balanced_assignment_keeps_more(rt: HostRuntime) -> Result<(), Fail> {
     Ok(())
 }
 
-/// The numbers of as many members as there can be, from 1 on.
+/// The most members, from 1 on.
 pub fn most_members(alloc: Global) -> Result<Vec<u32>, Memory> {
     Ok((1..MOST_MEMBERS as u32 + 1).collect(alloc)?)
 }
 
-/// The first of as many members as there can be who has not eight partitions, and how many it has.
+/// The first member without exactly eight partitions, and how many it has.
 fn first_uneven(members: &[u32], owners: &[u32]) -> Option<(u32, usize)> {
     for member in members {
         let size = size_of(*member, owners);
@@ -365,8 +362,8 @@ fn first_uneven(members: &[u32], owners: &[u32]) -> Option<(u32, usize)> {
     None
 }
 
-/// The owners that the assignment gives to these members, as many as there can be, who have eight
-/// partitions each.
+/// The owners after an assignment to these members, the most that there can be. Checks that each
+/// has eight partitions.
 fn spread_over(
     rt: &impl Abort,
     alloc: Global,
@@ -380,7 +377,7 @@ fn spread_over(
     Ok(given)
 }
 
-/// The owners that the assignment gives to members 1 to 512, who have eight partitions each.
+/// The same for the members 1 to 512.
 fn spread(rt: &impl Abort, alloc: Global, owners: &[u32]) -> Result<Vec<u32>, Memory>
     requires { length owners.now ≡ MOST_PARTITIONS }
 {
@@ -388,7 +385,7 @@ fn spread(rt: &impl Abort, alloc: Global, owners: &[u32]) -> Result<Vec<u32>, Me
     spread_over(rt, alloc, &members, owners)
 }
 
-/// How many partitions stay with their owners where those are spread.
+/// How many partitions stay with their owners when they are spread.
 fn kept_by_spread(rt: &impl Abort, alloc: Global, owners: &[u32]) -> Result<usize, Memory>
     requires { length owners.now ≡ MOST_PARTITIONS }
 {
@@ -396,7 +393,7 @@ fn kept_by_spread(rt: &impl Abort, alloc: Global, owners: &[u32]) -> Result<usiz
     Ok(kept(owners, &given))
 }
 
-/// Whether the owners stay as they are where they are spread.
+/// Whether spreading changes no owner.
 fn stays_by_spread(rt: &impl Abort, alloc: Global, owners: &[u32]) -> Result<bool, Memory>
     requires { length owners.now ≡ MOST_PARTITIONS }
 {
@@ -404,7 +401,7 @@ fn stays_by_spread(rt: &impl Abort, alloc: Global, owners: &[u32]) -> Result<boo
     Ok(given.as_slice() == owners)
 }
 
-/// The owners of as many partitions as there can be, in turn.
+/// Owners for the most partitions, round-robin.
 pub fn in_turn(alloc: Global) -> Result<Vec<u32>, Memory>
     ensures { IfOk result (λ owners. length owners.items ≡ MOST_PARTITIONS) }
 {
@@ -415,32 +412,32 @@ pub fn in_turn(alloc: Global) -> Result<Vec<u32>, Memory>
     Ok(owners)
 }
 
-/// How many partitions stay with a member who owned all of the most.
+/// How many partitions stay with a member that owned all of the most.
 fn kept_of_all(rt: &impl Abort, alloc: Global) -> Result<usize, Memory> {
     let owners = vec![in alloc; 1; MOST_PARTITIONS as usize]?;
     kept_by_spread(rt, alloc, &owners)
 }
 
-/// Whether owners in turn stay as they are.
+/// Whether round-robin owners stay as they are.
 fn stays_in_turn(rt: &impl Abort, alloc: Global) -> Result<bool, Memory> {
     let owners = in_turn(alloc)?;
     stays_by_spread(rt, alloc, &owners)
 }
 
-/// How many partitions stay with a member who owned all, and whether owners in turn stay.
+/// How many partitions stay with a member that owned all, and whether round-robin owners stay.
 fn spread_most(rt: &impl Abort, alloc: Global) -> Result<(usize, bool), Memory> {
     Ok((kept_of_all(rt, alloc)?, stays_in_turn(rt, alloc)?))
 }
 
 #[test]
 fn spreads_the_most_partitions(rt: HostRuntime) {
-    // All with one member, of which eight stay, and then all even, of which all stay.
+    // One member owns all and retains eight; an even assignment does not change.
     let share = MOST_PARTITIONS as usize / MOST_MEMBERS;
     assert_eq!(rt; spread_most(&rt, rt.alloc()), Ok((share, true)));
 }
 
-/// The owners of as many partitions as there can be, of which the first 1366 are with member 1 and
-/// runs of 1365 with the members 2 and 3.
+/// Owners for the most partitions: the first 1366 are with member 1, then runs of 1365 with the
+/// members 2 and 3.
 fn in_runs(alloc: Global) -> Result<Vec<u32>, Memory> {
     let mut owners = vec![in alloc; 3; MOST_PARTITIONS as usize]?;
     for q in 0..2731 {
@@ -451,7 +448,7 @@ fn in_runs(alloc: Global) -> Result<Vec<u32>, Memory> {
 
 #[test]
 fn spreads_what_one_owned_over_three(rt: HostRuntime) -> Result<(), Fail> {
-    // 4096 are 1366 and twice 1365: the owner keeps its first 1366, and the others take runs.
+    // 4096 is 1366 plus twice 1365: the owner retains its first 1366, and the others take runs.
     let owners = vec![in rt.alloc(); 1; MOST_PARTITIONS as usize]?;
     let expected = in_runs(rt.alloc())?;
     check_row(&rt, rt.alloc(), &[1, 2, 3], &owners, &expected, 1366)?;

@@ -1,5 +1,5 @@
-//! A consumer by itself, each call that needs no cluster once. Leases, polls and sends are tested
-//! in worlds.
+//! A consumer on its own: each call that needs no cluster, once. `driver_tests` covers leases,
+//! polls and sends.
 
 ghost use Rattle.std.specs.Prelude.{◌≤◌};
 
@@ -7,7 +7,7 @@ use consumer::Consumer;
 use lane_words::{MOST_PARTITIONS, Memory, Refusal};
 use std::alloc::Global;
 
-/// A call on a consumer, or what is told of it.
+/// A call on a consumer, or a check of its state.
 #[derive(Clone, Copy)]
 enum Step {
     /// It has joined as this member.
@@ -16,19 +16,19 @@ enum Step {
     GiveUp,
     /// It drops all.
     DropAll,
-    /// It learns what became of a commit of the first partition.
+    /// It takes the reply to a commit of the first partition.
     Answered(Result<u32, Refusal>),
-    /// The number of its member.
+    /// Its member number.
     Is(Option<u32>),
-    /// It is out, of generation 0 and of this many partitions.
+    /// It is out, in generation 0, with this many partitions.
     IsNew(u32),
-    /// Whether anything is pending of a partition.
+    /// Whether a partition has pending records.
     Sendable(u32, Result<(), Refusal>),
     /// It claims nothing, and does not hold the first partition.
     HoldsNothing,
 }
 
-/// What the calls on a consumer of this many partitions are, one after the other.
+/// The steps for a consumer of this many partitions.
 fn steps(partitions: u32) -> [Step; 15] {
     [
         Step::IsNew(partitions),
@@ -49,7 +49,7 @@ fn steps(partitions: u32) -> [Step; 15] {
     ]
 }
 
-/// Makes the call of a step, or answers whether what is told is so.
+/// Makes the call of a step, or returns whether its check holds.
 fn is_so(consumer: &mut Consumer, step: &Step) -> bool {
     match step {
         Step::Joined(member) => consumer.joined(*member),
@@ -61,7 +61,7 @@ fn is_so(consumer: &mut Consumer, step: &Step) -> bool {
     true
 }
 
-/// Whether a consumer is told as a step says, which calls nothing that changes it.
+/// Whether the check of a step holds.
 fn is_told(consumer: &Consumer, step: &Step) -> bool {
     match step {
         Step::Is(member) => consumer.member() == *member,
@@ -81,7 +81,7 @@ fn is_told(consumer: &Consumer, step: &Step) -> bool {
     }
 }
 
-/// The first step that is not as it says.
+/// The first step whose check fails.
 fn first_other(consumer: &mut Consumer, steps: &[Step]) -> Option<usize> {
     for (index, step) in steps.iter().enumerate() {
         if !is_so(consumer, step) {
@@ -91,8 +91,7 @@ fn first_other(consumer: &mut Consumer, steps: &[Step]) -> Option<usize> {
     None
 }
 
-/// The first step that is not as it says, of a consumer of this many partitions, which nobody else
-/// owns.
+/// The first step whose check fails, for a consumer of this many partitions.
 fn first_other_of(alloc: Global, partitions: u32) -> Result<Option<usize>, Memory>
     requires { (1 ≤ partitions) × (partitions ≤ MOST_PARTITIONS) }
 {

@@ -1,6 +1,9 @@
-//! Tests of the public calls of the library's lower crates, which have a crate of their own: a crate
-//! with tests is proved twice, once without them, and these need nothing of what is private to a
-//! crate.
+//! Tests of the cluster's crates below the group: `bit_planes`, `sticky_assignor`,
+//! `coop_rebalance`, `keyed_table`, `commit_store` and `consumer`.
+//!
+//! They use public calls alone. They have a crate of their own because a crate with tests is proved
+//! twice. The modules `reference_*` are reference implementations: slower, and obviously right. The
+//! tests compare the fast ones with them.
 #![tactic(auto)]
 
 ghost use Rattle.std.specs.Prelude.{◌≡◌, ◌<◌, ◌-◌, IfOk, length, slice_set};
@@ -29,7 +32,7 @@ mod tables;
 use lane_words::Memory;
 use std::alloc::Global;
 
-/// The same numbers but for the last: what compares all of them is told by what it says of these.
+/// The same numbers except for the last one. A comparison that skips the end misses the difference.
 pub fn with_last(alloc: Global, numbers: &[u32], last: u32) -> Result<Vec<u32>, Memory>
     requires { 0 < length numbers.now }
     ensures { IfOk result

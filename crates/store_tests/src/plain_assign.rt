@@ -1,6 +1,5 @@
-//! The assignment with a new set for each step, and with each member's elements counted wherever
-//! their number is asked: the plain program, beside which the tests run the one that changes sets in
-//! place.
+//! Reference implementation of the assignor: it makes a new set in each step and counts elements
+//! anew each time.
 
 ghost use Rattle.std.specs.Prelude.{◌≡◌, ◌<◌, ◌≤◌, length, IfOk, IsSome};
 ghost use Rattle.bit_planes.specs.PartitionSet.{partitions_of};
@@ -13,7 +12,7 @@ use bit_planes::{Plane, PlaneRows};
 use lane_words::{MOST_PARTITIONS, Memory};
 use std::alloc::Global;
 
-/// The rows that the members are to own, of this many partitions.
+/// The target assignment.
 pub fn assign(
     alloc: Global,
     partitions: u32,
@@ -31,7 +30,7 @@ pub fn assign(
     fill(alloc, free, &quotas, members, owned)
 }
 
-/// How many partitions each member is to own.
+/// The number of partitions that each member is to own.
 fn quotas_of(alloc: Global, members: &[u32], owned: &PlaneRows) -> Result<Vec<u32>, Memory>
     requires some { 0 < length members.now }
     requires rows { HaveRows owned.now members.now }
@@ -46,7 +45,7 @@ fn quotas_of(alloc: Global, members: &[u32], owned: &PlaneRows) -> Result<Vec<u3
     shares_of(alloc, share, for_heavy, more - for_heavy, members, owned)
 }
 
-/// How many members own more than an even share.
+/// The number of members that own more than an even share.
 fn count_heavy(share: u32, members: &[u32], owned: &PlaneRows) -> usize
     requires { HaveRows owned.now members.now }
     ensures { result ≡ heavies share (sets_of owned.now members.now) }
@@ -60,7 +59,7 @@ fn count_heavy(share: u32, members: &[u32], owned: &PlaneRows) -> usize
     heavy
 }
 
-/// An even share for each member, and one more for the first heavy ones and for the first others.
+/// An even share for each member, plus one for the first heavy members and for the first others.
 fn shares_of(
     alloc: Global,
     share: u32,
@@ -89,7 +88,7 @@ fn shares_of(
     Ok(quotas)
 }
 
-/// The partitions that no member keeps.
+/// The partitions that no member retains.
 fn free_beside(quotas: &[u32], members: &[u32], owned: &PlaneRows) -> Plane
     requires long { length quotas.now ≡ length members.now }
     requires rows { HaveRows owned.now members.now }
@@ -104,8 +103,7 @@ fn free_beside(quotas: &[u32], members: &[u32], owned: &PlaneRows) -> Plane
     free
 }
 
-/// The rows: what each member keeps, and of the free partitions, in rising order, what its quota
-/// lacks.
+/// The rows: what each member retains, filled up to its quota with free partitions in rising order.
 fn fill(
     alloc: Global,
     all_free: Plane,
@@ -130,7 +128,7 @@ fn fill(
     Ok(rows)
 }
 
-/// One, as long as some are left.
+/// One while some are left, then zero.
 fn one_of(left: usize) -> u32
     ensures one { result ≡ one_of left }
     ensures most { result ≤ 1 }
@@ -138,7 +136,7 @@ fn one_of(left: usize) -> u32
     if left == 0 { 0 } else { 1 }
 }
 
-/// What a member owns.
+/// The row of a member, which has one.
 pub fn row_of(owned: &PlaneRows, member: u32) -> &Plane
     requires { IsSome (row_of owned.now member) }
     ensures value { result.now ≡ set_of owned.now member }

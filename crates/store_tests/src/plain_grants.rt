@@ -1,11 +1,10 @@
-//! What is granted to some member, and what to two or more, with a new set for each step: the plain
-//! program, beside which the tests run the one that changes sets in place.
+//! Reference implementation of collecting grants: it makes a new set in each step.
 
 ghost use Rattle.coop_rebalance.specs.Private.Grants.{AreGrants};
 
 use bit_planes::{Plane, PlaneRows};
 
-/// What one or more members are granted, and what two or more are.
+/// What is granted to one or more members, and what to two or more.
 pub fn grants_of(granted: &PlaneRows) -> (Plane, Plane)
     ensures { AreGrants result.0 result.1 granted.now }
 {

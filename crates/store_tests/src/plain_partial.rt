@@ -1,5 +1,4 @@
-//! A list of key numbers and its counts in an ordered map, counter by counter: the plain program,
-//! beside which the tests run the one over blocks of eight.
+//! Reference implementation of partial counts: an ordered map, counter by counter.
 
 ghost use Rattle.std.specs.Prelude.{◌≡◌, ◌≢◌, ◌+◌, ◌<◌, ◌^◌, ℕ, Some, IfOk, OnOk, true, false, length, slice_index};
 ghost use Rattle.std.specs.BTreeMap.{IsFromIterResult};
@@ -13,14 +12,12 @@ use std::alloc::{AllocError, Global};
 use std::collections::BTreeMap;
 use std::marker::Model;
 
-/// A list of key numbers, and beside it how often each number is in it, in an ordered map.
-///
-/// The counts are always those of the list, whatever the list.
+/// A list of key numbers, with the count of each number in an ordered map.
 #[derive(Debug, Drop)]
 pub struct PlainPartial {
     /// The list, in its own order.
     ids: Vec<u32>,
-    /// How often each number is in it; a number that is not in it has no entry.
+    /// The count of each number in the list; other numbers have no entry.
     counts: BTreeMap<u32, u64>,
 }
 
@@ -36,7 +33,7 @@ impl Model for PlainPartial {
 }
 
 impl PlainPartial {
-    /// The list, with its counts. The only refusal is want of memory.
+    /// Counts a list. It fails only when out of memory.
     pub fn of(alloc: Global, ids: Vec<u32>) -> Result<PlainPartial, Memory>
         ensures { IfOk result (λ partial. partial ≡ ids.items) }
     {
@@ -53,7 +50,7 @@ impl PlainPartial {
         self.ids.as_slice()
     }
 
-    /// How often a number is in the list: 0 where it is not.
+    /// The count of a number in the list.
     pub fn get(&self, id: u32) -> u64
         ensures { result ≡ plain self.now id }
     {
@@ -71,7 +68,7 @@ impl PlainPartial {
     }
 }
 
-/// How often each number is in a list whose numbers rise.
+/// The count of each number in a sorted list.
 fn counts_of(alloc: Global, ids: &[u32]) -> Result<BTreeMap<u32, u64>, Memory>
     requires { IsNonDecreasing ids.now }
     ensures { IfOk result (IsValidPlainPartial ids.now) }
@@ -80,8 +77,7 @@ fn counts_of(alloc: Global, ids: &[u32]) -> Result<BTreeMap<u32, u64>, Memory>
     Ok(map_of(alloc, runs)?)
 }
 
-/// Each number of a list whose numbers rise, with how often it is there: equal numbers stand side
-/// by side.
+/// Each number of a sorted list with its count.
 fn runs_of(alloc: Global, ids: &[u32]) -> Result<Vec<(u32, u64)>, Memory>
     requires { IsNonDecreasing ids.now }
     ensures { IfOk result (λ runs. (x : ℕ) → value_in runs.items x ≡ counted (plain ids.now x)) }
@@ -97,14 +93,14 @@ fn runs_of(alloc: Global, ids: &[u32]) -> Result<Vec<(u32, u64)>, Memory>
     Ok(runs)
 }
 
-/// A map of pairs that are in the order of their keys, built whole.
+/// A map of pairs that are sorted by key, built at once.
 fn map_of(alloc: Global, pairs: Vec<(u32, u64)>) -> Result<BTreeMap<u32, u64>, AllocError>
     ensures { IfOk result (IsFromIterResult nat_cmp pairs.items) }
 {
     pairs.into_iter().collect(alloc)
 }
 
-/// Whether the number after this one is another, or there is none.
+/// Whether a run of equal numbers ends at this index.
 fn ends_run(ids: &[u32], at: usize) -> bool
     requires { at < length ids.now }
     ensures goes_on { result ≡ false → (at + 1 < length ids.now)
@@ -115,7 +111,7 @@ fn ends_run(ids: &[u32], at: usize) -> bool
     at + 1 == ids.len() || ids[at + 1] != ids[at]
 }
 
-/// Adds to each counter how often its number is in the list of a partial count.
+/// Adds the count of its number to each counter.
 pub fn raise(counts: &mut [u64], partial: &PlainPartial)
     requires numbers { HaveCounters counts.old partial.now }
     requires fit { SumsFit counts.old partial.now }

@@ -1,5 +1,4 @@
-//! A set of partitions as a truth value for each number: the plain program, beside which the tests
-//! run the one over words.
+//! Reference implementation of a set of partitions: a truth value for each number.
 
 ghost use Rattle.std.specs.Prelude.{◌≡◌, ◌<◌, ◌≤◌, ◌==◌, ◌&&◌, ◌||◌, ◌↔◌, ℕ, false, true, not, nat_lt, min, length, IsTrue, All};
 ghost use Rattle.std.specs.List.{list_any};
@@ -9,15 +8,15 @@ ghost use Rattle.bit_planes.specs.PartitionSet.{partitions_of, is_in, any_below,
 use lane_words::MOST_PARTITIONS;
 use std::marker::Model;
 
-/// The most partitions, as a length.
+/// The limit of partitions, as a length.
 const MOST: usize = MOST_PARTITIONS as usize;
 
 /// A set of partitions, of which there are 1 to 4096.
 #[derive(Drop)]
 pub struct PlainPlane {
-    /// How many partitions there are.
+    /// The number of partitions.
     partitions: u32,
-    /// Whether each number is in the set: false from `partitions` on.
+    /// Whether each number is in the set; false from `partitions` on.
     flags: [bool; MOST],
 }
 
@@ -33,7 +32,7 @@ impl Model for PlainPlane {
 }
 
 impl PlainPlane {
-    /// The empty set of this many partitions, 1 to 4096.
+    /// The empty set over this many partitions, 1 to 4096.
     pub fn new(partitions: u32) -> PlainPlane
         requires { (1 ≤ partitions) × (partitions ≤ MOST_PARTITIONS) }
         ensures value { result ≡ empty_set partitions }
@@ -46,7 +45,7 @@ impl PlainPlane {
         }
     }
 
-    /// The set of all of this many partitions, 1 to 4096.
+    /// The set of all partitions, of which there are this many, 1 to 4096.
     pub fn full(partitions: u32) -> PlainPlane
         requires { (1 ≤ partitions) × (partitions ≤ MOST_PARTITIONS) }
         ensures value { result ≡ full_set partitions }
@@ -60,7 +59,7 @@ impl PlainPlane {
         PlainPlane { partitions, flags }
     }
 
-    /// An equal set.
+    /// A copy of the set.
     pub fn copy(&self) -> PlainPlane
         ensures { result ≡ self.now }
     {
@@ -70,7 +69,7 @@ impl PlainPlane {
         }
     }
 
-    /// How many partitions there are: the elements are below it.
+    /// The number of partitions. All elements are below it.
     pub fn partitions(&self) -> u32
         ensures value { result ≡ partitions_of self.now }
         ensures bounds { (1 ≤ result) × (result ≤ MOST_PARTITIONS) }
@@ -78,7 +77,7 @@ impl PlainPlane {
         self.partitions
     }
 
-    /// Puts a partition into the set.
+    /// Adds a partition to the set.
     pub fn insert(&mut self, q: u32)
         requires { q < partitions_of self.old }
         ensures value { self.new ≡ with_one self.old q }
@@ -88,8 +87,7 @@ impl PlainPlane {
         self.flags[q as usize] = true;
     }
 
-    /// Takes a number out of the set. One that is not in it, as each that is no partition, leaves
-    /// it as it was.
+    /// Removes a number from the set, which stays as it was if the number is not in it.
     pub fn remove(&mut self, q: u32)
         ensures value { self.new ≡ without_one self.old q }
         ensures elements { (n : ℕ) → is_in self.new n ≡ (is_in self.old n && not (n == q)) }
@@ -100,7 +98,7 @@ impl PlainPlane {
         }
     }
 
-    /// Whether a number is in the set, which none is that is no partition.
+    /// Whether a number is in the set.
     pub fn contains(&self, q: u32) -> bool
         ensures value { result ≡ is_in self.now q }
         ensures below { IsTrue result → q < partitions_of self.now }
@@ -108,7 +106,7 @@ impl PlainPlane {
         q < self.partitions && self.flags[q as usize]
     }
 
-    /// What is in this set or in the other, which is of as many partitions.
+    /// The union with a set over the same number of partitions.
     pub fn union(&self, other: &PlainPlane) -> PlainPlane
         requires { partitions_of self.now ≡ partitions_of other.now }
         ensures value { result ≡ union self.now other.now }
@@ -118,7 +116,7 @@ impl PlainPlane {
         self.combined(other, |mine, theirs| mine || theirs)
     }
 
-    /// What is in this set and not in the other, which is of as many partitions.
+    /// The difference with a set over the same number of partitions.
     pub fn minus(&self, other: &PlainPlane) -> PlainPlane
         requires { partitions_of self.now ≡ partitions_of other.now }
         ensures value { result ≡ minus self.now other.now }
@@ -129,7 +127,7 @@ impl PlainPlane {
         self.combined(other, |mine, theirs| mine && !theirs)
     }
 
-    /// The `n` lowest elements, or all where there are no more.
+    /// The `n` lowest elements; all of them where there are fewer.
     pub fn lowest(&self, n: u32) -> PlainPlane
         ensures value { result ≡ lowest n self.now }
         ensures elements { (q : ℕ)
@@ -157,7 +155,8 @@ impl PlainPlane {
         }
     }
 
-    /// Whether some number is in both this set and the other, which is of as many partitions.
+    /// Whether the set shares an element with the other, which is over the same number of
+    /// partitions.
     pub fn meets(&self, other: &PlainPlane) -> bool
         requires { partitions_of self.now ≡ partitions_of other.now }
         ensures value { result ≡ meets self.now other.now }
@@ -167,7 +166,7 @@ impl PlainPlane {
         self.some_pass(other, |mine, theirs| mine && theirs)
     }
 
-    /// Whether each element is in the other set, which is of as many partitions.
+    /// Whether each element is in the other set, which is over the same number of partitions.
     pub fn within(&self, other: &PlainPlane) -> bool
         requires { partitions_of self.now ≡ partitions_of other.now }
         ensures value { result ≡ is_within self.now other.now }
@@ -177,7 +176,7 @@ impl PlainPlane {
         !self.some_pass(other, |mine, theirs| mine && !theirs)
     }
 
-    /// Whether the other, which is of as many partitions, is the same set.
+    /// Whether the other set, which is over the same number of partitions, is equal.
     pub fn same(&self, other: &PlainPlane) -> bool
         requires { partitions_of self.now ≡ partitions_of other.now }
         ensures value { result ≡ is_same self.now other.now }
@@ -186,7 +185,7 @@ impl PlainPlane {
         !self.some_pass(other, |mine, theirs| mine != theirs)
     }
 
-    /// How many elements there are.
+    /// The number of elements.
     pub fn count(&self) -> u32
         ensures value { result ≡ size self.now }
         ensures most { result ≤ partitions_of self.now }
@@ -200,7 +199,7 @@ impl PlainPlane {
         count
     }
 
-    /// The partitions of which a test holds: whether one is in this set, and whether in the other.
+    /// The partitions for which a test holds, of whether they are in this set and in the other.
     fn combined<F: Fn(bool, bool) -> bool>(&self, other: &PlainPlane, test: F) -> PlainPlane
         requires callable { F.IsAlwaysCallable test }
         requires partitions { partitions_of self.now ≡ partitions_of other.now }
@@ -217,8 +216,8 @@ impl PlainPlane {
         }
     }
 
-    /// Whether a test holds of some partition: whether it is in this set, and whether in the other.
-    /// All are tested, since a loop that leaves early is not made into one over many at a time.
+    /// Whether a test holds for some partition, of whether it is in this set and in the other. It
+    /// tests all of them, since the compiler does not vectorize a loop that can exit early.
     fn some_pass<F: Fn(bool, bool) -> bool>(&self, other: &PlainPlane, test: F) -> bool
         requires callable { F.IsAlwaysCallable test }
         requires partitions { partitions_of self.now ≡ partitions_of other.now }

@@ -1,5 +1,5 @@
-//! Sets of partitions and rows of them: each call once on its happy path, at one partition, few, a
-//! number past a multiple of 64, and the most.
+//! Sets of partitions and tables of them: each call once on its happy path, with one partition, a
+//! few, one more than a multiple of 64, and the most.
 
 ghost use Rattle.std.specs.Prelude.{◌≡◌, ◌<◌, ◌≤◌, IfOk};
 ghost use Rattle.bit_planes.specs.PartitionSet.{partitions_of};
@@ -11,10 +11,10 @@ use std::alloc::Global;
 use std::process::Abort;
 use std::test::Fail;
 
-// What is asserted is told by functions that answer whether it is so: each assertion is proved with
-// all that lets go what its message needs, and with all that the calls before it say.
+// Functions compute what is asserted, and tests assert once: each assertion is proved together with
+// all drops that its message needs and all facts from the calls before it.
 
-/// Whether a set of these partitions has its first and its last number, and none past them.
+/// Whether a set over this many partitions has its first and its last number, and none past them.
 fn has_edges(set: &Plane, partitions: u32) -> bool {
     set.contains(0)
         && set.contains(partitions.saturating_sub(1))
@@ -23,7 +23,7 @@ fn has_edges(set: &Plane, partitions: u32) -> bool {
         && set.count() == if partitions == 1 { 1 } else { 2 }
 }
 
-/// Whether a set takes its edges in, and lets the last one go, but not one past it.
+/// Whether a set can add its first and last number, and remove the last one, but not one past it.
 fn takes_edges(partitions: u32) -> bool
     requires { (1 ≤ partitions) × (partitions ≤ MOST_PARTITIONS) }
 {
@@ -55,7 +55,7 @@ fn holds_its_edges(rt: HostRuntime) {
     }
 }
 
-/// Whether sets of the first partition, of the last of 513, and of both are told apart.
+/// Whether the sets of the first of 513 partitions, of the last, and of both are distinguished.
 fn are_told(first: &Plane, last: &Plane, both: &Plane) -> bool
     requires last { partitions_of last.now ≡ partitions_of first.now }
     requires both { partitions_of both.now ≡ partitions_of first.now }
@@ -69,7 +69,7 @@ fn are_told(first: &Plane, last: &Plane, both: &Plane) -> bool
         && both.count() == 2
 }
 
-/// Whether the two make both, and both make the two.
+/// Whether union and difference lead from the two sets to both and back.
 fn are_parts(first: &Plane, last: &Plane, both: &Plane) -> bool
     requires last { partitions_of last.now ≡ partitions_of first.now }
     requires both { partitions_of both.now ≡ partitions_of first.now }
@@ -80,13 +80,13 @@ fn are_parts(first: &Plane, last: &Plane, both: &Plane) -> bool
         && both.lowest(9).copy().same(both)
 }
 
-/// Whether a set is told as its elements, one by one and as text.
+/// Whether a set returns its elements, and prints them.
 fn is_both(alloc: Global, both: &Plane) -> Result<bool, Memory> {
     let text = format!(in alloc; "{both:?}")?;
     Ok(both.iter().eq([0, 512]) && text.as_str() == "{0, 512}")
 }
 
-/// Whether all that is told of sets past a word is so.
+/// Whether all of this holds for sets of more than one word.
 fn are_told_apart(first: &Plane, last: &Plane, both: &Plane) -> bool
     requires last { partitions_of last.now ≡ partitions_of first.now }
     requires both { partitions_of both.now ≡ partitions_of first.now }
@@ -102,7 +102,7 @@ fn tells_sets_past_a_word(rt: HostRuntime) {
     assert_eq!(rt; is_both(rt.alloc(), &both), Ok(true));
 }
 
-/// Puts rows in no order, the first one twice.
+/// Puts rows unordered, the first one twice.
 fn put_each(rows: &mut PlaneRows) -> Result<(), Memory>
     requires { rows.old.partitions ≡ 4 }
 {
@@ -112,7 +112,7 @@ fn put_each(rows: &mut PlaneRows) -> Result<(), Memory>
     rows.put(7, Plane::of(4, &[3]))
 }
 
-/// Whether a member's row is of this one partition.
+/// Whether a member's row is this one partition.
 fn is_of(rows: &PlaneRows, member: u32, q: u32) -> bool {
     match rows.get(member) {
         Some(set) => set.iter().eq([q]),
@@ -120,7 +120,7 @@ fn is_of(rows: &PlaneRows, member: u32, q: u32) -> bool {
     }
 }
 
-/// Whether rows are those that were put last.
+/// Whether the rows are those that were put last.
 fn are_put(rows: &PlaneRows) -> bool {
     rows.partitions() == 4
         && rows.len() == 3
@@ -130,7 +130,7 @@ fn are_put(rows: &PlaneRows) -> bool {
         && rows.get(3).is_none()
 }
 
-/// Whether a row of a walk is this member's, with this partition.
+/// Whether the next row of an iterator is this member's, with this partition.
 fn is_given(row: Option<(u32, &Plane)>, member: u32, q: u32) -> bool {
     match row {
         Some((other, set)) => other == member && set.contains(q),
@@ -138,7 +138,7 @@ fn is_given(row: Option<(u32, &Plane)>, member: u32, q: u32) -> bool {
     }
 }
 
-/// Whether the walk over the rows begins with the first two.
+/// Whether iteration over the rows begins with the first two.
 fn is_walked(rows: &PlaneRows) -> bool {
     let mut walk = rows.iter();
     let first = walk.next();
@@ -155,7 +155,7 @@ fn keeps_a_row_for_each_member(rt: HostRuntime) -> Result<(), Fail> {
     Ok(())
 }
 
-/// The set of one of as many partitions as there can be.
+/// The set of one element, over the most partitions.
 fn one_of_most(q: u32) -> Plane
     requires { q < MOST_PARTITIONS }
     ensures { partitions_of result ≡ MOST_PARTITIONS }
@@ -165,8 +165,7 @@ fn one_of_most(q: u32) -> Plane
     set
 }
 
-/// Rows of as many members as there can be, each with the set of its own number, put neither in
-/// rising order nor in falling order.
+/// Rows of the most members, each with the set of its own number, put in no order.
 fn most_rows(alloc: Global) -> Result<PlaneRows, Memory> {
     let mut rows = PlaneRows::new(alloc, MOST_PARTITIONS);
     for i in 0..MOST_MEMBERS as u32 {
@@ -186,8 +185,8 @@ fn first_other(rows: &PlaneRows) -> Option<u32> {
     None
 }
 
-/// How many of these rows there are, whether they are of all members, and the first member whose
-/// row is not the set of its own number.
+/// The number of these rows, whether all members have one, and the first member whose row is not
+/// the set of its own number.
 fn told_of_most(alloc: Global) -> Result<(usize, bool, Option<u32>), Memory> {
     let rows = most_rows(alloc)?;
     let are_all = rows.members().eq(0..MOST_MEMBERS as u32);
@@ -199,8 +198,8 @@ fn keeps_the_most_rows(rt: HostRuntime) {
     assert_eq!(rt; told_of_most(rt.alloc()), Ok((MOST_MEMBERS, true, None)));
 }
 
-/// Rows of those of the members 3 to 10 whose bit is set, each with the set of its own number, put
-/// in rising order or in falling order.
+/// Rows of the members 3 to 10 whose bit is set, each with the set of its own number, put in rising
+/// or in falling order.
 fn rows_of(alloc: Global, bits: u32, rising: bool) -> Result<PlaneRows, Memory>
     ensures { IfOk result (λ rows. rows.partitions ≡ 16) }
 {
@@ -222,7 +221,7 @@ pub fn is_empty(rows: &PlaneRows, member: u32) -> bool {
     }
 }
 
-/// Takes a member's own number out of its row, where it has one, and tells whether the row is empty
+/// Removes a member's own number from its row, if it has one, and returns whether the row is empty
 /// then.
 fn is_emptied(rows: &mut PlaneRows, member: u32) -> bool
     requires { (rows.old.partitions ≡ 16) × (member < 16) }
@@ -232,9 +231,9 @@ fn is_emptied(rows: &mut PlaneRows, member: u32) -> bool
     is_empty(rows, member)
 }
 
-/// The first member who is found without its bit, or not found with it, and how: by the set of its
-/// own number in the rising rows and in the falling ones, and by the empty set once this number is
-/// taken out.
+/// The first member that is found without its bit, or not found with it, and how: by the set of its
+/// own number in the rising rows and in the falling ones, and by the empty set once that number is
+/// removed.
 fn first_unfound(rising: &mut PlaneRows, falling: &PlaneRows, bits: u32) -> Option<(u32, [bool; 3])>
     requires { rising.old.partitions ≡ 16 }
 {
@@ -263,7 +262,7 @@ fn check_rows(rt: &impl Abort, bits: u32, rising: &mut PlaneRows, falling: &Plan
     );
 }
 
-/// The same of the rows of these bits, which nobody else owns.
+/// The same for these bits.
 fn check_bits(rt: &impl Abort, alloc: Global, bits: u32) -> Result<(), Memory> {
     let mut rising = rows_of(alloc, bits, true)?;
     let falling = rows_of(alloc, bits, false)?;
@@ -279,11 +278,11 @@ fn finds_rows_beside_gaps(rt: HostRuntime) -> Result<(), Fail> {
     Ok(())
 }
 
-/// How many partitions there are in the sets that are tried both ways: around one word, eight words
-/// and the most.
+/// The numbers of partitions at which both implementations are compared: around one word, eight
+/// words and the most.
 const COUNTS: [u32; 9] = [1, 63, 64, 65, 511, 512, 513, 4095, 4096];
 
-/// How many kinds of sets are tried both ways.
+/// The number of kinds of sets that are compared.
 const KINDS: u32 = 6;
 
 /// Whether a number is in the set of this kind.
@@ -300,7 +299,7 @@ fn is_of_kind(kind: u32, partitions: u32, q: u32) -> bool
     }
 }
 
-/// The set of a kind, as words and as truth values.
+/// The set of a kind, in both implementations.
 fn both_ways(kind: u32, partitions: u32) -> (Plane, PlainPlane)
     requires { (1 ≤ partitions) × (partitions ≤ MOST_PARTITIONS) }
     ensures { (partitions_of result.0 ≡ partitions) × (partitions_of result.1 ≡ partitions) }
@@ -330,7 +329,7 @@ fn are_alike(set: &Plane, plain: &PlainPlane) -> bool {
     alike && elements.next().is_none()
 }
 
-/// The first number whose lowest elements are not alike, of a set of a kind.
+/// The first n for which the n lowest elements of a set differ.
 fn first_lowest(set: &Plane, plain: &PlainPlane) -> Option<u32> {
     let most = set.count().saturating_sub(1);
     for n in [0, 1, 63, 64, 65, 512, most, set.partitions()] {
@@ -341,7 +340,7 @@ fn first_lowest(set: &Plane, plain: &PlainPlane) -> Option<u32> {
     None
 }
 
-/// Checks each call on one set, as words and as truth values.
+/// Compares each call on one set.
 fn check_one(rt: &impl Abort, kind: u32, set: &Plane, plain: &PlainPlane) {
     assert_eq!(rt;
         (are_alike(set, plain), set.count(), first_lowest(set, plain)),
@@ -351,7 +350,7 @@ fn check_one(rt: &impl Abort, kind: u32, set: &Plane, plain: &PlainPlane) {
     );
 }
 
-/// Whether what is in either of two sets is alike, as a new set and where it comes into the first.
+/// Whether the unions of two sets are equal, both as a new set and in place.
 fn are_united_alike(s: &Plane, t: &Plane, plain: &PlainPlane) -> bool
     requires { partitions_of s.now ≡ partitions_of t.now }
 {
@@ -360,7 +359,7 @@ fn are_united_alike(s: &Plane, t: &Plane, plain: &PlainPlane) -> bool
     are_alike(&s.union(t), plain) && are_alike(&all, plain)
 }
 
-/// Whether what is in the first alone is alike, as a new set and where the rest is taken out of it.
+/// Whether the differences of two sets are equal, both as a new set and in place.
 fn are_left_alike(s: &Plane, t: &Plane, plain: &PlainPlane) -> bool
     requires { partitions_of s.now ≡ partitions_of t.now }
 {
@@ -369,22 +368,21 @@ fn are_left_alike(s: &Plane, t: &Plane, plain: &PlainPlane) -> bool
     are_alike(&s.minus(t), plain) && are_alike(&rest, plain)
 }
 
-/// What two sets answer: whether they meet, whether the first is within the other, and whether they
-/// are the same.
+/// Whether two sets meet, whether the first is within the second, and whether they are equal.
 fn answers(s: &Plane, t: &Plane) -> (bool, bool, bool)
     requires { partitions_of s.now ≡ partitions_of t.now }
 {
     (s.meets(t), s.within(t), s.same(t))
 }
 
-/// The same of two sets of truth values.
+/// The same by the reference implementation.
 fn plain_answers(s: &PlainPlane, t: &PlainPlane) -> (bool, bool, bool)
     requires { partitions_of s.now ≡ partitions_of t.now }
 {
     (s.meets(t), s.within(t), s.same(t))
 }
 
-/// Each call on two sets, as words and as truth values.
+/// Compares each call on two sets.
 fn check_two(rt: &impl Abort, one: &(Plane, PlainPlane), other: &(Plane, PlainPlane))
     requires words { partitions_of one.now.0 ≡ partitions_of other.now.0 }
     requires plain { partitions_of one.now.1 ≡ partitions_of other.now.1 }
@@ -396,7 +394,7 @@ fn check_two(rt: &impl Abort, one: &(Plane, PlainPlane), other: &(Plane, PlainPl
     assert_eq!(rt; answers(s, t), plain_answers(plain_s, plain_t));
 }
 
-/// Checks each call on a set of a kind, and on this set and one of each kind.
+/// Compares each call on a set of this kind, and on this set with one of each kind.
 fn check_kind(rt: &impl Abort, kind: u32, partitions: u32)
     requires { (1 ≤ partitions) × (partitions ≤ MOST_PARTITIONS) }
 {

@@ -1,5 +1,5 @@
-//! Cooperative rebalancing: a partition that moves from member 1 to member 2, step by step, each
-//! call once, and as many members and partitions as there can be.
+//! Cooperative rebalancing: partitions that move from member 1 to member 2, step by step, each call
+//! once, and the most members and partitions.
 
 ghost use Rattle.std.specs.Prelude.{◌≡◌, ◌≤◌, ◌∷◌, [], length, IfOk};
 ghost use Rattle.bit_planes.specs.PartitionSet.{partitions_of};
@@ -33,8 +33,8 @@ fn is_granted(granted: &PlaneRows, member: u32, q: u32) -> bool {
     }
 }
 
-/// Whether a member who was to have all partitions is left with those that no other is granted, by
-/// what it is granted, what some member is and what several are.
+/// Whether a member whose target is all partitions is left with those that no other is granted,
+/// from what it is granted, what at least one member is, and what at least two are.
 fn is_left(
     member: u32,
     row: &Plane,
@@ -51,7 +51,7 @@ fn is_left(
     true
 }
 
-/// The same of all members.
+/// The same for all members.
 fn are_left(rows: &PlaneRows, granted: &PlaneRows, grants: &(Plane, Plane)) -> bool {
     for (member, row) in rows.iter() {
         if !is_left(member, row, granted, grants) {
@@ -61,7 +61,7 @@ fn are_left(rows: &PlaneRows, granted: &PlaneRows, grants: &(Plane, Plane)) -> b
     rows.len() == MOST_MEMBERS + 1
 }
 
-/// What members are left with, of as many partitions.
+/// What members are left with.
 fn left(alloc: Global, target: &PlaneRows, granted: &PlaneRows) -> Result<PlaneRows, Memory>
     requires { target.now.partitions ≡ granted.now.partitions }
     ensures { IfOk result (λ rows. rows.partitions ≡ target.now.partitions) }
@@ -69,20 +69,20 @@ fn left(alloc: Global, target: &PlaneRows, granted: &PlaneRows) -> Result<PlaneR
     withhold(alloc, target, granted)
 }
 
-/// Whether the plain program collects the grants by which is withheld: member 0, who is granted
-/// nothing, tells those of some member, and who is granted a partition tells those of several.
+/// Whether the reference implementation collects the same grants. Member 0, which is granted
+/// nothing, shows those of at least one member; the others show those of at least two.
 fn has_plain_grants(alloc: Global, granted: &PlaneRows) -> Result<bool, Memory> {
     let target = full_rows(alloc, granted.partitions())?;
     let rows = left(alloc, &target, granted)?;
     Ok(are_left(&rows, granted, &grants_of(granted)))
 }
 
-/// The same of what two rows grant.
+/// The same for two rows.
 fn have_plain_grants(alloc: Global, one: &PlaneRows, other: &PlaneRows) -> Result<bool, Memory> {
     Ok(has_plain_grants(alloc, one)? && has_plain_grants(alloc, other)?)
 }
 
-/// The rows of the members 1 and 2, of four partitions.
+/// Rows of the members 1 and 2, over four partitions.
 fn two_rows(alloc: Global, first: Plane, second: Plane) -> Result<PlaneRows, Memory>
     requires { (partitions_of first ≡ 4) × (partitions_of second ≡ 4) }
     ensures partitions { IfOk result (λ rows. rows.partitions ≡ 4) }
@@ -102,7 +102,7 @@ fn two_each(alloc: Global) -> Result<PlaneRows, Memory>
     two_rows(alloc, Plane::of(4, &[0, 1]), Plane::of(4, &[2, 3]))
 }
 
-/// Whether a member's row has the first two partitions alone.
+/// Whether a member's row is exactly the first two partitions.
 fn has_first_two(rows: &PlaneRows, member: u32) -> bool {
     match rows.get(member) {
         Some(row) => row.iter().eq([0, 1]),
@@ -110,7 +110,7 @@ fn has_first_two(rows: &PlaneRows, member: u32) -> bool {
     }
 }
 
-/// Whether member 1 keeps two partitions and member 2 gets none yet, so that one round is left.
+/// Whether member 1 retains two partitions and member 2 gets none yet, so one more round follows.
 fn are_revoked(rows: &PlaneRows, granted: &PlaneRows) -> bool
     requires { rows.now.partitions ≡ granted.now.partitions }
 {
@@ -127,8 +127,8 @@ fn is_left_in_place(alloc: Global, granted: &PlaneRows, rows: &PlaneRows) -> Res
     Ok(is_final(&in_place, rows))
 }
 
-/// Whether a member gives two partitions up first, whether this is so in place, whether the other
-/// member has them then, and whether the plain program collects the same grants.
+/// Whether a member revokes two partitions first, whether this is so in place, whether the other
+/// member has them then, and whether the reference implementation collects the same grants.
 fn are_moved(alloc: Global, target: &PlaneRows, granted: &PlaneRows) -> Result<[bool; 4], Memory>
     requires partitions { (target.now.partitions ≡ 4) × (granted.now.partitions ≡ 4) }
     requires members { members granted.now ≡ 1 ∷ 2 ∷ [] }
@@ -142,7 +142,7 @@ fn are_moved(alloc: Global, target: &PlaneRows, granted: &PlaneRows) -> Result<[
     ])
 }
 
-/// The same of two partitions that member 1 is granted and member 2 is to have.
+/// The same for two partitions that move from member 1 to member 2.
 fn are_two_moved(alloc: Global) -> Result<[bool; 4], Memory> {
     let target = two_each(alloc)?;
     let granted = two_rows(alloc, Plane::of(4, &[0, 1, 2, 3]), Plane::of(4, &[]))?;
@@ -176,10 +176,10 @@ fn most_rows(alloc: Global, owners: &[u32]) -> Result<PlaneRows, Memory>
     rows_by(alloc, &members, owners)
 }
 
-// Who owns rows makes few calls: each `?` and each assertion is proved with all that lets go what is
-// owned there.
+// A function that owns rows makes few calls: each `?` and each assertion is proved together with
+// the drops of all that it owns.
 
-/// The rows of as many partitions as there can be, whose owners are the members 1 to 512 in turn.
+/// Rows over the most partitions, whose owners are the members 1 to 512, round-robin.
 fn rows_in_turn(alloc: Global) -> Result<PlaneRows, Memory>
     ensures { IfOk result (λ rows. rows.partitions ≡ MOST_PARTITIONS) }
 {
@@ -187,7 +187,7 @@ fn rows_in_turn(alloc: Global) -> Result<PlaneRows, Memory>
     most_rows(alloc, &owners)
 }
 
-/// The same owners, but that the upper half of the partitions is with the next member.
+/// The same owners, except that the upper half of the partitions is with the next member.
 fn with_the_next(alloc: Global) -> Result<Vec<u32>, Memory>
     ensures { IfOk result (λ owners. length owners.items ≡ MOST_PARTITIONS) }
 {
@@ -227,7 +227,7 @@ fn are_lower_halves(rows: &PlaneRows) -> bool {
     rows.len() == MOST_MEMBERS
 }
 
-/// Whether what is withheld among the most is their lower halves.
+/// Whether the members are left with their lower halves.
 fn withholds_halves(alloc: Global, target: &PlaneRows, granted: &PlaneRows) -> Result<bool, Memory>
     requires { target.now.partitions ≡ granted.now.partitions }
 {
@@ -235,7 +235,7 @@ fn withholds_halves(alloc: Global, target: &PlaneRows, granted: &PlaneRows) -> R
     Ok(are_lower_halves(&rows) && !is_final(&rows, target) && !is_final(target, granted))
 }
 
-/// Whether all is given once nobody else has it.
+/// Whether nothing is withheld once nobody else has it.
 fn is_given(alloc: Global, target: &PlaneRows, rows: &PlaneRows) -> Result<bool, Memory>
     requires { target.now.partitions ≡ rows.now.partitions }
 {
@@ -243,8 +243,8 @@ fn is_given(alloc: Global, target: &PlaneRows, rows: &PlaneRows) -> Result<bool,
     Ok(is_final(&given, target))
 }
 
-/// Whether the plain program collects the same grants, the lower halves alone are left among the
-/// most, and all is given once nobody else has it.
+/// Whether the reference implementation collects the same grants, only the lower halves are left,
+/// and nothing is withheld once nobody else has it.
 fn are_withheld(alloc: Global, target: &PlaneRows, granted: &PlaneRows) -> Result<[bool; 3], Memory>
     requires { target.now.partitions ≡ granted.now.partitions }
 {
@@ -255,7 +255,7 @@ fn are_withheld(alloc: Global, target: &PlaneRows, granted: &PlaneRows) -> Resul
     ])
 }
 
-/// The same of as many partitions as there can be, whose upper half moves to the next member.
+/// The same for the most partitions, whose upper half moves to the next member.
 fn are_halves_withheld(alloc: Global) -> Result<[bool; 3], Memory> {
     let target = rows_in_turn(alloc)?;
     let granted = rows_with_the_next(alloc)?;
@@ -267,7 +267,7 @@ fn withholds_among_the_most(rt: HostRuntime) {
     assert_eq!(rt; are_halves_withheld(rt.alloc()), Ok([true; 3]));
 }
 
-/// What three members are granted of 70 partitions, some of it to two of them or to all.
+/// What three members are granted of 70 partitions, some of them granted to two members or to all.
 fn granted_to_several(alloc: Global) -> Result<PlaneRows, Memory>
     ensures { IfOk result (λ rows. rows.partitions ≡ 70) }
 {
@@ -288,8 +288,8 @@ fn all_for_two(alloc: Global) -> Result<PlaneRows, Memory>
     Ok(rows)
 }
 
-/// Whether member 1 is left with what it alone or nobody is granted, and member 3 with what nobody
-/// is granted.
+/// Whether member 1 is left with what is granted to it alone or to nobody, and member 3 with what
+/// is granted to nobody.
 fn are_unshared(rows: &PlaneRows) -> bool {
     match (rows.get(1), rows.get(3)) {
         (Some(first), Some(third)) => {
@@ -304,7 +304,7 @@ fn are_unshared(rows: &PlaneRows) -> bool {
     }
 }
 
-/// Whether what several are granted is withheld from all.
+/// Whether what several members are granted is withheld from all.
 fn is_withheld_from_all(alloc: Global, granted: &PlaneRows) -> Result<bool, Memory>
     requires { granted.now.partitions ≡ 70 }
 {
@@ -313,7 +313,8 @@ fn is_withheld_from_all(alloc: Global, granted: &PlaneRows) -> Result<bool, Memo
     Ok(are_unshared(&rows))
 }
 
-/// Whether the plain program collects what several are granted, and this is withheld from all.
+/// Whether the reference implementation collects what several members are granted, and this is
+/// withheld from all.
 fn is_several_collected(alloc: Global) -> Result<[bool; 2], Memory> {
     let granted = granted_to_several(alloc)?;
     Ok([

@@ -1,4 +1,4 @@
-//! Commits of a log of two records of one key, in the order in which they are refused.
+//! Commits, in the order of their refusals.
 
 ghost use Rattle.std.specs.Prelude.{◌≤◌};
 
@@ -11,7 +11,7 @@ use std::alloc::Global;
 use std::process::Abort;
 use std::random::RandomSource;
 
-/// Whether a record of one key comes to the first log.
+/// Appends a record with the only key, and returns whether it is in the first log.
 fn is_appended(logs: &mut Logs) -> bool {
     matches!(logs.append(b"21"), Ok((0, _)))
 }
@@ -59,7 +59,7 @@ fn counted(alloc: Global, ids: &[u32]) -> Result<Partial, Memory> {
     Partial::of(alloc, list)
 }
 
-/// What a store answers a commit of the first log from an offset on.
+/// The answer to a commit of the first log from an offset on.
 fn answer(
     rt: &impl Abort,
     store: &mut Store,
@@ -85,8 +85,7 @@ fn commit(
     Ok(answer(rt, store, logs, from, &partial))
 }
 
-/// Of a log of two records of one key: an offset, key numbers from there on, and the answer of their
-/// commit.
+/// Commits of a log with two records of one key: offset, key numbers, and the answer.
 const COMMITS: [(u32, &[u32], Result<u32, Refusal>); 8] = [
     (0, &[], Err(Refusal::EmptyCommit)),
     (1, &[0], Err(Refusal::OffsetMismatch { committed: 0 })),
@@ -98,7 +97,7 @@ const COMMITS: [(u32, &[u32], Result<u32, Refusal>); 8] = [
     (2, &[0], Err(Refusal::PastEnd)),
 ];
 
-/// The first of those commits that is not answered so.
+/// The first of these commits with another answer.
 fn first_other(
     rt: &impl Abort,
     alloc: Global,
@@ -113,7 +112,7 @@ fn first_other(
     Ok(None)
 }
 
-/// Whether both records are committed, and nothing of other logs.
+/// Whether both records are committed, and no others.
 fn has_both(store: &Store) -> bool {
     store.partitions() == 4
         && store.keys() == 1
@@ -129,8 +128,7 @@ fn of_one_key(alloc: Global) -> Result<Store, Memory> {
     added.and(Ok(store))
 }
 
-/// The first of those commits that is not answered so by a store of one key, and whether both
-/// records are committed then.
+/// The first of these commits with another answer, and whether both records are committed then.
 fn committed_each(
     rt: &impl Abort,
     alloc: Global,
@@ -141,7 +139,7 @@ fn committed_each(
     Ok((other, has_both(&store)))
 }
 
-/// The same of logs of two records of one key.
+/// The same for logs with two records of one key.
 fn committed_two(
     rt: &(impl Abort + RandomSource),
     alloc: Global,
@@ -155,7 +153,7 @@ fn a_commit_is_taken_exactly_where_it_fits(rt: HostRuntime) {
     assert_eq!(rt; committed_two(&rt, rt.alloc()), Ok((None, true)));
 }
 
-/// The answer of a commit, and the two counters after it.
+/// The answer to a commit, and the two counters after it.
 type Committed = (Result<u32, Refusal>, u64, u64);
 
 /// A store of one partition and two keys.
@@ -182,7 +180,7 @@ fn committed(
     Ok((answer, first, second))
 }
 
-/// A commit of these key numbers but for the last, which is another.
+/// A commit of these key numbers, with another one in place of the last.
 fn committed_but_last(
     rt: &impl Abort,
     alloc: Global,
@@ -194,7 +192,8 @@ fn committed_but_last(
     committed(rt, alloc, logs, &other)
 }
 
-/// A commit of this many records of one key but for the last, and one of these alone.
+/// A commit of this many records of one key with another one in place of the last, and one of
+/// exactly these records.
 fn last_differs(
     rt: &impl Abort,
     alloc: Global,
@@ -206,7 +205,7 @@ fn last_differs(
     Ok((refused, committed(rt, alloc, logs, &ids)?))
 }
 
-/// The same of a log of this many records of one key.
+/// The same for a log of this many records of one key.
 fn last_of_log_differs(
     rt: &(impl Abort + RandomSource),
     alloc: Global,
@@ -226,8 +225,7 @@ fn the_last_of_the_records_alone_differs(rt: HostRuntime) {
     }
 }
 
-/// How many partitions a store is made of, and how many offsets and counters it has once keys are
-/// added.
+/// The numbers of partitions of a store, and of its offsets and counters once keys are added.
 fn most_sizes(alloc: Global) -> Result<(u32, usize, usize), Memory> {
     let mut store = Store::new(alloc, MOST_PARTITIONS)?;
     let partitions = store.partitions();
@@ -240,8 +238,8 @@ fn makes_an_offset_for_each_of_as_many_partitions_as_there_may_be(rt: HostRuntim
     assert_eq!(rt; most_sizes(rt.alloc()), Ok((MOST_PARTITIONS, 4096, 70_000)));
 }
 
-/// Whether the offsets of a store of three partitions and many keys are all at 0, and its counters,
-/// and how many keys it has.
+/// Whether all offsets and counters of a store of three partitions and many keys are 0, and how
+/// many keys it has.
 fn zeros_of_many(alloc: Global) -> Result<(bool, usize, bool), Memory> {
     let store = Store::over(alloc, 3, 70_000)?;
     let are_new = store.offsets() == [0; 3].as_slice();

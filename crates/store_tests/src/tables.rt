@@ -1,5 +1,5 @@
-//! Counts of key numbers, and tables of counters: each call once with ample memory, counts of lists
-//! in every order, and the calls beside the plain program.
+//! Counts of key numbers, and tables of counters: each call once with ample memory, lists in every
+//! order, and comparisons with the reference implementation.
 
 ghost use Rattle.std.specs.Prelude.{◌≡◌, ◌+◌, ◌<◌, ◌^◌, ℕ, IfOk, IsTrue, length, slice_index_or};
 ghost use Rattle.keyed_table.specs.Counts.{HaveCounters, SumsFit};
@@ -28,10 +28,10 @@ const ORDERS: [&[u32]; 4] = [
     &[8, 8, 17, 0],
 ];
 
-/// Numbers, and how often each is in that list.
+/// Numbers, and their counts in that list.
 const COUNTS: [(u32, u64); 5] = [(0, 1), (8, 2), (9, 0), (17, 1), (u32::MAX, 0)];
 
-/// The first of these numbers, so far apart, that is not counted so often, and its count.
+/// The first of these numbers, spaced by `apart`, with another count, and its count.
 fn first_other(partial: &Partial, counts: &[(u32, u64)], apart: u32) -> Option<(u32, u64)> {
     for (number, count) in counts {
         let id = number.saturating_mul(apart);
@@ -43,8 +43,7 @@ fn first_other(partial: &Partial, counts: &[(u32, u64)], apart: u32) -> Option<(
     None
 }
 
-/// Whether the list is told in this order, and the first of those numbers that is not counted so
-/// often.
+/// Whether the list is returned in this order, and the first number with another count.
 fn counted_in(alloc: Global, ids: &[u32]) -> Result<(bool, Option<(u32, u64)>), Memory> {
     let counted = partial(alloc, ids)?;
     Ok((counted.ids() == ids, first_other(&counted, &COUNTS, 1)))
@@ -57,7 +56,7 @@ fn counts_a_list_whatever_its_order(rt: HostRuntime) {
     }
 }
 
-/// How long an empty list is, counted, and how often a number is in it.
+/// The length of an empty list, counted, and the count of a number in it.
 fn counted_of_none(alloc: Global) -> Result<(usize, u64), Memory> {
     let none = partial(alloc, &[])?;
     Ok((none.ids().len(), none.get(0)))
@@ -68,7 +67,7 @@ fn counts_nothing_of_an_empty_list(rt: HostRuntime) {
     assert_eq!(rt; counted_of_none(rt.alloc()), Ok((0, 0)));
 }
 
-/// Adds so many keys to a table.
+/// Adds n keys to a table.
 fn add_keys(table: &mut Table, keys: u32) -> Result<(), Memory> {
     for _ in 0..keys {
         table.reserve()?;
@@ -82,7 +81,7 @@ fn has_two_zeros(table: &Table) -> bool {
     table.len() == 2 && table.get(1) == 0 && table.counts() == [0, 0].as_slice()
 }
 
-/// Whether a table has no counter, and one at 0 for each of two keys once these are added.
+/// Whether a table has no counters, and one at 0 for each of two keys once they are added.
 fn has_counters_of_two(alloc: Global) -> Result<(bool, bool), Memory> {
     let mut table = Table::new(alloc);
     let was_empty = table.len() == 0;
@@ -95,7 +94,7 @@ fn a_table_has_a_counter_for_each_key(rt: HostRuntime) {
     assert_eq!(rt; has_counters_of_two(rt.alloc()), Ok((true, true)));
 }
 
-/// How many counters a table of zeros has, and whether they are at 0.
+/// The number of counters of a table of zeros, and whether they are 0.
 fn zeros_of_many(alloc: Global) -> Result<(usize, bool), Memory> {
     let table = Table::zeros(alloc, 70_000)?;
     Ok((table.len(), are_zeros(table.counts())))
@@ -106,7 +105,7 @@ fn a_table_of_zeros_has_as_many_counters_as_keys(rt: HostRuntime) {
     assert_eq!(rt; zeros_of_many(rt.alloc()), Ok((70_000, true)));
 }
 
-/// A list of 200,000 numbers so far apart, the first 60,000 of them three times and 10,000 twice.
+/// A list of 200,000 numbers spaced by `apart`: the first 60,000 three times, then 10,000 twice.
 fn many(alloc: Global, apart: u32) -> Result<Vec<u32>, AllocError> {
     let mut ids = Vec::new(alloc);
     for i in 0..200_000_u32 {
@@ -115,10 +114,10 @@ fn many(alloc: Global, apart: u32) -> Result<Vec<u32>, AllocError> {
     Ok(ids)
 }
 
-/// Numbers that stand for those of that list and for others, and how often each is in it.
+/// Samples of that list and of other numbers, and their counts.
 const MANY_COUNTS: [(u32, u64); 5] = [(0, 3), (59_999, 3), (60_000, 2), (69_999, 2), (70_000, 0)];
 
-/// How long that list is, counted, and the first of those numbers that is not counted so often.
+/// The length of that list, counted, and the first sample with another count.
 fn counted_of_many(alloc: Global, apart: u32) -> Result<(usize, Option<(u32, u64)>), Memory> {
     let counted = Partial::of(alloc, many(alloc, apart)?)?;
     Ok((
@@ -129,7 +128,7 @@ fn counted_of_many(alloc: Global, apart: u32) -> Result<(usize, Option<(u32, u64
 
 #[test]
 fn counts_a_list_of_many_numbers(rt: HostRuntime) {
-    // As many as the counters up to the largest, and far fewer.
+    // About as many records as counters, and far fewer.
     for apart in [1, 9] {
         assert_eq!(rt; counted_of_many(rt.alloc(), apart), Ok((200_000, None)));
     }
@@ -142,7 +141,7 @@ fn grown(alloc: Global, keys: u32) -> Result<Table, Memory> {
     added.and(Ok(table))
 }
 
-/// How many counters a table has that grew by so many keys.
+/// The number of counters of a table that grew by n keys.
 fn grown_len(alloc: Global, keys: u32) -> Result<usize, Memory> {
     let table = grown(alloc, keys)?;
     Ok(table.len())
@@ -153,7 +152,7 @@ fn a_table_grows_to_many_counters(rt: HostRuntime) {
     assert_eq!(rt; grown_len(rt.alloc(), 200_000), Ok(200_000));
 }
 
-/// Numbers below a bound, drawn one after the other from a linear congruence.
+/// Pseudo-random numbers below a bound, from a linear congruential generator.
 fn drawn(alloc: Global, len: usize, bound: u32, seed: u64) -> Result<Vec<u32>, AllocError>
     requires { 0 < bound }
 {
@@ -180,7 +179,7 @@ fn are_below(ids: &[u32], bound: usize) -> bool
     true
 }
 
-/// Whether so much more fits each counter.
+/// Whether each counter can take this much more.
 fn leave_room(counts: &[u64], more: usize) -> bool
     ensures { IsTrue result → (i : ℕ) → slice_index_or counts.now i 0 + more < 2 ^ 64 }
 {
@@ -192,7 +191,7 @@ fn leave_room(counts: &[u64], more: usize) -> bool
     true
 }
 
-/// Whether each number of a list has a counter that can take as much as the list is long.
+/// Whether each number of a list has a counter that can take the length of the list.
 fn can_take(counts: &[u64], ids: &[u32]) -> bool
     ensures numbers { IsTrue result → HaveCounters counts.now ids.now }
     ensures fit { IsTrue result → SumsFit counts.now ids.now }
@@ -212,14 +211,14 @@ fn merge_plainly(rt: &impl Abort, counts: &mut [u64], partial: &PlainPartial) {
     raise(counts, partial);
 }
 
-/// Compares how often each number below a bound is in a list.
+/// Compares the counts of all numbers below a bound.
 fn check_gets(rt: &impl Abort, partial: &Partial, plain: &PlainPartial, bound: u32) {
     for id in 0..bound {
         assert_eq!(rt; partial.get(id), plain.get(id), "{id}");
     }
 }
 
-/// Each ninth number below a bound: they rise.
+/// Every ninth number below a bound, in rising order.
 fn each_ninth(alloc: Global, bound: u32) -> Result<Vec<u32>, AllocError> {
     let mut ids = Vec::new(alloc);
     for id in 0..bound {
@@ -230,13 +229,13 @@ fn each_ninth(alloc: Global, bound: u32) -> Result<Vec<u32>, AllocError> {
     Ok(ids)
 }
 
-/// The same list, counted by the plain program.
+/// The same list, counted by the reference implementation.
 fn plain_partial(alloc: Global, ids: &[u32]) -> Result<PlainPartial, Memory> {
     let list = Vec::from_slice(alloc, ids)?;
     PlainPartial::of(alloc, list)
 }
 
-/// Checks both counts of one more list, and merges them into a table of so many keys and into plain
+/// Compares both counts of one more list, and merges them into a table of n keys and into plain
 /// counters.
 fn check_both(
     rt: &impl Abort,
@@ -256,7 +255,7 @@ fn check_both(
     );
 }
 
-/// One more list in a table of so many keys, beside the plain program.
+/// Compares one more list in a table of n keys.
 fn check_list(
     rt: &impl Abort,
     alloc: Global,
@@ -271,7 +270,7 @@ fn check_list(
     Ok(())
 }
 
-/// Two drawn lists of this length, in a table of so many keys, beside the plain program.
+/// Compares two drawn lists of this length in a table of n keys.
 fn check_drawn(
     rt: &impl Abort,
     alloc: Global,
@@ -289,7 +288,7 @@ fn check_drawn(
     Ok(())
 }
 
-/// A list that rises, in a table of so many keys, beside the plain program.
+/// Compares a rising list in a table of n keys.
 fn check_rising(
     rt: &impl Abort,
     alloc: Global,
@@ -301,8 +300,7 @@ fn check_rising(
     check_list(rt, alloc, keys, table, counts, &rising)
 }
 
-/// Two drawn lists of this length and one that rises in a table of so many keys, beside the plain
-/// program.
+/// Compares two drawn lists of this length and a rising one in a table of n keys.
 fn check_lists(rt: &impl Abort, alloc: Global, keys: u32, len: usize) -> Result<(), Memory>
     requires { 0 < keys }
 {
@@ -323,7 +321,7 @@ fn counts_and_merges_beside_the_plain_program(rt: HostRuntime) -> Result<(), Fai
     Ok(())
 }
 
-/// A list of the last of so many keys twice, or of nothing where there is none.
+/// A list with the last of n keys twice; empty if there is none.
 fn last_twice(alloc: Global, keys: u32) -> Result<Partial, Memory> {
     match keys.checked_sub(1) {
         Some(last) => partial(alloc, &[last, last]),
@@ -331,8 +329,7 @@ fn last_twice(alloc: Global, keys: u32) -> Result<Partial, Memory> {
     }
 }
 
-/// Whether there are so many counters, all at 0 but for that of the last of so many keys, which is
-/// at 2.
+/// Whether there are this many counters, all at 0 except that of the last of n keys, which is 2.
 fn has_last_twice(counts: &[u64], keys: u32, len: usize) -> bool {
     for id in 0..counts.len() {
         let expected = if id + 1 == keys as usize { 2 } else { 0 };
@@ -343,7 +340,7 @@ fn has_last_twice(counts: &[u64], keys: u32, len: usize) -> bool {
     counts.len() == len
 }
 
-/// The last key of a table counted twice, and then one key more.
+/// Counts the last key of a table twice, and then adds one more key.
 fn check_last_key(
     rt: &impl Abort,
     table: &mut Table,
@@ -363,19 +360,19 @@ fn check_last_key(
     Ok(())
 }
 
-/// The same of a table of so many keys, made of zeros.
+/// The same for a table of n keys, made of zeros.
 fn check_zeros(rt: &impl Abort, alloc: Global, twice: &Partial, keys: u32) -> Result<(), Memory> {
     let mut table = Table::zeros(alloc, keys)?;
     check_last_key(rt, &mut table, twice, keys)
 }
 
-/// The same of a table of so many keys that grew key by key.
+/// The same for a table of n keys that grew key by key.
 fn check_grown(rt: &impl Abort, alloc: Global, twice: &Partial, keys: u32) -> Result<(), Memory> {
     let mut table = grown(alloc, keys)?;
     check_last_key(rt, &mut table, twice, keys)
 }
 
-/// The same of both tables, which count one list.
+/// The same for both tables.
 fn check_tables(rt: &impl Abort, alloc: Global, keys: u32) -> Result<(), Memory> {
     let twice = last_twice(alloc, keys)?;
     check_zeros(rt, alloc, &twice, keys)?;

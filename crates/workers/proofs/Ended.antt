@@ -6,7 +6,7 @@ use Rattle.partition_log.specs.Logs.{PartitionLogs, keys_of_log, log_at}
 use Rattle.partition_log.proofs.Parted.{sum-same}
 use Rattle.commit_store.specs.Commits.{AreEndsCommitted, Commits, IsExact, committed_at}
 use Rattle.group_machine.specs.State.{GroupState}
-use Rattle.group_machine.specs.Rounds.{is_settled}
+use Rattle.group_machine.specs.Settled.{is_settled}
 use Rattle.group_machine.specs.Cluster.{IsValidCluster}
 use Rattle.script.specs.declared.plan.Change.{Change}
 use Rattle.workers.specs.Plans.{settled}

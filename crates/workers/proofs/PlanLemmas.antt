@@ -16,20 +16,22 @@ use Rattle.group_machine.specs.declared.group.Phase.TheVariants.{Empty, Preparin
 use Rattle.group_machine.specs.Slots.{reseated_from}
 use Rattle.group_machine.specs.State.{GroupState, is_anybody, is_present, opening}
 use Rattle.group_machine.specs.Completion.{complete, completed, is_over, is_ready}
-use Rattle.group_machine.specs.Rounds.{bare, bare_seat, finish, is_settled, round}
+use Rattle.group_laws.specs.Rounds.{bare, bare_seat, finish, round}
+use Rattle.group_machine.specs.Settled.{is_settled}
 use Rattle.group_machine.specs.Steps.{is_name_used, join_answer, joining, leaving, left_by}
 use Rattle.group_machine.specs.Good.{IsValidGroup}
 use Rattle.group_machine.proofs.PresentLemmas.{length_reseated}
-use Rattle.group_machine.proofs.EndLemmas.{finish_by, finish_from, join_bare, leave_bare}
-use Rattle.group_machine.proofs.OtherLemmas.{accepted_join, accepted_leave}
-use Rattle.group_machine.proofs.StepLemmas.{join_good, leave_good}
+use Rattle.group_laws.proofs.EndLemmas.{finish_by, finish_from, join_bare, leave_bare}
+use Rattle.group_machine.proofs.JoinLemmas.{accepted_join}
+use Rattle.group_laws.proofs.OtherLemmas.{accepted_leave}
+use Rattle.group_laws.proofs.StepLemmas.{join_good, leave_good}
 use Rattle.script.specs.Plan.{IsPlan, Roster, is_allowed, is_among, roster_of}
 use Rattle.script.specs.declared.plan.Change.{Change}
 use Rattle.script.specs.declared.plan.Change.TheVariants.{Join, Leave, Lose}
 use Rattle.workers.specs.Plans.{changed_by, number_of, settled, settled_from}
 use Rattle.workers.specs.Progress.{is_at_rest, is_empty}
 use Rattle.workers.specs.Private.Applied.{change_answer}
-use Rattle.group_machine.proofs.NameLemmas.{number_reseated}
+use Rattle.group_laws.proofs.NameLemmas.{number_reseated}
 use Rattle.workers.proofs.Rosters.{HasRoster, next_settled, present_there, progress_roster, slots_are}
 
 -- ---- at rest

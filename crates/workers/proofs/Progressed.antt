@@ -6,12 +6,13 @@ use Rattle.lane_words.specs.declared.Refusal.{Refusal}
 use Rattle.lane_words.specs.declared.Refusal.TheVariants as r
 use Rattle.bit_planes.specs.PartitionSet.{PartitionSet}
 use Rattle.group_machine.specs.State.{GroupState, is_present}
-use Rattle.group_machine.specs.Rounds.{finish}
+use Rattle.group_laws.specs.Rounds.{finish}
 use Rattle.group_machine.specs.Steps.{rejoin_answer, rejoined_by, rejoining, synced_by}
 use Rattle.group_machine.specs.Good.{IsValidGroup}
 use Rattle.group_machine.specs.Cluster.{ClusterState, CommitTerms, committed_by, with_group}
-use Rattle.group_machine.proofs.FinishLemmas as end
-use Rattle.group_machine.proofs.StepLemmas.{rejoin_good, sync_good}
+use Rattle.group_laws.proofs.FinishLemmas as end
+use Rattle.group_laws.proofs.StepLemmas.{rejoin_good}
+use Rattle.group_machine.proofs.StepLemmas.{sync_good}
 use Rattle.script.specs.declared.plan.Change.{Change}
 use Rattle.script.proofs.PlanRules.{plan_is_short}
 use Rattle.workers.specs.Plans.{changed_by, settled}

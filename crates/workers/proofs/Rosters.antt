@@ -7,11 +7,13 @@ use Rattle.std.specs.Str.{bytes_eq}
 use Rattle.std.proofs.lemmas.Bool.{false≢true}
 use Rattle.std.proofs.lemmas.List.{length-map}
 use Rattle.std.proofs.lemmas.Slice.Eq.{bytes_eq-Decides}
-use Rattle.group_machine.specs.State.{GroupState, HasNumber, is_present, names, opening}
+use Rattle.group_machine.specs.State.{GroupState, is_present, opening}
+use Rattle.group_laws.specs.Names.{HasNumber, names}
 use Rattle.group_machine.specs.Steps.{joined_by, left_by}
-use Rattle.group_machine.specs.Rounds.{finish}
-use Rattle.group_machine.proofs.EndLemmas.{joined_names, joined_newcomer, joined_stays, left_names, left_others, names_finish, present_finish}
-use Rattle.group_machine.proofs.NameLemmas.{name_has_number}
+use Rattle.group_laws.specs.Rounds.{finish}
+use Rattle.group_laws.proofs.EndLemmas.{joined_names, joined_stays, left_names, left_others, names_finish, present_finish}
+use Rattle.group_machine.proofs.JoinLemmas.{joined_newcomer}
+use Rattle.group_laws.proofs.NameLemmas.{name_has_number}
 use Rattle.script.specs.Plan.{IsPlan, Roster, entered, is_allowed, is_among, is_there, nobody_yet, roster_of}
 use Rattle.script.specs.declared.plan.Change.{Change}
 use Rattle.script.specs.declared.plan.Change.TheVariants.{Join, Leave, Lose}

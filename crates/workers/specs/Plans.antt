@@ -3,7 +3,7 @@
 use Rattle.std.specs.Prelude.{ℕ, List, [], ◌∷◌}
 use Rattle.std.specs.Option.{unwrap_or}
 use Rattle.group_machine.specs.State.{GroupState, member_named, opening}
-use Rattle.group_machine.specs.Rounds.{finish}
+use Rattle.group_laws.specs.Rounds.{finish}
 use Rattle.group_machine.specs.Steps.{joined_by, left_by}
 use Rattle.script.specs.declared.plan.Change.{Change}
 use Rattle.script.specs.declared.plan.Change.TheVariants.{Join, Leave, Lose}

@@ -3,7 +3,8 @@ use Rattle.std.specs.Prelude.{◌≡◌, ℕ, ◌+◌, ◌≤◌, Bool, true, fa
 use Rattle.group_machine.specs.State.{GroupState}
 use Rattle.group_machine.specs.declared.group.Phase.{Phase}
 use Rattle.group_machine.specs.declared.group.Phase.TheVariants.{Empty, Preparing, Stable}
-use Rattle.group_machine.specs.Rounds.{finish, is_settled}
+use Rattle.group_laws.specs.Rounds.{finish}
+use Rattle.group_machine.specs.Settled.{is_settled}
 use Rattle.group_machine.specs.Good.{IsValidGroup}
 use Rattle.group_machine.specs.Cluster.{ClusterState, with_group}
 use Rattle.script.specs.declared.plan.Change.{Change}

@@ -5,7 +5,7 @@ use Rattle.lane_words.specs.declared.Refusal.TheVariants as r
 use Rattle.partition_log.specs.Keys.{Key, id_of}
 use Rattle.partition_log.specs.Logs.{PartitionLogs, count_in_logs}
 use Rattle.commit_store.specs.Commits.{AreEndsCommitted, Commits, count_at}
-use Rattle.group_machine.specs.Rounds.{bare}
+use Rattle.group_laws.specs.Rounds.{bare}
 use Rattle.group_machine.specs.Cluster.{ClusterState}
 use Rattle.script.specs.declared.plan.Change.{Change}
 use Rattle.workers.specs.Plans.{settled}

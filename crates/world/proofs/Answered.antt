@@ -10,7 +10,7 @@ use Rattle.bit_planes.specs.PartitionSet.{PartitionSet, is_in, is_same}
 use Rattle.commit_store.specs.Commits.{commit_answer, committed_at, log_at, records_between}
 use Rattle.group_machine.specs.declared.group.Seat.{Seat}
 use Rattle.group_machine.specs.State.{GroupState, granted_of, is_present, member_of}
-use Rattle.group_machine.specs.Rounds.{agrees, is_stable}
+use Rattle.group_machine.specs.Settled.{agrees, is_stable}
 use Rattle.group_machine.specs.Steps.{rejoin_answer, rejoin_refusal, rejoining, sync_seat_answer, unless_over}
 use Rattle.group_machine.specs.Completion.{is_over}
 use Rattle.group_machine.specs.Cluster.{ClusterState, CommitTerms, LeaseTerms, cluster_commit_answer, cluster_sync_answer, lease_of}

@@ -18,13 +18,15 @@ use Rattle.commit_store.proofs.Answered.{accepted}
 use Rattle.commit_store.proofs.Exact.{commit-exact}
 use Rattle.group_machine.specs.State.{GroupState, is_present, kept_member}
 use Rattle.group_machine.specs.Steps.{join_answer, joined_by, joined_kept_by, leave_answer, left_by, rejoin_answer, rejoined_by, synced_by, take_over_answer, taken_over_by}
-use Rattle.group_machine.specs.Others.{IsHandedOn, LeavesMember, LeavesOthers}
+use Rattle.group_laws.specs.Others.{IsHandedOn, LeavesMember, LeavesOthers}
 use Rattle.group_machine.specs.Cluster.{ClusterState, CommitTerms, IsValidCluster, IsValidLogs, append_answer, appended_to, cluster_commit_answer, committed_by, fence, with_group}
 use Rattle.group_machine.proofs.ClusterLemmas.{append-kept, partition-below, regrouped}
-use Rattle.group_machine.proofs.FinishLemmas as finish
-use Rattle.group_machine.proofs.OtherLemmas.{accepted_join, accepted_leave, join_leaves, leave_leaves, rejoin_leaves}
-use Rattle.group_machine.proofs.StepLemmas.{join_good, leave_good, rejoin_good, sync_good}
-use Rattle.group_machine.proofs.TakeOverLemmas.{handed_leaves, kept_join_good, kept_join_leaves, take_over_good, take_over_hands}
+use Rattle.group_laws.proofs.FinishLemmas as finish
+use Rattle.group_machine.proofs.JoinLemmas.{accepted_join}
+use Rattle.group_laws.proofs.OtherLemmas.{accepted_leave, join_leaves, leave_leaves, rejoin_leaves}
+use Rattle.group_laws.proofs.StepLemmas.{join_good, leave_good, rejoin_good}
+use Rattle.group_machine.proofs.StepLemmas.{sync_good}
+use Rattle.group_laws.proofs.TakeOverLemmas.{handed_leaves, kept_join_good, kept_join_leaves, take_over_good, take_over_hands}
 
 -- ---- steps of the group
 pub joined_valid : (s : ClusterState) (name : List ℕ) (n : ℕ) → IsValidCluster s → join_answer s.group name ≡ Ok n → IsValidCluster (with_group s (joined_by s.group name))
@@ -140,7 +142,7 @@ leaves_handed_on s g m n valid on = record {
   valid = valid;
   partitions = on.partitions;
   others = λ k ne here. elim (is_it m k) [
-    | inl old ↦ absurd (let gone : is_present g k ≡ false = ap (is_present g) old ∙ on.place.gone in cc)
+    | inl old ↦ absurd (let gone : is_present g k ≡ false = ap (is_present g) old ∙ on.seat.gone in cc)
     | inr other ↦ handed_leaves s.group g m n on k other ne
   ];
   committed = λ p. omega arith;

@@ -20,9 +20,9 @@ use Rattle.group_machine.specs.declared.group.Slot.{Slot}
 use Rattle.group_machine.specs.State.{GroupState, assigned_of, granted_of, is_present, is_synced, members}
 use Rattle.group_machine.specs.Slots.{seat_in}
 use Rattle.group_machine.specs.Cluster.{cluster_commit_answer}
-use Rattle.group_machine.specs.Passes.{is_calm}
-use Rattle.group_machine.specs.Rounds.{is_settled}
-use Rattle.group_machine.proofs.PassLemmas.{settled_same}
+use Rattle.group_laws.specs.Passes.{is_calm}
+use Rattle.group_machine.specs.Settled.{is_settled}
+use Rattle.group_laws.proofs.PassLemmas.{settled_same}
 use Rattle.group_machine.proofs.PresentLemmas.{Listed, listed_present}
 use Rattle.consumer.specs.declared.held.Held.{Held}
 use Rattle.consumer.specs.Consumer.{ConsumerState, answered_by, base_of, commit_of, held_at, hold_answer, is_held, polled, polled_count, position_of, realigned_held, realigned_slot, sendable_answer, with_held}

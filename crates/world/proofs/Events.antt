@@ -14,12 +14,13 @@ use Rattle.partition_log.specs.Keys.{Keyed, of_first}
 use Rattle.partition_log.specs.Logs.{PartitionLogs, log_at}
 use Rattle.commit_store.specs.Commits.{committed_at}
 use Rattle.group_machine.specs.State.{GroupState, is_present, kept_member}
-use Rattle.group_machine.specs.Others.{IsNewcomer}
+use Rattle.group_laws.specs.Others.{IsNewcomer}
 use Rattle.group_machine.specs.Steps.{join_answer, joined_by, joined_kept_by, leave_answer, left_by, rejoin_answer, rejoined_by, synced_by, take_over_answer, taken_over_by}
 use Rattle.group_machine.specs.Cluster.{ClusterState, CommitTerms, LeaseTerms, append_answer, appended_to, cluster_commit_answer, cluster_sync_answer, committed_by, lease_of, with_group}
-use Rattle.group_machine.proofs.OtherLemmas.{accepted_join, join_brings, join_leaves, leave_leaves, leave_takes_out, rejoin_leaves, sync_leaves}
+use Rattle.group_machine.proofs.JoinLemmas.{accepted_join}
+use Rattle.group_laws.proofs.OtherLemmas.{join_brings, join_leaves, leave_leaves, leave_takes_out, rejoin_leaves, sync_leaves}
 use Rattle.group_machine.proofs.StepLemmas.{any_of_present}
-use Rattle.group_machine.proofs.TakeOverLemmas.{accepted_take_over, kept_join_brings, kept_join_leaves, take_over_hands}
+use Rattle.group_laws.proofs.TakeOverLemmas.{accepted_take_over, kept_join_brings, kept_join_leaves, take_over_hands}
 use Rattle.consumer.specs.Consumer.{ConsumerState, answered_by, base_of, commit_of, given_up, hold_answer, joined_as, leased, out_of_group, poll_answer, polled, position_of, sendable_answer}
 use Rattle.consumer.proofs.Changed.{poll_leaves, realign_leaves}
 use Rattle.world.specs.declared.event.Event.{Event}

@@ -7,12 +7,12 @@ use Rattle.bit_planes.proofs.Sets.{in_below}
 use Rattle.partition_log.specs.Logs.{log_at}
 use Rattle.commit_store.specs.Commits.{committed_at}
 use Rattle.group_machine.specs.State.{GroupState, assigned_of, granted_of, is_present}
-use Rattle.group_machine.specs.Others.{IsNewcomer, LeavesRejoined}
+use Rattle.group_laws.specs.Others.{IsNewcomer, LeavesRejoined}
 use Rattle.group_machine.specs.Steps.{rejoin_answer, rejoined_by, synced_by}
 use Rattle.group_machine.specs.Cluster.{ClusterState, IsValidCluster, LeaseTerms, lease_of, start_of, with_group}
 use Rattle.group_machine.proofs.ClusterLemmas.{assigned_over}
-use Rattle.group_machine.proofs.GroupLemmas.{assigned_in_granted}
-use Rattle.group_machine.proofs.OtherLemmas.{rejoin_keeps, rejoin_leaves, sync_marks}
+use Rattle.group_laws.proofs.AssignedLemmas.{assigned_in_granted}
+use Rattle.group_laws.proofs.OtherLemmas.{rejoin_keeps, rejoin_leaves, sync_marks}
 use Rattle.consumer.specs.declared.held.Held.{Held}
 use Rattle.consumer.specs.Consumer.{ConsumerState, given_up, held_at, is_held, joined_as, leased, leased_slot, out_of_group}
 use Rattle.consumer.proofs.Changed.{base_out, joined_valid, nothing_held, position_out}

@@ -9,7 +9,7 @@ use Rattle.world.specs.declared.event.Event.{Event}
 use Rattle.world.specs.declared.event.Event.TheVariants as event
 use Rattle.world.specs.declared.event.Reply.{Reply}
 use Rattle.world.specs.declared.event.Reply.TheVariants as reply
-use Rattle.group_machine.specs.Passes.{has_to_rejoin, is_calm}
+use Rattle.group_laws.specs.Passes.{has_to_rejoin, is_calm}
 use Rattle.world.specs.Courses.{Course, Follows, after_all, answer_in, answered_at_once, chain, for_each, goes_on, happens, nothing, outcome_of}
 use Rattle.world.specs.Draining.{drain_log, drain_member, drain_members, draining, held_by, is_read_up, read_on, read_up}
 use Rattle.world.specs.Settling.{commit_pending, flush, forgiven, is_pending, pass, passes, rejoin_if_due, settling, sync_if_new, turn, unless_mismatch}

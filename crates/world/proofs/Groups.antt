@@ -2,7 +2,7 @@
 use Rattle.std.proofs.Common.{◌≡◌, ◌∙◌, ◌+◌, ◌≤◌, ℕ, true, false, Some, sym, ap, inl, inr, arith}
 use Rattle.bit_planes.specs.PartitionSet.{is_in}
 use Rattle.group_machine.specs.State.{GroupState, granted_of, is_synced}
-use Rattle.group_machine.specs.Others.{IsAsBefore, LeavesMember}
+use Rattle.group_laws.specs.Others.{IsAsBefore, LeavesMember}
 use Rattle.consumer.specs.Consumer.{ConsumerState, is_held}
 use Rattle.consumer.proofs.Changed.{KeepsHold}
 use Rattle.world.specs.Valid.{IsInStep}

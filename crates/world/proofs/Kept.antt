@@ -8,9 +8,9 @@ use Rattle.partition_log.specs.Logs.{log_at}
 use Rattle.commit_store.specs.Commits.{committed_at}
 use Rattle.group_machine.specs.State.{GroupState, is_present, members}
 use Rattle.group_machine.specs.Cluster.{ClusterState, CommitTerms, IsValidCluster, LeaseTerms, cluster_commit_answer, cluster_sync_answer, with_group}
-use Rattle.group_machine.specs.Passes.{has_to_rejoin}
+use Rattle.group_laws.specs.Passes.{has_to_rejoin}
 use Rattle.group_machine.specs.Steps.{rejoin_answer, rejoined_by, synced_by}
-use Rattle.group_machine.proofs.PassLemmas.{rejoined_present, synced_present}
+use Rattle.group_laws.proofs.PassLemmas.{rejoined_present, synced_present}
 use Rattle.consumer.specs.Consumer.{ConsumerState, answered_by, given_up, leased, poll_answer, polled}
 use Rattle.world.specs.declared.event.Event.{Event}
 use Rattle.world.specs.declared.event.Event.TheVariants as event

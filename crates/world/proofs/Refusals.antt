@@ -13,7 +13,7 @@ use Rattle.bit_planes.proofs.Sets.{same_self}
 use Rattle.commit_store.specs.Commits.{commit_answer, committed_at, log_at, records_between}
 use Rattle.group_machine.specs.declared.group.Seat.{Seat}
 use Rattle.group_machine.specs.State.{GroupState, assigned_of, is_present, is_synced, member_of, seat_assigned, seat_synced}
-use Rattle.group_machine.specs.Rounds.{agrees, is_stable}
+use Rattle.group_machine.specs.Settled.{agrees, is_stable}
 use Rattle.group_machine.specs.Steps.{leave_answer, leaving, rejoin_answer, rejoin_refusal, rejoining, sync_seat_answer, unless_over}
 use Rattle.group_machine.specs.Completion.{is_over}
 use Rattle.group_machine.specs.Cluster.{ClusterState, CommitTerms, LeaseTerms, cluster_commit_answer, cluster_sync_answer, lease_of}

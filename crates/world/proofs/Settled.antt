@@ -8,11 +8,12 @@ use Rattle.group_machine.specs.declared.group.Phase.TheVariants.{Preparing, Stab
 use Rattle.group_machine.specs.State.{GroupState, assigned_of, granted_of, is_anybody, is_joined, is_synced, members}
 use Rattle.group_machine.specs.Good.{IsValidGroup}
 use Rattle.group_machine.specs.Cluster.{ClusterState, LeaseTerms, cluster_sync_answer, with_group}
-use Rattle.group_machine.specs.Passes.{has_to_rejoin, is_calm, passed, rejoined_if_due, synced_if_new, turned, turned_each}
-use Rattle.group_machine.specs.Rounds.{bare, finish, is_settled, round}
+use Rattle.group_laws.specs.Passes.{has_to_rejoin, is_calm, passed, rejoined_if_due, synced_if_new, turned, turned_each}
+use Rattle.group_laws.specs.Rounds.{bare, finish, round}
+use Rattle.group_machine.specs.Settled.{is_settled}
 use Rattle.group_machine.specs.Steps.{rejoin_answer, rejoined_by, synced_by}
-use Rattle.group_machine.proofs.CalmLemmas.{four_passes}
-use Rattle.group_machine.proofs.PassLemmas.{passed_finish}
+use Rattle.group_laws.proofs.CalmLemmas.{four_passes}
+use Rattle.group_laws.proofs.PassLemmas.{passed_finish}
 use Rattle.consumer.specs.Consumer.{ConsumerState, given_up, leased}
 use Rattle.world.specs.declared.event.Event.TheVariants as event
 use Rattle.world.specs.Courses.{Course, Follows, answer_in, answered_at_once, chain, for_each, goes_on, happens, nothing}

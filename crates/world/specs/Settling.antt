@@ -6,7 +6,7 @@ use Rattle.lane_words.specs.declared.Refusal.{Refusal}
 use Rattle.lane_words.specs.declared.Refusal.TheVariants as r
 use Rattle.bit_planes.specs.PartitionSet.{elements, minus}
 use Rattle.group_machine.specs.State.{assigned_of, granted_of, is_anybody, is_joined, is_synced, members}
-use Rattle.group_machine.specs.Passes.{has_to_rejoin, is_calm}
+use Rattle.group_laws.specs.Passes.{has_to_rejoin, is_calm}
 use Rattle.consumer.specs.Consumer.{sendable_answer}
 use Rattle.world.specs.declared.event.Event.TheVariants as event
 use Rattle.world.specs.Courses.{Course, answered_at_once, for_each, happens, nothing, chain}

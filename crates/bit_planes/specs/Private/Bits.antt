@@ -1,4 +1,4 @@
--- The bits of words, of which each has 64.
+-- The bits of words of 64 bits.
 use Rattle.std.specs.Prelude.{◌≡◌, ℕ, ◌*◌, ◌/◌, ◌%◌, ◌<◌, ◌≤◌, ◌==◌, ◌&&◌, Bool, true, false, nat_lt, List, slice_index, length}
 use Rattle.std.specs.Int.{bit_at}
 use Rattle.bit_planes.specs.PartitionSet.{how_many}
@@ -24,7 +24,7 @@ HasLowestBits n old word = (k : ℕ) → k < 64
 abbrev pub AreClearFrom : List ℕ → ℕ → Type 0
 AreClearFrom words from = (q : ℕ) → from ≤ q → bit_of words q ≡ false
 
--- q is the lowest number from another on whose bit is set
+-- q is the lowest number at or above `from` whose bit is set
 pub record IsLowestFrom (words : List ℕ) (from q : ℕ) : Type 0 where
   pub set : bit_of words q ≡ true
   pub not_below : from ≤ q

@@ -1,4 +1,4 @@
--- How a plane is seen as a set.
+-- The view of a plane as a set.
 use Rattle.std.specs.Prelude.{◌≤◌}
 use Rattle.lane_words.specs.declared.limits.TheConstants.{MOST_PARTITIONS}
 use Rattle.bit_planes.specs.PartitionSet.{PartitionSet, set_where}
@@ -9,7 +9,7 @@ use Rattle.bit_planes.specs.declared.plane.Plane.TheInside.{Inside}
 abbrev pub plane_view : Inside → PartitionSet
 plane_view a = set_where a.partitions (bit_of a.words)
 
--- what a plane keeps
+-- the invariant of a plane
 pub record IsValidPlane (a : Inside) : Type 0 where
   pub some : 1 ≤ a.partitions
   pub few : a.partitions ≤ MOST_PARTITIONS

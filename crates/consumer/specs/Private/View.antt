@@ -1,4 +1,4 @@
--- How a consumer's fields are seen, and what they keep.
+-- The view of a consumer's fields, and their invariant.
 use Rattle.consumer.specs.Consumer.{ConsumerState, IsValidConsumer}
 use Rattle.consumer.specs.Private.Hold.{IsHolding}
 use Rattle.consumer.specs.declared.Consumer.TheInside.{Inside}
@@ -12,7 +12,7 @@ consumer_view a = record {
   held = a.held.items;
 }
 
--- what the fields keep
+-- the invariant of the fields
 pub record IsValidInside (a : Inside) : Type 0 where
   pub seen : IsValidConsumer (consumer_view a)
   pub holding : IsHolding a.holding a.held.items

@@ -8,7 +8,7 @@ abbrev pub times_granted : List (ℕ × PartitionSet) → ℕ → ℕ
 times_granted [] q = 0
 times_granted (row ∷ rows) q = one (is_in row.1 q) + times_granted rows q
 
--- what is granted to some member, and what to two or more
+-- what is granted to at least one member, and what to at least two
 pub record AreGrants (some several : PartitionSet) (granted : SetRows) : Type 0 where
   pub some_below : partitions_of some ≡ granted.partitions
   pub several_below : partitions_of several ≡ granted.partitions

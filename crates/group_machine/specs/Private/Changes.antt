@@ -1,4 +1,4 @@
--- What a step is to change, and what its completion needs.
+-- The change of a step, and what its completion needs.
 use Rattle.std.specs.Prelude.{◌≡◌, ℕ, ◌<◌, true, false, List, [], ◌∷◌, ◌++◌, ◌⊎◌, Option, Some, None, Ok, ◌+◌, ◌≤◌, length}
 use Rattle.std.specs.Option.{option_map}
 use Rattle.lane_words.specs.declared.limits.TheConstants.{LAST_GENERATION}
@@ -19,13 +19,13 @@ use Rattle.group_machine.specs.Completion.{all_joined, is_ready, is_over, next_r
 use Rattle.group_machine.specs.Steps.{sync_answer, newcomer, rejoined_seat, phase_left}
 use Rattle.group_machine.specs.Good.{IsSized, IsApart, AllFit, IsHeldByLast}
 
--- the seat after a change of the member m that had this one
+-- the seat of member m after a change
 abbrev pub seat_after : Change → ℕ → Option Seat → Option Seat
 seat_after Joins m seat = seat
 seat_after (Rejoins member) m seat = only_of member (option_map rejoined_seat) m seat
 seat_after (Leaves member) m seat = only_of member (λ before. None) m seat
 
--- the slots after a change, where one that is new has this name
+-- the slots after a change; a new member has this name
 abbrev pub slots_after : ℕ → List ℕ → Change → List Slot → List Slot
 slots_after partitions name Joins slots = slots ++ newcomer partitions name ∷ []
 slots_after partitions name (Rejoins member) slots = one_changed rejoined_seat slots member
@@ -43,7 +43,7 @@ after change name g = record g {
   phase = phase_after change (slots_after g.partitions name change g.slots);
 }
 
--- what holds of a group after a change, before its completion
+-- the invariant between a change and its completion
 pub record IsChanged (g : GroupState) : Type 0 where
   pub sized : IsSized g
   pub apart : IsApart g
@@ -59,30 +59,30 @@ pub record IsCompletion (g : GroupState) (a : Completion) : Type 0 where
   pub taken : a.takers.items ≡ takers g a.next
   pub moved : a.moves.items ≡ moves_to g a.next
 
--- a completion is planned where one comes
+-- a completion is planned if one happens
 abbrev pub IsPlanned : GroupState → Option Completion → Type 0
 IsPlanned g None = is_ready g ≡ false
 IsPlanned g (Some a) =
     (is_ready g ≡ true) × (g.generation < LAST_GENERATION) × IsCompletion g a
 
--- there is room for the moves of a planned completion
+-- there is capacity for the moves of a planned completion
 abbrev pub HasRoom : Option Completion → ℕ → ℕ → Type 0
 HasRoom planned used capacity =
     (a : Completion) → planned ≡ Some a → used + length a.moves.items ≤ capacity
 
--- why none is planned: it would pass the last generation, or memory was refused
+-- why planning fails: the generation would pass the last, or out of memory
 abbrev pub IsRefused : GroupState → Refusal → Type 0
 IsRefused g why =
     ((is_over g ≡ true) × (why ≡ r.GenerationsOver)) ⊎ (why ≡ r.Memory)
 
--- a member may sync, and this is what it is to keep
+-- a member may sync, and is assigned this
 abbrev pub IsLeasable : GroupState → ℕ → PartitionSet → Type 0
 IsLeasable g member assigned =
     (sync_answer g member ≡ Ok tt)
     × (assigned ≡ assigned_of g member)
     × (is_present g member ≡ true)
 
--- the seat after a change of the member m that had this one has this granted set
+-- member m is granted this set after a change
 abbrev pub HasGranted : Change → ℕ → Option Seat → PartitionSet → Type 0
 HasGranted change m seat granted =
     (after : Seat) × (seat_after change m seat ≡ Some after) × (granted ≡ after.granted)

@@ -1,4 +1,4 @@
--- How a cluster is seen.
+-- The view of a cluster's fields.
 use Rattle.group_machine.specs.Cluster.{ClusterState, IsValidCluster, without_room}
 use Rattle.group_machine.specs.Private.GroupView.{group_view}
 use Rattle.group_machine.specs.declared.cluster.Cluster.TheInside.{Inside}

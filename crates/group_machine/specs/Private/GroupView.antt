@@ -1,4 +1,4 @@
--- How a group is seen.
+-- The view of a group's fields.
 use Rattle.group_machine.specs.State.{GroupState}
 use Rattle.group_machine.specs.declared.group.Group.{Group}
 

@@ -1,4 +1,4 @@
-//! What a step is to change, and what members have after it.
+//! The change of a step, and what members have after it, computed before it is made.
 
 ghost use Rattle.std.specs.Prelude.{◌≡◌, ◌≤◌, ℕ, List, None, Some, MatchOption, IfOk, length};
 ghost use Rattle.std.specs.Option.{option_map};
@@ -11,19 +11,19 @@ use bit_planes::{Plane, PlaneRows};
 use lane_words::{MOST_MEMBERS, MOST_PARTITIONS, Memory};
 use std::alloc::Global;
 
-/// What a step is to do to the group's members.
+/// The change that a step makes to the members.
 #[derive(Clone, Copy)]
 pub enum Change {
-    /// One that is new joins under the next number.
+    /// A new member joins under the next number.
     Joins,
-    /// This one gives up what it is not to keep, and joins.
+    /// This member revokes what it is not assigned and rejoins.
     Rejoins(u32),
-    /// This one leaves.
+    /// This member leaves.
     Leaves(u32),
 }
 
 impl Change {
-    /// What a member of before is granted after the change, while it is present then.
+    /// What an old member is granted after the change, if it is present then.
     fn granted(self, member: u32, slot: &Slot) -> Option<&Plane>
         ensures { MatchOption result (seat_after self member slot.now.seat ≡ None)
             (λ plane. HasGranted self member slot.now.seat plane.now) }
@@ -36,7 +36,7 @@ impl Change {
         }
     }
 
-    /// Whether a member of before has joined after the change, while it is present then.
+    /// Whether an old member has joined after the change, if it is present then.
     fn joined(self, member: u32, slot: &Slot) -> Option<bool>
         ensures { result ≡ option_map (λ x. x.joined) (seat_after self member slot.now.seat) }
     {
@@ -49,7 +49,7 @@ impl Change {
     }
 }
 
-/// Whether after the change somebody is present, and all who are have joined.
+/// Whether the change leaves at least one member, and all have joined.
 pub fn is_ready_after(slots: &[Slot], change: Change) -> bool
     requires { length slots.now ≤ MOST_MEMBERS }
     ensures { (partitions : ℕ) (name : List ℕ)
@@ -67,7 +67,7 @@ pub fn is_ready_after(slots: &[Slot], change: Change) -> bool
     anybody
 }
 
-/// What each member that is present after the change is granted then.
+/// What each member is granted after the change.
 pub fn granted_rows(
     alloc: Global,
     partitions: u32,

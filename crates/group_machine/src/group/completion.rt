@@ -1,4 +1,4 @@
-//! The rows of a completion, and the seats that it leaves.
+//! Planning and applying a completion: the rows that it assigns, and the seats after it.
 
 ghost use Rattle.std.specs.Prelude.{◌≡◌, ◌≤◌, length, false, IfOk};
 ghost use Rattle.bit_planes.specs.PartitionSet.{partitions_of, union};
@@ -15,18 +15,18 @@ use lane_words::{MOST_MEMBERS, Memory};
 use std::alloc::Global;
 use sticky_assignor::assign;
 
-/// A completion that is planned: all that it needs is here before anything changes.
+/// A planned completion. It has all that it needs before anything changes.
 #[derive(Drop)]
 pub struct Completion {
-    /// What each member is to keep.
+    /// What each member is assigned.
     pub next: PlaneRows,
-    /// Who takes each partition.
+    /// The member that takes each partition.
     pub takers: Vec<Option<u32>>,
-    /// The moves that this makes.
+    /// The moves that it makes.
     pub moves: Vec<Move>,
 }
 
-/// What each member is to keep, by what each is granted: its sticky target, without what any other
+/// The rows to assign: the sticky target of what each member is granted, without what any other
 /// member is granted.
 pub fn next_rows(alloc: Global, granted: &PlaneRows) -> Result<PlaneRows, Memory>
     requires { AreGranted granted.now }
@@ -51,7 +51,7 @@ pub fn give(slots: &mut [Slot], next: &PlaneRows)
     }
 }
 
-/// A member's row, which is empty where it has none.
+/// A member's row, which is empty if it has none.
 fn row_for(next: &PlaneRows, member: u32) -> Plane
     ensures row { result ≡ set_of next.now member }
     ensures partitions { partitions_of result ≡ next.now.partitions }
@@ -62,7 +62,7 @@ fn row_for(next: &PlaneRows, member: u32) -> Plane
     }
 }
 
-/// A member keeps its row, and is granted it besides what it is granted.
+/// Assigns a row to a member and adds it to what it is granted.
 fn complete_seat(seat: &mut Seat, row: Plane)
     requires { partitions_of seat.old.granted ≡ partitions_of row }
     ensures { seat.new

@@ -1,4 +1,4 @@
-//! Readers over slots.
+//! Look-ups over slots.
 
 ghost use Rattle.std.specs.Prelude.{◌≡◌, ◌<◌, ◌≤◌, length, position, Some, None, IfSome, MatchOption};
 ghost use Rattle.std.specs.Iterator.{YieldsFirst, item_count};
@@ -10,12 +10,12 @@ use crate::Name;
 use lane_words::MOST_MEMBERS;
 use std::marker::Model;
 
-/// The numbers of the present members that are left, in rising order.
+/// An iterator over the present members, in rising order.
 #[derive(Drop)]
 pub struct Members<'a> {
     /// All slots.
     slots: &'a [Slot],
-    /// The slots before this one have been passed.
+    /// The slots before this index have been visited.
     index: usize,
 }
 
@@ -32,7 +32,7 @@ impl<'a> Model for Members<'a> {
 }
 
 impl<'a> Members<'a> {
-    /// All present members.
+    /// Starts at the lowest member.
     pub(crate) fn new(slots: &'a [Slot]) -> Members<'a>
         requires { length slots.now ≤ MOST_MEMBERS }
         ensures { result ≡ members_in slots.now }
@@ -61,7 +61,7 @@ impl<'a> Iterator for Members<'a> {
     }
 }
 
-/// The present member that is granted a partition.
+/// The present member that a partition is granted to.
 pub fn owner_of(slots: &[Slot], q: u32) -> Option<u32>
     requires { length slots.now ≤ MOST_MEMBERS }
     ensures { result ≡ owner_in slots.now q }
@@ -76,7 +76,7 @@ pub fn owner_of(slots: &[Slot], q: u32) -> Option<u32>
     None
 }
 
-/// The name of a member that was given a number, present or not.
+/// The name of a member number that was given out, present or not.
 pub fn name_of(slots: &[Slot], member: u32) -> Option<&Name>
     ensures { MatchOption result (name_at slots.now member ≡ None)
         (λ name. name_at slots.now member ≡ Some name.now) }
@@ -86,7 +86,7 @@ pub fn name_of(slots: &[Slot], member: u32) -> Option<&Name>
     Some(&slot.name)
 }
 
-/// The number that a name stands for: the newest that has it, present or not.
+/// The newest member number that has this name, present or not.
 pub fn number_named(slots: &[Slot], name: &Name) -> Option<u32>
     requires { length slots.now ≤ MOST_MEMBERS }
     ensures { result ≡ number_in slots.now name.now }
@@ -100,7 +100,7 @@ pub fn number_named(slots: &[Slot], name: &Name) -> Option<u32>
     number
 }
 
-/// The present member that keeps its place under a name.
+/// The present static member of this name.
 pub fn kept_member(slots: &[Slot], name: &Name) -> Option<u32>
     requires { length slots.now ≤ MOST_MEMBERS }
     ensures { result ≡ kept_in slots.now name.now }
@@ -109,7 +109,7 @@ pub fn kept_member(slots: &[Slot], name: &Name) -> Option<u32>
     Some(index as u32 + 1)
 }
 
-/// Where the slot of the present member stands that keeps its place under a name.
+/// The index of the slot of the present static member of this name.
 fn index_kept(slots: &[Slot], name: &Name) -> Option<usize>
     ensures value { result ≡ position (is_kept_as name.now) slots.now }
     ensures within { IfSome result (λ k. k < length slots.now) }

@@ -1,4 +1,4 @@
-//! Who takes which partition at a completion, and the moves that it makes.
+//! The moves of a completion: which member takes which partition.
 
 ghost use Rattle.std.specs.Prelude.{◌≡◌, ◌^◌, ◌+◌, ◌++◌, ◌<◌, ◌≤◌, ℕ, Some, None, true, length, slice_index_or, IfOk};
 ghost use Rattle.std.specs.Vec.{vec_len, vec_capacity};
@@ -13,8 +13,8 @@ use coop_rebalance::added;
 use lane_words::Memory;
 use std::alloc::Global;
 
-/// Who takes each partition, where members that are granted these rows are given the next ones: a
-/// member takes what is in its next row and was not granted to it.
+/// The member that takes each partition: the one that has it in its next row and is not granted it
+/// yet.
 pub fn takers_of(
     alloc: Global,
     granted: &PlaneRows,
@@ -34,7 +34,7 @@ pub fn takers_of(
     Ok(takers)
 }
 
-/// A member takes these partitions.
+/// Records a member as the taker of these partitions.
 fn take_added(takers: &mut [Option<u32>], member: u32, added: &Plane)
     requires { partitions_of added.now ≡ length takers.old }
     ensures taken { (q : ℕ) → q < length takers.old
@@ -46,7 +46,7 @@ fn take_added(takers: &mut [Option<u32>], member: u32, added: &Plane)
     }
 }
 
-/// One move for each partition that is taken, in rising order.
+/// A move for each partition that is taken, in rising order.
 pub fn moves_of(
     alloc: Global,
     generation: u32,
@@ -71,7 +71,7 @@ pub fn moves_of(
     Ok(moves)
 }
 
-/// Each taker is the last holder of what it takes.
+/// Makes each taker the last holder of its partition.
 pub fn hold(last: &mut [Option<u32>], takers: &[Option<u32>])
     requires { length takers.now ≡ length last.old }
     ensures { last.new ≡ last_by takers.now last.old }
@@ -83,7 +83,7 @@ pub fn hold(last: &mut [Option<u32>], takers: &[Option<u32>])
     }
 }
 
-/// A member is the last holder of these partitions.
+/// Makes a member the last holder of these partitions.
 pub fn take(last: &mut [Option<u32>], member: u32, granted: &Plane)
     requires { partitions_of granted.now ≡ length last.old }
     ensures { last.new ≡ held_by member granted.now last.old }
@@ -91,7 +91,7 @@ pub fn take(last: &mut [Option<u32>], member: u32, granted: &Plane)
     take_added(last, member, granted);
 }
 
-/// Puts moves after those so far, for which there is room.
+/// Appends moves, for which capacity is reserved.
 pub fn append(moves: &mut Vec<Move>, new: &[Move])
     requires { vec_len moves.old + length new.now ≤ vec_capacity moves.old }
     ensures { moves.new.items ≡ moves.old.items ++ new.now }

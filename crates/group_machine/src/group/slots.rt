@@ -1,4 +1,4 @@
-//! Members by their numbers: slot k is of member number k + 1.
+//! Steps on single seats. Slot k is member k + 1.
 
 ghost use Rattle.std.specs.Prelude.{◌≡◌, Some, None, MatchOption, true, is_some, ℕ};
 ghost use Rattle.std.specs.List.{list_any, list_all};
@@ -7,13 +7,13 @@ ghost use Rattle.std.specs.Str.{bytes_eq};
 ghost use Rattle.group_machine.specs.Slots.{is_anybody_in, seat_of, one_changed, without_seat};
 ghost use Rattle.group_machine.specs.Steps.{handed_seat, kept_seat, phase_left, rejoined_seat, synced_seat};
 ghost use Rattle.group_machine.specs.State.{is_kept_as};
-ghost use Rattle.group_machine.specs.Rounds.{agrees};
+ghost use Rattle.group_machine.specs.Settled.{agrees};
 ghost use Rattle.group_machine.specs.Private.Walks.{AreSeatsOver};
 
 use super::{Phase, Seat, Slot};
 use crate::Name;
 
-/// Whether some member has had this name.
+/// Whether a member, present or not, has this name.
 pub fn is_used(slots: &[Slot], name: &Name) -> bool
     ensures { result ≡ list_any (λ s. bytes_eq s.name name.now) slots.now }
 {
@@ -36,7 +36,7 @@ pub fn is_present(slots: &[Slot], member: u32) -> bool
     seat_of(slots, member).is_some()
 }
 
-/// A present member gives up what it is not to keep, and joins.
+/// A present member revokes what it is not assigned and rejoins.
 pub fn rejoin(slots: &mut [Slot], member: u32)
     requires { is_some (seat_of slots.old member) ≡ true }
     ensures { slots.new ≡ one_changed rejoined_seat slots.old member }
@@ -47,7 +47,7 @@ pub fn rejoin(slots: &mut [Slot], member: u32)
     }
 }
 
-/// A present member is taken out with its sets.
+/// Removes a present member's seat.
 pub fn remove(slots: &mut [Slot], member: u32)
     requires { is_some (seat_of slots.old member) ≡ true }
     ensures { slots.new ≡ without_seat slots.old member }
@@ -55,7 +55,7 @@ pub fn remove(slots: &mut [Slot], member: u32)
     slots[member as usize - 1].seat = None;
 }
 
-/// A present member has synced.
+/// Marks a present member as synced.
 pub fn mark_synced(slots: &mut [Slot], member: u32)
     requires { is_some (seat_of slots.old member) ≡ true }
     ensures { slots.new ≡ one_changed synced_seat slots.old member }
@@ -65,7 +65,7 @@ pub fn mark_synced(slots: &mut [Slot], member: u32)
     }
 }
 
-/// A present member keeps its place under its name.
+/// Makes a present member static.
 pub fn keep(slots: &mut [Slot], member: u32)
     requires { is_some (seat_of slots.old member) ≡ true }
     ensures { slots.new ≡ one_changed kept_seat slots.old member }
@@ -75,7 +75,7 @@ pub fn keep(slots: &mut [Slot], member: u32)
     }
 }
 
-/// A present member is taken out, and its place is for one that has not synced.
+/// Removes a present member's seat and returns it, unsynced, for its successor.
 pub fn hand_out(slots: &mut [Slot], member: u32) -> Option<Seat>
     requires { is_some (seat_of slots.old member) ≡ true }
     ensures seat { result ≡ option_map handed_seat (seat_of slots.old member) }
@@ -88,21 +88,21 @@ pub fn hand_out(slots: &mut [Slot], member: u32) -> Option<Seat>
     place
 }
 
-/// Whether a slot is of a present member that keeps its place under this name.
+/// Whether a slot is of a present static member of this name.
 pub fn is_kept_as(slot: &Slot, name: &Name) -> bool
     ensures { result ≡ is_kept_as name.now slot.now }
 {
     slot.name.text() == name.text() && slot.seat.as_ref().is_some_and(|seat| seat.kept)
 }
 
-/// Whether somebody is present.
+/// Whether any member is present.
 pub fn is_anybody(slots: &[Slot]) -> bool
     ensures { result ≡ is_anybody_in slots.now }
 {
     slots.iter().any(|slot| slot.seat.is_some())
 }
 
-/// The phase of a group that a member has left.
+/// The phase of a group after a member has left.
 pub fn phase_left(slots: &[Slot]) -> Phase
     ensures { result ≡ phase_left slots.now }
 {
@@ -113,7 +113,7 @@ pub fn phase_left(slots: &[Slot]) -> Phase
     }
 }
 
-/// Whether nobody has anything to give up.
+/// Whether no member has anything to revoke.
 pub fn all_agree(slots: &[Slot]) -> bool
     requires { (partitions : ℕ) × AreSeatsOver partitions slots.now }
     ensures { result ≡ list_all (λ s. option_map_or agrees s.seat true) slots.now }

@@ -6,7 +6,7 @@ use Rattle.group_machine.specs.State.{GroupState}
 use Rattle.group_machine.specs.Steps.{join_answer, leave_answer}
 use Rattle.script.specs.declared.plan.Change.{Change}
 use Rattle.script.specs.declared.plan.Change.TheVariants.{Join, Leave, Lose}
-use Rattle.group_machine.specs.Rounds.{is_settled}
+use Rattle.group_machine.specs.Settled.{is_settled}
 use Rattle.commit_store.specs.Commits.{AreEndsCommitted}
 use Rattle.workers.specs.Plans.{number_of}
 use Rattle.workers.specs.Progress.{Progress}

@@ -4,7 +4,8 @@ ghost use Rattle.std.specs.Prelude.{◌≡◌, ◌≢◌, ◌≤◌, ◌<◌, Er
 ghost use Rattle.lane_words.specs.declared.Refusal.TheVariants as refusal;
 ghost use Rattle.bit_planes.specs.PartitionSet.{elements};
 ghost use Rattle.commit_store.specs.Commits.{AreEndsCommitted};
-ghost use Rattle.group_machine.specs.Rounds.{bare, finish, is_settled};
+ghost use Rattle.group_laws.specs.Rounds.{bare, finish};
+ghost use Rattle.group_machine.specs.Settled.{is_settled};
 ghost use Rattle.world.specs.Courses.{Follows, for_each};
 ghost use Rattle.world.specs.Draining.{drain_log, drain_member, drain_members, draining, held_by, is_read_up, read_on};
 ghost use Rattle.world.specs.Valid.{IsValidWorld};

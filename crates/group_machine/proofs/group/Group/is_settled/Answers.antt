@@ -2,7 +2,7 @@ use Rattle.std.proofs.Common.{true, ◌∙◌, ◌&&◌, List, ap, sym, subst}
 use Rattle.std.specs.List.{list_all}
 use Rattle.std.specs.Option.{option_map_or}
 use Rattle.group_machine.specs.declared.group.Slot.{Slot}
-use Rattle.group_machine.specs.Rounds.{agrees, all_agree}
+use Rattle.group_machine.specs.Settled.{agrees, all_agree}
 use Rattle.group_machine.specs.Private.Walks.{AreSeatsOver}
 use Rattle.group_machine.specs.Private.GroupView.{group_view}
 use Rattle.group_machine.proofs.TableLemmas.{seats_over, all_present}

@@ -8,8 +8,8 @@ use Rattle.group_machine.specs.Steps.{kept_seat, join_answer, joined_by}
 use Rattle.group_machine.specs.Good.{IsValidGroup}
 use Rattle.group_machine.specs.Private.GroupView.{group_view}
 use Rattle.group_machine.proofs.PresentLemmas.{length_reseated}
-use Rattle.group_machine.proofs.EndLemmas.{joined_newcomer}
-use Rattle.group_machine.proofs.OtherLemmas.{accepted_join}
+use Rattle.group_machine.proofs.JoinLemmas.{joined_newcomer}
+use Rattle.group_machine.proofs.JoinLemmas.{accepted_join}
 use Rattle.group_machine.proofs.StepLemmas.{keep_good, with_slots}
 use Rattle.group_machine.proofs.group.Group.join_kept.Goals as goal
 

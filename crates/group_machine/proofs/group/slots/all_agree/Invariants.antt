@@ -1,7 +1,7 @@
 use Rattle.std.proofs.Common.{true, ◌≡◌, drop}
 use Rattle.std.specs.List.{list_all}
 use Rattle.std.specs.Option.{option_map_or}
-use Rattle.group_machine.specs.Rounds.{agrees}
+use Rattle.group_machine.specs.Settled.{agrees}
 use Rattle.group_machine.proofs.group.slots.all_agree.Given as goal
 
 abbrev pub invariant-loop-slot : goal.invariant-loop-slot

@@ -3,7 +3,8 @@ use Rattle.commit_store.specs.Commits.{AreEndsCommitted}
 use Rattle.world.specs.Draining.{drain_members}
 use Rattle.world.specs.Settling.{settling}
 use Rattle.world.proofs.Following.{chain_on, chain_stops, drain_members_course, draining_is, settling_course}
-use Rattle.group_machine.specs.Rounds.{bare, finish, is_settled}
+use Rattle.group_laws.specs.Rounds.{bare, finish}
+use Rattle.group_machine.specs.Settled.{is_settled}
 use Rattle.world.proofs.Answered.{drain_members_never}
 use Rattle.world.proofs.Drained.{drained_committed}
 use Rattle.world.proofs.Kept.{drained_leaves, valid_following}

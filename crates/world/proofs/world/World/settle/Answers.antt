@@ -1,7 +1,7 @@
 use Rattle.std.proofs.Common.{rules, ◌≡◌, ◌∙◌, true, inl, inr}
 use Rattle.group_machine.specs.declared.group.Phase.TheVariants as phase
-use Rattle.group_machine.specs.Passes.{is_calm}
-use Rattle.group_machine.specs.Rounds.{bare, finish}
+use Rattle.group_laws.specs.Passes.{is_calm}
+use Rattle.group_laws.specs.Rounds.{bare, finish}
 use Rattle.world.proofs.Following.{nobody_settles, passes_course, somebody_settles}
 use Rattle.world.proofs.Settled.{never_unsettled, on_ok, settled_by, settling_never, somebody}
 use Rattle.world.proofs.Kept.{valid_following}

@@ -1,0 +1,12 @@
+pub mod AssignedLemmas
+pub mod CalmLemmas
+pub mod EndLemmas
+pub mod FinishLemmas
+pub mod HandedEnd
+pub mod NameLemmas
+pub mod NearLemmas
+pub mod OtherLemmas
+pub mod PassLemmas
+pub mod SlotsLemmas
+pub mod StepLemmas
+pub mod TakeOverLemmas

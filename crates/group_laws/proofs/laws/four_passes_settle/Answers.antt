@@ -1,0 +1,5 @@
+use Rattle.group_laws.proofs.CalmLemmas.{four_passes}
+use Rattle.group_laws.proofs.laws.four_passes_settle.Goals as goal
+
+pub returns : goal.returns
+returns c = four_passes

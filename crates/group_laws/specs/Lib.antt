@@ -1,0 +1,4 @@
+pub mod Names
+pub mod Others
+pub mod Passes
+pub mod Rounds

@@ -1,0 +1,40 @@
+-- Passes: each present member takes one turn, in rising order.
+use Rattle.std.specs.Prelude.{ℕ, Bool, ◌&&◌, ◌||◌, not, List, [], ◌∷◌, if◌then◌else◌}
+use Rattle.std.specs.List.{list_all}
+use Rattle.bit_planes.specs.PartitionSet.{is_same}
+use Rattle.group_machine.specs.State.{GroupState, members, is_joined, is_synced, granted_of, assigned_of}
+use Rattle.group_machine.specs.Settled.{is_stable, is_settled}
+use Rattle.group_machine.specs.Steps.{rejoined_by, synced_by}
+
+-- a member has to rejoin if it has not joined, and has something to revoke or a rebalance is
+-- pending
+abbrev pub has_to_rejoin : GroupState → ℕ → Bool
+has_to_rejoin g member =
+    not (is_joined g member)
+    && (not (is_stable g.phase) || not (is_same (granted_of g member) (assigned_of g member)))
+
+-- the group is settled, and all members have synced
+abbrev pub is_calm : GroupState → Bool
+is_calm g = is_settled g && list_all (is_synced g) (members g)
+
+-- a member syncs if it has neither joined nor synced
+unfoldable pub synced_if_new : GroupState → ℕ → GroupState
+synced_if_new g member =
+    if is_joined g member || is_synced g member then g else synced_by g member
+
+-- a member rejoins if it has to
+unfoldable pub rejoined_if_due : GroupState → ℕ → GroupState
+rejoined_if_due g member = if has_to_rejoin g member then rejoined_by g member else g
+
+-- a member's turn: it syncs if it is new, and rejoins if it then has to
+abbrev pub turned : GroupState → ℕ → GroupState
+turned g member = rejoined_if_due (synced_if_new g member) member
+
+-- the turns of these members, one after the other
+abbrev pub turned_each : GroupState → List ℕ → GroupState
+turned_each g [] = g
+turned_each g (member ∷ rest) = turned_each (turned g member) rest
+
+-- one pass: the turns of all present members, in rising order
+unfoldable pub passed : GroupState → GroupState
+passed g = turned_each g (members g)

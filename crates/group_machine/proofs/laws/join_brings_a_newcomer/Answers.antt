@@ -1,5 +1,0 @@
-use Rattle.group_machine.proofs.OtherLemmas.{join_brings}
-use Rattle.group_machine.proofs.laws.join_brings_a_newcomer.Goals as goal
-
-pub returns : goal.returns
-returns c = join_brings

@@ -1,5 +1,0 @@
-use Rattle.group_machine.proofs.OtherLemmas.{join_leaves}
-use Rattle.group_machine.proofs.laws.join_leaves_others.Goals as goal
-
-pub returns : goal.returns
-returns c = join_leaves

@@ -1,5 +1,0 @@
-use Rattle.group_machine.proofs.FinishLemmas.{rejoin_finish}
-use Rattle.group_machine.proofs.laws.rejoin_keeps_the_end.Goals as goal
-
-pub returns : goal.returns
-returns c g member generation claim a = rejoin_finish g member generation claim a.valid a.accepted

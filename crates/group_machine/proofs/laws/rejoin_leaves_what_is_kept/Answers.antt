@@ -1,5 +1,0 @@
-use Rattle.group_machine.proofs.OtherLemmas.{rejoin_keeps}
-use Rattle.group_machine.proofs.laws.rejoin_leaves_what_is_kept.Goals as goal
-
-pub returns : goal.returns
-returns c g member generation claim a = rejoin_keeps g member generation claim a.valid a.accepted

@@ -1,6 +1,0 @@
-use Rattle.group_machine.proofs.GroupLemmas.{has_partitions}
-use Rattle.group_machine.proofs.FinishLemmas.{two_rounds}
-use Rattle.group_machine.proofs.laws.two_rounds_settle.Goals as goal
-
-pub returns : goal.returns
-returns c g sound any = two_rounds g (has_partitions g sound.sized) any sound.fit sound.apart
