@@ -8,7 +8,7 @@ mod laws;
 mod lease;
 mod name;
 
-pub use cluster::Cluster;
+pub use cluster::{Cluster, NextStep};
 pub use commit::Commit;
 pub use group::{Members, Move, Phase};
 pub use laws::{

@@ -1,4 +1,4 @@
--- Courses are made of their events, and calls follow them one after another.
+-- Courses consist of their events, and calls follow them one after the other.
 use Rattle.std.proofs.Common.{◌≡◌, ◌⊎◌, ◌∙◌, ℕ, zero, suc, Bool, true, false, ◌||◌, List, [], ◌∷◌, ◌++◌, Result, Ok, Err, append_assoc, cond, length, refl, sym, ap, subst, inl, inr}
 use Rattle.lane_words.specs.declared.Refusal.{Refusal}
 use Rattle.lane_words.specs.declared.Refusal.TheVariants as r
@@ -16,7 +16,7 @@ use Rattle.world.specs.Settling.{commit_pending, flush, forgiven, is_pending, pa
 use Rattle.world.specs.Steps.{Comes, Step, refused}
 use Rattle.world.specs.World.{WorldState}
 
--- ---- courses are made of their events
+-- ---- courses consist of their events
 abbrev pub IsCourse : WorldState → Course → Type 0
 IsCourse w c = c.after ≡ after_all w c.events
 
@@ -128,7 +128,7 @@ attempted w e told w2 s =
     ]
 
 -- ---- one course and then another
--- whoever follows the one from here on follows the other from where it began
+-- a call that follows the one from here on follows the other from its start
 abbrev pub Continues : WorldState → Course → WorldState → Course → Type 0
 Continues w c mid rest = (result : Result (Unit {0}) Refusal) (w2 : WorldState) → Follows mid rest result w2 → Follows w c result w2
 
