@@ -1,4 +1,4 @@
-//! Records that are appended to logs, and keys that are placed.
+//! Stories of appends to logs, and of keys and their partitions.
 
 use crate::stage::Stage;
 use crate::state;
@@ -10,11 +10,11 @@ use std::io::Write;
 use std::random::RandomSource;
 use std::thread::Threads;
 
-/// How many keys two pieces of work have, and a few more.
+/// The number of keys in two chunks of work, and a few more.
 const MANY: usize = 5_000;
 
-/// New keys and known ones, one of them too long for a place in the table of keys itself, and so
-/// often the same that its log has to grow again.
+/// New keys and interned ones. One key is too long to be stored in the key table itself, and one is
+/// appended so often that its log grows again.
 const KEYS: [&str; 15] = [
     "21",
     "4",
@@ -33,14 +33,14 @@ const KEYS: [&str; 15] = [
     "21",
 ];
 
-/// Appends records one by one, and tells the logs that come of it.
+/// Appends records one by one, and prints the logs.
 pub fn tell_appends<R: RandomSource, W: Write>(rt: &R, stage: &mut Stage<W>) -> Result<()> {
     let mut logs = Logs::new(rt, stage.alloc, 4)?;
     tell_appends_to(stage, &mut logs);
     Ok(())
 }
 
-/// Appends records to logs that are new.
+/// Appends records to new logs.
 fn tell_appends_to<W: Write>(stage: &mut Stage<W>, logs: &mut Logs) {
     for key in &KEYS {
         stage.call(
@@ -52,7 +52,7 @@ fn tell_appends_to<W: Write>(stage: &mut Stage<W>, logs: &mut Logs) {
     state::tell_logs(stage, logs);
 }
 
-/// Places keys of two lengths.
+/// Finds the partitions of keys of two lengths.
 pub fn tell_places<R: Threads + Sync, W: Write>(rt: &R, stage: &mut Stage<W>) -> Result<()> {
     let keys: [&[u8]; 10] = [
         b"21", b"34", b"21", b"34", b"", b"21", b"34", b"21", b"34", b"21",
@@ -61,7 +61,7 @@ pub fn tell_places<R: Threads + Sync, W: Write>(rt: &R, stage: &mut Stage<W>) ->
     Ok(())
 }
 
-/// Places the numbers from 0 on, which are more keys than one piece of work has.
+/// Finds the partitions of the numbers from 0 on, more keys than one chunk of work has.
 pub fn tell_pieces<R: Threads + Sync, W: Write>(rt: &R, stage: &mut Stage<W>) -> Result<()> {
     let alloc = stage.alloc;
     let texts = numbers(alloc)?;
@@ -88,7 +88,7 @@ fn keys_of<'a>(alloc: Global, texts: &'a [String]) -> Result<Vec<&'a [u8]>> {
     Ok(keys)
 }
 
-/// Places keys among four partitions.
+/// Finds the partitions of keys, among four.
 fn tell_placed<R: Threads + Sync, W: Write>(rt: &R, stage: &mut Stage<W>, keys: &[&[u8]]) {
     let mut alloc = stage.alloc;
     let partitions = Partitions::new(4);

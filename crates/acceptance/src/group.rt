@@ -1,4 +1,4 @@
-//! Calls on a cluster.
+//! Stories of calls on a cluster.
 
 use crate::stage::Stage;
 use crate::state;
@@ -12,10 +12,10 @@ use std::io::Write;
 use std::random::RandomSource;
 use world::Reply;
 
-/// How many partitions there are.
+/// The number of partitions.
 const PARTITIONS: u32 = 4;
 
-/// A call on a cluster. What is replied to it is what a world would reply.
+/// A call on a cluster. Its reply is the one of a world.
 #[derive(Clone, Copy, Debug)]
 pub enum Call<'a> {
     Append(&'a str),
@@ -23,15 +23,15 @@ pub enum Call<'a> {
     JoinKept(&'a str),
     TakeOver(&'a str),
     Sync(u32),
-    /// A member, a generation, and what is claimed.
+    /// A member, a generation, and the claim.
     Rejoin(u32, u32, &'a [u32]),
     Leave(u32),
     Lose(u32),
-    /// A member, a generation, a partition, an offset, and the key numbers from there on.
+    /// A member, a generation, a partition, an offset, and the key ids from there on.
     Commit(u32, u32, u32, u32, &'a [u32]),
 }
 
-/// Members who are out of date or lost, and commits and claims that nobody may make.
+/// Members that are out of date or lost, and commits and claims that are not theirs.
 pub const ZOMBIES: [Call; 15] = [
     Call::Append("21"),
     Call::Append("21"),
@@ -50,8 +50,8 @@ pub const ZOMBIES: [Call; 15] = [
     Call::Commit(2, 2, 0, 0, &[0, 0]),
 ];
 
-/// Two members who share partitions in two rounds, a third who is left with all of them, and one
-/// whose place another takes over.
+/// Two members share partitions in two rounds, a third is left with all of them, and a fourth takes
+/// over its seat.
 pub const TWO_ROUNDS: [Call; 17] = [
     Call::Append("abc"),
     Call::Join("A"),
@@ -72,13 +72,13 @@ pub const TWO_ROUNDS: [Call; 17] = [
     Call::TakeOver("D"),
 ];
 
-/// Makes the calls, and tells the cluster that comes of them.
+/// Makes the calls, and prints the cluster.
 pub fn tell<R: RandomSource, W: Write>(rt: &R, stage: &mut Stage<W>, calls: &[Call]) -> Result<()> {
     let mut cluster = Cluster::new(rt, stage.alloc, PARTITIONS)?;
     tell_in(stage, &mut cluster, calls)
 }
 
-/// Makes the calls in a cluster that is new.
+/// Makes the calls on a new cluster.
 fn tell_in<W: Write>(stage: &mut Stage<W>, cluster: &mut Cluster, calls: &[Call]) -> Result<()> {
     for call in calls {
         tell_call(stage, cluster, *call)?;
@@ -87,7 +87,7 @@ fn tell_in<W: Write>(stage: &mut Stage<W>, cluster: &mut Cluster, calls: &[Call]
     Ok(())
 }
 
-/// Makes one call. What a commit hands over is made before.
+/// Makes one call. The partial counts of a commit are made before it.
 fn tell_call<W: Write>(stage: &mut Stage<W>, cluster: &mut Cluster, call: Call) -> Result<()> {
     let commit = &commit_of(stage.alloc, call)?;
     stage.call(format_args!("{call:?}"), cluster, |cluster| match commit {
@@ -97,7 +97,7 @@ fn tell_call<W: Write>(stage: &mut Stage<W>, cluster: &mut Cluster, call: Call) 
     Ok(())
 }
 
-/// What a call commits, if it is a commit.
+/// The partial counts that a call commits, if it is a commit.
 fn commit_of(alloc: Global, call: Call) -> Result<Option<Commit>> {
     let Call::Commit(member, generation, partition, from, ids) = call else {
         return Ok(None);
@@ -106,17 +106,17 @@ fn commit_of(alloc: Global, call: Call) -> Result<Option<Commit>> {
     Ok(Some(Commit::new(member, generation, partition, from, partial)))
 }
 
-/// Gives a commit to the cluster.
+/// Commits to the cluster.
 fn committed(cluster: &mut Cluster, commit: &Commit) -> Result<Reply, Refusal> {
     Ok(Reply::Committed(cluster.commit(commit)?))
 }
 
-/// Key numbers with their counts.
+/// Key ids with their counts.
 fn partial_of(alloc: Global, ids: &[u32]) -> Result<Partial> {
     Ok(Partial::of(alloc, Vec::from_slice(alloc, ids)?)?)
 }
 
-/// Makes a call other than a commit.
+/// Makes a call that is not a commit.
 fn replied(cluster: &mut Cluster, call: Call) -> Result<Reply, Refusal> {
     match call {
         Call::Append(key) => {
@@ -136,7 +136,7 @@ fn replied(cluster: &mut Cluster, call: Call) -> Result<Reply, Refusal> {
     }
 }
 
-/// The name of this text. A text that is none is told as a line that is none would be.
+/// The name of this text. A text that is no name is refused like a bad line.
 pub fn name(text: &str) -> Result<Name, Refusal> {
     Name::new(text.as_bytes()).ok_or(Refusal::BadLine { line: 1 })
 }

@@ -1,10 +1,12 @@
-//! `acceptance`: tells stories of calls that take memory, a call at a time, so that each growth of
-//! each call can be refused.
+//! Makes calls that take memory, one at a time, so that each allocation of each call can be made to
+//! fail from outside (fault injection).
 //!
-//! Its word names a story. Each call is written as a line that begins with `>`, and is made between
-//! that line and one of `<` alone: who refuses growths between the two refuses those of the call.
-//! Its answer is told in a line. Where that would be want of memory, a line `refused` is told
-//! instead, and the call is made again. The state that all came to is told last.
+//! The argument names a story, which is a list of calls. For each call the program prints a line
+//! that begins with `>`, makes the call, and prints `<`: an allocation between these two lines is
+//! the call's. Then it prints the answer. If that is `Memory`, it prints `refused` instead, and
+//! makes the call again. At the end of the story it prints the state.
+//!
+//! It promises nothing itself. The lines of each story are compared with a model of the rules.
 #![tactic(auto)]
 
 mod appends;
@@ -23,7 +25,7 @@ use std::io::Write;
 use std::random::RandomSource;
 use std::thread::Threads;
 
-/// Tells the story of this name.
+/// Plays the story of this name.
 fn tell<R: RandomSource + Threads + Sync, W: Write>(
     rt: &R,
     stage: &mut Stage<W>,
@@ -53,7 +55,7 @@ fn main(rt: HostRuntime) -> Result<()> {
         bail!("a story is to be named");
     };
     let told = tell(&rt, &mut stage, story.as_str());
-    // A line that could not be told came before what else ended the story.
+    // A line that could not be printed comes before any other failure of the story.
     stage.end()?;
     told
 }

@@ -1,4 +1,4 @@
-//! Consumers that are made, and that send.
+//! Stories of consumers: a new one, and one that sends.
 
 use crate::schedule::{self, Call, Story};
 use crate::stage::Stage;
@@ -25,7 +25,7 @@ impl fmt::Debug for CommitSent {
     }
 }
 
-/// A member that has read two records.
+/// The events before: a member reads two records.
 pub const BEFORE: [Call; 5] = [
     Call::Append("21"),
     Call::Append("21"),
@@ -34,7 +34,7 @@ pub const BEFORE: [Call; 5] = [
     Call::Poll(1, 0, 2),
 ];
 
-/// Makes a consumer, and lets that of a world send what it has read.
+/// Makes a consumer, and lets the consumer of a world send what it has read.
 pub fn tell<R: RandomSource + Threads + Sync, W: Write>(
     rt: &R,
     stage: &mut Stage<W>,
@@ -44,7 +44,7 @@ pub fn tell<R: RandomSource + Threads + Sync, W: Write>(
     schedule::tell(rt, stage, Story::Send)
 }
 
-/// How many partitions a new consumer has.
+/// The number of partitions of a new consumer.
 fn made(alloc: Global) -> Result<u32, Refusal> {
     Ok(Consumer::new(alloc, 4)?.partitions())
 }
@@ -54,7 +54,7 @@ pub fn tell_sent<W: Write>(stage: &mut Stage<W>, world: &mut World) {
     stage.call("send", world, |world| sent(world));
 }
 
-/// The commit of what member 1 has read of partition 0.
+/// The commit of the records of partition 0 that member 1 has read.
 fn sent(world: &World) -> Result<CommitSent, Refusal> {
     let Some(consumer) = world.consumer(1) else {
         return Err(Refusal::UnknownMember);

@@ -1,4 +1,4 @@
-//! Calls on a world.
+//! Stories of calls on a world.
 
 ghost use Rattle.std.specs.Prelude.{◌<◌, ◌≡◌, true};
 ghost use Rattle.partitioner.specs.Place.{AreTopics};
@@ -14,7 +14,7 @@ use std::random::RandomSource;
 use std::thread::Threads;
 use world::{Event, Reply, World};
 
-/// An event, by the text of its name or key.
+/// An event, with the text of its name or key.
 #[derive(Clone, Copy, Debug)]
 pub enum Call<'a> {
     Append(&'a str),
@@ -25,7 +25,7 @@ pub enum Call<'a> {
     Rejoin(u32),
     Leave(u32),
     Lose(u32),
-    /// A member, a partition, and at most how many records.
+    /// A member, a partition, and the most records to read.
     Poll(u32, u32, u32),
     /// A member and a partition.
     Send(u32, u32),
@@ -33,7 +33,7 @@ pub enum Call<'a> {
     DeliverUnanswered(u32),
 }
 
-/// Each event at least once; the joins, rejoins, losses and leaves with their completions.
+/// Each event at least once: joins, rejoins, losses and leaves with their completions.
 const STEPS: [Call; 27] = [
     Call::Append("21"),
     Call::Append("21"),
@@ -64,10 +64,10 @@ const STEPS: [Call; 27] = [
     Call::TakeOver("E"),
 ];
 
-/// Five records of four keys, each of which has a place of its own among four partitions.
+/// Five records of four keys, each of which has a partition of its own among four.
 const FIVE: [&[u8]; 5] = [b"21", b"4", b"foobar", b"abc", b"21"];
 
-/// Their topics, where there are two.
+/// The topics of the records, if there are two topics.
 const TOPICS: [u8; 5] = [0, 1, 1, 0, 1];
 
 /// One record is read.
@@ -80,7 +80,7 @@ const READ: Event = Event::Poll {
 /// Events that take no memory themselves.
 const RUN: [Event; 4] = [READ, Event::Deliver(1), READ, Event::Deliver(1)];
 
-/// A member who has read of two partitions, and another who joins.
+/// A member that has read of two partitions, and another one that joins.
 const TWO_MEMBERS: [Call; 5] = [
     Call::Join("A"),
     Call::Sync(1),
@@ -96,19 +96,19 @@ pub enum Story {
     Steps,
     /// A run of events that take no memory themselves.
     Run,
-    /// A load, of which what is left is loaded where it was refused.
+    /// A load. After a refusal, the records that are left are loaded.
     Load,
-    /// The same, of records of two topics.
+    /// A load of records of two topics.
     LoadIn,
-    /// A settling, with a commit of what the first member gives up.
+    /// Settles, with a commit of what the first member gives up.
     Settle,
-    /// A draining to the ends of all logs.
+    /// Drains all logs to their ends.
     Drain,
-    /// A sending of what a member has read.
+    /// Sends what a member has read.
     Send,
 }
 
-/// Tells a story of a world, and the world that comes of it.
+/// Prints a story of a world, and the world at its end.
 pub fn tell<R: RandomSource + Threads + Sync, W: Write>(
     rt: &R,
     stage: &mut Stage<W>,
@@ -118,7 +118,7 @@ pub fn tell<R: RandomSource + Threads + Sync, W: Write>(
     tell_in(rt, stage, &mut world, story)
 }
 
-/// The world in which a story begins.
+/// The world at the start of a story.
 fn new_world<R: RandomSource>(rt: &R, alloc: Global, story: Story) -> Result<World, Memory> {
     match story {
         Story::LoadIn => World::with_topics(rt, alloc, &[2, 3]),
@@ -126,8 +126,8 @@ fn new_world<R: RandomSource>(rt: &R, alloc: Global, story: Story) -> Result<Wor
     }
 }
 
-/// Tells a story in a world that is new. It is not the world's owner: each `?` of an owner is
-/// proved with all that lets the world go.
+/// Prints a story of a new world. It does not own the world: each `?` of an owner is proved
+/// together with the code that drops the world.
 fn tell_in<R: Threads + Sync, W: Write>(
     rt: &R,
     stage: &mut Stage<W>,
@@ -148,7 +148,7 @@ fn tell_in<R: Threads + Sync, W: Write>(
     Ok(())
 }
 
-/// Makes a new world the one in which a story's calls are made.
+/// Makes the events before the calls of a story.
 fn make_ready<R: Threads + Sync>(rt: &R, world: &mut World, story: Story) -> Result<(), Refusal> {
     match story {
         Story::Steps | Story::Load | Story::LoadIn => Ok(()),
@@ -172,19 +172,19 @@ fn tell_steps<W: Write>(stage: &mut Stage<W>, world: &mut World) {
     }
 }
 
-/// Loads records, those that are left again where the load was refused.
+/// Loads records; after a refusal, the records that are left.
 fn tell_load<R: Threads + Sync, W: Write>(rt: &R, stage: &mut Stage<W>, world: &mut World) {
     let mut done = 0;
     stage.call("load", world, |world| load_left(rt, world, &mut done));
 }
 
-/// The same, of records of two topics.
+/// The same, with records of two topics.
 fn tell_load_in<R: Threads + Sync, W: Write>(rt: &R, stage: &mut Stage<W>, world: &mut World) {
     let mut done = 0;
     stage.call("load_in", world, |world| load_left_in(rt, world, &mut done));
 }
 
-/// Loads the records that are not loaded yet, and counts those that then are.
+/// Loads the records that are not loaded yet, and counts all that are loaded then.
 fn load_left<R: Threads + Sync>(
     rt: &R,
     world: &mut World,
@@ -200,7 +200,7 @@ fn load_left<R: Threads + Sync>(
     }
 }
 
-/// The same, of records in their topics.
+/// The same, with records in their topics.
 fn load_left_in<R: Threads + Sync>(
     rt: &R,
     world: &mut World,
@@ -216,7 +216,7 @@ fn load_left_in<R: Threads + Sync>(
     }
 }
 
-/// Makes a new world one of five records, a member who has read two of them, and another who has
+/// Makes a world of five records, a member that has read two of them, and another one that has
 /// joined.
 fn share<R: Threads + Sync>(rt: &R, world: &mut World) -> Result<(), Refusal> {
     if let Err((_, why)) = load(rt, world, &FIVE) {
@@ -233,8 +233,8 @@ pub fn all_replied(world: &mut World, calls: &[Call]) -> Result<(), Refusal> {
     Ok(())
 }
 
-// The calls of a world, without what their contracts say: several calls one after the other would
-// else be proved over what all of them say.
+// The calls of a world, without their contracts: a function of several calls would otherwise be
+// proved over all that these say.
 
 fn step(world: &mut World, event: Event) -> Reply {
     world.step(event)
@@ -264,7 +264,7 @@ fn load_in<R: Threads + Sync>(
     world.load_in(rt, topics, keys)
 }
 
-/// Whether there is one of so many topics for each of so many keys.
+/// Whether there is a topic below `count` for each of `keys` keys.
 fn are_topics(count: usize, keys: usize, topics: &[u8]) -> bool
     ensures { result ≡ true → AreTopics count keys topics.now }
 {
@@ -281,7 +281,7 @@ fn drain(world: &mut World, batch: u32) -> Result<(), Refusal>
     world.drain(batch)
 }
 
-/// What an event is replied, or why it is refused.
+/// The reply to an event, or why it is refused.
 pub fn replied(world: &mut World, call: Call) -> Result<Reply, Refusal> {
     let reply = match call {
         Call::Append(key) => step(world, Event::Append(key.as_bytes())),

@@ -1,4 +1,4 @@
-//! What members are to own, and what is withheld from them.
+//! Stories of assignments, and of what is withheld of them.
 
 ghost use Rattle.std.specs.Prelude.{◌≡◌, IfOk};
 ghost use Rattle.bit_planes.specs.PartitionSet.{partitions_of};
@@ -18,10 +18,10 @@ use std::fmt;
 use std::io::Write;
 use sticky_assignor::assign;
 
-/// How many partitions there are.
+/// The number of partitions.
 const PARTITIONS: u32 = 5;
 
-/// Rows, told by their members and elements.
+/// Rows, printed as members and elements.
 #[derive(Drop)]
 struct Rows(PlaneRows);
 
@@ -50,7 +50,7 @@ fn rows_of(alloc: Global, first: Plane, second: Plane, third: Plane) -> Result<P
     Ok(rows)
 }
 
-/// Rows of which the first member has all.
+/// Rows in which the first member has all partitions.
 fn all_of_the_first(alloc: Global) -> Result<PlaneRows, Memory>
     ensures partitions { IfOk result (λ rows. rows.partitions ≡ PARTITIONS) }
     ensures rows { IfOk result (λ rows. HaveRows rows three_members) }
@@ -64,13 +64,13 @@ fn all_of_the_first(alloc: Global) -> Result<PlaneRows, Memory>
     )
 }
 
-/// What the members are to own where the first has all.
+/// The assignment, if the first member has all partitions.
 fn assigned(alloc: Global) -> Result<Rows, Refusal> {
     let owned = all_of_the_first(alloc)?;
     Ok(Rows(assign(alloc, PARTITIONS, &[1, 2, 3], &owned)?))
 }
 
-/// What they may have of it at once.
+/// The part of an assignment that is not withheld.
 fn withheld(alloc: Global) -> Result<Rows, Refusal> {
     let granted = all_of_the_first(alloc)?;
     let target = rows_of(
@@ -82,7 +82,7 @@ fn withheld(alloc: Global) -> Result<Rows, Refusal> {
     Ok(Rows(withhold(alloc, &target, &granted)?))
 }
 
-/// Assigns partitions, and withholds what the first member is to give up.
+/// Assigns partitions, and withholds those that the first member has to give up.
 pub fn tell<W: Write>(stage: &mut Stage<W>) -> Result<()> {
     let mut alloc = stage.alloc;
     stage.call("assign", &mut alloc, |alloc| assigned(*alloc));

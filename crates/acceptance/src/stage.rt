@@ -1,4 +1,4 @@
-//! Where stories are told.
+//! The output of stories.
 
 use anyhow::Result;
 use lane_words::Refusal;
@@ -6,7 +6,7 @@ use std::alloc::Global;
 use std::fmt::{Debug, Display};
 use std::io::Write;
 
-/// Where a story is told, a line at a time. After a line that could not be told, no more are.
+/// Prints a story line by line. After a line that could not be printed, no more are.
 #[derive(Drop)]
 pub struct Stage<W> {
     pub alloc: Global,
@@ -15,7 +15,7 @@ pub struct Stage<W> {
 }
 
 impl<W: Write> Stage<W> {
-    /// A stage on which nothing was told.
+    /// A stage that has printed nothing.
     pub fn new(alloc: Global, out: W) -> Stage<W> {
         Stage {
             alloc,
@@ -24,7 +24,7 @@ impl<W: Write> Stage<W> {
         }
     }
 
-    /// Whether all lines were told, or why the first that was not could not be.
+    /// Whether all lines were printed, or why the first one was not.
     pub fn end(self) -> Result<()>
     where
         W: Drop,
@@ -32,15 +32,15 @@ impl<W: Write> Stage<W> {
         self.told
     }
 
-    /// Tells one line, by one write where the writer takes it whole.
+    /// Prints one line, by one write if the writer takes the line whole.
     pub fn tell<D: Display + Drop>(&mut self, line: D) {
         if self.told.is_ok() {
             self.told = self.write(line);
         }
     }
 
-    /// Makes a call on what it is lent between two marks, and tells its answer. Where it is refused
-    /// for want of memory, that is told, and it is made again.
+    /// Makes a call between two marks, and prints its answer. If it fails with `Memory`, prints
+    /// that, and makes the call again.
     pub fn call<D, S, T, F>(&mut self, call: D, on: &mut S, mut make: F)
     where
         D: Display + Drop,
@@ -61,7 +61,7 @@ impl<W: Write> Stage<W> {
         self.tell(format_args!("{answer:?}"));
     }
 
-    /// Tells the mark after a call. Growths are refused until it is written, so it takes no memory.
+    /// Prints the mark after a call. Allocations fail until it is written, so it takes no memory.
     fn tell_end(&mut self) {
         if self.told.is_ok() {
             self.told = self.write_end();

@@ -1,4 +1,4 @@
-//! How the state that a story came to is told.
+//! Prints the state at the end of a story.
 
 use crate::stage::Stage;
 use bit_planes::Plane;
@@ -9,7 +9,7 @@ use std::io::Write;
 use std::{fmt, str};
 use world::World;
 
-/// A set, told by its elements.
+/// A set, printed as its elements.
 #[derive(Drop)]
 pub struct Elements<'a>(pub &'a Plane);
 
@@ -22,7 +22,7 @@ impl fmt::Display for Elements<'_> {
     }
 }
 
-/// A commit, told by its terms: member, generation, partition, first offset and key numbers.
+/// A commit, printed as member, generation, partition, first offset and key ids.
 #[derive(Drop)]
 pub struct Terms<'a>(pub &'a Commit);
 
@@ -38,7 +38,7 @@ impl fmt::Display for Terms<'_> {
     }
 }
 
-/// What a consumer holds: of each partition its base and its position.
+/// What a consumer holds: the base and the position of each partition.
 #[derive(Drop)]
 struct Holdings<'a>(&'a Consumer);
 
@@ -56,7 +56,7 @@ impl fmt::Display for Holdings<'_> {
     }
 }
 
-/// Tells logs: each log's key numbers, and the keys.
+/// Prints logs: the key ids of each log, and the keys.
 pub fn tell_logs<W: Write>(stage: &mut Stage<W>, logs: &Logs) {
     for p in 0..logs.partitions() {
         let ids = logs.ids(p, 0, logs.len(p));
@@ -65,7 +65,7 @@ pub fn tell_logs<W: Write>(stage: &mut Stage<W>, logs: &Logs) {
     tell_keys(stage, logs);
 }
 
-/// Tells the keys of logs, in the order of their numbers.
+/// Prints the keys of logs, in the order of their ids.
 fn tell_keys<W: Write>(stage: &mut Stage<W>, logs: &Logs) {
     for id in 0..logs.keys() {
         let key = str::from_utf8(logs.key(id)).unwrap_or("other than text");
@@ -73,7 +73,7 @@ fn tell_keys<W: Write>(stage: &mut Stage<W>, logs: &Logs) {
     }
 }
 
-/// Tells a cluster: its group, its moves, its logs, and what is committed and counted.
+/// Prints a cluster: its group, moves and logs, and what is committed and counted.
 pub fn tell_cluster<W: Write>(stage: &mut Stage<W>, cluster: &Cluster) {
     tell_group(stage, cluster);
     for step in cluster.moves() {
@@ -83,7 +83,7 @@ pub fn tell_cluster<W: Write>(stage: &mut Stage<W>, cluster: &Cluster) {
     tell_counts(stage, cluster);
 }
 
-/// Tells a group: its generation, its phase, and its members.
+/// Prints a group: its generation, its phase, and its members.
 fn tell_group<W: Write>(stage: &mut Stage<W>, cluster: &Cluster) {
     let generation = cluster.generation();
     let phase = cluster.phase();
@@ -101,14 +101,14 @@ fn tell_move<W: Write>(stage: &mut Stage<W>, step: Move) {
     stage.tell(format_args!("move {generation} {partition} {last:?} {holder}"));
 }
 
-/// Tells what is committed and counted.
+/// Prints what is committed and counted.
 fn tell_counts<W: Write>(stage: &mut Stage<W>, cluster: &Cluster) {
     let offsets = cluster.store().offsets();
     let counts = cluster.store().counts();
     stage.tell(format_args!("committed {offsets:?} counted {counts:?}"));
 }
 
-/// Tells a member: its name, what it is granted and assigned, and its flags.
+/// Prints a member: its name, what it is granted and assigned, and its flags.
 fn tell_member<W: Write>(stage: &mut Stage<W>, cluster: &Cluster, member: u32) {
     tell_name(stage, cluster.name(member), member);
     tell_set(stage, "granted", cluster.granted(member));
@@ -119,7 +119,7 @@ fn tell_member<W: Write>(stage: &mut Stage<W>, cluster: &Cluster, member: u32) {
     stage.tell(format_args!("joined {is_joined} synced {is_synced} kept {is_kept}"));
 }
 
-/// Tells a member's name, if it has one.
+/// Prints a member's name, if it has one.
 fn tell_name<W: Write>(stage: &mut Stage<W>, name: Option<&Name>, member: u32) {
     let Some(name) = name else {
         return;
@@ -128,7 +128,7 @@ fn tell_name<W: Write>(stage: &mut Stage<W>, name: Option<&Name>, member: u32) {
     stage.tell(format_args!("member {member} {name}"));
 }
 
-/// Tells a set under what it is, if there is one.
+/// Prints a set after a title, if there is one.
 fn tell_set<W: Write>(stage: &mut Stage<W>, what: &str, set: Option<&Plane>) {
     let Some(set) = set else {
         return;
@@ -136,7 +136,7 @@ fn tell_set<W: Write>(stage: &mut Stage<W>, what: &str, set: Option<&Plane>) {
     stage.tell(format_args!("{what}{}", Elements(set)));
 }
 
-/// Tells a world: its cluster, its consumers, and its mail.
+/// Prints a world: its cluster, its consumers, and its mail.
 pub fn tell_world<W: Write>(stage: &mut Stage<W>, world: &World) {
     tell_cluster(stage, world.cluster());
     tell_consumers(stage, world);
@@ -145,7 +145,7 @@ pub fn tell_world<W: Write>(stage: &mut Stage<W>, world: &World) {
     }
 }
 
-/// Tells the consumers of a world, member by member.
+/// Prints the consumers of a world, member by member.
 fn tell_consumers<W: Write>(stage: &mut Stage<W>, world: &World) {
     for member in 1..u32::MAX {
         let Some(consumer) = world.consumer(member) else {
@@ -155,7 +155,7 @@ fn tell_consumers<W: Write>(stage: &mut Stage<W>, world: &World) {
     }
 }
 
-/// Tells a consumer: whose it is, its generation, and what it holds.
+/// Prints a consumer: its member, its generation, and what it holds.
 fn tell_consumer<W: Write>(stage: &mut Stage<W>, member: u32, consumer: &Consumer) {
     let now = consumer.member();
     let generation = consumer.generation();
@@ -163,7 +163,7 @@ fn tell_consumer<W: Write>(stage: &mut Stage<W>, member: u32, consumer: &Consume
     stage.tell(format_args!("consumer {member} {now:?} {generation}{holdings}"));
 }
 
-/// Tells a commit.
+/// Prints a commit.
 fn tell_commit<W: Write>(stage: &mut Stage<W>, commit: &Commit) {
     let terms = Terms(commit);
     stage.tell(format_args!("commit {terms}"));

@@ -19,7 +19,8 @@ use Rattle.group_machine.proofs.PresentLemmas.{Listed, listed_present, all_of}
 use Rattle.group_machine.proofs.CompletionLemmas.{some_of}
 use Rattle.group_machine.proofs.StepLemmas.{any_of_present, rejoining_fit}
 use Rattle.group_laws.specs.Rounds.{round}
-use Rattle.group_laws.specs.Passes.{has_to_rejoin, is_calm, synced_if_new, rejoined_if_due, turned, passed}
+use Rattle.group_machine.specs.NextSteps.{has_to_rejoin}
+use Rattle.group_laws.specs.Passes.{is_calm, synced_if_new, rejoined_if_due, turned, passed}
 use Rattle.group_laws.proofs.PassLemmas.{present_listed, rejoining_present, new_same, new_valid, new_present, settled_same, settled_not_due, passed_keeps, passed_valid, passed_any}
 use Rattle.group_laws.proofs.AssignedLemmas.{has_partitions}
 use Rattle.group_laws.proofs.StepLemmas.{synced_same, settled_synced}

@@ -16,7 +16,8 @@ use Rattle.group_machine.proofs.SlotsLemmas.{one_is_each, at_only}
 use Rattle.group_machine.proofs.StepLemmas.{any_rejoining, any_of_present, sync_good, rejoining_fit, rejoining_apart}
 use Rattle.group_machine.proofs.JoinLemmas.{some_on, completed_present}
 use Rattle.group_laws.specs.Rounds.{finish}
-use Rattle.group_laws.specs.Passes.{has_to_rejoin, synced_if_new, rejoined_if_due, turned, turned_each, passed}
+use Rattle.group_machine.specs.NextSteps.{has_to_rejoin}
+use Rattle.group_laws.specs.Passes.{synced_if_new, rejoined_if_due, turned, turned_each, passed}
 use Rattle.group_laws.proofs.AssignedLemmas.{has_partitions}
 use Rattle.group_laws.proofs.StepLemmas.{any_synced, members_synced, synced_same, rejoin_good}
 use Rattle.group_laws.proofs.OtherLemmas.{rejoining_at}

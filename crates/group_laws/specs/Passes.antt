@@ -1,17 +1,10 @@
 -- Passes: each present member takes one turn, in rising order.
-use Rattle.std.specs.Prelude.{ℕ, Bool, ◌&&◌, ◌||◌, not, List, [], ◌∷◌, if◌then◌else◌}
+use Rattle.std.specs.Prelude.{ℕ, Bool, ◌&&◌, ◌||◌, List, [], ◌∷◌, if◌then◌else◌}
 use Rattle.std.specs.List.{list_all}
-use Rattle.bit_planes.specs.PartitionSet.{is_same}
-use Rattle.group_machine.specs.State.{GroupState, members, is_joined, is_synced, granted_of, assigned_of}
-use Rattle.group_machine.specs.Settled.{is_stable, is_settled}
+use Rattle.group_machine.specs.NextSteps.{has_to_rejoin}
+use Rattle.group_machine.specs.State.{GroupState, members, is_joined, is_synced}
+use Rattle.group_machine.specs.Settled.{is_settled}
 use Rattle.group_machine.specs.Steps.{rejoined_by, synced_by}
-
--- a member has to rejoin if it has not joined, and has something to revoke or a rebalance is
--- pending
-abbrev pub has_to_rejoin : GroupState → ℕ → Bool
-has_to_rejoin g member =
-    not (is_joined g member)
-    && (not (is_stable g.phase) || not (is_same (granted_of g member) (assigned_of g member)))
 
 -- the group is settled, and all members have synced
 abbrev pub is_calm : GroupState → Bool

@@ -3,6 +3,7 @@ pub mod Completion
 pub mod Good
 pub mod Moves
 pub mod Name
+pub mod NextSteps
 pub mod Private
 pub mod Settled
 pub mod Slots

@@ -8,6 +8,8 @@ ghost use Rattle.group_machine.specs.Steps.{join_answer, joined_by, joined_kept_
 ghost use Rattle.group_machine.specs.Settled.{is_settled};
 ghost use Rattle.group_machine.specs.Cluster.{AreCounts, AreLogsOf, ClusterState, GrowByRecords, IsDue, IsOfTopic, IsPlaceOf, IsValidCluster, answer_at, append_answer, appended_at, appended_to, cluster_commit_answer, cluster_sync_answer, committed_at, committed_by, fence, of_first, place_in, with_group, without_room};
 
+mod next_step;
+
 use crate::commit::Commit;
 use crate::group::{Group, Members, Move, Phase, Seat, members, slots};
 use crate::lease::Lease;
@@ -15,6 +17,7 @@ use crate::name::Name;
 use bit_planes::Plane;
 use commit_store::Store;
 use lane_words::{MOST_PARTITIONS, Memory, Refusal};
+pub use next_step::NextStep;
 use partition_log::{LogRead, Logs};
 use std::alloc::Global;
 use std::marker::Model;

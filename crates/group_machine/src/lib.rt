@@ -22,7 +22,7 @@ mod group;
 mod lease;
 mod name;
 
-pub use cluster::Cluster;
+pub use cluster::{Cluster, NextStep};
 pub use commit::Commit;
 pub use group::{Members, Move, Phase};
 pub use lease::Lease;

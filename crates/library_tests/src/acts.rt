@@ -1,5 +1,5 @@
-//! Events of schedules, as tables have them: a constant lends nothing that holds a `Name`, as the
-//! events of a world do.
+//! The events of schedules, as tables have them: a constant cannot borrow a `Name`, as the events
+//! of a world do.
 
 use group_machine::Name;
 use lane_words::Memory;
@@ -20,7 +20,7 @@ pub fn eight_names(rt: &impl Abort, alloc: Global) -> Result<Vec<Name>, Memory> 
     Ok(names)
 }
 
-/// An event of a schedule. Who joins is told by the place of the name among the eight.
+/// An event of a schedule. A name is given by its index among the eight.
 #[derive(Clone, Copy)]
 pub enum Act<'a> {
     Join(usize),
@@ -45,7 +45,7 @@ pub enum Act<'a> {
     DeliverUnanswered(u32),
 }
 
-/// The event under these names, where there is one of that place.
+/// The event with these names, if the index of its name is below eight.
 pub fn event_of<'a>(act: &Act<'a>, names: &'a [Name]) -> Option<Event<'a>> {
     let event = match act {
         Act::Join(n) => Event::Join(names.get(*n)?),
@@ -56,7 +56,7 @@ pub fn event_of<'a>(act: &Act<'a>, names: &'a [Name]) -> Option<Event<'a>> {
     Some(event)
 }
 
-/// The event where it has no name.
+/// The event, if it has no name.
 fn nameless<'a>(act: &Act<'a>) -> Option<Event<'a>> {
     let event = match act {
         Act::Append(key) => Event::Append(key),
@@ -85,13 +85,13 @@ fn nameless<'a>(act: &Act<'a>) -> Option<Event<'a>> {
     Some(event)
 }
 
-/// What a world replies to an event under these names.
+/// A world's reply to an event with these names.
 pub fn reply_to(world: &mut World, act: &Act<'_>, names: &[Name]) -> Option<Reply> {
     let event = event_of(act, names)?;
     Some(reply_of(world, event))
 }
 
-/// The reply to an event, without what the contract of the call says.
+/// The reply to an event, without the contract of the call.
 pub fn reply_of(world: &mut World, event: Event) -> Reply {
     world.step(event)
 }

@@ -1,5 +1,5 @@
-//! Worked rows, each call once with ample memory, and as many members and partitions as there can
-//! be.
+//! Tests of the cluster: worked rows, each call once with ample memory, and the largest numbers of
+//! members and partitions.
 
 ghost use Rattle.std.specs.Prelude.{◌≤◌};
 
@@ -12,7 +12,7 @@ use std::alloc::Global;
 use std::process::Abort;
 use std::random::RandomSource;
 
-// The calls, without what their contracts say.
+// The calls, without their contracts.
 
 fn take_over(cluster: &mut Cluster, name: &Name) -> Result<u32, Refusal> {
     cluster.take_over(name)
@@ -36,17 +36,17 @@ fn is(set: &Plane, list: &[u32]) -> bool {
 /// A move: generation, partition, last holder and holder.
 type Moved = (u32, u32, Option<u32>, u32);
 
-/// A call on a cluster of four partitions with its answer, or what is told of the cluster.
+/// A call on a cluster of four partitions with its answer, or a check of the cluster.
 ///
-/// A test is a list of them, which one loop makes: a course of calls one after the other is proved
-/// over what all of them say, and takes minutes.
+/// A test is a list of steps that one loop makes: a sequence of calls would be proved over the
+/// contracts of all of them, which takes minutes.
 #[derive(Clone, Copy)]
 enum Step<'a> {
-    /// One joins under this name.
+    /// A member joins under this name.
     Join(&'a [u8], Result<u32, Refusal>),
-    /// One joins under this name, and keeps its place.
+    /// A static member joins under this name.
     JoinKept(&'a [u8], Result<u32, Refusal>),
-    /// One takes the place over that is kept under this name.
+    /// A new member takes over the seat of this name.
     TakeOver(&'a [u8], Result<u32, Refusal>),
     /// A member syncs, and is leased these partitions in this generation.
     Lease(u32, u32, &'a [u32]),
@@ -64,43 +64,43 @@ enum Step<'a> {
     Commit(Terms, &'a [u32], Result<u32, Refusal>),
     /// The generation, the phase, and whether the group is settled.
     Stands(u32, Phase, bool),
-    /// A member is granted these partitions, and is to keep those.
+    /// A member is granted these partitions, and assigned those.
     Has(u32, &'a [u32], &'a [u32]),
     /// Whether a member is present, has joined and has synced.
     Is(u32, bool, bool, bool),
-    /// Whether a member keeps its place.
+    /// Whether a member is static.
     Keeps(u32, bool),
     /// The member of a name.
     Named(&'a [u8], Option<u32>),
     /// The committed offsets.
     Offsets(&'a [u32]),
-    /// As many join as there may be, under names of three digits. The first one keeps its place.
+    /// The largest number of members joins, under names of three digits. The first one is static.
     Fill,
-    /// The place that is kept under this name is taken over by each number from 2 on.
+    /// The seat of this name is taken over by each number from 2 on.
     TakeOverAll(&'a [u8]),
-    /// A member syncs and rejoins with what it is leased, which are so many partitions.
+    /// A member syncs and rejoins with its lease, of this many partitions.
     Renew(u32, u32),
-    /// So many partitions were moved.
+    /// The number of moves.
     Moves(usize),
-    /// These were the last moves, the last one first.
+    /// The last moves, the last one first.
     LastMoves(&'a [Moved]),
     /// The owner of a partition.
     Owned(u32, Option<u32>),
-    /// This member alone is present.
+    /// Only this member is present.
     Alone(u32),
     /// The name of a member, present or not.
     Called(u32, &'a [u8]),
-    /// So many partitions, and so many records in this one.
+    /// The number of partitions, and the number of records in this one.
     Records(u32, u32, u32),
     /// The counts of the keys.
     Counts(&'a [u64]),
-    /// Over the five records there is no member and nothing committed.
+    /// Over the five records nobody is present and nothing is committed.
     Nothing,
-    /// There is a counter for each of so many keys, at the most partitions.
+    /// There is a counter for each of this many keys, with the most partitions.
     Counters(u32),
 }
 
-/// Whether a step is answered as it says.
+/// Makes a step, and returns whether its answer is the expected one.
 fn is_answered(rt: &impl Abort, alloc: Global, cluster: &mut Cluster, step: &Step<'_>) -> bool {
     match step {
         Step::Join(text, answer) => cluster.join(name(rt, text)) == *answer,
@@ -122,7 +122,7 @@ fn is_answered(rt: &impl Abort, alloc: Global, cluster: &mut Cluster, step: &Ste
     }
 }
 
-/// Whether a cluster is told as a step says, which calls nothing that changes it.
+/// Whether a check of the cluster, which changes nothing, holds.
 fn is_told(rt: &impl Abort, cluster: &Cluster, step: &Step<'_>) -> bool {
     match step {
         Step::Stands(generation, phase, settled) => {
@@ -143,7 +143,7 @@ fn is_told(rt: &impl Abort, cluster: &Cluster, step: &Step<'_>) -> bool {
     }
 }
 
-/// The same of steps that tell of moves, of members and of logs.
+/// The same for checks of moves, members and logs.
 fn is_told_of_all(cluster: &Cluster, step: &Step<'_>) -> bool {
     match step {
         Step::Moves(count) => cluster.moves().len() == *count,
@@ -158,7 +158,7 @@ fn is_told_of_all(cluster: &Cluster, step: &Step<'_>) -> bool {
     }
 }
 
-/// The same of steps that tell of counts and of all logs.
+/// The same for checks of counts and of all logs.
 fn is_told_of_counts(cluster: &Cluster, step: &Step<'_>) -> bool {
     match step {
         Step::Counts(counts) => cluster.store().counts() == *counts,
@@ -176,12 +176,12 @@ fn is_called(cluster: &Cluster, member: u32, text: &[u8]) -> bool {
     }
 }
 
-/// Whether a log has so many records.
+/// Whether a log has this many records.
 fn has_records(logs: &Logs, p: u32, records: u32) -> bool {
     p < logs.partitions() && logs.len(p) == records
 }
 
-/// The first step that is not answered as it says.
+/// The index of the first step that does not go as expected.
 fn first_other(
     rt: &impl Abort,
     alloc: Global,
@@ -196,8 +196,8 @@ fn first_other(
     None
 }
 
-/// The first step that is not answered as it says, of this cluster. Few own a cluster: each `?`
-/// and each assertion is proved with all that lets go what is owned there.
+/// The same, on this cluster. Few functions own a cluster: each `?` and each assertion is proved
+/// together with the code that drops it.
 fn first_other_in(
     rt: &impl Abort,
     alloc: Global,
@@ -215,7 +215,7 @@ fn cluster_of(rt: &impl RandomSource, alloc: Global, partitions: u32) -> Result<
     Ok(Cluster::new(rt, alloc, partitions)?)
 }
 
-/// The first step that is not answered as it says, of a cluster of this many partitions.
+/// The index of the first step that does not go as expected, on a cluster of this many partitions.
 fn first_other_of<R: Abort + RandomSource>(
     rt: &R,
     alloc: Global,
@@ -227,7 +227,7 @@ fn first_other_of<R: Abort + RandomSource>(
     first_other_in(rt, alloc, cluster_of(rt, alloc, partitions), steps)
 }
 
-/// The set of these of four partitions.
+/// The set of these partitions, out of four.
 fn set_of(list: &[u32]) -> Plane {
     let mut set = Plane::new(4);
     for q in list {
@@ -246,7 +246,7 @@ fn has(cluster: &Cluster, member: u32, granted: &[u32], assigned: &[u32]) -> boo
     }
 }
 
-/// The name of this text, which is one.
+/// The name of this text, which is a valid one.
 fn name(rt: &impl Abort, text: &[u8]) -> Name {
     Name::new(text).expect(rt, "a name")
 }
@@ -261,14 +261,14 @@ fn numbered(rt: &impl Abort, n: u32) -> Name {
     name(rt, &[digit(n / 100), digit(n / 10), digit(n)])
 }
 
-/// A member syncs and rejoins with what it is leased, and tells how much that is.
+/// A member syncs and rejoins with its lease. Returns the number of partitions of the lease.
 fn sync_and_rejoin(cluster: &mut Cluster, member: u32) -> Result<u32, Refusal> {
     let lease = cluster.sync(member)?;
     cluster.rejoin(member, lease.generation(), lease.assigned())?;
     Ok(lease.assigned().count())
 }
 
-/// Whether a member is leased these partitions in this generation.
+/// Whether a member's lease is of these partitions in this generation.
 fn leases(cluster: &mut Cluster, member: u32, generation: u32, list: &[u32]) -> bool {
     match cluster.sync(member) {
         Ok(lease) => {
@@ -280,10 +280,10 @@ fn leases(cluster: &mut Cluster, member: u32, generation: u32, list: &[u32]) -> 
     }
 }
 
-/// The terms of a commit: member, generation, partition, and the offset from which on it is.
+/// The terms of a commit: member, generation, partition, and first offset.
 type Terms = (u32, u32, u32, u32);
 
-/// The records of these keys, as a commit has them.
+/// The partial counts of the records of these keys.
 fn partial_of(alloc: Global, ids: &[u32]) -> Result<Partial, Refusal> {
     let ids = Vec::from_slice(alloc, ids)?;
     Ok(Partial::of(alloc, ids)?)
@@ -296,7 +296,7 @@ fn commit_of(alloc: Global, terms: Terms, ids: &[u32]) -> Result<Commit, Refusal
     Ok(Commit::new(member, generation, partition, from, partial))
 }
 
-/// What a cluster answers a commit of these terms.
+/// A cluster's answer to a commit of these terms.
 fn commit(alloc: Global, cluster: &mut Cluster, terms: Terms, ids: &[u32]) -> Result<u32, Refusal> {
     let sent = commit_of(alloc, terms, ids)?;
     cluster.commit(&sent)
@@ -311,7 +311,7 @@ fn is_moved(moved: &Move, row: &Moved) -> bool {
         && moved.holder == holder
 }
 
-/// Whether these are the last moves, from the last on.
+/// Whether these are the last moves, the last one first.
 fn moves_end_with(cluster: &Cluster, rows: &[Moved]) -> bool {
     for (moved, row) in cluster.moves().iter().rev().zip(rows) {
         if !is_moved(moved, row) {
@@ -321,8 +321,8 @@ fn moves_end_with(cluster: &Cluster, rows: &[Moved]) -> bool {
     true
 }
 
-// Who names a table is proved with each row and each list in it, at each of its statements: so a
-// function that does nothing else does.
+// A function that names a table is proved with each row and each list in it, at each of its
+// statements: so a function that names one does nothing else.
 
 /// A second member joins, and is granted what the first one gives up.
 const MOVES_ONCE_REVOKED: &[Step<'static>] = &[
@@ -358,12 +358,12 @@ fn a_partition_moves_once_it_is_revoked(rt: HostRuntime) {
     assert_eq!(rt; other, Ok(None));
 }
 
-/// The answer of a commit that is not at the offset, with nothing committed.
+/// The answer to a commit from another offset, with nothing committed.
 const NONE_YET: Result<u32, Refusal> = Err(Refusal::OffsetMismatch { committed: 0 });
 /// The same with two records committed.
 const TAKEN: Result<u32, Refusal> = Err(Refusal::OffsetMismatch { committed: 2 });
 
-/// Commits of members that are unknown, late or no owners, and those that fit.
+/// Commits of members that are unknown, late or not owners, and commits that fit.
 const FENCED_COMMITS: &[Step<'static>] = &[
     Step::Append(b"21", Ok((0, 0))),
     Step::Append(b"21", Ok((0, 1))),
@@ -410,7 +410,7 @@ const ONE_IS_LOST: &[Step<'static>] = &[
     Step::Commit((1, 1, 0, 0), &[0], Err(Refusal::UnknownMember)),
     Step::Commit((2, 2, 0, 0), &[0], Ok(1)),
     Step::Alone(2),
-    // A name is never given again.
+    // A name is never used again.
     Step::Called(1, b"A"),
 ];
 
@@ -435,7 +435,7 @@ const NAMES: [(&[u8], bool); 6] = [
     (b"123456789012345678901234567890123", false),
 ];
 
-/// The first of those texts that is told otherwise.
+/// The index of the first text for which this is wrong.
 fn first_other_name() -> Option<&'static [u8]> {
     for (text, is_name) in &NAMES {
         if Name::new(text).is_some() != *is_name {
@@ -450,8 +450,8 @@ fn names_are_of_letters_digits_and_two_marks(rt: HostRuntime) {
     assert_eq!(rt; first_other_name(), None);
 }
 
-/// The first number that is not given to one who joins under its three digits, the first one to
-/// keep its place.
+/// The first number that a member does not get that joins under its three digits. The first member
+/// is static.
 fn first_not_joined(rt: &impl Abort, cluster: &mut Cluster) -> Option<u32> {
     for member in 1..MOST_MEMBERS as u32 + 1 {
         if join_nth(cluster, member, numbered(rt, member)) != Ok(member) {
@@ -461,7 +461,7 @@ fn first_not_joined(rt: &impl Abort, cluster: &mut Cluster) -> Option<u32> {
     None
 }
 
-/// One joins under this name, the first one to keep its place.
+/// A member joins under this name. The first one is static.
 fn join_nth(cluster: &mut Cluster, member: u32, name: Name) -> Result<u32, Refusal> {
     if member == 1 {
         cluster.join_kept(name)
@@ -470,7 +470,7 @@ fn join_nth(cluster: &mut Cluster, member: u32, name: Name) -> Result<u32, Refus
     }
 }
 
-/// What a full group answers, whose first member alone keeps its place.
+/// The answers of a full group, whose first member alone is static.
 const WHERE_FULL: &[Step<'static>] = &[
     Step::Fill,
     Step::Join(b"late", Err(Refusal::TooManyMembers)),
@@ -494,7 +494,7 @@ fn no_more_members_than_there_may_be_join(rt: HostRuntime) {
     assert_eq!(rt; other, Ok(None));
 }
 
-/// The first number that does not take over the place that A keeps, of those from 2 on.
+/// The first number, from 2 on, that does not take over the seat of A.
 fn first_not_taken(cluster: &mut Cluster, name: &Name) -> Option<u32> {
     for number in 2..MOST_MEMBERS as u32 + 1 {
         if take_over(cluster, name) != Ok(number) {
@@ -504,7 +504,7 @@ fn first_not_taken(cluster: &mut Cluster, name: &Name) -> Option<u32> {
     None
 }
 
-/// The place of one who joins and keeps it has had all numbers.
+/// The seat of a static member has had all numbers.
 const NUMBERS_ARE_OVER: &[Step<'static>] = &[
     Step::JoinKept(b"A", Ok(1)),
     Step::TakeOverAll(b"A"),
@@ -527,7 +527,7 @@ fn a_place_is_taken_over_as_often_as_there_are_numbers(rt: HostRuntime) {
     assert_eq!(rt; other, Ok(None));
 }
 
-/// What a member is leased, where it syncs and rejoins.
+/// The lease of a member that syncs and rejoins.
 fn leased(cluster: &mut Cluster, member: u32) -> Option<u32> {
     sync_and_rejoin(cluster, member).ok()
 }
@@ -566,10 +566,10 @@ fn append_each(logs: &mut Logs, keys: &[&[u8]]) -> Result<(), Refusal> {
     Ok(())
 }
 
-/// The five records that most rows are over.
+/// The five records of most rows.
 pub const FIVE: [&[u8]; 5] = [b"21", b"4", b"foobar", b"abc", b"21"];
 
-/// Logs of five records of four keys, of which each has a place of its own for four partitions.
+/// Logs of five records of four keys, each of which has a partition of its own among four.
 pub fn five_records(rt: &impl RandomSource, alloc: Global) -> Result<Logs, Refusal> {
     let mut logs = Logs::new(rt, alloc, 4)?;
     let done = append_each(&mut logs, &FIVE);
@@ -586,7 +586,7 @@ fn over_five(rt: &impl RandomSource, alloc: Global) -> Result<Cluster, Refusal> 
     over(alloc, five_records(rt, alloc)?)
 }
 
-/// Whether a cluster over the five records has no member and nothing committed.
+/// Whether nobody is present in a cluster over the five records, and nothing is committed.
 fn has_nothing_committed(cluster: &Cluster) -> bool {
     cluster.phase() == Phase::Empty
         && cluster.generation() == 0
@@ -603,7 +603,7 @@ fn a_cluster_over_logs_has_nothing_committed(rt: HostRuntime) {
     assert_eq!(rt; other, Ok(None));
 }
 
-/// One member commits three of the five records, which are counted then.
+/// A member commits three of the five records, which are then counted.
 const THREE_OF_FIVE: &[Step<'static>] = &[
     Step::Join(b"A", Ok(1)),
     Step::Lease(1, 1, &[0, 1, 2, 3]),
@@ -618,12 +618,12 @@ fn three_of_five() -> &'static [Step<'static>] {
     THREE_OF_FIVE
 }
 
-/// Whether a cluster over the five records counts three of them, and has the logs that it had.
+/// Whether a cluster over the five records counts three of them, and still has its logs.
 fn counts_three(rt: &impl Abort, alloc: Global, cluster: &mut Cluster, logs: &SealedLogs) -> bool {
     first_other(rt, alloc, cluster, three_of_five()).is_none() && logs.same(cluster.logs())
 }
 
-/// Whether a new cluster over the five records does.
+/// The same, for a new cluster over the five records.
 fn new_counts_three<R: Abort + RandomSource>(
     rt: &R,
     alloc: Global,
@@ -633,7 +633,7 @@ fn new_counts_three<R: Abort + RandomSource>(
     Ok(counts_three(rt, alloc, &mut cluster, logs))
 }
 
-/// Whether one does, beside logs of the same records.
+/// The same, compared with logs of the same records.
 fn keeps_five<R: Abort + RandomSource>(rt: &R, alloc: Global) -> Result<bool, Refusal> {
     let logs = five_sealed(rt, alloc)?;
     new_counts_three(rt, alloc, &logs)
@@ -644,7 +644,7 @@ fn a_cluster_over_logs_keeps_them(rt: HostRuntime) {
     assert_eq!(rt; keeps_five(&rt, rt.alloc()), Ok(true));
 }
 
-/// Appends this many records of four bytes, each of another key.
+/// Appends this many records of four bytes, each of a new key.
 fn append_many(logs: &mut Logs, records: u32) -> Result<(), Refusal> {
     for i in 0..records {
         logs.append(&i.to_le_bytes())?;
@@ -652,14 +652,14 @@ fn append_many(logs: &mut Logs, records: u32) -> Result<(), Refusal> {
     Ok(())
 }
 
-/// Logs of this many records of four bytes, each of another key.
+/// Logs of this many records of four bytes, each of a new key.
 fn many_records(rt: &impl RandomSource, alloc: Global, records: u32) -> Result<Logs, Refusal> {
     let mut logs = Logs::new(rt, alloc, MOST_PARTITIONS)?;
     let done = append_many(&mut logs, records);
     done.and(Ok(logs))
 }
 
-/// Whether a cluster at the most partitions has a counter for each of so many keys.
+/// Whether a cluster with the most partitions has a counter for each of this many keys.
 fn counts_each(cluster: &Cluster, keys: u32) -> bool {
     cluster.partitions() == MOST_PARTITIONS
         && cluster.logs().keys() == keys
@@ -667,12 +667,12 @@ fn counts_each(cluster: &Cluster, keys: u32) -> bool {
         && cluster.store().counts().len() == keys as usize
 }
 
-/// A cluster over 100,000 records of other keys.
+/// A cluster over 100,000 records of different keys.
 fn over_many(rt: &impl RandomSource, alloc: Global) -> Result<Cluster, Refusal> {
     over(alloc, many_records(rt, alloc, 100_000)?)
 }
 
-/// It has a counter for each key, and for a new key one more.
+/// It has a counter for each key, and one more for a new key.
 const ONE_MORE: &[Step<'static>] = &[
     Step::Counters(100_000),
     Step::Taken(b"new"),
@@ -708,7 +708,7 @@ fn a_name_tells_its_number(rt: HostRuntime) {
     assert_eq!(rt; first_other_of(&rt, rt.alloc(), 4, named()), Ok(None));
 }
 
-/// A place that is taken over in each phase of a rebalance.
+/// A seat that is taken over in each phase of a rebalance.
 const RETURNS: &[Step<'static>] = &[
     Step::JoinKept(b"A", Ok(1)),
     Step::Keeps(1, true),
@@ -747,7 +747,7 @@ const RETURNS: &[Step<'static>] = &[
     Step::Stands(3, Phase::Stable, true),
     Step::Leave(6, Ok(())),
     Step::TakeOver(b"A", Err(Refusal::NotKept)),
-    // What member 4 had given up was last its own, and not of who took its place over then.
+    // What member 4 had given up was last its own, and not the member's that took over its seat.
     Step::LastMoves(&[(3, 3, Some(4), 2), (3, 2, Some(4), 2)]),
 ];
 

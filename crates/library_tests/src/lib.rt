@@ -1,5 +1,5 @@
-//! Tests of the library's public calls, which have a crate of their own: a crate with tests is proved
-//! twice, once without them, and these need nothing of what is private to a crate.
+//! Tests of `group_machine`, `script`, `world` and `workers` through their public calls. They have
+//! a crate of their own since a crate with tests is proved twice, with them and without.
 #![tactic(auto)]
 
 ghost use Rattle.std.specs.Prelude.{◌≡◌, ◌++◌, IfOk, replicate};
@@ -22,7 +22,7 @@ mod worlds;
 use lane_words::Memory;
 use std::alloc::Global;
 
-/// A text with so many bytes of one kind behind it: what stands at a limit is told by its length.
+/// A text followed by `count` times the same byte, for lines and names at their length limits.
 pub fn longer(alloc: Global, text: &[u8], byte: u8, count: usize) -> Result<Vec<u8>, Memory>
     ensures { IfOk result (λ longer. longer.items ≡ text.now ++ replicate count byte) }
 {

@@ -1,4 +1,4 @@
-//! Plans, by the rules of their lines.
+//! Tests of plans and of the rules of their lines.
 
 use crate::longer;
 use group_machine::Name;
@@ -9,10 +9,10 @@ use std::alloc::{AllocError, Global};
 /// A change: its command and its name.
 type Said<'a> = (&'a [u8], &'a [u8]);
 
-/// What a script is read as, as a plan.
+/// The expected result of parsing a script as a plan.
 ///
-/// A test is a list of scripts, which one loop reads: a course of calls one after the other is
-/// proved over what all of them say, and takes minutes.
+/// A test is a table of scripts that one loop parses: a sequence of calls would be proved over the
+/// contracts of all of them, which takes minutes.
 #[derive(Clone, Copy)]
 enum Read<'a> {
     /// A plan of these changes and this many members.
@@ -21,10 +21,10 @@ enum Read<'a> {
     Refused(u8, u64),
 }
 
-/// A script and what it is read as.
+/// A script and the expected result.
 type Row<'a> = (&'a [u8], Read<'a>);
 
-// The calls, without what their contracts say.
+// The calls, without their contracts.
 
 pub fn plan_of(alloc: Global, script: &[u8]) -> Result<Plan, Refusal> {
     read_plan(alloc, script)
@@ -72,7 +72,7 @@ fn has_changes(plan: &Plan, said: &[Said<'_>]) -> bool {
     lines.len() == said.len()
 }
 
-/// Whether a script is read so.
+/// Whether a script parses as expected.
 fn is_read(alloc: Global, script: &[u8], read: &Read<'_>) -> bool {
     match plan_of(alloc, script) {
         Ok(plan) => is_plan_read(&plan, read),
@@ -80,7 +80,7 @@ fn is_read(alloc: Global, script: &[u8], read: &Read<'_>) -> bool {
     }
 }
 
-/// Whether a plan is what a script is read as.
+/// Whether a plan is the expected one.
 fn is_plan_read(plan: &Plan, read: &Read<'_>) -> bool {
     match read {
         Read::Plan(said, count) => members(plan) == *count && has_changes(plan, said),
@@ -88,7 +88,7 @@ fn is_plan_read(plan: &Plan, read: &Read<'_>) -> bool {
     }
 }
 
-/// Whether a refusal is what a script is read as.
+/// Whether a refusal is the expected one.
 fn is_refusal(why: Refusal, read: &Read<'_>) -> bool {
     match (why, read) {
         (Refusal::BadLine { line } | Refusal::NobodyLeft { line }, Read::Refused(code, number)) =>
@@ -97,7 +97,7 @@ fn is_refusal(why: Refusal, read: &Read<'_>) -> bool {
     }
 }
 
-/// The first of some scripts that is read otherwise.
+/// The index of the first script that does not parse as expected.
 fn first_other(alloc: Global, rows: &[Row<'_>]) -> Option<usize> {
     for (index, (script, read)) in rows.iter().enumerate() {
         if !is_read(alloc, script, read) {
@@ -123,7 +123,7 @@ fn add_lines(out: &mut Vec<u8>, command: &[u8], count: u32) -> Result<(), AllocE
     Ok(())
 }
 
-/// Whether the change of this index is that of a plan in which so many join, and then leave.
+/// Whether this is the change of this index in a plan of `joins` joins and then leaves.
 fn is_in_order(change: &Change, index: usize, joins: usize) -> bool {
     match change {
         Change::Join(name) => index < joins && is_numbered(name, index),
@@ -132,7 +132,7 @@ fn is_in_order(change: &Change, index: usize, joins: usize) -> bool {
     }
 }
 
-/// The names of so many members that join, and then of so many that leave, each in its order.
+/// Whether a plan consists of this many joins and then this many leaves, with names in order.
 fn are_all(plan: &Plan, joins: usize, leaves: usize) -> bool {
     let lines = changes(plan);
     for (index, change) in lines.iter().enumerate() {
@@ -148,7 +148,7 @@ fn digit(n: usize) -> u8 {
     b'0'.wrapping_add((n % 10) as u8)
 }
 
-/// Whether a name is `m` and a number below 1,000, without zeros in front.
+/// Whether a name is `m` and a number below 1,000, without leading zeros.
 fn is_numbered(name: &Name, number: usize) -> bool {
     let text = name.text();
     let digits = [b'm', digit(number / 100), digit(number / 10), digit(number)];
@@ -240,7 +240,7 @@ fn other_lines_are_refused(rt: HostRuntime) {
     assert_eq!(rt; first_other(rt.alloc(), OTHERS), None);
 }
 
-/// Whether a join and a line of so many marks of a comment are read so.
+/// Whether a join and a comment of `marks` bytes parse as expected.
 fn is_read_commented(alloc: Global, marks: usize, read: &Read<'_>) -> Result<bool, Memory> {
     let script = longer(alloc, b"join A\n", b'#', marks)?;
     Ok(is_read(alloc, &script, read))
@@ -253,26 +253,26 @@ fn a_line_has_256_bytes_at_most(rt: HostRuntime) {
     assert_eq!(rt; (longest, over), (Ok(true), Ok(true)));
 }
 
-/// Adds 512 joins, so many leaves and a last line.
+/// Adds 512 joins, `leaves` leaves and a last line.
 fn add_all(script: &mut Vec<u8>, leaves: u32, last: &[u8]) -> Result<(), AllocError> {
     add_lines(script, b"join m", 512)?;
     add_lines(script, b"leave m", leaves)?;
     script.extend_from_slice(last)
 }
 
-/// A script of them.
+/// A script of these lines.
 fn script_of(alloc: Global, leaves: u32, last: &[u8]) -> Result<Vec<u8>, AllocError> {
     let mut script = Vec::new(alloc);
     let done = add_all(&mut script, leaves, last);
     done.and(Ok(script))
 }
 
-/// Whether a plan is like its copy.
+/// Whether a plan equals its copy.
 fn is_copied(alloc: Global, plan: &Plan) -> Result<bool, Refusal> {
     Ok(is_same(plan, &copied(alloc, plan)?))
 }
 
-/// Whether a plan is of 512 joins and so many leaves, and like its copy.
+/// Whether a plan consists of 512 joins and then `leaves` leaves, and equals its copy.
 fn has_all(alloc: Global, plan: &Plan, leaves: usize) -> Result<bool, Refusal> {
     Ok(members(plan) == 512 && are_all(plan, 512, leaves) && is_copied(alloc, plan)?)
 }
@@ -283,13 +283,13 @@ fn is_plan(alloc: Global, script: &[u8], leaves: usize) -> Result<bool, Refusal>
     has_all(alloc, &plan, leaves)
 }
 
-/// Whether so many leaves can follow 512 joins.
+/// Whether `leaves` leaves can follow 512 joins.
 fn may_leave(alloc: Global, leaves: u32) -> Result<bool, Refusal> {
     let script = script_of(alloc, leaves, b"")?;
     is_plan(alloc, &script, leaves as usize)
 }
 
-/// Whether this line is refused after them, in the way that is told.
+/// Whether this line after them is refused as expected.
 fn is_refused_after(
     alloc: Global,
     leaves: u32,
@@ -325,18 +325,18 @@ const UNLIKE: &[&[u8]] = &[
     b"join A\njoin B\nleave A\njoin C",
 ];
 
-/// Whether two plans are told from one another, from both sides.
+/// Whether two plans differ, compared both ways.
 fn are_unlike(plan: &Plan, other: &Plan) -> bool {
     !is_same(plan, other) && !is_same(other, plan)
 }
 
-/// Whether a plan is told from that of a script.
+/// Whether a plan differs from that of a script.
 fn is_told_from(alloc: Global, plan: &Plan, script: &[u8]) -> Result<bool, Refusal> {
     let other = plan_of(alloc, script)?;
     Ok(are_unlike(plan, &other))
 }
 
-/// The first of those scripts that a plan is not told from.
+/// The index of the first of those scripts whose plan does not differ.
 fn first_alike(alloc: Global, plan: &Plan) -> Result<Option<usize>, Refusal> {
     for (index, script) in UNLIKE.iter().enumerate() {
         if !is_told_from(alloc, plan, script)? {
@@ -346,18 +346,18 @@ fn first_alike(alloc: Global, plan: &Plan) -> Result<Option<usize>, Refusal> {
     Ok(None)
 }
 
-/// Whether a plan is like another one, from both sides, which has these changes.
+/// Whether a plan equals another one, compared both ways, which has these changes.
 fn is_like(plan: &Plan, other: &Plan, said: &[Said<'_>]) -> bool {
     is_same(plan, other) && is_same(other, plan) && has_changes(other, said)
 }
 
-/// Whether a plan is like its copy, which has these changes.
+/// Whether a plan equals its copy, which has these changes.
 fn is_like_copy(alloc: Global, plan: &Plan, said: &[Said<'_>]) -> Result<bool, Refusal> {
     let copy = copied(alloc, plan)?;
     Ok(is_like(plan, &copy, said))
 }
 
-/// Whether a plan is like itself and its copy, and like none of those scripts.
+/// Whether a plan equals itself and its copy, and differs from all of those scripts.
 fn is_compared(alloc: Global, plan: &Plan, said: &[Said<'_>]) -> Result<bool, Refusal> {
     Ok(
         is_same(plan, plan)
@@ -366,13 +366,13 @@ fn is_compared(alloc: Global, plan: &Plan, said: &[Said<'_>]) -> Result<bool, Re
     )
 }
 
-/// Whether the plan of a script is, which has these changes.
+/// The same, for the plan of a script, which has these changes.
 fn is_plan_compared(alloc: Global, script: &[u8], said: &[Said<'_>]) -> Result<bool, Refusal> {
     let plan = plan_of(alloc, script)?;
     is_compared(alloc, &plan, said)
 }
 
-/// The changes of the plan that those are compared with.
+/// The changes of the plan that is compared with those scripts.
 const COMPARED: [Said<'static>; 3] = [(b"join", b"A"), (b"join", b"B"), (b"leave", b"A")];
 
 #[test]

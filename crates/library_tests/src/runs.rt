@@ -1,4 +1,4 @@
-//! Runs of worked rows, with gates that hold workers back, and as many members as there can be.
+//! Tests of runs: worked rows, gates that hold workers back, and the largest group.
 
 ghost use Rattle.std.specs.Prelude.{◌≤◌};
 
@@ -16,10 +16,10 @@ use std::thread::Threads;
 use workers::GateAnswer::{Go, NotNow, Stop};
 use workers::{Gate, GateAnswer, Outcome, Planned, run_cluster};
 
-// Who owns logs, a plan or an outcome makes few calls: each `?` and each assertion is proved with
-// all that lets go what is owned there.
+// A function that owns logs, a plan or an outcome makes few calls: each `?` and each assertion is
+// proved together with the code that drops these.
 
-/// A run of a plan, without what the contract of the call says.
+/// A run of a plan, without the contract of the call.
 fn run<R: Threads + Wait + RandomSource + Sync, G: Gate + Sync>(
     rt: &R,
     alloc: Global,
@@ -33,7 +33,7 @@ fn run<R: Threads + Wait + RandomSource + Sync, G: Gate + Sync>(
     run_cluster(rt, alloc, logs, plan, batch, gate)
 }
 
-/// Always lets commit.
+/// A gate that is always open.
 #[derive(Drop)]
 struct Open;
 
@@ -43,7 +43,7 @@ impl Gate for Open {
     }
 }
 
-/// Answers the first questions in one way, and the rest in another.
+/// A gate that answers the first questions in one way, and the rest in another.
 #[derive(Drop)]
 struct Counting {
     asked: AtomicU32,
@@ -73,7 +73,7 @@ impl Gate for Counting {
     }
 }
 
-/// A move of the first generation, in which the first member takes all.
+/// A move of the first generation, in which the first member gets all partitions.
 fn taken(partition: u32) -> Move {
     Move {
         generation: 1,
@@ -93,7 +93,7 @@ fn moved(generation: u32, partition: u32, last: u32, holder: u32) -> Move {
     }
 }
 
-/// Whether these own the partitions, in order.
+/// Whether these are the owners of the partitions, in order.
 fn owners_are(cluster: &Cluster, owners: &[u32]) -> bool {
     for (p, owner) in (0..).zip(owners) {
         if cluster.owner(p) != Some(*owner) {
@@ -113,7 +113,7 @@ fn ends_with(outcome: &Outcome, generation: u32, owners: &[u32]) -> bool {
         && cluster.store().counts() == [2, 1, 1, 1].as_slice()
 }
 
-/// The moves of a run by which two of four partitions go from the first member to the second.
+/// The moves by which two of four partitions go from the first member to the second.
 fn two_members_moves() -> [Move; 6] {
     [
         taken(0),
@@ -128,13 +128,13 @@ fn two_members_moves() -> [Move; 6] {
 /// The plan of two joins.
 const TWO_JOINS: &[u8] = b"join A\njoin B\n";
 
-/// Whether a run came to what the plan of two joins comes to.
+/// Whether a run ended as the plan of two joins does.
 fn is_two_members(outcome: &Outcome) -> bool {
     ends_with(outcome, 3, &[1, 1, 2, 2])
         && outcome.cluster().moves() == two_members_moves().as_slice()
 }
 
-/// Whether the first member went at last, and the second has all.
+/// Whether the first member went in the end, and the second has all partitions.
 fn is_one_left(outcome: &Outcome) -> bool {
     let moves = outcome.cluster().moves();
     ends_with(outcome, 4, &[2, 2, 2, 2])
@@ -143,7 +143,7 @@ fn is_one_left(outcome: &Outcome) -> bool {
         && moves.len() == 8
 }
 
-/// Whether as many members are present as there can be.
+/// Whether the largest possible number of members is present.
 fn is_full(cluster: &Cluster) -> bool {
     for member in 1..MOST_MEMBERS as u32 + 1 {
         if !cluster.is_present(member) {
@@ -153,24 +153,24 @@ fn is_full(cluster: &Cluster) -> bool {
     true
 }
 
-/// Whether all are present after a run to its end.
+/// Whether all members are present at the end of a run.
 fn are_all_present(outcome: &Outcome) -> bool {
     let cluster = outcome.cluster();
     ends_with(outcome, cluster.generation(), &[1, 4, 2, 3]) && is_full(cluster)
 }
 
-/// What a run comes to.
+/// The end of a run.
 #[derive(Clone, Copy)]
 enum End {
     /// Two members have two partitions each.
     TwoMembers,
-    /// The first of them went, and the second has all.
+    /// The first of them went, and the second has all partitions.
     OneLeft,
-    /// As many are present as there can be members.
+    /// The largest possible number of members is present.
     AllPresent,
 }
 
-/// Whether a run came to this.
+/// Whether a run ended so.
 fn is_end(outcome: &Outcome, end: End) -> bool {
     match end {
         End::TwoMembers => is_two_members(outcome),
@@ -179,54 +179,55 @@ fn is_end(outcome: &Outcome, end: End) -> bool {
     }
 }
 
-/// Whether a run of a plan over these logs comes to this. Nobody else owns an outcome.
-fn run_comes_to<R: Threads + Wait + RandomSource + Sync, G: Gate + Sync>(
+/// A run of a test: its script, its batch, its gate, and the end that is expected.
+#[derive(Drop)]
+struct Case<'a, G> {
+    script: &'a [u8],
+    batch: u32,
+    gate: &'a G,
+    end: End,
+}
+
+/// Whether a run of this plan over these logs ends as expected. No other function owns an outcome.
+fn plan_ends<R: Threads + Wait + RandomSource + Sync, G: Gate + Sync>(
     rt: &R,
     alloc: Global,
     logs: &SealedLogs,
     plan: &Plan,
-    batch: u32,
-    gate: &G,
-    end: End,
+    case: &Case<'_, G>,
 ) -> Result<bool, Refusal>
-    requires { 1 ≤ batch }
+    requires { 1 ≤ case.now.batch }
 {
-    let outcome = run(rt, alloc, logs, plan, batch, gate)?;
-    Ok(is_end(&outcome, end))
+    let outcome = run(rt, alloc, logs, plan, case.batch, case.gate)?;
+    Ok(is_end(&outcome, case.end))
 }
 
-/// Whether the plan of a script does.
-fn comes_over<R: Threads + Wait + RandomSource + Sync, G: Gate + Sync>(
+/// Whether a run over these logs ends as expected.
+fn case_ends_over<R: Threads + Wait + RandomSource + Sync, G: Gate + Sync>(
     rt: &R,
     alloc: Global,
     logs: &SealedLogs,
-    script: &[u8],
-    batch: u32,
-    gate: &G,
-    end: End,
+    case: &Case<'_, G>,
 ) -> Result<bool, Refusal>
-    requires { 1 ≤ batch }
+    requires { 1 ≤ case.now.batch }
 {
-    let plan = plan_of(alloc, script)?;
-    run_comes_to(rt, alloc, logs, &plan, batch, gate, end)
+    let plan = plan_of(alloc, case.script)?;
+    plan_ends(rt, alloc, logs, &plan, case)
 }
 
-/// Whether it does over the five records.
-fn comes_to<R: Threads + Wait + RandomSource + Sync, G: Gate + Sync>(
+/// Whether a run over the five records ends as expected.
+fn case_ends<R: Threads + Wait + RandomSource + Sync, G: Gate + Sync>(
     rt: &R,
     alloc: Global,
-    script: &[u8],
-    batch: u32,
-    gate: &G,
-    end: End,
+    case: &Case<'_, G>,
 ) -> Result<bool, Refusal>
-    requires { 1 ≤ batch }
+    requires { 1 ≤ case.now.batch }
 {
     let logs = five_sealed(rt, alloc)?;
-    comes_over(rt, alloc, &logs, script, batch, gate, end)
+    case_ends_over(rt, alloc, &logs, case)
 }
 
-/// Whether the plan of two joins comes to its end.
+/// Whether the plan of two joins ends as expected.
 fn two_join<R: Threads + Wait + RandomSource + Sync, G: Gate + Sync>(
     rt: &R,
     alloc: Global,
@@ -235,7 +236,13 @@ fn two_join<R: Threads + Wait + RandomSource + Sync, G: Gate + Sync>(
 ) -> Result<bool, Refusal>
     requires { 1 ≤ batch }
 {
-    comes_to(rt, alloc, TWO_JOINS, batch, gate, End::TwoMembers)
+    let case = Case {
+        script: TWO_JOINS,
+        batch,
+        gate,
+        end: End::TwoMembers,
+    };
+    case_ends(rt, alloc, &case)
 }
 
 #[test]
@@ -245,7 +252,7 @@ fn two_members(rt: HostRuntime) {
     assert_eq!(rt; (one_by_one, by_many), (Ok(true), Ok(true)));
 }
 
-/// Whether a plan comes to where one member is left.
+/// Whether one member is left at the end of a plan.
 fn leaves_one<R: Threads + Wait + RandomSource + Sync>(
     rt: &R,
     alloc: Global,
@@ -254,7 +261,13 @@ fn leaves_one<R: Threads + Wait + RandomSource + Sync>(
 ) -> Result<bool, Refusal>
     requires { 1 ≤ batch }
 {
-    comes_to(rt, alloc, script, batch, &Open, End::OneLeft)
+    let case = Case {
+        script,
+        batch,
+        gate: &Open,
+        end: End::OneLeft,
+    };
+    case_ends(rt, alloc, &case)
 }
 
 #[test]
@@ -267,7 +280,7 @@ fn one_leaves(rt: HostRuntime) {
     assert_eq!(rt; leaves_one(&rt, rt.alloc(), lose, 1), Ok(true));
 }
 
-/// What a gate knows of one of two members.
+/// What a gate has seen of one of two members.
 #[derive(Drop)]
 struct Side {
     asked: AtomicU32,
@@ -306,9 +319,10 @@ impl Side {
     }
 }
 
-/// Holds each of two members back until the other has come on: below generation 3 nobody commits;
-/// then a member's second question raises its flag, the second member's first question waits for
-/// the flag of the first, and the first member's second question for the flag of the second.
+/// A gate that holds each of two members back until the other has gone on. Below generation 3
+/// nobody commits. Then a member's second question raises its flag; the second member's first
+/// question waits for the first member's flag, and the first member's second question for the
+/// second member's flag.
 #[derive(Drop)]
 struct Handshake {
     first: Side,
@@ -330,7 +344,7 @@ impl Gate for Handshake {
     }
 }
 
-/// Whether two join under this gate, and both flags are up then.
+/// Whether two members join under this gate, and whether both flags are up then.
 fn both_go_on<R: Threads + Wait + RandomSource + Sync>(
     rt: &R,
     alloc: Global,
@@ -349,7 +363,7 @@ fn other_worker_held(rt: HostRuntime) {
     assert_eq!(rt; both_go_on(&rt, rt.alloc(), &gate), Ok((true, true)));
 }
 
-/// Whether a run was stopped by its gate, or else came to its end after all five commits.
+/// Whether a run was stopped by its gate, or ended as expected after all five commits.
 fn is_stopped(came_to_end: Result<bool, Refusal>, asked_before: u32) -> bool {
     match came_to_end {
         Ok(is_end) => asked_before >= 5 && is_end,
@@ -357,7 +371,7 @@ fn is_stopped(came_to_end: Result<bool, Refusal>, asked_before: u32) -> bool {
     }
 }
 
-/// Whether a run is stopped by a gate that lets so many questions pass.
+/// Whether a run is stopped by a gate that lets `before` questions pass.
 fn stops_after<R: Threads + Wait + RandomSource + Sync>(
     rt: &R,
     alloc: Global,
@@ -374,7 +388,7 @@ fn a_gate_that_stops(rt: HostRuntime) {
     }
 }
 
-/// Whether two join under a gate that holds back so many questions.
+/// Whether two members join under a gate that holds the first `first` questions back.
 fn joins_after<R: Threads + Wait + RandomSource + Sync>(
     rt: &R,
     alloc: Global,
@@ -391,7 +405,7 @@ fn a_gate_that_holds_back(rt: HostRuntime) {
     }
 }
 
-/// A plan of which nothing was applied, over these logs.
+/// This plan over these logs, with no line applied.
 fn planned_of(alloc: Global, logs: Logs, plan: Plan) -> Result<Planned, Refusal> {
     Ok(Planned::new(alloc, logs, plan)?)
 }
@@ -414,18 +428,18 @@ fn five_copied(rt: &impl RandomSource, alloc: Global) -> Result<Logs, Refusal> {
     Ok(logs.copy(rt, alloc)?)
 }
 
-/// A call on a plan that is carried out, or what is told of it.
+/// A call on a `Planned`, or a check of it.
 #[derive(Clone, Copy)]
 enum Step {
-    /// As many lines as can be applied are these.
+    /// Exactly this many more lines can be applied now, and are.
     Advance(u32),
     /// A member syncs and rejoins.
     Rejoin(u32),
-    /// The group is settled in this generation, and so many lines are applied.
+    /// The group is settled in this generation, with this many lines applied.
     Settled(u32, u32),
 }
 
-/// Whether as many lines as can be applied are these.
+/// Applies lines, and returns whether exactly `lines` of them could be applied.
 fn advances_by(planned: &mut Planned, lines: u32) -> Result<bool, Refusal> {
     for _ in 0..lines {
         if !planned.advance()? {
@@ -446,7 +460,7 @@ fn is_settled_in(planned: &Planned, generation: u32) -> bool {
     planned.cluster().is_settled() && planned.cluster().generation() == generation
 }
 
-/// Whether a step goes as it says.
+/// Makes a step, and returns whether it goes as expected.
 fn goes(planned: &mut Planned, step: Step) -> Result<bool, Refusal> {
     match step {
         Step::Advance(lines) => advances_by(planned, lines),
@@ -460,7 +474,7 @@ fn goes(planned: &mut Planned, step: Step) -> Result<bool, Refusal> {
     }
 }
 
-/// The first step that does not go as it says.
+/// The index of the first step that does not go as expected.
 fn first_other(planned: &mut Planned, steps: &[Step]) -> Result<Option<usize>, Refusal> {
     for (index, step) in steps.iter().enumerate() {
         if !goes(planned, *step)? {
@@ -470,7 +484,7 @@ fn first_other(planned: &mut Planned, steps: &[Step]) -> Result<Option<usize>, R
     Ok(None)
 }
 
-/// The first step of a plan of two joins that does not go as it says.
+/// The same, on the plan of two joins.
 fn first_other_of_two(
     rt: &impl RandomSource,
     alloc: Global,
@@ -480,7 +494,7 @@ fn first_other_of_two(
     first_other(&mut planned, steps)
 }
 
-/// Each line of a plan of two joins, in its turn.
+/// The lines of the plan of two joins are applied one after the other.
 const EACH_LINE: [Step; 7] = [
     Step::Advance(2),
     Step::Rejoin(1),
@@ -501,7 +515,7 @@ fn digit(n: u32) -> u8 {
     b'0'.wrapping_add((n % 10) as u8)
 }
 
-/// Adds as many joins as there can be members.
+/// Adds a join for each possible member.
 fn add_joins(script: &mut Vec<u8>) -> Result<(), AllocError> {
     for n in 0..MOST_MEMBERS as u32 {
         script.extend_from_slice(b"join ")?;
@@ -510,20 +524,26 @@ fn add_joins(script: &mut Vec<u8>) -> Result<(), AllocError> {
     Ok(())
 }
 
-/// A plan of them.
+/// A script of these joins.
 fn all_join(alloc: Global) -> Result<Vec<u8>, AllocError> {
     let mut script = Vec::new(alloc);
     let done = add_joins(&mut script);
     done.and(Ok(script))
 }
 
-/// Whether all are present after the run of that plan.
+/// Whether all members are present at the end of its run.
 fn most_join<R: Threads + Wait + RandomSource + Sync>(
     rt: &R,
     alloc: Global,
 ) -> Result<bool, Refusal> {
     let script = all_join(alloc)?;
-    comes_to(rt, alloc, &script, 500, &Open, End::AllPresent)
+    let case = Case {
+        script: &script,
+        batch: 500,
+        gate: &Open,
+        end: End::AllPresent,
+    };
+    case_ends(rt, alloc, &case)
 }
 
 #[test]

@@ -1,4 +1,4 @@
-//! A long schedule of chosen events, after each of which a world is good.
+//! A long pseudo-random schedule, after each event of which the world is checked.
 
 ghost use Rattle.std.specs.Prelude.{◌<◌};
 
@@ -13,7 +13,7 @@ use std::process::Abort;
 use std::random::RandomSource;
 use world::{Reply, World};
 
-/// The numbers by which the long schedule is chosen: x' = 1664525 x + 1013904223, modulo 2^32.
+/// The numbers that choose the events: x' = 1664525 x + 1013904223, modulo 2^32.
 #[derive(Drop)]
 struct Chosen {
     x: u32,
@@ -29,7 +29,7 @@ impl Chosen {
         (self.x >> 8) % n
     }
 
-    /// A member number, where so many were given: one of these, the next or 0.
+    /// A member number, where `given` members exist: one of these, the next one or 0.
     fn member(&mut self, given: u32) -> u32 {
         self.below(given % 64 + 2)
     }
@@ -44,7 +44,7 @@ impl Chosen {
     }
 }
 
-/// Which kind of event this is, and an event of it.
+/// A kind of event, and an event of it.
 fn chosen_event<'a>(
     chosen: &mut Chosen,
     sent: u32,
@@ -83,7 +83,7 @@ fn chosen_event<'a>(
     }
 }
 
-/// Counts a member as an owner of what it is granted.
+/// Counts a member as an owner of each partition that it is granted.
 fn count_owner(owners: &mut [u32; 5], granted: &Plane) {
     for p in 0..5 {
         if granted.contains(p as u32) {
@@ -92,7 +92,7 @@ fn count_owner(owners: &mut [u32; 5], granted: &Plane) {
     }
 }
 
-/// How many members each partition is granted to.
+/// The number of owners of each partition.
 fn owners_of(cluster: &Cluster) -> [u32; 5] {
     let mut owners = [0u32; 5];
     for member in cluster.members() {
@@ -103,7 +103,7 @@ fn owners_of(cluster: &Cluster) -> [u32; 5] {
     owners
 }
 
-/// Whether no partition has two owners, and where the group is settled each has one.
+/// Whether no partition has two owners, and each has one if the group is settled.
 fn are_right(owners: &[u32; 5], is_settled: bool) -> bool {
     for n in owners {
         if *n > 1 || (is_settled && *n == 0) {
@@ -113,7 +113,7 @@ fn are_right(owners: &[u32; 5], is_settled: bool) -> bool {
     true
 }
 
-/// Whether no member is granted two partitions more than another one.
+/// Whether no member is granted two more partitions than another one.
 fn is_even(cluster: &Cluster) -> bool {
     let (mut least, mut most) = (u32::MAX, 0);
     for member in cluster.members() {
@@ -125,15 +125,15 @@ fn is_even(cluster: &Cluster) -> bool {
     most <= least.saturating_add(1)
 }
 
-/// No partition is granted to two members, and where the group is settled each is granted to one,
-/// evenly.
+/// No partition has two owners. In a settled group each has one, and no member has two more than
+/// another one.
 fn grants_are_right(rt: &impl Abort, cluster: &Cluster) {
     let (owners, is_settled) = (owners_of(cluster), cluster.is_settled());
     assert!(rt; are_right(&owners, is_settled), "{owners:?}");
     assert!(rt; !is_settled || is_even(cluster));
 }
 
-/// The keys of a partition's records from an offset to another one, where there are so many.
+/// The keys of a partition's records from one offset to another, if the log has these.
 fn records_of(cluster: &Cluster, p: u32, from: u32, end: u32) -> Option<&[u32]> {
     let logs = cluster.logs();
     if p < logs.partitions() && from <= end && end <= logs.len(p) {
@@ -151,7 +151,7 @@ fn committed_of(cluster: &Cluster, p: u32) -> Option<&[u32]> {
     }
 }
 
-/// Counts each of these keys, where there are eight in all.
+/// Counts each of these keys, of eight.
 fn count_ids(counts: &mut [u64; 8], ids: &[u32]) -> bool {
     for id in ids {
         if *id >= 8 {
@@ -162,7 +162,7 @@ fn count_ids(counts: &mut [u64; 8], ids: &[u32]) -> bool {
     true
 }
 
-/// Counts the keys of a partition's records below its committed offset, where there are so many.
+/// Counts the keys of a partition's records below its committed offset, if the log has these.
 fn count_committed(counts: &mut [u64; 8], cluster: &Cluster, p: u32) -> bool {
     match committed_of(cluster, p) {
         Some(ids) => count_ids(counts, ids),
@@ -170,7 +170,7 @@ fn count_committed(counts: &mut [u64; 8], cluster: &Cluster, p: u32) -> bool {
     }
 }
 
-/// The first of five partitions of which there are not so many.
+/// The first of five partitions whose log does not have these.
 fn first_not_counted(counts: &mut [u64; 8], cluster: &Cluster) -> Option<u32> {
     for p in 0..5 {
         if !count_committed(counts, cluster, p) {
@@ -180,7 +180,7 @@ fn first_not_counted(counts: &mut [u64; 8], cluster: &Cluster) -> Option<u32> {
     None
 }
 
-/// Each key's count is how often it is below the committed offsets.
+/// Each key's count is the number of its records below the committed offsets.
 fn counts_are_exact(rt: &impl Abort, cluster: &Cluster) {
     let mut plain = [0u64; 8];
     let not_counted = first_not_counted(&mut plain, cluster);
@@ -189,7 +189,7 @@ fn counts_are_exact(rt: &impl Abort, cluster: &Cluster) {
     assert!(rt; plain.starts_with(counts), "{counts:?}, and not {plain:?}");
 }
 
-/// Whether a consumer is nowhere ahead of the cluster in a partition.
+/// Whether a consumer is not ahead of the cluster in a partition.
 fn is_behind(cluster: &Cluster, consumer: &Consumer, p: u32) -> bool {
     let logs = cluster.logs();
     let (base, position) = (consumer.base(p), consumer.position(p));
@@ -214,7 +214,7 @@ fn first_ahead(cluster: &Cluster, consumer: &Consumer) -> Option<u32> {
     None
 }
 
-/// Whether a consumer is of its member, and of the cluster's generation once the member has synced,
+/// Whether a consumer is its member's, and of the cluster's generation if the member has synced,
 /// else of an older one.
 fn is_of_member(cluster: &Cluster, member: u32, consumer: &Consumer) -> bool {
     consumer.member() == Some(member)
@@ -232,7 +232,7 @@ fn first_not_granted(consumer: &Consumer, granted: &Plane) -> Option<u32> {
     None
 }
 
-/// Whether a consumer claims a partition just where it is assigned, and holds it there.
+/// Whether a consumer claims a partition exactly if it is assigned, and then holds it.
 fn follows(consumer: &Consumer, assigned: &Plane, p: u32) -> bool {
     let is_assigned = assigned.contains(p);
     consumer.claim().contains(p) == is_assigned && (!is_assigned || consumer.holds(p))
@@ -248,7 +248,7 @@ fn first_not_followed(consumer: &Consumer, assigned: &Plane) -> Option<u32> {
     None
 }
 
-/// The same where its member has synced.
+/// The same, if its member has synced.
 fn first_not_leased(consumer: &Consumer, assigned: &Plane, is_synced: bool) -> Option<u32> {
     if is_synced {
         first_not_followed(consumer, assigned)
@@ -257,7 +257,7 @@ fn first_not_leased(consumer: &Consumer, assigned: &Plane, is_synced: bool) -> O
     }
 }
 
-/// A consumer holds only what its member is granted, follows its lease, and is nowhere ahead of the
+/// A consumer holds only what its member is granted, follows its lease, and is never ahead of the
 /// cluster.
 fn consumer_is_in_step(rt: &impl Abort, cluster: &Cluster, member: u32, consumer: &Consumer) {
     let ahead = first_ahead(cluster, consumer);
@@ -271,7 +271,7 @@ fn consumer_is_in_step(rt: &impl Abort, cluster: &Cluster, member: u32, consumer
     assert_eq!(rt; (not_granted, not_leased), (None, None));
 }
 
-/// The records that a commit is of, where there is one at least and the log has so many.
+/// The records of a commit, if there is at least one and the log has them.
 fn sent_of<'a>(cluster: &'a Cluster, commit: &Commit) -> Option<&'a [u32]> {
     let records = commit.partial().ids().len();
     match u32::try_from(records) {
@@ -288,7 +288,7 @@ fn commit_is_sound(rt: &impl Abort, cluster: &Cluster, commit: &Commit) {
     assert_eq!(rt; sent_of(cluster, commit), Some(commit.partial().ids()));
 }
 
-/// What holds after each event, by plain lists.
+/// What holds after each event, checked by plain lists.
 fn world_is_good(rt: &impl Abort, world: &World) {
     let cluster = world.cluster();
     grants_are_right(rt, cluster);
@@ -303,7 +303,7 @@ fn world_is_good(rt: &impl Abort, world: &World) {
     }
 }
 
-/// How many events of each kind were accepted, and how many refused.
+/// The numbers of events of each kind that were accepted and refused.
 #[derive(Drop)]
 struct Tally {
     accepted: [u32; 12],
@@ -311,13 +311,13 @@ struct Tally {
 }
 
 impl Tally {
-    /// How many members were given a number.
+    /// The number of members that ever joined.
     fn given(&self) -> u32 {
         let joined = self.accepted[2].saturating_add(self.accepted[10]);
         joined.saturating_add(self.accepted[11])
     }
 
-    /// One event more of a kind.
+    /// Counts one more event of a kind.
     fn count(&mut self, kind: usize, is_refused: bool)
         requires { kind < 12 }
     {
@@ -330,12 +330,12 @@ impl Tally {
     }
 }
 
-/// How many commits were sent.
+/// The number of sent commits.
 fn sent_in(world: &World) -> u32 {
     u32::try_from(world.mail().len()).unwrap_or(0)
 }
 
-/// One event more, whose kind and reply are counted.
+/// Makes one more event, and counts its kind and reply.
 fn next_event(
     rt: &impl Abort,
     world: &mut World,
@@ -349,7 +349,7 @@ fn next_event(
     tally.count(kind, matches!(reply, Reply::Refused(_)));
 }
 
-/// The counts of 10,000 events, after each of which the world is good.
+/// The counts of 10,000 events, after each of which the world is valid.
 fn tally_of(rt: &impl Abort, world: &mut World, names: &[Name], keys: &[&[u8]; 8]) -> Tally {
     let mut chosen = Chosen { x: 1 };
     let mut tally = Tally {
@@ -363,7 +363,7 @@ fn tally_of(rt: &impl Abort, world: &mut World, names: &[Name], keys: &[&[u8]; 8
     tally
 }
 
-/// All commits of the mail are sound.
+/// All commits of the mail are valid.
 fn mail_is_sound(rt: &impl Abort, world: &World) {
     for commit in world.mail() {
         commit_is_sound(rt, world.cluster(), commit);
@@ -380,7 +380,7 @@ fn are_some(counts: &[u32; 12]) -> bool {
     true
 }
 
-/// A world stays good over the long schedule, in which each kind of event is accepted and refused.
+/// A world stays valid over the long schedule, in which each kind of event is accepted and refused.
 fn stays_good(rt: &impl Abort, world: &mut World, names: &[Name], keys: &[&[u8]; 8]) {
     let tally = tally_of(rt, world, names, keys);
     mail_is_sound(rt, world);
@@ -390,7 +390,7 @@ fn stays_good(rt: &impl Abort, world: &mut World, names: &[Name], keys: &[&[u8];
     assert!(rt; world.cluster().generation() > 8);
 }
 
-/// A new world does, under these names and of these keys.
+/// The same, for a new world with these names and keys.
 fn new_stays_good<R: Abort + RandomSource>(
     rt: &R,
     alloc: Global,
@@ -402,7 +402,7 @@ fn new_stays_good<R: Abort + RandomSource>(
     Ok(())
 }
 
-/// A new world does, of seven keys and this one, which is too long.
+/// The same, for a new world with seven keys and this one, which is too long.
 fn stays_good_with<R: Abort + RandomSource>(
     rt: &R,
     alloc: Global,

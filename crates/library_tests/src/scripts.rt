@@ -1,4 +1,4 @@
-//! Scripts, by the lines that are read of them.
+//! Tests of scripts, by the lines that they parse to.
 
 ghost use Rattle.std.specs.Prelude.{◌≡◌, true};
 ghost use Rattle.group_machine.specs.Name.{is_name};
@@ -31,28 +31,27 @@ enum Command {
     Drain,
 }
 
-/// What a line says: its number, its command, its name or key, and its numbers, 0 where it has
-/// none.
+/// A parsed line: its number, its command, its name or key, and its numbers, 0 where it has none.
 type Said<'a> = (u64, Command, &'a [u8], u32, u32);
 
-/// What a script is read as, among topics or without any.
+/// The expected result of parsing a script, with topics or without.
 ///
-/// A test is a list of scripts, which one loop reads: a course of calls one after the other is
-/// proved over what all of them say, and takes minutes.
+/// A test is a table of scripts that one loop parses: a sequence of calls would be proved over the
+/// contracts of all of them, which takes minutes.
 #[derive(Clone, Copy)]
 enum Read<'a> {
     /// This line alone.
     One(Said<'a>),
     /// These lines.
     Lines(&'a [Said<'a>]),
-    /// It is refused at the line of this number.
+    /// It is refused at this line.
     Bad(u64),
 }
 
-/// A script and what it is read as.
+/// A script and the expected result.
 type Row<'a> = (&'a [u8], Read<'a>);
 
-// The calls, without what their contracts say.
+// The calls, without their contracts.
 
 fn lines_of(alloc: Global, topics: &[Topic], script: &[u8]) -> Result<Vec<Line>, Refusal>
     requires { MayBeTopics topics.now }
@@ -89,7 +88,7 @@ fn parts(action: &Action) -> (Command, &[u8], u32, u32) {
     }
 }
 
-/// Whether a line says this.
+/// Whether a line is this one.
 fn is_line(line: &Line, said: &Said<'_>) -> bool {
     let (command, text, first, second) = parts(&line.action);
     line.number == said.0
@@ -99,7 +98,7 @@ fn is_line(line: &Line, said: &Said<'_>) -> bool {
         && second == said.4
 }
 
-/// Whether lines say this.
+/// Whether lines are these.
 fn are_lines(lines: &[Line], said: &[Said<'_>]) -> bool {
     for (line, said) in lines.iter().zip(said) {
         if !is_line(line, said) {
@@ -109,7 +108,7 @@ fn are_lines(lines: &[Line], said: &[Said<'_>]) -> bool {
     lines.len() == said.len()
 }
 
-/// Whether a script is read so.
+/// Whether a script parses as expected.
 fn is_read(alloc: Global, topics: &[Topic], script: &[u8], read: &Read<'_>) -> bool
     requires { MayBeTopics topics.now }
 {
@@ -119,7 +118,7 @@ fn is_read(alloc: Global, topics: &[Topic], script: &[u8], read: &Read<'_>) -> b
     }
 }
 
-/// Whether lines are what a script is read as.
+/// Whether lines are the expected ones.
 fn are_lines_read(lines: &[Line], read: &Read<'_>) -> bool {
     match read {
         Read::One(said) => lines.len() == 1 && is_line(&lines[0], said),
@@ -128,7 +127,7 @@ fn are_lines_read(lines: &[Line], read: &Read<'_>) -> bool {
     }
 }
 
-/// Whether a refusal is what a script is read as.
+/// Whether a refusal is the expected one.
 fn is_refusal(why: Refusal, read: &Read<'_>) -> bool {
     match (why, read) {
         (Refusal::BadLine { line }, Read::Bad(number)) => line == *number,
@@ -136,7 +135,7 @@ fn is_refusal(why: Refusal, read: &Read<'_>) -> bool {
     }
 }
 
-/// The first of some scripts that is read otherwise.
+/// The index of the first script that does not parse as expected.
 fn first_other(alloc: Global, topics: &[Topic], rows: &[Row<'_>]) -> Option<usize>
     requires { MayBeTopics topics.now }
 {
@@ -148,8 +147,8 @@ fn first_other(alloc: Global, topics: &[Topic], rows: &[Row<'_>]) -> Option<usiz
     None
 }
 
-// Who names a table is proved with each row and each list in it, at each of its statements: so a
-// function that does nothing else does.
+// A function that names a table is proved with each row and each list in it, at each of its
+// statements: so a function that names one does nothing else.
 
 const FORMS: &[u8] = b"append a key, \xff\njoin A\nrejoin B-1\nsync c_2\nleave D\nlose E\n\
     poll A 0 500\nsend A 3\ndeliver 1\nunanswered 2\nsettle\ndrain\nkeep F\nreturn F\n";
@@ -276,7 +275,7 @@ fn bad() -> &'static [Row<'static>] {
     BAD
 }
 
-/// A topic of this name, which is one, and of this many partitions.
+/// A topic of this valid name and this many partitions.
 fn topic(rt: &impl Abort, name: &[u8], partitions: u32) -> Topic
     ensures { result ≡ record { name = name.now; partitions = partitions } }
 {
@@ -284,14 +283,14 @@ fn topic(rt: &impl Abort, name: &[u8], partitions: u32) -> Topic
     Topic { name, partitions }
 }
 
-/// The topic a of two partitions, and b of three.
+/// Topic a of two partitions, and topic b of three.
 fn a_and_b(rt: &impl Abort) -> [Topic; 2]
     ensures { AreTopics result }
 {
     [topic(rt, b"a", 2), topic(rt, b"b", 3)]
 }
 
-/// Appends among topics.
+/// Appends with topics.
 const APPENDS: &[Row<'static>] = &[
     (b"append a x", Read::One((1, Command::AppendIn, b"x", 0, 0))),
     (
@@ -323,7 +322,7 @@ fn appends() -> &'static [Row<'static>] {
     APPENDS
 }
 
-/// Polls among topics.
+/// Polls with topics.
 const POLLS: &[Row<'static>] = &[
     (b"poll A a 0 5", Read::One((1, Command::Poll, b"A", 0, 5))),
     (b"poll A a 1 5", Read::One((1, Command::Poll, b"A", 1, 5))),
@@ -355,7 +354,7 @@ fn polls() -> &'static [Row<'static>] {
     POLLS
 }
 
-/// Sends among topics, and what names none.
+/// Sends with topics, and lines without one.
 const SENDS: &[Row<'static>] = &[
     (b"send A b 2", Read::One((1, Command::Send, b"A", 4, 0))),
     (b"send A a 00", Read::One((1, Command::Send, b"A", 0, 0))),
@@ -400,10 +399,10 @@ fn a_topic_stands_before_keys_and_partitions(rt: HostRuntime) {
     assert_eq!(rt; (append, poll, send), (None, None, None));
 }
 
-/// A text, how many bytes of which kind stand behind it, and what it is read as with these.
+/// A text, a number of bytes of one kind after it, and the expected result.
 type LongerRow<'a> = (&'a [u8], u8, usize, Read<'a>);
 
-/// Whether a text with so many bytes of one kind behind it is read so.
+/// Whether a text with `count` bytes of one kind after it parses as expected.
 fn is_longer_read(alloc: Global, topics: &[Topic], row: &LongerRow<'_>) -> Result<bool, Memory>
     requires { MayBeTopics topics.now }
 {
@@ -412,7 +411,7 @@ fn is_longer_read(alloc: Global, topics: &[Topic], row: &LongerRow<'_>) -> Resul
     Ok(is_read(alloc, topics, &script, read))
 }
 
-/// The first of some such texts that is read otherwise.
+/// The index of the first such text that does not parse as expected.
 fn first_other_longer(
     alloc: Global,
     topics: &[Topic],
@@ -428,7 +427,7 @@ fn first_other_longer(
     Ok(None)
 }
 
-/// A key and a name that are too long among topics, and the longest key.
+/// With topics, a key and a name that are too long, and the longest key.
 const LONG_AMONG: &[LongerRow<'static>] = &[
     (b"append b ", b'k', 248, Read::Bad(1)),
     (b"join ", b'x', 33, Read::Bad(1)),
@@ -489,19 +488,19 @@ fn a_name_has_32_bytes_at_most(rt: HostRuntime) {
     assert_eq!(rt; other, Ok(None));
 }
 
-/// Whether the longest line is read, and also with a carriage return at its end.
+/// Whether the longest line parses, also with a carriage return at its end.
 fn is_longest_read(alloc: Global, longest: &[u8], read: Read<'_>) -> Result<bool, Memory> {
     let is_ended_read = is_longer_read(alloc, &[], &(longest, b'\r', 1, read))?;
     Ok(is_ended_read && is_read(alloc, &[], longest, &read))
 }
 
-/// Whether a line of a command and so many bytes of a key is read, and also with that end.
+/// Whether a command with this many bytes of a key parses, also with that end.
 fn is_append_read(alloc: Global, count: usize, read: Read<'_>) -> Result<bool, Memory> {
     let line = longer(alloc, b"append ", b'k', count)?;
     is_longest_read(alloc, &line, read)
 }
 
-/// What the longest line is read as.
+/// The result of the longest line.
 const LONGEST: Read<'static> = Read::One((1, Command::Append, &[b'k'; 249], 0, 0));
 
 /// A line that is too long, the longest comment, and one that is too long.
@@ -531,7 +530,7 @@ fn add_many(script: &mut Vec<u8>) -> Result<(), Memory> {
     Ok(())
 }
 
-/// A script of them.
+/// A script of these lines.
 fn long_script(alloc: Global) -> Result<Vec<u8>, Memory> {
     let mut script = Vec::new(alloc);
     let done = add_many(&mut script);
@@ -546,13 +545,13 @@ fn last_number(lines: &[Line]) -> Option<u64> {
     }
 }
 
-/// How many lines a script has, and the number of the last one.
+/// The number of lines of a script, and the number of the last one.
 fn count_and_last(alloc: Global, script: &[u8]) -> Result<(usize, Option<u64>), Refusal> {
     let lines = lines_of(alloc, &[], script)?;
     Ok((lines.len(), last_number(&lines)))
 }
 
-/// The same of that script.
+/// The same, for that script.
 fn long_count_and_last(alloc: Global) -> Result<(usize, Option<u64>), Refusal> {
     let script = long_script(alloc)?;
     count_and_last(alloc, &script)
@@ -564,13 +563,13 @@ fn a_long_script_is_read(rt: HostRuntime) {
     assert_eq!(rt; told, Ok((20_000, Some(20_000))));
 }
 
-/// Whether a key lends these bytes, and whether it gives them away.
+/// Whether a key has these bytes, borrowed and moved out of it.
 fn lends_and_gives(key: Key, bytes: &[u8]) -> (bool, bool) {
     let lends = key.bytes() == bytes;
     (lends, key.into_bytes().as_slice() == bytes)
 }
 
-/// Whether a key of these bytes does.
+/// The same, for a key of these bytes.
 fn key_of(alloc: Global, bytes: &[u8]) -> Result<(bool, bool), Memory> {
     let copy = bytes.to_vec(alloc)?;
     Ok(lends_and_gives(Key::new(copy), bytes))

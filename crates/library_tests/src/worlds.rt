@@ -1,4 +1,4 @@
-//! Worked rows, at real sizes too.
+//! Tests of worlds: worked rows, also at real sizes.
 
 ghost use Rattle.std.specs.Prelude.{◌<◌};
 
@@ -13,8 +13,8 @@ use std::random::RandomSource;
 use std::thread::Threads;
 use world::{Event, Reply, World};
 
-// The calls, without what their contracts say: a test of many calls would else be proved over what
-// all of them say.
+// The calls, without their contracts: a test of many calls would otherwise be proved over all that
+// these say.
 
 fn settle(world: &mut World) -> Result<(), Refusal> {
     world.settle()
@@ -34,7 +34,7 @@ fn load<R: Threads + Sync>(
     world.load(rt, keys)
 }
 
-/// The first of some events whose reply is another.
+/// The index of the first event that has another reply.
 fn first_other(world: &mut World, names: &[Name], acts: &[(Act<'static>, Reply)]) -> Option<usize> {
     for (index, (act, reply)) in acts.iter().enumerate() {
         if reply_to(world, act, names) != Some(*reply) {
@@ -79,7 +79,7 @@ fn are_replies(replies: &[Reply], acts: &[(Act<'static>, Reply)]) -> bool {
     replies.len() == acts.len()
 }
 
-/// Whether one run of a schedule has the replies.
+/// Whether one run of a schedule has these replies.
 fn run_is<'a>(
     alloc: Global,
     world: &mut World,
@@ -100,22 +100,22 @@ fn replies_are(
     Ok(are_replies(replies.as_slice(), acts))
 }
 
-/// How many replies a run has.
+/// The number of replies of a run.
 fn replies_of(world: &mut World, events: &[Event]) -> Result<usize, Memory> {
     let replies = world.run(events)?;
     Ok(replies.len())
 }
 
-/// How many replies a run of so many records of one key has.
+/// The number of replies of a run of `records` records of one key.
 fn replies_of_many(alloc: Global, world: &mut World, records: usize) -> Result<usize, Memory> {
     let events = vec![in alloc; Event::Append(b"4"); records]?;
     replies_of(world, events.as_slice())
 }
 
-/// A schedule with its replies, a call on a world with its answer, or what is told of the world.
+/// A schedule with its replies, a call on a world with its answer, or a check of the world.
 #[derive(Clone, Copy)]
 enum Step<'a> {
-    /// A load of records of these keys is answered so.
+    /// A load of records of these keys has this answer.
     Load(&'a [&'a [u8]], Result<(), (u64, Refusal)>),
     /// Records of the keys in `LOADED` are loaded into two topics.
     LoadInTopics,
@@ -125,34 +125,34 @@ enum Step<'a> {
     Acts(&'a [(Act<'static>, Reply)]),
     /// One run of these events has these replies.
     Run(&'a [(Act<'static>, Reply)]),
-    /// A run of so many records of one key has as many replies.
+    /// A run of this many records of one key has as many replies.
     RunMany(usize),
     /// One record is appended to 100,000 of one key, and all are committed.
     OneMore,
     /// The group is settled.
     Settle,
-    /// All is drained by polls of so many records.
+    /// The world is drained by polls of this many records.
     Drain(u32, Result<(), Refusal>),
     /// The group is settled, and each of the five records is committed and counted.
     Drained,
-    /// The first key has this count, and so many commits were sent.
+    /// The first key has this count, and this many commits were sent.
     Counted(u64, usize),
-    /// So many records of the first partition are committed.
+    /// This many records of the first partition are committed.
     Committed(u32),
     /// The three commits of `TWO_SENT` were sent, of which the first member has committed two
     /// records.
     TwoSent,
     /// The generation and the phase.
     Stands(u32, Phase),
-    /// The place of this member was taken over under that number.
+    /// The seat of this member was taken over under that number.
     TakenOver(u32, u32),
-    /// There are so many keys.
+    /// The number of keys.
     Keys(u32),
     /// This member has no consumer.
     NoConsumer(u32),
 }
 
-/// Whether a step goes as it says.
+/// Makes a step, and returns whether it goes as expected.
 fn goes<R: Threads + Sync>(
     rt: &R,
     alloc: Global,
@@ -174,7 +174,7 @@ fn goes<R: Threads + Sync>(
     }
 }
 
-/// Whether a world is told as a step says, which calls nothing that changes it.
+/// Whether a check of the world, which changes nothing, holds.
 fn is_told(world: &World, step: &Step<'_>) -> bool {
     let cluster = world.cluster();
     match step {
@@ -192,7 +192,7 @@ fn is_told(world: &World, step: &Step<'_>) -> bool {
     }
 }
 
-/// The first step that does not go as it says.
+/// The index of the first step that does not go as expected.
 fn first_not_so<R: Threads + Sync>(
     rt: &R,
     alloc: Global,
@@ -208,18 +208,18 @@ fn first_not_so<R: Threads + Sync>(
     None
 }
 
-/// How a world begins.
+/// The world at the start of a test.
 #[derive(Clone, Copy)]
 enum Opening {
-    /// Of four partitions.
+    /// Four partitions.
     Four,
-    /// Of as many partitions as there may be.
+    /// The largest number of partitions.
     Most,
-    /// Of two topics, of two partitions and of three.
+    /// Two topics, of two partitions and of three.
     Topics,
 }
 
-/// A world that begins so.
+/// A new world of this kind.
 fn opened(rt: &impl RandomSource, alloc: Global, opening: Opening) -> Result<World, Memory> {
     match opening {
         Opening::Four => World::new(rt, alloc, 4),
@@ -228,10 +228,10 @@ fn opened(rt: &impl RandomSource, alloc: Global, opening: Opening) -> Result<Wor
     }
 }
 
-// Each of these owns one thing alone, and a test owns nothing: each `?` and each assertion is
-// proved with all that lets go what is owned there, which is most of all where it is a world.
+// Each of these functions owns one thing alone, and a test owns nothing: each `?` and each
+// assertion is proved together with the code that drops what is owned, above all a world.
 
-/// The first step that does not go as it says, of a world that begins so and under these names.
+/// The index of the first step that does not go as expected, in a new world, with these names.
 fn first_not_so_under<R: RandomSource + Threads + Sync>(
     rt: &R,
     alloc: Global,
@@ -243,7 +243,7 @@ fn first_not_so_under<R: RandomSource + Threads + Sync>(
     Ok(first_not_so(rt, alloc, &mut world, names, steps))
 }
 
-/// The same under the eight names.
+/// The same, with the eight names.
 fn first_not_so_of<R: Abort + RandomSource + Threads + Sync>(
     rt: &R,
     alloc: Global,
@@ -257,8 +257,8 @@ fn first_not_so_of<R: Abort + RandomSource + Threads + Sync>(
 /// The load of the five records.
 const LOAD: Step<'static> = Step::Load(&FIVE, Ok(()));
 
-/// Whether a world with the five records has the replies to a schedule in one run, and another one
-/// event by event, of which this is told then.
+/// Whether a world with the five records has the replies of a schedule in one run, and another one
+/// event by event, for which this check then holds.
 fn are_both_so<'a, R: Abort + RandomSource + Threads + Sync>(
     rt: &R,
     alloc: Global,
@@ -291,14 +291,14 @@ const SEND: Act = Act::Send {
     partition: 0,
 };
 
-/// A commit that is not at the offset, with two records committed.
+/// The answer to a commit from another offset, with two records committed.
 const TAKEN: Reply = Reply::Refused(Refusal::OffsetMismatch { committed: 2 });
 
 /// The same with one record committed.
 const ONE_TAKEN: Reply = Reply::Refused(Refusal::OffsetMismatch { committed: 1 });
 
-// Who names a table is proved with each row and each list in it, at each of its statements: so a
-// function that does nothing else does.
+// A function that names a table is proved with each row and each list in it, at each of its
+// statements: so a function that names one does nothing else.
 
 /// A commit is delivered twice.
 const TWICE: &[(Act<'static>, Reply)] = &[
@@ -316,7 +316,7 @@ fn twice() -> &'static [(Act<'static>, Reply)] {
     TWICE
 }
 
-/// Whether the first key has this count, and so many commits were sent.
+/// Whether the first key has this count, and this many commits were sent.
 fn has_counted(world: &World, count: u64, sent: usize) -> bool {
     let first = world.cluster().store().counts().first().copied();
     first == Some(count) && world.mail().len() == sent
@@ -328,7 +328,7 @@ fn a_commit_is_taken_once(rt: HostRuntime) {
     assert_eq!(rt; are_so, Ok(true));
 }
 
-/// A member is lost before its commit comes.
+/// A member is lost before its commit arrives.
 const LOST: &[(Act<'static>, Reply)] = &[
     (Act::Join(0), Reply::Joined(1)),
     (Act::Sync(1), Reply::Leased(1)),
@@ -373,7 +373,7 @@ fn an_unanswered_commit_is_not_taken_again(rt: HostRuntime) {
     assert_eq!(rt; are_so, Ok(true));
 }
 
-/// Two commits are sent before the first one is answered, of which the second then comes too late.
+/// Two commits are sent before the first one is answered; the second one then comes too late.
 const TWO_SENT: &[(Act<'static>, Reply)] = &[
     (Act::Join(0), Reply::Joined(1)),
     (Act::Sync(1), Reply::Leased(1)),
@@ -392,7 +392,7 @@ fn two_sent() -> &'static [(Act<'static>, Reply)] {
     TWO_SENT
 }
 
-/// Whether the second of three commits is of both records, and the third of the second one alone.
+/// Whether the second of three commits has both records, and the third one the second record alone.
 fn are_three(sent: &[Commit]) -> bool {
     match sent {
         [_, both, second] => both.partial().ids() == [0, 0].as_slice() && second.from() == 1,
@@ -416,7 +416,7 @@ fn an_answer_moves_the_base(rt: HostRuntime) {
     assert_eq!(rt; are_so, Ok(true));
 }
 
-/// A place is taken over, and the old consumer goes on until it is told.
+/// A seat is taken over, and the old consumer goes on until it learns of it.
 const RETURNS: &[(Act<'static>, Reply)] = &[
     (Act::JoinKept(0), Reply::Joined(1)),
     (Act::Sync(1), Reply::Leased(1)),
@@ -459,8 +459,8 @@ fn a_place_is_taken_over(rt: HostRuntime) {
     assert_eq!(rt; are_so, Ok(true));
 }
 
-/// The group settles once one has joined who keeps its place, and again once another one has joined
-/// and the place was taken over in the rebalance. Then all is drained.
+/// The group settles after a static member has joined, and again after another one has joined and
+/// the seat was taken over within the rebalance. Then the world is drained.
 const SETTLES_TWICE: &[Step<'static>] = &[
     LOAD,
     Step::One(Act::JoinKept(0), Reply::Joined(1)),
@@ -484,7 +484,7 @@ fn a_place_is_taken_over_in_a_rebalance(rt: HostRuntime) {
     assert_eq!(rt; other, Ok(None));
 }
 
-/// The partition to which a record of the key goes, after so many.
+/// The partition of the next record of key 21, after `records` records.
 fn partition_after(world: &mut World, records: u32) -> Option<u32> {
     match reply_of(world, Event::Append(b"21")) {
         Reply::Appended(partition, offset) if offset == records => Some(partition),
@@ -492,8 +492,7 @@ fn partition_after(world: &mut World, records: u32) -> Option<u32> {
     }
 }
 
-/// The first member polls all records of a partition, of which there are one more than 100,000, and
-/// commits them.
+/// The first member polls all 100,001 records of a partition, and commits them.
 fn commits_all(world: &mut World, names: &[Name], partition: u32) -> bool {
     let poll = Act::Poll {
         member: 1,
@@ -510,7 +509,7 @@ fn commits_all(world: &mut World, names: &[Name], partition: u32) -> bool {
         && reply_of(world, Event::Deliver(1)) == Reply::Committed(100_001)
 }
 
-/// One joins and syncs.
+/// A member joins and syncs.
 const JOINED: &[(Act<'static>, Reply)] = &[
     (Act::Join(0), Reply::Joined(1)),
     (Act::Sync(1), Reply::Leased(1)),
@@ -521,7 +520,7 @@ fn joined() -> &'static [(Act<'static>, Reply)] {
     JOINED
 }
 
-/// Whether one more record is the last of 100,001 in its partition, and all are committed there.
+/// Whether one more record is the last of 100,001 in its partition, and all are then committed.
 fn takes_one_more(world: &mut World, names: &[Name]) -> bool {
     match partition_after(world, 100_000) {
         Some(partition) => commits_all(world, names, partition),
@@ -529,7 +528,7 @@ fn takes_one_more(world: &mut World, names: &[Name]) -> bool {
     }
 }
 
-/// The first step that does not go as it says, of a world with 100,000 records of one key.
+/// The index of the first step that does not go as expected, with 100,000 records of one key.
 fn first_not_so_of_many<R: Abort + RandomSource + Threads + Sync>(
     rt: &R,
     alloc: Global,
@@ -558,7 +557,8 @@ fn runs_at_real_sizes(rt: HostRuntime) {
     assert_eq!(rt; other, Ok(None));
 }
 
-/// The first step that does not go as it says, where a load of these keys stops at the third one.
+/// The index of the first step that does not go as expected, if a load of these keys stops at the
+/// third one.
 fn first_not_so_at_third<'a, R: Abort + RandomSource + Threads + Sync>(
     rt: &R,
     alloc: Global,
@@ -572,7 +572,7 @@ fn first_not_so_at_third<'a, R: Abort + RandomSource + Threads + Sync>(
     first_not_so_of(rt, alloc, Opening::Four, &steps)
 }
 
-/// The same where this one is the third, which is too long.
+/// The same, if this key is the third one, which is too long.
 fn first_not_so_at<R: Abort + RandomSource + Threads + Sync>(
     rt: &R,
     alloc: Global,
@@ -582,7 +582,7 @@ fn first_not_so_at<R: Abort + RandomSource + Threads + Sync>(
     first_not_so_at_third(rt, alloc, &keys)
 }
 
-/// The same for a key of 65,536 bytes.
+/// The same, for a key of 65,536 bytes.
 fn first_not_so_at_long<R: Abort + RandomSource + Threads + Sync>(
     rt: &R,
     alloc: Global,
@@ -596,7 +596,7 @@ fn a_load_stops_at_the_first_key_that_is_refused(rt: HostRuntime) {
     assert_eq!(rt; first_not_so_at_long(&rt, rt.alloc()), Ok(None));
 }
 
-/// A second member joins and leaves, once it is out, and the first one rejoins.
+/// A second member joins and leaves. Once it is out, the first one rejoins.
 const TOLD: &[(Act<'static>, Reply)] = &[
     (Act::Join(0), Reply::Joined(1)),
     (Act::Sync(1), Reply::Leased(1)),
@@ -626,7 +626,7 @@ fn is_drained(world: &World) -> bool {
         && cluster.store().counts() == [2, 1, 1, 1].as_slice()
 }
 
-/// A world is drained once there is somebody to drain it.
+/// A world is drained once a member is there to drain it.
 const DRAINS: &[Step<'static>] = &[
     LOAD,
     Step::Drain(500, Err(Refusal::NobodyPresent)),
@@ -646,8 +646,8 @@ fn a_drain_commits_all(rt: HostRuntime) {
     assert_eq!(rt; other, Ok(None));
 }
 
-/// One who is settled sends the records of two partitions, and a second member joins. The world is
-/// drained from where so much is pending.
+/// A settled member sends the records of two partitions, and a second member joins. The world is
+/// drained while all that is pending.
 const DRAINS_PENDING: &[Step<'static>] = &[
     LOAD,
     Step::One(Act::Join(0), Reply::Joined(1)),
@@ -685,7 +685,7 @@ fn a_drain_goes_on_from_what_is_pending(rt: HostRuntime) {
     assert_eq!(rt; other, Ok(None));
 }
 
-/// No topic of that index is there.
+/// There is no topic of this index.
 const NO_TOPIC: Reply = Reply::Refused(Refusal::NoSuchTopic { nth: 0 });
 
 /// Records of two topics, of two partitions and of three.
@@ -727,7 +727,7 @@ fn after_a_load() -> &'static [(Act<'static>, Reply)] {
 /// The keys of that load.
 const LOADED: [&[u8]; 5] = [b"21", b"abc", b"21", b"4", b"4"];
 
-/// Whether two topics take them, in their places.
+/// Whether two topics take them, each key in its partition.
 fn takes_in_topics<R: Threads + Sync>(rt: &R, world: &mut World) -> bool {
     world.cluster().logs().topics() == 2 && world.load_in(rt, &[0, 1, 1, 0, 1], &LOADED) == Ok(())
 }

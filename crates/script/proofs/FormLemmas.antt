@@ -1,4 +1,4 @@
--- What is written in a form is read as its action.
+-- A line in a form of an action parses to it.
 use Rattle.std.proofs.Common.{◌≡◌, refl, sym, ap, ◌∙◌, ℕ, true, cond, not, List, codes, Option, Some, None}
 use Rattle.std.specs.List.{list_all}
 use Rattle.std.specs.Option.{option_and_then}
@@ -22,7 +22,7 @@ none_then : {A B : Type 0} (f : A → Option B) (o : Option A)
 none_then f None none = refl
 none_then f (Some x) none = none x
 
--- a line of a command and what stands behind it says what they do
+-- a line parses to the action of its command and the text after it
 by_command : (topics : List Topic) (command text line : List ℕ) (action : Action)
     → list_all (λ b. not (is_space b)) command ≡ true → line ≡ command ⎵ text
     → command_action topics command text ≡ Some action → action_of topics line ≡ Some action

@@ -1,4 +1,4 @@
--- What std reads as a number, of a word of 1 to 10 digits.
+-- The number that std parses, for a word of 1 to 10 digits.
 use Rattle.std.proofs.Common.{◌≡◌, refl, ℕ, ◌<◌, ◌≤◌, ◌^◌, Bool, true, false, cond, ltb, leb, List, length, Some, None, Result, Ok, Err, arith, rules, ◌&&◌}
 use Rattle.std.proofs.lemmas.Fmt.{IsAscii-from_digits}
 use Rattle.std.proofs.lemmas.Str.{IsUtf8-from_ascii}

@@ -1,4 +1,4 @@
--- The first part of bytes, before a byte at which they are cut, and what follows.
+-- The bytes before the first byte that passes a test, and the bytes after it.
 use Rattle.std.proofs.Common.{◌≡◌, refl, ap, subst, ◌∙◌, ℕ, ◌+◌, ◌-◌, ◌<◌, ◌≤◌, Bool, true, false, cond, not, ltb, List, [], ◌∷◌, ◌++◌, length, take, drop, Option, Some, None, arith, add_comm}
 use Rattle.std.proofs.Math.Seq.{drop-append-add, get_or-append_seam, take-append_seam}
 use Rattle.std.proofs.lemmas.List.{get_or_append_left, length-append, take_rest}
@@ -9,7 +9,7 @@ use Rattle.script.specs.Grammar.{is_line_feed, is_space, split_lines, split_word
 use native.Mathlib.Numerals.{unary_clauses}
 use borrow.Author.Tests.{eqb-true, lt-ltb, ltb-true, ltb-false}
 
--- what the position of the first byte that passes says
+-- the position of the first byte that passes
 pub first_at : (p : ℕ → Bool) (xs : List ℕ) (i : ℕ)
     → position p xs ≡ Some i → (position_or_len p xs ≡ i) × (position_or_len p xs < length xs)
 first_at p xs i e = at (ltb (position_or_len p xs) (length xs)) refl e
@@ -20,7 +20,7 @@ first_at p xs i e = at (ltb (position_or_len p xs) (length xs)) refl e
     at true t e = (cc, ltb-true _ _ t)
     at false t e = absurd cc
 
--- what its absence says
+-- no byte passes
 pub none_at : (p : ℕ → Bool) (xs : List ℕ) → position p xs ≡ None → length xs ≤ position_or_len p xs
 none_at p xs e = at (ltb (position_or_len p xs) (length xs)) refl e
   where
@@ -29,7 +29,7 @@ none_at p xs e = at (ltb (position_or_len p xs) (length xs)) refl e
     at true t e = absurd cc
     at false t e = ltb-false _ _ t
 
--- where no byte passes, the bytes are one part
+-- if no byte passes, the bytes are one part
 no_cut : (x : ℕ) (xs : List ℕ) (parts : List (List ℕ)) (n : ℕ) (b : Bool)
     → (length xs ≤ n → parts ≡ xs ∷ []) → length (x ∷ xs) ≤ cond (not b) (1 + n) 0
     → cond b ([] ∷ parts) (onto_first x parts) ≡ (x ∷ xs) ∷ []
@@ -81,7 +81,7 @@ lines-none (x ∷ xs) some e = lines_none x xs (none_at is_line_feed (x ∷ xs) 
 
 -- ---- the word before the first space
 
--- what is cut there is put together again
+-- what is split there is concatenated again
 split_at : (text : List ℕ) (i : ℕ) → position is_space text ≡ Some i
     → text ≡ take i text ++ 32 ∷ drop (i + 1) text
 split_at text i e =
@@ -103,7 +103,7 @@ split-parts text parts e = go (position is_space text) refl e
         let is : (take i text, drop (i + 1) text) ≡ parts = cc in
         subst (λ parts. text ≡ parts.0 ++ 32 ∷ parts.1) is (split_at text i at)
 
--- a word and a text behind one space are cut there
+-- a word, a space and a text are split at the space
 pub split-there : (word text : List ℕ) → All (λ b. is_space b ≡ false) word
     → split_word (word ++ 32 ∷ text) ≡ Some (word, text)
 unfolding split_word

@@ -1,4 +1,4 @@
--- How the answer to a plan comes of its first line and of the rest.
+-- The result of a plan by its first line and the rest.
 use Rattle.std.proofs.Common.{◌≡◌, ◌≤◌, refl, sym, ap, ◌∙◌, ℕ, ◌+◌, ◌⊎◌, inl, inr, Bool, true, false, cond, not, ltb, ◌&&◌, ◌||◌, List, [], ◌∷◌, ◌++◌, length, ⊎_elim, arith, Option, Some, None, Result, Ok, Err, append_assoc, append-nil}
 use Rattle.std.specs.Prelude.{◌==◌}
 use Rattle.std.specs.List.{cons_option}
@@ -16,9 +16,9 @@ use Rattle.script.specs.declared.limits.TheConstants.{LONGEST_LINE}
 use Rattle.script.specs.declared.plan.Change.{Change}
 use borrow.Author.Tests.{eqb-true}
 
--- ---- what a line says
+-- ---- the change of a line
 
--- what is answered where an action is read, if any is
+-- the result for an action, if there is one
 abbrev read_as : ℕ → Option Action → Result (Option Change) Refusal
 read_as n None = Ok None
 read_as n (Some action) = option_map_or (λ c. Ok (Some c)) (change_of action) (Err (r.BadLine n))
@@ -29,7 +29,7 @@ one_read : (n : ℕ) (change : Option Change)
 one_read n None = refl
 one_read n (Some c) = refl
 
--- a line that is too long or not, silent or not, and says this action
+-- a line that is too long or not, silent or not, with this action
 abbrev action_by : Bool → Option Action → Option Action
 action_by silent action = cond silent None action
 
@@ -60,7 +60,7 @@ unread_by n false true action e h = absurd cc
 unread_by n false false None e h = cc
 unread_by n false false (Some a) e h = absurd cc
 
--- a line of which an action was read, if any was
+-- a line that parses to this action, if any
 pub said-read : (n : ℕ) (line : List ℕ) (x : Option Action)
     → Answers (line_answer [] (n, line)) (Ok x) → said_answer (n, line) ≡ read_as n x
 unfolding action_said change_said is_bad is_no_plan_line line_answer said_answer
@@ -84,7 +84,7 @@ abbrev pub plan_after : List Change → List (ℕ × List ℕ) → Result (List 
 plan_after before lines =
     option_map_or Err (first_fault before lines) (with_a_line (before ++ changes_in lines))
 
--- the same where the first line is one of a plan or not, and says this change, if any
+-- the same if the first line is one of a plan or not, with this change, if any
 abbrev plan_by : List Change → ℕ → Bool → Option Change → List (ℕ × List ℕ)
     → Result (List Change) Refusal
 plan_by before n bad change lines =
@@ -177,7 +177,7 @@ plan-refused before whole n bytes line rest e first answer (inl h) =
     ∙ answer)
 plan-refused before whole n bytes line rest e first answer (inr h) = inr cc
 
--- a change, which has this fault or none
+-- a change with this fault, if any
 plan_with : (before : List Change) (whole : Result (List Change) Refusal) (n : ℕ)
     (bytes line rest : List ℕ) (c : Change) (fault : Option Refusal)
     → lines_from n bytes ≡ (n, line) ∷ lines_from (n + 1) rest
@@ -193,7 +193,7 @@ plan_with before whole n bytes line rest c fault first answer said is =
     (is_said refl said) is)
     ∙ answer
 
--- one that is taken
+-- a change that is accepted
 pub plan-taken : (before : List Change) (whole : Result (List Change) Refusal) (n : ℕ)
     (bytes line rest : List ℕ) (c : Change)
     → lines_from n bytes ≡ (n, line) ∷ lines_from (n + 1) rest
@@ -204,7 +204,7 @@ pub plan-taken : (before : List Change) (whole : Result (List Change) Refusal) (
 plan-taken before whole n bytes line rest c first answer said h =
     plan_with before whole n bytes line rest c None first answer said (not_refused n before c h)
 
--- one that is refused
+-- a change that is refused
 pub plan-fault : (before : List Change) (whole : Result (List Change) Refusal) (n : ℕ)
     (bytes line rest : List ℕ) (c : Change) (e : Refusal)
     → lines_from n bytes ≡ (n, line) ∷ lines_from (n + 1) rest

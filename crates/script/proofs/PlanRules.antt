@@ -1,4 +1,4 @@
--- What keeps the rules of a plan, and what comes of them.
+-- The rules of a plan, line by line.
 use Rattle.std.proofs.Common.{◌≡◌, ◌≤◌, ◌<◌, ◌*◌, ◌-◌, refl, sym, subst, ap, ◌∙◌, ℕ, zero, suc, ◌+◌, ◌⊎◌, inl, inr, Bool, true, false, cond, not, ltb, ◌&&◌, List, [], ◌∷◌, ◌++◌, length, take, get_or, arith, Some, None}
 use Rattle.std.proofs.lemmas.List.{get_or_append_left, get_or_push, length_push, take-append-le, take_all}
 use Rattle.std.proofs.lemmas.List.Folds.{fold_along}
@@ -13,7 +13,7 @@ use Rattle.script.specs.declared.plan.Change.{Change}
 use Rattle.script.specs.declared.plan.Change.TheVariants.{Join, Leave, Lose}
 use borrow.Author.Tests.{ltb-true}
 
--- ---- the rules, of lines that may be none yet
+-- ---- the rules, for any number of lines
 
 pub record AreAllowed (lines : List Change) : Type 0 where
   pub allowed : (i : ℕ) (change : Change) → slice_get lines i ≡ Some change
@@ -44,7 +44,7 @@ unfolding change_fault
 no-fault n before c e =
     without_fault n (is_allowed before c) (is_anybody_left (entered before c)) e
 
--- an index of a list with one more
+-- an index of a list with one more item
 last_or_before : (n i : ℕ) → i < n + 1 → (i < n) ⊎ (i ≡ n)
 last_or_before n i below = grind arith
 
@@ -81,7 +81,7 @@ pushed_left lines c i h new (inr last) =
     ∙ ap is_anybody_left (fold_push entered nobody_yet lines c)
     ∙ new
 
--- lines with one more that has no fault
+-- one more line, without a fault
 pub push-allowed : (n : ℕ) (lines : List Change) (c : Change)
     → AreAllowed lines → change_fault n (roster_of lines) c ≡ None
     → AreAllowed (lines ++ c ∷ [])
@@ -97,9 +97,9 @@ push-allowed n lines c h none =
           pushed_left lines c i h new.1 (last_or_before (length lines) i (omega arith));
     }
 
--- ---- how many there are
+-- ---- the number of lines
 
--- each line is one who joined or one who is gone
+-- each line is a name that joined or one that is gone
 sizes : (before : Roster) (lines : List Change)
     → length (fold entered before lines).joined + length (fold entered before lines).gone
     ≡ length before.joined + length before.gone + length lines
@@ -117,7 +117,7 @@ sizes before (Lose name ∷ lines) =
     let rest = sizes (entered before (Lose name)) lines in
     omega arith
 
--- how many joined, one line on
+-- the number of joins, after one more line
 one_joins : (before : Roster) (n : ℕ) (c : Change) → length before.joined ≡ n
     → length (entered before c).joined ≡ n + cond (is_join c) 1 0
 one_joins before n (Join name) is = let more = length_push before.joined name in omega arith
@@ -130,7 +130,7 @@ joined-counted lines =
     fold_along entered (λ n c. n + cond (is_join c) 1 0) (λ before n. length before.joined ≡ n)
     one_joins nobody_yet 0 lines refl
 
--- a change that is allowed makes no member too many
+-- a change that is allowed does not exceed the number of members
 room : (fresh : Bool) (n : ℕ) → (fresh && ltb n MOST_MEMBERS) ≡ true → n + 1 ≤ MOST_MEMBERS
 room true n e = let below = ltb-true n MOST_MEMBERS e in omega arith
 room false n e = absurd cc

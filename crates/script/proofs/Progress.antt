@@ -1,4 +1,4 @@
--- How the answer to lines comes of the first one's and that of the rest.
+-- The result for lines by that of the first line and the rest.
 use Rattle.std.proofs.Common.{◌≡◌, refl, sym, ap, ◌∙◌, ℕ, ◌+◌, ◌⊎◌, inl, inr, Bool, true, false, cond, List, [], ◌∷◌, ◌++◌, map, length, ⊎_elim, arith, Option, Some, None, Result, Ok, Err, append_assoc, append-nil}
 use Rattle.std.specs.List.{cons_option, enumerate_from}
 use Rattle.std.specs.Option.{option_map, option_map_or, option_to_list}
@@ -14,7 +14,7 @@ use Rattle.script.specs.declared.action.Action.{Action}
 use Rattle.script.specs.declared.replay.Line.{Line}
 use Rattle.script.specs.declared.topics.Topic.{Topic}
 
--- lines that are read already, before an answer to the rest
+-- lines that are parsed already, before the result for the rest
 abbrev pub after : List Line → Result (List Line) Refusal → Result (List Line) Refusal
 after front answer = result_map_both (λ lines. front ++ lines) (λ refusal. refusal) answer
 
@@ -31,15 +31,15 @@ lines_from-first n bytes text line rest e stripped =
     ap (λ lines. enumerate_from n (map strip_carriage_return lines)) e
     ∙ ap (λ line. (n, line) ∷ lines_from (n + 1) rest) (sym stripped)
 
--- a line of this number that says this, if anything
+-- a line of this number with this action, if any
 abbrev pub line_saying : ℕ → Option Action → Option Line
 line_saying n action = option_map (λ action. record { number = n; action = action }) action
 
--- the answer to lines of which a bad one was found
+-- the result for lines with a bad one
 abbrev told : Option (ℕ × List ℕ) → List Line → Result (List Line) Refusal
 told found lines = option_map_or (λ bad. Err (r.BadLine bad.0)) found (Ok lines)
 
--- an answer to lines of which the first is bad or not, and says this
+-- a result for lines of which the first is bad or not, and has this action, if any
 abbrev answer_by : Bool → ℕ × List ℕ → Option Line → Option (ℕ × List ℕ) → List Line
     → Result (List Line) Refusal
 answer_by bad line first found more =
@@ -67,7 +67,7 @@ refused_first : (bad : Bool) (line : ℕ × List ℕ) (action : Option Action) (
 refused_first true line action first found more e h = cc
 refused_first false line action first found more e h = absurd cc
 
--- a line that is read adds what it says
+-- a line that parses adds its action
 pub answer_of-read : (topics : List Topic) (n : ℕ) (text : List ℕ) (rest : List (ℕ × List ℕ))
     (x : Option Action)
     → Answers (line_answer topics (n, text)) (Ok x)
@@ -78,7 +78,7 @@ answer_of-read topics n text rest x (inl e) =
     read_first (is_bad topics text) (n, text) (action_said topics text) _ _ x (sym e)
 answer_of-read topics n text rest x (inr e) = absurd cc
 
--- one that is refused is the answer, unless memory was
+-- a line that is refused is the result, unless memory runs out
 pub answer_of-refused : (topics : List Topic) (n : ℕ) (text : List ℕ)
     (rest : List (ℕ × List ℕ)) (e : Refusal)
     → Answers (line_answer topics (n, text)) (Err e)

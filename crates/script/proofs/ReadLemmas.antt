@@ -1,4 +1,4 @@
--- What is read as an action is written in a form of it.
+-- A line that parses to an action has a form of it.
 use Rattle.std.proofs.Common.{◌≡◌, refl, ap, subst, ◌∙◌, ℕ, Bool, true, false, cond, List, codes, Option, Some, None}
 use Rattle.std.proofs.lemmas.Slice.Eq.{bytes_eq-Decides}
 use Rattle.std.specs.Option.{IfSome, option_and_then, option_map_or, option_or}
@@ -36,7 +36,7 @@ module _ {A : Type 0} (P : A → Type 0) where
   unfolding name_of
   then_name f word next = then_named f word (is_name word) refl next
 
--- a text that is tested to be this word is this word
+-- a text that equals this word by test is this word
 same : (word text : List ℕ) → bytes_eq word text ≡ true → word ≡ text
 same word text e = (bytes_eq-Decides word text).0 e
 
@@ -86,7 +86,7 @@ single_said topics command word line e =
     (then_name (λ action. IsWritten topics action line) (member_action command) word (λ h. member_said topics command word line h e))
     (then_some (λ action. IsWritten topics action line) (mail_action command) (number_of word) (λ n h. mail_said topics command word n line h e))
 
--- what is said behind a command
+-- the text after a command
 append_said : (topics : List Topic) (text line : List ℕ) → line ≡ codes "append" ⎵ text
     → IfSome (append_action topics text) (λ action. IsWritten topics action line)
 unfolding append_action

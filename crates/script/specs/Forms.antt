@@ -1,4 +1,4 @@
--- The forms of a line that says something, as they are written.
+-- The written forms of actions.
 use Rattle.std.specs.Prelude.{◌≡◌, ℕ, true, List, [], ◌∷◌, ◌++◌, codes, Option, Some, None}
 use Rattle.std.specs.List.{slice_get}
 use Rattle.group_machine.specs.Name.{is_name}
@@ -8,7 +8,7 @@ use Rattle.script.specs.declared.action.Action.{Action}
 use Rattle.script.specs.declared.action.Action.TheVariants.{Append, AppendIn, Join, Keep, Return, Rejoin, Sync, Leave, Lose, Poll, Send, Deliver, Unanswered, Settle, Drain}
 use Rattle.script.specs.declared.topics.Topic.{Topic}
 
--- a word and a text behind one space
+-- a word, a space and a text
 infixr 20 ◌⎵◌
 abbrev pub ◌⎵◌ : List ℕ → List ℕ → List ℕ
 word ⎵ text = word ++ 32 ∷ text
@@ -23,13 +23,13 @@ pub record IsNumbered (command : List ℕ) (n : ℕ) (line : List ℕ) : Type 0 
   pub number : number_of word ≡ Some n
   pub line_is : line ≡ command ⎵ word
 
--- TOPIC and what is said in it, where TOPIC is the name of the topic of this index
+-- a text after the name of the topic of this index
 pub record IsInTopic (topics : List Topic) (i : ℕ) (said text : List ℕ) : Type 0 where
   pub topic : Topic
   pub at : slice_get topics i ≡ Some topic
   pub text_is : text ≡ topic.name ⎵ said
 
--- what is said in a topic; no topic is told where there are none, and only there
+-- a text in a topic, after its name; without topics, the text alone
 abbrev pub IsSaidIn : List Topic → Option ℕ → List ℕ → List ℕ → Type 0
 IsSaidIn topics None said text = (topics ≡ []) × (text ≡ said)
 IsSaidIn topics (Some i) said text = IsInTopic topics i said text
@@ -66,7 +66,7 @@ pub record IsPoll (topics : List Topic) (name : List ℕ) (p n : ℕ) (line : Li
   pub most_is : number_of most ≡ Some n
   pub line_is : line ≡ codes "poll" ⎵ name ⎵ text
 
--- the line is a form of the action
+-- the line has a form of the action
 abbrev pub IsWritten : List Topic → Action → List ℕ → Type 0
 IsWritten topics (Append key) line = IsAppend topics None key line
 IsWritten topics (AppendIn i key) line = IsAppend topics (Some i) key line

@@ -1,4 +1,4 @@
--- The grammar of a script: its lines, and what a line can say.
+-- The grammar of a script: its lines, and their actions.
 use Rattle.std.specs.Prelude.{ℕ, ◌+◌, ◌^◌, ◌==◌, ◌&&◌, nat_le, nat_lt, Bool, if◌then◌else◌, List, [], ◌∷◌, length, take, drop, map, codes, Option, Some, None}
 use Rattle.std.specs.Char.{is_ascii_digit}
 use Rattle.std.specs.List.{enumerate_from, list_all, onto_first, position}
@@ -29,15 +29,15 @@ split_lines [] = []
 split_lines (byte ∷ bytes) =
     if is_line_feed byte then [] ∷ split_lines bytes else onto_first byte (split_lines bytes)
 
--- the lines, each without one carriage return at its end, and numbered from this number on
+-- the lines, each without a carriage return at its end, and numbered from `first` on
 abbrev pub lines_from : ℕ → List ℕ → List (ℕ × List ℕ)
 lines_from first bytes = enumerate_from first (map strip_carriage_return (split_lines bytes))
 
--- the word before the first space, and every byte behind that space
+-- the word before the first space, and all bytes after that space
 unfoldable pub split_word : List ℕ → Option (List ℕ × List ℕ)
 split_word text = option_map (λ i. (take i text, drop (i + 1) text)) (position is_space text)
 
--- 1 to 10 decimal digits, and a value of 32 bits; there may be zeros in front
+-- 1 to 10 decimal digits, and a value of 32 bits; leading zeros are allowed
 abbrev pub is_number : List ℕ → Bool
 is_number word =
     list_all is_ascii_digit word
@@ -51,14 +51,14 @@ number_of word = if is_number word then Some (digits_value 10 word) else None
 unfoldable pub name_of : List ℕ → Option (List ℕ)
 name_of word = if is_name word then Some word else None
 
--- TOPIC and what is said in it: the index of the topic of this name, and the text behind it
+-- the index of the topic that is named first, and the text after its name
 unfoldable pub topic_before : List Topic → List ℕ → Option (Option ℕ × List ℕ)
 topic_before topics text = do
   parts ← split_word text
   topic ← topic_named topics parts.0
   Some (Some topic, parts.1)
 
--- with topics, the name of one stands before what is said in it; without any, no topic is told
+-- with topics, the name of one stands before the text; without any, there is no index
 unfoldable pub topic_said : List Topic → List ℕ → Option (Option ℕ × List ℕ)
 topic_said topics text =
     if length topics == 0 then Some (None, text) else topic_before topics text
@@ -67,7 +67,7 @@ abbrev pub appended : Option ℕ → List ℕ → Action
 appended None key = Append key
 appended (Some topic) key = AppendIn topic key
 
--- append KEY, and with topics append TOPIC KEY: the key is every byte that is left
+-- append KEY, and with topics append TOPIC KEY: the key is the rest of the line
 unfoldable pub append_action : List Topic → List ℕ → Option Action
 append_action topics text = do
   said ← topic_said topics text
@@ -126,7 +126,7 @@ single_action command argument =
     (option_and_then (member_action command) (name_of argument))
     (option_and_then (mail_action command) (number_of argument))
 
--- a command with what stands behind it
+-- a command and the text after it
 unfoldable pub command_action : List Topic → List ℕ → List ℕ → Option Action
 command_action topics command text =
     if bytes_eq command (codes "append") then append_action topics text
@@ -134,7 +134,7 @@ command_action topics command text =
     else if bytes_eq command (codes "poll") then poll_action topics text
     else single_action command text
 
--- what a line says, if it is of the grammar
+-- the action of a line, if the line is valid
 unfoldable pub action_of : List Topic → List ℕ → Option Action
 action_of topics line =
     option_map_or

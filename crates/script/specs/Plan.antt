@@ -1,4 +1,4 @@
--- What a plan is, and what a script is read as, as a plan.
+-- Plans, and the result of parsing a plan.
 use Rattle.std.specs.Prelude.{◌≡◌, ℕ, ◌+◌, ◌<◌, ◌≤◌, ◌==◌, ◌&&◌, ◌||◌, not, nat_lt, Bool, true, if◌then◌else◌, List, [], ◌∷◌, ◌++◌, length, take, Option, Some, None, Result, Ok, Err}
 use Rattle.std.specs.List.{filter_map, fold, list_any, slice_get}
 use Rattle.std.specs.Option.{is_none, option_map_or, option_or, option_to_list}
@@ -14,7 +14,7 @@ use Rattle.script.specs.declared.limits.TheConstants.{LONGEST_LINE}
 use Rattle.script.specs.declared.plan.Change.{Change}
 use Rattle.script.specs.declared.plan.Change.TheVariants.{Join, Leave, Lose}
 
--- who has joined so far, in order, and who of them is gone
+-- the names that have joined so far, in order, and those of them that are gone
 pub record Roster : Type 0 where
   pub joined : List (List ℕ)
   pub gone : List (List ℕ)
@@ -26,12 +26,12 @@ nobody_yet = record { joined = []; gone = [] }
 abbrev pub is_among : List (List ℕ) → List ℕ → Bool
 is_among names name = list_any (λ other. bytes_eq other name) names
 
--- one who joined and is not gone
+-- a name that joined and is not gone
 abbrev pub is_there : Roster → List ℕ → Bool
 is_there roster name = is_among roster.joined name && not (is_among roster.gone name)
 
--- a join of a name that was not used, while there is room for a member; a leave or a loss of one
--- who is there
+-- a join of a name that was not used, while there are fewer than `MOST_MEMBERS`; a leave or a loss
+-- of a name that is there
 unfoldable pub is_allowed : Roster → Change → Bool
 is_allowed roster (Join name) =
     not (is_among roster.joined name) && nat_lt (length roster.joined) MOST_MEMBERS
@@ -69,30 +69,30 @@ change_of (a.Leave name) = Some (Leave name)
 change_of (a.Lose name) = Some (Lose name)
 change_of action = None
 
--- the change that a line says, without topics
+-- the change of a line, without topics
 unfoldable pub change_said : List ℕ → Option Change
 change_said line = action_said [] line >>= change_of
 
--- a line that is too long, be it a comment, or that is neither silent nor says a change
+-- a line that is too long, even a comment, or that is neither silent nor has a change
 unfoldable pub is_no_plan_line : List ℕ → Bool
 is_no_plan_line line =
     nat_lt LONGEST_LINE (length line) || (not (is_silent line) && is_none (change_said line))
 
--- what a change is refused for, as the line of this number: it may not follow those before it, or
--- nobody is left after it
+-- the fault of a change, as the line of this number: it may not follow those before it, or nobody
+-- is left after it
 unfoldable pub change_fault : ℕ → Roster → Change → Option Refusal
 change_fault number before change =
     if not (is_allowed before change) then Some (r.BadLine number)
     else if not (is_anybody_left (entered before change)) then Some (r.NobodyLeft number)
     else None
 
--- what a line is refused for
+-- the fault of a line
 unfoldable pub line_fault : Roster → ℕ × List ℕ → Option Refusal
 line_fault before (number, line) =
     if is_no_plan_line line then Some (r.BadLine number)
     else change_said line >>= change_fault number before
 
--- what the first line that is refused is refused for, where these changes stand before the lines
+-- the fault of the first line that has one, if these changes stand before the lines
 unfoldable pub first_fault : List Change → List (ℕ × List ℕ) → Option Refusal
 first_fault before [] = None
 first_fault before (line ∷ lines) =
@@ -100,15 +100,15 @@ first_fault before (line ∷ lines) =
     (line_fault (roster_of before) line)
     (first_fault (before ++ option_to_list (change_said line.1)) lines)
 
--- the changes that lines say
+-- the changes of lines
 abbrev pub changes_in : List (ℕ × List ℕ) → List Change
 changes_in lines = filter_map (λ line. change_said line.1) lines
 
--- no changes are no plan: nobody is there
+-- a plan has at least one change: without any, nobody is present
 unfoldable pub with_a_line : List Change → Result (List Change) Refusal
 with_a_line changes = if length changes == 0 then Err (r.NobodyLeft 0) else Ok changes
 
--- the first fault is told, and where no line is refused, the changes that they say
+-- the first fault, or if there is none, the changes
 unfoldable pub plan_of : List (ℕ × List ℕ) → Result (List Change) Refusal
 plan_of lines = option_map_or Err (first_fault [] lines) (with_a_line (changes_in lines))
 

@@ -1,4 +1,4 @@
--- What a script is read as.
+-- The result of parsing a script.
 use Rattle.std.specs.Prelude.{ℕ, ◌==◌, ◌&&◌, ◌||◌, not, nat_lt, Bool, if◌then◌else◌, List, [], length, slice_index, Option, None, Result, Ok, Err, Vec}
 use Rattle.std.specs.Global.{Global}
 use Rattle.std.specs.List.{filter_map, find}
@@ -12,25 +12,25 @@ use Rattle.script.specs.declared.limits.TheConstants.{LONGEST_LINE}
 use Rattle.script.specs.declared.replay.Line.{Line}
 use Rattle.script.specs.declared.topics.Topic.{Topic}
 
--- an empty line, and a comment, which begins with '#'
+-- an empty line, or a comment, which begins with '#'
 abbrev pub is_silent : List ℕ → Bool
 is_silent line = (length line == 0) || (slice_index line 0 == 35)
 
--- a line that is too long, be it a comment, or that is neither silent nor says an action
+-- a line that is too long, even a comment, or that is neither silent nor has an action
 unfoldable pub is_bad : List Topic → List ℕ → Bool
 is_bad topics line =
     nat_lt LONGEST_LINE (length line) || (not (is_silent line) && is_none (action_of topics line))
 
--- what a line says, if it is not silent
+-- the action of a line, if it is not silent
 unfoldable pub action_said : List Topic → List ℕ → Option Action
 action_said topics line = if is_silent line then None else action_of topics line
 
--- what a line says, beside its number
+-- the action of a line, with its number
 unfoldable pub said : List Topic → ℕ × List ℕ → Option Line
 said topics (number, line) =
     option_map (λ action. record { number = number; action = action }) (action_said topics line)
 
--- the first bad line is told, and where none is bad, what the lines say
+-- the first bad line, or if none is bad, the lines with an action
 unfoldable pub answer_of : List Topic → List (ℕ × List ℕ) → Result (List Line) Refusal
 answer_of topics lines =
     option_map_or
@@ -46,6 +46,6 @@ read_answer_in topics bytes = answer_of topics (lines_from 1 bytes)
 abbrev pub read_answer : List ℕ → Result (List Line) Refusal
 read_answer bytes = read_answer_in [] bytes
 
--- an answer as a list of lines
+-- a result, seen as a list of lines
 abbrev pub lines_seen : Result (Vec Line Global) Refusal → Result (List Line) Refusal
 lines_seen answer = result_map_both (λ lines. lines.items) (λ refusal. refusal) answer

@@ -1,4 +1,4 @@
--- Topics, which lines may name, and their partitions, which are counted over all topics.
+-- The topics that lines name, and their partitions, which are counted over all topics.
 use Rattle.std.specs.Prelude.{◌≡◌, ◌≢◌, ℕ, ◌+◌, ◌≤◌, nat_lt, true, if◌then◌else◌, List, length, take, Option, Some, None}
 use Rattle.std.specs.List.{All, AllPairs, position, slice_get, sum_by}
 use Rattle.std.specs.Option.{option_map_or}
@@ -9,12 +9,12 @@ use Rattle.lane_words.specs.declared.limits.TheConstants.{MOST_TOPICS}
 use Rattle.script.specs.declared.limits.TheConstants.{NO_PARTITION}
 use Rattle.script.specs.declared.topics.Topic.{Topic}
 
--- how many partitions topics have
+-- the number of partitions of topics
 abbrev pub partitions_in : List Topic → ℕ
 partitions_in topics = sum_by (λ topic. topic.partitions) topics
 
--- topics, or none: at most `MOST_TOPICS`, each with a name that no other has and with a partition,
--- and at most `MOST_PARTITIONS` partitions in all
+-- no topics, or up to `MOST_TOPICS`, each with a name that no other has and with a partition, and
+-- at most `MOST_PARTITIONS` partitions in all
 pub record MayBeTopics (topics : List Topic) : Type 0 where
   pub few : length topics ≤ MOST_TOPICS
   pub named : All (λ topic. is_name topic.name ≡ true) topics
@@ -22,7 +22,7 @@ pub record MayBeTopics (topics : List Topic) : Type 0 where
   pub each : All (λ topic. 1 ≤ topic.partitions) topics
   pub within : partitions_in topics ≤ MOST_PARTITIONS
 
--- topics
+-- at least one topic
 pub record AreTopics (topics : List Topic) : Type 0 where
   pub some : 1 ≤ length topics
   pub known : MayBeTopics topics
@@ -31,13 +31,13 @@ pub record AreTopics (topics : List Topic) : Type 0 where
 unfoldable pub topic_named : List Topic → List ℕ → Option ℕ
 topic_named topics name = position (λ topic. bytes_eq topic.name name) topics
 
--- how many partitions the topic of this index has
+-- the number of partitions of the topic of this index
 abbrev pub partitions_at : List Topic → ℕ → ℕ
 partitions_at topics i = option_map_or (λ topic. topic.partitions) (slice_get topics i) 0
 
--- A partition of the topic of this index, counted over all topics: the partitions of those before it
--- come first. One that the topic does not have is one that is never held. Where no topic is told,
--- it is as it is.
+-- A partition of the topic of this index, counted over all topics: the partitions of the topics
+-- before it come first. A partition that the topic does not have becomes one that is never held.
+-- Without a topic, the partition is as it is.
 unfoldable pub partition_at : List Topic → Option ℕ → ℕ → ℕ
 partition_at topics None p = p
 partition_at topics (Some i) p =

@@ -1,4 +1,4 @@
-//! What a line can say.
+//! The actions of a script, and the grammar of their lines.
 
 ghost use Rattle.std.specs.Prelude.{◌≡◌, Some, IfOk};
 ghost use Rattle.script.specs.Grammar.{action_of, append_action, bare_action, command_action, mail_action, member_action, poll_action, send_action, single_action};
@@ -41,7 +41,7 @@ impl Key {
         &self.bytes
     }
 
-    /// The bytes of the key, which is used up.
+    /// The bytes of the key, which is consumed.
     pub fn into_bytes(self) -> Vec<u8>
         ensures { result.items ≡ self }
     {
@@ -49,21 +49,21 @@ impl Key {
     }
 }
 
-/// What a line says: an event of the group, its logs or its mail, or a command that makes many.
+/// The action of a line: one event, or a command that makes many.
 #[derive(Debug, Drop)]
 pub enum Action {
-    /// A record with this key is appended.
+    /// A record with this key is appended, to the only topic.
     Append(Key),
-    /// A record with this key is appended in the topic of this index.
+    /// A record with this key is appended to the topic of this index.
     AppendIn {
         topic: u32,
         key: Key,
     },
     /// A member of this name joins.
     Join(Name),
-    /// A member of this name joins, and keeps its place under it.
+    /// A static member of this name joins: it keeps its seat under the name.
     Keep(Name),
-    /// A new member takes the place that is kept under this name.
+    /// A new member takes over the seat of the static member of this name.
     Return(Name),
     /// The member joins the rebalance.
     Rejoin(Name),
@@ -73,7 +73,7 @@ pub enum Action {
     Leave(Name),
     /// The member is lost.
     Lose(Name),
-    /// The member reads records of a partition, at most so many.
+    /// The member reads at most `most` records of a partition.
     Poll {
         name: Name,
         partition: u32,
@@ -86,7 +86,7 @@ pub enum Action {
     },
     /// The sent commit of this number, from 1, is delivered.
     Deliver(u32),
-    /// The sent commit of this number is delivered, and its sender is not answered.
+    /// The sent commit of this number is delivered, and the reply is lost.
     Unanswered(u32),
     /// The group settles.
     Settle,
@@ -94,7 +94,7 @@ pub enum Action {
     Drain,
 }
 
-/// What a line says among topics, or without any, if it is of the grammar.
+/// The action of a line, if the line is valid. `topics` is empty for a script without topics.
 #[tactic(auto, unfolding(crate::specs::Grammar::action_of))]
 pub fn action_of(alloc: Global, topics: &[Topic], line: &[u8]) -> Result<Option<Action>, Memory>
     requires { MayBeTopics topics.now }
@@ -106,7 +106,7 @@ pub fn action_of(alloc: Global, topics: &[Topic], line: &[u8]) -> Result<Option<
     }
 }
 
-/// A command with what stands behind it.
+/// A command and the text after it.
 #[tactic(auto, unfolding(crate::specs::Grammar::command_action))]
 fn command_action(
     alloc: Global,
@@ -158,7 +158,7 @@ fn bare_action(command: &[u8]) -> Option<Action>
     }
 }
 
-/// A command with one argument, a name or a number.
+/// A command with one argument: a name or a number.
 #[tactic(auto, unfolding(crate::specs::Grammar::single_action, crate::specs::Grammar::name_of))]
 fn single_action(command: &[u8], argument: &[u8]) -> Option<Action>
     ensures { result ≡ single_action command.now argument.now }
@@ -195,7 +195,7 @@ fn member_action(command: &[u8], name: Name) -> Option<Action>
     }
 }
 
-/// A command of a sent commit, by its number.
+/// A command for a sent commit, by its number.
 #[tactic(auto, unfolding(crate::specs::Grammar::mail_action))]
 fn mail_action(command: &[u8], commit: u32) -> Option<Action>
     ensures { result ≡ mail_action command.now commit }

@@ -10,21 +10,21 @@ ghost use Rattle.script.specs.declared.action.Action.{Action};
 ghost use Rattle.script.specs.declared.plan.Change.{Change};
 ghost use Rattle.script.specs.declared.topics.Topic.{Topic};
 
-/// A line in a form of an action says this action, with topics and without.
+/// A line in a form of an action parses to this action, with topics and without.
 pub fn forms_are_read()
     ensures { (topics : List Topic) (action : Action) (line : List ℕ) → MayBeTopics topics
         → IsWritten topics action line → action_of topics line ≡ Some action }
 {}
 
-/// What is read of a line is written in one of its forms: the grammar has no other lines, with
+/// A line that parses to an action has one of its forms: the grammar has no other lines, with
 /// topics and without.
 pub fn no_others_are_read()
     ensures { (topics : List Topic) (line : List ℕ)
         → IfSome (action_of topics line) (λ action. IsWritten topics action line) }
 {}
 
-/// A plan has fewer lines than two for each member there may be: each line is a join, or a leave
-/// or loss of one who joined, and somebody is left.
+/// A plan has fewer than two lines for each possible member: each line is a join, or a leave or
+/// loss of a member that joined, and somebody is left.
 pub fn a_plan_is_short()
     ensures { (lines : List Change) → IsPlan lines → length lines < 2 * MOST_MEMBERS }
 {}

@@ -1,4 +1,4 @@
-//! The lines of a script, which those of a replay and plans share.
+//! The lines of a script, of a replay or of a plan.
 
 ghost use Rattle.std.specs.Prelude.{◌≡◌, ℕ, ◌+◌, ◌∷◌, ◌<◌, length};
 ghost use Rattle.std.specs.Str.Lines.{strip_carriage_return};
@@ -14,7 +14,7 @@ use crate::words;
 use lane_words::Refusal;
 use std::alloc::Global;
 
-/// The first line without its end, and what follows it.
+/// The first line, without its line end, and the bytes after it.
 pub fn first_line(bytes: &[u8]) -> (&[u8], &[u8])
     requires { 0 < length bytes.now }
     ensures lines { (n : ℕ)
@@ -25,7 +25,7 @@ pub fn first_line(bytes: &[u8]) -> (&[u8], &[u8])
     (without_carriage_return(line), rest)
 }
 
-/// The first line without its line feed, and what follows it.
+/// The first line, without its line feed, and the bytes after it.
 fn split_line(bytes: &[u8]) -> (&[u8], &[u8])
     requires { 0 < length bytes.now }
     ensures lines { split_lines bytes.now ≡ result.0.now ∷ split_lines result.1.now }
@@ -47,8 +47,8 @@ fn without_carriage_return(line: &[u8]) -> &[u8]
     }
 }
 
-/// What the line of this number says among these topics, if it says something. A line that is not
-/// of the grammar is refused with `BadLine`.
+/// Parses the line of this number. A comment or an empty line has no action; a line that is not
+/// valid is refused with `BadLine`.
 #[tactic(auto, unfolding(crate::specs::Private::Answers::line_answer, crate::specs::Replay::is_bad, crate::specs::Replay::action_said))]
 pub fn action_said(
     alloc: Global,

@@ -1,4 +1,4 @@
-//! Plans of a run: who joins, leaves and is lost, in order.
+//! Plans of a run: which members join, leave and are lost, in order.
 
 ghost use Rattle.std.specs.Prelude.{◌≡◌, ◌≤◌, ◌↔◌, ◌<◌, length, IfOk, IsTrue, OnOk};
 ghost use Rattle.lane_words.specs.Answers.{Answers};
@@ -13,7 +13,7 @@ use lane_words::{MOST_MEMBERS, Memory, Refusal};
 use std::alloc::Global;
 use std::marker::Model;
 
-/// A change of who is present in the group.
+/// A change of the members that are present.
 #[derive(Debug, Drop)]
 pub enum Change {
     /// A member of this name joins.
@@ -25,7 +25,7 @@ pub enum Change {
 }
 
 impl Change {
-    /// An equal change.
+    /// A copy of the change.
     fn copy(&self) -> Change
         ensures { result ≡ self.now }
     {
@@ -36,7 +36,7 @@ impl Change {
         }
     }
 
-    /// Whether the other is the same change of the same name.
+    /// Whether the other change is equal.
     fn same(&self, other: &Change) -> bool
         ensures { IsTrue result ↔ (self.now ≡ other.now) }
     {
@@ -56,9 +56,8 @@ impl Change {
     }
 }
 
-/// A plan of a run: at least one change, each of which may follow those before it, and after each
-/// of which somebody is present. A name joins once, only one who is present leaves or is lost, and
-/// at most 512 join.
+/// A plan of a run: at least one change. A name joins at most once, only a present member leaves or
+/// is lost, at most 512 members join, and after each change somebody is present.
 #[derive(Debug, Drop)]
 pub struct Plan {
     /// The changes, in order.
@@ -86,7 +85,7 @@ impl Plan {
         &self.lines
     }
 
-    /// An equal plan. Refused with `Memory` alone.
+    /// A copy of the plan. Fails only if memory runs out.
     pub fn copy(&self, alloc: Global) -> Result<Plan, Memory>
         ensures equal { IfOk result (λ copy. copy ≡ self.now) }
     {
@@ -97,7 +96,7 @@ impl Plan {
         Ok(Plan { lines })
     }
 
-    /// Whether the other has the same changes in the same order.
+    /// Whether the other plan has the same changes in the same order.
     pub fn same(&self, other: &Plan) -> bool
         ensures equal { IsTrue result ↔ (self.now ≡ other.now) }
     {
@@ -112,7 +111,7 @@ impl Plan {
         true
     }
 
-    /// How many members join: 1 to 512.
+    /// The number of members that join: 1 to 512.
     pub fn members(&self) -> u32
         ensures count { result ≡ length (roster_of self.now).joined }
         ensures some { 1 ≤ result }
@@ -122,13 +121,15 @@ impl Plan {
     }
 }
 
-/// The plan that a script says: its lines are `join`, `leave` and `lose` of a name.
+/// Parses a plan. Its lines are `join NAME`, `leave NAME` and `lose NAME`; empty lines and comments
+/// are skipped.
 ///
-/// The first line with a fault is told. `BadLine` is told of a line that is too long, of any other
-/// line than those, empty ones and comments aside, of a join of a name that was used before or of a
-/// 513th, and of a leave or loss of one who is not present; `NobodyLeft` of the first line after
-/// which nobody is present, and with line 0 where no line is refused and none is a change.
-/// Otherwise only a refused growth is refused, with `Memory`.
+/// # Errors
+///
+/// The first line with a fault is reported. `BadLine`: the line is too long or of another form, its
+/// join uses a name again or is the 513th, or the member that it takes out is not present.
+/// `NobodyLeft`: nobody is present after the line; with line 0, no line is a change. `Memory`:
+/// out of memory.
 pub fn read_plan(alloc: Global, bytes: &[u8]) -> Result<Plan, Refusal>
     ensures { Answers (plan_answer bytes.now) result }
 {
@@ -151,8 +152,8 @@ pub fn read_plan(alloc: Global, bytes: &[u8]) -> Result<Plan, Refusal>
     Ok(Plan { lines })
 }
 
-/// The change that the line of this number says, if it says something. A line that says anything
-/// else is refused with `BadLine`.
+/// Parses the line of this number. A comment or an empty line has no change; any other line that is
+/// not a change is refused with `BadLine`.
 fn change_said(alloc: Global, number: u64, line: &[u8]) -> Result<Option<Change>, Refusal>
     ensures { Answers (said_answer (number, line.now)) result }
 {
@@ -165,7 +166,7 @@ fn change_said(alloc: Global, number: u64, line: &[u8]) -> Result<Option<Change>
     Ok(Some(change))
 }
 
-/// The change that an action is, if it is one.
+/// The change of an action, if the action is one.
 #[tactic(auto, unfolding(crate::specs::Plan::change_of))]
 fn change_of(action: &Action) -> Option<Change>
     ensures { result ≡ change_of action.now }
@@ -178,12 +179,12 @@ fn change_of(action: &Action) -> Option<Change>
     }
 }
 
-/// Who has joined so far, and who of them is gone.
+/// The members that have joined so far, and those of them that are gone.
 #[derive(Drop)]
 struct Roster {
-    /// The names of all who joined, in order.
+    /// The names of all that joined, in order.
     joined: Vec<Name>,
-    /// The names of those who left or were lost, in order.
+    /// The names of those that left or were lost, in order.
     gone: Vec<Name>,
 }
 
@@ -196,7 +197,7 @@ impl Model for Roster {
 }
 
 impl Roster {
-    /// Nobody yet.
+    /// An empty roster.
     fn new(alloc: Global) -> Roster
         ensures { result ≡ nobody_yet }
     {
@@ -206,7 +207,7 @@ impl Roster {
         }
     }
 
-    /// Takes a change, as the line of this number.
+    /// Enters the change of the line of this number, or reports why the line is refused.
     #[tactic(auto, unfolding(crate::specs::Plan::change_fault))]
     fn take(&mut self, number: u64, change: &Change) -> Result<(), Refusal>
         ensures answer { Answers (taken (change_fault number self.old change.now)) result }
@@ -236,14 +237,14 @@ impl Roster {
         }
     }
 
-    /// Whether one of this name has joined and is not gone.
+    /// Whether a member of this name has joined and is not gone.
     fn is_there(&self, name: &Name) -> bool
         ensures { result ≡ is_there self.now name.now }
     {
         is_among(&self.joined, name) && !is_among(&self.gone, name)
     }
 
-    /// Enters who joined or is gone.
+    /// Enters the name that joined or is gone.
     fn enter(&mut self, change: &Change) -> Result<(), Memory>
         ensures { OnOk result (self.new ≡ entered self.old change.now) }
     {

@@ -1,4 +1,4 @@
-//! Scripts of a replay.
+//! Parses the script of a replay.
 
 ghost use Rattle.lane_words.specs.Answers.{Answers};
 ghost use Rattle.script.specs.Replay.{lines_seen, read_answer, read_answer_in};
@@ -10,30 +10,29 @@ use crate::topics::Topic;
 use lane_words::Refusal;
 use std::alloc::Global;
 
-/// A line that says something.
+/// A line with an action.
 #[derive(Debug, Drop)]
 pub struct Line {
-    /// The line's number, from 1; empty lines and comments have numbers too.
+    /// The line's number, from 1. Empty lines and comments count too.
     pub number: u64,
-    /// What it says.
+    /// The action.
     pub action: Action,
 }
 
-/// The lines of a script of a replay that say something, in order.
+/// Parses a script, and returns its lines with an action, in order.
 ///
-/// The first line that is not of the grammar is refused with `BadLine`, and otherwise only a
-/// refused growth with `Memory`.
+/// Fails with `BadLine` for the first line that is not valid, and with `Memory` if memory runs out.
 pub fn read_replay(alloc: Global, bytes: &[u8]) -> Result<Vec<Line>, Refusal>
     ensures { Answers (read_answer bytes.now) (lines_seen result) }
 {
     lines_in(alloc, &[], bytes)
 }
 
-/// The same of a script of several topics. In an `append` the name of a topic stands before the key,
-/// and in a `poll` and a `send` before the partition, which is one of this topic. It is told as it
-/// is counted over all topics, and as `NO_PARTITION` where its topic does not have it.
+/// Parses a script with topics. An `append` names a topic before its key, and a `poll` or a `send`
+/// before its partition, which is then one of this topic. In the action, partitions are counted
+/// over all topics; a partition that the topic does not have is `NO_PARTITION`.
 ///
-/// Refused as `read_replay` is; a line that names no topic of these is not of the grammar.
+/// Fails as `read_replay` does. A line that names no topic of these is not valid.
 pub fn read_replay_topics(
     alloc: Global,
     bytes: &[u8],
@@ -45,7 +44,7 @@ pub fn read_replay_topics(
     lines_in(alloc, topics, bytes)
 }
 
-/// The lines of a script among topics, or without any.
+/// Parses a script. `topics` is empty for a script without topics.
 fn lines_in(alloc: Global, topics: &[Topic], bytes: &[u8]) -> Result<Vec<Line>, Refusal>
     requires { MayBeTopics topics.now }
     ensures { Answers (read_answer_in topics.now bytes.now) (lines_seen result) }

@@ -1,4 +1,4 @@
-//! Topics, which lines may name.
+//! The topics that lines name.
 
 ghost use Rattle.std.specs.Prelude.{◌≡◌, ◌≤◌, ℕ, length, take, IfSome, IfNone};
 ghost use Rattle.script.specs.Grammar.{topic_said};
@@ -8,18 +8,18 @@ use crate::limits::NO_PARTITION;
 use crate::words;
 use group_machine::Name;
 
-/// A topic, whose records go to partitions of its own. The partitions of several topics are counted
-/// over all of them, in the order of the topics.
+/// A topic with partitions of its own. The partitions of several topics are counted over all of
+/// them, in the order of the topics.
 #[derive(Debug, Drop)]
 pub struct Topic {
-    /// Its name, which no other topic has.
+    /// The name, which no other topic has.
     pub name: Name,
-    /// How many partitions it has: at least 1, and all topics together at most 4096.
+    /// The number of partitions: at least 1, and at most 4096 for all topics together.
     pub partitions: u32,
 }
 
-/// The index of the topic that is named before a text, and this text; no index, and the text as it
-/// is, where there are no topics.
+/// Splits the name of a topic from the text after it, and returns the topic's index and the text.
+/// Without topics there is no index, and the text is returned as it is.
 #[tactic(auto, unfolding(crate::specs::Grammar::topic_said, crate::specs::Grammar::topic_before))]
 pub fn topic_said<'a>(topics: &[Topic], text: &'a [u8]) -> Option<(Option<u32>, &'a [u8])>
     requires { MayBeTopics topics.now }
@@ -47,7 +47,7 @@ fn index_named(topics: &[Topic], name: &[u8]) -> Option<u32>
     }
 }
 
-/// The same, as an index of the slice.
+/// The index of the topic of this name in the slice.
 #[tactic(auto, unfolding(crate::specs::Topics::topic_named))]
 fn index_in(topics: &[Topic], name: &[u8]) -> Option<usize>
     ensures { result ≡ topic_named topics.now name.now }
@@ -55,8 +55,8 @@ fn index_in(topics: &[Topic], name: &[u8]) -> Option<usize>
     topics.iter().position(|topic| topic.name.text() == name)
 }
 
-/// A partition of the topic of this index, counted over all topics, or `NO_PARTITION` where the
-/// topic does not have it; as it is, where no topic is told.
+/// A partition of the topic of this index, counted over all topics, or `NO_PARTITION` if the topic
+/// does not have it. Without a topic the partition is returned as it is.
 #[tactic(auto, unfolding(crate::specs::Topics::partition_at))]
 pub fn partition_at(topics: &[Topic], topic: Option<u32>, partition: u32) -> u32
     requires { MayBeTopics topics.now }
@@ -73,7 +73,7 @@ pub fn partition_at(topics: &[Topic], topic: Option<u32>, partition: u32) -> u32
     }
 }
 
-/// How many partitions the topics before this index have.
+/// The number of partitions of the topics before this index.
 fn partitions_before(topics: &[Topic], index: usize) -> u32
     requires known { MayBeTopics topics.now }
     requires within { index ≤ length topics.now }

@@ -1,4 +1,4 @@
-//! Words, which one space parts, and numbers.
+//! Words, which are separated by one space, and numbers.
 
 ghost use Rattle.std.specs.Prelude.{◌≡◌, ◌==◌, IfSome, IfNone};
 ghost use Rattle.std.specs.Char.{is_ascii_digit};
@@ -7,7 +7,7 @@ ghost use Rattle.script.specs.Grammar.{number_of, split_word};
 
 use crate::limits::MOST_DIGITS;
 
-/// The word before the first space, and every byte behind that space.
+/// The word before the first space, and all bytes after that space.
 #[tactic(auto, unfolding(crate::specs::Grammar::split_word))]
 pub fn split_word(text: &[u8]) -> Option<(&[u8], &[u8])>
     ensures found { IfSome result
@@ -20,14 +20,14 @@ pub fn split_word(text: &[u8]) -> Option<(&[u8], &[u8])>
     }
 }
 
-/// Where a byte stands first.
+/// The index of the first byte of this value.
 pub fn first_index(text: &[u8], byte: u8) -> Option<usize>
     ensures { result ≡ position (λ b. b == byte) text.now }
 {
     text.iter().position(|b| *b == byte)
 }
 
-/// The number that a word is.
+/// The number that a word spells: 1 to 10 decimal digits and a value of 32 bits.
 #[tactic(auto, unfolding(crate::specs::Grammar::number_of))]
 pub fn number_of(word: &[u8]) -> Option<u32>
     ensures { result ≡ number_of word.now }

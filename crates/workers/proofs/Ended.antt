@@ -1,4 +1,4 @@
--- A run that has come to its end.
+-- A run that is finished.
 use Rattle.std.proofs.Common.{◌≡◌, Bool, true, false, ◌||◌, List, take, refl, ap, sym, ◌∙◌, arith}
 use Rattle.std.proofs.lemmas.List.{length-map, take_all}
 use Rattle.partition_log.specs.Keys.{key_at, plain}
@@ -15,7 +15,7 @@ use Rattle.workers.specs.Progress.{IsValidProgress, Progress, is_at_rest, is_emp
 use Rattle.workers.specs.Runs.{AreAllCounted, IsRunOf}
 use Rattle.workers.proofs.PlanLemmas.{rest_is_end}
 
--- where the ends are committed, each key is counted as often as it is in the logs
+-- if each log is committed to its end, each key is counted as often as it is in the logs
 all_counted : (s : Commits) (l : PartitionLogs) → IsExact s l → AreEndsCommitted s l → AreAllCounted s l
 all_counted s l exact ends x =
     exact.counted x

@@ -1,4 +1,4 @@
--- A line of a plan that is due is taken, and leads where the plan says.
+-- A line of a plan that is due is accepted, and leads to the result that the plan has.
 use Rattle.std.proofs.Common.{ℕ, zero, suc, ◌≡◌, ◌+◌, ◌*◌, ◌<◌, ◌≤◌, ◌==◌, Bool, true, false, ◌&&◌, ◌||◌, not, List, [], ◌∷◌, Option, Some, None, Result, Ok, Err, length, map, take, slice_get, nat_lt, nat_le, refl, ap, sym, ◌∙◌, arith, cond}
 use Rattle.std.specs.List.{list_any, position_or_len}
 use Rattle.std.specs.Option.{option_map, unwrap_or}
@@ -44,11 +44,11 @@ empty_rest : (a b : Bool) → b ≡ false → (a || b) ≡ true → a ≡ true
 empty_rest true b none e = refl
 empty_rest false b none e = absurd (false≢true (sym none ∙ e))
 
--- a group at rest that is not settled has nobody
+-- a group at rest that is not settled is empty
 nobody_at_rest : (g : GroupState) → IsValidGroup g → is_at_rest g ≡ true → is_settled g ≡ false → is_anybody g ≡ false
 nobody_at_rest g valid rest unsettled = valid.empty.0 (empty_phase g.phase (empty_rest (is_empty g.phase) (is_settled g) unsettled rest))
 
--- a group at rest is where its rebalance ends, but for flags
+-- a group at rest is the end of its rebalance, but for flags
 pub rest_is_end : (g : GroupState) → IsValidGroup g → is_at_rest g ≡ true → finish g ≡ bare g
 rest_is_end g valid rest = go (is_anybody g) (is_settled g) refl refl
   where
@@ -61,13 +61,13 @@ rest_is_end g valid rest = go (is_anybody g) (is_settled g) refl refl
 number_bare : (g : GroupState) (name : List ℕ) → number_of (bare g) name ≡ number_of g name
 number_bare g name = ap (λ o. unwrap_or o 0) (number_reseated 1 1 (λ m. option_map bare_seat) g.slots name)
 
--- ---- a line, and the line of the group without its flags
+-- ---- a line, of a group and of the group without its flags
 changed_bare : (g : GroupState) (line : Change) → IsValidGroup g → finish (changed_by g line) ≡ finish (changed_by (bare g) line)
 changed_bare g (Join name) valid = join_bare g name valid
 changed_bare g (Leave name) valid = leave_bare g (number_of g name) valid ∙ ap (λ n. finish (left_by (bare g) n)) (sym (number_bare g name))
 changed_bare g (Lose name) valid = leave_bare g (number_of g name) valid ∙ ap (λ n. finish (left_by (bare g) n)) (sym (number_bare g name))
 
--- a line that is applied where no rebalance is under way leads where the plan says
+-- a line that is applied while no rebalance is under way leads to the result that the plan has
 pub applied_end : (g : GroupState) (p : ℕ) (plan : List Change) (i : ℕ) (line : Change) → IsValidGroup g → is_at_rest g ≡ true → slice_get plan i ≡ Some line → finish g ≡ settled p (take i plan) → finish (changed_by g line) ≡ settled p (take (suc i) plan)
 applied_end g p plan i line valid rest at end =
     changed_bare g line valid
@@ -112,7 +112,7 @@ not_last : (b : Bool) (n : ℕ) → n < LAST_GENERATION → (b && n == LAST_GENE
 not_last false n lt = refl
 not_last true n lt = grind (arith, nat_tests)
 
--- ---- a line that is allowed is taken
+-- ---- a line that is allowed is accepted
 names_used : (slots : List Slot) (name : List ℕ) → list_any (λ s. bytes_eq s.name name) slots ≡ is_among (map (λ s. s.name) slots) name
 names_used [] name = refl
 names_used (s ∷ slots) name = ap (λ b. bytes_eq s.name name || b) (names_used slots name)
@@ -148,13 +148,13 @@ length_take zero xs = omega arith
 length_take (suc n) [] = omega arith
 length_take (suc n) (x ∷ xs) = omega (arith, length_take n xs)
 
--- a line of a plan is taken by each group whose rebalance ends where the lines before it come to
+-- a line of a plan is accepted by each group whose rebalance ends in the result of the lines before
 pub line_taken : (g : GroupState) (p : ℕ) (plan : List Change) (i : ℕ) (line : Change) → IsPlan plan → length plan < 2 * MOST_MEMBERS → i ≤ length plan → slice_get plan i ≡ Some line → finish g ≡ settled p (take i plan) → change_answer g line ≡ Ok tt
 line_taken g p plan i line is short le at end =
     taken_by_roster g (roster_of (take i plan)) line (progress_roster g p plan i is le end) (is.allowed i line at)
     (omega (arith, few_generations g p (take i plan) end, length_take i plan))
 
--- ---- what a line leaves
+-- ---- what a line leaves as it is
 taken_join : (a : Result ℕ Refusal) → ◌≡◌ {A = Result (Unit {0}) Refusal} (result_and a (Ok tt)) (Ok tt) → (n : ℕ) × (a ≡ Ok n)
 taken_join (Ok n) e = (n, refl)
 taken_join (Err why) e = absurd (cc e)

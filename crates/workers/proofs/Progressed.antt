@@ -1,4 +1,4 @@
--- What a plan that is being applied keeps, through each of its steps.
+-- Each step of a `Planned` keeps its invariant.
 use Rattle.std.proofs.Common.{ℕ, zero, suc, ◌≡◌, ◌+◌, ◌<◌, true, ◌&&◌, List, [], ◌∷◌, Some, Result, Ok, Err, OnOk, OnErr, length, take, slice_get, get_or, nat_lt, is_some, refl, ap, sym, ◌∙◌, subst, inl, inr, arith, cond}
 use Rattle.std.proofs.lemmas.Bool.Decides.{nat_tests}
 use Rattle.lane_words.specs.Answers.{Answers}
@@ -23,7 +23,7 @@ use Rattle.workers.proofs.PlanLemmas.{applied_end, changed_partitions, changed_v
 abbrev progress_of : ClusterState → List Change → ℕ → Progress
 progress_of cluster plan applied = record { cluster = cluster; plan = plan; applied = applied }
 
--- a step of the group that keeps it valid, and where its rebalance ends
+-- a step of the group that keeps it valid, and the end of its rebalance
 regrouped_progress : (s : Progress) (g : GroupState) (cluster : ClusterState) → IsValidProgress s → cluster.group ≡ g → IsValidGroup g → g.partitions ≡ s.cluster.group.partitions → finish g ≡ finish s.cluster.group → IsValidProgress (progress_of cluster s.plan s.applied)
 regrouped_progress s g cluster was is valid same end = record {
   valid = subst (λ h. IsValidGroup h) (sym is) valid;
@@ -87,7 +87,7 @@ advanced_by s line new at rest is =
     ap (λ x. progress_of x s.plan (s.applied + 1)) is
     ∙ sym (ap (λ b. cond b (applied_to s (slice_get s.plan s.applied)) s) (is_due_by s line at rest) ∙ ap (applied_to s) at)
 
--- a line that is due is refused for want of memory alone
+-- a line that is due fails only if memory runs out
 pub due_refused : (s : Progress) (line : Change) (why : Refusal) → IsValidProgress s → slice_get s.plan s.applied ≡ Some line → Answers (change_answer s.cluster.group line) (Err why) → why ≡ r.Memory
 due_refused s line why was at answer = only_memory (change_answer s.cluster.group line) (due_taken s line was at) answer
   where
@@ -95,7 +95,7 @@ due_refused s line why was at answer = only_memory (change_answer s.cluster.grou
     only_memory expected ok (inl same) = absurd (let wrong = same ∙ ok in cc)
     only_memory expected ok (inr memory) = cc
 
--- fewer lines were applied than a u32 counts
+-- the number of applied lines fits a u32
 pub applied_fits : (s : Progress) → IsValidProgress s → s.applied < 4294967296
 applied_fits s was = omega (arith, was.within, plan_is_short s.plan was.plan)
 

@@ -1,4 +1,4 @@
--- What a worker's consumer keeps within the logs that it reads.
+-- A worker's consumer stays within the logs that it reads.
 use Rattle.std.proofs.Common.{ℕ, ◌≡◌, ◌≢◌, ◌≤◌, ◌==◌, Bool, true, false, ◌||◌, List, [], ◌∷◌, Option, Some, None, Result, Ok, Err, length, nat_le, refl, ap, sym, subst, ◌∙◌, inl, inr, arith}
 use Rattle.std.specs.Prelude.{max, if◌then◌else◌}
 use Rattle.std.proofs.lemmas.Bool.{cases_eq, cases_lt, false≢true}
@@ -15,8 +15,8 @@ use Rattle.consumer.proofs.Changed.{position_out, with_position}
 use Rattle.consumer.proofs.Valid.{slot_by, slot_past, slot_position}
 use Rattle.workers.specs.Private.Reading.{BeginsWithin, TellsWithin}
 
--- ---- a lease that is walked through
--- those of a lease's partitions that are not left begin within their logs
+-- ---- the walk through a lease
+-- the partitions of a lease that were walked through start within their logs
 pub record HaveBegun (lease : LeaseTerms) (l : PartitionLogs) (left : List ℕ) : Type 0 where
   pub done : (k : ℕ) → is_in lease.assigned k ≡ true → is_listed k left ≡ false → start_of lease k ≤ length (log_at l k)
   pub within : (k : ℕ) → is_listed k left ≡ true → is_in lease.assigned k ≡ true
@@ -147,7 +147,7 @@ answered_within c l p (Err (r.NobodyLeft line)) was told = was
 answered_within c l p (Err (r.NoSuchTopic nth)) was told = was
 answered_within c l p (Err r.NotKept) was told = was
 
--- an answer leaves the number of partitions
+-- a reply leaves the number of partitions
 pub answered_partitions : (c : ConsumerState) (p : ℕ) (reply : Result ℕ Refusal) → (answered_by c p reply).partitions ≡ c.partitions
 answered_partitions c p (Ok k) = realigned_partitions c p k
 answered_partitions c p (Err (r.OffsetMismatch k)) = realigned_partitions c p k

@@ -1,4 +1,4 @@
--- Who is there in a group, beside who is there by a plan.
+-- The members of a group and the roster of a plan.
 use Rattle.std.proofs.Common.{ℕ, zero, suc, ◌≡◌, ◌+◌, ◌<◌, ◌≤◌, Bool, true, false, ◌&&◌, ◌||◌, not, List, [], ◌∷◌, ◌++◌, Option, Some, length, take, slice_get, refl, ap, sym, ◌∙◌, subst, inl, inr, arith}
 use Rattle.std.specs.Prelude.{◌⊎◌}
 use Rattle.std.specs.List.{fold}
@@ -88,8 +88,8 @@ next_settled p plan i line at = ap (λ lines. settled p lines) (take_line plan i
 next_roster : (plan : List Change) (i : ℕ) (line : Change) → slice_get plan i ≡ Some line → roster_of (take (suc i) plan) ≡ entered (roster_of (take i plan)) line
 next_roster plan i line at = ap roster_of (take_line plan i line at) ∙ roster_more nobody_yet (take i plan) line
 
--- ---- a group has who is there by a roster
--- the names are those who joined, and each that is not gone is present
+-- ---- a group agrees with a roster
+-- the names are those that joined, and each that is not gone is present
 pub record HasRoster (g : GroupState) (r : Roster) : Type 0 where
   pub names_are : names g ≡ r.joined
   pub there : (i : ℕ) (name : List ℕ) → slice_get r.joined i ≡ Some name → is_among r.gone name ≡ false → is_present g (i + 1) ≡ true
@@ -114,7 +114,7 @@ joined_roster g r name has = record {
       ];
 }
 
--- who is there has a number
+-- a name that is there has a number
 pub number_there : (g : GroupState) (r : Roster) (name : List ℕ) → HasRoster g r → is_there r name ≡ true → HasNumber g name
 number_there g r name has e =
     let both = first_of (is_among r.joined name) (not (is_among r.gone name)) e in
@@ -128,7 +128,7 @@ number_there g r name has e =
 pub number_is : (g : GroupState) (name : List ℕ) (has : HasNumber g name) → number_of g name ≡ has.index + 1
 number_is g name has = ap (λ o. unwrap_or o 0) has.number
 
--- who is there is present
+-- a name that is there is present
 pub present_there : (g : GroupState) (r : Roster) (name : List ℕ) → HasRoster g r → is_there r name ≡ true → is_present g (number_of g name) ≡ true
 present_there g r name has e =
     let n = number_there g r name has e in
@@ -176,7 +176,7 @@ before_end g r has = record {
   there = λ i name at gone. sym (present_finish g (i + 1)) ∙ has.there i name at gone;
 }
 
--- what the first lines of a plan come to has who is there by them
+-- the result of the first lines of a plan agrees with their roster
 settled_roster : (p : ℕ) (plan : List Change) → IsPlan plan → (i : ℕ) → i ≤ length plan → HasRoster (settled p (take i plan)) (roster_of (take i plan))
 settled_roster p plan is zero le = opening_roster p
 settled_roster p plan is (suc i) le =
@@ -187,7 +187,7 @@ settled_roster p plan is (suc i) le =
     subst (λ r. HasRoster (settled p (take (suc i) plan)) r) (sym (next_roster plan i at.0 at.1))
     (subst (λ g. HasRoster g (entered (roster_of (take i plan)) at.0)) (sym (next_settled p plan i at.0 at.1)) after)
 
--- a group whose rebalance ends where the first lines of a plan come to has who is there by them
+-- so does a group whose rebalance ends in the result of the first lines of a plan
 pub progress_roster : (g : GroupState) (p : ℕ) (plan : List Change) (i : ℕ) → IsPlan plan → i ≤ length plan → finish g ≡ settled p (take i plan) → HasRoster g (roster_of (take i plan))
 progress_roster g p plan i is le end =
     before_end g (roster_of (take i plan)) (subst (λ h. HasRoster h (roster_of (take i plan))) (sym end) (settled_roster p plan is i le))

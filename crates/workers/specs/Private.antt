@@ -1,4 +1,4 @@
--- Definitions that only contracts of private functions and the views cite.
+-- Definitions that only private contracts and views cite.
 pub mod Applied
 pub mod Reading
 pub mod View

@@ -1,4 +1,4 @@
--- A cluster with a plan, as far as the plan was applied.
+-- A cluster and the plan that is applied to it.
 use Rattle.std.specs.Prelude.{◌≡◌, ℕ, ◌+◌, ◌≤◌, Bool, true, false, ◌&&◌, ◌||◌, List, Option, Some, None, is_some, length, slice_get, take, if◌then◌else◌}
 use Rattle.group_machine.specs.State.{GroupState}
 use Rattle.group_machine.specs.declared.group.Phase.{Phase}
@@ -11,7 +11,7 @@ use Rattle.script.specs.declared.plan.Change.{Change}
 use Rattle.script.specs.Plan.{IsPlan}
 use Rattle.workers.specs.Plans.{changed_by, settled}
 
--- the cluster, the plan, and how many of its lines were applied
+-- the cluster, the plan, and the number of its lines that were applied
 pub record Progress : Type 0 where
   pub cluster : ClusterState
   pub plan : List Change
@@ -22,7 +22,7 @@ is_empty Empty = true
 is_empty Preparing = false
 is_empty Stable = false
 
--- no rebalance is under way: nobody is present, or the group is settled
+-- no rebalance is under way: the group is empty or settled
 abbrev pub is_at_rest : GroupState → Bool
 is_at_rest g = is_empty g.phase || is_settled g
 
@@ -38,7 +38,7 @@ is_due s = is_some (next_line s) && is_at_rest s.cluster.group
 abbrev pub regrouped : Progress → GroupState → Progress
 regrouped s group = record s { cluster = with_group s.cluster group }
 
--- one line further
+-- one more line applied
 abbrev pub applied_to : Progress → Option Change → Progress
 applied_to s None = s
 applied_to s (Some change) = record s {
@@ -46,12 +46,12 @@ applied_to s (Some change) = record s {
   applied = s.applied + 1;
 }
 
--- the next line applied, where it is due
+-- the next line applied, if it is due
 abbrev pub advanced : Progress → Progress
 advanced s = if is_due s then applied_to s (next_line s) else s
 
--- What is kept, whatever the members did in between: the group is valid, the plan is one, and the
--- group's rebalance ends where the lines that were applied come to
+-- The invariant, whatever the members did in between: the group and the plan are valid, and the
+-- rebalance under way ends in the result of the applied lines
 pub record IsValidProgress (s : Progress) : Type 0 where
   pub valid : IsValidGroup s.cluster.group
   pub plan : IsPlan s.plan

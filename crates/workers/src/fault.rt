@@ -1,22 +1,22 @@
-//! Why a run is refused.
+//! Why a run fails.
 
 ghost use Rattle.workers.specs.Runs.{IsRunRefusal};
 
 use lane_words::{Memory, Refusal};
 
-/// Why a run is refused.
+/// Why a run fails.
 #[derive(Clone, Copy, Debug, PartialEq, Eq)]
 pub enum Fault {
-    /// Memory was refused, or a thread could not be started.
+    /// Out of memory, or a thread could not be started.
     Memory,
-    /// The gate said stop.
+    /// The gate answered `Stop`.
     GateLimit,
-    /// What is under the lock differs from what was given, or the workers ended early.
+    /// The logs or the plan under the lock differ from the given ones, or the workers ended early.
     Differs,
 }
 
 impl Fault {
-    /// The refusal that tells it.
+    /// The refusal that reports it.
     pub fn refusal(self) -> Refusal
         ensures { IsRunRefusal result }
     {

@@ -1,9 +1,9 @@
-//! A cluster with a plan of who comes and goes.
+//! A cluster and the plan that is applied to it.
 
 ghost use Rattle.std.specs.Prelude.{◌≡◌, ℕ, Ok, Err, IfErr, IfOk, IsTrue, OnErr, OnOk, length, replicate};
 ghost use Rattle.lane_words.specs.Answers.{Answers};
 ghost use Rattle.commit_store.specs.Commits.{AreEndsCommitted};
-ghost use Rattle.group_machine.specs.State.{granted_of, opening};
+ghost use Rattle.group_machine.specs.State.{opening};
 ghost use Rattle.group_machine.specs.Steps.{rejoin_answer, rejoined_by, synced_by};
 ghost use Rattle.group_machine.specs.Cluster.{IsValidCluster, cluster_commit_answer, cluster_sync_answer, committed_at, committed_by, with_group};
 ghost use Rattle.workers.specs.Plans.{changed_by, number_of};
@@ -13,27 +13,27 @@ ghost use Rattle.workers.specs.Runs.{IsRunOf};
 
 use crate::fault::Fault;
 use bit_planes::Plane;
-use group_machine::{Cluster, Commit, Lease, Name, Phase};
+use group_machine::{Cluster, Commit, Lease, Name, NextStep, Phase};
 use lane_words::{Memory, Refusal};
 use partition_log::{LogRead, Logs, SealedLogs};
 use script::{Change, Plan};
 use std::alloc::Global;
 use std::marker::Model;
 
-/// A cluster with a plan of who joins, leaves and is lost, as far as the plan was applied.
+/// A cluster and a plan of joins, leaves and losses, of which the first lines are applied.
 ///
-/// Members may sync, rejoin and commit whenever they want: their rebalance ends where the lines
-/// that were applied come to. So many threads may share it under a lock, in whatever order they
-/// come.
+/// Invariant: whenever the members sync, rejoin and commit, the rebalance ends in the state that
+/// the applied lines determine. So any number of threads may share a `Planned` under a lock, and
+/// the order in which they take the lock does not matter.
 #[derive(Debug, Drop)]
 pub struct Planned {
     cluster: Cluster,
     plan: Plan,
-    /// How many lines of the plan were applied.
+    /// The number of lines of the plan that were applied.
     applied: usize,
-    /// How often something changed that a worker may wait for.
+    /// The number of changes that a worker may have waited for.
     changes: u64,
-    /// What ended the run, once it has ended.
+    /// The result of the run, once it has ended.
     end: Option<Result<(), Fault>>,
 }
 
@@ -49,8 +49,8 @@ impl Model for Planned {
 }
 
 impl Planned {
-    /// A cluster over these logs, with nothing committed and nobody present, and a plan of which
-    /// nothing was applied. Refused for want of memory alone.
+    /// A cluster over these logs, with nothing committed and nobody present, and a plan of which no
+    /// line is applied yet. Fails only if memory runs out.
     pub fn new(alloc: Global, logs: Logs, plan: Plan) -> Result<Planned, Memory>
         ensures group { IfOk result (λ s. s.cluster.group ≡ opening logs.partitions) }
         ensures logs { IfOk result (λ s. s.cluster.logs ≡ logs) }
@@ -71,8 +71,8 @@ impl Planned {
         })
     }
 
-    /// Applies the next line of the plan, where one is left and no rebalance is under way, and
-    /// tells whether it did. Refused, with everything as it was, for want of memory alone.
+    /// Applies the next line of the plan if one is left and no rebalance is under way, and returns
+    /// whether it did. Fails only if memory runs out; then nothing has changed.
     pub fn advance(&mut self) -> Result<bool, Refusal>
         ensures answer { Answers (Ok (is_due self.old)) result }
         ensures ok { OnOk result (self.new ≡ advanced self.old) }
@@ -91,7 +91,7 @@ impl Planned {
         Ok(true)
     }
 
-    /// A member syncs, as by `Cluster::sync`.
+    /// A member syncs, see `Cluster::sync`.
     pub fn sync(&mut self, member: u32) -> Result<Lease, Refusal>
         ensures answer { Answers (cluster_sync_answer self.old.cluster member) result }
         ensures ok { OnOk result (self.new
@@ -101,7 +101,7 @@ impl Planned {
         self.cluster.sync(member)
     }
 
-    /// A member rejoins, as by `Cluster::rejoin`.
+    /// A member rejoins, see `Cluster::rejoin`.
     pub fn rejoin(&mut self, member: u32, generation: u32, claim: &Plane) -> Result<(), Refusal>
         ensures answer { Answers
             (rejoin_answer self.old.cluster.group member generation claim.now) result }
@@ -113,7 +113,7 @@ impl Planned {
         Ok(())
     }
 
-    /// A member commits, as by `Cluster::commit`. It takes no memory.
+    /// A member commits, see `Cluster::commit`. Takes no memory.
     pub fn commit(&mut self, commit: &Commit) -> Result<u32, Refusal>
         ensures answer { result ≡ cluster_commit_answer self.old.cluster commit.now }
         ensures ok { OnOk result (self.new
@@ -131,7 +131,7 @@ impl Planned {
         &self.cluster
     }
 
-    /// How many lines of the plan were applied.
+    /// The number of lines of the plan that were applied.
     pub fn applied(&self) -> u32
         ensures { result ≡ self.now.applied }
     {
@@ -139,77 +139,65 @@ impl Planned {
     }
 }
 
-/// What a member of the plan has to do next.
+/// What a worker does in a turn.
 #[derive(Clone, Copy, Debug, PartialEq, Eq)]
 pub enum Task {
-    /// It has not joined yet.
+    /// It waits: its member has not joined yet.
     Wait,
-    /// It is new to the generation, and takes its lease.
-    Sync,
-    /// It has something to give up, or a generation is prepared.
-    Rejoin,
-    /// It reads what it is to keep.
-    Read,
-    /// It is gone, or the run has ended.
+    /// It takes its member's next step.
+    Step(NextStep),
+    /// It ends: its member is gone, or the run has ended.
     End,
 }
 
-/// What a worker does that found nothing to do.
+/// How a worker's turn starts.
+#[derive(Clone, Copy, Debug, PartialEq, Eq)]
+pub struct TurnStart {
+    /// Whether a line of the plan was applied.
+    pub is_advanced: bool,
+    /// What the worker does.
+    pub task: Task,
+    /// The number of changes up to now.
+    pub seen: u64,
+}
+
+/// What an idle worker does.
 #[derive(Clone, Copy, Debug, PartialEq, Eq)]
 pub enum Rest {
     /// It waits until something changes.
     Stay,
-    /// It takes another turn, since something has changed.
+    /// It takes another turn: something has changed meanwhile.
     GoOn,
-    /// It tells the others that the run has ended.
+    /// It wakes the others: the run has ended.
     Over,
 }
 
 impl Planned {
-    /// What a member has to do next, and how often something had changed by then.
-    pub(crate) fn task(&self, member: u32) -> (Task, u64) {
-        (self.next_task(member), self.changes)
+    /// Starts a turn of a member's worker: applies the next line of the plan if it is due.
+    pub(crate) fn start_turn(&mut self, member: u32) -> Result<TurnStart, Refusal> {
+        let is_advanced = self.advance()?;
+        Ok(TurnStart {
+            is_advanced,
+            task: self.task(member),
+            seen: self.changes,
+        })
     }
 
-    fn next_task(&self, member: u32) -> Task {
+    /// What a member's worker does next.
+    fn task(&self, member: u32) -> Task {
         if self.end.is_some() {
-            return Task::End;
-        }
-        let Some(granted) = self.cluster.granted(member) else {
-            return self.task_without(member);
-        };
-        if self.cluster.is_joined(member) {
-            return Task::Read;
-        }
-        if !self.cluster.is_synced(member) {
-            return Task::Sync;
-        }
-        if self.cluster.phase() == Phase::Preparing || !self.keeps_all(member, granted) {
-            return Task::Rejoin;
-        }
-        Task::Read
-    }
-
-    /// What a member does that is not present.
-    fn task_without(&self, member: u32) -> Task {
-        match self.cluster.name(member) {
-            Some(_) => Task::End,
-            None => Task::Wait,
+            Task::End
+        } else if self.cluster.is_present(member) {
+            Task::Step(self.cluster.next_step(member))
+        } else if self.cluster.name(member).is_some() {
+            Task::End
+        } else {
+            Task::Wait
         }
     }
 
-    /// Whether a member is to keep all that it is granted.
-    fn keeps_all(&self, member: u32, granted: &Plane) -> bool
-        requires { granted.now ≡ granted_of self.now.cluster.group member }
-    {
-        match self.cluster.assigned(member) {
-            Some(assigned) => granted.same(assigned),
-            None => true,
-        }
-    }
-
-    /// A member rejoins. Tells whether others may have waited for it: a rebalance has begun, or a
-    /// generation is complete.
+    /// A member rejoins. Returns whether other workers may have waited for that: a rebalance has
+    /// begun, or a generation is complete.
     pub(crate) fn rejoin_heard(
         &mut self,
         member: u32,
@@ -233,7 +221,8 @@ impl Planned {
         Ok(is_heard)
     }
 
-    /// What a worker does that found nothing to do when `seen` changes had been made.
+    /// What a worker does that found nothing to do at `seen` changes. It ends a run that is
+    /// finished.
     pub(crate) fn rest(&mut self, seen: u64) -> Rest
         ensures same { self.new ≡ self.old }
     {
@@ -248,7 +237,7 @@ impl Planned {
         Rest::Over
     }
 
-    /// Ends the run with a fault, if it has not ended.
+    /// Ends the run with a fault, unless it has ended already.
     pub(crate) fn stop(&mut self, fault: Fault)
         ensures same { self.new ≡ self.old }
     {
@@ -258,7 +247,7 @@ impl Planned {
         }
     }
 
-    /// The cluster, where the run came to its end with these logs and this plan.
+    /// The cluster at the end of the run, if the run finished with these logs and this plan.
     pub(crate) fn outcome(self, logs: &SealedLogs, plan: &Plan) -> Result<Cluster, Fault>
         ensures run { IfOk result (IsRunOf logs.now plan.now) }
         ensures valid { IfOk result IsValidCluster }
@@ -267,7 +256,7 @@ impl Planned {
         came.and(Ok(self.cluster))
     }
 
-    /// Whether the run came to its end with these logs and this plan, or why not.
+    /// Whether the run finished with these logs and this plan, or why not.
     fn came_to(&self, logs: &SealedLogs, plan: &Plan) -> Result<(), Fault>
         ensures { OnOk result (IsRunOf logs.now plan.now self.now.cluster) }
     {
@@ -280,8 +269,8 @@ impl Planned {
         Ok(())
     }
 
-    /// Whether the run has come to its end: each line of the plan is applied, the group is settled,
-    /// and the end of each log is committed.
+    /// Whether the run is finished: each line of the plan is applied, the group is settled, and
+    /// each log is committed to its end.
     fn is_finished(&self) -> bool
         ensures { IsTrue result → IsFinished self.now }
     {
@@ -291,7 +280,7 @@ impl Planned {
     }
 }
 
-/// Whether the end of each log is committed.
+/// Whether each log is committed to its end.
 fn are_ends_committed(cluster: &Cluster) -> bool
     ensures { IsTrue result → AreEndsCommitted cluster.now.store cluster.now.logs }
 {
@@ -303,21 +292,21 @@ fn are_ends_committed(cluster: &Cluster) -> bool
     true
 }
 
-/// Whether no rebalance is under way: nobody is present, or the group is settled.
+/// Whether no rebalance is under way: the group is empty or settled.
 fn is_at_rest(cluster: &Cluster) -> bool
     ensures { result ≡ is_at_rest cluster.now.group }
 {
     cluster.phase() == Phase::Empty || cluster.is_settled()
 }
 
-/// The number of the member that joined under a name; 0, which is nobody's, where none did.
+/// The number of the member that joined under a name; 0, which no member has, if none did.
 fn number_of(cluster: &Cluster, name: &Name) -> u32
     ensures { result ≡ number_of cluster.now.group name.now }
 {
     cluster.member_named(name).unwrap_or(0)
 }
 
-/// Applies a line of a plan.
+/// Applies one line of a plan.
 fn apply(cluster: &mut Cluster, change: &Change) -> Result<(), Refusal>
     ensures answer { Answers (change_answer cluster.old.group change.now) result }
     ensures ok { OnOk result (cluster.new

@@ -1,4 +1,4 @@
-//! How a member of a run reads: its consumer, over the logs that the run was given.
+//! How a member of a run reads: its consumer, and the logs that the run was given.
 
 ghost use Rattle.std.specs.Prelude.{◌≡◌, ◌≤◌, IsTrue, length};
 ghost use Rattle.bit_planes.specs.PartitionSet.{is_in, partitions_of};
@@ -14,7 +14,7 @@ use lane_words::{Memory, Refusal};
 use partition_log::{LogRead, SealedLogs};
 use std::alloc::Global;
 
-/// A member's consumer, and the logs that it reads. No position is past its log's end.
+/// A member's consumer and the logs that it reads. Invariant: no position is past its log's end.
 #[derive(Drop)]
 pub struct Reader<'a> {
     member: u32,
@@ -25,7 +25,7 @@ pub struct Reader<'a> {
 }
 
 impl<'a> Reader<'a> {
-    /// The consumer of a member that holds nothing yet.
+    /// A reader for a member that holds no partition yet.
     pub fn new(alloc: Global, logs: &'a SealedLogs, member: u32) -> Result<Reader<'a>, Memory> {
         let mut consumer = Consumer::new(alloc, logs.partitions())?;
         consumer.joined(member);
@@ -36,7 +36,7 @@ impl<'a> Reader<'a> {
         })
     }
 
-    /// Takes a lease, which has to be of these logs.
+    /// Takes a lease. Fails with `Differs` if the lease does not fit the logs.
     pub fn take(&mut self, lease: &Lease) -> Result<(), Fault> {
         if !self.may_take(lease) {
             return Err(Fault::Differs);
@@ -45,8 +45,8 @@ impl<'a> Reader<'a> {
         Ok(())
     }
 
-    /// Whether a lease is this member's, of as many partitions as the logs have, and begins at no
-    /// offset past the end of a log.
+    /// Whether a lease is this member's, is over the same number of partitions as the logs, and
+    /// starts at no offset past the end of a log.
     fn may_take(&self, lease: &Lease) -> bool
         ensures { IsTrue result → IsLeaseOver self.now.consumer self.now.logs.now lease.now }
     {
@@ -55,8 +55,8 @@ impl<'a> Reader<'a> {
             && begins_within(self.logs, lease)
     }
 
-    /// Reads a partition on by so many polls of at most so many records, where it is held, and
-    /// answers how many there were.
+    /// Reads on in a partition by `polls` polls of at most `records` records each, if it is held,
+    /// and returns how many records were read.
     pub fn read_on(&mut self, p: u32, polls: u32, records: u32) -> u32 {
         let mut read = 0_u32;
         for _ in 0..polls {
@@ -65,13 +65,13 @@ impl<'a> Reader<'a> {
         read
     }
 
-    /// Reads a partition on by at most so many records, where it is held, and answers how many
-    /// there were.
+    /// Reads on in a partition by at most `records` records, if it is held, and returns how many
+    /// were read.
     fn poll(&mut self, p: u32, records: u32) -> u32 {
         self.consumer.poll(self.logs, p, records).unwrap_or(0)
     }
 
-    /// The commit of what is pending of a partition, where anything is.
+    /// The commit of what is pending of a partition, if anything is.
     pub fn pending(&self, p: u32) -> Result<Option<Commit>, Memory> {
         match self.consumer.send(self.logs, p) {
             Ok(commit) => Ok(Some(commit)),
@@ -80,8 +80,8 @@ impl<'a> Reader<'a> {
         }
     }
 
-    /// Learns what became of a commit of a partition. An offset that it tells has to be one of the
-    /// logs.
+    /// Takes the reply to a commit of a partition. Fails with `Differs` if the committed offset in
+    /// the reply is past the end of the log.
     pub fn learn(&mut self, p: u32, reply: Result<u32, Refusal>) -> Result<(), Fault> {
         if !tells_within(self.logs, p, &reply) {
             return Err(Fault::Differs);
@@ -90,33 +90,33 @@ impl<'a> Reader<'a> {
         Ok(())
     }
 
-    /// The number of the member.
+    /// The member's number.
     pub fn member(&self) -> u32 {
         self.member
     }
 
-    /// The partitions of its last lease.
+    /// The partitions of the last lease.
     pub fn claim(&self) -> Plane {
         self.consumer.claim()
     }
 
-    /// The generation of its last lease.
+    /// The generation of the last lease.
     pub fn generation(&self) -> u32 {
         self.consumer.generation()
     }
 
-    /// Whether it holds a partition.
+    /// Whether a partition is held.
     pub fn holds(&self, p: u32) -> bool {
         self.consumer.holds(p)
     }
 
-    /// Drops what it holds and is not to keep.
+    /// Drops the held partitions that are not of the last lease.
     pub fn give_up(&mut self) {
         self.consumer.give_up();
     }
 }
 
-/// Whether a lease begins at no offset past the end of a log.
+/// Whether a lease starts at no offset past the end of a log.
 fn begins_within(logs: &SealedLogs, lease: &Lease) -> bool
     requires { partitions_of lease.now.assigned ≡ logs.now.partitions }
     ensures { IsTrue result → BeginsWithin lease.now logs.now }
@@ -129,8 +129,8 @@ fn begins_within(logs: &SealedLogs, lease: &Lease) -> bool
     true
 }
 
-/// Whether the committed offset that an answer tells, if it tells one, is at most the end of the
-/// partition's log.
+/// Whether the committed offset in a reply, if it has one, is at most the end of the partition's
+/// log.
 fn tells_within(logs: &SealedLogs, p: u32, reply: &Result<u32, Refusal>) -> bool
     ensures { IsTrue result → TellsWithin p reply.now logs.now }
 {
@@ -141,7 +141,7 @@ fn tells_within(logs: &SealedLogs, p: u32, reply: &Result<u32, Refusal>) -> bool
     }
 }
 
-/// Whether an offset is at most the end of a partition's log; not so past the last partition.
+/// Whether an offset is at most the end of a partition's log; false past the last partition.
 fn is_within(logs: &SealedLogs, p: u32, offset: u32) -> bool
     ensures { IsTrue result → offset ≤ length (log_at logs.now p) }
 {

@@ -1,4 +1,4 @@
-//! A run: a thread for each member of a plan, over one cluster.
+//! A run: one worker thread for each member of a plan, over one cluster.
 
 ghost use Rattle.std.specs.Prelude.{◌≡◌, ◌≤◌, IfErr, IfOk};
 ghost use Rattle.group_machine.specs.Cluster.{IsValidCluster};
@@ -6,10 +6,10 @@ ghost use Rattle.workers.specs.Runs.{IsRunOf, IsRunRefusal};
 
 use crate::fault::Fault;
 use crate::gate::{Gate, GateAnswer};
-use crate::planned::{Planned, Rest, Task};
+use crate::planned::{Planned, Rest, Task, TurnStart};
 use crate::reader::Reader;
 use bit_planes::Plane;
-use group_machine::Cluster;
+use group_machine::{Cluster, NextStep};
 use lane_words::Refusal;
 use partition_log::{LogRead, SealedLogs};
 use script::Plan;
@@ -20,7 +20,7 @@ use std::sync::{Condvar, Mutex, MutexGuard, Wait};
 use std::thread::Threads;
 use std::{hint, thread};
 
-/// What a run came to.
+/// The result of a run.
 #[derive(Debug, Drop)]
 pub struct Outcome {
     cluster: Cluster,
@@ -43,21 +43,21 @@ impl Outcome {
     }
 }
 
-/// How often a thread looks whether the lock is free before it sleeps: for longer than a commit of
-/// enough records takes, since to be put to sleep and woken takes longer than that.
+/// How often a thread tries the lock before it sleeps. The tries take longer than a commit of
+/// `ENOUGH_RECORDS` records does, since sleeping and waking up takes longer still.
 const LOOKS: u32 = 4000;
 
-/// The most polls whose records are committed together.
+/// The most polls that share one commit.
 const MOST_POLLS: u32 = 32;
 
-/// From so many records on a commit takes no further poll, and a turn reads no further partition.
+/// Once this many records are read, a commit takes no further poll and a turn no further partition.
 const ENOUGH_RECORDS: u32 = 16_000;
 
-/// How many polls of at most so many records are committed together: one for batches of one record,
-/// which are committed one by one, and more for larger ones.
+/// How many polls of at most `batch` records share one commit. Batches of one record are committed
+/// one by one, larger ones together.
 ///
-/// A commit writes a counter once, however many of its records have that key; and counters that
-/// another member wrote last are what members wait for.
+/// A commit writes each counter once, however many of its records have that key, and counters that
+/// another member wrote last are what the members wait for.
 fn polls_together(batch: u32) -> u32
     requires { 1 ≤ batch }
 {
@@ -69,26 +69,28 @@ fn polls_together(batch: u32) -> u32
 struct Desk<'a, G> {
     alloc: Global,
     planned: &'a Mutex<Planned>,
-    /// Rings where something changed that a worker may wait for.
+    /// Wakes workers that wait, after something changed.
     bell: &'a Condvar,
     logs: &'a SealedLogs,
     gate: &'a G,
     /// The most records of one poll.
     batch: u32,
-    /// How many polls are committed together.
+    /// How many polls share one commit.
     polls: u32,
 }
 
-/// Carries a plan out by one thread for each of its members, until its last line is applied, its
-/// last rebalance has ended and the end of each log is committed.
+/// Runs a plan with one worker thread for each of its members, until each line is applied, the last
+/// rebalance has ended and each log is committed to its end.
 ///
-/// The members share the cluster, a copy of the logs in it, under one lock, and read the given logs
-/// without it. Each polls at most `batch` records of a partition at a time, at least 1, commits what
-/// some polls brought together, and asks the gate before each commit. However the threads fall, the
-/// owners, the moves, the generation and the counts are those of the plan.
+/// The workers share one lock on the cluster, which holds a copy of the logs, and read `logs`
+/// without the lock. A worker polls at most `batch` records of a partition at a time (at least 1),
+/// commits the records of several polls together, and asks `gate` before each commit. Owners,
+/// moves, generation and counts do not depend on how the threads are scheduled.
 ///
-/// Refused: want of memory, or of a thread (`Memory`); the gate said stop (`GateLimit`); what was
-/// run differs from what was given (`Differs`).
+/// # Errors
+///
+/// `Memory` if memory or a thread cannot be had, `GateLimit` if the gate answers `Stop`, and
+/// `Differs` if the logs or the plan under the lock are found to differ from `logs` and `plan`.
 pub fn run_cluster<R: Threads + Wait + RandomSource + Sync, G: Gate + Sync>(
     rt: &R,
     alloc: Global,
@@ -121,7 +123,7 @@ pub fn run_cluster<R: Threads + Wait + RandomSource + Sync, G: Gate + Sync>(
     }
 }
 
-/// Starts a worker for each member, and returns when all have ended.
+/// Starts a worker for each member, and returns once all have ended.
 fn start_all<R: Threads + Wait + Sync, G: Gate + Sync>(rt: &R, desk: &Desk<'_, G>, members: u32) {
     thread::scope(thread::scope_env(), rt, |scope| {
         for index in 0..members {
@@ -133,17 +135,17 @@ fn start_all<R: Threads + Wait + Sync, G: Gate + Sync>(rt: &R, desk: &Desk<'_, G
     });
 }
 
-/// What a turn came to.
+/// What a worker's turn did.
 enum Turn {
-    /// Something was done.
+    /// It made some progress.
     Worked,
-    /// There was nothing to do when so many changes had been made.
+    /// There was nothing to do at this number of changes.
     Idle(u64),
-    /// There is nothing to do any more.
+    /// There is nothing left to do.
     Over,
 }
 
-/// The turns of a member, until it is gone or the run has ended.
+/// Takes a member's turns until the member is gone or the run has ended.
 fn work<R: Wait, G: Gate>(rt: &R, desk: &Desk<'_, G>, member: u32) {
     let Ok(mut reader) = Reader::new(desk.alloc, desk.logs, member) else {
         return desk.stop(rt, Fault::Memory);
@@ -162,17 +164,16 @@ fn work<R: Wait, G: Gate>(rt: &R, desk: &Desk<'_, G>, member: u32) {
 }
 
 impl<'a, G: Gate> Desk<'a, G> {
-    /// One turn of a member.
+    /// Takes one turn of a member.
     fn take_turn<R: Wait>(&self, rt: &R, reader: &mut Reader<'_>) -> Result<Turn, Fault> {
-        self.advance(rt)?;
-        let (task, seen) = self.lock(rt).task(reader.member());
-        match task {
-            Task::Wait => return Ok(Turn::Idle(seen)),
-            Task::Sync => self.sync(rt, reader)?,
-            Task::Rejoin => self.rejoin(rt, reader)?,
-            Task::Read => {
+        let start = self.start_turn(rt, reader.member())?;
+        match start.task {
+            Task::Wait => return Ok(Turn::Idle(start.seen)),
+            Task::Step(NextStep::Sync) => self.sync(rt, reader)?,
+            Task::Step(NextStep::Rejoin) => self.rejoin(rt, reader)?,
+            Task::Step(NextStep::Read) => {
                 if !self.read(rt, reader)? {
-                    return Ok(Turn::Idle(seen));
+                    return Ok(Turn::Idle(start.seen));
                 }
             }
             Task::End => return Ok(Turn::Over),
@@ -180,18 +181,20 @@ impl<'a, G: Gate> Desk<'a, G> {
         Ok(Turn::Worked)
     }
 
-    /// Applies the next line of the plan, where that may be done.
-    fn advance<R: Wait>(&self, rt: &R) -> Result<(), Fault> {
-        let advanced = self.lock(rt).advance();
-        match advanced {
-            Ok(true) => self.bell.notify_all(),
-            Ok(false) => {}
-            Err(_) => return Err(Fault::Memory),
+    /// Starts a turn under one lock, and wakes the others if a line of the plan was applied.
+    fn start_turn<R: Wait>(&self, rt: &R, member: u32) -> Result<TurnStart, Fault> {
+        let start = self.lock(rt).start_turn(member);
+        let Ok(start) = start else {
+            return Err(Fault::Memory);
+        };
+        if start.is_advanced {
+            self.bell.notify_all();
         }
-        Ok(())
+        Ok(start)
     }
 
-    /// A member takes its lease. Where the group has gone on meanwhile, its next turn sees that.
+    /// A member takes its lease. If the group has moved on meanwhile, the sync is refused, and the
+    /// next turn sees the new state.
     fn sync<R: Wait>(&self, rt: &R, reader: &mut Reader<'_>) -> Result<(), Fault> {
         let lease = self.lock(rt).sync(reader.member());
         match lease {
@@ -201,8 +204,8 @@ impl<'a, G: Gate> Desk<'a, G> {
         }
     }
 
-    /// A member commits what is pending of the partitions that it gives up, and rejoins. Where the
-    /// group has gone on meanwhile, its next turn sees that.
+    /// A member commits what is pending of the partitions that it gives up, and rejoins. If the
+    /// group has moved on meanwhile, the rejoin is refused, and the next turn sees the new state.
     fn rejoin<R: Wait>(&self, rt: &R, reader: &mut Reader<'_>) -> Result<(), Fault> {
         let claim = reader.claim();
         self.commit_surplus(rt, reader, &claim)?;
@@ -222,7 +225,7 @@ impl<'a, G: Gate> Desk<'a, G> {
         Ok(())
     }
 
-    /// Commits what is pending of the partitions that a member holds and is not to keep.
+    /// Commits what is pending of the partitions that a member holds and does not claim.
     fn commit_surplus<R: Wait>(
         &self,
         rt: &R,
@@ -237,9 +240,9 @@ impl<'a, G: Gate> Desk<'a, G> {
         Ok(())
     }
 
-    /// Reads partitions on that a member is to keep, one after the other, and commits what was read,
-    /// until that is enough for a turn: others may wait for the next one, to rebalance. Tells
-    /// whether anything was read.
+    /// Reads the partitions that a member claims, one after the other, and commits what it read.
+    /// Stops once that is enough for a turn, so that a rebalance does not wait for this member for
+    /// long. Returns whether there was anything to commit.
     fn read<R: Wait>(&self, rt: &R, reader: &mut Reader<'_>) -> Result<bool, Fault> {
         let (mut is_any_read, mut read) = (false, 0_u32);
         for p in reader.claim().iter() {
@@ -252,8 +255,8 @@ impl<'a, G: Gate> Desk<'a, G> {
         Ok(is_any_read)
     }
 
-    /// Commits what is pending of a partition, unless the gate says that it may not now. Tells
-    /// whether anything was.
+    /// Commits what is pending of a partition if the gate lets it. Returns whether anything was
+    /// pending.
     fn commit_pending<R: Wait>(
         &self,
         rt: &R,
@@ -274,8 +277,8 @@ impl<'a, G: Gate> Desk<'a, G> {
         Ok(true)
     }
 
-    /// Waits until something changes, unless it has. Whoever finds that the run has come to its end
-    /// tells the others.
+    /// Waits until something changes, unless it has changed since `seen`. The worker that finds the
+    /// run finished wakes the others.
     fn rest<R: Wait>(&self, rt: &R, seen: u64) {
         let mut planned = self.lock(rt);
         match planned.rest(seen) {
@@ -287,8 +290,8 @@ impl<'a, G: Gate> Desk<'a, G> {
         }
     }
 
-    /// What is shared. Each call of it takes less than a thread takes to be put to sleep and woken, so
-    /// whoever finds it taken looks again for a while.
+    /// Locks the shared state. It is held for less time than it takes to put a thread to sleep and
+    /// wake it, so a thread that finds the lock taken spins for a while.
     fn lock<R: Wait>(&self, rt: &R) -> MutexGuard<'_, Planned> {
         for _ in 0..LOOKS {
             if let Some(planned) = self.planned.try_lock() {
@@ -299,7 +302,7 @@ impl<'a, G: Gate> Desk<'a, G> {
         self.planned.lock(rt)
     }
 
-    /// Ends the run with a fault.
+    /// Ends the run with a fault, and wakes all workers.
     fn stop<R: Wait>(&self, rt: &R, fault: Fault) {
         self.lock(rt).stop(fault);
         self.bell.notify_all();

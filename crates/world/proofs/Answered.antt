@@ -1,4 +1,4 @@
--- Why events of a settling are never refused: the refusal of a settling that did not come to its end is not one of an event.
+-- Events of a settling are never refused with `NotSettled`: that is the refusal of the call itself.
 use Rattle.std.proofs.Common.{◌≡◌, ◌∙◌, ◌+◌, ℕ, zero, suc, Bool, true, false, List, [], ◌∷◌, Option, Some, None, Result, Ok, Err, cond, length, refl, sym, ap}
 use Rattle.std.specs.Prelude.{nat_le, nat_lt, not, ◌==◌, ◌&&◌, is_none, if◌then◌else◌}
 use Rattle.std.specs.Option.{option_map_or}

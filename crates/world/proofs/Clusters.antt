@@ -53,7 +53,7 @@ pub synced_valid : (s : ClusterState) (m : ℕ) → IsValidCluster s → IsValid
 synced_valid s m v = regrouped s (synced_by s.group m) v (sync_good s.group m v.good) refl
 
 -- ---- appends
--- an append that is accepted is of a key that is not too long, and finds room
+-- an append that is accepted has a key that is not too long, and its log is not full
 accepted_append : (long full : Bool) (a b : ℕ × ℕ) → ◌≡◌ {A = Result (ℕ × ℕ) Refusal} (if long then Err r.KeyTooLong else if full then Err r.LogFull else Ok a) (Ok b) → (long ≡ false) × (full ≡ false)
 accepted_append true full a b e = absurd (cc e)
 accepted_append false true a b e = absurd (cc e)
@@ -101,8 +101,8 @@ committed_valid s c end v ok =
       };
     }
 
--- ---- what a step of the cluster leaves of consumers and mail: the members that are still present, but
--- for the one that the step is about
+-- ---- what a step of the cluster leaves of consumers and mail: the members that are still present,
+-- but for the one that made the step
 pub record Leaves (s new : ClusterState) (about : ℕ) : Type 0 where
   pub valid : IsValidCluster new
   pub partitions : new.group.partitions ≡ s.group.partitions
@@ -136,7 +136,7 @@ is_it m n =
       | inr f ↦ inr (λ e. f.1 e)
     ]
 
--- a place that is handed on: whose it was is gone
+-- a seat that is handed on: its former member is gone
 pub leaves_handed_on : (s : ClusterState) (g : GroupState) (m n : ℕ) → IsValidCluster (with_group s g) → IsHandedOn s.group g m n → Leaves s (with_group s g) n
 leaves_handed_on s g m n valid on = record {
   valid = valid;

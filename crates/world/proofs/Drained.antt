@@ -1,4 +1,4 @@
--- Draining commits the ends of all logs.
+-- Draining commits all logs to their ends.
 use Rattle.std.proofs.Common.{◌≡◌, ◌∙◌, ◌+◌, ◌-◌, ◌<◌, ◌≤◌, ℕ, zero, suc, Bool, true, false, List, [], ◌∷◌, ◌++◌, Option, Some, None, Result, Ok, Err, cond, is_some, length, map, min, refl, sym, ap, subst, inl, inr, arith, length-append}
 use Rattle.std.specs.Prelude.{◌==◌, if◌then◌else◌, is_ok, nat_le, slice_get, slice_set}
 use Rattle.std.specs.List.{list_all}
@@ -45,7 +45,7 @@ use Rattle.world.proofs.Refusals.{commit_elsewhere, commit_mismatch}
 use Rattle.world.proofs.Settled.{calm_settled, chain_done}
 use Rattle.world.proofs.Walks.{holds_some}
 
--- ---- look-ups
+-- ---- lookups
 get_set_same : {A : Type 0} (xs : List A) (i : ℕ) (x y : A) → slice_get xs i ≡ Some y → slice_get (slice_set xs i x) i ≡ Some x
 get_set_same [] i x y e = absurd (cc e)
 get_set_same (z ∷ xs) zero x y e = refl
@@ -76,14 +76,14 @@ held_there : (c : ConsumerState) (p : ℕ) (old h : Held) → held_at c p ≡ So
 held_there c p old h held = get_or-set_same c.held p (Some h) None (below_held c p old held)
 
 -- ---- who reads a partition
--- a member is present and synced, and is to keep this partition
+-- a member is present, synced, and assigned this partition
 record IsReader (g : GroupState) (m p : ℕ) : Type 0 where
   pub present : is_present g m ≡ true
   pub synced : is_synced g m ≡ true
   pub assigned : is_in (assigned_of g m) p ≡ true
   pub below : p < g.partitions
 
--- its consumer is in, and holds the partition at these offsets
+-- its consumer is in the group, and holds the partition at these offsets
 record HoldsAt (w : WorldState) (m p : ℕ) (h : Held) : Type 0 where
   pub c : ConsumerState
   pub known : consumer_of w m ≡ Some c
@@ -137,7 +137,7 @@ poll_accepted w m p n h at =
     let ok = hold_ok at.c m p h at.member at.held in
     ap (λ o. (poll_known w m p n o).after) at.known ∙ ap (λ a. (poll_outcome w m p n at.c (result_and a (Ok (polled_count at.c w.cluster.logs p n)))).after) ok
 
--- where a poll leaves the offsets
+-- the offsets after a poll
 abbrev polled_held : WorldState → ℕ → ℕ → Held → Held
 polled_held w p n h = record { base = h.base; position = h.position + min n (length (log_at w.cluster.logs p) - h.position) }
 
@@ -196,11 +196,11 @@ last_sent w c p =
     let long : length (w.mail ++ t ∷ []) ≡ suc (length w.mail) = omega (arith, length-append w.mail (t ∷ [])) in
     ap (commit_at (sent_by w c p)) long ∙ get_last w.mail t
 
--- the base after an answer
+-- the base after a reply
 realigned_base : (c : ConsumerState) (p k : ℕ) (h : Held) → held_at c p ≡ Some h → base_of (answered_by c p (Ok k)) p ≡ k
 realigned_base c p k h held = ap (λ o. base_of (realigned_slot c p k o) p) held ∙ ap slot_base (held_there c p h (realigned_held h k) held)
 
--- what is delivered raises the base
+-- a delivery raises the base
 answer_raises : (w : WorldState) (m p : ℕ) (h : Held) (at : HoldsAt w m p h) → IsValidWorld w → (a : Result ℕ Refusal) → cluster_commit_answer w.cluster (commit_of at.c w.cluster.logs p) ≡ a
     → unless_mismatch (answer_in (told a)) ≡ Ok tt → h.base < base_of (answered_by at.c p a) p
 answer_raises w m p h at v (Ok end) is ok =
@@ -268,7 +268,7 @@ holds_within w m p h v at =
     let was = v.consumers m at.c at.known in
     (omega (arith, was.valid.ordered p, ap slot_base at.held, ap slot_position at.held), omega (arith, was.within p, ap slot_position at.held))
 
--- one poll and the commit of what is pending then raise the base, where it is not the log's end
+-- a poll and the commit of what is pending raise the base, unless it is at the log's end
 read_on_raises : (batch m p : ℕ) (w : WorldState) → 1 ≤ batch → IsValidWorld w → IsReader w.cluster.group m p → is_read_up w m p ≡ false → (read_on batch m p w).answer ≡ Ok tt
     → base_in w m p < base_in (read_on batch m p w).after m p
 unfolding read_on
@@ -327,7 +327,7 @@ log_drains batch m p w some v reads ok = read_up_drains (length (log_at w.cluste
 drained_stays : (w w2 : WorldState) (p : ℕ) → LeavesGroup w w2 → IsFurther w w2 → IsDrained w p → IsDrained w2 p
 drained_stays w w2 p left further drained = omega (arith, drained, further.committed p, ap (λ l. length (log_at l p)) left.logs)
 
--- where the course of one of the numbers drains a log, the courses of all do
+-- if the course of one of the numbers drains a log, so do the courses of all
 each_drains : (course : ℕ → WorldState → Course) (made : (n : ℕ) (w : WorldState) → IsCourse w (course n w)) (reading : (n : ℕ) (w : WorldState) → AreAll IsReading (course n w).events) (m p k : ℕ)
     → ((w : WorldState) → IsValidWorld w → IsReader w.cluster.group m p → (course k w).answer ≡ Ok tt → IsDrained (course k w).after p)
     → (ns : List ℕ) → Listed k ns → (w : WorldState) → IsValidWorld w → IsReader w.cluster.group m p → (for_each ns course w).answer ≡ Ok tt → IsDrained (for_each ns course w).after p
@@ -391,13 +391,13 @@ members_drain batch m p w some v reads at ok =
     each_drains (drain_member batch) (drain_member_course batch) (drain_member_events IsReading reading_open batch) m p m (λ x vx readsx okx. member_drains batch m p x some vx readsx okx)
     (members w.cluster.group) at w v reads ok
 
--- ---- each partition has a reader in a calm group
--- how many rows have a partition, as balanced rows are counted
+-- ---- in a settled and synced group each partition has a reader
+-- the number of rows with a partition, as balanced rows count it
 abbrev rows_with : List PartitionSet → ℕ → ℕ
 rows_with [] q = 0
 rows_with (row ∷ rows) q = one (is_in row q) + rows_with rows q
 
--- where some row has it, it is found
+-- if some row has it, it is found
 some_row : (f : ℕ → PartitionSet) (q : ℕ) (ms : List ℕ) → 0 < rows_with (map f ms) q → (m : ℕ) × Listed m ms × (is_in (f m) q ≡ true)
 some_row f q [] some = absurd (omega arith)
 some_row f q (m ∷ ms) some = go (some_row f q ms) (is_in (f m) q) refl

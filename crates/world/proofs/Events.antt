@@ -1,4 +1,4 @@
--- A world stays valid, whatever event comes and whatever is replied to it.
+-- A world stays valid, whatever the event and the reply.
 use Rattle.std.proofs.Common.{◌≡◌, ◌∙◌, ◌+◌, ◌-◌, ◌<◌, ◌≤◌, ℕ, zero, suc, Bool, true, false, List, [], ◌∷◌, ◌++◌, Option, Some, None, Result, Ok, Err, length, drop, refl, sym, ap, subst, inl, inr, arith, length-append, length-drop}
 use Rattle.std.specs.Prelude.{is_none, is_some, not, nat_le, nat_lt, ◌==◌, slice_range, if◌then◌else◌}
 use Rattle.std.specs.Result.{result_and}
@@ -44,7 +44,7 @@ use Rattle.world.proofs.Refusals.{commit_mismatch, commit_never_faults, commit_u
 use Rattle.world.proofs.Slots.{joined_kept_slots, joined_slots, left_slots, rejoined_slots, synced_slots, taken_over_slots}
 use Rattle.world.proofs.Stays.{IsFine, both_stay, consumer_stays, out_fine, stays}
 
--- a step of the cluster that no consumer is told of
+-- a step of the cluster that no consumer learns of
 alone_stays : (w : WorldState) (new : ClusterState) (m : ℕ) → IsValidWorld w → Leaves w.cluster new m → length new.group.slots ≡ length w.cluster.group.slots
     → ((c : ConsumerState) → consumer_of w m ≡ Some c → IsFine new m c) → IsValidWorld (with_cluster w new)
 alone_stays w new m v leaves slots fine =
@@ -57,7 +57,7 @@ alone_stays w new m v leaves slots fine =
     same_lookup zero c e = e
     same_lookup (suc i) c e = e
 
--- what was known of a consumer
+-- what held of a consumer before
 fine_before : (w : WorldState) (m : ℕ) (c : ConsumerState) → IsValidWorld w → consumer_of w m ≡ Some c → IsFine w.cluster m c
 fine_before w m c v e = record { known = v.consumers m c e; step = λ here. v.present m c here e }
 
@@ -83,7 +83,7 @@ append_in_stays w keyed v = go (nat_lt keyed.0 (length w.cluster.logs.counts)) r
     go false is = v
 
 -- ---- joins
--- the number of a consumer that was there is at most how many there were
+-- the number of a consumer that was there is at most their number
 number_within : (w : WorldState) (n : ℕ) (c : ConsumerState) → consumer_of w n ≡ Some c → n ≤ length w.consumers
 number_within w zero c e = omega arith
 number_within w (suc i) c e = omega (arith, slice_get_within w.consumers i c e)
@@ -129,7 +129,7 @@ join_kept_stays w name v = go (join_answer w.cluster.group name) refl
     go (Err why) is = v
 
 -- ---- take-overs
--- somebody kept the place that is taken over
+-- a static member has the seat that is taken over
 keeper_of : (g : GroupState) (name : List ℕ) (n : ℕ) → take_over_answer g name ≡ Ok n → (m : ℕ) × (kept_member g name ≡ Some m)
 keeper_of g name n ok = go (kept_member g name) refl ok
   where
@@ -164,14 +164,14 @@ lose_stays w m v = go (leave_answer w.cluster.group m) refl
         })
     go (Err why) is = v
 
--- ---- what a consumer asks for
+-- ---- requests of a consumer
 -- refused by the cluster
 refused_stays : (w : WorldState) (m : ℕ) (why : Refusal) → IsValidWorld w → (why ≡ r.UnknownMember → is_present w.cluster.group m ≡ false) → IsValidWorld (refused_by_cluster w m why).after
 refused_stays w m r.UnknownMember v gone =
     both_stay w w.cluster m dropped v (nothing_leaves w.cluster m v.cluster) refl (λ c e. out_fine w.cluster m c (v.consumers m c e) (gone refl))
 refused_stays w m why v gone = v
 
--- asked for by a consumer that is in
+-- a request of a consumer that is in the group
 asked_stays : (w : WorldState) (m : ℕ) (f : ConsumerState → Outcome) → IsValidWorld w → ((c : ConsumerState) → consumer_of w m ≡ Some c → IsValidWorld (f c).after) → IsValidWorld (asked w (consumer_of w m) f).after
 asked_stays w m f v each = go (consumer_of w m) refl
   where
@@ -251,7 +251,7 @@ poll_stays w m p n v = go (consumer_of w m) refl
     go (Some c) is = polls c is (poll_answer c w.cluster.logs p n) refl
 
 -- ---- sends
--- what can be sent is not empty, and the mail has room for it
+-- what can be sent is not empty, and the mail is not full
 sendable : (a : Result (Unit {0}) Refusal) (full : Bool) → result_and a (let x : Result (Unit {0}) Refusal = if full then Err r.MailFull else Ok tt in x) ≡ Ok tt → (a ≡ Ok tt) × (full ≡ false)
 sendable (Ok u) true e = absurd (cc e)
 sendable (Ok u) false e = (refl, refl)
@@ -392,7 +392,7 @@ valid_after w (event.Deliver k) told w2 v step =
 valid_after w (event.DeliverUnanswered k) told w2 v step =
     came (deliver_unanswered_event w k) told w2 step (delivery_stays w (delivered_unanswered w) v (λ c. unanswered_stays w c (cluster_commit_answer w.cluster c) v refl) (commit_at w k))
 
--- ---- what never comes
+-- ---- refusals that never occur
 commit_sent : (w : WorldState) (k : ℕ) (c : CommitTerms) → IsValidWorld w → commit_at w k ≡ Some c → IsSent w.cluster.logs c
 commit_sent w zero c v e = absurd (cc e)
 commit_sent w (suc i) c v e = v.mail i c e

@@ -1,4 +1,4 @@
--- Consumers after the steps that are about them.
+-- Consumers after the steps that change them.
 use Rattle.std.proofs.Common.{◌≡◌, ◌⊎◌, ◌∙◌, ◌<◌, ◌≤◌, ℕ, Bool, true, false, Option, Some, None, Ok, length, refl, sym, ap, inl, inr, arith}
 use Rattle.std.specs.Prelude.{is_some, if◌then◌else◌}
 use Rattle.std.proofs.lemmas.Bool.{cases_lt}
@@ -50,7 +50,7 @@ leased_position lease p most None old new = go (is_in lease.assigned p)
     go true = new
     go false = omega arith
 
--- what is held with a lease was held, or is leased
+-- what is held with a lease was held before, or is leased
 leased_from : (lease : LeaseTerms) (p : ℕ) (o : Option Held) → is_some (leased_slot lease p o) ≡ true → (is_some o ≡ true) ⊎ (is_in lease.assigned p ≡ true)
 leased_from lease p (Some h) e = inl refl
 leased_from lease p None e = inr (go (is_in lease.assigned p) e)
@@ -133,7 +133,7 @@ held_assigned c p h =
       | inr none ↦ absurd (let wrong = sym (ap is_some none) ∙ h in cc)
     ]
 
--- what was held and is assigned is held on
+-- what was held and is assigned stays held
 held_on : (c : ConsumerState) (p : ℕ) → p < length c.held → is_in c.assigned p ≡ true → is_held c p ≡ true → is_held (given_up c) p ≡ true
 held_on c p lt mine held = ap is_some (slot_by (kept_slot c) (length c.held) p lt) ∙ rw mine held
 

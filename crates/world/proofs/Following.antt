@@ -1,4 +1,4 @@
--- Courses are made of their events, and calls follow them one after another.
+-- Courses consist of their events, and calls follow them one after the other.
 use Rattle.std.proofs.Common.{◌≡◌, ◌⊎◌, ◌∙◌, ℕ, zero, suc, Bool, true, false, ◌||◌, List, [], ◌∷◌, ◌++◌, Result, Ok, Err, append_assoc, cond, length, refl, sym, ap, subst, inl, inr}
 use Rattle.lane_words.specs.declared.Refusal.{Refusal}
 use Rattle.lane_words.specs.declared.Refusal.TheVariants as r
@@ -9,14 +9,15 @@ use Rattle.world.specs.declared.event.Event.{Event}
 use Rattle.world.specs.declared.event.Event.TheVariants as event
 use Rattle.world.specs.declared.event.Reply.{Reply}
 use Rattle.world.specs.declared.event.Reply.TheVariants as reply
-use Rattle.group_laws.specs.Passes.{has_to_rejoin, is_calm}
+use Rattle.group_machine.specs.NextSteps.{has_to_rejoin}
+use Rattle.group_laws.specs.Passes.{is_calm}
 use Rattle.world.specs.Courses.{Course, Follows, after_all, answer_in, answered_at_once, chain, for_each, goes_on, happens, nothing, outcome_of}
 use Rattle.world.specs.Draining.{drain_log, drain_member, drain_members, draining, held_by, is_read_up, read_on, read_up}
 use Rattle.world.specs.Settling.{commit_pending, flush, forgiven, is_pending, pass, passes, rejoin_if_due, settling, sync_if_new, turn, unless_mismatch}
 use Rattle.world.specs.Steps.{Comes, Step, refused}
 use Rattle.world.specs.World.{WorldState}
 
--- ---- courses are made of their events
+-- ---- courses consist of their events
 abbrev pub IsCourse : WorldState → Course → Type 0
 IsCourse w c = c.after ≡ after_all w c.events
 
@@ -128,7 +129,7 @@ attempted w e told w2 s =
     ]
 
 -- ---- one course and then another
--- whoever follows the one from here on follows the other from where it began
+-- a call that follows the one from here on follows the other from its start
 abbrev pub Continues : WorldState → Course → WorldState → Course → Type 0
 Continues w c mid rest = (result : Result (Unit {0}) Refusal) (w2 : WorldState) → Follows mid rest result w2 → Follows w c result w2
 

@@ -1,4 +1,4 @@
--- Consumers in step with their members, through the steps of the group.
+-- Consumers follow their members through the steps of the group.
 use Rattle.std.proofs.Common.{◌≡◌, ◌∙◌, ◌+◌, ◌≤◌, ℕ, true, false, Some, sym, ap, inl, inr, arith}
 use Rattle.bit_planes.specs.PartitionSet.{is_in}
 use Rattle.group_machine.specs.State.{GroupState, granted_of, is_synced}
@@ -7,7 +7,7 @@ use Rattle.consumer.specs.Consumer.{ConsumerState, is_held}
 use Rattle.consumer.proofs.Changed.{KeepsHold}
 use Rattle.world.specs.Valid.{IsInStep}
 
--- a consumer that holds what it held
+-- a consumer that holds the same as before
 pub in_step_same : (g : GroupState) (m : ℕ) (c new : ConsumerState) → KeepsHold c new → IsInStep g m c → IsInStep g m new
 in_step_same g m c new same was = record {
   member = same.member ∙ was.member;
@@ -40,7 +40,7 @@ behind old new n c member granted not_ahead next unsynced = record {
   held = λ s p h. absurd (cc (s, unsynced));
 }
 
--- what a step leaves of another member is enough for its consumer
+-- what a step leaves of the other members suffices for their consumers
 pub in_step_left : (old new : GroupState) (n : ℕ) (c : ConsumerState) → LeavesMember old new n → IsInStep old n c → IsInStep new n c
 in_step_left old new n c left was =
     elim left.either [

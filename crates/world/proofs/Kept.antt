@@ -1,4 +1,4 @@
--- What events of some kinds keep, courses of such events keep.
+-- A relation that each event of a kind keeps is kept by courses of such events.
 use Rattle.std.proofs.Common.{◌≡◌, ◌∙◌, ◌≤◌, ℕ, zero, suc, Bool, true, false, List, [], ◌∷◌, ◌++◌, Option, Some, None, Result, Ok, Err, cond, length, refl, sym, ap, subst, inl, inr, arith}
 use Rattle.std.specs.Prelude.{is_none}
 use Rattle.lane_words.specs.declared.Refusal.{Refusal}
@@ -8,7 +8,7 @@ use Rattle.partition_log.specs.Logs.{log_at}
 use Rattle.commit_store.specs.Commits.{committed_at}
 use Rattle.group_machine.specs.State.{GroupState, is_present, members}
 use Rattle.group_machine.specs.Cluster.{ClusterState, CommitTerms, IsValidCluster, LeaseTerms, cluster_commit_answer, cluster_sync_answer, with_group}
-use Rattle.group_laws.specs.Passes.{has_to_rejoin}
+use Rattle.group_machine.specs.NextSteps.{has_to_rejoin}
 use Rattle.group_machine.specs.Steps.{rejoin_answer, rejoined_by, synced_by}
 use Rattle.group_laws.proofs.PassLemmas.{rejoined_present, synced_present}
 use Rattle.consumer.specs.Consumer.{ConsumerState, answered_by, given_up, leased, poll_answer, polled}
@@ -84,13 +84,13 @@ IsReading (event.Send m p) = Unit {0}
 IsReading (event.Deliver k) = Unit {0}
 IsReading e = ⊥
 
--- and those of members that take part in a rebalance, beside
+-- and also those of members that take part in a rebalance
 abbrev pub IsOfTurn : Event → Type 0
 IsOfTurn (event.Sync m) = Unit {0}
 IsOfTurn (event.Rejoin m) = Unit {0}
 IsOfTurn e = IsReading e
 
--- courses whose events are of one of these kinds: what sends and delivers alone is of both
+-- courses whose events are of one of these kinds: sends and deliveries are of both
 pub record IsOpen (E : Event → Type 0) : Type 0 where
   pub poll : (m p n : ℕ) → E (event.Poll m p n)
   pub send : (m p : ℕ) → E (event.Send m p)
@@ -218,12 +218,12 @@ keeps_group = record {
   step = reading_leaves;
 }
 
--- draining the members leaves them too
+-- draining the members leaves them as they are
 pub drained_leaves : (batch : ℕ) (w w2 : WorldState) (result : Result (Unit {0}) Refusal) → Follows w (drain_members batch w) result w2 → LeavesGroup w w2
 drained_leaves batch w w2 result follows =
     kept_following IsReading LeavesGroup keeps_group w w2 (drain_members batch w) result (drain_members_course batch w) (drain_members_events IsReading reading_open batch w) follows
 
--- ---- in a valid world they leave what is committed committed, and the world valid
+-- ---- in a valid world they leave it valid, and what is committed stays committed
 pub valid_outcome : (w : WorldState) (e : Event) → IsValidWorld w → IsValidWorld (outcome_of w e).after
 valid_outcome w (event.Append key) v = valid_after w (event.Append key) _ _ v (inl (refl, refl))
 valid_outcome w (event.AppendIn topic key) v = valid_after w (event.AppendIn topic key) _ _ v (inl (refl, refl))
@@ -294,7 +294,7 @@ keeps_further = record {
   step = reading_further;
 }
 
--- ---- a turn takes nobody in or out
+-- ---- a turn leaves who is present
 abbrev pub SamePresent : WorldState → WorldState → Type 0
 SamePresent w w2 = (n : ℕ) → is_present w2.cluster.group n ≡ is_present w.cluster.group n
 

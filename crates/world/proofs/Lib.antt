@@ -9,6 +9,7 @@ pub mod Kept
 pub mod Lists
 pub mod Loading
 pub mod Lookups
+pub mod NextSteps
 pub mod Outcomes
 pub mod Refusals
 pub mod Runs

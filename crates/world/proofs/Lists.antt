@@ -1,4 +1,4 @@
--- Look-ups in lists that changed at one index, or grew at the end.
+-- Lookups in lists that changed at one index, or grew at the end.
 use Rattle.std.proofs.Common.{◌≡◌, ◌⊎◌, ℕ, zero, suc, List, [], ◌∷◌, ◌++◌, Some, length, refl, ap, inl, inr, arith}
 use Rattle.std.specs.Prelude.{slice_get, slice_set}
 

@@ -1,4 +1,4 @@
--- Loads: one record more is appended or refused, and what the appends of a run add to the logs.
+-- Loads: one more record is appended or refused, and what a run appends to the logs.
 use Rattle.std.proofs.Common.{◌≡◌, ◌∙◌, ◌+◌, ◌<◌, ℕ, suc, true, List, [], ◌∷◌, ◌++◌, Result, Ok, Err, length, take, drop, map, get_or, refl, sym, ap, subst, inl, inr, arith}
 use Rattle.std.specs.Prelude.{OnOk, nat_lt, if◌then◌else◌}
 use Rattle.std.specs.Borrow.{Bor}
@@ -49,7 +49,7 @@ append_step w (event.AppendIn t key) keyed told w2 is topic comes =
     subst (λ (k : Keyed). MayCome w (append_in_event w k) told w2) is goes
 append_step w e keyed told w2 is topic comes = absurd is
 
--- one record more is appended
+-- one more record is appended
 pub append_more : (w w2 : WorldState) (events : List Event) (i : ℕ) (keyed : Keyed) (s : ClusterState) (at : ℕ × ℕ) → Appends w (take i events) w2 → i < length events → IsAppendOf (event_at events i) keyed → IsOfTopic w2.cluster.logs keyed
     → Answers (append_answer w2.cluster.logs keyed) (Ok at) → s ≡ appended_to w2.cluster keyed → Appends w (take (i + 1) events) (with_cluster w2 s)
 append_more w w2 events i keyed s at before lt of topic (inr wrong) is = absurd (cc wrong)
@@ -76,13 +76,13 @@ append_stops w events i keyed why lt of topic answer =
         inl (ap (λ (o : Outcome). o.reply) (sym comes), ap (λ (o : Outcome). o.after) (sym comes))
     go (inr same) = inr (let e : why ≡ r.Memory = cc in ap (λ x. reply.Refused x) e, refl)
 
--- where logs have as many partitions, an event appends to the same place
+-- logs over the same number of partitions place a record alike
 pub append_still : (l l2 : PartitionLogs) (e : Event) (place : ℕ) (key : Key) → l2.counts ≡ l.counts → IsAppendAt l e place key → IsAppendAt l2 e place key
 append_still l l2 e place key same goes =
     subst (λ (counts : List ℕ). (topic : ℕ) × IsAppendOf e (topic, key) × (topic < length counts) × (place_in_topic counts topic key ≡ place)) (sym same) goes
 
 -- ---- the records of events
--- the records that these events append where none is refused
+-- the records that these events append if none is refused
 abbrev pub records_of : List Event → List Keyed
 records_of [] = []
 records_of (e ∷ events) = appended_by e (reply.Appended 0 0) ++ records_of events
@@ -115,17 +115,17 @@ records_in [] keys = refl
 records_in (t ∷ topics) [] = refl
 records_in (t ∷ topics) (key ∷ keys) = ap (λ (ks : List Keyed). (t, key.now) ∷ ks) (records_in topics keys)
 
--- a load whose records are these
+-- a load of these records
 pub load_history : (w : WorldState) (events : List Event) (records : List Keyed) (result : Result (Unit {0}) (ℕ × Refusal)) (w2 : WorldState) → records_of events ≡ records → IsValidWorld w → Loads w events result w2
     → OnOk result (AppendsRecords records w w2)
 load_history w events records (Ok u) w2 is v done = appends_history w events records w2 is v done
 load_history w events records (Err stop) w2 is v done = tt
 
--- memory for the places is refused
+-- memory for the partitions of the keys runs out
 pub load_stops_first : (w : WorldState) (events : List Event) → Loads w events (Err (0, r.Memory)) w
 load_stops_first w events = (omega arith, no_appends w, inr (refl, refl))
 
--- ---- events of keys whose places are computed
+-- ---- events of keys whose partitions are computed beforehand
 pub first_placed : (l : PartitionLogs) (places : List ℕ) (keys : List (Bor Key)) → IsValidLogs l → places ≡ map (λ key. place_in l (of_first key.now)) keys → AreAppendsAt l (appends_of keys) places keys
 first_placed l places keys v is = record {
   events_each = length-map keys (λ (key : Bor Key). event.Append key);

@@ -1,4 +1,4 @@
--- The consumers of a world with one put in its place, or one more.
+-- The consumers of a world with one replaced, or one added.
 use Rattle.std.proofs.Common.{◌≡◌, ◌⊎◌, ◌+◌, ℕ, zero, suc, [], ◌∷◌, ◌++◌, Some, length, ap, inl, inr, arith}
 use Rattle.consumer.specs.Consumer.{ConsumerState}
 use Rattle.world.specs.World.{WorldState, consumer_of}

@@ -1,4 +1,4 @@
--- What comes of events, where the consumer of the member is known.
+-- The outcomes of events, given the consumer of the member.
 use Rattle.std.proofs.Common.{◌≡◌, ◌⊎◌, ◌∙◌, ◌+◌, ◌<◌, ℕ, suc, false, List, [], ◌∷◌, ◌++◌, Option, Some, None, Result, Ok, Err, length, slice_index_or, refl, sym, ap, subst, inl, inr, arith}
 use Rattle.std.specs.Prelude.{is_none, slice_get, slice_set, if◌then◌else◌, nat_le}
 use Rattle.std.specs.Result.{result_and}
@@ -30,11 +30,11 @@ consumer_there w i c lt at = slice_get-get_or w.consumers i c lt ∙ ap (λ x. S
 pub consumer_at : (w : WorldState) (m i : ℕ) (c : ConsumerState) → m ≡ suc i → i < length w.consumers → c ≡ slice_index_or w.consumers i c → consumer_of w m ≡ Some c
 consumer_at w m i c number lt at = rw number (consumer_there w i c lt at)
 
--- a consumer that is changed stands at its index
+-- the changed consumer is at its index
 pub changed_at : (w : WorldState) (m i : ℕ) (f : ConsumerState → ConsumerState) (c : ConsumerState) → m ≡ suc i → consumer_of w m ≡ Some c → on_consumer w m f ≡ put w i (f c)
 changed_at w m i f c number known = rw known (rw number refl)
 
--- one that is as it was leaves the world as it was
+-- an unchanged consumer leaves the world unchanged
 pub put_same : (w : WorldState) (i : ℕ) (c : ConsumerState) → c ≡ slice_index_or w.consumers i c → put w i c ≡ w
 put_same w i c at =
     ap (λ (x : ConsumerState). put w i x) at ∙ ap (λ (cs : List ConsumerState). record w { consumers = cs }) (set-get_or w.consumers i c)
@@ -53,14 +53,14 @@ poll_err w m i p n why c new known at answer is =
     let event : poll_event w m p n ≡ poll_outcome w m p n c (Err why) = ap (poll_known w m p n) known ∙ ap (poll_outcome w m p n c) (sym answer) in
     (ap (λ (o : Outcome). o.reply) (sym event), ap (put w i) is ∙ put_same w i c at ∙ ap (λ (o : Outcome). o.after) (sym event))
 
--- ---- what a consumer asks for
--- an event that a consumer which is in asks for
+-- ---- requests of a consumer
+-- a request of a consumer that is in the group
 pub asks : (w : WorldState) (m i : ℕ) (c : ConsumerState) (f : ConsumerState → Outcome) → IsAsking w m i → slice_get w.consumers i ≡ Some c → asked w (consumer_of w m) f ≡ f c
 asks w m i c f asking there =
     let known : consumer_of w m ≡ Some c = rw asking.number there in
     ap (λ o. asked w o f) known ∙ ap (λ b. if b then refused w r.OutOfGroup else f c) (asking.present c there)
 
--- refused as the cluster did, or for want of memory
+-- refused as by the cluster, or because memory ran out
 pub refused_ok : (w w2 : WorldState) (m i : ℕ) (event : Outcome) (why : Refusal) (told : Reply) → m ≡ suc i → (event ≡ refused_by_cluster w m why) ⊎ (why ≡ r.Memory)
     → Comes (refused_by_cluster w (suc i) why) told w2 → MayCome w event told w2
 refused_ok w w2 m i event why told number (inl is) comes = inl (rw is (rw number comes))
@@ -79,7 +79,7 @@ sync_ok w m i c new s lease generation asking there (inl answer) stepped is same
     ∙ sym (changed_at (with_cluster w (with_group w.cluster (synced_by w.cluster.group m))) m i (λ x. leased x lease) c asking.number known) in
     inl (ap (λ n. reply.Leased n) same ∙ ap (λ (o : Outcome). o.reply) (sym event), after ∙ ap (λ (o : Outcome). o.after) (sym event))
 
--- what the cluster refused, or memory
+-- the refusal of the cluster, or memory
 refused_is : {A : Type 0} (expected : Result A Refusal) (why : Refusal) (f : Result A Refusal → Outcome) (event g : Outcome) → Answers expected (Err why) → event ≡ f expected → f (Err why) ≡ g → (event ≡ g) ⊎ (why ≡ r.Memory)
 refused_is expected why f event g (inl same) is e = inl (is ∙ ap f (sym same) ∙ e)
 refused_is expected why f event g (inr same) is e = inr cc
@@ -115,7 +115,7 @@ send_ok w m p sent c commit mail known some room (inl answer) count grown =
     inl (ap (λ n. reply.Sent n) count ∙ ap (λ (o : Outcome). o.reply) (sym event), after ∙ ap (λ (o : Outcome). o.after) (sym event))
 
 -- ---- leases
--- the answer of a sync that is accepted is the member's lease
+-- the lease of an accepted sync is the member's
 pub leased_to : (s : ClusterState) (m : ℕ) (lease : LeaseTerms) → Answers (cluster_sync_answer s m) (Ok lease) → lease ≡ lease_of s m
 leased_to s m lease (inr wrong) = absurd (cc wrong)
 leased_to s m lease (inl same) = go (sync_answer s.group m) same
@@ -124,12 +124,12 @@ leased_to s m lease (inl same) = go (sync_answer s.group m) same
     go (Ok u) e = cc
     go (Err why) e = absurd (cc e)
 
--- a consumer that is in is its member's
+-- a consumer that is in the group is its member's
 pub is_in_as : (member : Option ℕ) (m : ℕ) → is_none member ≡ false → ((n : ℕ) → member ≡ Some n → n ≡ m) → member ≡ Some m
 is_in_as None m some number = absurd (cc some)
 is_in_as (Some n) m some number = ap (λ k. Some k) (number n refl)
 
--- ---- members that come in
+-- ---- members that join
 pub entered : (told : ℕ → Reply) (group : GroupState) (w : WorldState) (answer : Result ℕ Refusal) (member : ℕ) (s : ClusterState) (consumers : List ConsumerState) → Answers answer (Ok member)
     → s ≡ with_group w.cluster group → consumers ≡ w.consumers ++ joined_as (out_of_group w.cluster.group.partitions) member ∷ []
     → MayCome w (entry_outcome told group w answer) (told member) (record { cluster = s; consumers = consumers; mail = w.mail })

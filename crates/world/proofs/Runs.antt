@@ -1,4 +1,4 @@
--- Runs of events: one step more, and what they append.
+-- Runs of events: one more step, and what they append.
 use Rattle.std.proofs.Common.{◌≡◌, ◌∙◌, ◌+◌, ◌<◌, ℕ, List, [], ◌∷◌, ◌++◌, Option, Some, None, Result, Ok, Err, length, take, get_or, append_assoc, refl, sym, ap, subst, inl, inr}
 use Rattle.std.proofs.lemmas.List.{append-nil, take_more}
 use Rattle.lane_words.specs.declared.Refusal.{Refusal}
@@ -150,7 +150,7 @@ history_after w (event.Deliver k) told w2 v step = came_same w (deliver_event w 
 history_after w (event.DeliverUnanswered k) told w2 v step =
     came_same w (deliver_unanswered_event w k) told w2 step (delivery_logs w (delivered_unanswered w) (unanswered_logs w) (commit_at w k))
 
--- ---- one step more
+-- ---- one more step
 pub run_push : (events : List Event) (replies : List Reply) (w w2 w3 : WorldState) (e : Event) (told : Reply) → Run w events replies w2 → Step w2 e told w3 → Run w (events ++ e ∷ []) (replies ++ told ∷ []) w3
 run_push [] [] w w2 w3 e told run step = (w3, subst (λ x. Step x e told w3) run step, refl)
 run_push [] (s ∷ replies) w w2 w3 e told run step = absurd run

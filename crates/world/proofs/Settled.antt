@@ -1,4 +1,4 @@
--- Where a settling ends: what passes make of the group.
+-- The group after the passes of a settling.
 use Rattle.std.proofs.Common.{◌≡◌, ◌⊎◌, ◌∙◌, ◌||◌, ◌&&◌, ℕ, zero, suc, Bool, true, false, List, [], ◌∷◌, Option, Some, None, Result, Ok, Err, cond, refl, sym, ap, inl, inr}
 use Rattle.std.specs.Prelude.{OnOk, is_none}
 use Rattle.lane_words.specs.declared.Refusal.{Refusal}
@@ -8,7 +8,8 @@ use Rattle.group_machine.specs.declared.group.Phase.TheVariants.{Preparing, Stab
 use Rattle.group_machine.specs.State.{GroupState, assigned_of, granted_of, is_anybody, is_joined, is_synced, members}
 use Rattle.group_machine.specs.Good.{IsValidGroup}
 use Rattle.group_machine.specs.Cluster.{ClusterState, LeaseTerms, cluster_sync_answer, with_group}
-use Rattle.group_laws.specs.Passes.{has_to_rejoin, is_calm, passed, rejoined_if_due, synced_if_new, turned, turned_each}
+use Rattle.group_machine.specs.NextSteps.{has_to_rejoin}
+use Rattle.group_laws.specs.Passes.{is_calm, passed, rejoined_if_due, synced_if_new, turned, turned_each}
 use Rattle.group_laws.specs.Rounds.{bare, finish, round}
 use Rattle.group_machine.specs.Settled.{is_settled}
 use Rattle.group_machine.specs.Steps.{rejoin_answer, rejoined_by, synced_by}
@@ -26,7 +27,7 @@ use Rattle.world.proofs.Following.{flushes_course, pass_course}
 use Rattle.world.proofs.Kept.{IsReading, LeavesGroup, flushes_events, keeps_group, kept_course, reading_open, valid_course}
 use Rattle.world.proofs.Stays.{on_cluster}
 
--- ---- somebody is present where the group is not empty
+-- ---- somebody is present if the group is not empty
 pub somebody : (g : GroupState) → IsValidGroup g → (g.phase ≡ Preparing) ⊎ (g.phase ≡ Stable) → is_anybody g ≡ true
 somebody g v p = go (is_anybody g) refl
   where
@@ -85,7 +86,7 @@ rejoin_group : (w : WorldState) (m : ℕ) → (happens (event.Rejoin m) w).answe
 unfolding happens
 rejoin_group w m e = asked_told w (rejoined_by w.cluster.group m) (λ c. rejoin_outcome w m (rejoin_answer w.cluster.group m c.generation c.assigned)) (λ c. rejoin_told w m (rejoin_answer w.cluster.group m c.generation c.assigned)) (consumer_of w m) e
 
-new_group : (w : WorldState) (m : ℕ) → (sync_if_new m w).answer ≡ Ok tt → (sync_if_new m w).after.cluster.group ≡ synced_if_new w.cluster.group m
+pub new_group : (w : WorldState) (m : ℕ) → (sync_if_new m w).answer ≡ Ok tt → (sync_if_new m w).after.cluster.group ≡ synced_if_new w.cluster.group m
 unfolding sync_if_new synced_if_new
 new_group w m e = go (is_joined w.cluster.group m || is_synced w.cluster.group m) e
   where
@@ -136,7 +137,7 @@ abbrev passed_times : ℕ → GroupState → GroupState
 passed_times zero g = g
 passed_times (suc n) g = passed_times n (passed g)
 
--- where passes end: calm, and where the rebalance ends
+-- passes end in a settled and synced group, in which the rebalance had to end
 pub record IsEnd (g g2 : GroupState) : Type 0 where
   pub calm : is_calm g2 ≡ true
   pub end : finish g2 ≡ finish g
@@ -226,7 +227,7 @@ pub never_unsettled : (w w2 : WorldState) (c : Course) (result : Result (Unit {0
 never_unsettled w w2 c result h (inl told) e = h (sym told.0 ∙ e)
 never_unsettled w w2 c result h (inr way) e = cc (way.0, e)
 
--- ---- what an accepted call tells
+-- ---- what follows from an accepted call
 pub on_ok : (P : Type 0) (result : Result (Unit {0}) Refusal) → (result ≡ Ok tt → P) → OnOk result P
 on_ok P (Ok u) h = h refl
 on_ok P (Err why) h = tt

@@ -1,4 +1,4 @@
--- How many members a group ever had, through its steps.
+-- The number of members that a group ever had, through its steps.
 use Rattle.std.proofs.Common.{◌≡◌, ◌∙◌, ◌+◌, ℕ, suc, Bool, true, false, List, [], ◌∷◌, Option, Some, length, refl, ap, length-append}
 use Rattle.std.specs.Prelude.{if◌then◌else◌}
 use Rattle.std.specs.Option.{option_map_or}

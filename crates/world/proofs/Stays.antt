@@ -1,4 +1,4 @@
--- A world stays valid over every event.
+-- A world stays valid through every event.
 use Rattle.std.proofs.Common.{◌≡◌, ◌⊎◌, ◌∙◌, ◌+◌, ◌-◌, ◌≤◌, ℕ, zero, suc, true, false, List, ◌++◌, Option, Some, None, length, take, drop, refl, sym, ap, subst, inl, inr, arith, length-append, length-drop}
 use Rattle.std.specs.Prelude.{slice_get, slice_range}
 use Rattle.std.proofs.Math.ListN.{length-set}
@@ -39,12 +39,12 @@ consumer_stays s new about n c leaves was = record {
   within = λ p. let more = leaves.logs p in omega (arith, was.within p, ap length more.1, length-append (log_at s.logs p) more.0);
 }
 
--- what a consumer of a world has to be
+-- what is required of a consumer of a world
 pub record IsFine (s : ClusterState) (m : ℕ) (c : ConsumerState) : Type 0 where
   pub known : IsConsumerOf s m c
   pub step : is_present s.group m ≡ true → IsInStep s.group m c
 
--- a consumer of the world after a step: that of the member which the step was about, or another that was there
+-- a consumer after a step: that of the member which made the step, or another one from before
 abbrev pub IsFrom : WorldState → ClusterState → ℕ → ℕ → ConsumerState → Type 0
 IsFrom w new m n c = ((n ≡ m) × IsFine new m c) ⊎ ((n ≡ m → ⊥) × (consumer_of w n ≡ Some c))
 
@@ -67,7 +67,7 @@ stays w w2 m v leaves mail each from = record {
   few_commits = omega (arith, v.few_commits, ap length mail);
 }
 
--- the consumers where that of one member was changed
+-- the consumers, with that of one member changed
 on_lookup : (w : WorldState) (m n : ℕ) (f : ConsumerState → ConsumerState) (o : Option ConsumerState) → consumer_of w m ≡ o → (c : ConsumerState) → consumer_of (changed w m f o) n ≡ Some c
     → ((n ≡ m) × (old : ConsumerState) × (consumer_of w m ≡ Some old) × (c ≡ f old)) ⊎ ((n ≡ m → ⊥) × (consumer_of w n ≡ Some c))
 on_lookup w m n f None known c e = inr ((λ same. let none = ap (consumer_of w) same ∙ known in cc), e)
@@ -93,7 +93,7 @@ on_cluster w m f None = refl
 on_cluster w zero f (Some c) = refl
 on_cluster w (suc i) f (Some c) = refl
 
--- a step of the cluster that is about a member, whose consumer is changed
+-- a step of the cluster for a member, whose consumer changes
 pub both_stay : (w : WorldState) (new : ClusterState) (m : ℕ) (f : ConsumerState → ConsumerState) → IsValidWorld w → Leaves w.cluster new m → length new.group.slots ≡ length w.cluster.group.slots
     → ((c : ConsumerState) → consumer_of w m ≡ Some c → IsFine new m (f c)) → IsValidWorld (on_consumer (with_cluster w new) m f)
 both_stay w new m f v leaves slots fine =
@@ -111,7 +111,7 @@ both_stay w new m f v leaves slots fine =
     same_lookup zero c e = e
     same_lookup (suc i) c e = e
 
--- a consumer that is out is fine, where its member is not present
+-- a consumer that is out is valid if its member is not present
 pub out_fine : (s : ClusterState) (m : ℕ) (c : ConsumerState) → IsConsumerOf s m c → is_present s.group m ≡ false → IsFine s m (out_of_group c.partitions)
 out_fine s m c was gone = record {
   known = record {

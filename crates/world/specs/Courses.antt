@@ -1,5 +1,5 @@
--- Courses of events: a call that chooses event after event, each by the world that the one before
--- it left, and that ends at the first refusal.
+-- Courses of events: a call chooses each event by the world that the one before it left, and ends
+-- at the first refusal.
 use Rattle.std.specs.Prelude.{◌≡◌, ◌⊎◌, ℕ, List, [], ◌∷◌, ◌++◌, Result, Ok, Err}
 use Rattle.lane_words.specs.declared.Refusal.{Refusal}
 use Rattle.lane_words.specs.declared.Refusal.TheVariants as r
@@ -11,7 +11,7 @@ use Rattle.partition_log.specs.Keys.{of_first}
 use Rattle.world.specs.Steps.{Outcome, append_event, append_in_event, deliver_event, deliver_unanswered_event, join_event, join_kept_event, leave_event, lose_event, poll_event, rejoin_event, send_event, sync_event, take_over_event}
 use Rattle.world.specs.World.{WorldState}
 
--- what comes of an event where there is memory for it
+-- the outcome of an event if memory does not run out
 abbrev pub outcome_of : WorldState → Event → Outcome
 outcome_of w (event.Append key) = append_event w (of_first key.now)
 outcome_of w (event.AppendIn topic key) = append_in_event w (topic, key.now)
@@ -27,13 +27,13 @@ outcome_of w (event.Send m p) = send_event w m p
 outcome_of w (event.Deliver k) = deliver_event w k
 outcome_of w (event.DeliverUnanswered k) = deliver_unanswered_event w k
 
--- the events that came, in order; the answer; and the world after them
+-- the events, in order; the answer; and the world after them
 pub record Course : Type 0 where
   pub events : List Event
   pub answer : Result (Unit {0}) Refusal
   pub after : WorldState
 
--- no event, and this answer
+-- no event, with this answer
 abbrev pub answered_at_once : Result (Unit {0}) Refusal → WorldState → Course
 answered_at_once answer w = record { events = []; answer = answer; after = w }
 
@@ -61,7 +61,7 @@ goes_on first second (Ok _) = record {
 }
 goes_on first second (Err why) = first
 
--- one course, and where it is not refused the next one, in the world after it
+-- one course, and unless it is refused the next one, in the world after it
 unfoldable pub chain : Course → (WorldState → Course) → Course
 chain first next = goes_on first (next first.after) first.answer
 
@@ -83,8 +83,8 @@ pub record IsOnTheWay (w : WorldState) (c : Course) (w2 : WorldState) : Type 0 w
   pub events_are : c.events ≡ came ++ left
   pub world_is : w2 ≡ after_all w came
 
--- a call follows a course: all its events come, and it answers as the course does; or memory is
--- refused at one of them, and what was done before stands
+-- a call follows a course: it makes all its events and has its answer; or memory runs out at one of
+-- them, and the events before it stand
 abbrev pub Follows : WorldState → Course → Result (Unit {0}) Refusal → WorldState → Type 0
 Follows w c result w2 =
     ((result ≡ c.answer) × (w2 ≡ c.after)) ⊎ ((result ≡ Err r.Memory) × IsOnTheWay w c w2)

@@ -1,4 +1,4 @@
--- How a world is drained: it settles, and each member reads and commits its logs to their ends.
+-- Draining a world: it settles, and each member reads and commits its logs to their ends.
 use Rattle.std.specs.Prelude.{ℕ, zero, suc, ◌==◌, Bool, false, length, if◌then◌else◌}
 use Rattle.std.specs.Option.{option_map_or}
 use Rattle.bit_planes.specs.PartitionSet.{PartitionSet, elements, empty_set, set_where}
@@ -18,36 +18,36 @@ held_by w m =
     (consumer_of w m)
     (empty_set w.cluster.group.partitions)
 
--- a member's consumer knows a log to be committed to its end
+-- a log is committed to its end, as far as a member's consumer has learnt
 abbrev pub is_read_up : WorldState → ℕ → ℕ → Bool
 is_read_up w m p =
     option_map_or (λ c. base_of c p == length (log_at w.cluster.logs p)) (consumer_of w m) false
 
--- one poll of a partition, and the commit of what is pending then; an offset that was another one
+-- one poll of a partition, and the commit of what is pending then; another committed offset
 -- realigns the consumer
 unfoldable pub read_on : ℕ → ℕ → ℕ → WorldState → Course
 read_on batch m p w =
     chain (happens (event.Poll m p batch) w) (λ read. forgiven (commit_pending m p read))
 
--- the same again and again until the log is committed to its end, at most so many times
+-- the same until the log is committed to its end, at most n times
 unfoldable pub read_up : ℕ → ℕ → ℕ → ℕ → WorldState → Course
 read_up zero batch m p w = nothing w
 read_up (suc n) batch m p w =
     if is_read_up w m p then nothing w else chain (read_on batch m p w) (read_up n batch m p)
 
--- a log is read to its end: as many times as it has records are enough, since each commits at least
--- one more
+-- a log is read to its end: each time commits at least one more record, so the length of the log is
+-- a bound
 unfoldable pub drain_log : ℕ → ℕ → ℕ → WorldState → Course
 drain_log batch m p w = read_up (length (log_at w.cluster.logs p)) batch m p w
 
--- each log that a member's consumer holds, in rising order of partitions
+-- each partition that a member's consumer holds, in rising order
 unfoldable pub drain_member : ℕ → ℕ → WorldState → Course
 drain_member batch m w = for_each (elements (held_by w m)) (drain_log batch m) w
 
--- each present member's, in rising order of numbers
+-- the partitions of each present member, in rising order of numbers
 unfoldable pub drain_members : ℕ → WorldState → Course
 drain_members batch w = for_each (members w.cluster.group) (drain_member batch) w
 
--- the world settles, and then its members read and commit what they hold to the end
+-- the world settles, and then its members read and commit their partitions to the end
 unfoldable pub draining : ℕ → WorldState → Course
 draining batch w = chain (settling w) (drain_members batch)

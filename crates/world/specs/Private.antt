@@ -1,4 +1,4 @@
--- Definitions that only contracts of private functions and the view cite.
+-- Definitions that only private contracts and the view cite.
 pub mod Loading
 pub mod Lookups
 pub mod View

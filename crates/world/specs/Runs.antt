@@ -1,4 +1,4 @@
--- Events, one after another.
+-- Schedules: events one after the other.
 use Rattle.std.specs.Prelude.{◌≡◌, ◌⊎◌, ◌≤◌, ℕ, List, [], ◌∷◌, ◌++◌, Result, Ok, Err, length, map, take, drop}
 use Rattle.std.specs.List.{zip}
 use Rattle.std.specs.Borrow.{Bor}
@@ -14,7 +14,7 @@ use Rattle.world.specs.declared.event.Reply.TheVariants as reply
 use Rattle.world.specs.Steps.{Step}
 use Rattle.world.specs.World.{WorldState}
 
--- a world of this many partitions, over all topics, in which nothing has happened
+-- a world of this many partitions, over all topics, before its first event
 pub record IsOpening (partitions : ℕ) (w : WorldState) : Type 0 where
   pub group : w.cluster.group ≡ opening partitions
   pub logs : AreLogsOf [] w.cluster.logs
@@ -36,29 +36,29 @@ abbrev pub if_appended : Keyed → Reply → List Keyed
 if_appended keyed (reply.Appended p offset) = keyed ∷ []
 if_appended keyed reply = []
 
--- the record that an event appended, if its reply says so
+-- the record that an event appended, by its reply
 abbrev pub appended_by : Event → Reply → List Keyed
 appended_by (event.Append key) reply = if_appended (of_first key.now) reply
 appended_by (event.AppendIn topic key) reply = if_appended (topic, key.now) reply
 appended_by event reply = []
 
--- the records that a schedule appended, by its replies
+-- the records that a schedule appended, by the replies
 abbrev pub appended_in : List Event → List Reply → List Keyed
 appended_in [] replies = []
 appended_in (event ∷ events) [] = []
 appended_in (event ∷ events) (reply ∷ replies) =
     appended_by event reply ++ appended_in events replies
 
--- logs of a list of records are afterwards those of the list with these at its end
+-- the logs grow by these records, in order
 abbrev pub AppendsRecords : List Keyed → WorldState → WorldState → Type 0
 AppendsRecords records w w2 = GrowByRecords records w.cluster.logs w2.cluster.logs
 
 -- ---- loading
--- the events that append records of these keys, in order
+-- the events that append a record of each key, in order
 abbrev pub appends_of : List (Bor Key) → List Event
 appends_of keys = map (λ key. event.Append key) keys
 
--- the events that append a record of each of these keys to its topic, in order
+-- the events that append a record of each key to its topic, in order
 abbrev pub appends_in : List ℕ → List (Bor Key) → List Event
 appends_in topics keys = map (λ keyed. event.AppendIn keyed.0 keyed.1) (zip topics keys)
 
@@ -67,7 +67,7 @@ AreAppended [] = Unit {0}
 AreAppended (reply.Appended p offset ∷ replies) = AreAppended replies
 AreAppended (reply ∷ replies) = ⊥
 
--- each of these events came and appended its record, one after the other
+-- each of these events appended its record, one after the other
 abbrev pub Appends : WorldState → List Event → WorldState → Type 0
 Appends w events w2 = (replies : List Reply) × Run w events replies w2 × AreAppended replies
 
@@ -76,13 +76,13 @@ abbrev pub IsRefusedNext : WorldState → List Event → Refusal → Type 0
 IsRefusedNext w [] why = ⊥
 IsRefusedNext w (event ∷ events) why = Step w event (reply.Refused why) w
 
--- Why a load stopped after n records: the append of the next one was refused, or at the beginning
--- memory for the places was
+-- why a load stopped after n records: the next record was refused, or memory for the partitions of
+-- the keys ran out before the first
 abbrev pub StopsLoad : WorldState → List Event → ℕ → Refusal → Type 0
 StopsLoad w rest n why = IsRefusedNext w rest why ⊎ ((n ≡ 0) × (why ≡ r.Memory))
 
--- a load of records by the events that append them: all are appended; or those before the first that
--- is refused, and it is told how many these are
+-- a load of records by the events that append them: all are appended; or those before the first
+-- that is refused, whose number is returned
 abbrev pub Loads : WorldState → List Event → Result (Unit {0}) (ℕ × Refusal) → WorldState → Type 0
 Loads w events (Ok _) w2 = Appends w events w2
 Loads w events (Err stop) w2 =

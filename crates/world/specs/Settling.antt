@@ -1,12 +1,13 @@
--- How a world settles: each member is brought to the end of the rebalance, and commits what is
--- pending of the partitions that it gives up.
+-- Settling a world: each member is brought to the end of the rebalance, and commits what is pending
+-- of the partitions that it gives up.
 use Rattle.std.specs.Prelude.{ℕ, zero, suc, Bool, false, ◌||◌, length, is_ok, Result, Ok, Err, if◌then◌else◌}
 use Rattle.std.specs.Option.{option_map_or}
 use Rattle.lane_words.specs.declared.Refusal.{Refusal}
 use Rattle.lane_words.specs.declared.Refusal.TheVariants as r
 use Rattle.bit_planes.specs.PartitionSet.{elements, minus}
 use Rattle.group_machine.specs.State.{assigned_of, granted_of, is_anybody, is_joined, is_synced, members}
-use Rattle.group_laws.specs.Passes.{has_to_rejoin, is_calm}
+use Rattle.group_machine.specs.NextSteps.{has_to_rejoin}
+use Rattle.group_laws.specs.Passes.{is_calm}
 use Rattle.consumer.specs.Consumer.{sendable_answer}
 use Rattle.world.specs.declared.event.Event.TheVariants as event
 use Rattle.world.specs.Courses.{Course, answered_at_once, for_each, happens, nothing, chain}
@@ -31,12 +32,12 @@ abbrev pub unless_mismatch : Result (Unit {0}) Refusal → Result (Unit {0}) Ref
 unless_mismatch (Err (r.OffsetMismatch committed)) = Ok tt
 unless_mismatch answer = answer
 
--- a delivery that is refused for its offset is no fault: the consumer is realigned by it
+-- another committed offset is no failure: it realigns the consumer
 abbrev pub forgiven : Course → Course
 forgiven c = record c { answer = unless_mismatch c.answer }
 
--- what is pending of a partition is committed; where the offset was another one, what is left is
--- committed once more
+-- what is pending of a partition is committed; if the committed offset was another one, what is
+-- left is committed once more
 unfoldable pub flush : ℕ → ℕ → WorldState → Course
 flush m p w = chain (forgiven (commit_pending m p w)) (commit_pending m p)
 
@@ -47,7 +48,7 @@ sync_if_new m w =
     then nothing w
     else happens (event.Sync m) w
 
--- it commits what is pending of what it gives up, and rejoins
+-- a member that has to rejoin commits what is pending of what it gives up, and rejoins
 unfoldable pub rejoin_if_due : ℕ → WorldState → Course
 rejoin_if_due m w =
     if has_to_rejoin w.cluster.group m
@@ -58,23 +59,23 @@ rejoin_if_due m w =
     (happens (event.Rejoin m))
     else nothing w
 
--- a member that has neither joined nor synced syncs, and then rejoins if it has to
+-- a member that has neither joined nor synced syncs; then it rejoins if it has to
 unfoldable pub turn : ℕ → WorldState → Course
 turn m w = chain (sync_if_new m w) (rejoin_if_due m)
 
 -- ---- passes
--- each present member's turn, in rising order of numbers
+-- each present member takes a turn, in rising order of numbers
 unfoldable pub pass : WorldState → Course
 pass w = for_each (members w.cluster.group) turn w
 
--- passes until the group is calm, at most so many
+-- passes until the group is settled and synced, at most n
 unfoldable pub passes : ℕ → WorldState → Course
 passes zero w =
     if is_calm w.cluster.group then nothing w else answered_at_once (Err r.NotSettled) w
 passes (suc n) w =
     if is_calm w.cluster.group then nothing w else chain (pass w) (passes n)
 
--- a world settles in at most four passes; where nobody is present this is refused
+-- a world settles in at most four passes; an empty group is refused
 unfoldable pub settling : WorldState → Course
 settling w =
     if is_anybody w.cluster.group then passes 4 w else answered_at_once (Err r.NobodyPresent) w

@@ -1,4 +1,4 @@
--- The events of a world, each said by the steps of the cluster and of a consumer.
+-- The events of a world, each defined by steps of the cluster and of a consumer.
 use Rattle.std.specs.Prelude.{◌≡◌, ◌⊎◌, ℕ, ◌+◌, List, [], ◌∷◌, ◌++◌, Option, Some, None, is_none, Result, Ok, Err, length, nat_le, nat_lt, if◌then◌else◌}
 use Rattle.std.specs.Result.{result_and}
 use Rattle.lane_words.specs.declared.Refusal.{Refusal}
@@ -15,7 +15,7 @@ use Rattle.world.specs.declared.event.Reply.TheVariants as reply
 use Rattle.world.specs.declared.event.TheConstants.{MOST_COMMITS}
 use Rattle.world.specs.World.{WorldState, commit_at, consumer_of, on_consumer, with_cluster}
 
--- what comes of an event: the reply, and the world after it
+-- the outcome of an event: the reply, and the world after it
 pub record Outcome : Type 0 where
   pub reply : Reply
   pub after : WorldState
@@ -23,11 +23,11 @@ pub record Outcome : Type 0 where
 abbrev pub done : Reply → WorldState → Outcome
 done reply after = record { reply = reply; after = after }
 
--- refused, with everything as it was
+-- the event is refused, and nothing changes
 abbrev pub refused : WorldState → Refusal → Outcome
 refused w why = done (reply.Refused why) w
 
--- ---- the cluster's own events
+-- ---- events of the cluster alone
 abbrev pub append_outcome : WorldState → Keyed → Result (ℕ × ℕ) Refusal → Outcome
 append_outcome w keyed (Ok at) = done (reply.Appended at.0 at.1)
     (with_cluster w (appended_to w.cluster keyed))
@@ -36,13 +36,13 @@ append_outcome w keyed (Err why) = refused w why
 abbrev pub append_event : WorldState → Keyed → Outcome
 append_event w keyed = append_outcome w keyed (append_answer w.cluster.logs keyed)
 
--- the same, of a topic that may be none of the logs'
+-- the same, to a topic that may not exist
 abbrev pub append_in_event : WorldState → Keyed → Outcome
 append_in_event w keyed =
     if nat_lt keyed.0 (length w.cluster.logs.counts) then append_event w keyed
     else refused w (r.NoSuchTopic 0)
 
--- a step of the group that brings in a member, which gets a consumer that has joined
+-- a member joins the group, and gets a consumer that is in the group
 abbrev pub entry_outcome : (ℕ → Reply) → GroupState → WorldState → Result ℕ Refusal → Outcome
 entry_outcome told group w (Ok member) = done (told member) (record {
   cluster = with_group w.cluster group;
@@ -62,13 +62,13 @@ abbrev pub join_kept_event : WorldState → List ℕ → Outcome
 join_kept_event w name =
     joined_outcome (joined_kept_by w.cluster.group name) w (join_answer w.cluster.group name)
 
--- the consumer of the member whose place is taken over is not told
+-- the consumer of the member whose seat is taken over does not learn of it
 abbrev pub take_over_event : WorldState → List ℕ → Outcome
 take_over_event w name =
     entry_outcome (λ member. reply.TakenOver member) (taken_over_by w.cluster.group name) w
     (take_over_answer w.cluster.group name)
 
--- a member that is lost is not told
+-- the consumer of a lost member does not learn of it
 abbrev pub lose_outcome : WorldState → ℕ → Result (Unit {0}) Refusal → Outcome
 lose_outcome w m (Ok _) =
     done reply.Lost (with_cluster w (with_group w.cluster (left_by w.cluster.group m)))
@@ -77,19 +77,19 @@ lose_outcome w m (Err why) = refused w why
 abbrev pub lose_event : WorldState → ℕ → Outcome
 lose_event w m = lose_outcome w m (leave_answer w.cluster.group m)
 
--- ---- events of a member that its consumer asks for
--- a consumer drops all, and is out
+-- ---- requests of a member's consumer
+-- the consumer drops everything, and is out of the group
 abbrev pub dropped : ConsumerState → ConsumerState
 dropped c = out_of_group c.partitions
 
--- refused by the cluster: a consumer that learns that its member is not present is out, and else
--- nothing changes
+-- the cluster refuses: a consumer that learns that its member is not present leaves the group, and
+-- nothing else changes
 abbrev pub refused_by_cluster : WorldState → ℕ → Refusal → Outcome
 refused_by_cluster w m r.UnknownMember = done (reply.Refused r.UnknownMember)
     (on_consumer w m dropped)
 refused_by_cluster w m why = refused w why
 
--- the cluster and the consumer of a member after an accepted step of both
+-- the world after an accepted step of the cluster and of a member's consumer
 abbrev pub both : WorldState → ℕ → ClusterState → (ConsumerState → ConsumerState) → WorldState
 both w m cluster f = on_consumer (with_cluster w cluster) m f
 
@@ -108,8 +108,8 @@ leave_outcome w m (Ok _) = done reply.Left
     (both w m (with_group w.cluster (left_by w.cluster.group m)) dropped)
 leave_outcome w m (Err why) = refused_by_cluster w m why
 
--- an event that the consumer of a member asks the cluster for: refused by 1 where there never was
--- such a member, and by 16 where its consumer is out
+-- a request of a member's consumer: refused with `UnknownMember` if no member ever had this number,
+-- and with `OutOfGroup` if its consumer is out
 abbrev pub asked : WorldState → Option ConsumerState → (ConsumerState → Outcome) → Outcome
 asked w None f = refused w r.UnknownMember
 asked w (Some c) f = if is_none c.member then refused w r.OutOfGroup else f c
@@ -138,7 +138,7 @@ poll_known w m p n (Some c) = poll_outcome w m p n c (poll_answer c w.cluster.lo
 abbrev pub poll_event : WorldState → ℕ → ℕ → ℕ → Outcome
 poll_event w m p n = poll_known w m p n (consumer_of w m)
 
--- whether a commit can be sent: the consumer has something to send, and the mail has room for it
+-- whether a commit can be sent: the consumer has something to send, and the mail is not full
 abbrev pub mail_answer : WorldState → ConsumerState → ℕ → Result (Unit {0}) Refusal
 mail_answer w c p =
     result_and (sendable_answer c p)
@@ -157,7 +157,7 @@ abbrev pub send_event : WorldState → ℕ → ℕ → Outcome
 send_event w m p = send_known w p (consumer_of w m)
 
 -- ---- deliveries
--- the cluster once it was given a commit
+-- the cluster after a commit has reached it
 abbrev pub given : ClusterState → CommitTerms → Result ℕ Refusal → ClusterState
 given s c (Ok _) = committed_by s c
 given s c (Err _) = s
@@ -166,12 +166,12 @@ abbrev pub told : Result ℕ Refusal → Reply
 told (Ok offset) = reply.Committed offset
 told (Err why) = reply.Refused why
 
--- a commit is given to the cluster, and its member's consumer is given the answer
+-- a commit reaches the cluster, and the reply reaches its member's consumer
 abbrev pub delivered : WorldState → CommitTerms → Result ℕ Refusal → Outcome
 delivered w c answer = done (told answer)
     (both w c.member (given w.cluster c answer) (λ x. answered_by x c.partition answer))
 
--- the same, and the consumer is given no answer
+-- the same, but the reply is lost
 abbrev pub delivered_unanswered : WorldState → CommitTerms → Result ℕ Refusal → Outcome
 delivered_unanswered w c answer = done reply.Unanswered (with_cluster w (given w.cluster c answer))
 
@@ -187,11 +187,11 @@ abbrev pub deliver_unanswered_event : WorldState → ℕ → Outcome
 deliver_unanswered_event w k = delivery w (delivered_unanswered w) (commit_at w k)
 
 -- ---- one step
--- what has to come of an event that takes no memory
+-- an event that takes no memory has this outcome
 abbrev pub Comes : Outcome → Reply → WorldState → Type 0
 Comes outcome reply w2 = (reply ≡ outcome.reply) × (w2 ≡ outcome.after)
 
--- the same of one that takes memory, which may be refused: then nothing changes
+-- an event that takes memory has this outcome, or memory runs out and nothing changes
 abbrev pub MayCome : WorldState → Outcome → Reply → WorldState → Type 0
 MayCome w outcome reply w2 = Comes outcome reply w2 ⊎ Comes (refused w r.Memory) reply w2
 
@@ -212,22 +212,22 @@ Step w (event.Send m p) reply w2 = MayCome w (send_event w m p) reply w2
 Step w (event.Deliver k) reply w2 = Comes (deliver_event w k) reply w2
 Step w (event.DeliverUnanswered k) reply w2 = Comes (deliver_unanswered_event w k) reply w2
 
--- ---- what never comes in a world
--- a refusal of a rejoin that a consumer which follows its leases never gets
+-- ---- refusals that never occur in a world
+-- not a refusal of a rejoin that a consumer which follows its leases never gets
 abbrev pub IsNoRejoinFault : Result (Unit {0}) Refusal → Type 0
 IsNoRejoinFault (Err r.SyncFirst) = ⊥
 IsNoRejoinFault (Err r.ClaimDiffers) = ⊥
 IsNoRejoinFault answer = Unit {0}
 
--- a refusal of a commit that one which was sent never gets
+-- not a refusal of a commit that a sent commit never gets
 abbrev pub IsNoCommitFault : Result ℕ Refusal → Type 0
 IsNoCommitFault (Err r.PastEnd) = ⊥
 IsNoCommitFault (Err r.WrongRecords) = ⊥
 IsNoCommitFault (Err r.EmptyCommit) = ⊥
 IsNoCommitFault answer = Unit {0}
 
--- The cluster never answers an event by one of these: a rejoin that has to sync first, or whose
--- claim differs; a commit past the end, with wrong records, or without records
+-- the cluster never refuses a rejoin with `SyncFirst` or `ClaimDiffers`, nor a delivered commit
+-- with `PastEnd`, `WrongRecords` or `EmptyCommit`
 abbrev pub NeverFaults : WorldState → Event → Type 0
 NeverFaults w (event.Rejoin m) = (c : ConsumerState) → consumer_of w m ≡ Some c
     → IsNoRejoinFault (rejoin_answer w.cluster.group m c.generation c.assigned)

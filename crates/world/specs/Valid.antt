@@ -1,4 +1,4 @@
--- What a world keeps: the facts of a good world.
+-- The invariant of a world.
 use Rattle.std.specs.Prelude.{◌≡◌, ℕ, ◌+◌, ◌<◌, ◌≤◌, ◌↔◌, true, Some, length, slice_get, slice_range}
 use Rattle.bit_planes.specs.PartitionSet.{is_in}
 use Rattle.partition_log.specs.Logs.{PartitionLogs, log_at}
@@ -8,8 +8,8 @@ use Rattle.consumer.specs.Consumer.{ConsumerState, IsValidConsumer, IsWithinLogs
 use Rattle.world.specs.declared.event.TheConstants.{MOST_COMMITS}
 use Rattle.world.specs.World.{WorldState, consumer_of}
 
--- The consumer of member number m, present or not: it is out or that member's; what it takes for
--- committed is committed, and it has read nothing past a log's end
+-- The consumer of member m, present or not: it is out or that member's; it is past neither what is
+-- committed nor the end of a log
 pub record IsConsumerOf (s : ClusterState) (m : ℕ) (c : ConsumerState) : Type 0 where
   pub valid : IsValidConsumer c
   pub partitions : c.partitions ≡ s.group.partitions
@@ -17,9 +17,9 @@ pub record IsConsumerOf (s : ClusterState) (m : ℕ) (c : ConsumerState) : Type 
   pub committed : (p : ℕ) → base_of c p ≤ committed_at s.store p
   pub within : IsWithinLogs c s.logs
 
--- The consumer of a present member: it is in, and holds only what the member is granted. Its
--- generation is at most the group's, and is the group's exactly where the member is synced: then
--- its lease is what the member is to keep, all of which it holds
+-- The consumer of a present member: it is in the group, and holds only what the member is granted.
+-- Its generation is at most the group's. It is the group's exactly if the member is synced, and
+-- then the consumer's lease is what the member is assigned, all of which it holds
 pub record IsInStep (g : GroupState) (m : ℕ) (c : ConsumerState) : Type 0 where
   pub member : c.member ≡ Some m
   pub granted : (p : ℕ) → is_held c p ≡ true → is_in (granted_of g m) p ≡ true
@@ -28,13 +28,13 @@ pub record IsInStep (g : GroupState) (m : ℕ) (c : ConsumerState) : Type 0 wher
   pub assigned : is_synced g m ≡ true → c.assigned ≡ assigned_of g m
   pub held : is_synced g m ≡ true → (p : ℕ) → is_in (assigned_of g m) p ≡ true → is_held c p ≡ true
 
--- A commit in the mail: it has records, and they are its log's from its offset on
+-- a commit in the mail: it has records, and they are those of its log from its offset on
 pub record IsSent (l : PartitionLogs) (c : CommitTerms) : Type 0 where
   pub some : 0 < length c.ids
   pub within : c.from + length c.ids ≤ length (log_at l c.partition)
   pub same : slice_range (log_at l c.partition) c.from (c.from + length c.ids) ≡ c.ids
 
--- what a world keeps
+-- the invariant
 pub record IsValidWorld (w : WorldState) : Type 0 where
   pub cluster : IsValidCluster w.cluster
   pub a_consumer_each : length w.consumers ≡ length w.cluster.group.slots

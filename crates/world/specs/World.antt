@@ -1,5 +1,4 @@
--- A world: a cluster, the consumers of all members that ever joined, and the commits that were
--- sent.
+-- A world: a cluster, the consumers of all members that ever joined, and the sent commits.
 use Rattle.std.specs.Prelude.{ℕ, zero, suc, List, Option, Some, None, slice_get, slice_set}
 use Rattle.consumer.specs.Consumer.{ConsumerState}
 use Rattle.group_machine.specs.Cluster.{ClusterState, CommitTerms}
@@ -34,6 +33,6 @@ abbrev pub changed : WorldState → ℕ → (ConsumerState → ConsumerState) �
 changed w member f None = w
 changed w member f (Some c) = with_consumer w member (f c)
 
--- the world with the consumer of a member changed, where it has one
+-- the world with a member's consumer changed, if it has one
 abbrev pub on_consumer : WorldState → ℕ → (ConsumerState → ConsumerState) → WorldState
 on_consumer w member f = changed w member f (consumer_of w member)

@@ -1,13 +1,12 @@
-//! What happens in a world, and what is replied to it.
+//! The events of a world, and the replies to them.
 
 use group_machine::Name;
 use lane_words::Refusal;
 
-/// The most commits that are sent in a world.
+/// The most commits that can be sent in a world.
 pub const MOST_COMMITS: usize = 65_536;
 
-/// What happens in a world. Members go by their numbers, from 1, and commits of the mail by theirs,
-/// from 1.
+/// An event. Members and sent commits are named by their numbers, from 1.
 #[derive(Clone, Copy, Debug)]
 pub enum Event<'a> {
     /// A record of this key is appended to the first topic.
@@ -16,38 +15,37 @@ pub enum Event<'a> {
     AppendIn(u32, &'a [u8]),
     /// A member joins under this name, with a consumer of its own.
     Join(&'a Name),
-    /// The same, and the member keeps its place under its name.
+    /// A static member joins: it keeps its seat under this name.
     JoinKept(&'a Name),
-    /// A new member, with a consumer of its own, takes over the place that is kept under this name.
-    /// The consumer of the old one is not told.
+    /// A new member, with a consumer of its own, takes over the seat of the static member of this
+    /// name. The consumer of the old member does not learn of it.
     TakeOver(&'a Name),
     /// A member's consumer takes a lease.
     Sync(u32),
-    /// A member's consumer claims what it was leased, and gives up the rest.
+    /// A member's consumer claims its lease, and gives up all other partitions.
     Rejoin(u32),
-    /// A member leaves, and its consumer drops all.
+    /// A member leaves, and its consumer drops everything.
     Leave(u32),
-    /// A member is lost. Its consumer is not told.
+    /// A member is lost. Its consumer does not learn of it.
     Lose(u32),
-    /// A member's consumer reads at most so many records of a partition on.
+    /// A member's consumer reads at most `records` more records of a partition.
     Poll {
         member: u32,
         partition: u32,
         records: u32,
     },
-    /// A member's consumer sends a commit of what is pending of a partition: it goes last into the
-    /// mail.
+    /// A member's consumer sends a commit of what is pending of a partition. The mail grows by it.
     Send {
         member: u32,
         partition: u32,
     },
-    /// A commit of the mail is given to the cluster, and its member's consumer is given the answer.
+    /// A commit of the mail reaches the cluster, and the reply reaches its member's consumer.
     Deliver(u32),
-    /// A commit of the mail is given to the cluster, and the answer is lost.
+    /// A commit of the mail reaches the cluster, and the reply is lost.
     DeliverUnanswered(u32),
 }
 
-/// What is replied to an event.
+/// The reply to an event.
 #[derive(Clone, Copy, Debug, PartialEq, Eq)]
 pub enum Reply {
     /// The partition and the offset of the record.
@@ -64,14 +62,14 @@ pub enum Reply {
     Left,
     /// The member is lost.
     Lost,
-    /// How many records were read.
+    /// The number of records that were read.
     Polled(u32),
     /// The number of the commit.
     Sent(u32),
     /// The new committed offset.
     Committed(u32),
-    /// The commit was given to the cluster, whatever it answered.
+    /// The commit reached the cluster, which may have accepted or refused it.
     Unanswered,
-    /// Refused.
+    /// The event was refused.
     Refused(Refusal),
 }

@@ -7,7 +7,7 @@ ghost use Rattle.group_machine.specs.Cluster.{AreLogsOf};
 ghost use Rattle.world.specs.Valid.{IsValidWorld};
 ghost use Rattle.world.specs.World.{WorldState};
 
-/// Where the ends of all logs are committed, each key's count is how often it was appended.
+/// If all logs are committed to their ends, each key's count is the number of its records.
 pub fn all_committed_is_the_plain_count()
     ensures { (w : WorldState) (appended : List Keyed) → IsValidWorld w
         → AreLogsOf appended w.cluster.logs → AreEndsCommitted w.cluster.store w.cluster.logs

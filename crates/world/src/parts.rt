@@ -1,4 +1,4 @@
-//! What a world is made of, and its events.
+//! The parts of a world, and the events on them.
 
 ghost use Rattle.std.specs.Prelude.{◌≡◌, ◌<◌, ◌≤◌, ◌++◌, ◌∷◌, [], ℕ, suc, length, map, zip, IfOk, IfErr, OnOk};
 ghost use Rattle.std.specs.Vec.{vec_capacity, vec_len};
@@ -32,7 +32,7 @@ pub struct Parts {
 }
 
 impl Parts {
-    /// One event.
+    /// Makes one event, and returns the reply to it.
     pub fn step(&mut self, alloc: Global, event: Event) -> Reply
         requires { IsValidWorld (world_view self.old) }
         ensures { Step (world_view self.old) event.entry result (world_view self.new) }
@@ -58,7 +58,7 @@ impl Parts {
         }
     }
 
-    /// Appends records of these keys in order, until one is refused.
+    /// Appends a record of each key to the first topic, in order, until one is refused.
     pub fn load<R: Threads + Sync>(&mut self, rt: &R, keys: &[&[u8]]) -> Result<(), (u64, Refusal)>
         requires { IsValidWorld (world_view self.old) }
         ensures loads { Loads (world_view self.old) (appends_of keys.now) result
@@ -73,7 +73,7 @@ impl Parts {
         self.append_placed(keys, &places)
     }
 
-    /// The same, of a record of each key to the topic of its index.
+    /// Like `load`, with the index of a topic for each key.
     pub fn load_in<R: Threads + Sync>(
         &mut self,
         rt: &R,
@@ -95,7 +95,7 @@ impl Parts {
         self.append_placed(keys, &places)
     }
 
-    /// Appends records of these keys, whose places are known, in order, until one is refused.
+    /// Appends a record of each key to its partition, in order, until one is refused.
     fn append_placed(&mut self, keys: &[&[u8]], places: &[u32]) -> Result<(), (u64, Refusal)>
         requires placed { ArePlaced self.old.cluster.logs places.now keys.now }
         requires valid { IsValidWorld (world_view self.old) }
@@ -134,7 +134,7 @@ impl Parts {
         }
     }
 
-    // All that grows grows before the cluster is asked, here and in the next two.
+    // Plan, then apply: all memory is reserved before the cluster changes. So are the next two.
     fn join(&mut self, alloc: Global, name: &Name) -> Reply
         ensures { MayCome (world_view self.old) (join_event (world_view self.old) name.now) result
             (world_view self.new) }
@@ -321,8 +321,8 @@ impl Parts {
         Reply::Unanswered
     }
 
-    /// The index of the consumer of a member that may ask the cluster for something: there is one,
-    /// and it is in.
+    /// The index of a member's consumer, if it can make requests: the member ever joined, and its
+    /// consumer is in the group.
     fn asking(&self, member: u32) -> Result<usize, Refusal>
         ensures asking { IfOk result (IsAsking (world_view self.now) member) }
         ensures refused { IfErr result (IsNotAsking (world_view self.now) member) }
@@ -336,7 +336,8 @@ impl Parts {
         Ok(index)
     }
 
-    /// Refuses what a consumer asked for, as the cluster did. One whose member is not known is out.
+    /// Passes the cluster's refusal on to the consumer that made the request. A consumer whose
+    /// member is unknown leaves the group.
     fn refuse(&mut self, index: usize, why: Refusal) -> Reply
         requires { index < length (world_view self.old).consumers }
         ensures { Comes (refused_by_cluster (world_view self.old) (suc index) why) result
@@ -349,7 +350,7 @@ impl Parts {
     }
 }
 
-/// A consumer for a member that is to come, with room for it behind these.
+/// A consumer for a new member, with capacity for it at the end of `consumers`.
 fn new_consumer(
     consumers: &mut Vec<Consumer>,
     alloc: Global,
@@ -364,7 +365,7 @@ fn new_consumer(
     Consumer::new(alloc, partitions)
 }
 
-/// A member has come in: this consumer is its own, for which there is room behind these.
+/// Adds the consumer of a member that has joined. The capacity for it is there.
 fn enter(consumers: &mut Vec<Consumer>, mut consumer: Consumer, member: u32)
     requires { vec_len consumers.old < vec_capacity consumers.old }
     ensures { consumers.new.items ≡ consumers.old.items ++ joined_as consumer member ∷ [] }
@@ -373,7 +374,7 @@ fn enter(consumers: &mut Vec<Consumer>, mut consumer: Consumer, member: u32)
     consumers.push_reserved(consumer);
 }
 
-/// The index of item number `number` of so many, counted from 1.
+/// The index of item `number`, counted from 1, of `count` items.
 pub fn index_of(number: u32, count: usize) -> Option<usize>
     ensures { IsIndexOf number count result }
 {

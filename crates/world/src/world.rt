@@ -1,4 +1,4 @@
-//! A world: whatever is scheduled in it, what it keeps holds.
+//! A world, whose invariant holds under any schedule.
 
 ghost use Rattle.std.specs.Prelude.{◌≡◌, ◌≤◌, ◌∷◌, [], ℕ, None, Some, IfOk, MatchOption, OnErr, OnOk, length, map, zip};
 ghost use Rattle.std.specs.List.{sum};
@@ -26,10 +26,10 @@ use std::thread::Threads;
 
 /// A cluster, a consumer for each member that ever joined, and the commits that were sent.
 ///
-/// Any list of events may come: appends, joins, returns, rejoins, syncs, leaves and losses of
-/// members, polls, and commits that are sent, delivered late, again and again, or unanswered. After
-/// each of them no partition is granted to two present members, a settled assignment is balanced, and every
-/// key's count is that of the records below the committed offsets, each taken once.
+/// Events may come in any order: appends, joins, returns, rejoins, syncs, leaves and losses of
+/// members, polls, and commits that are sent and then delivered late, repeatedly or without an
+/// answer. After each event no partition is granted to two present members, a settled assignment is
+/// balanced, and each key's count is the number of its records below the committed offsets.
 #[derive(Debug, Drop)]
 pub struct World {
     alloc: Global,
@@ -49,8 +49,8 @@ impl Model for World {
 }
 
 impl World {
-    /// A world of 1 to 4096 partitions of one topic in which nothing has happened. Refused for want
-    /// of memory, or where the random source fails, from which the hasher of the keys is drawn.
+    /// A world of 1 to 4096 partitions of one topic, with no members and empty logs. Fails if
+    /// memory runs out, or if the random source of the keys' hasher fails.
     pub fn new(rt: &impl RandomSource, alloc: Global, partitions: u32) -> Result<World, Memory>
         requires { (1 ≤ partitions) × (partitions ≤ MOST_PARTITIONS) }
         ensures opening { IfOk result (IsOpening partitions) }
@@ -69,7 +69,7 @@ impl World {
         })
     }
 
-    /// The same, of as many partitions of each of 1 to 8 topics as these numbers say.
+    /// A world of 1 to 8 topics, with the number of partitions of each.
     pub fn with_topics(
         rt: &impl RandomSource,
         alloc: Global,
@@ -92,11 +92,11 @@ impl World {
         })
     }
 
-    /// One event, and the reply to it.
+    /// Makes one event, and returns the reply to it.
     ///
-    /// A refused event changes nothing, but that a consumer which learns that its member is not
-    /// present drops all, and that one which learns the committed offset is realigned. An event
-    /// that takes memory may be refused for want of it, with everything as it was.
+    /// A refused event changes nothing, with two exceptions: a consumer that learns that its member
+    /// is not present drops everything, and one that learns the committed offset realigns itself.
+    /// An event that takes memory may be refused with `Memory`; then nothing has changed.
     pub fn step(&mut self, event: Event<'_>) -> Reply
         ensures step { Step self.old event.entry result self.new }
         ensures never_faults { NeverFaults self.old event.entry }
@@ -106,8 +106,9 @@ impl World {
         self.parts.step(self.alloc, event)
     }
 
-    /// Events in order, and the replies to them. Refused for want of memory for the replies alone,
-    /// with everything as it was; an event that is refused has its reply, and the run goes on.
+    /// Makes all events in order, and returns the replies. An event that is refused has its reply,
+    /// and the run goes on. Fails only if there is no memory for the replies; then nothing has
+    /// changed.
     pub fn run(&mut self, events: &[Event<'_>]) -> Result<Vec<Reply>, Memory>
         ensures run { IfOk result (λ replies. Run self.old events.now replies.items self.new) }
         ensures history { IfOk result (λ replies. AppendsRecords
@@ -122,10 +123,10 @@ impl World {
         Ok(replies)
     }
 
-    /// Appends records of these keys in order, as their events would.
+    /// Appends a record of each key to the first topic, in order, as `Event::Append` does.
     ///
-    /// Where one is refused it stops, and answers how many stand before it, with the refusal: those
-    /// stand. Where the memory for the places of the keys is refused, that number is 0.
+    /// Stops at the first record that is refused, and returns the number of records before it,
+    /// which stay, and the refusal. If memory for the keys' partitions runs out, that number is 0.
     pub fn load<R: Threads + Sync>(&mut self, rt: &R, keys: &[&[u8]]) -> Result<(), (u64, Refusal)>
         ensures loads { Loads self.old (appends_of keys.now) result self.new }
         ensures history { OnOk result (AppendsRecords (map (λ key. of_first key.now) keys.now)
@@ -135,8 +136,7 @@ impl World {
         self.parts.load(rt, keys)
     }
 
-    /// The same, of a record of each key to the topic of its index: as many topics as keys, each
-    /// below the number of topics.
+    /// Like `load`, with the index of a topic for each key, as `Event::AppendIn` does.
     pub fn load_in<R: Threads + Sync>(
         &mut self,
         rt: &R,

@@ -1,4 +1,4 @@
--- What the steps of reading a plan are answered.
+-- Results of the steps of parsing a plan.
 use Rattle.std.specs.Prelude.{ℕ, Bool, true, false, if◌then◌else◌, List, Option, Result, Ok, Err}
 use Rattle.std.specs.Option.{option_map_or}
 use Rattle.lane_words.specs.declared.Refusal.{Refusal}
@@ -7,12 +7,12 @@ use Rattle.script.specs.Plan.{change_said, is_no_plan_line}
 use Rattle.script.specs.declared.plan.Change.{Change}
 use Rattle.script.specs.declared.plan.Change.TheVariants.{Join, Leave, Lose}
 
--- a line that no plan has is refused, and any other read
+-- a line that no plan has is refused, and any other has its change, if any
 unfoldable pub said_answer : ℕ × List ℕ → Result (Option Change) Refusal
 said_answer (number, line) =
     if is_no_plan_line line then Err (r.BadLine number) else Ok (change_said line)
 
--- what has a fault is refused for it
+-- a fault is a refusal
 abbrev pub taken : Option Refusal → Result (Unit {0}) Refusal
 taken fault = option_map_or Err fault (Ok tt)
 

@@ -1,4 +1,4 @@
--- How a plan that is being applied is seen.
+-- How contracts see a `Planned`.
 use Rattle.workers.specs.Progress.{IsValidProgress, Progress}
 use Rattle.workers.specs.declared.planned.Planned.TheInside.{Inside}
 

@@ -1,4 +1,4 @@
--- How a world's fields are seen.
+-- How contracts see a world.
 use Rattle.world.specs.World.{WorldState}
 use Rattle.world.specs.declared.parts.Parts.{Parts}
 

@@ -1,4 +1,4 @@
-//! How a world is drained: its members read and commit all logs to their ends.
+//! Drains a world: its members read and commit all logs to their ends.
 
 ghost use Rattle.std.specs.Prelude.{◌≡◌, ◌≢◌, ◌≤◌, ◌<◌, Err, OnOk, true};
 ghost use Rattle.lane_words.specs.declared.Refusal.TheVariants as refusal;
@@ -17,12 +17,11 @@ use lane_words::Refusal;
 use partition_log::LogRead;
 
 impl World {
-    /// Settles the world, and then each present member, in rising order of numbers, reads each
-    /// partition that it holds, in rising order, to the end of its log, at most `batch` records at
-    /// a time, and commits what it read after each.
+    /// Settles the world. Then each present member, in rising order of numbers, reads each
+    /// partition that it holds, in rising order, to the end of its log. It reads at most `batch`
+    /// records at a time, and commits them before it reads on.
     ///
-    /// Refused as `settle` is, and by the first of its events that is refused, where what was done
-    /// before stands.
+    /// Fails as `settle` does, or with the first event that is refused; earlier events stand.
     pub fn drain(&mut self, batch: u32) -> Result<(), Refusal>
         requires { 1 ≤ batch }
         ensures follows { Follows self.old (draining batch self.old) result self.new }
@@ -37,7 +36,7 @@ impl World {
         self.drain_members(batch)
     }
 
-    /// Each present member reads and commits what it holds.
+    /// Each present member reads and commits the partitions that it holds.
     fn drain_members(&mut self, batch: u32) -> Result<(), Refusal>
         ensures { Follows self.old (drain_members batch self.old) result self.new }
     {
@@ -49,7 +48,7 @@ impl World {
         Ok(())
     }
 
-    /// One member reads and commits what it holds.
+    /// One member reads and commits the partitions that it holds.
     fn drain_member(&mut self, batch: u32, member: u32) -> Result<(), Refusal>
         ensures { Follows self.old (drain_member batch member self.old) result self.new }
     {
@@ -75,7 +74,7 @@ impl World {
         held
     }
 
-    /// Reads a log to its end. Each poll commits at least one record more.
+    /// Reads and commits a log to its end. Each round commits at least one more record.
     fn drain_log(&mut self, batch: u32, member: u32, p: u32) -> Result<(), Refusal>
         requires { p < self.old.cluster.group.partitions }
         ensures { Follows self.old (drain_log batch member p self.old) result self.new }
@@ -89,7 +88,7 @@ impl World {
         Ok(())
     }
 
-    /// Whether a member's consumer knows a log to be committed to its end.
+    /// Whether a log is committed to its end, as far as a member's consumer has learnt.
     fn is_read_up(&self, member: u32, p: u32) -> bool
         requires { p < self.now.cluster.group.partitions }
         ensures { result ≡ is_read_up self.now member p }
@@ -99,7 +98,7 @@ impl World {
             .is_some_and(|consumer| consumer.base(p) == end)
     }
 
-    /// One poll, and the commit of what is pending then.
+    /// Polls once, and commits what is pending.
     fn read_on(&mut self, batch: u32, member: u32, p: u32) -> Result<(), Refusal>
         ensures { Follows self.old (read_on batch member p self.old) result self.new }
     {

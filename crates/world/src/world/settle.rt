@@ -1,12 +1,13 @@
-//! How a world settles: each member is brought to the end of the rebalance.
+//! Settles a world: brings each member to the end of the rebalance.
 
-ghost use Rattle.std.specs.Prelude.{◌≡◌, ◌≢◌, Err, MatchOption, OnOk, length, true, false};
+ghost use Rattle.std.specs.Prelude.{◌≡◌, ◌≢◌, ◌||◌, Err, MatchOption, OnOk, length, true, false};
 ghost use Rattle.std.specs.List.{list_all};
 ghost use Rattle.lane_words.specs.declared.Refusal.TheVariants as refusal;
 ghost use Rattle.bit_planes.specs.PartitionSet.{elements, minus};
-ghost use Rattle.group_machine.specs.State.{assigned_of, granted_of, is_present, is_synced, members};
+ghost use Rattle.group_machine.specs.NextSteps.{has_to_rejoin};
+ghost use Rattle.group_machine.specs.State.{assigned_of, granted_of, is_joined, is_present, is_synced, members};
 ghost use Rattle.group_laws.specs.Rounds.{bare, finish};
-ghost use Rattle.group_laws.specs.Passes.{has_to_rejoin, is_calm};
+ghost use Rattle.group_laws.specs.Passes.{is_calm};
 ghost use Rattle.world.specs.Courses.{Follows, for_each, happens};
 ghost use Rattle.world.specs.Settling.{commit_pending, flush, forgiven, is_pending, pass, passes, rejoin_if_due, settling, sync_if_new, turn};
 ghost use Rattle.world.specs.Valid.{IsValidWorld};
@@ -14,22 +15,21 @@ ghost use Rattle.world.specs.Valid.{IsValidWorld};
 use super::World;
 use crate::event::{Event, Reply};
 use bit_planes::Plane;
-use group_machine::Phase;
+use group_machine::{NextStep, Phase};
 use lane_words::Refusal;
 
-/// The most passes that a settling takes: two completions and what comes before and after them.
+/// The most passes that it takes to settle: two completions, and what comes before and after them.
 const MOST_PASSES: usize = 4;
 
 impl World {
-    /// Brings the group to the end of its rebalance: in each pass every present member, in rising
-    /// order of numbers, takes its lease if it is new to the generation, and rejoins if it has
-    /// something to give up or a generation is prepared; what is pending of the partitions that it
-    /// gives up it commits before. Passes are made until the group is settled and each member has
-    /// synced, and four are always enough.
+    /// Brings the group to the end of its rebalance. In each pass every present member, in rising
+    /// order of numbers, takes its next step: it syncs if it is new to the generation, and rejoins
+    /// if it has partitions to give up or a generation is being prepared. Before it rejoins, it
+    /// commits what is pending of the partitions that it gives up. Passes are made until the group
+    /// is settled and each member has synced, which takes at most four.
     ///
-    /// Refused: nobody is present (`NobodyPresent`), with everything as it was; or by the first of
-    /// its events that is refused, where what was done before stands: a full mail (`MailFull`), the
-    /// last generation (`GenerationsOver`), want of memory.
+    /// Fails with `NobodyPresent`, and then nothing has changed; or with the first event that is
+    /// refused (`MailFull`, `GenerationsOver` or `Memory`), where earlier events stand.
     pub fn settle(&mut self) -> Result<(), Refusal>
         ensures follows { Follows self.old (settling self.old) result self.new }
         ensures four_passes { result ≢ Err refusal.NotSettled }
@@ -43,7 +43,7 @@ impl World {
         }
     }
 
-    /// Passes until the group is calm.
+    /// Makes passes until the group is settled and synced.
     fn make_passes(&mut self) -> Result<(), Refusal>
         ensures { Follows self.old (passes 4 self.old) result self.new }
     {
@@ -80,7 +80,7 @@ impl World {
         true
     }
 
-    /// Each present member's turn.
+    /// Each present member takes a turn.
     fn make_pass(&mut self) -> Result<(), Refusal>
         ensures { Follows self.old (pass self.old) result self.new }
     {
@@ -92,14 +92,14 @@ impl World {
         Ok(())
     }
 
-    /// The highest number that was given to a member.
+    /// The highest number of a member.
     pub(super) fn last_member(&self) -> u32
         ensures { result ≡ length self.now.cluster.group.slots }
     {
         self.parts.consumers.len() as u32
     }
 
-    /// One member's turn.
+    /// One member takes a turn.
     fn take_turn(&mut self, member: u32) -> Result<(), Refusal>
         requires { is_present self.old.cluster.group member ≡ true }
         ensures { Follows self.old (turn member self.old) result self.new }
@@ -108,20 +108,21 @@ impl World {
         self.rejoin_if_due(member)
     }
 
-    /// A member that has neither joined nor synced takes its lease.
+    /// Syncs a member that has neither joined nor synced.
     fn sync_if_new(&mut self, member: u32) -> Result<(), Refusal>
         ensures { Follows self.old (sync_if_new member self.old) result self.new }
     {
-        let cluster = self.cluster();
-        if cluster.is_joined(member) || cluster.is_synced(member) {
-            return Ok(());
+        match self.cluster().next_step(member) {
+            NextStep::Sync => self.attempt(Event::Sync(member)),
+            NextStep::Rejoin | NextStep::Read => Ok(()),
         }
-        self.attempt(Event::Sync(member))
     }
 
-    /// A member that has to rejoins, after it has committed what it gives up.
+    /// Rejoins a member that has to, after it committed what is pending of what it gives up.
     fn rejoin_if_due(&mut self, member: u32) -> Result<(), Refusal>
-        requires { is_present self.old.cluster.group member ≡ true }
+        requires here { is_present self.old.cluster.group member ≡ true }
+        requires synced { (is_joined self.old.cluster.group member
+            || is_synced self.old.cluster.group member) ≡ true }
         ensures { Follows self.old (rejoin_if_due member self.old) result self.new }
     {
         let Some(given) = self.given_up_by(member) else {
@@ -131,24 +132,24 @@ impl World {
         self.attempt(Event::Rejoin(member))
     }
 
-    /// What a present member gives up when it rejoins, if it has to.
+    /// The partitions that a present member gives up by its rejoin, if it has to rejoin.
     fn given_up_by(&self, member: u32) -> Option<Plane>
-        requires { is_present self.now.cluster.group member ≡ true }
+        requires here { is_present self.now.cluster.group member ≡ true }
+        requires synced { (is_joined self.now.cluster.group member
+            || is_synced self.now.cluster.group member) ≡ true }
         ensures { MatchOption result (has_to_rejoin self.now.cluster.group member ≡ false)
             (λ given. (has_to_rejoin self.now.cluster.group member ≡ true)
             × (given ≡ minus (granted_of self.now.cluster.group member)
             (assigned_of self.now.cluster.group member))) }
     {
         let cluster = self.cluster();
-        if cluster.is_joined(member) {
-            return None;
+        match cluster.next_step(member) {
+            NextStep::Rejoin => {
+                let granted = cluster.granted(member)?;
+                Some(granted.minus(cluster.assigned(member)?))
+            }
+            NextStep::Sync | NextStep::Read => None,
         }
-        let granted = cluster.granted(member)?;
-        let assigned = cluster.assigned(member)?;
-        if cluster.phase() == Phase::Stable && granted.same(assigned) {
-            return None;
-        }
-        Some(granted.minus(assigned))
     }
 
     /// Commits what is pending of some partitions, one after the other.
@@ -162,8 +163,8 @@ impl World {
         Ok(())
     }
 
-    /// Commits what is pending of a partition; where the offset was another one, what is left then
-    /// is committed once more.
+    /// Commits what is pending of a partition. If the committed offset was another one, commits
+    /// once more what is left after that.
     fn flush(&mut self, member: u32, p: u32) -> Result<(), Refusal>
         ensures { Follows self.old (flush member p self.old) result self.new }
     {
@@ -171,8 +172,8 @@ impl World {
         self.commit_pending(member, p)
     }
 
-    /// Commits what is pending of a partition, where an offset that was another one is no fault:
-    /// the consumer is realigned by it.
+    /// Commits what is pending of a partition. Another committed offset is no failure: it realigns
+    /// the consumer.
     pub(super) fn commit_or_realign(&mut self, member: u32, p: u32) -> Result<(), Refusal>
         ensures { Follows self.old (forgiven (commit_pending member p self.old)) result self.new }
     {
@@ -196,7 +197,7 @@ impl World {
         self.attempt(Event::Deliver(self.mail().len() as u32))
     }
 
-    /// Whether the consumer of a member holds a partition of which something is pending.
+    /// Whether a member's consumer has something pending of a partition.
     fn is_pending(&self, member: u32, p: u32) -> bool
         ensures { result ≡ is_pending self.now member p }
     {
@@ -204,7 +205,7 @@ impl World {
             .is_some_and(|consumer| consumer.sendable(p).is_ok())
     }
 
-    /// One event, refused or not.
+    /// Makes one event, and returns its refusal, if it is refused.
     pub(super) fn attempt(&mut self, event: Event<'_>) -> Result<(), Refusal>
         ensures { Follows self.old (happens event.entry self.old) result self.new }
     {

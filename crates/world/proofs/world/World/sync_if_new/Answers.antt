@@ -1,16 +1,21 @@
-use Rattle.std.proofs.Common.{rules, ◌≡◌, ◌||◌, true, false}
-use Rattle.group_machine.specs.State.{is_joined, is_synced}
+use Rattle.std.proofs.Common.{◌≡◌, subst, sym}
+use Rattle.group_machine.specs.Cluster.{ClusterState}
+use Rattle.group_machine.specs.NextSteps.{next_step}
+use Rattle.group_machine.specs.declared.cluster.next_step.NextStep.TheVariants.{Sync}
 use Rattle.world.proofs.Following.{new_syncs, not_new}
+use Rattle.world.proofs.NextSteps.{syncs_next, syncs_no_more}
 use Rattle.world.proofs.world.World.sync_if_new.Goals as goal
 
-pub returns-then-is_joined : goal.returns-then-is_joined
-returns-then-is_joined c =
-    let group = c.args.self.now.cluster.group in
-    let old : (is_joined group c.args.member || is_synced group c.args.member) ≡ true = search rules in
-    not_new c.args.member c.args.self.now old
+pub returns-in-Sync : goal.returns-in-Sync
+returns-in-Sync c =
+    let w = c.args.self.now in
+    let m = c.args.member in
+    let step = subst (λ (s : ClusterState). Sync ≡ next_step s.group m) c.cluster.ensures.cluster c.in-Sync.ensures in
+    new_syncs m w (syncs_next w.cluster.group m (sym step)) c.attempt.result c.attempt.new.self c.attempt.ensures
 
-pub returns : goal.returns
-returns c =
-    let group = c.args.self.now.cluster.group in
-    let new : (is_joined group c.args.member || is_synced group c.args.member) ≡ false = search rules in
-    new_syncs c.args.member c.args.self.now new c.attempt.result c.attempt.new.self c.attempt.ensures
+pub returns-in-Rejoin : goal.returns-in-Rejoin
+returns-in-Rejoin c =
+    let w = c.args.self.now in
+    let m = c.args.member in
+    let step = subst (λ (s : ClusterState). c.next_step.result ≡ next_step s.group m) c.cluster.ensures.cluster c.next_step.ensures in
+    not_new m w (syncs_no_more w.cluster.group m c.next_step.result step c.in-Rejoin.is)
