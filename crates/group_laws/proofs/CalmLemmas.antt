@@ -39,6 +39,7 @@ due_by holds g member valid none some all = go (has_to_rejoin g member) refl
         let joined : all_joined (rejoining g member) ≡ true = (both_true (is_anybody (rejoining g member)) (all_joined (rejoining g member)) ready).1 in
         subst holds (sym (complete_round (rejoining g member) (rejoining_fit g member valid.fit) joined ∙ rejoining_round g member)) (all e)
     rejoins false ready e = some e
+
     go : (b : Bool) → has_to_rejoin g member ≡ b → holds (cond b (rejoined_by g member) g)
     go true e = rejoins (is_ready (rejoining g member)) refl e
     go false e = none e
@@ -155,6 +156,7 @@ pass_ends g valid any = elim (passed_keeps EndsOrWaits kept g valid first) [ inl
     kept : (s : GroupState) (m : ℕ) (rest : List ℕ) → IsValidGroup s → is_present s m ≡ true → EndsOrWaits s (m ∷ rest) → EndsOrWaits (turned s m) rest
     kept s m rest v here (inl ends) = inl (turned_ends s m v here ends)
     kept s m rest v here (inr waits) = turned_waits EndsNext s m rest v here waits (rounds_settle s m v here)
+
     first : EndsOrWaits g (members g)
     first = elim (which_phase g valid any) [ inl phase ↦ inr (waits_all g phase) | inr stable ↦ inl (stable_round g valid stable any) ]
 
@@ -215,6 +217,7 @@ pass_begins g valid any ends = let last = passed_keeps HasBegunLast kept g valid
   where
     kept : (s : GroupState) (m : ℕ) (rest : List ℕ) → IsValidGroup s → is_present s m ≡ true → HasBegunLast s (m ∷ rest) → HasBegunLast (turned s m) rest
     kept s m rest v here h = (turned_ends s m v here h.0, turned_begun s m rest v h.0 h.1)
+
     first : HasBegun g (members g)
     first = elim (which_phase g valid any) [ inl phase ↦ inl phase | inr stable ↦ inr (record { phase = stable; listed = λ n p e. all_listed g n p }) ]
 
@@ -229,6 +232,7 @@ pass_settles g valid last = elim (passed_keeps SettlesOrWaits kept g valid (firs
     kept : (s : GroupState) (m : ℕ) (rest : List ℕ) → IsValidGroup s → is_present s m ≡ true → SettlesOrWaits s (m ∷ rest) → SettlesOrWaits (turned s m) rest
     kept s m rest v here (inl settled) = inl (turned_settled s m v settled)
     kept s m rest v here (inr h) = elim (turned_waits (λ t. is_settled t ≡ true) s m rest v here h.1 h.0) [ inl settled ↦ inl settled | inr waits ↦ inr (turned_ends s m v here h.0, waits) ]
+
     first : IsLast g → SettlesOrWaits g (members g)
     first (inl settled) = inl settled
     first (inr h) = inr (h.1, waits_all g h.0)
@@ -257,6 +261,7 @@ new_unsynced g member rest joined here un = go (is_joined g member || is_synced 
   where
     now : is_synced (synced_by g member) member ≡ true
     now = (sync_marks g member).synced ∙ here
+
     go : (b : Bool) → (is_joined g member || is_synced g member) ≡ b → AreUnsynced (cond b g (synced_by g member)) rest
     go true h n p e = listed_behind (is_synced g) false true n member rest e (or_second (is_joined g member) (is_synced g member) joined h) false≢true (un n p e)
     go false h n p e =

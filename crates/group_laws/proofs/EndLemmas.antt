@@ -12,9 +12,9 @@ use Rattle.group_machine.specs.Settled.{is_stable, agrees, all_agree, is_settled
 use Rattle.group_machine.specs.Steps.{newcomer, joining, joined_by, phase_left, leaving, left_by}
 use Rattle.group_machine.specs.Good.{IsApart, AllFit, IsValidGroup}
 use Rattle.group_machine.proofs.SlotsLemmas.{slot_with, other_id, number_given, seat_each, seat_without, reseated_same}
-use Rattle.group_machine.proofs.PresentLemmas.{any_each}
+use Rattle.group_machine.proofs.PresentLemmas.{any_each, some_on}
 use Rattle.group_machine.proofs.StepLemmas.{with_slots, fit_each, apart_each, all_each, joining_fit, joining_apart, leaving_fit, leaving_apart}
-use Rattle.group_machine.proofs.JoinLemmas.{some_on, completed_present}
+use Rattle.group_machine.proofs.JoinLemmas.{completed_present}
 use Rattle.group_laws.specs.Names.{names}
 use Rattle.group_laws.specs.Rounds.{bare_seat, bare, yielded_seat, yielded, round, finish}
 use Rattle.group_laws.proofs.SlotsLemmas.{reseated_two, each_two}

@@ -24,7 +24,7 @@ use Rattle.group_machine.proofs.SlotsLemmas.{seat_each}
 use Rattle.group_machine.proofs.PresentLemmas.{Listed, all_of, all_says}
 use Rattle.group_machine.proofs.Rows.{member_listed, set_over, sets_below}
 use Rattle.group_machine.proofs.Below.{next_in, next_kept, next_below, next_in_target, other_says, target_apart, target_kept, target_below, target_balanced}
-use Rattle.group_machine.proofs.CompletionLemmas.{seat_behind}
+use Rattle.group_machine.proofs.CompletionLemmas.{seat_behind, or_left}
 use Rattle.group_laws.specs.Rounds.{assigned_rows, yielded_seat, yielded, round}
 use Rattle.group_laws.proofs.AssignedLemmas.{has_partitions, members_assigned, set_assigned, assigned_owned}
 use Rattle.group_laws.proofs.FinishLemmas.{granted_yielded, union_within}
@@ -69,6 +69,7 @@ next_keeps r owned keeps m q e = next_in r m q ∙ go (granted_to_other r.rows m
   where
     mine : is_in (set_of (target_rows r) m) q ≡ true
     mine = keeps m q e
+
     go : (b : Bool) → granted_to_other r.rows m q ≡ b → (is_in (set_of (target_rows r) m) q && not (granted_to_other r.rows m q)) ≡ true
     go false h = rw (mine, h) refl
     go true h =
@@ -105,16 +106,12 @@ pub stable_round : (g : GroupState) → IsValidGroup g → g.phase ≡ Stable �
 stable_round g valid stable any = let near = valid.near stable in lying_round g valid any near.0 near.1
 
 -- ---- and where it is settled after one round, it lies in the target's rows
-or_first : (a b : Bool) → a ≡ true → (a || b) ≡ true
-or_first true b e = refl
-or_first false b e = absurd (false≢true e)
-
 -- what a settled member is assigned is in its next row
 agrees_keeps : (p : ℕ) (next : SetRows) (m : ℕ) (o : Option Seat) → ((x : Seat) → o ≡ Some x → partitions_of x.assigned ≡ partitions_of (set_of next m)) → ((y : Seat) → option_map (completed_seat next m) (option_map yielded_seat o) ≡ Some y → agrees y ≡ true) → (q : ℕ) → is_in (seat_assigned p o) q ≡ true → is_in (set_of next m) q ≡ true
 agrees_keeps p next m None over agree q e = absurd (false≢true (sym (in_empty p q) ∙ e))
 agrees_keeps p next m (Some x) over agree q e =
     let same : union x.assigned (set_of next m) ≡ set_of next m = same_says (union x.assigned (set_of next m)) (set_of next m) (agree (completed_seat next m (yielded_seat x)) refl) in
-    ap (λ s. is_in s q) (sym same) ∙ in_union x.assigned (set_of next m) q (over x refl) ∙ or_first (is_in x.assigned q) (is_in (set_of next m) q) e
+    ap (λ s. is_in s q) (sym same) ∙ in_union x.assigned (set_of next m) q (over x refl) ∙ or_left (is_in x.assigned q) (is_in (set_of next m) q) e
 
 pub round_lying : (g : GroupState) → IsValidGroup g → is_anybody g ≡ true → is_settled (round g) ≡ true → (f : ℕ → PartitionSet) × LieInBalanced g f
 round_lying g valid any settled =

@@ -20,7 +20,8 @@ use Rattle.group_machine.proofs.Rows.{set_over}
 use Rattle.group_machine.proofs.Below.{next_kept, next_below}
 use Rattle.group_machine.proofs.GroupLemmas.{granted_owned}
 use Rattle.group_machine.proofs.StepLemmas.{joining_changed, rejoining_changed, leaving_changed}
-use Rattle.group_machine.proofs.JoinLemmas.{some_on, seat_before, seat_last, accepted_join}
+use Rattle.group_machine.proofs.PresentLemmas.{some_on}
+use Rattle.group_machine.proofs.JoinLemmas.{seat_before, seat_last, accepted_join}
 use Rattle.group_laws.specs.Others.{IsAsBefore, IsInNextGeneration, LeavesMember, LeavesOthers, IsNewcomer, HasRejoined, LeavesRejoined, LeavesSynced}
 use Rattle.group_laws.proofs.StepLemmas.{synced_same}
 use Rattle.group_laws.proofs.FinishLemmas.{accepted}

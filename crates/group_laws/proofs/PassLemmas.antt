@@ -11,10 +11,10 @@ use Rattle.group_machine.specs.Completion.{is_ready, completed_seat, next_rows_o
 use Rattle.group_machine.specs.Settled.{is_stable, agrees, all_agree, is_settled}
 use Rattle.group_machine.specs.Steps.{rejoined_seat, rejoining, rejoined_by, synced_by}
 use Rattle.group_machine.specs.Good.{IsValidGroup}
-use Rattle.group_machine.proofs.PresentLemmas.{Listed, listed_present, numbers_each, any_each, all_says}
+use Rattle.group_machine.proofs.PresentLemmas.{Listed, listed_present, numbers_each, any_each, all_says, some_on}
 use Rattle.group_machine.proofs.SlotsLemmas.{one_is_each, at_only}
 use Rattle.group_machine.proofs.StepLemmas.{any_rejoining, any_of_present, sync_good, rejoining_fit, rejoining_apart}
-use Rattle.group_machine.proofs.JoinLemmas.{some_on, completed_present}
+use Rattle.group_machine.proofs.JoinLemmas.{completed_present}
 use Rattle.group_laws.specs.Rounds.{finish}
 use Rattle.group_machine.specs.NextSteps.{has_to_rejoin}
 use Rattle.group_laws.specs.Passes.{synced_if_new, rejoined_if_due, turned, turned_each, passed}
@@ -46,19 +46,6 @@ rejoined_present g member n = completed_present (rejoining g member) n ∙ rejoi
 
 pub synced_present : (g : GroupState) (member n : ℕ) → is_present (synced_by g member) n ≡ is_present g n
 synced_present g member n = synced_same is_some (λ x. refl) g member n
-
-completed_members : (g : GroupState) → members (completed g) ≡ members g
-completed_members g = go (is_ready g)
-  where
-    go : (b : Bool) → members (cond b (complete g) g) ≡ members g
-    go true = numbers_each (completed_seat (next_rows_of g)) g.slots
-    go false = refl
-
-pub rejoined_members : (g : GroupState) (member : ℕ) → members (rejoined_by g member) ≡ members g
-rejoined_members g member =
-    completed_members (rejoining g member)
-    ∙ ap (λ slots. map {A = ℕ × Seat} (λ r. r.0) (present slots)) (one_is_each rejoined_seat g.slots member)
-    ∙ numbers_each (at_only member rejoined_seat) g.slots
 
 completed_any : (g : GroupState) → is_anybody (completed g) ≡ is_anybody g
 completed_any g = go (is_ready g)
@@ -152,11 +139,6 @@ turned_present g member n =
     due_same (λ s. is_present s n) (synced_if_new g member) member (rejoined_present (synced_if_new g member) member n)
     ∙ new_present g member n
 
-pub turned_members : (g : GroupState) (member : ℕ) → members (turned g member) ≡ members g
-turned_members g member =
-    due_same members (synced_if_new g member) member (rejoined_members (synced_if_new g member) member)
-    ∙ new_same members g member (members_synced g member)
-
 pub turned_any : (g : GroupState) (member : ℕ) → is_anybody (turned g member) ≡ is_anybody g
 turned_any g member =
     due_same is_anybody (synced_if_new g member) member (rejoined_any (synced_if_new g member) member)
@@ -187,12 +169,6 @@ each_same h same g (m ∷ ms) = each_same h same (turned g m) ms ∙ same g m
 passed_same : {X : Type 0} (h : GroupState → X) → ((g : GroupState) (member : ℕ) → h (turned g member) ≡ h g) → (g : GroupState) → h (passed g) ≡ h g
 unfolding passed
 passed_same h same g = each_same h same g (members g)
-
-pub passed_present : (g : GroupState) (n : ℕ) → is_present (passed g) n ≡ is_present g n
-passed_present g n = passed_same (λ s. is_present s n) (λ s m. turned_present s m n) g
-
-pub passed_members : (g : GroupState) → members (passed g) ≡ members g
-passed_members g = passed_same members turned_members g
 
 pub passed_any : (g : GroupState) → is_anybody (passed g) ≡ is_anybody g
 passed_any g = passed_same is_anybody turned_any g

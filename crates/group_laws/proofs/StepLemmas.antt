@@ -34,8 +34,5 @@ synced_same h same g member m = flag_same synced_seat h same g member m
 pub any_synced : (g : GroupState) (member : ℕ) → is_anybody (synced_by g member) ≡ is_anybody g
 any_synced g member = any_flag synced_seat g member
 
-pub members_synced : (g : GroupState) (member : ℕ) → members (synced_by g member) ≡ members g
-members_synced g member = members_flag synced_seat g member
-
 pub settled_synced : (g : GroupState) (member : ℕ) → is_settled (synced_by g member) ≡ is_settled g
 settled_synced g member = settled_flag synced_seat sync_flag g member

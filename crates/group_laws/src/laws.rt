@@ -20,7 +20,8 @@ pub fn two_rounds_settle()
 
 /// A sync does not change the end of a rebalance, including moves and last holders.
 pub fn sync_keeps_the_end()
-    ensures { (g : GroupState) (member : ℕ) → finish (synced_by g member) ≡ finish g }
+    ensures { (g : GroupState) (member : ℕ)
+        → finish (synced_by g member) ≡ finish g }
 {}
 
 /// An accepted rejoin does not change the end of a rebalance, including moves and last holders.
@@ -132,13 +133,15 @@ pub fn sync_marks_its_member()
 /// The end of a rebalance after a join does not depend on the flags before it.
 pub fn a_join_ends_where_it_ends_without_flags()
     ensures { (g : GroupState) (name : List ℕ) → IsValidGroup g
-        → finish (joined_by g name) ≡ finish (joined_by (bare g) name) }
+        → finish (joined_by g name)
+        ≡ finish (joined_by (bare g) name) }
 {}
 
 /// The end of a rebalance after a leave or a loss does not depend on the flags before it.
 pub fn a_leave_ends_where_it_ends_without_flags()
     ensures { (g : GroupState) (member : ℕ) → IsValidGroup g
-        → finish (left_by g member) ≡ finish (left_by (bare g) member) }
+        → finish (left_by g member)
+        ≡ finish (left_by (bare g) member) }
 {}
 
 /// A rebalance never lowers the generation, and adds at most two.
@@ -150,7 +153,8 @@ pub fn an_end_adds_at_most_two_generations()
 /// A rebalance changes neither who is present nor any name.
 pub fn an_end_leaves_who_is_there()
     ensures names { (g : GroupState) → names (finish g) ≡ names g }
-    ensures present { (g : GroupState) (m : ℕ) → is_present (finish g) m ≡ is_present g m }
+    ensures present { (g : GroupState) (m : ℕ)
+        → is_present (finish g) m ≡ is_present g m }
 {}
 
 /// A join appends its name. All members stay present, and so is the new one.

@@ -49,11 +49,11 @@ listed_above m [] n up at = absurd at
 listed_above m (x ∷ xs) n up (inl is) = omega (arith, up.0, is)
 listed_above m (x ∷ xs) n up (inr at) = omega (arith, up.0, listed_above (suc x) xs n up.1 at)
 
-or_either : (a b : Bool) → (a || b) ≡ true → (a ≡ true) ⊎ (b ≡ true)
+pub or_either : (a b : Bool) → (a || b) ≡ true → (a ≡ true) ⊎ (b ≡ true)
 or_either true b e = inl refl
 or_either false b e = inr e
 
-or_second : (a b : Bool) → b ≡ true → (a || b) ≡ true
+pub or_second : (a b : Bool) → b ≡ true → (a || b) ≡ true
 or_second true b e = refl
 or_second false b e = e
 
@@ -101,6 +101,7 @@ next_not_other r m n q e h = go (m == n) refl
   where
     free : granted_to_other r.rows m q ≡ false
     free = true_not (granted_to_other r.rows m q) ((both_true (is_in (set_of (target_rows r) m) q) (not (granted_to_other r.rows m q)) (sym (next_in r m q) ∙ e)).1)
+
     go : (b : Bool) → (m == n) ≡ b → m ≡ n
     go true is = number_is m n is
     go false is = absurd (false≢true (sym free ∙ other_of r m n q (λ same. false≢true (sym is ∙ ap (λ k. m == k) (sym same) ∙ same_id m)) h))

@@ -19,7 +19,7 @@ use Rattle.group_machine.specs.Private.Changes.{IsChanged}
 use Rattle.group_machine.proofs.SlotsLemmas.{seat_each}
 use Rattle.group_machine.proofs.PresentLemmas.{Listed, listed_present, numbers_each, length_reseated, any_each, all_says, some_not}
 use Rattle.group_machine.proofs.Rows.{map_same, member_listed, set_over}
-use Rattle.group_machine.proofs.Below.{target_kept, target_below, target_balanced, next_members, next_kept, next_below, next_in_target, next_not_other, next_apart, next_is_target}
+use Rattle.group_machine.proofs.Below.{target_kept, target_below, target_balanced, next_members, next_kept, next_below, next_in_target, next_not_other, next_apart, next_is_target, or_second, or_either}
 use Rattle.group_machine.proofs.GroupLemmas.{members_granted, set_granted, granted_owned, granted_over}
 use Rattle.group_machine.proofs.TakerLemmas.{held_after}
 
@@ -65,28 +65,20 @@ next_good g n e = record {
 }
 
 -- ---- a completion
-or_cases : (a b : Bool) → (a || b) ≡ true → (a ≡ true) ⊎ (b ≡ true)
-or_cases true b e = inl refl
-or_cases false b e = inr e
-
-or_left : (a b : Bool) → a ≡ true → (a || b) ≡ true
+pub or_left : (a b : Bool) → a ≡ true → (a || b) ≡ true
 or_left true b e = refl
 or_left false b e = absurd (false≢true e)
-
-or_right : (a b : Bool) → b ≡ true → (a || b) ≡ true
-or_right true b e = refl
-or_right false b e = e
 
 -- what a member is granted after a completion it was granted before, or it is given it
 completed_in : (p : ℕ) (next : SetRows) (m q : ℕ) (o : Option Seat) → ((x : Seat) → o ≡ Some x → IsFit p x) → partitions_of (set_of next m) ≡ p → is_in (seat_granted p (option_map (completed_seat next m) o)) q ≡ true → (is_in (seat_granted p o) q ≡ true) ⊎ (is_in (set_of next m) q ≡ true)
 completed_in p next m q None fit over e = inl e
-completed_in p next m q (Some x) fit over e = or_cases (is_in x.granted q) (is_in (set_of next m) q) (sym (in_union x.granted (set_of next m) q ((fit x refl).granted_below ∙ sym over)) ∙ e)
+completed_in p next m q (Some x) fit over e = or_either (is_in x.granted q) (is_in (set_of next m) q) (sym (in_union x.granted (set_of next m) q ((fit x refl).granted_below ∙ sym over)) ∙ e)
 
 fit_completed : (p : ℕ) (next : SetRows) (m : ℕ) (x : Seat) → IsFit p x → partitions_of (set_of next m) ≡ p → IsFit p (completed_seat next m x)
 fit_completed p next m x fit over = record {
   granted_below = partitions_union x.granted (set_of next m) ∙ fit.granted_below;
   assigned_below = over;
-  within = within_of (set_of next m) (union x.granted (set_of next m)) (λ q e. in_union x.granted (set_of next m) q (fit.granted_below ∙ sym over) ∙ or_right (is_in x.granted q) (is_in (set_of next m) q) e);
+  within = within_of (set_of next m) (union x.granted (set_of next m)) (λ q e. in_union x.granted (set_of next m) q (fit.granted_below ∙ sym over) ∙ or_second (is_in x.granted q) (is_in (set_of next m) q) e);
   equal = λ e. absurd (false≢true e);
 }
 

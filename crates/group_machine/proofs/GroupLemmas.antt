@@ -53,9 +53,6 @@ pub length_map : {A B : Type 0} (f : A → B) (xs : List A) → length (map f xs
 length_map f [] = refl
 length_map f (x ∷ xs) = ap (λ n. suc n) (length_map f xs)
 
-pub some_members : (g : GroupState) → is_anybody g ≡ true → 0 < length (members g)
-some_members g any = omega (arith, any_count g.slots any, length_map (λ r. r.0) (present g.slots))
-
 pub rows_apart : (r : SetRows) → RisesFrom 1 (rows.members r) → ((m n q : ℕ) → is_in (set_of r m) q ≡ true → is_in (set_of r n) q ≡ true → m ≡ n) → AreApart (sets_of r (rows.members r))
 rows_apart r up alone = apart_of (set_of r) 1 (rows.members r) up alone
 

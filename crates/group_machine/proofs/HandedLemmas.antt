@@ -168,9 +168,6 @@ handed_granted g name m n q here e = elim (cases_eq n (suc (length g.slots))) [
 ]
 
 -- ---- the list of the present after it
-numbers_of : List (ℕ × Seat) → List ℕ
-numbers_of xs = map (λ r. r.0) xs
-
 handed_present : (g : GroupState) (name : List ℕ) (m : ℕ) (x : Seat) → member_of g m ≡ Some x → (sp : IsSplit 1 g.slots m x) → present (handing_on g name m).slots ≡ (sp.before ++ sp.after) ++ (suc (length g.slots), handed_seat x) ∷ []
 handed_present g name m x is sp =
     let left : List Slot = without_seat g.slots m in

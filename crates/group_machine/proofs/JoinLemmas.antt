@@ -12,12 +12,9 @@ use Rattle.group_machine.specs.State.{GroupState, member_of, is_present}
 use Rattle.group_machine.specs.Steps.{is_name_used, join_answer, newcomer, joining, joined_by}
 use Rattle.group_machine.specs.Completion.{is_ready, completed_seat, next_rows_of, complete, completed}
 use Rattle.group_machine.proofs.SlotsLemmas.{seat_each}
+use Rattle.group_machine.proofs.PresentLemmas.{some_on}
 
 -- ---- a completion
-pub some_on : (f : Seat → Seat) (o : Option Seat) → is_some (option_map f o) ≡ is_some o
-some_on f None = refl
-some_on f (Some x) = refl
-
 -- ---- joining
 pub seat_before : (slots : List Slot) (s : Slot) (k : ℕ) → (k ≡ length slots → ⊥) → seat_in (slice_get (slots ++ s ∷ []) k) ≡ seat_in (slice_get slots k)
 seat_before [] s zero ne = absurd (ne refl)

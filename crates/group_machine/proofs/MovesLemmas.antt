@@ -35,7 +35,7 @@ mapped_append : {A B : Type 0} (h : A → Option B) (xs ys : List A) → filter_
 mapped_append h [] ys = refl
 mapped_append h (x ∷ xs) ys = ap (λ r. cons_option (h x) r) (mapped_append h xs ys) ∙ sym (cons_append (h x) (filter_map h xs) (filter_map h ys))
 
-append_none : {A : Type 0} (xs : List A) → xs ++ [] ≡ xs
+pub append_none : {A : Type 0} (xs : List A) → xs ++ [] ≡ xs
 append_none [] = refl
 append_none (x ∷ xs) = ap (λ r. x ∷ r) (append_none xs)
 

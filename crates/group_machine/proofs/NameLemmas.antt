@@ -4,6 +4,7 @@ use Rattle.std.specs.Option.{option_or}
 use Rattle.std.specs.Str.{bytes_eq}
 use Rattle.group_machine.specs.declared.group.Slot.{Slot}
 use Rattle.group_machine.specs.State.{number_from}
+use Rattle.group_machine.proofs.WalkLemmas.{drop_past}
 
 -- ---- a walk over the slots, which keeps the last number that it found
 drop_here : (slots : List Slot) (i : ℕ) (s : Slot) → i < length slots → s ≡ get_or slots i s → drop i slots ≡ s ∷ drop (suc i) slots
@@ -43,12 +44,6 @@ walk_found slots name i s found lt e same = walk_step slots name i s found lt e 
 
 pub walk_past : (slots : List Slot) (name : List ℕ) (i : ℕ) (s : Slot) (found : Option ℕ) → i < length slots → s ≡ get_or slots i s → bytes_eq s.name name ≡ false → found_by slots name i found ≡ found_by slots name (i + 1) found
 walk_past slots name i s found lt e other = walk_step slots name i s found lt e ∙ or_past (number_from (i + 1 + 1) (drop (i + 1) slots) name) (i + 1) found (bytes_eq s.name name) other
-
-drop_past : (slots : List Slot) (i : ℕ) → length slots ≤ i → drop i slots ≡ []
-drop_past [] zero le = refl
-drop_past [] (suc i) le = refl
-drop_past (s ∷ slots) zero le = absurd (omega arith)
-drop_past (s ∷ slots) (suc i) le = drop_past slots i (omega arith)
 
 pub walk_end : (slots : List Slot) (name : List ℕ) (i : ℕ) (found : Option ℕ) → length slots ≤ i → found_by slots name i found ≡ found
 walk_end slots name i found le = ap (λ rest. option_or (number_from (i + 1) rest name) found) (drop_past slots i le)

@@ -130,7 +130,7 @@ pub some_not : (p : Seat → Bool) (slots : List Slot) → list_all (λ r. p r.1
 some_not p slots e = let r = not_from p 1 slots e in (suc r.0, r.1, r.2, r.3)
 
 -- ---- somebody
-or_true : (b : Bool) → (b || true) ≡ true
+pub or_true : (b : Bool) → (b || true) ≡ true
 or_true true = refl
 or_true false = refl
 
@@ -142,17 +142,6 @@ any_from (s ∷ slots) (suc k) x is = rw (any_from slots k x is) (or_true (is_so
 pub any_of : (slots : List Slot) (member : ℕ) (x : Seat) → seat_of slots member ≡ Some x → list_any (λ s. is_some s.seat) slots ≡ true
 any_of slots zero x is = cc
 any_of slots (suc k) x is = any_from slots k x is
-
-some_here : (o : Option Seat) (b : Bool) → (is_some o || b) ≡ true → ((x : Seat) × (o ≡ Some x)) ⊎ (b ≡ true)
-some_here None b e = inr e
-some_here (Some x) b e = inl (x, refl)
-
-some_from : (slots : List Slot) → list_any (λ s. is_some s.seat) slots ≡ true → (k : ℕ) × (x : Seat) × (seat_in (slice_get slots k) ≡ Some x)
-some_from [] e = absurd (false≢true e)
-some_from (s ∷ slots) e = elim (some_here s.seat (list_any (λ t. is_some t.seat) slots) e) [ inl h ↦ (0, h.0, h.1) | inr h ↦ (let r = some_from slots h in (suc r.0, r.1, r.2)) ]
-
-pub somebody : (slots : List Slot) → list_any (λ s. is_some s.seat) slots ≡ true → (member : ℕ) × (x : Seat) × (seat_of slots member ≡ Some x)
-somebody slots e = let r = some_from slots e in (suc r.0, r.1, r.2)
 
 any_count_and : (m : ℕ) (o : Option Seat) (b : Bool) (rows : List (ℕ × Seat)) → (b ≡ true → 0 < length rows) → (is_some o || b) ≡ true → 0 < length (and_member m o rows)
 any_count_and m None b rows rest e = rest e
@@ -166,7 +155,7 @@ pub any_count : (slots : List Slot) → list_any (λ s. is_some s.seat) slots �
 any_count slots e = any_count_from 1 slots e
 
 -- nobody more and nobody less after a change of each
-some_on : (f : Seat → Seat) (o : Option Seat) → is_some (option_map f o) ≡ is_some o
+pub some_on : (f : Seat → Seat) (o : Option Seat) → is_some (option_map f o) ≡ is_some o
 some_on f None = refl
 some_on f (Some x) = refl
 
@@ -204,7 +193,7 @@ numbers_kept f (x ∷ xs) = ap (λ r. x.0 ∷ r) (numbers_kept f xs)
 pub numbers_each : (f : ℕ → Seat → Seat) (slots : List Slot) → map (λ r. r.0) (present (each_changed f slots)) ≡ map (λ r. r.0) (present slots)
 numbers_each f slots = ap (λ xs. map {A = ℕ × Seat} (λ r. r.0) xs) (present_each f slots) ∙ numbers_kept f (present slots)
 
-length_changed : (m : ℕ) (f : ℕ → Option Seat → Option Seat) (slots : List Slot) → length (reseated_from m f slots) ≡ length slots
+pub length_changed : (m : ℕ) (f : ℕ → Option Seat → Option Seat) (slots : List Slot) → length (reseated_from m f slots) ≡ length slots
 length_changed m f [] = refl
 length_changed m f (s ∷ slots) = ap (λ n. suc n) (length_changed (suc m) f slots)
 

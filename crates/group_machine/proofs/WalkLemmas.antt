@@ -12,13 +12,10 @@ use Rattle.group_machine.specs.declared.group.Slot.{Slot}
 use Rattle.group_machine.specs.declared.group.Seat.{Seat}
 use Rattle.group_machine.specs.Slots.{seat_in, seat_of, and_member, present_from, present, reseated_from, granted_in}
 use Rattle.group_machine.proofs.SlotsLemmas.{slot_with, same_id, other_default}
-use Rattle.group_machine.proofs.MovesLemmas.{present_take}
+use Rattle.group_machine.proofs.MovesLemmas.{present_take, append_none}
+use Rattle.group_machine.proofs.PresentLemmas.{length_changed}
 
 -- ---- rows of the members before an index
-append_none : {A : Type 0} (xs : List A) → xs ++ [] ≡ xs
-append_none [] = refl
-append_none (x ∷ xs) = ap (λ r. x ∷ r) (append_none xs)
-
 map_append : {A B : Type 0} (f : A → B) (xs ys : List A) → map f (xs ++ ys) ≡ map f xs ++ map f ys
 map_append f [] ys = refl
 map_append f (x ∷ xs) ys = ap (λ r. f x ∷ r) (map_append f xs ys)
@@ -137,15 +134,11 @@ past_slots [] k le = refl
 past_slots (s ∷ slots) zero le = absurd (omega arith)
 past_slots (s ∷ slots) (suc k) le = past_slots slots k (omega arith)
 
-length_same : (m : ℕ) (f : ℕ → Option Seat → Option Seat) (slots : List Slot) → length (reseated_from m f slots) ≡ length slots
-length_same m f [] = refl
-length_same m f (s ∷ slots) = ap (λ n. suc n) (length_same (suc m) f slots)
-
 -- all indices
 pub given_all : (f : ℕ → Option Seat → Option Seat) (before now : List Slot) (index : ℕ) → AreGiven f before now index → length before ≤ index → now ≡ reseated_from 1 f before
 given_all f before now index given le = same_slots now (reseated_from 1 f before) (λ k. elim (cases_lt k index) [
   | inl lt ↦ given k ∙ ap (λ b. cond b (slice_get (reseated_from 1 f before) k) (slice_get before k)) (lt_is k index lt)
-  | inr ge ↦ given k ∙ ap (λ b. cond b (slice_get (reseated_from 1 f before) k) (slice_get before k)) (ge_is k index ge) ∙ past_slots before k (omega arith) ∙ sym (past_slots (reseated_from 1 f before) k (omega (arith, length_same 1 f before)))
+  | inr ge ↦ given k ∙ ap (λ b. cond b (slice_get (reseated_from 1 f before) k) (slice_get before k)) (ge_is k index ge) ∙ past_slots before k (omega arith) ∙ sym (past_slots (reseated_from 1 f before) k (omega (arith, length_changed 1 f before)))
 ])
 
 some_found : (rows : List (ℕ × PartitionSet)) (k d : ℕ) → k < length (map (λ row. row.0) rows) → IsSome (find_row rows (get_or (map (λ row. row.0) rows) k d))
@@ -194,7 +187,7 @@ numbers_drop_here slots i s lt e here = let x = some_seat s.seat here in ap (λ 
 pub numbers_drop_gone : (slots : List Slot) (i : ℕ) (s : Slot) → i < length slots → s ≡ get_or slots i s → is_some s.seat ≡ false → map (λ r. r.0) (present_from (i + 1) (drop i slots)) ≡ map (λ r. r.0) (present_from (i + 1 + 1) (drop (i + 1) slots))
 numbers_drop_gone slots i s lt e gone = ap (λ xs. map {A = ℕ × Seat} (λ r. r.0) xs) (present_drop slots i s lt e ∙ ap (λ o. and_member (i + 1) o (present_from (i + 1 + 1) (drop (i + 1) slots))) (no_seat s.seat gone))
 
-drop_past : (slots : List Slot) (i : ℕ) → length slots ≤ i → drop i slots ≡ []
+pub drop_past : (slots : List Slot) (i : ℕ) → length slots ≤ i → drop i slots ≡ []
 drop_past [] zero le = refl
 drop_past [] (suc i) le = refl
 drop_past (s ∷ slots) zero le = absurd (omega arith)

@@ -18,7 +18,8 @@ pub record IsSized (g : GroupState) : Type 0 where
 
 -- no partition is granted to two present members
 abbrev pub IsApart : GroupState → Type 0
-IsApart g = (m n q : ℕ) → is_in (granted_of g m) q ≡ true → is_in (granted_of g n) q ≡ true → m ≡ n
+IsApart g =
+    (m n q : ℕ) → is_in (granted_of g m) q ≡ true → is_in (granted_of g n) q ≡ true → m ≡ n
 
 -- a member's sets are over the group's partitions; what it is assigned is granted to it, and is all
 -- that is granted to it once it has joined
@@ -29,7 +30,8 @@ pub record IsFit (partitions : ℕ) (seat : Seat) : Type 0 where
   pub equal : seat.joined ≡ true → seat.assigned ≡ seat.granted
 
 abbrev pub AllFit : GroupState → Type 0
-AllFit g = (m : ℕ) (seat : Seat) → member_of g m ≡ Some seat → IsFit g.partitions seat
+AllFit g =
+    (m : ℕ) (seat : Seat) → member_of g m ≡ Some seat → IsFit g.partitions seat
 
 -- a member that is granted a partition is its last holder
 abbrev pub IsHeldByLast : GroupState → Type 0

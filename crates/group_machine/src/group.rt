@@ -138,7 +138,8 @@ impl Group {
     pub fn join_kept(&mut self, alloc: Global, name: Name) -> Result<u32, Refusal>
         requires { IsValidGroup (group_view self.old) }
         ensures answer { Answers (join_answer (group_view self.old) name) result }
-        ensures ok { OnOk result (group_view self.new ≡ joined_kept_by (group_view self.old) name) }
+        ensures ok { OnOk result
+            (group_view self.new ≡ joined_kept_by (group_view self.old) name) }
         ensures err { OnErr result (group_view self.new ≡ group_view self.old) }
         ensures valid { IsValidGroup (group_view self.new) }
     {
