@@ -32,7 +32,6 @@ use Rattle.group_laws.specs.Rounds.{assigned_rows, bare_seat, bare, yielded_seat
 use Rattle.group_laws.proofs.SlotsLemmas.{each_two, each_same}
 use Rattle.group_laws.proofs.AssignedLemmas.{second_all, second_within, HasPartitions, has_partitions, assigned_owned, members_assigned}
 use Rattle.group_laws.proofs.StepLemmas.{any_synced, settled_synced}
-use Rattle.group_machine.proofs.TableLemmas.{parts}
 
 -- ---- rows of changed seats
 abbrev rows_by : (ℕ → Seat → PartitionSet) → List (ℕ × Seat) → List (ℕ × PartitionSet)
@@ -123,17 +122,20 @@ yields_nothing g fit joined = each_same (λ m. yielded_seat) (λ m. bare_seat) g
     let same : x.assigned ≡ x.granted = (fit m x is).equal (all_says (λ y. y.joined) g.slots m x joined is) in
     ap (λ (s : PartitionSet). seat_with x s) same)
 
+complete_parts : ℕ → ℕ → List Slot → List (Option ℕ) → List Move → GroupState
+complete_parts generation p slots last moves = record { generation = generation; phase = Stable; partitions = p; slots = slots; last = last; moves = moves }
+
 complete_bare : (g : GroupState) → complete (bare g) ≡ complete g
-unfolding parts
+unfolding complete_parts
 complete_bare g =
     let next : SetRows = next_rows (granted_rows g) in
     let slots : each_changed (completed_seat next) (bare g).slots ≡ each_changed (completed_seat next) g.slots = each_two (completed_seat next) (λ m. bare_seat) g.slots in
     let last : last_after (bare g) next ≡ last_after g next = ap (λ r. last_by (takers_in r next) g.last) (granted_bare g) in
     let moves : moves_to (bare g) next ≡ moves_to g next = ap (λ r. moves_by (g.generation + 1) (takers_in r next) g.last) (granted_bare g) in
     ap (λ n. completed_with (bare g) (next_rows n)) (granted_bare g)
-    ∙ ap (λ s. parts (g.generation + 1) g.partitions s (last_after (bare g) next) (g.moves ++ moves_to (bare g) next)) slots
-    ∙ ap (λ l. parts (g.generation + 1) g.partitions (each_changed (completed_seat next) g.slots) l (g.moves ++ moves_to (bare g) next)) last
-    ∙ ap (λ ns. parts (g.generation + 1) g.partitions (each_changed (completed_seat next) g.slots) (last_after g next) (g.moves ++ ns)) moves
+    ∙ ap (λ s. complete_parts (g.generation + 1) g.partitions s (last_after (bare g) next) (g.moves ++ moves_to (bare g) next)) slots
+    ∙ ap (λ l. complete_parts (g.generation + 1) g.partitions (each_changed (completed_seat next) g.slots) l (g.moves ++ moves_to (bare g) next)) last
+    ∙ ap (λ ns. complete_parts (g.generation + 1) g.partitions (each_changed (completed_seat next) g.slots) (last_after g next) (g.moves ++ ns)) moves
 
 pub complete_round : (g : GroupState) → AllFit g → all_joined g ≡ true → complete g ≡ round g
 complete_round g fit joined = sym (ap (λ s. complete (with_slots g s)) (yields_nothing g fit joined) ∙ complete_bare g)

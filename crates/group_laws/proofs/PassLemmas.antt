@@ -19,7 +19,7 @@ use Rattle.group_laws.specs.Rounds.{finish}
 use Rattle.group_machine.specs.NextSteps.{has_to_rejoin}
 use Rattle.group_laws.specs.Passes.{synced_if_new, rejoined_if_due, turned, turned_each, passed}
 use Rattle.group_laws.proofs.AssignedLemmas.{has_partitions}
-use Rattle.group_laws.proofs.StepLemmas.{any_synced, members_synced, synced_same, rejoin_good}
+use Rattle.group_laws.proofs.StepLemmas.{any_synced, synced_same, rejoin_good}
 use Rattle.group_laws.proofs.OtherLemmas.{rejoining_at}
 use Rattle.group_laws.proofs.FinishLemmas.{completed_finish, sync_finish, rejoining_finish}
 

@@ -15,7 +15,7 @@ use Rattle.group_machine.specs.Steps.{newcomer, rejoined_seat}
 use Rattle.group_machine.specs.Private.Walks.{AreSeatsOver, IsSeatOver}
 use Rattle.group_machine.specs.Private.Changes.{seat_after, slots_after}
 use Rattle.group_machine.proofs.SlotsLemmas.{slot_with, same_id, reseated_not, seat_of_index}
-use Rattle.group_machine.proofs.PresentLemmas.{length_reseated, or_true}
+use Rattle.group_machine.proofs.PresentLemmas.{length_reseated}
 use Rattle.group_machine.proofs.WalkLemmas.{slot_at, changed_there, granted_more, granted_same, drop_past}
 use Rattle.group_machine.proofs.TableLemmas.{all_present}
 
@@ -99,6 +99,10 @@ and_false : (b : Bool) → (b && false) ≡ false
 and_false true = refl
 and_false false = refl
 
+or_last : (b : Bool) → (b || true) ≡ true
+or_last true = refl
+or_last false = refl
+
 or_none : (b : Bool) → (b || false) ≡ b
 or_none true = refl
 or_none false = refl
@@ -107,7 +111,7 @@ or_none false = refl
 pub ready_is : (p : ℕ) (name : List ℕ) (change : Change) (slots : List Slot) → ((starts change || is_anybody_in (mid change slots)) && each_joined (mid change slots)) ≡ is_ready_in (slots_after p name change slots)
 ready_is p name Joins slots =
     let after : List Slot = slots ++ newcomer p name ∷ [] in
-    let any : is_anybody_in after ≡ true = list_any-append (λ s. is_some s.seat) slots (newcomer p name ∷ []) ∙ or_true (is_anybody_in slots) in
+    let any : is_anybody_in after ≡ true = list_any-append (λ s. is_some s.seat) slots (newcomer p name ∷ []) ∙ or_last (is_anybody_in slots) in
     let all : each_joined after ≡ each_joined slots = list_all-append (λ s. option_map_or (λ x. x.joined) s.seat true) slots (newcomer p name ∷ []) ∙ and_true (each_joined slots) in
     ap each_joined (reseated_not 1 slots) ∙ sym all ∙ all_present (λ x. x.joined) after ∙ ap (λ b. b && list_all (λ m. m.1.joined) (present after)) (sym any)
 ready_is p name (Rejoins member) slots = ap (λ b. is_anybody_in (mid (Rejoins member) slots) && b) (all_present (λ x. x.joined) (mid (Rejoins member) slots))

@@ -130,7 +130,7 @@ pub some_not : (p : Seat → Bool) (slots : List Slot) → list_all (λ r. p r.1
 some_not p slots e = let r = not_from p 1 slots e in (suc r.0, r.1, r.2, r.3)
 
 -- ---- somebody
-pub or_true : (b : Bool) → (b || true) ≡ true
+or_true : (b : Bool) → (b || true) ≡ true
 or_true true = refl
 or_true false = refl
 

@@ -65,7 +65,7 @@ pub rows_apart : (g : GroupState) (next : SetRows) → IsChanged g → is_anybod
 rows_apart g next changed any is m n q e h = next_apart (granted_rows g) (owned_rows g changed any) m n q (ap (λ k. is_in (set_of k m) q) (sym is) ∙ e) (ap (λ k. is_in (set_of k n) q) (sym is) ∙ h)
 
 -- ---- the next group
-abbrev pub parts : ℕ → ℕ → List Slot → List (Option ℕ) → List Move → GroupState
+abbrev parts : ℕ → ℕ → List Slot → List (Option ℕ) → List Move → GroupState
 parts generation p slots last moves = record { generation = generation; phase = Stable; partitions = p; slots = slots; last = last; moves = moves }
 
 -- the parts of a completed group
