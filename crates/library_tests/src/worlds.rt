@@ -263,9 +263,9 @@ fn are_both_so<'a, R: Abort + RandomSource + Threads + Sync>(
     rt: &R,
     alloc: Global,
     acts: &'a [(Act<'static>, Reply)],
-    told: Step<'a>,
+    check: Step<'a>,
 ) -> Result<bool, Memory> {
-    let one_by_one = [LOAD, Step::Acts(acts), told];
+    let one_by_one = [LOAD, Step::Acts(acts), check];
     let other = first_not_so_of(rt, alloc, Opening::Four, &one_by_one)?;
     let in_one_run = first_not_so_of(rt, alloc, Opening::Four, &[LOAD, Step::Run(acts)])?;
     Ok(other.is_none() && in_one_run.is_none())

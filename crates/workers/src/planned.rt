@@ -223,7 +223,7 @@ impl Planned {
 
     /// What a worker does that found nothing to do at `seen` changes. It ends a run that is
     /// finished.
-    pub(crate) fn rest(&mut self, seen: u64) -> Rest
+    pub(crate) fn idle_step(&mut self, seen: u64) -> Rest
         ensures same { self.new ≡ self.old }
     {
         if self.end.is_some() || self.changes != seen {

@@ -105,11 +105,11 @@ pub fn run_cluster<R: Threads + Wait + RandomSource + Sync, G: Gate + Sync>(
     ensures refused { IfErr result IsRunRefusal }
 {
     let planned = Planned::new(alloc, logs.copy(rt, alloc)?, plan.copy(alloc)?)?;
-    let shared = Mutex::new(planned);
+    let lock = Mutex::new(planned);
     let bell = Condvar::new();
     let desk = Desk {
         alloc,
-        planned: &shared,
+        planned: &lock,
         bell: &bell,
         logs,
         gate,
@@ -117,7 +117,7 @@ pub fn run_cluster<R: Threads + Wait + RandomSource + Sync, G: Gate + Sync>(
         polls: polls_together(batch),
     };
     start_all(rt, &desk, plan.members());
-    match shared.into_inner().outcome(logs, plan) {
+    match lock.into_inner().outcome(logs, plan) {
         Ok(cluster) => Ok(Outcome { cluster }),
         Err(fault) => Err(fault.refusal()),
     }
@@ -153,7 +153,7 @@ fn work<R: Wait, G: Gate>(rt: &R, desk: &Desk<'_, G>, member: u32) {
     for _ in rt.forever() {
         match desk.take_turn(rt, &mut reader) {
             Ok(Turn::Worked) => {}
-            Ok(Turn::Idle(seen)) => desk.rest(rt, seen),
+            Ok(Turn::Idle(seen)) => desk.wait_for_change(rt, seen),
             Ok(Turn::Over) => break,
             Err(fault) => {
                 desk.stop(rt, fault);
@@ -279,9 +279,9 @@ impl<'a, G: Gate> Desk<'a, G> {
 
     /// Waits until something changes, unless it has changed since `seen`. The worker that finds the
     /// run finished wakes the others.
-    fn rest<R: Wait>(&self, rt: &R, seen: u64) {
+    fn wait_for_change<R: Wait>(&self, rt: &R, seen: u64) {
         let mut planned = self.lock(rt);
-        match planned.rest(seen) {
+        match planned.idle_step(seen) {
             Rest::Stay => {
                 let _woken = self.bell.wait(rt, planned);
             }
