@@ -7,7 +7,7 @@ use Rattle.group_laws.specs.Passes.{synced_if_new}
 use Rattle.group_machine.specs.Steps.{synced_by}
 use Rattle.group_machine.specs.declared.cluster.next_step.NextStep.{NextStep}
 use Rattle.group_machine.specs.declared.cluster.next_step.NextStep.TheVariants.{Read, Rejoin, Sync}
-use Rattle.group_machine.proofs.OtherLemmas.{sync_marks}
+use Rattle.group_laws.proofs.OtherLemmas.{sync_marks}
 use Rattle.world.specs.Courses.{Follows}
 use Rattle.world.specs.Settling.{sync_if_new}
 use Rattle.world.specs.World.{WorldState}
