@@ -1,9 +1,11 @@
 -- The invariant of a world.
-use Rattle.std.specs.Prelude.{◌≡◌, ℕ, ◌+◌, ◌<◌, ◌≤◌, ◌↔◌, true, Some, length, slice_get, slice_range}
+use Rattle.std.specs.Prelude.{◌≡◌, ℕ, ◌+◌, ◌<◌, ◌≤◌, ◌↔◌, true, List, Some, length, slice_get, slice_range}
 use Rattle.bit_planes.specs.PartitionSet.{is_in}
+use Rattle.partition_log.specs.Keys.{Keyed}
 use Rattle.partition_log.specs.Logs.{PartitionLogs, log_at}
+use Rattle.commit_store.specs.Commits.{AreEndsCommitted}
 use Rattle.group_machine.specs.State.{GroupState, assigned_of, granted_of, is_present, is_synced}
-use Rattle.group_machine.specs.Cluster.{ClusterState, CommitTerms, IsValidCluster, committed_at}
+use Rattle.group_machine.specs.Cluster.{AreLogsOf, ClusterState, CommitTerms, IsValidCluster, committed_at}
 use Rattle.consumer.specs.Consumer.{ConsumerState, IsValidConsumer, IsWithinLogs, base_of, is_held}
 use Rattle.world.specs.declared.event.TheConstants.{MOST_COMMITS}
 use Rattle.world.specs.World.{WorldState, consumer_of}
@@ -44,3 +46,9 @@ pub record IsValidWorld (w : WorldState) : Type 0 where
       → consumer_of w m ≡ Some c → IsInStep w.cluster.group m c
   pub mail : (i : ℕ) (c : CommitTerms) → slice_get w.mail i ≡ Some c → IsSent w.cluster.logs c
   pub few_commits : length w.mail ≤ MOST_COMMITS
+
+-- a valid world whose logs have these records, and are committed to their ends
+pub record IsFullyCommitted (appended : List Keyed) (w : WorldState) : Type 0 where
+  pub valid : IsValidWorld w
+  pub logs : AreLogsOf appended w.cluster.logs
+  pub ends : AreEndsCommitted w.cluster.store w.cluster.logs

@@ -2,14 +2,12 @@
 
 ghost use Rattle.std.specs.Prelude.{List};
 ghost use Rattle.partition_log.specs.Keys.{Keyed, keys_in};
-ghost use Rattle.commit_store.specs.Commits.{AreEndsCommitted, HasPlainCounts};
-ghost use Rattle.group_machine.specs.Cluster.{AreLogsOf};
-ghost use Rattle.world.specs.Valid.{IsValidWorld};
+ghost use Rattle.commit_store.specs.Commits.{HasPlainCounts};
+ghost use Rattle.world.specs.Valid.{IsFullyCommitted};
 ghost use Rattle.world.specs.World.{WorldState};
 
 /// If all logs are committed to their ends, each key's count is the number of its records.
 pub fn all_committed_is_the_plain_count()
-    ensures { (w : WorldState) (appended : List Keyed) → IsValidWorld w
-        → AreLogsOf appended w.cluster.logs → AreEndsCommitted w.cluster.store w.cluster.logs
+    ensures { (w : WorldState) (appended : List Keyed) → IsFullyCommitted appended w
         → HasPlainCounts w.cluster.store w.cluster.logs (keys_in appended) }
 {}

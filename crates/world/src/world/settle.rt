@@ -3,14 +3,15 @@
 ghost use Rattle.std.specs.Prelude.{◌≡◌, ◌≢◌, ◌||◌, Err, MatchOption, OnOk, length, true, false};
 ghost use Rattle.std.specs.List.{list_all};
 ghost use Rattle.lane_words.specs.declared.Refusal.TheVariants as refusal;
-ghost use Rattle.bit_planes.specs.PartitionSet.{elements, minus};
+ghost use Rattle.bit_planes.specs.PartitionSet.{elements};
 ghost use Rattle.group_machine.specs.NextSteps.{has_to_rejoin};
-ghost use Rattle.group_machine.specs.State.{assigned_of, granted_of, is_joined, is_present, is_synced, members};
+ghost use Rattle.group_machine.specs.State.{is_joined, is_present, is_synced, members};
 ghost use Rattle.group_laws.specs.Rounds.{bare, finish};
 ghost use Rattle.group_laws.specs.Passes.{is_calm};
 ghost use Rattle.world.specs.Courses.{Follows, for_each, happens};
 ghost use Rattle.world.specs.Settling.{commit_pending, flush, forgiven, is_pending, pass, passes, rejoin_if_due, settling, sync_if_new, turn};
 ghost use Rattle.world.specs.Valid.{IsValidWorld};
+ghost use Rattle.world.specs.Private.Turns.{GivesUp};
 
 use super::World;
 use crate::event::{Event, Reply};
@@ -138,9 +139,7 @@ impl World {
         requires synced { (is_joined self.now.cluster.group member
             || is_synced self.now.cluster.group member) ≡ true }
         ensures { MatchOption result (has_to_rejoin self.now.cluster.group member ≡ false)
-            (λ given. (has_to_rejoin self.now.cluster.group member ≡ true)
-            × (given ≡ minus (granted_of self.now.cluster.group member)
-            (assigned_of self.now.cluster.group member))) }
+            (GivesUp self.now.cluster.group member) }
     {
         let cluster = self.cluster();
         match cluster.next_step(member) {

@@ -17,8 +17,8 @@ returns-in_err-flush_all c =
     let m = c.args.member in
     let mid = c.flush_all.new.self in
     let given = elements (minus (granted_of w.cluster.group m) (assigned_of w.cluster.group m)) in
-    let flushed = subst (λ s. Follows w (for_each (elements s) (flush m) w) c.flush_all.result mid) c.in-Some.ensures.1 c.flush_all.ensures in
-    due m w c.in-Some.ensures.0 c.from_residual.result mid
+    let flushed = subst (λ s. Follows w (for_each (elements s) (flush m) w) c.flush_all.result mid) c.in-Some.ensures.given_is c.flush_all.ensures in
+    due m w c.in-Some.ensures.due c.from_residual.result mid
     (chain_stops w mid (for_each given (flush m) w) (happens (event.Rejoin m)) c.flush_all.result c.from_residual.result c.in_err-flush_all.field-0.0 (flushes_course given m w) flushed c.in_err-flush_all.was same)
 
 pub returns : goal.returns
@@ -27,6 +27,6 @@ returns c =
     let m = c.args.member in
     let mid = c.flush_all.new.self in
     let given = elements (minus (granted_of w.cluster.group m) (assigned_of w.cluster.group m)) in
-    let flushed = subst (λ s. Follows w (for_each (elements s) (flush m) w) c.flush_all.result mid) c.in-Some.ensures.1 c.flush_all.ensures in
-    due m w c.in-Some.ensures.0 c.attempt.result c.attempt.new.self
+    let flushed = subst (λ s. Follows w (for_each (elements s) (flush m) w) c.flush_all.result mid) c.in-Some.ensures.given_is c.flush_all.ensures in
+    due m w c.in-Some.ensures.due c.attempt.result c.attempt.new.self
     (chain_on w mid (for_each given (flush m) w) (happens (event.Rejoin m)) c.flush_all.result (flushes_course given m w) flushed c.in_ok-flush_all.was c.attempt.result c.attempt.new.self c.attempt.ensures)
