@@ -4,6 +4,7 @@
 mod blocks;
 mod by_blocks;
 mod by_number;
+mod counting;
 mod partial;
 mod rising;
 mod table;

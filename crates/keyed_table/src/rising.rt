@@ -4,6 +4,7 @@ ghost use Rattle.std.specs.Prelude.{◌≡◌, ◌+◌, ◌<◌, ◌↔◌, IsTr
 ghost use Rattle.keyed_table.specs.Counts.{HaveCounters, SumsFit, plain, raised};
 ghost use Rattle.keyed_table.specs.Private.Blocks.{DoRise};
 
+use crate::counting::add_each;
 use std::marker::Model;
 
 /// A list of key numbers that rise, as those of a log whose records all have different new keys: it
@@ -57,10 +58,7 @@ impl Rising {
         requires fit { SumsFit cells.old self.now }
         ensures { cells.new ≡ raised cells.old self.now }
     {
-        let ids = self.ids.as_slice();
-        for at in 0..ids.len() {
-            cells[ids[at] as usize] += 1;
-        }
+        add_each(cells, self.ids.as_slice());
     }
 }
 

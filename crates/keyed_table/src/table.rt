@@ -5,6 +5,7 @@ ghost use Rattle.keyed_table.specs.Counts.{Counters, HaveCounters, SumsFit, coun
 
 use crate::Partial;
 use crate::blocks::BLOCK;
+use crate::counting::add_each;
 use lane_words::Memory;
 use std::alloc::Global;
 use std::marker::Model;
@@ -69,7 +70,8 @@ impl Table {
     /// memory.
     pub fn add_key(&mut self)
         requires { 1 ≤ self.old.room }
-        ensures { self.new ≡ record { counts = self.old.counts ++ 0 ∷ []; room = self.old.room - 1 } }
+        ensures { self.new ≡ record
+            { counts = self.old.counts ++ 0 ∷ []; room = self.old.room - 1 } }
     {
         self.keys += 1;
     }
@@ -83,6 +85,16 @@ impl Table {
             { counts = raised self.old.counts partial.now; room = self.old.room } }
     {
         partial.add_to(&mut self.cells);
+    }
+
+    /// Adds how often each number occurs in a list to its counter. It allocates nothing.
+    pub fn add_list(&mut self, ids: &[u32])
+        requires numbers { HaveCounters self.old.counts ids.now }
+        requires fit { SumsFit self.old.counts ids.now }
+        ensures { self.new ≡ record
+            { counts = raised self.old.counts ids.now; room = self.old.room } }
+    {
+        add_each(&mut self.cells, ids);
     }
 
     /// How many counters there are.

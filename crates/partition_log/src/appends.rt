@@ -11,10 +11,8 @@ use crate::Logs;
 use crate::filling::filled_logs;
 use key_numbers::pieces_of;
 use lane_words::{LONGEST_KEY, MOST_RECORDS, Memory, Refusal};
+use parallel::LEAST_KEYS;
 use std::thread::Threads;
-
-/// Fewer keys than these are appended one after the other, by the thread that has them.
-pub const SIDE_BY_SIDE: usize = 4096;
 
 impl Logs {
     /// Appends records of these keys to the first topic in order, until one is refused. Where one
@@ -128,7 +126,7 @@ impl Logs {
         ensures valid { IsValidLogs self.now }
     {
         self.keys.count() == 0
-            && keys.len() >= SIDE_BY_SIDE
+            && keys.len() >= LEAST_KEYS
             && keys.len() <= MOST_RECORDS as usize
             && are_short(keys)
     }

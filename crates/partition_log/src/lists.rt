@@ -11,13 +11,12 @@ ghost use Rattle.partition_log.specs.Private.Filled.{AreShort, CanGoSideBySide};
 ghost use Rattle.partition_log.specs.Private.Shares.{records_of};
 
 use crate::Logs;
-use crate::appends::SIDE_BY_SIDE;
 use crate::shares::logs_of_lists;
 use key_lists::{CodedPart, KeyList, coded_parts};
 use key_numbers::Shards;
 use lane_words::{LONGEST_KEY, MOST_RECORDS, Memory, Refusal};
+use parallel::{LEAST_KEYS, drop_each};
 use std::alloc::Global;
-use std::thread;
 use std::thread::Threads;
 
 impl Logs {
@@ -63,7 +62,7 @@ impl Logs {
         ensures valid { IsValidLogs self.now }
     {
         let records = len_of(lists);
-        self.keys.count() == 0 && records >= SIDE_BY_SIDE && records <= MOST_RECORDS as usize
+        self.keys.count() == 0 && records >= LEAST_KEYS && records <= MOST_RECORDS as usize
     }
 
     /// Appends records of the keys of these lists, all of them or none, and tells whether it did: it
@@ -84,7 +83,7 @@ impl Logs {
             return Ok(false);
         }
         self.append_firsts(rt, &coded)?;
-        let_go(rt, coded);
+        drop_each(rt, coded);
         Ok(true)
     }
 
@@ -205,12 +204,6 @@ fn slices_of(alloc: Global, lists: &[KeyList]) -> Result<Vec<&[u8]>, Memory>
         lists[i].add_slices(&mut keys)?;
     }
     Ok(keys)
-}
-
-/// Gives the memory of coded lists back, that of each in a thread of its own.
-fn let_go<R: Threads + Sync>(rt: &R, coded: Vec<CodedPart<'_>>) {
-    // Where memory is refused, what is left goes with the list.
-    let _ = thread::map_vec(rt, coded, &|part: CodedPart<'_>| drop(part));
 }
 
 /// Whether no key of coded lists is too long.

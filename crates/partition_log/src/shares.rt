@@ -7,8 +7,8 @@ ghost use Rattle.partition_log.specs.Private.Shares.{AreMerged, IsFillable, in_r
 
 use crate::filling::roomy_logs;
 use key_lists::CodedPart;
-use key_numbers::collected;
 use lane_words::Memory;
+use parallel::collected;
 use std::alloc::Global;
 use std::thread;
 use std::thread::Threads;

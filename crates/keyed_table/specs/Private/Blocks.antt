@@ -14,8 +14,10 @@ IsTouched ids b = (x : ℕ) × (0 < plain ids x) × (x / 8 ≡ b)
 pub record HaveCounts (ids blocks counts : List ℕ) : Type 0 where
   pub whole : length counts ≡ 8 * length blocks
   pub rise : DoRise blocks
-  pub counted : (j k : ℕ) → j < length blocks → k < 8 → slice_index_or counts (8 * j + k) 0 ≡ plain ids (8 * slice_index_or blocks j 0 + k)
-  pub others : (x : ℕ) → ((j : ℕ) → j < length blocks → slice_index_or blocks j 0 ≢ x / 8) → plain ids x ≡ 0
+  pub counted : (j k : ℕ) → j < length blocks → k < 8
+      → slice_index_or counts (8 * j + k) 0 ≡ plain ids (8 * slice_index_or blocks j 0 + k)
+  pub others : (x : ℕ) → ((j : ℕ) → j < length blocks → slice_index_or blocks j 0 ≢ x / 8)
+      → plain ids x ≡ 0
 
 -- the same, of no block more than the list touches
 pub record AreBlocksOf (ids blocks counts : List ℕ) : Type 0 where
@@ -24,7 +26,8 @@ pub record AreBlocksOf (ids blocks counts : List ℕ) : Type 0 where
 
 -- from index start to end the blocks are neighbours
 abbrev pub AreNeighbours : List ℕ → ℕ → ℕ → Type 0
-AreNeighbours blocks start end = (i : ℕ) → start + i < end → slice_index_or blocks (start + i) 0 ≡ slice_index_or blocks start 0 + i
+AreNeighbours blocks start end = (i : ℕ) → start + i < end
+    → slice_index_or blocks (start + i) 0 ≡ slice_index_or blocks start 0 + i
 
 -- each number of a list is in one of the first so many blocks
 abbrev pub AreWithin : ℕ → List ℕ → Type 0
@@ -39,6 +42,8 @@ pub record AreBlocksBelow (b : ℕ) (ids blocks counts : List ℕ) : Type 0 wher
   pub whole : length counts ≡ 8 * length blocks
   pub rise : DoRise blocks
   pub below : (j : ℕ) → j < length blocks → slice_index_or blocks j 0 < b
-  pub counted : (j k : ℕ) → j < length blocks → k < 8 → slice_index_or counts (8 * j + k) 0 ≡ plain ids (8 * slice_index_or blocks j 0 + k)
+  pub counted : (j k : ℕ) → j < length blocks → k < 8
+      → slice_index_or counts (8 * j + k) 0 ≡ plain ids (8 * slice_index_or blocks j 0 + k)
   pub touched : (j : ℕ) → j < length blocks → IsTouched ids (slice_index_or blocks j 0)
-  pub others : (x : ℕ) → x / 8 < b → ((j : ℕ) → j < length blocks → slice_index_or blocks j 0 ≢ x / 8) → plain ids x ≡ 0
+  pub others : (x : ℕ) → x / 8 < b
+      → ((j : ℕ) → j < length blocks → slice_index_or blocks j 0 ≢ x / 8) → plain ids x ≡ 0

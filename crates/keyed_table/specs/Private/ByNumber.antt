@@ -7,6 +7,8 @@ use Rattle.keyed_table.specs.Private.Blocks.{DoRise}
 pub record AreCountsOf (ids numbers counts : List ℕ) : Type 0 where
   pub whole : length counts ≡ length numbers
   pub rise : DoRise numbers
-  pub counted : (j : ℕ) → j < length numbers → slice_index_or counts j 0 ≡ plain ids (slice_index_or numbers j 0)
+  pub counted : (j : ℕ) → j < length numbers
+      → slice_index_or counts j 0 ≡ plain ids (slice_index_or numbers j 0)
   pub there : (j : ℕ) → j < length numbers → 0 < plain ids (slice_index_or numbers j 0)
-  pub others : (x : ℕ) → ((j : ℕ) → j < length numbers → slice_index_or numbers j 0 ≢ x) → plain ids x ≡ 0
+  pub others : (x : ℕ) → ((j : ℕ) → j < length numbers → slice_index_or numbers j 0 ≢ x)
+      → plain ids x ≡ 0
