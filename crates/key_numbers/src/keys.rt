@@ -1,11 +1,12 @@
 //! The key dictionary of all logs: keys numbered in the order of their first appearance.
 
 ghost use Rattle.std.specs.Prelude.{◌≡◌, ◌<◌, ◌≤◌, ◌↔◌, [], IfOk, IfSome, IfNone, IsOk, IsTrue, OnErr, length, map, true, false};
-ghost use Rattle.key_numbers.specs.Keys.{IsIdOf, IsWithoutRepeats, distinct, id_of, is_known, key_at, lent_lists, with_key};
+ghost use Rattle.key_numbers.specs.Interned.{IsDictionaryOf};
+ghost use Rattle.key_numbers.specs.Keys.{IsIdOf, IsWithoutRepeats, id_of, is_known, key_at, lent_lists, with_key};
 
 use crate::key_hash::KeyHash;
 use crate::key_table::KeyTable;
-use crate::shards::Shards;
+use crate::shards::{Interned, Shards};
 use crate::stored_key::LONGEST_INLINE;
 use lane_words::{MOST_RECORDS, Memory};
 use std::alloc::Global;
@@ -83,13 +84,11 @@ impl KeyIds {
         lists: &[&[&[u8]]],
         room: usize,
         beside: F,
-    ) -> Result<(Shards, Vec<u32>, T), Memory>
+    ) -> Result<(Interned, T), Memory>
         requires few { length (lent_lists lists.now) ≤ MOST_RECORDS }
         requires beside { F.pre beside }
-        ensures keys { IfOk result (λ r. r.0 ≡ distinct (lent_lists lists.now)) }
-        ensures numbers { IfOk result (λ r. r.1.items
-            ≡ map (id_of (distinct (lent_lists lists.now))) (lent_lists lists.now)) }
-        ensures beside { IfOk result (λ r. F.post beside r.2) }
+        ensures value { IfOk result (λ r. IsDictionaryOf (lent_lists lists.now) r.0) }
+        ensures beside { IfOk result (λ r. F.post beside r.1) }
     {
         Shards::of(rt, self.alloc, self.hasher, lists, room, beside)
     }

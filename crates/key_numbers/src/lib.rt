@@ -30,5 +30,5 @@ pub use dealing::pieces_of;
 pub use key_hash::KeyHash;
 pub use key_table::KeyTable;
 pub use keys::KeyIds;
-pub use shards::Shards;
+pub use shards::{Interned, Shards};
 pub use stored_key::LONGEST_INLINE;

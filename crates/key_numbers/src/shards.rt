@@ -1,6 +1,7 @@
 //! A map of keys that were interned in parallel, sharded by hash.
 
 ghost use Rattle.std.specs.Prelude.{◌≡◌, ◌<◌, ◌≤◌, [], IfOk, IfSome, IfNone, IsOk, length, map, slice_index_or, vec_items, vec_len, true, false};
+ghost use Rattle.key_numbers.specs.Interned.{IsDictionaryOf};
 ghost use Rattle.key_numbers.specs.Keys.{IsIdOf, distinct, id_of, is_known, key_at, lent_lists};
 ghost use Rattle.key_numbers.specs.Private.Sharded.{AreShards, key_there, shard_of};
 
@@ -60,6 +61,15 @@ pub struct Shards {
     order: Vec<KeyAt>,
 }
 
+/// Interned lists.
+#[derive(Drop)]
+pub struct Interned {
+    /// The distinct keys of all lists, in the order of their first appearance.
+    pub keys: Shards,
+    /// The key number of each record, one list after another.
+    pub ids: Vec<u32>,
+}
+
 impl Model for Shards {
     ghost use Rattle.std.specs.Prelude.{List, ℕ, map, vec_items};
     ghost use Rattle.key_numbers.specs.Private.Sharded.{AreShards, key_there, shard_of};
@@ -97,22 +107,21 @@ impl Shards {
         lists: &[&[&[u8]]],
         room: usize,
         beside: F,
-    ) -> Result<(Shards, Vec<u32>, T), Memory>
+    ) -> Result<(Interned, T), Memory>
         requires few { length (lent_lists lists.now) ≤ MOST_RECORDS }
         requires beside { F.pre beside }
-        ensures keys { IfOk result (λ r. r.0 ≡ distinct (lent_lists lists.now)) }
-        ensures numbers { IfOk result (λ r. r.1.items
-            ≡ map (id_of (distinct (lent_lists lists.now))) (lent_lists lists.now)) }
-        ensures beside { IfOk result (λ r. F.post beside r.2) }
+        ensures value { IfOk result (λ r. IsDictionaryOf (lent_lists lists.now) r.0) }
+        ensures beside { IfOk result (λ r. F.post beside r.1) }
     {
         let (numbered, other) = number_keys(rt, alloc, hasher, lists, room, beside)?;
-        let shards = Shards {
+        let keys = Shards {
             hasher,
             tables: numbered.tables,
             ids: numbered.ids,
             order: numbered.order,
         };
-        Ok((shards, numbered.numbers, other))
+        let ids = numbered.numbers;
+        Ok((Interned { keys, ids }, other))
     }
 
     /// Drops the map: the shards in parallel, if it has many keys.

@@ -8,7 +8,7 @@ use Rattle.keyed_table.specs.Private.ByNumber.{AreCountsOf}
 use Rattle.keyed_table.proofs.Elements.{stands-somewhere}
 use Rattle.keyed_table.proofs.Raised.{counter-raised, length-raised}
 use Rattle.keyed_table.proofs.Runs.{all_equal, none-before, run-other, run-same}
-use Rattle.keyed_table.proofs.Touched.{below_later, increasing, not-falling}
+use Rattle.keyed_table.proofs.Touched.{below_later, increasing_from, not-falling}
 
 -- ---- computing them
 run-counted : (ids numbers counts : List ℕ) (start n v end : ℕ) → start + n ≡ end → end ≤ length ids → 0 < n
@@ -35,7 +35,7 @@ run-counted ids numbers counts start n v end to le some equal below h =
     let as_before : (j : ℕ) → j < length numbers → plain (take end ids) (get_or numbers j 0) ≡ plain (take start ids) (get_or numbers j 0) = λ j lt. other (get_or numbers j 0) (λ e. omega (arith, less j lt, e)) in
     record {
       whole = omega (arith, size, length_push counts n, h.whole);
-      rise = increasing more (λ i j before lt. elim (cases_lt j (length numbers)) [
+      rise = increasing_from more (λ i j before lt. elim (cases_lt j (length numbers)) [
         | inl within ↦ rw (old j within, old i (omega (arith, before, within))) (below_later numbers h.rise i j before within)
         | inr past ↦
             let within : i < length numbers = omega (arith, before, lt, size) in

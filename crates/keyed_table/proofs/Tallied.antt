@@ -7,7 +7,7 @@ use Rattle.std.specs.Prelude.{◌==◌}
 use Rattle.keyed_table.specs.Counts.{plain}
 use Rattle.keyed_table.specs.Private.Blocks.{AreBlocksBelow, AreBlocksOf, AreTallies, AreWithin}
 use Rattle.keyed_table.proofs.Elements.{none-past, plain-next-other, plain-next-own}
-use Rattle.keyed_table.proofs.Touched.{below_later, increasing}
+use Rattle.keyed_table.proofs.Touched.{below_later, increasing_from}
 
 -- zeros count nothing
 pub nothing-tallied : (n : ℕ) → AreTallies [] (replicate n 0)
@@ -104,7 +104,7 @@ taken-over b i ids tallies part blocks counts is in_block some all h =
     let of_part = part-counts b ids tallies part all is in
     record {
       whole = omega (arith, size, length-append counts part, is.eight, h.whole);
-      rise = increasing more (λ i j before lt. elim (cases_lt j (length blocks)) [
+      rise = increasing_from more (λ i j before lt. elim (cases_lt j (length blocks)) [
         | inl within ↦ rw (old j within, old i (omega (arith, before, within))) (below_later blocks h.rise i j before within)
         | inr past ↦
             let within : i < length blocks = omega (arith, before, lt, size) in

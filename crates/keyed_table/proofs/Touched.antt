@@ -28,8 +28,8 @@ below_later numbers rise i (suc j) less lt =
       | inr past ↦ let same : i ≡ j = omega (arith, less, past) in rw same step
     ]
 
-pub increasing : (numbers : List ℕ) → ((i j : ℕ) → i < j → j < length numbers → get_or numbers i 0 < get_or numbers j 0) → IsStrictlyIncreasing numbers
-increasing numbers below k lt = below k (k + 1) (omega arith) lt
+pub increasing_from : (numbers : List ℕ) → ((i j : ℕ) → i < j → j < length numbers → get_or numbers i 0 < get_or numbers j 0) → IsStrictlyIncreasing numbers
+increasing_from numbers below k lt = below k (k + 1) (omega arith) lt
 
 -- numbers that increase, as a binary search asks for it
 pub not-falling : (numbers : List ℕ) → IsStrictlyIncreasing numbers → (i j : ℕ) → i ≤ j → j < length numbers → get_or numbers i 0 ≤ get_or numbers j 0

@@ -10,7 +10,7 @@ use std::random::RandomSource;
 use std::test::Fail;
 use std::thread::Threads;
 
-/// Adds the keys of `count` records: each key of a period occurs several times in a row, and every
+/// Adds the keys of this many records: each key of a period occurs several times in a row, and every
 /// third is too long to be stored inline.
 fn push_keys(list: &mut KeyList, records: u32, each: u32, period: u32) -> Result<(), Memory>
     requires each { 0 < each }
@@ -44,7 +44,7 @@ fn looking_up(rt: &impl RandomSource, alloc: Global) -> Result<KeyList, Memory> 
     Ok(KeyList::looking_up(alloc, hasher))
 }
 
-/// A list of the keys of `count` records, as `push_keys` adds them.
+/// A list of the keys of this many records, as `push_keys` adds them.
 fn pushed(list: KeyList, records: u32, each: u32, period: u32) -> Result<KeyList, Memory>
     requires each { 0 < each }
     requires period { 0 < period }

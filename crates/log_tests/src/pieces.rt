@@ -176,7 +176,7 @@ fn add_record(file: &mut Vec<u8>, i: u64) -> Result<(), Memory> {
     Ok(())
 }
 
-/// A file of `count` records.
+/// A file of this many records.
 fn file_of(alloc: Global, records: u64) -> Result<Vec<u8>, Memory> {
     let mut file = Vec::new(alloc);
     for i in 0..records {

@@ -63,7 +63,7 @@ fn are_cleared(words: &[u64], a: &[u64], b: &[u64]) -> bool {
     true
 }
 
-/// Whether each word is that of `b` with the bits of the one of `a`.
+/// Whether each word is that of `b` with the bits of that of `a`.
 fn are_joined(words: &[u64], a: &[u64], b: &[u64]) -> bool {
     if words.len() != a.len() || a.len() != b.len() {
         return false;

@@ -148,9 +148,9 @@ impl Logs {
     {
         let alloc = *self.logs.allocator();
         let pieces = pieces_of(alloc, keys)?;
-        let (shards, ids, ()) = self.keys.number_all(rt, &pieces, 0, || ())?;
-        let logs = filled_logs(alloc, self.partitions.count() as usize, places, &ids)?;
-        self.keys.begin_with(shards);
+        let (interned, ()) = self.keys.number_all(rt, &pieces, 0, || ())?;
+        let logs = filled_logs(alloc, self.partitions.count() as usize, places, &interned.ids)?;
+        self.keys.begin_with(interned.keys);
         self.logs = logs;
         Ok(())
     }

@@ -4,7 +4,8 @@ ghost use Rattle.std.specs.Prelude.{◌≡◌, ◌↔◌, ◌<◌, ◌≤◌, tr
 ghost use Rattle.std.specs.Thread.{IsSync};
 ghost use Rattle.key_lists.specs.Lists.{AreCoded, TellsLongest, joined, keys_in};
 ghost use Rattle.partition_log.specs.Appends.{AreAppended, AreStoppedAfter, GrowByRecords, in_first, lent, placed};
-ghost use Rattle.key_numbers.specs.Keys.{distinct, id_of, lent_lists};
+ghost use Rattle.key_numbers.specs.Interned.{IsDictionaryOf};
+ghost use Rattle.key_numbers.specs.Keys.{lent_lists};
 ghost use Rattle.partition_log.specs.Keys.{of_first};
 ghost use Rattle.partition_log.specs.Logs.{IsValidLogs, place_in};
 ghost use Rattle.partition_log.specs.Private.Filled.{AreShort, CanGoSideBySide};
@@ -13,7 +14,7 @@ ghost use Rattle.partition_log.specs.Private.Shares.{records_of};
 use crate::Logs;
 use crate::shares::logs_of_lists;
 use key_lists::{CodedPart, KeyList, coded_parts};
-use key_numbers::Shards;
+use key_numbers::Interned;
 use lane_words::{LONGEST_KEY, MOST_RECORDS, Memory, Refusal};
 use parallel::{LEAST_KEYS, drop_each};
 use std::alloc::Global;
@@ -102,11 +103,11 @@ impl Logs {
     {
         let alloc = *self.logs.allocator();
         let keys = keys_of(alloc, coded)?;
-        let (shards, numbers, places) = number_and_place(rt, self, &keys)?;
+        let (interned, places) = number_and_place(rt, self, &keys)?;
         let places = places?;
         let partitions = self.partitions.count() as usize;
-        let logs = logs_of_lists(rt, alloc, partitions, coded, &places, &numbers)?;
-        self.keys.begin_with(shards);
+        let logs = logs_of_lists(rt, alloc, partitions, coded, &places, &interned.ids)?;
+        self.keys.begin_with(interned.keys);
         self.logs = logs;
         Ok(())
     }
@@ -162,12 +163,10 @@ fn number_and_place<R: Threads + Sync>(
     rt: &R,
     logs: &Logs,
     lists: &[&[&[u8]]],
-) -> Result<(Shards, Vec<u32>, Result<Vec<u32>, Memory>), Memory>
+) -> Result<(Interned, Result<Vec<u32>, Memory>), Memory>
     requires few { length (lent_lists lists.now) ≤ MOST_RECORDS }
-    ensures keys { IfOk result (λ r. r.0 ≡ distinct (lent_lists lists.now)) }
-    ensures numbers { IfOk result (λ r. r.1.items
-        ≡ map (id_of (distinct (lent_lists lists.now))) (lent_lists lists.now)) }
-    ensures places { IfOk result (λ r. IfOk r.2 (λ places. places.items
+    ensures value { IfOk result (λ r. IsDictionaryOf (lent_lists lists.now) r.0) }
+    ensures places { IfOk result (λ r. IfOk r.1 (λ places. places.items
         ≡ map (λ key. place_in logs.now (of_first key)) (lent_lists lists.now))) }
     ensures valid { IsValidLogs logs.now }
 {
@@ -178,7 +177,8 @@ fn number_and_place<R: Threads + Sync>(
         || -> Result<Vec<u32>, Memory>
             requires { IsSync R.row }
             ensures { IfOk result (λ places. places.items
-                ≡ map (λ key. place_in logs.entry.now (of_first key)) (lent_lists lists.entry.now)) }
+                ≡ map (λ key. place_in logs.entry.now (of_first key))
+                (lent_lists lists.entry.now)) }
         { logs.places_of_lists(rt, lists) },
     )
 }
