@@ -1,4 +1,4 @@
--- Lists that a loop takes one item at a time from the front.
+-- Lists that a loop consumes item by item.
 use Rattle.std.proofs.Common.{◌≡◌, ◌∙◌, ◌+◌, ◌<◌, ◌≤◌, ℕ, zero, suc, List, [], ◌∷◌, length, drop, get_or, ap, refl, arith}
 
 -- the next item
