@@ -138,7 +138,7 @@ impl Blocks {
         Ok(file)
     }
 
-    /// Gives the memory of the blocks back, each on a thread of its own.
+    /// Drops the blocks, each on a thread of its own.
     pub fn let_go<R: Threads + Sync>(self, rt: &R) {
         let Blocks { pieces, .. } = self;
         drop_each(rt, pieces);

@@ -1,5 +1,5 @@
 -- Tables and numbers collected shard by shard.
-use Rattle.std.proofs.Common.{◌≡◌, ◌∙◌, ◌+◌, ◌-◌, ◌*◌, ◌<◌, ◌≤◌, Global, Vec, Ok, ℕ, zero, suc, List, [], ◌∷◌, ◌++◌, length, map, drop, get_or, sym, ap, flat_map, refl, subst, vec_items, arith, inl, inr, length-append}
+use Rattle.std.proofs.Common.{◌≡◌, ◌∙◌, ◌+◌, ◌-◌, ◌*◌, ◌<◌, Global, Vec, Ok, ℕ, suc, List, [], ◌∷◌, ◌++◌, length, map, get_or, sym, ap, flat_map, refl, subst, vec_items, arith, inl, inr, length-append}
 use Rattle.std.specs.Prelude.{IfOk, Result}
 use Rattle.std.proofs.lemmas.Bool.{cases_lt}
 use Rattle.std.proofs.lemmas.List.{get_or-map, get_or_append_left, get_or-append_right, length-map}

@@ -57,7 +57,7 @@ impl<'a> DealtKey<'a> {
     {
         match &self.lies {
             Lies::Here(copy) => table.number_short(copy),
-            Lies::There(key) => table.number(key),
+            Lies::There(key) => table.intern(key),
         }
     }
 }

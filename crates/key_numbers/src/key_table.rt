@@ -122,7 +122,7 @@ impl KeyTable {
     }
 
     /// Interns a key: returns its number, a new one if the key is new.
-    pub fn number(&mut self, key: &[u8]) -> Result<u32, Memory>
+    pub fn intern(&mut self, key: &[u8]) -> Result<u32, Memory>
         requires { length self.old < MOST_RECORDS }
         ensures ok { IfOk result (λ n. (n ≡ id_of self.old key.now)
             × (self.new ≡ with_key self.old key.now)) }

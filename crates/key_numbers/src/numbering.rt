@@ -2,7 +2,7 @@
 
 ghost use Rattle.std.specs.Prelude.{◌≡◌, ◌≤◌, ◌<◌, ◌+◌, ◌*◌, ◌++◌, ℕ, [], List, IfOk, OnOk, flat_map, length, map, replicate, slice_index_or, slice_set, vec_items, vec_len};
 ghost use Rattle.key_numbers.specs.Keys.{distinct, id_of, lent_lists};
-ghost use Rattle.key_numbers.specs.Private.Sharded.{AreDealt, AreFrom, AreGlobal, AreLocals, AreNumberedFrom, AreNumberedIn, AreOrdered, ArePassed, AreReadable, AreTables, is_first, shard_of, with_first, with_first_at, with_keys};
+ghost use Rattle.key_numbers.specs.Private.Sharded.{AreDealt, AreFrom, AreGlobal, AreLocals, AreNumberedFrom, AreNumberedIn, AreOrdered, ArePassed, AreReadable, AreTables, is_first, keys_in, locals_in, shard_by, shard_of, with_first, with_first_at, with_keys};
 
 use crate::dealing::{Dealt, PIECES, all_shards, deal_lists};
 use crate::dealt_key::DealtKey;
@@ -55,12 +55,16 @@ pub fn number_keys<R: Threads + Sync, T: Send + Drop, F: FnOnce() -> T + Send + 
     let shards = all_shards(alloc, hasher, lists, &dealt)?;
     let found = number_shards(rt, alloc, hasher, lists, &dealt, room)?;
     let (tables, locals) = tables_of(alloc, hasher, lists, found)?;
-    let (walked, zeros, other) = walk_beside(
-        rt, alloc, hasher, lists, dealt, &shards, &tables, &locals, beside,
-    );
+    let records = ShardedRecords {
+        hasher,
+        lists,
+        shards: &shards,
+        locals: &locals,
+    };
+    let (walked, zeros, other) = walk_beside(rt, alloc, &records, dealt, &tables, beside);
     let (ids, order) = walked?;
     let mut numbers = zeros?;
-    read_pieces(rt, hasher, lists, &shards, &locals, &ids, &mut numbers);
+    read_pieces(rt, &records, &ids, &mut numbers);
     let numbered = NumberedKeys {
         tables,
         ids,
@@ -274,26 +278,37 @@ fn push_first(ids: &mut Vec<u32>, local: u32, next: u32) -> Result<bool, Memory>
     Ok(first)
 }
 
+/// Records that are interned in their shards.
+#[derive(Clone, Copy)]
+pub struct ShardedRecords<'a> {
+    /// What decides the shard of a key.
+    pub hasher: KeyHash,
+    /// The keys of the records, in lists.
+    pub lists: &'a [&'a [&'a [u8]]],
+    /// The shard of each record, one list after another.
+    pub shards: &'a [u8],
+    /// The numbers in each shard of its records.
+    pub locals: &'a [Vec<u32>],
+}
+
 /// The key numbers of each shard, and the shard and the number there of each key.
 fn walk(
     alloc: Global,
-    hasher: KeyHash,
-    lists: &[&[&[u8]]],
-    shards: &[u8],
+    records: &ShardedRecords<'_>,
     tables: &[KeyTable],
-    locals: &[Vec<u32>],
 ) -> Result<(Vec<Vec<u32>>, Vec<KeyAt>), Memory>
-    requires few { length (lent_lists lists.now) ≤ MOST_RECORDS }
-    requires shards { shards.now ≡ map (shard_of hasher) (lent_lists lists.now) }
+    requires few { length (keys_in records.now) ≤ MOST_RECORDS }
+    requires shards { records.now.shards.now ≡ map (shard_by records.now) (keys_in records.now) }
     requires tables { length tables.now ≡ SHARDS }
-    requires locals { AreLocals (shard_of hasher) SHARDS (lent_lists lists.now)
-        (map vec_items locals.now) }
+    requires locals { AreLocals (shard_by records.now) SHARDS (keys_in records.now)
+        (locals_in records.now) }
     ensures len { IfOk result (λ w. vec_len w.0 ≡ SHARDS) }
     ensures ids { IfOk result (λ w.
-        AreGlobal (shard_of hasher) (lent_lists lists.now) (map vec_items w.0.items)) }
-    ensures order { IfOk result (λ w. AreOrdered (shard_of hasher) (lent_lists lists.now)
-        (distinct (lent_lists lists.now)) SHARDS w.1.items) }
+        AreGlobal (shard_by records.now) (keys_in records.now) (map vec_items w.0.items)) }
+    ensures order { IfOk result (λ w. AreOrdered (shard_by records.now) (keys_in records.now)
+        (distinct (keys_in records.now)) SHARDS w.1.items) }
 {
+    let ShardedRecords { shards, locals, .. } = *records;
     let mut ids = no_ids(alloc, tables)?;
     let mut order = Vec::with_capacity(alloc, keys_of(tables))?;
     let mut met = [0; SHARDS as usize];
@@ -311,40 +326,43 @@ fn walk(
 fn walk_beside<R: Threads + Sync, T: Send, F: FnOnce() -> T + Send>(
     rt: &R,
     alloc: Global,
-    hasher: KeyHash,
-    lists: &[&[&[u8]]],
+    records: &ShardedRecords<'_>,
     dealt: Vec<Dealt<'_>>,
-    shards: &[u8],
     tables: &[KeyTable],
-    locals: &[Vec<u32>],
     beside: F,
 ) -> (
     Result<(Vec<Vec<u32>>, Vec<KeyAt>), Memory>,
     Result<Vec<u32>, Memory>,
     T,
 )
-    requires few { length (lent_lists lists.now) ≤ MOST_RECORDS }
-    requires shards { shards.now ≡ map (shard_of hasher) (lent_lists lists.now) }
+    requires few { length (keys_in records.now) ≤ MOST_RECORDS }
+    requires shards { records.now.shards.now ≡ map (shard_by records.now) (keys_in records.now) }
     requires tables { length tables.now ≡ SHARDS }
-    requires locals { AreLocals (shard_of hasher) SHARDS (lent_lists lists.now)
-        (map vec_items locals.now) }
+    requires locals { AreLocals (shard_by records.now) SHARDS (keys_in records.now)
+        (locals_in records.now) }
     requires beside { F.pre beside }
     ensures len { IfOk result.0 (λ w. vec_len w.0 ≡ SHARDS) }
     ensures ids { IfOk result.0 (λ w.
-        AreGlobal (shard_of hasher) (lent_lists lists.now) (map vec_items w.0.items)) }
-    ensures order { IfOk result.0 (λ w. AreOrdered (shard_of hasher) (lent_lists lists.now)
-        (distinct (lent_lists lists.now)) SHARDS w.1.items) }
-    ensures zeros { IfOk result.1 (λ zeros. length zeros.items ≡ length (lent_lists lists.now)) }
+        AreGlobal (shard_by records.now) (keys_in records.now) (map vec_items w.0.items)) }
+    ensures order { IfOk result.0 (λ w. AreOrdered (shard_by records.now) (keys_in records.now)
+        (distinct (keys_in records.now)) SHARDS w.1.items) }
+    ensures zeros { IfOk result.1 (λ zeros. length zeros.items ≡ length (keys_in records.now)) }
     ensures beside { F.post beside result.2 }
 {
-    let records = shards.len();
+    let ShardedRecords {
+        hasher,
+        lists,
+        shards,
+        locals,
+    } = *records;
+    let len = shards.len();
     let ((zeros, other), walked) = thread::join(
         rt,
         move || -> (Result<Vec<u32>, Memory>, T)
             requires { F.pre beside }
-            ensures { IfOk result.0 (λ zeros. length zeros.items ≡ records)
+            ensures { IfOk result.0 (λ zeros. length zeros.items ≡ len)
                 × F.post beside result.1 }
-        { (zeros_after(alloc, dealt, records), beside()) },
+        { (zeros_after(alloc, dealt, len), beside()) },
         || -> Result<(Vec<Vec<u32>>, Vec<KeyAt>), Memory>
             requires { (length (lent_lists lists.now) ≤ MOST_RECORDS)
                 × (shards.now ≡ map (shard_of hasher) (lent_lists lists.now))
@@ -355,7 +373,15 @@ fn walk_beside<R: Threads + Sync, T: Send, F: FnOnce() -> T + Send>(
                 × AreGlobal (shard_of hasher) (lent_lists lists.entry.now) (map vec_items w.0.items)
                 × AreOrdered (shard_of hasher) (lent_lists lists.entry.now)
                 (distinct (lent_lists lists.entry.now)) SHARDS w.1.items) }
-        { walk(alloc, hasher, lists, shards, tables, locals) },
+        {
+            let records = ShardedRecords {
+                hasher,
+                lists,
+                shards,
+                locals,
+            };
+            walk(alloc, &records, tables)
+        },
     );
     (walked, zeros, other)
 }
@@ -393,48 +419,43 @@ fn keys_of(tables: &[KeyTable]) -> usize {
 /// Fills in the key numbers of the records, in slices and in parallel.
 fn read_pieces<R: Threads + Sync>(
     rt: &R,
-    hasher: KeyHash,
-    lists: &[&[&[u8]]],
-    shards: &[u8],
-    locals: &[Vec<u32>],
+    records: &ShardedRecords<'_>,
     ids: &[Vec<u32>],
     numbers: &mut [u32],
 )
-    requires length { length numbers.old ≡ length (lent_lists lists.now) }
-    requires readable { AreReadable (shard_of hasher) (lent_lists lists.now) shards.now
-        (map vec_items locals.now) (map vec_items ids.now) }
-    ensures { numbers.new ≡ map (id_of (distinct (lent_lists lists.now))) (lent_lists lists.now) }
+    requires length { length numbers.old ≡ length (keys_in records.now) }
+    requires readable { AreReadable (shard_by records.now) (keys_in records.now)
+        records.now.shards.now (locals_in records.now) (map vec_items ids.now) }
+    ensures { numbers.new ≡ map (id_of (distinct (keys_in records.now))) (keys_in records.now) }
 {
     thread::for_each_chunk_mut(
         rt,
         numbers,
-        shards.len() / PIECES + 1,
+        records.shards.len() / PIECES + 1,
         &|from: usize, piece: &mut [u32]|
-            requires { (from + length piece.now ≤ length (lent_lists lists.now))
-                × AreReadable (shard_of hasher) (lent_lists lists.now) shards.now
-                (map vec_items locals.now) (map vec_items ids.now) }
-            ensures { AreFrom (id_of (distinct (lent_lists lists.entry.now)))
-                (lent_lists lists.entry.now) from (length piece.entry.now) piece.exit.now }
-        { read_numbers(from, hasher, lists, shards, locals, ids, piece) },
+            requires { (from + length piece.now ≤ length (keys_in records.now))
+                × AreReadable (shard_by records.now) (keys_in records.now) records.now.shards.now
+                (locals_in records.now) (map vec_items ids.now) }
+            ensures { AreFrom (id_of (distinct (keys_in records.entry.now)))
+                (keys_in records.entry.now) from (length piece.entry.now) piece.exit.now }
+        { read_numbers(from, records, ids, piece) },
     );
 }
 
 /// Fills in the key numbers of the records from this index on.
-fn read_numbers(
-    from: usize,
-    hasher: KeyHash,
-    lists: &[&[&[u8]]],
-    shards: &[u8],
-    locals: &[Vec<u32>],
-    ids: &[Vec<u32>],
-    numbers: &mut [u32],
-)
-    requires range { from + length numbers.old ≤ length (lent_lists lists.now) }
-    requires readable { AreReadable (shard_of hasher) (lent_lists lists.now) shards.now
-        (map vec_items locals.now) (map vec_items ids.now) }
-    ensures { AreFrom (id_of (distinct (lent_lists lists.now))) (lent_lists lists.now) from
+fn read_numbers(from: usize, records: &ShardedRecords<'_>, ids: &[Vec<u32>], numbers: &mut [u32])
+    requires range { from + length numbers.old ≤ length (keys_in records.now) }
+    requires readable { AreReadable (shard_by records.now) (keys_in records.now)
+        records.now.shards.now (locals_in records.now) (map vec_items ids.now) }
+    ensures { AreFrom (id_of (distinct (keys_in records.now))) (keys_in records.now) from
         (length numbers.old) numbers.new }
 {
+    let ShardedRecords {
+        hasher,
+        lists,
+        shards,
+        locals,
+    } = *records;
     let mut met = met_before(from, hasher, lists, shards);
     for k in 0..numbers.len() {
         let shard = shards[from + k] as usize;

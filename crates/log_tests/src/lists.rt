@@ -10,8 +10,8 @@ use std::random::RandomSource;
 use std::test::Fail;
 use std::thread::Threads;
 
-/// Adds the keys of this many records: each key of a period occurs several times in a row, and every
-/// third is too long to be stored inline.
+/// Adds the keys of this many records: each key of a period occurs several times in a row, and
+/// every third is too long to be stored inline.
 fn push_keys(list: &mut KeyList, records: u32, each: u32, period: u32) -> Result<(), Memory>
     requires each { 0 < each }
     requires period { 0 < period }

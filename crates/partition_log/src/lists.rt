@@ -49,7 +49,7 @@ impl Logs {
         self.append_each(rt, lists)
     }
 
-    /// Gives the memory of the logs back, that of many keys on several threads.
+    /// Drops the logs, many keys on several threads.
     pub fn let_go<R: Threads + Sync>(self, rt: &R) {
         let Logs { keys, .. } = self;
         keys.let_go(rt);
@@ -66,8 +66,8 @@ impl Logs {
         self.keys.count() == 0 && records >= LEAST_KEYS && records <= MOST_RECORDS as usize
     }
 
-    /// Appends records of the keys of these lists, all of them or none, and tells whether it did: it
-    /// does not where one is too long. Refused for want of memory.
+    /// Appends records of the keys of these lists, all of them or none, and returns whether it did:
+    /// it does not if a key is too long. Fails only if memory runs out.
     fn append_coded<R: Threads + Sync>(&mut self, rt: &R, lists: &[KeyList]) -> Result<bool, Memory>
         requires none { length self.old.keys ≡ 0 }
         requires some { 0 < length (joined lists.now) }
@@ -112,8 +112,8 @@ impl Logs {
         Ok(())
     }
 
-    /// The partition in the first topic of each key of these lists, one list after another, those of
-    /// each list computed side by side. Refused for want of memory.
+    /// The partition in the first topic of each key of these lists, one list after another, those
+    /// of each list computed in parallel. Fails only if memory runs out.
     fn places_of_lists<R: Threads + Sync>(
         &self,
         rt: &R,

@@ -2,7 +2,7 @@
 use Rattle.std.specs.Prelude.{◌≡◌, ◌<◌, ◌≤◌, ◌+◌, ◌*◌, ◌/◌, ◌==◌, ◌%◌, ◌^◌, ℕ, IfOk, List, Result, [], ◌∷◌, ◌++◌, All, Bool, filter, fold, length, map, min, if◌then◌else◌, slice_index_or, take, vec_items}
 use Rattle.lane_words.specs.declared.limits.TheConstants.{MOST_RECORDS}
 use Rattle.std.specs.Borrow.{Bor}
-use Rattle.key_numbers.specs.Keys.{Key, distinct, id_of, key_at, lent, with_key}
+use Rattle.key_numbers.specs.Keys.{Key, distinct, id_of, key_at, lent, lent_lists, with_key}
 use Rattle.key_numbers.specs.Private.KeyHash.{hash_of}
 use Rattle.key_numbers.specs.declared.key_hash.KeyHash.{KeyHash}
 use Rattle.key_numbers.specs.declared.dealing.TheConstants.{PIECES}
@@ -10,6 +10,7 @@ use Rattle.key_numbers.specs.declared.dealing.Dealt.{Dealt}
 use Rattle.key_numbers.specs.declared.shards.TheConstants.{SHARDS}
 use Rattle.key_numbers.specs.declared.shards.KeyAt.{KeyAt}
 use Rattle.key_numbers.specs.declared.numbering.NumberedShard.{NumberedShard}
+use Rattle.key_numbers.specs.declared.numbering.ShardedRecords.{ShardedRecords}
 
 -- the shard of a key, from some bits of its hash
 unfoldable pub shard_of : KeyHash → Key → ℕ
@@ -100,6 +101,18 @@ pub record AreLocals (shard : Key → ℕ) (count : ℕ) (keys : List Key) (loca
 -- the key at a location
 abbrev pub key_there : List (List Key) → KeyAt → Key
 key_there tables at = key_at (slice_index_or tables at.shard []) at.number
+
+-- the keys of records, one list after another
+abbrev pub keys_in : ShardedRecords → List Key
+keys_in records = lent_lists records.lists.now
+
+-- the shard of each key
+abbrev pub shard_by : ShardedRecords → Key → ℕ
+shard_by records = shard_of records.hasher
+
+-- the numbers in each shard of its records
+abbrev pub locals_in : ShardedRecords → List (List ℕ)
+locals_in records = map vec_items records.locals.now
 
 -- the number of records of each shard among the first i records
 pub record ArePassed (shard : Key → ℕ) (count : ℕ) (keys : List Key) (i : ℕ) (met : List ℕ)
