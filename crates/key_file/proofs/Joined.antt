@@ -1,5 +1,5 @@
 -- The keys of a file from those of its pieces.
-use Rattle.std.proofs.Common.{◌≡◌, ◌<◌, ◌≤◌, ◌+◌, ◌∙◌, ℕ, List, [], ◌∷◌, ◌++◌, Bool, true, false, Result, Ok, Err, length, get_or, drop, sym, ap, refl, inl, inr, arith}
+use Rattle.std.proofs.Common.{◌≡◌, ◌<◌, ◌≤◌, ◌+◌, ◌∙◌, ℕ, List, [], ◌∷◌, ◌++◌, Bool, true, false, Result, Ok, Err, length, get_or, sym, ap, refl, inl, inr, arith}
 use Rattle.lane_words.specs.Answers.{Answers}
 use Rattle.std.specs.Prelude.{◌⊎◌, suc, zero}
 use Rattle.lane_words.specs.declared.Refusal.{Refusal}
@@ -27,23 +27,6 @@ count_of wanted false width rows keys b e =
 count_of wanted true width rows keys b e =
     let n = keys_from-count wanted (length b.0) 2 b.1 keys (rw b.2 at e) in
     rw b.2 (omega (arith, n))
-
--- the next of the elements that are left
-pub drop_next : {X : Type 0} (xs rest : List X) (n : ℕ) (x : X) → drop n xs ≡ x ∷ rest → (n < length xs) × (get_or xs n x ≡ x) × (rest ≡ drop (n + 1) xs)
-drop_next [] rest zero x e = cc e
-drop_next [] rest (suc n) x e = cc e
-drop_next (y ∷ xs) rest zero x e = (omega arith, cc e, cc e)
-drop_next (y ∷ xs) rest (suc n) x e =
-    let more = drop_next xs rest n x e in
-    let up : suc n + 1 ≡ suc (n + 1) = omega arith in
-    (omega (arith, more.0), more.1, more.2 ∙ rw up refl)
-
--- where none is left
-pub drop_last : {X : Type 0} (xs : List X) (n : ℕ) → n ≤ length xs → length (drop n xs) ≡ 0 → n ≡ length xs
-drop_last [] zero h e = refl
-drop_last [] (suc n) h e = absurd (omega arith)
-drop_last (y ∷ xs) zero h e = absurd (omega (arith, e))
-drop_last (y ∷ xs) (suc n) h e = ap suc (drop_last xs n (omega arith) e)
 
 -- an answer that is no want of memory
 pub answer_ok : (expected : Result (List (List ℕ)) Refusal) (answer : Result (List (List ℕ)) Refusal) (keys : List (List ℕ)) → Answers expected answer → answer ≡ Ok keys → expected ≡ Ok keys

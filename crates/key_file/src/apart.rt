@@ -17,26 +17,24 @@ use crate::topic_keys::TopicKeys;
 use crate::wanted::Wanted;
 use key_lists::KeyList;
 use lane_words::{Memory, Refusal};
+use parallel::LEAST_BYTES;
 use std::alloc::Global;
 use std::hash::RandomState;
 use std::random::RandomSource;
 use std::thread;
 use std::thread::Threads;
 
-/// How many bytes a piece has at least, so that it is worth the start of a thread.
-const LEAST_PIECE: usize = 1 << 20;
-
 /// How many pieces a file of this length is read in: one for each processor, unless a piece is then
 /// too short. Where it can't be told how many processors there are, it is one piece.
 pub fn pieces_for(rt: &impl Threads, len: usize) -> usize
     ensures some { 1 ≤ result }
-    ensures alone { len < LEAST_PIECE → result ≡ 1 }
+    ensures alone { len < LEAST_BYTES → result ≡ 1 }
 {
     let processors = match thread::available_parallelism(rt) {
         Ok(count) => count.get(),
         Err(_) => 1,
     };
-    processors.min(len / LEAST_PIECE).max(1)
+    processors.min(len / LEAST_BYTES).max(1)
 }
 
 /// The first of some pieces that has a record, and how many fields its first record has.
@@ -121,7 +119,7 @@ fn keys_apart<R: Threads + Sync>(
 /// What the keys of a file of this length are looked up by: nothing where it is short, since its
 /// keys are few then, or where the random source fails.
 fn hasher_for(rt: &impl RandomSource, len: usize) -> Option<RandomState> {
-    if len < LEAST_PIECE {
+    if len < LEAST_BYTES {
         None
     } else {
         RandomState::new(rt).ok()

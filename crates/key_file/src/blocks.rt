@@ -6,9 +6,9 @@ ghost use Rattle.key_file.specs.Private.Pieces.{bytes_of, lent};
 
 use crate::cuts::{cut_behind, pieces_of};
 use lane_words::Memory;
+use parallel::drop_each;
 use std::alloc::Global;
 use std::marker::Model;
-use std::thread;
 use std::thread::Threads;
 
 /// A piece of a file: a block from a place on, and what was added behind it.
@@ -138,11 +138,10 @@ impl Blocks {
         Ok(file)
     }
 
-    /// Gives the memory of the blocks back, each on a thread of its own.
+    /// Drops the blocks, each on a thread of its own.
     pub fn let_go<R: Threads + Sync>(self, rt: &R) {
         let Blocks { pieces, .. } = self;
-        // Where memory is refused, what is left goes with the list.
-        let _ = thread::map_vec(rt, pieces, &|piece: Piece| drop(piece));
+        drop_each(rt, pieces);
     }
 
     /// The bytes of each piece; of a file in a single block, of at most so many pieces of it.

@@ -4,8 +4,8 @@ ghost use Rattle.std.specs.Prelude.{◌≡◌, ◌<◌, [], ℕ, All, IfOk, leng
 ghost use Rattle.key_lists.specs.Lists.{AreCoded, IsCoded, TellsLongest};
 
 use crate::key_list::KeyList;
-use key_numbers::collected;
 use lane_words::Memory;
+use parallel::collected;
 use std::alloc::Global;
 use std::thread;
 use std::thread::Threads;

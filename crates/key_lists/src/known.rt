@@ -148,7 +148,7 @@ fn look_up(table: &mut KeyTable, key: &[u8], grows: bool) -> Result<Option<u32>,
     ensures err { OnErr result (table.new ≡ table.old) }
 {
     if grows && table.count() < MOST_KNOWN {
-        let code = table.number(key)?;
+        let code = table.intern(key)?;
         return Ok(Some(code));
     }
     table.find(key)

@@ -24,7 +24,7 @@ is_new ks n apart lt =
 pub next_copied : (ks : List Key) (n : ℕ) → IsWithoutRepeats ks → n < length ks → with_key (take n ks) (key_at ks n) ≡ take (n + 1) ks
 next_copied ks n apart lt = let new = is_new ks n apart lt in rw new (sym (take_more ks n [] lt))
 
--- what the copies of some values show, with the next one
+-- what copies of some values look like, with the next one
 pub next_shown : {A B : Type 0} (f : A → B) (xs ys : List A) (i : ℕ) (x y : A) → i < length xs → x ≡ get_or xs i x → f y ≡ f x → map f ys ≡ take i (map f xs) → map f (ys ++ y ∷ []) ≡ take (i + 1) (map f xs)
 next_shown f xs ys i x y lt read same done =
     let long : i < length (map f xs) = omega (arith, length-map xs f, lt) in

@@ -1,4 +1,4 @@
--- Keys that are dealt to their shards, and shards that are numbered row by row.
+-- Keys scattered to their shards, and shards interned row by row.
 use Rattle.std.proofs.Common.{◌≡◌, ◌∙◌, ◌+◌, ◌-◌, ◌<◌, ◌≤◌, ℕ, zero, suc, Bool, List, [], ◌∷◌, ◌++◌, Bor, Result, Ok, length, map, take, drop, get_or, replicate, sym, ap, ap₂, refl, subst, arith, inl, inr, append_assoc, length-append, length-drop, length-take-le, get_or-set_same, get_or-set_other}
 use Rattle.std.specs.Prelude.{◌==◌, IfOk, slice_range, slice_set}
 use Rattle.std.specs.List.{fold}
@@ -42,7 +42,7 @@ dealt-more shard count keys i rows s lt at below so =
       ];
     }
 
--- the keys of a row keep their numbers, whatever is added behind them
+-- the keys of a row keep their numbers, whatever is appended
 ids-stay : (ks ys zs : List Key) → map (id_of (fold with_key (fold with_key ks ys) zs)) ys ≡ map (id_of (fold with_key ks ys)) ys
 ids-stay ks [] zs = refl
 ids-stay ks (y ∷ ys) zs =
@@ -60,7 +60,7 @@ number-next ks row k lt =
     ap (λ xs. id_of (with_keys ks xs) x) seam ∙ ap (λ ws. id_of ws x) (fold-append with_key ks (take k row) (x ∷ behind))
     ∙ (stays (with_key before x) behind x (own before x).0).1 ∙ (own before x).1
 
--- the keys of lists, parted at one of them
+-- the keys of lists, split at one of them
 pub lists-more : (lists : List (Bor (List (Bor Key)))) (i : ℕ) (e : Bor (List (Bor Key))) → i < length lists → lent_lists (take (i + 1) lists) ≡ lent_lists (take i lists) ++ lent (get_or lists i e).now
 lists-more lists i e lt =
     let own : Bor (List (Bor Key)) → List Key = λ list. lent list.now in
@@ -92,14 +92,14 @@ row-numbered shard s keys xs ys zs table locals seam so =
       locals_of = ap₂ (λ ms ns. ms ++ ns) so.locals_of (sym numbers) ∙ sym (map-append f before row) ∙ ap (map f) (sym more);
     }
 
--- there is room for the keys of a row
+-- there is capacity for the keys of a row
 pub row-room : (shard : Key → ℕ) (s : ℕ) (keys xs ys zs : List Key) (table : List Key) (locals : List ℕ) → keys ≡ (xs ++ ys) ++ zs → IsNumberedTo shard s keys xs table locals
     → length table + length (of_shard shard s ys) ≤ length keys
 row-room shard s keys xs ys zs table locals seam so =
     let p : Key → Bool = λ k. shard k == s in
     omega (arith, ap length so.keys_of, few-distinct (of_shard shard s xs), few-filtered p xs, few-filtered p ys, ap length seam, length-append (xs ++ ys) zs, length-append xs ys)
 
--- lists of which each was dealt by a thread of its own
+-- lists each scattered by a thread of its own
 pub found-dealt : (shard : Key → ℕ) (lists : List (Bor (List (Bor Key)))) (found : List (Result Dealt Memory)) (dealt : List Dealt) → found ≡ map Ok dealt → length found ≡ length lists
     → ((i : ℕ) (d : Result Dealt Memory) (e : Bor (List (Bor Key))) → i < length lists → IfOk (get_or found i d) (IsDealt shard (lent (get_or lists i e).now))) → AreDealt shard lists dealt
 found-dealt shard lists found dealt is as_many each =
@@ -118,17 +118,17 @@ take-parted keys from to ordered within =
     sym (take-append-drop from keys) ∙ ap (λ ks. take from keys ++ ks) (drop_split keys from to ordered) ∙ sym (append_assoc (take from keys) own (drop to keys)) in
     ap (take to) seam ∙ take_at (take from keys ++ own) (drop to keys) to long
 
--- the pieces of keys, with one more
+-- the slices of keys, with one more
 pub more-pieces : (keys : List Key) (p : ℕ) → take (start_of (p + 1) keys) keys ≡ take (start_of p keys) keys ++ slice_range keys (start_of p keys) (start_of (p + 1) keys)
 more-pieces keys p = take-parted keys (start_of p keys) (start_of (p + 1) keys) (omega arith) (omega arith)
 
--- no key is before the first piece, and none behind the last
+-- no key is before the first slice, and none after the last
 pub no-pieces : (keys : List Key) → start_of 0 keys ≡ 0
 no-pieces keys = omega arith
 
 pub all-pieces : (keys : List Key) → length keys ≤ start_of PIECES keys
 all-pieces keys = omega arith
 
--- a piece of what a function gives
+-- a slice of what a function gives
 pub piece-map : {X Y : Type 0} (f : X → Y) (xs : List X) (from to : ℕ) → map f (slice_range xs from to) ≡ slice_range (map f xs) from to
 piece-map f xs from to = sym (take-map f (to - from) (drop from xs)) ∙ ap (take (to - from)) (sym (drop-map f from xs))

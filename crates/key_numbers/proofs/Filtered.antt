@@ -1,4 +1,4 @@
--- The keys of one shard without repeats.
+-- The distinct keys of one shard.
 use Rattle.std.proofs.Common.{◌≡◌, ◌∙◌, Bool, true, false, List, [], ◌∷◌, ◌++◌, sym, ap, refl, inl, inr}
 use Rattle.std.specs.Prelude.{if◌then◌else◌, ◌||◌, filter}
 use Rattle.std.specs.List.{fold}
@@ -9,11 +9,11 @@ use Rattle.std.proofs.lemmas.List.Elements.{filter-append}
 use Rattle.std.proofs.lemmas.Slice.Eq.{bytes_eq-Decides}
 use Rattle.key_numbers.specs.Keys.{Key, distinct, is_known, with_key}
 
--- a key that does not pass is not one that does
+-- a key that fails the filter differs from one that passes
 differs : (p : Key → Bool) (x y : Key) → p x ≡ true → p y ≡ false → bytes_eq x y ≡ false
 differs p x y px py = false_from_ne_true (bytes_eq x y) (λ e. both_ways (p x) (ap p ((bytes_eq-Decides x y).0 e) ∙ py) px)
 
--- a key that passes is known among all keys where it is known among those that pass
+-- a key that passes is interned among all keys if and only if it is among those that pass
 pub known-filter : (p : Key → Bool) (x : Key) → p x ≡ true → (ks : List Key) → is_known (filter p ks) x ≡ is_known ks x
 known-filter p x px [] = refl
 known-filter p x px (y ∷ ks) =
@@ -52,7 +52,7 @@ added p old (x ∷ keys) =
       | inr px ↦ added p (with_key old x) keys ∙ rw px (ap (λ ks. fold with_key ks (filter p keys)) (with_key-dropped p old x px))
     ]
 
--- the keys without repeats that pass are those that pass, without repeats
+-- the distinct keys that pass are the distinct of those that pass
 pub filter-distinct : (p : Key → Bool) (keys : List Key) → filter p (distinct keys) ≡ distinct (filter p keys)
 unfolding distinct
 filter-distinct p keys = added p [] keys

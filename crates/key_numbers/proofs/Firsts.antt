@@ -12,7 +12,7 @@ use Rattle.key_numbers.specs.Private.Sharded.{of_shard}
 use Rattle.key_numbers.proofs.Growth.{fresh, grows, known}
 use Rattle.key_numbers.proofs.Filtered.{filter-distinct, known-filter}
 
--- keys that are added behind change nothing of a known key
+-- keys appended at the end do not affect an interned key
 pub known-append : (ks zs : List Key) (x : Key) → is_known ks x ≡ true → (is_known (ks ++ zs) x ≡ true) × (id_of (ks ++ zs) x ≡ id_of ks x)
 known-append [] zs x h = absurd (cc h)
 known-append (k ∷ ks) zs x h =
@@ -35,7 +35,7 @@ new-last (k ∷ ks) x h =
           rw e (there.0, ap (λ n. 1 + n) there.1)
     ]
 
--- an added key is known, by the number that it had or got
+-- an added key is interned, with the number that it had or got
 own-at : (b : Bool) (ks : List Key) (x : Key) → is_known ks x ≡ b → (let ws = if b then ks else ks ++ x ∷ [] in (is_known ws x ≡ true) × (id_of ws x ≡ id_of ks x))
 own-at true ks x e = (e, refl)
 own-at false ks x e = new-last ks x e
@@ -47,7 +47,7 @@ stays-at : (b : Bool) (ks : List Key) (x y : Key) → is_known ks x ≡ true →
 stays-at true ks x y h = (h, refl)
 stays-at false ks x y h = known-append ks (y ∷ []) x h
 
--- a known key stays known and keeps its number
+-- an interned key stays interned and keeps its number
 pub stays : (ks zs : List Key) (x : Key) → is_known ks x ≡ true → (is_known (fold with_key ks zs) x ≡ true) × (id_of (fold with_key ks zs) x ≡ id_of ks x)
 stays ks [] x h = (h, refl)
 stays ks (z ∷ zs) x h =
@@ -62,14 +62,14 @@ number-there xs ys x =
     let ks = distinct xs in
     ap (λ ws. id_of ws x) (fold-append with_key [] xs (x ∷ ys)) ∙ (stays (with_key ks x) ys x (own ks x).0).1 ∙ (own ks x).1
 
--- the key of a record is known
+-- the key of a record is interned
 pub known-there : (xs ys : List Key) (x : Key) → is_known (distinct (xs ++ x ∷ ys)) x ≡ true
 unfolding distinct
 known-there xs ys x =
     let ks = distinct xs in
     ap (λ ws. is_known ws x) (fold-append with_key [] xs (x ∷ ys)) ∙ (stays (with_key ks x) ys x (own ks x).0).0
 
--- a key is new exactly where its number is how many keys there are
+-- a key is new if and only if its number is the number of keys
 pub new_is_next : (ks : List Key) (x : Key) → (id_of ks x ≡ length ks) ↔ (is_known ks x ≡ false)
 new_is_next ks x =
     elim (cases_Bool (is_known ks x)) [
@@ -77,7 +77,7 @@ new_is_next ks x =
       | inr e ↦ (λ h. e, λ f. fresh ks x e)
     ]
 
--- the same in the shard of the key, and for what is known among all keys
+-- the same in the key's shard, and for keys interned among all
 pub first_in_shard : (shard : Key → ℕ) (xs ys : List Key) (x : Key)
     → (id_of (distinct (of_shard shard (shard x) (xs ++ x ∷ ys))) x ≡ length (distinct (of_shard shard (shard x) xs))) ↔ (is_known (distinct xs) x ≡ false)
 first_in_shard shard xs ys x =

@@ -1,5 +1,5 @@
--- Tables and numbers that are collected shard by shard.
-use Rattle.std.proofs.Common.{◌≡◌, ◌∙◌, ◌+◌, ◌-◌, ◌*◌, ◌<◌, ◌≤◌, Global, Vec, Ok, ℕ, zero, suc, List, [], ◌∷◌, ◌++◌, length, map, drop, get_or, sym, ap, flat_map, refl, subst, vec_items, arith, inl, inr, length-append}
+-- Tables and numbers collected shard by shard.
+use Rattle.std.proofs.Common.{◌≡◌, ◌∙◌, ◌+◌, ◌-◌, ◌*◌, ◌<◌, Global, Vec, Ok, ℕ, suc, List, [], ◌∷◌, ◌++◌, length, map, get_or, sym, ap, flat_map, refl, subst, vec_items, arith, inl, inr, length-append}
 use Rattle.std.specs.Prelude.{IfOk, Result}
 use Rattle.std.proofs.lemmas.Bool.{cases_lt}
 use Rattle.std.proofs.lemmas.List.{get_or-map, get_or_append_left, get_or-append_right, length-map}
@@ -7,25 +7,7 @@ use Rattle.std.proofs.Math.Seq.{get_or-append_seam}
 use Rattle.key_numbers.specs.Keys.{Key, distinct, id_of}
 use Rattle.key_numbers.specs.Private.Sharded.{AreLocals, AreNumberedFrom, AreNumberedIn, AreTables, of_shard}
 use Rattle.key_numbers.specs.declared.numbering.NumberedShard.{NumberedShard}
-use Rattle.key_numbers.specs.declared.numbering.TheConstants.{OF_GROUP}
-use Rattle.key_numbers.specs.declared.shards.TheConstants.{SHARDS}
-
--- the next one
-pub drop_next : {X : Type 0} (xs rest : List X) (n : ℕ) (x : X) → drop n xs ≡ x ∷ rest → (n < length xs) × (get_or xs n x ≡ x) × (rest ≡ drop (n + 1) xs)
-drop_next [] rest zero x e = cc e
-drop_next [] rest (suc n) x e = cc e
-drop_next (y ∷ xs) rest zero x e = (omega arith, cc e, cc e)
-drop_next (y ∷ xs) rest (suc n) x e =
-    let more = drop_next xs rest n x e in
-    let up : suc n + 1 ≡ suc (n + 1) = omega arith in
-    (omega (arith, more.0), more.1, more.2 ∙ rw up refl)
-
--- where none is left
-pub drop_last : {X : Type 0} (xs : List X) (n : ℕ) → n ≤ length xs → length (drop n xs) ≡ 0 → n ≡ length xs
-drop_last [] zero h e = refl
-drop_last [] (suc n) h e = absurd (omega arith)
-drop_last (y ∷ xs) zero h e = absurd (omega (arith, e))
-drop_last (y ∷ xs) (suc n) h e = ap suc (drop_last xs n (omega arith) e)
+use Rattle.key_numbers.specs.declared.shards.TheConstants.{OF_GROUP, SHARDS}
 
 pub tables-none : (shard : Key → ℕ) (keys : List Key) → AreTables shard 0 keys []
 tables-none shard keys = record { each = refl; are = λ s lt. absurd (omega (arith, lt)) }
@@ -62,7 +44,7 @@ locals-more shard keys locals n m more up h is =
       ];
     }
 
--- numbered shards behind others
+-- interned shards appended to others
 numbered-joined : {E : Type 0} (shard : Key → ℕ) (keys : List Key) (from m n : ℕ) (front back : List (Result NumberedShard E)) → length front ≡ m → AreNumberedFrom shard keys from m front
     → AreNumberedFrom shard keys (from + m) n back → AreNumberedFrom shard keys from (m + n) (front ++ back)
 numbered-joined {E} shard keys from m n front back long a b = λ k d lt.
@@ -74,7 +56,7 @@ numbered-joined {E} shard keys from m n front back long a b = λ k d lt.
           subst (IsShard (from + k)) (sym (get_or-append_right front back m k d long high)) (subst (λ s. IsShard s (get_or back (k - m) d)) at (b (k - m) d (omega (arith, high, lt))))
     ]
 
--- numbered shards, with one more
+-- interned shards, with one more
 pub numbered-more : {E : Type 0} (shard : Key → ℕ) (keys : List Key) (from n : ℕ) (found : List (Result NumberedShard E)) (one : Result NumberedShard E) → length found ≡ n → AreNumberedFrom shard keys from n found
     → IfOk one (λ x. AreNumberedIn shard (from + n) keys x.table x.locals.items) → AreNumberedFrom shard keys from (n + 1) (found ++ one ∷ [])
 numbered-more {E} shard keys from n found one long before own = λ k d lt.
@@ -87,7 +69,7 @@ numbered-more {E} shard keys from n found one long before own = λ k d lt.
           subst (IsShard (from + k)) read (subst (λ i. IsShard (from + i) one) (sym long ∙ last) own)
     ]
 
--- groups of four numbered shards, one group after another
+-- the interned shards of groups, concatenated
 pub groups-numbered : {E : Type 0} (shard : Key → ℕ) (keys : List Key) (from : ℕ) (groups : List (Vec (Result NumberedShard E) Global))
     → ((g : ℕ) (d : Vec (Result NumberedShard E) Global) → g < length groups → (length (get_or groups g d).items ≡ OF_GROUP) × AreNumberedFrom shard keys (from + g * OF_GROUP) OF_GROUP (get_or groups g d).items)
     → (length (flat_map vec_items groups) ≡ length groups * OF_GROUP) × AreNumberedFrom shard keys from (length groups * OF_GROUP) (flat_map vec_items groups)
@@ -104,7 +86,7 @@ groups-numbered {E} shard keys from (x ∷ xs) h =
       subst (λ n. AreNumberedFrom shard keys from n (x.items ++ flat_map vec_items xs)) many (numbered-joined shard keys from OF_GROUP (length xs * OF_GROUP) x.items (flat_map vec_items xs) first.0 own rest.1),
     )
 
--- eight groups of which none was refused
+-- all groups, if memory was not refused
 pub all-groups : {E F : Type 0} (shard : Key → ℕ) (keys : List Key) (found : List (Result (Vec (Result NumberedShard E) Global) F)) (groups : List (Vec (Result NumberedShard E) Global)) → found ≡ map Ok groups → length found ≡ 8
     → ((g : ℕ) (d : Result (Vec (Result NumberedShard E) Global) F) → g < 8 → IfOk (get_or found g d) (λ group. (length group.items ≡ OF_GROUP) × AreNumberedFrom shard keys (g * OF_GROUP) OF_GROUP group.items))
     → (length (flat_map vec_items groups) ≡ SHARDS) × AreNumberedFrom shard keys 0 SHARDS (flat_map vec_items groups)

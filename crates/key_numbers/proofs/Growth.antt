@@ -18,7 +18,7 @@ known-at false x k ks e ih h =
     let there = ih h in
     rw next (omega (arith, there.0), there.1)
 
--- a known key stands at its number
+-- an interned key is at the index of its number
 pub known : (ks : List Key) (k : Key) → is_known ks k ≡ true → (id_of ks k < length ks) × (key_at ks (id_of ks k) ≡ k)
 known [] k h = absurd (cc h)
 known (x ∷ ks) k h = known-at (bytes_eq k x) x k ks refl (known ks k) h
@@ -36,13 +36,13 @@ or-right : (b rest : Bool) → rest ≡ true → (b || rest) ≡ true
 or-right true rest h = refl
 or-right false rest h = h
 
--- a key that stands somewhere is known
+-- a key at some index is interned
 pub among : (ks : List Key) (k : Key) (n : ℕ) → n < length ks → key_at ks n ≡ k → is_known ks k ≡ true
 among [] k n lt e = absurd (omega arith)
 among (x ∷ ks) k zero lt e = let same : bytes_eq k x ≡ true = (bytes_eq-Decides k x).1 (sym e) in rw same refl
 among (x ∷ ks) k (suc n) lt e = or-right (bytes_eq k x) (is_known ks k) (among ks k n (omega arith) e)
 
--- the keys with one more, where it was known and where it is new
+-- the keys with one more, whether it was interned or new
 pub record Grows (ks ws : List Key) (k : Key) (n : ℕ) : Type 0 where
   pub longer : length ks ≤ length ws
   pub by_one : length ws ≤ length ks + 1
@@ -102,6 +102,6 @@ apart-at false ks k e apart = λ (m n : ℕ) (m_in : m < length (ks ++ k ∷ [])
           ]
     ]
 
--- the keys with one more are without repeats
+-- the keys with one more are distinct
 pub stays_apart : (ks : List Key) (k : Key) → IsWithoutRepeats ks → IsWithoutRepeats (with_key ks k)
 stays_apart ks k apart = apart-at (is_known ks k) ks k refl apart

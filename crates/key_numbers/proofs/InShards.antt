@@ -1,4 +1,4 @@
--- Keys that are looked up in their shard.
+-- Keys looked up in their shards.
 use Rattle.std.proofs.Common.{◌≡◌, ◌∙◌, ℕ, Bool, true, List, [], map, get_or, sym, ap}
 use Rattle.std.specs.Prelude.{◌==◌}
 use Rattle.std.proofs.lemmas.Bool.{eq-eqb}
@@ -8,13 +8,13 @@ use Rattle.key_numbers.specs.Private.Sharded.{of_shard}
 use Rattle.key_numbers.proofs.Filtered.{known-filter}
 use Rattle.key_numbers.proofs.Growth.{known}
 
--- a key is known where its shard knows it
+-- a key is interned if and only if it is interned in its shard
 pub known-in_shard : (shard : Key → ℕ) (s : ℕ) (keys table : List Key) (key : Key) → s ≡ shard key → table ≡ of_shard shard s keys → is_known table key ≡ is_known keys key
 known-in_shard shard s keys table key at is =
     let goes : Key → Bool = λ k. shard k == s in
     ap (λ ks. is_known ks key) is ∙ known-filter goes key (eq-eqb (shard key) s (sym at)) keys
 
--- its key number stands at its number in the shard
+-- its key number is stored at its number in the shard
 pub id-in_shard : (shard : Key → ℕ) (s : ℕ) (keys table : List Key) (ids : List ℕ) (key : Key) (local : ℕ) → s ≡ shard key → table ≡ of_shard shard s keys → ids ≡ map (id_of keys) (of_shard shard s keys)
     → IsIdOf table key local → IsIdOf keys key (get_or ids local 0)
 id-in_shard shard s keys table ids key local at is are there =

@@ -1,4 +1,4 @@
--- Keys that follow others.
+-- Keys appended to others.
 use Rattle.std.proofs.Common.{◌≡◌, ◌∙◌, ◌+◌, true, false, List, [], ◌∷◌, ◌++◌, length, sym, refl, arith, inl, inr, append_assoc}
 use Rattle.std.specs.Str.{bytes_eq}
 use Rattle.std.proofs.lemmas.Bool.{cases_Bool}
@@ -17,7 +17,7 @@ behind (k ∷ ks) zs x h =
           rw e (there.0, omega (arith, there.1))
     ]
 
--- a new key is among neither
+-- a new key is in neither list
 pub new-in-both : (ks zs : List Key) (x : Key) → is_known (ks ++ zs) x ≡ false → (is_known ks x ≡ false) × (is_known zs x ≡ false)
 new-in-both ks zs x h =
     elim (cases_Bool (is_known ks x)) [
@@ -25,13 +25,13 @@ new-in-both ks zs x h =
       | inr e ↦ (e, sym (behind ks zs x e).0 ∙ h)
     ]
 
--- a new key behind the last ones
+-- a new key after the last ones
 pub added-behind : (ks zs : List Key) (x : Key) → is_known (ks ++ zs) x ≡ false → ks ++ with_key zs x ≡ with_key (ks ++ zs) x
 added-behind ks zs x h =
     let last : is_known zs x ≡ false = (new-in-both ks zs x h).1 in
     rw (h, last) (sym (append_assoc ks zs (x ∷ [])))
 
--- where there is no key at all, none is behind
+-- if there is no key at all, the second list is empty
 pub none-behind : (ks zs : List Key) → ks ++ zs ≡ [] → zs ≡ []
 none-behind [] zs e = e
 none-behind (k ∷ ks) zs e = absurd (cc e)

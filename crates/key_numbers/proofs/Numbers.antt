@@ -1,4 +1,4 @@
--- Keys that are stored as vectors, seen as lists.
+-- Keys stored as vectors, seen as lists.
 use Rattle.std.proofs.Common.{◌≡◌, ◌+◌, ℕ, Bool, true, false, List, [], ◌∷◌, ◌++◌, Some, None, length, map, ap, refl, cond}
 use Rattle.std.specs.Prelude.{if◌then◌else◌, ◌||◌, not, nat_lt, position}
 use Rattle.std.specs.List.{list_any, position_or_len, prefix_len}

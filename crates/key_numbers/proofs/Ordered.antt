@@ -1,4 +1,4 @@
--- Where the keys stand that a walk over records has met.
+-- The locations of the keys that have been assigned numbers.
 use Rattle.std.proofs.Common.{◌≡◌, ◌∙◌, ◌+◌, ◌<◌, ℕ, Bool, true, false, List, [], ◌∷◌, ◌++◌, length, take, drop, get_or, sym, ap, refl, subst, inl, inr, length-append}
 use Rattle.std.specs.Prelude.{◌==◌, All}
 use Rattle.std.proofs.lemmas.Bool.{cases_Bool, eq-eqb, ne_eqb, both_ways}
@@ -16,12 +16,12 @@ pub ordered-none : (shard : Key → ℕ) (all : List Key) (count : ℕ) → AreO
 unfolding distinct
 ordered-none shard all count = record { named = refl; there = All-nil _ }
 
--- a record of a known key changes nothing
+-- a record of an interned key changes nothing
 ordered-known : (shard : Key → ℕ) (all xs : List Key) (x : Key) (count : ℕ) (order : List KeyAt) → is_known (distinct xs) x ≡ true → AreOrdered shard all (distinct xs) count order
     → AreOrdered shard all (distinct (xs ++ x ∷ [])) count order
 ordered-known shard all xs x count order e h = subst (λ ks. AreOrdered shard all ks count order) (sym (more-known xs x e)) h
 
--- a key that is met first stands at the number of its record
+-- a new key is located at the number of its record
 ordered-new : (shard : Key → ℕ) (all xs ys : List Key) (x : Key) (count local : ℕ) (order : List KeyAt) → all ≡ xs ++ x ∷ ys → shard x < count
     → local ≡ id_of (distinct (of_shard shard (shard x) all)) x → is_known (distinct xs) x ≡ false → AreOrdered shard all (distinct xs) count order
     → AreOrdered shard all (distinct (xs ++ x ∷ [])) count (order ++ (record { shard = shard x; number = local }) ∷ [])
@@ -75,7 +75,7 @@ ordered-more shard keys i s local ids next count order lt at below within is w h
     (subst (λ xs. AreOrdered shard keys (distinct xs) count (with_first_at order (get_or ids (shard x) []) (shard x) local)) (sym (take_more keys i [] lt))
     (ordered-one shard keys (take i keys) (drop (i + 1) keys) x ids next local count order seam below_x within_x is_x w h))
 
--- as many keys stand somewhere as have numbers
+-- there are as many locations as key numbers
 pub next-ordered : (order : List KeyAt) (ids : List ℕ) (s local : ℕ) → length (with_first_at order ids s local) ≡ next_after ids local (length order)
 next-ordered order ids s local =
     elim (cases_Bool (is_first ids local)) [

@@ -1,4 +1,4 @@
--- Numbers that are read for one key after the other.
+-- Key numbers read record by record.
 use Rattle.std.proofs.Common.{◌≡◌, ◌∙◌, ◌+◌, ◌<◌, ℕ, List, [], length, get_or, sym, ap, arith, inl, inr, get_or-set_same, get_or-set_other}
 use Rattle.std.specs.Prelude.{slice_set}
 use Rattle.key_numbers.specs.declared.key_hash.KeyHash.{KeyHash}
@@ -33,7 +33,7 @@ read-record hasher keys shards locals ids i met h lt so =
 pub read-shards : (hasher : KeyHash) (keys : List Key) (shards : List ℕ) (locals ids : List (List ℕ)) → AreReadable (shard_of hasher) keys shards locals ids → length shards ≡ length keys
 read-shards hasher keys shards locals ids h = ap length h.sharded ∙ length-map keys (shard_of hasher)
 
--- one number more
+-- one more number
 pub from-more : (f : Key → ℕ) (keys : List Key) (from k : ℕ) (numbers : List ℕ) (number : ℕ) → AreFrom f keys from k numbers → k < length numbers → number ≡ f (get_or keys (from + k) [])
     → AreFrom f keys from (k + 1) (slice_set numbers k number)
 from-more f keys from k numbers number h lt is = λ j d below.

@@ -1,4 +1,4 @@
--- The records of a shard, numbered one after the other.
+-- The records of a shard, interned one after another.
 use Rattle.std.proofs.Common.{◌≡◌, ◌≢◌, ◌∙◌, ◌+◌, ◌<◌, ◌≤◌, ℕ, zero, suc, Bool, true, false, List, [], ◌∷◌, ◌++◌, Bor, length, map, take, drop, get_or, replicate, sym, ap, refl, subst, arith, inl, inr, length-append, get_or-set_same, get_or-set_other}
 use Rattle.std.specs.Prelude.{if◌then◌else◌, ◌==◌, filter, slice_set}
 use Rattle.std.proofs.Math.ListN.{length-set}
@@ -13,7 +13,7 @@ use Rattle.key_numbers.specs.Private.Sharded.{ArePassed, of_shard, shard_of}
 use Rattle.key_numbers.specs.declared.shards.TheConstants.{SHARDS}
 use Rattle.key_numbers.proofs.Growth.{grows}
 
--- what is numbered of a shard after the first records
+-- what is interned of a shard after the first records
 pub record IsNumberedTo (shard : Key → ℕ) (s : ℕ) (keys done : List Key) (table : List Key) (locals : List ℕ) : Type 0 where
   pub keys_of : table ≡ distinct (of_shard shard s done)
   pub locals_of : locals ≡ map (id_of (distinct (of_shard shard s keys))) (of_shard shard s done)
@@ -38,7 +38,7 @@ shard-own shard s keys i lt is =
     ap (of_shard shard s) (take_more keys i [] lt) ∙ filter-append (λ k. shard k == s) (take i keys) (get_or keys i [] ∷ [])
     ∙ ap (λ ks. of_shard shard s (take i keys) ++ ks) one
 
--- the records of a shard, parted at one of them
+-- the records of a shard, split at one of them
 pub shard-parted : (shard : Key → ℕ) (s : ℕ) (keys : List Key) (i : ℕ) → i < length keys → shard (get_or keys i []) ≡ s
     → of_shard shard s keys ≡ of_shard shard s (take i keys) ++ get_or keys i [] ∷ of_shard shard s (drop (i + 1) keys)
 shard-parted shard s keys i lt is =
@@ -53,7 +53,7 @@ pub few-added : (ks zs : List Key) → length (fold with_key ks zs) ≤ length k
 few-added ks [] = omega arith
 few-added ks (z ∷ zs) = omega (arith, (grows ks z).by_one, few-added (with_key ks z) zs)
 
--- keys without repeats are no more than with them
+-- there are no more distinct keys than keys
 pub few-distinct : (keys : List Key) → length (distinct keys) ≤ length keys
 unfolding distinct
 few-distinct keys = let few = few-added [] keys in omega (arith, few)
@@ -74,7 +74,7 @@ passed-none shard count keys = record { each = length-replicate count 0; passed 
     zero-at (suc n) zero = refl
     zero-at (suc n) (suc s) = zero-at n s
 
--- the number of a record in its shard stands behind those of the records met before
+-- the number of a record in its shard follows those of the records seen before
 pub next-local : (shard : Key → ℕ) (count : ℕ) (keys : List Key) (i : ℕ) (met locals : List ℕ) (s : ℕ) → i < length keys → s ≡ shard (get_or keys i []) → s < count
     → locals ≡ map (id_of (distinct (of_shard shard s keys))) (of_shard shard s keys) → ArePassed shard count keys i met
     → (get_or met s 0 < length locals) × (get_or locals (get_or met s 0) 0 ≡ id_of (distinct (of_shard shard s keys)) (get_or keys i []))
@@ -111,7 +111,7 @@ passed-more shard count keys i met s lt at below so =
       ];
     }
 
--- no more records of a shard are met than there are
+-- no more records of a shard are seen than there are
 pub passed-few : (shard : Key → ℕ) (count : ℕ) (keys : List Key) (i : ℕ) (met : List ℕ) (s : ℕ) → s < count → i ≤ length keys → ArePassed shard count keys i met → get_or met s 0 ≤ i
 passed-few shard count keys i met s below le so =
     omega (arith, so.passed s below, few-filtered (λ k. shard k == s) (take i keys), length-take i keys, le)
@@ -124,7 +124,7 @@ shards-long shard keys shards are = ap length are ∙ length-map keys shard
 pub shard-at : (shard : Key → ℕ) (keys : List Key) (shards : List ℕ) (i : ℕ) → shards ≡ map shard keys → i < length keys → get_or shards i 0 ≡ shard (get_or keys i [])
 shard-at shard keys shards i are lt = ap (λ ss. get_or ss i 0) are ∙ get_or-map shard keys i [] 0 lt
 
--- a shard is one of so many
+-- a shard is below the number of shards
 pub shard_of-below : (hasher : KeyHash) (key : Key) → shard_of hasher key < SHARDS
 unfolding shard_of
 shard_of-below hasher key = omega arith

@@ -1,4 +1,4 @@
--- A walk over records that were numbered shard by shard.
+-- Key numbers assigned record by record, over records interned shard by shard.
 use Rattle.std.proofs.Common.{◌≡◌, ◌∙◌, ◌+◌, ◌<◌, ◌≤◌, ℕ, suc, zero, Bool, true, false, List, [], ◌∷◌, ◌++◌, length, map, take, drop, get_or, replicate, sym, ap, refl, subst, arith, inl, inr, length-append}
 use Rattle.std.specs.Prelude.{if◌then◌else◌, ◌==◌, slice_set}
 use Rattle.std.proofs.Common.{get_or-set_same, get_or-set_other}
@@ -14,7 +14,7 @@ use Rattle.key_numbers.proofs.Growth.{fresh, known}
 use Rattle.key_numbers.proofs.Filtered.{filter-distinct, known-filter}
 use Rattle.key_numbers.proofs.Firsts.{first_in_shard, known-there, number-there}
 
--- what a walk over the records of xs, the first ones of all, has filled in
+-- what is assigned after the records of xs, the first ones of all
 pub record IsWalked (shard : Key → ℕ) (all xs : List Key) (globals : List (List ℕ)) (next : ℕ) : Type 0 where
   pub counted : next ≡ length (distinct xs)
   pub numbers : (s : ℕ) → s < length globals → get_or globals s [] ≡ map (id_of (distinct all)) (of_shard shard s (distinct xs))
@@ -29,7 +29,7 @@ more-known xs x e = one-more xs x ∙ ap (λ b. if b then distinct xs else disti
 pub more-new : (xs : List Key) (x : Key) → is_known (distinct xs) x ≡ false → distinct (xs ++ x ∷ []) ≡ distinct xs ++ x ∷ []
 more-new xs x e = one-more xs x ∙ ap (λ b. if b then distinct xs else distinct xs ++ x ∷ []) e
 
--- one more record of a known key
+-- one more record of an interned key
 walked-known : (shard : Key → ℕ) (all xs : List Key) (x : Key) (globals : List (List ℕ)) (next : ℕ) → is_known (distinct xs) x ≡ true → IsWalked shard all xs globals next → IsWalked shard all (xs ++ x ∷ []) globals next
 walked-known shard all xs x globals next e w =
     let same = more-known xs x e in record {
@@ -119,7 +119,7 @@ walked-all shard keys n globals next le w = λ s lt.
     let whole : take n keys ≡ keys = take_all n keys le in
     w.numbers s lt ∙ ap (λ ks. map (id_of (distinct keys)) (of_shard shard s (distinct ks))) whole ∙ ap (map (id_of (distinct keys))) (filter-distinct (λ k. shard k == s) keys)
 
--- the key of record i is known in its shard
+-- the key of record i is interned in its shard
 pub own-known : (shard : Key → ℕ) (keys : List Key) (i : ℕ) → i < length keys → is_known (distinct (of_shard shard (shard (get_or keys i [])) keys)) (get_or keys i []) ≡ true
 own-known shard keys i lt =
     let x = get_or keys i [] in
@@ -128,7 +128,7 @@ own-known shard keys i lt =
     let px : p x ≡ true = eq-eqb (shard x) (shard x) refl in
     ap (λ ks. is_known ks x) (sym (filter-distinct p keys)) ∙ known-filter p x px (distinct keys) ∙ ap (λ ks. is_known (distinct ks) x) seam ∙ known-there (take i keys) (drop (i + 1) keys) x
 
--- the number of record i in its shard is that of a key, and its key number stands there
+-- the number of record i in its shard is that of a key, and its key number is stored there
 pub of_record : (shard : Key → ℕ) (keys : List Key) (i s local : ℕ) (globals : List (List ℕ)) → i < length keys → s ≡ shard (get_or keys i []) → s < length globals
     → local ≡ id_of (distinct (of_shard shard s keys)) (get_or keys i []) → AreGlobal shard keys globals
     → (local < length (get_or globals s [])) × (get_or (get_or globals s []) local 0 ≡ id_of (distinct keys) (key_at keys i))

@@ -1,4 +1,4 @@
--- Shards whose keys were numbered by a walk over records.
+-- Shards whose key numbers were assigned record by record.
 use Rattle.std.proofs.Common.{◌≡◌, ◌∙◌, ◌<◌, ◌≤◌, ℕ, List, [], ◌∷◌, length, map, get_or, sym, ap, refl, subst, arith}
 use Rattle.std.specs.Prelude.{◌==◌, All}
 use Rattle.std.proofs.lemmas.List.{length-map}
@@ -17,7 +17,7 @@ map-agree P f g (x ∷ xs) same all =
     let first : f x ≡ g x = same x (All-head P x xs all) in
     rw first (ap (λ ys. g x ∷ ys) (map-agree P f g xs same (All-tail P x xs all)))
 
--- the keys of shards are those of the records without repeats
+-- the keys of the shards are the distinct keys of the records
 pub whole-keys : (shard : Key → ℕ) (keys : List Key) (tables : List (List Key)) (order : List KeyAt) → AreTables shard SHARDS keys tables → AreOrdered shard keys (distinct keys) SHARDS order → map (key_there tables) order ≡ distinct keys
 whole-keys shard keys tables order t o =
     map-agree (λ (at : KeyAt). (at.shard < SHARDS) × (at.number < length (distinct (of_shard shard at.shard keys)))) (key_there tables)

@@ -12,11 +12,11 @@ Key = List ℕ
 abbrev pub is_known : List Key → Key → Bool
 is_known keys key = list_any (bytes_eq key) keys
 
--- the keys with one more, which goes last where it is new
+-- the keys with one more, which is appended if it is new
 abbrev pub with_key : List Key → Key → List Key
 with_key keys key = if is_known keys key then keys else keys ++ key ∷ []
 
--- a key's number, counted from 0: its index among the keys, or the next one where it is new
+-- a key's number, counted from 0: its index among the keys, or the next number if it is new
 abbrev pub id_of : List Key → Key → ℕ
 id_of keys key = position_or_len (bytes_eq key) keys
 
@@ -24,23 +24,23 @@ id_of keys key = position_or_len (bytes_eq key) keys
 abbrev pub IsIdOf : List Key → Key → ℕ → Type 0
 IsIdOf keys key id = (id ≡ id_of keys key) × (id < length keys) × (is_known keys key ≡ true)
 
--- the key of a number
+-- the key with this number
 abbrev pub key_at : List Key → ℕ → Key
 key_at keys number = slice_index_or keys number []
 
--- no key stands twice
+-- no key occurs twice
 abbrev pub IsWithoutRepeats : List Key → Type 0
 IsWithoutRepeats keys =
     (m n : ℕ) → m < length keys → n < length keys → key_at keys m ≡ key_at keys n → m ≡ n
 
--- the keys of a list without repeats, in the order of their first appearance
+-- the distinct keys of a list, in the order of their first appearance
 unfoldable pub distinct : List Key → List Key
 distinct keys = fold with_key [] keys
 
--- the keys that are lent
+-- the keys behind these references
 abbrev pub lent : List (Bor Key) → List Key
 lent keys = map (λ key. key.now) keys
 
--- the keys of lists that are lent, one list after another
+-- the keys of the lists behind these references, concatenated
 abbrev pub lent_lists : List (Bor (List (Bor Key))) → List Key
 lent_lists lists = flat_map (λ list. lent list.now) lists

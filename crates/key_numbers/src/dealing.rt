@@ -1,31 +1,31 @@
-//! Keys that are dealt to their shards, list by list, side by side.
+//! Keys scattered to their shards, each list in a thread of its own.
 
 ghost use Rattle.std.specs.Prelude.{◌≡◌, ◌<◌, ◌≤◌, ◌+◌, ℕ, [], IfOk, length, map, replicate, slice_index_or, vec_items, vec_len};
 ghost use Rattle.key_numbers.specs.Keys.{lent, lent_lists};
 ghost use Rattle.key_numbers.specs.Private.Sharded.{AreDealt, IsDealt, shard_of, start_of};
 
-use crate::apart::collected;
 use crate::dealt_key::DealtKey;
 use crate::key_hash::KeyHash;
 use crate::shards::{SHARDS, shard_of};
 use lane_words::{MOST_RECORDS, Memory};
+use parallel::collected;
 use std::alloc::Global;
 use std::thread;
 use std::thread::Threads;
 
-/// In how many pieces the keys of one list are dealt, and key numbers are read.
+/// How many slices the keys of one list are scattered in, and the key numbers are read in.
 pub const PIECES: usize = 8;
 
-/// The keys of a list, dealt to their shards.
+/// The keys of a list, scattered to their shards.
 #[derive(Drop)]
 pub struct Dealt<'a> {
-    /// Of each key its shard, in order.
+    /// The shard of each key, in order.
     pub shards: Vec<u8>,
-    /// Of each shard its keys, in order.
+    /// The keys of each shard, in order.
     pub rows: Vec<Vec<DealtKey<'a>>>,
 }
 
-/// No key, of each shard, with room for so many.
+/// An empty row for each shard, with capacity for `each` keys.
 fn no_keys<'a>(alloc: Global, each: usize) -> Result<Vec<Vec<DealtKey<'a>>>, Memory>
     ensures { IfOk result (λ rows. map vec_items rows.items ≡ replicate SHARDS []) }
 {
@@ -36,12 +36,12 @@ fn no_keys<'a>(alloc: Global, each: usize) -> Result<Vec<Vec<DealtKey<'a>>>, Mem
     Ok(rows)
 }
 
-/// These keys, dealt to their shards.
+/// Scatters keys to their shards.
 fn deal<'a>(alloc: Global, hasher: KeyHash, keys: &[&'a [u8]]) -> Result<Dealt<'a>, Memory>
     ensures { IfOk result (IsDealt (shard_of hasher) (lent keys.now)) }
 {
     let mut shards = Vec::with_capacity(alloc, keys.len())?;
-    // Somewhat more than each would have, were all shards of one size.
+    // Slightly more than the average shard gets.
     let mut rows = no_keys(alloc, keys.len() / (SHARDS as usize - 1))?;
     for i in 0..keys.len() {
         let shard = shard_of(&hasher, keys[i]);
@@ -52,7 +52,7 @@ fn deal<'a>(alloc: Global, hasher: KeyHash, keys: &[&'a [u8]]) -> Result<Dealt<'
     Ok(Dealt { shards, rows })
 }
 
-/// The keys of each list, dealt to their shards, each in a thread of its own.
+/// Scatters the keys of each list to their shards, each list in a thread of its own.
 fn deal_apart<'a, R: Threads + Sync>(
     rt: &R,
     alloc: Global,
@@ -68,7 +68,7 @@ fn deal_apart<'a, R: Threads + Sync>(
     Ok(found)
 }
 
-/// The keys of each list, dealt to their shards.
+/// Scatters the keys of each list to their shards. Fails only if memory runs out.
 pub fn deal_lists<'a, R: Threads + Sync>(
     rt: &R,
     alloc: Global,
@@ -81,7 +81,7 @@ pub fn deal_lists<'a, R: Threads + Sync>(
     collected(alloc, found)
 }
 
-/// The shards of the keys of all lists, one list after another.
+/// The shards of the keys of all lists, concatenated.
 pub fn all_shards(
     alloc: Global,
     hasher: KeyHash,
@@ -98,7 +98,7 @@ pub fn all_shards(
     Ok(shards)
 }
 
-/// How many keys were dealt: it only says how much memory is taken.
+/// The number of scattered keys. It only decides how much memory is reserved.
 fn records_of(dealt: &[Dealt<'_>]) -> usize {
     let mut records: usize = 0;
     for i in 0..dealt.len() {
@@ -107,7 +107,7 @@ fn records_of(dealt: &[Dealt<'_>]) -> usize {
     records
 }
 
-/// Where piece p of these keys begins.
+/// The index at which slice `p` of these keys begins.
 fn start_of(keys: &[&[u8]], p: usize) -> usize
     requires piece { p ≤ PIECES }
     requires few { length keys.now ≤ MOST_RECORDS }
@@ -116,7 +116,7 @@ fn start_of(keys: &[&[u8]], p: usize) -> usize
     (p * (keys.len() / PIECES + 1)).min(keys.len())
 }
 
-/// These keys in pieces, to be numbered side by side.
+/// Splits keys into slices that can be interned in parallel. Fails only if memory runs out.
 pub fn pieces_of<'a>(alloc: Global, keys: &'a [&'a [u8]]) -> Result<Vec<&'a [&'a [u8]]>, Memory>
     requires { length keys.now ≤ MOST_RECORDS }
     ensures { IfOk result (λ pieces. lent_lists pieces.items ≡ lent keys.now) }

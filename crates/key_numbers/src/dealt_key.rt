@@ -1,4 +1,4 @@
-//! A key as it is dealt to its shard.
+//! A key scattered to its shard.
 
 ghost use Rattle.std.specs.Prelude.{◌≡◌, ◌<◌, IfOk, length};
 ghost use Rattle.key_numbers.specs.Keys.{id_of, with_key};
@@ -8,17 +8,17 @@ use crate::stored_key::{LONGEST_INLINE, ShortKey};
 use lane_words::{MOST_RECORDS, Memory};
 use std::marker::Model;
 
-/// Where a dealt key's bytes lie.
+/// Where the bytes of a scattered key are.
 #[derive(Drop)]
 enum Lies<'a> {
     /// In a copy.
     Here(ShortKey),
-    /// Where they were.
+    /// Where they were found.
     There(&'a [u8]),
 }
 
-/// A key that is dealt to its shard. A short one is copied as it is dealt, when its bytes are read
-/// anyway: those of a shard's keys lie far apart, and whoever numbers them would wait for each.
+/// A key scattered to its shard. A short key is copied while its bytes are read anyway: the keys of
+/// one shard are scattered over memory, and whoever interns them would wait for each.
 #[derive(Drop)]
 pub struct DealtKey<'a> {
     /// Its bytes.
@@ -49,7 +49,7 @@ impl<'a> DealtKey<'a> {
         DealtKey { lies }
     }
 
-    /// The number of the key in a table, where it is numbered where it is new.
+    /// Interns the key in a table: returns its number there, a new one if the key is new.
     pub fn number_in(&self, table: &mut KeyTable) -> Result<u32, Memory>
         requires { length table.old < MOST_RECORDS }
         ensures { IfOk result
@@ -57,7 +57,7 @@ impl<'a> DealtKey<'a> {
     {
         match &self.lies {
             Lies::Here(copy) => table.number_short(copy),
-            Lies::There(key) => table.number(key),
+            Lies::There(key) => table.intern(key),
         }
     }
 }

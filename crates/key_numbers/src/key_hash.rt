@@ -1,4 +1,4 @@
-//! The hash of keys. Strangers choose the keys, so it is keyed by what they don't know.
+//! The hash of keys. It is keyed by random seeds, since the keys may be chosen by an attacker.
 
 ghost use Rattle.std.specs.Prelude.{◌≡◌, ◌≤◌, ◌<◌, ◌+◌, ◌∷◌, [], bit_xor, length};
 ghost use Rattle.std.specs.Hash.DefaultHasher.{finish, write};
@@ -10,39 +10,40 @@ use std::fmt;
 use std::fmt::{Debug, Formatter};
 use std::hash::{BuildHasher, Hasher, RandomState};
 
-/// How many seeds there are: one for each word of a short key, and two more.
+/// The number of seeds: one for each word of a short key, and two more.
 const SEEDS: usize = 8;
 
-/// The seed of a key's length.
+/// The index of the seed that multiplies the key's length.
 const OF_LENGTH: usize = 6;
 
-/// The seed that is added.
+/// The index of the seed that is added.
 const ADDED: usize = 7;
 
-/// What keys are hashed by.
+/// Hashes keys.
 ///
-/// The hash of a short key is a sum of products of its words and seeds: of any two different keys the
-/// hashes are as if drawn by lot, so that who does not know the seeds finds none that collide more
-/// often (Lemire and Kaser, Strongly universal string hashing is fast, The Computer Journal 57, 2014).
-/// It takes a quarter of SipHash's instructions. Long keys are hashed by SipHash.
+/// The hash of a short key is a sum of products of its words and seeds. The hashes of any two
+/// different keys are as if drawn at random, so whoever does not know the seeds cannot find keys
+/// that collide more often (Lemire and Kaser, Strongly universal string hashing is fast, The
+/// Computer Journal 57, 2014). It takes a quarter of SipHash's instructions. Long keys are hashed
+/// by SipHash.
 #[derive(Clone, Copy)]
 pub struct KeyHash {
-    /// What the words of a short key are multiplied by, and its length, and what is added.
+    /// The multipliers of the words of a short key and of its length, and the number that is added.
     seeds: [u64; SEEDS],
-    /// What long keys are hashed by.
+    /// The hasher of long keys.
     long: RandomState,
 }
 
-/// The hash of what is written: of one key, as a rule, by one write.
+/// The hash of the bytes that are written: usually those of one key, in one write.
 #[derive(Clone, Copy)]
 pub struct KeyHasher {
     /// What keys are hashed by.
     by: KeyHash,
-    /// The hashes of all that was written, joined by exclusive or.
+    /// The xor of the hashes of all writes.
     hash: u64,
 }
 
-/// The four bytes of a key from an index on as a word, the lowest first.
+/// The four bytes of a key from an index on, as a little-endian word.
 #[inline(always)]
 fn word_at(key: &[u8], at: usize) -> u32
     requires { at + 4 ≤ length key.now }
@@ -51,7 +52,7 @@ fn word_at(key: &[u8], at: usize) -> u32
     u32::from_le_bytes([key[at], key[at + 1], key[at + 2], key[at + 3]])
 }
 
-/// A sum with one more product.
+/// A sum plus one more product.
 #[inline(always)]
 fn with_product(sum: u64, seed: u64, word: u32) -> u64
     ensures { result ≡ with_product sum seed word }
@@ -59,7 +60,7 @@ fn with_product(sum: u64, seed: u64, word: u32) -> u64
     sum.wrapping_add(seed.wrapping_mul(u64::from(word)))
 }
 
-/// A sum with the product of the last bytes, which fill no word.
+/// A sum plus the product of the last bytes, which do not fill a word.
 #[inline(always)]
 fn with_rest(sum: u64, seed: u64, rest: &[u8]) -> u64
     requires { length rest.now < 4 }
@@ -99,8 +100,8 @@ fn sip_hash_of(hasher: RandomState, key: &[u8]) -> u64
 }
 
 impl KeyHash {
-    /// A hash of keys whose seeds are drawn by this hasher: each is what the hasher gives of its place.
-    /// Long keys are hashed by the hasher itself.
+    /// A hash of keys with seeds drawn from this hasher: seed i is its hash of i. Long keys are
+    /// hashed by the hasher itself.
     pub fn of(hasher: RandomState) -> KeyHash
         ensures { IsDrawn hasher result }
     {
@@ -114,7 +115,7 @@ impl KeyHash {
         }
     }
 
-    /// The hash of a key: of a short one in the lowest 33 bits.
+    /// The hash of a key. That of a short key has 33 bits.
     #[inline(always)]
     #[tactic(auto, unfolding(crate::specs::Private::KeyHash::hash_of))]
     pub fn hash_of(&self, key: &[u8]) -> u64
@@ -130,7 +131,7 @@ impl KeyHash {
 
 impl Debug for KeyHash {
     fn fmt<W: fmt::Write>(&self, f: &mut Formatter<W>) -> fmt::Result {
-        // Who sees the seeds can choose keys that collide.
+        // Whoever sees the seeds can choose keys that collide.
         f.debug_struct("KeyHash").finish_non_exhaustive()
     }
 }

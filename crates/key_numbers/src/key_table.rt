@@ -1,4 +1,4 @@
-//! A table of keys, numbered in the order of their first appearance.
+//! A map of keys to their numbers, in the order of first appearance.
 
 ghost use Rattle.std.specs.Prelude.{◌≡◌, ◌<◌, ◌≤◌, [], IfOk, IfSome, IfNone, IsOk, OnErr, length, true, false};
 ghost use Rattle.key_numbers.specs.Keys.{IsIdOf, id_of, is_known, key_at, with_key};
@@ -13,14 +13,14 @@ use std::hash::RandomState;
 use std::marker::Model;
 use std::mem;
 
-/// Keys by their numbers, at most 2^32 - 1 of them.
+/// Distinct keys by number, at most 2^32 - 1 of them.
 #[derive(Debug, Drop)]
 pub struct KeyTable {
-    /// Where the keys are stored.
+    /// The allocator of the keys.
     alloc: Global,
     /// The keys, each at the index of its number.
     set: IndexSet<StoredKey, KeyHash>,
-    /// What a long key is looked up by: it keeps its memory from one look-up to the next.
+    /// The buffer that a long key is looked up with. It keeps its memory between lookups.
     query: Vec<u8>,
 }
 
@@ -36,14 +36,14 @@ impl Model for KeyTable {
 }
 
 impl KeyTable {
-    /// No keys, which are hashed by what this hasher draws.
+    /// An empty map. Its hash seeds are drawn from this hasher.
     pub fn new(alloc: Global, hasher: RandomState) -> KeyTable
         ensures { result ≡ [] }
     {
         KeyTable::hashed_by(alloc, KeyHash::of(hasher))
     }
 
-    /// No keys, which are hashed by this.
+    /// An empty map that hashes keys by this.
     pub(crate) fn hashed_by(alloc: Global, hasher: KeyHash) -> KeyTable
         ensures { result ≡ [] }
     {
@@ -54,7 +54,7 @@ impl KeyTable {
         }
     }
 
-    /// Makes room for this many more keys.
+    /// Reserves capacity for this many more keys.
     pub fn reserve(&mut self, additional: usize) -> Result<(), Memory>
         ensures { self.new ≡ self.old }
     {
@@ -62,14 +62,14 @@ impl KeyTable {
         Ok(())
     }
 
-    /// How many keys there are.
+    /// The number of keys.
     pub fn count(&self) -> u32
         ensures { result ≡ length self.now }
     {
         self.set.len() as u32
     }
 
-    /// The key of a number.
+    /// The key with this number.
     pub fn key(&self, number: u32) -> &[u8]
         requires { number < length self.now }
         ensures { result.now ≡ key_at self.now number }
@@ -77,8 +77,8 @@ impl KeyTable {
         self.set.as_slice()[number as usize].as_slice()
     }
 
-    /// The number of a key, where it is known. It takes memory only for a long key, where none as
-    /// long was sought before.
+    /// The number of a key, or none if the key is not in the map. Only a key longer than
+    /// `LONGEST_INLINE` can need memory, and only if it is longer than any sought before.
     pub fn find(&mut self, key: &[u8]) -> Result<Option<u32>, Memory>
         ensures known { IfOk result (λ found. IfSome found (IsIdOf self.old key.now)) }
         ensures fresh { IfOk result (λ found. IfNone found (is_known self.old key.now ≡ false)) }
@@ -96,7 +96,7 @@ impl KeyTable {
         Ok(found)
     }
 
-    /// Numbers a new key, whose bytes are stored once.
+    /// Gives a new key the next number. Its bytes are stored once.
     pub fn add(&mut self, key: &[u8]) -> Result<u32, Memory>
         requires room { length self.old < MOST_RECORDS }
         requires fresh { is_known self.old key.now ≡ false }
@@ -109,7 +109,7 @@ impl KeyTable {
         Ok(number as u32)
     }
 
-    /// The number of a short key, which is numbered where it is new.
+    /// Interns a short key: returns its number, a new one if the key is new.
     pub fn number_short(&mut self, key: &ShortKey) -> Result<u32, Memory>
         requires room { length self.old < MOST_RECORDS }
         requires size { key.now.size ≤ LONGEST_INLINE }
@@ -121,8 +121,8 @@ impl KeyTable {
         Ok(number as u32)
     }
 
-    /// The number of a key, which is numbered where it is new.
-    pub fn number(&mut self, key: &[u8]) -> Result<u32, Memory>
+    /// Interns a key: returns its number, a new one if the key is new.
+    pub fn intern(&mut self, key: &[u8]) -> Result<u32, Memory>
         requires { length self.old < MOST_RECORDS }
         ensures ok { IfOk result (λ n. (n ≡ id_of self.old key.now)
             × (self.new ≡ with_key self.old key.now)) }
@@ -138,7 +138,7 @@ impl KeyTable {
     }
 }
 
-/// The number of a key of a set, where it is there.
+/// The number of a key in a set, if it is there.
 fn find_in(set: &IndexSet<StoredKey, KeyHash>, key: &StoredKey) -> Option<u32>
     requires { length set.now.keys ≤ MOST_RECORDS }
     ensures known { IfSome result (IsIdOf set.now.keys key.now) }
@@ -150,7 +150,7 @@ fn find_in(set: &IndexSet<StoredKey, KeyHash>, key: &StoredKey) -> Option<u32>
     Some(number as u32)
 }
 
-/// A long key to look up, in the memory of the last one.
+/// A long key to look up, in the buffer of the last one.
 fn long_query(alloc: Global, last: &mut Vec<u8>, key: &[u8]) -> Result<StoredKey, Memory>
     ensures { IfOk result (λ query. query ≡ key.now) }
 {
@@ -163,7 +163,7 @@ fn long_query(alloc: Global, last: &mut Vec<u8>, key: &[u8]) -> Result<StoredKey
     Ok(StoredKey::long(text))
 }
 
-/// A key to keep.
+/// A key in the form in which the map stores it.
 fn stored_key(alloc: Global, key: &[u8]) -> Result<StoredKey, Memory>
     ensures { IfOk result (λ stored. stored ≡ key.now) }
 {

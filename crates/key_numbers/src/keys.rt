@@ -1,11 +1,12 @@
-//! The keys of all logs, numbered in the order of their first appearance.
+//! The key dictionary of all logs: keys numbered in the order of their first appearance.
 
 ghost use Rattle.std.specs.Prelude.{◌≡◌, ◌<◌, ◌≤◌, ◌↔◌, [], IfOk, IfSome, IfNone, IsOk, IsTrue, OnErr, length, map, true, false};
-ghost use Rattle.key_numbers.specs.Keys.{IsIdOf, IsWithoutRepeats, distinct, id_of, is_known, key_at, lent_lists, with_key};
+ghost use Rattle.key_numbers.specs.Interned.{IsDictionaryOf};
+ghost use Rattle.key_numbers.specs.Keys.{IsIdOf, IsWithoutRepeats, id_of, is_known, key_at, lent_lists, with_key};
 
 use crate::key_hash::KeyHash;
 use crate::key_table::KeyTable;
-use crate::shards::Shards;
+use crate::shards::{Interned, Shards};
 use crate::stored_key::LONGEST_INLINE;
 use lane_words::{MOST_RECORDS, Memory};
 use std::alloc::Global;
@@ -14,16 +15,17 @@ use std::marker::Model;
 use std::random::RandomSource;
 use std::thread::Threads;
 
-/// Keys by their numbers. The hasher is drawn anew for each, since strangers choose the keys.
+/// A dictionary of keys. Each has a hash with fresh random seeds, since the keys may be chosen by
+/// an attacker.
 #[derive(Debug, Drop)]
 pub struct KeyIds {
-    /// Where the keys are stored.
+    /// The allocator of the keys.
     alloc: Global,
-    /// What the keys are hashed by.
+    /// The hash of the keys.
     hasher: KeyHash,
-    /// The keys that were numbered side by side: the first ones, or none.
+    /// The keys that were interned in parallel: the first ones, or none.
     shards: Shards,
-    /// The keys after them, by their numbers from there on.
+    /// The keys after them, numbered from 0.
     table: KeyTable,
 }
 
@@ -39,7 +41,7 @@ impl Model for KeyIds {
 }
 
 impl KeyIds {
-    /// No keys. It is refused where the random source fails.
+    /// An empty dictionary. Fails if the random source fails.
     pub fn new(rt: &impl RandomSource, alloc: Global) -> Result<KeyIds, Memory>
         ensures { IfOk result (λ keys. keys ≡ []) }
     {
@@ -55,8 +57,8 @@ impl KeyIds {
         })
     }
 
-    /// The same keys by the same numbers, with a hasher of their own. It is refused for want of
-    /// memory, or where the random source fails.
+    /// The same keys with the same numbers, and a hash of its own. Fails if memory runs out or the
+    /// random source fails.
     pub fn copy(&self, rt: &impl RandomSource) -> Result<KeyIds, Memory>
         requires { IsWithoutRepeats self.now }
         ensures { IfOk result (λ copy. copy ≡ self.now) }
@@ -69,30 +71,29 @@ impl KeyIds {
         Ok(copy)
     }
 
-    /// The keys of these lists without repeats, in the order of their first appearance, and the key
-    /// number of each as they stand there. Refused for want of memory, of which it takes enough for
-    /// `room` different keys at once.
+    /// Interns the keys of these lists: returns the distinct keys in the order of their first
+    /// appearance, and the key number of each record, one list after another. It does not change
+    /// the dictionary. Fails only if memory runs out. `room` is the number of distinct keys for
+    /// which it reserves memory up front.
     ///
-    /// While one thread puts the keys in order, the others can do something else: what that gives is
-    /// the third part of the answer.
+    /// While one thread assigns the key numbers, another runs `beside`, whose result is returned as
+    /// well.
     pub fn number_all<R: Threads + Sync, T: Send + Drop, F: FnOnce() -> T + Send + Drop>(
         &self,
         rt: &R,
         lists: &[&[&[u8]]],
         room: usize,
         beside: F,
-    ) -> Result<(Shards, Vec<u32>, T), Memory>
+    ) -> Result<(Interned, T), Memory>
         requires few { length (lent_lists lists.now) ≤ MOST_RECORDS }
         requires beside { F.pre beside }
-        ensures keys { IfOk result (λ r. r.0 ≡ distinct (lent_lists lists.now)) }
-        ensures numbers { IfOk result (λ r. r.1.items
-            ≡ map (id_of (distinct (lent_lists lists.now))) (lent_lists lists.now)) }
-        ensures beside { IfOk result (λ r. F.post beside r.2) }
+        ensures value { IfOk result (λ r. IsDictionaryOf (lent_lists lists.now) r.0) }
+        ensures beside { IfOk result (λ r. F.post beside r.1) }
     {
         Shards::of(rt, self.alloc, self.hasher, lists, room, beside)
     }
 
-    /// Begins with these keys, where there is none.
+    /// Makes these the keys of an empty dictionary.
     pub fn begin_with(&mut self, shards: Shards)
         requires none { self.old ≡ [] }
         requires few { length shards ≤ MOST_RECORDS }
@@ -101,13 +102,13 @@ impl KeyIds {
         self.shards = shards;
     }
 
-    /// Gives the memory of the keys back, for many keys on several threads.
+    /// Drops the dictionary, many keys on several threads.
     pub fn let_go<R: Threads + Sync>(self, rt: &R) {
         let KeyIds { shards, .. } = self;
         shards.let_go(rt);
     }
 
-    /// Whether other keys are the same by the same numbers.
+    /// Whether both have the same keys with the same numbers.
     pub fn same(&self, other: &KeyIds) -> bool
         ensures { IsTrue result ↔ (self.now ≡ other.now) }
     {
@@ -122,14 +123,14 @@ impl KeyIds {
         true
     }
 
-    /// How many keys there are.
+    /// The number of keys.
     pub fn count(&self) -> u32
         ensures { result ≡ length self.now }
     {
         self.shards.count() + self.table.count()
     }
 
-    /// The key of a number.
+    /// The key with this number.
     pub fn key(&self, number: u32) -> &[u8]
         requires { number < length self.now }
         ensures { result.now ≡ key_at self.now number }
@@ -142,8 +143,8 @@ impl KeyIds {
         }
     }
 
-    /// The number of a key, where it is known. It takes memory only for a long key, where none as
-    /// long was sought before.
+    /// The number of a key, or none if the key is not in the dictionary. Only a key longer than
+    /// `LONGEST_INLINE` can need memory, and only if it is longer than any sought before.
     pub fn find(&mut self, key: &[u8]) -> Result<Option<u32>, Memory>
         ensures known { IfOk result (λ found. IfSome found (IsIdOf self.old key.now)) }
         ensures fresh { IfOk result (λ found. IfNone found (is_known self.old key.now ≡ false)) }
@@ -159,7 +160,7 @@ impl KeyIds {
         Ok(Some(self.shards.count() + number))
     }
 
-    /// Numbers a new key, whose bytes are stored once.
+    /// Gives a new key the next number. Its bytes are stored once.
     pub fn add(&mut self, key: &[u8]) -> Result<u32, Memory>
         requires room { length self.old < MOST_RECORDS }
         requires fresh { is_known self.old key.now ≡ false }

@@ -1,42 +1,35 @@
-//! Keys that are numbered shard by shard, side by side.
+//! Keys interned shard by shard, in parallel.
 
 ghost use Rattle.std.specs.Prelude.{◌≡◌, ◌≤◌, ◌<◌, ◌+◌, ◌*◌, ◌++◌, ℕ, [], List, IfOk, OnOk, flat_map, length, map, replicate, slice_index_or, slice_set, vec_items, vec_len};
 ghost use Rattle.key_numbers.specs.Keys.{distinct, id_of, lent_lists};
-ghost use Rattle.key_numbers.specs.Private.Sharded.{AreDealt, AreFrom, AreGlobal, AreLocals, AreNumberedFrom, AreNumberedIn, AreOrdered, ArePassed, AreReadable, AreTables, is_first, shard_of, with_first, with_first_at, with_keys};
+ghost use Rattle.key_numbers.specs.Private.Sharded.{AreDealt, AreFrom, AreGlobal, AreLocals, AreNumberedFrom, AreNumberedIn, AreOrdered, ArePassed, AreReadable, AreTables, is_first, keys_in, locals_in, shard_by, shard_of, with_first, with_first_at, with_keys};
 
-use crate::apart::collected;
 use crate::dealing::{Dealt, PIECES, all_shards, deal_lists};
 use crate::dealt_key::DealtKey;
 use crate::key_hash::KeyHash;
 use crate::key_table::KeyTable;
-use crate::shards::{KeyAt, SHARDS};
+use crate::shards::{GROUPS, KeyAt, OF_GROUP, SHARDS};
 use lane_words::{MOST_RECORDS, Memory};
+use parallel::collected;
 use std::alloc::Global;
 use std::thread;
 use std::thread::Threads;
 
-/// How many shards one thread numbers, one after the other: were all of them begun at once, their
-/// tables would be in one another's way in the caches.
-const OF_GROUP: u8 = 5;
-
-/// In how many groups the shards are numbered side by side.
-const GROUPS: usize = 8;
-
-/// Keys that are numbered.
+/// Interned keys.
 #[derive(Drop)]
 pub struct NumberedKeys {
-    /// Of each shard its keys.
+    /// The keys of each shard.
     pub tables: Vec<KeyTable>,
-    /// Of each shard the key numbers of its keys.
+    /// The key numbers of the keys of each shard.
     pub ids: Vec<Vec<u32>>,
-    /// Where each key stands.
+    /// The shard and the number there of each key.
     pub order: Vec<KeyAt>,
     /// The key number of each record, in order.
     pub numbers: Vec<u32>,
 }
 
-/// Numbers keys in the order of their first appearance. There is room for so many different ones at
-/// first.
+/// Interns keys in the order of their first appearance, with memory reserved for `room` distinct
+/// ones.
 pub fn number_keys<R: Threads + Sync, T: Send + Drop, F: FnOnce() -> T + Send + Drop>(
     rt: &R,
     alloc: Global,
@@ -62,12 +55,16 @@ pub fn number_keys<R: Threads + Sync, T: Send + Drop, F: FnOnce() -> T + Send + 
     let shards = all_shards(alloc, hasher, lists, &dealt)?;
     let found = number_shards(rt, alloc, hasher, lists, &dealt, room)?;
     let (tables, locals) = tables_of(alloc, hasher, lists, found)?;
-    let (walked, zeros, other) = walk_beside(
-        rt, alloc, hasher, lists, dealt, &shards, &tables, &locals, beside,
-    );
+    let records = ShardedRecords {
+        hasher,
+        lists,
+        shards: &shards,
+        locals: &locals,
+    };
+    let (walked, zeros, other) = walk_beside(rt, alloc, &records, dealt, &tables, beside);
     let (ids, order) = walked?;
     let mut numbers = zeros?;
-    read_pieces(rt, hasher, lists, &shards, &locals, &ids, &mut numbers);
+    read_pieces(rt, &records, &ids, &mut numbers);
     let numbered = NumberedKeys {
         tables,
         ids,
@@ -77,16 +74,16 @@ pub fn number_keys<R: Threads + Sync, T: Send + Drop, F: FnOnce() -> T + Send + 
     Ok((numbered, other))
 }
 
-/// A shard, numbered.
+/// An interned shard.
 #[derive(Drop)]
 pub struct NumberedShard {
     /// Its keys, by their numbers in the shard.
     table: KeyTable,
-    /// Of each of its records, in order, the number of its key in the shard.
+    /// The number in the shard of each of its records, in order.
     locals: Vec<u32>,
 }
 
-/// Numbers more records of a shard.
+/// Interns more records of a shard.
 fn number_row(
     table: &mut KeyTable,
     locals: &mut Vec<u32>,
@@ -104,7 +101,7 @@ fn number_row(
     Ok(())
 }
 
-/// Numbers the records of one shard, list by list. There is room for so many of its keys at first.
+/// Interns the records of one shard, list by list, with memory reserved for `room` of its keys.
 fn number_shard(
     alloc: Global,
     hasher: KeyHash,
@@ -129,7 +126,7 @@ fn number_shard(
     Ok(NumberedShard { table, locals })
 }
 
-/// Numbers the records of the shards of one group, one after the other.
+/// Interns the shards of one group, one after another.
 fn number_group(
     alloc: Global,
     hasher: KeyHash,
@@ -154,7 +151,7 @@ fn number_group(
     Ok(found)
 }
 
-/// Numbers the records of each group of shards, each in a thread of its own.
+/// Interns each group of shards in a thread of its own.
 fn number_groups<R: Threads + Sync>(
     rt: &R,
     alloc: Global,
@@ -180,7 +177,7 @@ fn number_groups<R: Threads + Sync>(
     Ok(groups)
 }
 
-/// The shards of some groups, one group after another.
+/// The shards of all groups, concatenated.
 fn in_row(
     alloc: Global,
     groups: Vec<Vec<Result<NumberedShard, Memory>>>,
@@ -195,7 +192,7 @@ fn in_row(
     Ok(all)
 }
 
-/// Numbers the records of each shard, some shards in each of some threads.
+/// Interns all shards, a group of them in each thread.
 fn number_shards<R: Threads + Sync>(
     rt: &R,
     alloc: Global,
@@ -211,13 +208,13 @@ fn number_shards<R: Threads + Sync>(
         → IfOk (slice_index_or found.items s d)
         (λ n. AreNumberedIn (shard_of hasher) s (lent_lists lists.now) n.table n.locals.items)) }
 {
-    // Some more than each would have, were all shards of one size.
+    // Slightly more than the average shard gets.
     let each = room / (SHARDS as usize - 1);
     let groups = number_groups(rt, alloc, hasher, lists, dealt, each)?;
     in_row(alloc, collected(alloc, groups)?)
 }
 
-/// The keys of each shard, and the numbers in it of its records.
+/// The keys of each shard, and the numbers there of its records.
 fn tables_of(
     alloc: Global,
     hasher: KeyHash,
@@ -229,7 +226,8 @@ fn tables_of(
     ensures tables { IfOk result (λ r.
         AreTables (shard_of hasher) (vec_len found) (lent_lists lists.now) r.0.items) }
     ensures locals { IfOk result (λ r.
-        AreLocals (shard_of hasher) (vec_len found) (lent_lists lists.now) (map vec_items r.1.items)) }
+        AreLocals (shard_of hasher) (vec_len found) (lent_lists lists.now)
+        (map vec_items r.1.items)) }
 {
     let mut tables = Vec::with_capacity(alloc, found.len())?;
     let mut locals = Vec::with_capacity(alloc, found.len())?;
@@ -241,7 +239,8 @@ fn tables_of(
     Ok((tables, locals))
 }
 
-/// Takes one more record of a shard: where it is the first of its key, the key gets the next number.
+/// Takes one more record of a shard. If it is the first of its key, the key gets the next key
+/// number.
 fn number_record(
     ids: &mut Vec<Vec<u32>>,
     order: &mut Vec<KeyAt>,
@@ -267,7 +266,7 @@ fn number_record(
     Ok(())
 }
 
-/// Takes one more record of this shard, and answers whether it is the first of its key.
+/// Takes one more record of this shard, and returns whether it is the first of its key.
 fn push_first(ids: &mut Vec<u32>, local: u32, next: u32) -> Result<bool, Memory>
     ensures first { IfOk result (λ first. first ≡ is_first ids.old.items local) }
     ensures ids { OnOk result (ids.new.items ≡ with_first ids.old.items local next) }
@@ -279,25 +278,37 @@ fn push_first(ids: &mut Vec<u32>, local: u32, next: u32) -> Result<bool, Memory>
     Ok(first)
 }
 
-/// The key numbers of each shard, and where each key stands.
+/// Records that are interned in their shards.
+#[derive(Clone, Copy)]
+pub struct ShardedRecords<'a> {
+    /// What decides the shard of a key.
+    pub hasher: KeyHash,
+    /// The keys of the records, in lists.
+    pub lists: &'a [&'a [&'a [u8]]],
+    /// The shard of each record, one list after another.
+    pub shards: &'a [u8],
+    /// The numbers in each shard of its records.
+    pub locals: &'a [Vec<u32>],
+}
+
+/// The key numbers of each shard, and the shard and the number there of each key.
 fn walk(
     alloc: Global,
-    hasher: KeyHash,
-    lists: &[&[&[u8]]],
-    shards: &[u8],
+    records: &ShardedRecords<'_>,
     tables: &[KeyTable],
-    locals: &[Vec<u32>],
 ) -> Result<(Vec<Vec<u32>>, Vec<KeyAt>), Memory>
-    requires few { length (lent_lists lists.now) ≤ MOST_RECORDS }
-    requires shards { shards.now ≡ map (shard_of hasher) (lent_lists lists.now) }
+    requires few { length (keys_in records.now) ≤ MOST_RECORDS }
+    requires shards { records.now.shards.now ≡ map (shard_by records.now) (keys_in records.now) }
     requires tables { length tables.now ≡ SHARDS }
-    requires locals { AreLocals (shard_of hasher) SHARDS (lent_lists lists.now) (map vec_items locals.now) }
+    requires locals { AreLocals (shard_by records.now) SHARDS (keys_in records.now)
+        (locals_in records.now) }
     ensures len { IfOk result (λ w. vec_len w.0 ≡ SHARDS) }
     ensures ids { IfOk result (λ w.
-        AreGlobal (shard_of hasher) (lent_lists lists.now) (map vec_items w.0.items)) }
-    ensures order { IfOk result (λ w. AreOrdered (shard_of hasher) (lent_lists lists.now)
-        (distinct (lent_lists lists.now)) SHARDS w.1.items) }
+        AreGlobal (shard_by records.now) (keys_in records.now) (map vec_items w.0.items)) }
+    ensures order { IfOk result (λ w. AreOrdered (shard_by records.now) (keys_in records.now)
+        (distinct (keys_in records.now)) SHARDS w.1.items) }
 {
+    let ShardedRecords { shards, locals, .. } = *records;
     let mut ids = no_ids(alloc, tables)?;
     let mut order = Vec::with_capacity(alloc, keys_of(tables))?;
     let mut met = [0; SHARDS as usize];
@@ -310,59 +321,72 @@ fn walk(
     Ok((ids, order))
 }
 
-/// What `walk` gives, while another thread lets the dealt keys go, makes a zero for each record, and
-/// does what else is to be done beside.
+/// Runs `walk` while another thread drops the scattered keys, allocates a number for each record,
+/// and runs `beside`.
 fn walk_beside<R: Threads + Sync, T: Send, F: FnOnce() -> T + Send>(
     rt: &R,
     alloc: Global,
-    hasher: KeyHash,
-    lists: &[&[&[u8]]],
+    records: &ShardedRecords<'_>,
     dealt: Vec<Dealt<'_>>,
-    shards: &[u8],
     tables: &[KeyTable],
-    locals: &[Vec<u32>],
     beside: F,
 ) -> (
     Result<(Vec<Vec<u32>>, Vec<KeyAt>), Memory>,
     Result<Vec<u32>, Memory>,
     T,
 )
-    requires few { length (lent_lists lists.now) ≤ MOST_RECORDS }
-    requires shards { shards.now ≡ map (shard_of hasher) (lent_lists lists.now) }
+    requires few { length (keys_in records.now) ≤ MOST_RECORDS }
+    requires shards { records.now.shards.now ≡ map (shard_by records.now) (keys_in records.now) }
     requires tables { length tables.now ≡ SHARDS }
-    requires locals { AreLocals (shard_of hasher) SHARDS (lent_lists lists.now) (map vec_items locals.now) }
+    requires locals { AreLocals (shard_by records.now) SHARDS (keys_in records.now)
+        (locals_in records.now) }
     requires beside { F.pre beside }
     ensures len { IfOk result.0 (λ w. vec_len w.0 ≡ SHARDS) }
     ensures ids { IfOk result.0 (λ w.
-        AreGlobal (shard_of hasher) (lent_lists lists.now) (map vec_items w.0.items)) }
-    ensures order { IfOk result.0 (λ w. AreOrdered (shard_of hasher) (lent_lists lists.now)
-        (distinct (lent_lists lists.now)) SHARDS w.1.items) }
-    ensures zeros { IfOk result.1 (λ zeros. length zeros.items ≡ length (lent_lists lists.now)) }
+        AreGlobal (shard_by records.now) (keys_in records.now) (map vec_items w.0.items)) }
+    ensures order { IfOk result.0 (λ w. AreOrdered (shard_by records.now) (keys_in records.now)
+        (distinct (keys_in records.now)) SHARDS w.1.items) }
+    ensures zeros { IfOk result.1 (λ zeros. length zeros.items ≡ length (keys_in records.now)) }
     ensures beside { F.post beside result.2 }
 {
-    let records = shards.len();
+    let ShardedRecords {
+        hasher,
+        lists,
+        shards,
+        locals,
+    } = *records;
+    let len = shards.len();
     let ((zeros, other), walked) = thread::join(
         rt,
         move || -> (Result<Vec<u32>, Memory>, T)
             requires { F.pre beside }
-            ensures { IfOk result.0 (λ zeros. length zeros.items ≡ records)
+            ensures { IfOk result.0 (λ zeros. length zeros.items ≡ len)
                 × F.post beside result.1 }
-        { (zeros_after(alloc, dealt, records), beside()) },
+        { (zeros_after(alloc, dealt, len), beside()) },
         || -> Result<(Vec<Vec<u32>>, Vec<KeyAt>), Memory>
             requires { (length (lent_lists lists.now) ≤ MOST_RECORDS)
                 × (shards.now ≡ map (shard_of hasher) (lent_lists lists.now))
                 × (length tables.now ≡ SHARDS)
-                × AreLocals (shard_of hasher) SHARDS (lent_lists lists.now) (map vec_items locals.now) }
+                × AreLocals (shard_of hasher) SHARDS (lent_lists lists.now)
+                (map vec_items locals.now) }
             ensures { IfOk result (λ w. (vec_len w.0 ≡ SHARDS)
                 × AreGlobal (shard_of hasher) (lent_lists lists.entry.now) (map vec_items w.0.items)
                 × AreOrdered (shard_of hasher) (lent_lists lists.entry.now)
                 (distinct (lent_lists lists.entry.now)) SHARDS w.1.items) }
-        { walk(alloc, hasher, lists, shards, tables, locals) },
+        {
+            let records = ShardedRecords {
+                hasher,
+                lists,
+                shards,
+                locals,
+            };
+            walk(alloc, &records, tables)
+        },
     );
     (walked, zeros, other)
 }
 
-/// A zero for each of so many records, once the dealt keys are let go.
+/// A zero for each record, allocated after the scattered keys are dropped.
 fn zeros_after(alloc: Global, dealt: Vec<Dealt<'_>>, records: usize) -> Result<Vec<u32>, Memory>
     ensures { IfOk result (λ zeros. length zeros.items ≡ records) }
 {
@@ -371,7 +395,7 @@ fn zeros_after(alloc: Global, dealt: Vec<Dealt<'_>>, records: usize) -> Result<V
     Ok(zeros)
 }
 
-/// No key numbers, of each shard, with room for those of its keys.
+/// An empty list of key numbers for each shard, with capacity for its keys.
 fn no_ids(alloc: Global, tables: &[KeyTable]) -> Result<Vec<Vec<u32>>, Memory>
     requires { length tables.now ≡ SHARDS }
     ensures { IfOk result (λ ids. map vec_items ids.items ≡ replicate SHARDS []) }
@@ -383,7 +407,7 @@ fn no_ids(alloc: Global, tables: &[KeyTable]) -> Result<Vec<Vec<u32>>, Memory>
     Ok(ids)
 }
 
-/// How many keys the tables have together: it only says how much memory is taken.
+/// The number of keys of all tables. It only decides how much memory is reserved.
 fn keys_of(tables: &[KeyTable]) -> usize {
     let mut keys: usize = 0;
     for s in 0..tables.len() {
@@ -392,51 +416,46 @@ fn keys_of(tables: &[KeyTable]) -> usize {
     keys
 }
 
-/// The key numbers of the records, by pieces side by side.
+/// Fills in the key numbers of the records, in slices and in parallel.
 fn read_pieces<R: Threads + Sync>(
     rt: &R,
-    hasher: KeyHash,
-    lists: &[&[&[u8]]],
-    shards: &[u8],
-    locals: &[Vec<u32>],
+    records: &ShardedRecords<'_>,
     ids: &[Vec<u32>],
     numbers: &mut [u32],
 )
-    requires length { length numbers.old ≡ length (lent_lists lists.now) }
-    requires readable { AreReadable (shard_of hasher) (lent_lists lists.now) shards.now
-        (map vec_items locals.now) (map vec_items ids.now) }
-    ensures { numbers.new ≡ map (id_of (distinct (lent_lists lists.now))) (lent_lists lists.now) }
+    requires length { length numbers.old ≡ length (keys_in records.now) }
+    requires readable { AreReadable (shard_by records.now) (keys_in records.now)
+        records.now.shards.now (locals_in records.now) (map vec_items ids.now) }
+    ensures { numbers.new ≡ map (id_of (distinct (keys_in records.now))) (keys_in records.now) }
 {
     thread::for_each_chunk_mut(
         rt,
         numbers,
-        shards.len() / PIECES + 1,
+        records.shards.len() / PIECES + 1,
         &|from: usize, piece: &mut [u32]|
-            requires { (from + length piece.now ≤ length (lent_lists lists.now))
-                × AreReadable (shard_of hasher) (lent_lists lists.now) shards.now
-                (map vec_items locals.now) (map vec_items ids.now) }
-            ensures { AreFrom (id_of (distinct (lent_lists lists.entry.now))) (lent_lists lists.entry.now) from
-                (length piece.entry.now) piece.exit.now }
-        { read_numbers(from, hasher, lists, shards, locals, ids, piece) },
+            requires { (from + length piece.now ≤ length (keys_in records.now))
+                × AreReadable (shard_by records.now) (keys_in records.now) records.now.shards.now
+                (locals_in records.now) (map vec_items ids.now) }
+            ensures { AreFrom (id_of (distinct (keys_in records.entry.now)))
+                (keys_in records.entry.now) from (length piece.entry.now) piece.exit.now }
+        { read_numbers(from, records, ids, piece) },
     );
 }
 
-/// The key numbers of the records from this index on, as many as these are.
-fn read_numbers(
-    from: usize,
-    hasher: KeyHash,
-    lists: &[&[&[u8]]],
-    shards: &[u8],
-    locals: &[Vec<u32>],
-    ids: &[Vec<u32>],
-    numbers: &mut [u32],
-)
-    requires range { from + length numbers.old ≤ length (lent_lists lists.now) }
-    requires readable { AreReadable (shard_of hasher) (lent_lists lists.now) shards.now
-        (map vec_items locals.now) (map vec_items ids.now) }
-    ensures { AreFrom (id_of (distinct (lent_lists lists.now))) (lent_lists lists.now) from
+/// Fills in the key numbers of the records from this index on.
+fn read_numbers(from: usize, records: &ShardedRecords<'_>, ids: &[Vec<u32>], numbers: &mut [u32])
+    requires range { from + length numbers.old ≤ length (keys_in records.now) }
+    requires readable { AreReadable (shard_by records.now) (keys_in records.now)
+        records.now.shards.now (locals_in records.now) (map vec_items ids.now) }
+    ensures { AreFrom (id_of (distinct (keys_in records.now))) (keys_in records.now) from
         (length numbers.old) numbers.new }
 {
+    let ShardedRecords {
+        hasher,
+        lists,
+        shards,
+        locals,
+    } = *records;
     let mut met = met_before(from, hasher, lists, shards);
     for k in 0..numbers.len() {
         let shard = shards[from + k] as usize;
@@ -446,7 +465,7 @@ fn read_numbers(
     }
 }
 
-/// How many records each shard has before this index.
+/// The number of records of each shard before this index.
 fn met_before(
     from: usize,
     hasher: KeyHash,

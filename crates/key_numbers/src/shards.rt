@@ -1,6 +1,7 @@
-//! Keys that were numbered side by side, in shards by their hash.
+//! A map of keys that were interned in parallel, sharded by hash.
 
 ghost use Rattle.std.specs.Prelude.{◌≡◌, ◌<◌, ◌≤◌, [], IfOk, IfSome, IfNone, IsOk, length, map, slice_index_or, vec_items, vec_len, true, false};
+ghost use Rattle.key_numbers.specs.Interned.{IsDictionaryOf};
 ghost use Rattle.key_numbers.specs.Keys.{IsIdOf, distinct, id_of, is_known, key_at, lent_lists};
 ghost use Rattle.key_numbers.specs.Private.Sharded.{AreShards, key_there, shard_of};
 
@@ -9,23 +10,26 @@ use crate::key_table::KeyTable;
 use crate::numbering::number_keys;
 use crate::stored_key::LONGEST_INLINE;
 use lane_words::{MOST_RECORDS, Memory};
+use parallel::{LEAST_DROPS, drop_each};
 use std::alloc::Global;
 use std::marker::Model;
-use std::thread;
 use std::thread::Threads;
 
-/// How many shards there are: so many that the table of one nearly lies in a near cache where different
-/// keys are a few million.
-pub const SHARDS: u8 = 40;
+/// In how many groups the shards are interned in parallel.
+pub const GROUPS: usize = 8;
 
-/// From how many keys on their memory is given back side by side: for fewer, threads take longer to
-/// start than one takes to give it back.
-const WORTH_THREADS: usize = 1 << 18;
+/// How many shards of a group one thread interns, one after another. If it began them all at once,
+/// their tables would evict one another from the caches.
+pub const OF_GROUP: u8 = 5;
 
-/// The shard of a key, from its keyed hash: who chooses the keys can't choose their shards.
+/// How many shards there are. With a few million distinct keys the table of one shard almost fits a
+/// processor's own cache.
+pub const SHARDS: u8 = GROUPS as u8 * OF_GROUP;
+
+/// The shard of a key, from its keyed hash: whoever chooses the keys cannot choose their shards.
 ///
-/// It is the hash by which the shard's own table finds the key, which takes the lowest bits for the
-/// key's group: these are higher ones, so that keys of one shard lie all over its table.
+/// The shard's own table finds a key by the lowest bits of the same hash. The shard comes from
+/// higher bits, so that the keys of one shard are spread over its whole table.
 #[inline(always)]
 #[tactic(auto, unfolding(crate::specs::Private::Sharded::shard_of))]
 pub fn shard_of(hasher: &KeyHash, key: &[u8]) -> u8
@@ -35,7 +39,7 @@ pub fn shard_of(hasher: &KeyHash, key: &[u8]) -> u8
     (hasher.hash_of(key) / (1 << 19) % u64::from(SHARDS)) as u8
 }
 
-/// Where a key stands.
+/// The location of a key.
 #[derive(Clone, Copy, Debug)]
 pub struct KeyAt {
     /// Its shard.
@@ -44,17 +48,26 @@ pub struct KeyAt {
     pub number: u32,
 }
 
-/// Keys by their numbers, to which none is added. Each shard is a table with numbers of its own.
+/// An immutable map of keys by number. Each shard is a table with numbers of its own.
 #[derive(Debug, Drop)]
 pub struct Shards {
-    /// What the keys are hashed by, for their shards too.
+    /// The hash of the keys, which decides their shards too.
     hasher: KeyHash,
-    /// Of each shard its keys.
+    /// The keys of each shard.
     tables: Vec<KeyTable>,
-    /// Of each shard the key numbers of its keys, by their numbers in the shard.
+    /// The key numbers of the keys of each shard, by their numbers there.
     ids: Vec<Vec<u32>>,
-    /// Where each key stands.
+    /// The location of each key, by key number.
     order: Vec<KeyAt>,
+}
+
+/// Interned lists.
+#[derive(Drop)]
+pub struct Interned {
+    /// The distinct keys of all lists, in the order of their first appearance.
+    pub keys: Shards,
+    /// The key number of each record, one list after another.
+    pub ids: Vec<u32>,
 }
 
 impl Model for Shards {
@@ -71,7 +84,7 @@ impl Model for Shards {
 }
 
 impl Shards {
-    /// No keys.
+    /// An empty map.
     pub(crate) fn none(alloc: Global, hasher: KeyHash) -> Shards
         ensures { result ≡ [] }
     {
@@ -83,12 +96,10 @@ impl Shards {
         }
     }
 
-    /// The keys of these lists without repeats, in the order of their first appearance, and the key
-    /// number of each as they stand there. Refused for want of memory.
+    /// Interns the keys of these lists, as `KeyIds::number_all` describes it.
     ///
-    /// The keys of each shard are numbered in a thread of its own; where one can't be started, they
-    /// are numbered without it. There is room for so many different keys at first. While one thread
-    /// puts the keys in order, another does what else is to be done.
+    /// Each group of shards is interned in a thread of its own, or by the calling thread if none
+    /// can be started.
     pub(crate) fn of<R: Threads + Sync, T: Send + Drop, F: FnOnce() -> T + Send + Drop>(
         rt: &R,
         alloc: Global,
@@ -96,42 +107,40 @@ impl Shards {
         lists: &[&[&[u8]]],
         room: usize,
         beside: F,
-    ) -> Result<(Shards, Vec<u32>, T), Memory>
+    ) -> Result<(Interned, T), Memory>
         requires few { length (lent_lists lists.now) ≤ MOST_RECORDS }
         requires beside { F.pre beside }
-        ensures keys { IfOk result (λ r. r.0 ≡ distinct (lent_lists lists.now)) }
-        ensures numbers { IfOk result (λ r. r.1.items
-            ≡ map (id_of (distinct (lent_lists lists.now))) (lent_lists lists.now)) }
-        ensures beside { IfOk result (λ r. F.post beside r.2) }
+        ensures value { IfOk result (λ r. IsDictionaryOf (lent_lists lists.now) r.0) }
+        ensures beside { IfOk result (λ r. F.post beside r.1) }
     {
         let (numbered, other) = number_keys(rt, alloc, hasher, lists, room, beside)?;
-        let shards = Shards {
+        let keys = Shards {
             hasher,
             tables: numbered.tables,
             ids: numbered.ids,
             order: numbered.order,
         };
-        Ok((shards, numbered.numbers, other))
+        let ids = numbered.numbers;
+        Ok((Interned { keys, ids }, other))
     }
 
-    /// Gives the memory of the keys back, that of many shard by shard side by side.
+    /// Drops the map: the shards in parallel, if it has many keys.
     pub(crate) fn let_go<R: Threads + Sync>(self, rt: &R) {
-        if self.order.len() < WORTH_THREADS {
+        if self.order.len() < LEAST_DROPS {
             return;
         }
         let Shards { tables, .. } = self;
-        // Where memory is refused, what is left goes with the list.
-        let _ = thread::map_vec(rt, tables, &|table: KeyTable| drop(table));
+        drop_each(rt, tables);
     }
 
-    /// How many keys there are.
+    /// The number of keys.
     pub(crate) fn count(&self) -> u32
         ensures { result ≡ length self.now }
     {
         self.order.len() as u32
     }
 
-    /// The key of a number.
+    /// The key with this number.
     pub(crate) fn key(&self, number: u32) -> &[u8]
         requires { number < length self.now }
         ensures { result.now ≡ key_at self.now number }
@@ -140,8 +149,8 @@ impl Shards {
         self.tables[at.shard as usize].key(at.number)
     }
 
-    /// The number of a key, where it is known. It takes memory only for a long key, where none as
-    /// long was sought before.
+    /// The number of a key, or none if the key is not in the map. Only a key longer than
+    /// `LONGEST_INLINE` can need memory, and only if it is longer than any sought before.
     pub(crate) fn find(&mut self, key: &[u8]) -> Result<Option<u32>, Memory>
         ensures known { IfOk result (λ found. IfSome found (IsIdOf self.old key.now)) }
         ensures fresh { IfOk result (λ found. IfNone found (is_known self.old key.now ≡ false)) }
@@ -159,7 +168,7 @@ impl Shards {
     }
 }
 
-/// The number of a key in this shard, where it is known.
+/// The number of a key in this shard, if it is there.
 fn find_in_shard(
     tables: &mut Vec<KeyTable>,
     shard: usize,

@@ -1,4 +1,4 @@
-//! A key as the set of keys keeps it.
+//! A key as the key map stores it.
 
 ghost use Rattle.std.specs.Prelude.{◌≡◌, ◌≤◌, length, Some, IfSome, vec_capacity};
 ghost use Rattle.std.proofs.Common.{rules};
@@ -11,27 +11,28 @@ ghost use Rattle.key_numbers.specs.Private.StoredKey.{IsCopyOf, bytes_of};
 use std::hash::{Hash, Hasher};
 use std::marker::Model;
 
-/// The longest key that is stored inline: with its size and the variant it fills three words.
+/// The longest key that is stored inline, in bytes. With its size and the variant tag it fills
+/// three words.
 pub const LONGEST_INLINE: usize = 22;
 
-/// Where a key's bytes lie.
+/// Where the bytes of a key are.
 #[derive(Debug, Drop)]
 enum Storage {
-    /// As many of these bytes as its size.
+    /// The first `size` of these bytes.
     Inline {
         bytes: [u8; LONGEST_INLINE],
         size: u8,
     },
-    /// All bytes of a text.
+    /// On the heap.
     Heap(Vec<u8>),
 }
 
 /// A copy of a key of up to `LONGEST_INLINE` bytes.
 #[derive(Clone, Copy, Debug)]
 pub struct ShortKey {
-    /// The bytes of the key, and zeros.
+    /// The bytes of the key, followed by zeros.
     bytes: [u8; LONGEST_INLINE],
-    /// How many bytes the key has.
+    /// The length of the key.
     size: u8,
 }
 
@@ -50,7 +51,7 @@ impl ShortKey {
     }
 }
 
-/// A key. A short one is stored inline, so that a look-up follows no pointer to it.
+/// A key. A short one is stored inline, so that a lookup follows no pointer to it.
 #[derive(Debug, Drop)]
 pub struct StoredKey {
     storage: Storage,
@@ -69,7 +70,7 @@ impl Model for StoredKey {
 }
 
 impl StoredKey {
-    /// A short key, which takes no memory.
+    /// A short key. It allocates nothing.
     pub fn short(key: &ShortKey) -> StoredKey
         requires { key.now.size ≤ LONGEST_INLINE }
         ensures { result ≡ bytes_of key.now }
@@ -82,7 +83,7 @@ impl StoredKey {
         }
     }
 
-    /// A key in memory of its own.
+    /// A key on the heap.
     pub fn long(text: Vec<u8>) -> StoredKey
         ensures { result ≡ text.items }
     {

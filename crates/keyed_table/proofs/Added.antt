@@ -1,4 +1,4 @@
--- Counters to which blocks are added, run by run of neighbours.
+-- Counters that blocks are added to, run by run of consecutive blocks.
 use Rattle.std.proofs.Common.{◌≡◌, ◌∙◌, ◌+◌, ◌-◌, ◌*◌, ◌/◌, ◌%◌, ◌<◌, ◌≤◌, ◌^◌, ℕ, List, length, take, drop, get_or, sym, ap, refl, arith, inl, inr, ◌++◌, length-append, length-drop, get_or-take, get_or-drop}
 use Rattle.std.specs.Simd.Lanes.{zip2}
 use Rattle.std.proofs.lemmas.Bool.{cases_lt}
@@ -8,9 +8,10 @@ use borrow.Rule.Slice.PartMut.{put_mid}
 use Rattle.keyed_table.specs.Counts.{HaveCounters, SumsFit, plain, raised, raised_from}
 use Rattle.keyed_table.specs.Private.Blocks.{AreBlocksOf, AreNeighbours}
 use Rattle.keyed_table.proofs.Raised.{counter-raised, length-raised}
-use Rattle.keyed_table.proofs.Touched.{count-in-block, not-falling}
+use Rattle.keyed_table.proofs.Touched.{below_later, count-in-block, not-falling}
 
--- the blocks before index start are added: counters before the block there are raised, and the others are as they were
+-- the blocks before index start are added: counters before the block there are raised, and the
+-- others unchanged
 pub record AreAdded (ids blocks old cells : List ℕ) (start : ℕ) : Type 0 where
   pub same : length cells ≡ length old
   pub before : (x : ℕ) → (start < length blocks → x / 8 < get_or blocks start 0) → get_or cells x 0 ≡ get_or old x 0 + plain ids x
@@ -69,7 +70,7 @@ sum-at cells counts from at k i le le' lt =
     get_or-zip2 (λ x y. x + y) (take k (drop from cells)) (take k (drop at counts)) i 0 0 0 (omega (arith, length-k cells from k le, lt)) (omega (arith, length-k counts at k le', lt))
     ∙ omega (arith, mine, theirs)
 
--- the counters of neighbouring blocks are the plain counts of numbers that follow one another
+-- the counters of consecutive blocks are the plain counts of consecutive numbers
 pub run-counts : (ids blocks counts : List ℕ) (start end from at i : ℕ) → AreBlocksOf ids blocks counts → AreNeighbours blocks start end → end ≤ length blocks → from ≡ 8 * get_or blocks start 0 → at ≡ 8 * start → i < 8 * (end - start) → get_or counts (at + i) 0 ≡ plain ids (from + i)
 run-counts ids blocks counts start end from at i h near le from_is at_is lt =
     let x = from + i in
@@ -78,7 +79,7 @@ run-counts ids blocks counts start end from at i h near le from_is at_is lt =
     let place : at + i ≡ 8 * (start + i / 8) + x % 8 = omega (arith, from_is, at_is) in
     ap (λ n. get_or counts n 0) place ∙ count-in-block ids blocks counts (start + i / 8) x h.have (omega (arith, within, le)) its
 
--- neighbouring blocks lie within whole blocks of counters that all numbers have
+-- consecutive blocks lie within the counters, which fill whole blocks and cover all numbers
 pub run-within : (ids blocks counts old : List ℕ) (start end : ℕ) → AreBlocksOf ids blocks counts → AreNeighbours blocks start end → start < end → end ≤ length blocks → HaveCounters old ids → length old % 8 ≡ 0 → 8 * get_or blocks start 0 + 8 * (end - start) ≤ length old
 run-within ids blocks counts old start end h near some le have whole =
     let n = end - start - 1 in
@@ -87,7 +88,7 @@ run-within ids blocks counts old start end h near some le have whole =
     let lt : found.0 < length old = have found.0 found.1 in
     omega (arith, last, found.2, lt, whole, some)
 
--- the sums of a run fit
+-- the sums of a run do not overflow
 pub run-fits : (ids blocks counts old cells : List ℕ) (start end from at k m : ℕ) → AreBlocksOf ids blocks counts → AreAdded ids blocks old cells start → AreNeighbours blocks start end → start < end → end ≤ length blocks → SumsFit old ids
     → from ≡ 8 * get_or blocks start 0 → at ≡ 8 * start → k ≡ 8 * (end - start) → m ≡ k
     → (i : ℕ) → get_or (take k (drop from cells)) i 0 + get_or (take m (drop at counts)) i 0 < 2 ^ 64
@@ -105,7 +106,7 @@ run-fits ids blocks counts old cells start end from at k m h added near some le 
           omega (arith, none, none')
     ]
 
--- a run of neighbouring blocks is added
+-- a run of consecutive blocks is added
 pub added-run : (ids blocks counts old cells ys : List ℕ) (start end from at k m : ℕ) → AreBlocksOf ids blocks counts → AreAdded ids blocks old cells start → AreNeighbours blocks start end → start < end → end ≤ length blocks
     → from + k ≤ length cells → from ≡ 8 * get_or blocks start 0 → at ≡ 8 * start → k ≡ 8 * (end - start) → m ≡ k
     → ys ≡ zip2 (λ x y. x + y) (take k (drop from cells)) (take m (drop at counts))
@@ -136,7 +137,7 @@ added-run ids blocks counts old cells ys start end from at k m h added near some
           | inr above ↦
               let was = added.rest x start_in (omega (arith, lower, from_is)) in
               let none : plain ids x ≡ 0 = h.have.others x (λ j lt same. elim (cases_lt j start) [
-                | inl first ↦ absurd (omega (arith, h.have.rise j start first start_in, same, lower, from_is))
+                | inl first ↦ absurd (omega (arith, below_later blocks h.have.rise j start first start_in, same, lower, from_is))
                 | inr past ↦ elim (cases_lt j end) [
                   | inl run ↦
                       let near_j = near (j - start) (omega (arith, past, run)) in
@@ -153,12 +154,12 @@ added-run ids blocks counts old cells ys start end from at k m h added near some
       ];
       rest = λ x lt past.
           let last = near (end - start - 1) (omega (arith, some)) in
-          let step = h.have.rise (start + (end - start - 1)) end (omega (arith, some)) lt in
+          let step = below_later blocks h.have.rise (start + (end - start - 1)) end (omega (arith, some)) lt in
           let above : from + k ≤ x = omega (arith, last, step, past, from_is, k_is, some) in
           above-part from k cells ys x (omega (arith, within)) size above ∙ added.rest x start_in (omega (arith, above, from_is));
     }
 
--- in the end all is added
+-- at the end all blocks are added
 pub added-all : (ids blocks old cells : List ℕ) (start : ℕ) → AreAdded ids blocks old cells start → length blocks ≤ start → cells ≡ raised old ids
 unfolding raised
 added-all ids blocks old cells start added le =

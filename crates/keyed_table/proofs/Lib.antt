@@ -1,4 +1,5 @@
 pub mod Added
+pub mod Counted
 pub mod Elements
 pub mod Numbered
 pub mod Raised

@@ -1,18 +1,16 @@
--- Counts number by number: they are made run by run of equal numbers, and added one by one.
+-- Counts number by number: computed run by run of equal numbers, and added one by one.
 use Rattle.std.proofs.Common.{◌≡◌, ◌≢◌, ◌∙◌, ◌+◌, ◌-◌, ◌<◌, ◌≤◌, ℕ, zero, suc, List, [], ◌∷◌, ◌++◌, length, replicate, take, get_or, set, subst, sym, ap, refl, arith, inl, inr, get_or-take, get_or-set_same, get_or-set_other, length-set}
-use Rattle.std.specs.List.Sorted.{IsNonDecreasing}
+use Rattle.std.specs.List.Sorted.{IsNonDecreasing, IsStrictlyIncreasing}
 use Rattle.std.proofs.lemmas.Bool.{cases_lt, cases_eq}
 use Rattle.std.proofs.lemmas.List.{ext_get_or, get_or-replicate, get_or_append_left, get_or_push, length-take, length_push, replicate_more, take_all, take_more}
 use Rattle.keyed_table.specs.Counts.{HaveCounters, plain, raised, raised_from}
-use Rattle.keyed_table.specs.Private.Blocks.{DoRise}
 use Rattle.keyed_table.specs.Private.ByNumber.{AreCountsOf}
 use Rattle.keyed_table.proofs.Elements.{stands-somewhere}
 use Rattle.keyed_table.proofs.Raised.{counter-raised, length-raised}
 use Rattle.keyed_table.proofs.Runs.{all_equal, none-before, run-other, run-same}
-use Rattle.keyed_table.proofs.Touched.{not-falling}
+use Rattle.keyed_table.proofs.Touched.{below_later, increasing_from, not-falling}
 
--- ---- how they are made
--- a run of n numbers v, past all before it, is counted
+-- ---- computing them
 run-counted : (ids numbers counts : List ℕ) (start n v end : ℕ) → start + n ≡ end → end ≤ length ids → 0 < n
     → ((j : ℕ) → start ≤ j → j < end → get_or ids j 0 ≡ v) → ((j : ℕ) → j < start → get_or ids j 0 < v)
     → AreCountsOf (take start ids) numbers counts → AreCountsOf (take end ids) (numbers ++ v ∷ []) (counts ++ n ∷ [])
@@ -37,12 +35,12 @@ run-counted ids numbers counts start n v end to le some equal below h =
     let as_before : (j : ℕ) → j < length numbers → plain (take end ids) (get_or numbers j 0) ≡ plain (take start ids) (get_or numbers j 0) = λ j lt. other (get_or numbers j 0) (λ e. omega (arith, less j lt, e)) in
     record {
       whole = omega (arith, size, length_push counts n, h.whole);
-      rise = λ i j before lt. elim (cases_lt j (length numbers)) [
-        | inl within ↦ rw (old j within, old i (omega (arith, before, within))) (h.rise i j before within)
+      rise = increasing_from more (λ i j before lt. elim (cases_lt j (length numbers)) [
+        | inl within ↦ rw (old j within, old i (omega (arith, before, within))) (below_later numbers h.rise i j before within)
         | inr past ↦
             let within : i < length numbers = omega (arith, before, lt, size) in
             rw (own j lt past, old i within) (less i within)
-      ];
+      ]);
       counted = λ j lt. elim (cases_lt j (length numbers)) [
         | inl within ↦ rw (old j within) (kept j within ∙ h.counted j within ∙ sym (as_before j within))
         | inr past ↦ rw (own j lt past) (last j lt past ∙ sym its)
@@ -64,7 +62,7 @@ pub record AreCountedRuns (ids numbers counts : List ℕ) (start at : ℕ) : Typ
   pub below : at < length ids → (j : ℕ) → j < start → get_or ids j 0 < get_or ids at 0
   pub ended : at ≡ length ids → start ≡ at
 
--- a run that ends is counted
+-- a finished run is counted
 pub run-ends : (ids numbers counts : List ℕ) (start at : ℕ) → IsNonDecreasing ids → at < length ids → AreCountedRuns ids numbers counts start at
     → (at + 1 < length ids → get_or ids (at + 1) 0 ≢ get_or ids at 0)
     → AreCountedRuns ids (numbers ++ get_or ids at 0 ∷ []) (counts ++ (at + 1 - start) ∷ []) (at + 1) (at + 1)
@@ -112,8 +110,7 @@ none-found ids numbers counts i x h below above =
       | inr past ↦ absurd (omega (arith, above j past lt, same))
     ]))
 
--- ---- how they are added
--- the numbers before an index are added: counters below the number there are raised, and the others are as they were
+-- ---- adding them
 pub record AreAddedOnes (ids numbers old cells : List ℕ) (at : ℕ) : Type 0 where
   pub same : length cells ≡ length old
   pub before : (x : ℕ) → (at < length numbers → x < get_or numbers at 0) → get_or cells x 0 ≡ get_or old x 0 + plain ids x
@@ -153,11 +150,11 @@ one-more ids numbers counts old cells at h added lt have =
         ]
       ];
       rest = λ x lt' past.
-          let step = h.rise at (at + 1) (omega arith) lt' in
+          let step = below_later numbers h.rise at (at + 1) (omega arith) lt' in
           get_or-set_other cells own x sum 0 (λ e. omega (arith, step, past, e)) ∙ added.rest x lt (omega (arith, step, past));
     }
 
--- in the end all numbers are added
+-- at the end all numbers are added
 pub ones-all : (ids numbers old cells : List ℕ) (at : ℕ) → AreAddedOnes ids numbers old cells at → length numbers ≤ at → cells ≡ raised old ids
 unfolding raised
 ones-all ids numbers old cells at added le =
@@ -167,15 +164,15 @@ ones-all ids numbers old cells at added le =
     let zero_on : 0 + x ≡ x = omega arith in
     added.before x (λ more. absurd (omega (arith, more, le))) ∙ sym (counter-raised 0 old ids x within ∙ ap (λ y. get_or old x 0 + plain ids y) zero_on))
 
--- ---- a list whose numbers rise
+-- ---- a list of increasing numbers
 counts-alike : (ids numbers same counts alike : List ℕ) → numbers ≡ same → counts ≡ alike → AreCountsOf ids numbers counts → AreCountsOf ids same alike
 counts-alike ids numbers same counts alike e f h = rw (← e, ← f) h
 
 -- its first numbers, each once
-rising-below : (ids : List ℕ) → DoRise ids → (n : ℕ) → n ≤ length ids → AreCountsOf (take n ids) (take n ids) (replicate n 1)
+rising-below : (ids : List ℕ) → IsStrictlyIncreasing ids → (n : ℕ) → n ≤ length ids → AreCountsOf (take n ids) (take n ids) (replicate n 1)
 rising-below ids rise zero le = record {
   whole = refl;
-  rise = λ i j before lt. absurd (omega (arith, lt));
+  rise = λ k lt. absurd (omega (arith, lt));
   counted = λ j lt. absurd (omega (arith, lt));
   there = λ j lt. absurd (omega (arith, lt));
   others = λ x absent. refl;
@@ -184,12 +181,12 @@ rising-below ids rise (suc n) le =
     let lt : n < length ids = omega (arith, le) in
     let e : suc n ≡ n + 1 = omega arith in
     let last : (j : ℕ) → n ≤ j → j < n + 1 → get_or ids j 0 ≡ get_or ids n 0 = λ j from to. ap (λ i. get_or ids i 0) (omega (arith, from, to)) in
-    let more = run-counted ids (take n ids) (replicate n 1) n 1 (get_or ids n 0) (n + 1) refl (omega (arith, lt)) (omega arith) last (λ j before. rise j n before lt) (rising-below ids rise n (omega (arith, le))) in
+    let more = run-counted ids (take n ids) (replicate n 1) n 1 (get_or ids n 0) (n + 1) refl (omega (arith, lt)) (omega arith) last (λ j before. below_later ids rise j n before lt) (rising-below ids rise n (omega (arith, le))) in
     subst (λ m. AreCountsOf (take m ids) (take m ids) (replicate m 1)) (sym e) (counts-alike (take (n + 1) ids) (take n ids ++ get_or ids n 0 ∷ []) (take (n + 1) ids) (replicate n 1 ++ 1 ∷ []) (replicate (n + 1) 1) (sym (take_more ids n 0 lt)) (replicate_more n 1) more)
 
 -- each of its numbers is in it once
-pub rising-counts : (ids : List ℕ) → DoRise ids → AreCountsOf ids ids (replicate (length ids) 1)
+pub rising-counts : (ids : List ℕ) → IsStrictlyIncreasing ids → AreCountsOf ids ids (replicate (length ids) 1)
 rising-counts ids rise = rw (take_all (length ids) ids (omega arith)) at (rising-below ids rise (length ids) (omega arith))
 
-pub rising-once : (ids : List ℕ) (at : ℕ) → DoRise ids → at < length ids → plain ids (get_or ids at 0) ≡ 1
+pub rising-once : (ids : List ℕ) (at : ℕ) → IsStrictlyIncreasing ids → at < length ids → plain ids (get_or ids at 0) ≡ 1
 rising-once ids at rise lt = sym ((rising-counts ids rise).counted at lt) ∙ get_or-replicate {A = ℕ} (length ids) at 1 0 lt

@@ -16,7 +16,7 @@ pub length-raised : (start : ℕ) (counts ids : List ℕ) → length (raised_fro
 length-raised start [] ids = refl
 length-raised start (n ∷ counts) ids = ap (λ m. suc m) (length-raised (start + 1) counts ids)
 
--- ---- the counters of a table, of which those past the keys stand at 0
+-- ---- the counters of a table, which are zero past the keys
 pub cells-have : (keys : ℕ) (cells ids : List ℕ) → HaveCounters (take keys cells) ids → HaveCounters cells ids
 cells-have keys cells ids have x more = omega (arith, have x more, length-take keys cells)
 
@@ -55,7 +55,7 @@ take-raised start zero cells ids = refl
 take-raised start (suc keys) [] ids = refl
 take-raised start (suc keys) (n ∷ cells) ids = ap (λ rest. (n + plain ids start) ∷ rest) (take-raised (start + 1) keys cells ids)
 
--- the keys' counters are raised, and there is as much room
+-- the keys' counters are raised, and the capacity is the same
 pub merged-view : (keys : ℕ) (cells now ids : List ℕ) → now ≡ raised cells ids → table_view keys now ≡ record { counts = raised (take keys cells) ids; room = length cells - keys }
 unfolding raised
 merged-view keys cells now ids is =

@@ -1,4 +1,4 @@
--- Runs of equal numbers in a list whose numbers rise.
+-- Runs of equal numbers in a sorted list.
 use Rattle.std.proofs.Common.{◌≡◌, ◌≢◌, ◌∙◌, ◌+◌, ◌<◌, ◌≤◌, ℕ, zero, suc, true, false, List, length, take, get_or-take, get_or, sym, ap, refl, arith, inl, inr}
 use Rattle.std.specs.Prelude.{◌==◌}
 use Rattle.std.proofs.lemmas.Bool.{cases_lt}
@@ -41,7 +41,7 @@ all_equal ids start at j run from to =
       | inr le ↦ let e : j ≡ at = omega (arith, to, le) in ap (λ i. get_or ids i 0) e
     ]
 
--- a number that is larger than those before start is not among them
+-- a number larger than all before start is not among them
 pub none-before : (ids : List ℕ) (start v : ℕ) → start ≤ length ids → ((j : ℕ) → j < start → get_or ids j 0 < v) → plain (take start ids) v ≡ 0
 none-before ids start v le below =
     none-past (take start ids) v v

@@ -1,4 +1,4 @@
--- Blocks taken over from counters that begin with number 0.
+-- Blocks taken from counters that begin with number 0.
 use Rattle.std.proofs.Common.{◌≡◌, ◌∙◌, ◌+◌, ◌-◌, ◌*◌, ◌/◌, ◌%◌, ◌<◌, ◌≤◌, ℕ, List, [], ◌∷◌, ◌++◌, length, take, drop, get_or, get_or-take, get_or-drop, length-drop, set, sym, ap, refl, arith, inl, inr, replicate, get_or-set_same, get_or-set_other, length-append}
 use Rattle.std.proofs.lemmas.Bool.{cases_lt, cases_eq}
 use Rattle.std.proofs.lemmas.List.{get_or-append_right, get_or-replicate, get_or_append_left, get_or_past, get_or_push, length-replicate, length-take, length_push}
@@ -7,6 +7,7 @@ use Rattle.std.specs.Prelude.{◌==◌}
 use Rattle.keyed_table.specs.Counts.{plain}
 use Rattle.keyed_table.specs.Private.Blocks.{AreBlocksBelow, AreBlocksOf, AreTallies, AreWithin}
 use Rattle.keyed_table.proofs.Elements.{none-past, plain-next-other, plain-next-own}
+use Rattle.keyed_table.proofs.Touched.{below_later, increasing_from}
 
 -- zeros count nothing
 pub nothing-tallied : (n : ℕ) → AreTallies [] (replicate n 0)
@@ -25,7 +26,7 @@ tallied-more ids tallies at lt within h x =
       | inr differs ↦ get_or-set_other tallies id x _ 0 differs ∙ h x ∙ sym (plain-next-other ids at lt x differs)
     ]
 
--- a counter is no more than the numbers that were counted
+-- a counter is at most the count of numbers counted so far
 pub tally-fits : (ids tallies : List ℕ) (at : ℕ) → AreTallies (take at ids) tallies → get_or tallies (get_or ids at 0) 0 ≤ at
 tally-fits ids tallies at h =
     let id = get_or ids at 0 in
@@ -35,7 +36,7 @@ tally-fits ids tallies at h =
 pub none-below : (ids : List ℕ) → AreBlocksBelow 0 ids [] []
 none-below ids = record {
   whole = refl;
-  rise = λ i j before lt. absurd (omega (arith, lt));
+  rise = λ k lt. absurd (omega (arith, lt));
   below = λ j lt. absurd (omega (arith, lt));
   counted = λ j k lt small. absurd (omega (arith, lt));
   touched = λ j lt. absurd (omega (arith, lt));
@@ -57,7 +58,7 @@ all-below b ids blocks counts within h = record {
   touched = h.touched;
 }
 
--- this part of some counters is block b of them
+-- this part of the counters is block b
 pub record IsPart (b : ℕ) (tallies part : List ℕ) : Type 0 where
   pub eight : length part ≡ 8
   pub same : (k : ℕ) → k < 8 → get_or part k 0 ≡ get_or tallies (8 * b + k) 0
@@ -73,7 +74,7 @@ part-of b n tallies e le = record {
 part-counts : (b : ℕ) (ids tallies part : List ℕ) → AreTallies ids tallies → IsPart b tallies part → (k : ℕ) → k < 8 → get_or part k 0 ≡ plain ids (8 * b + k)
 part-counts b ids tallies part all is k small = is.same k small ∙ all (8 * b + k)
 
--- a block of zeros is passed over
+-- a block of zeros is skipped
 pub passed-over : (b : ℕ) (ids tallies part blocks counts : List ℕ) → IsPart b tallies part → ((i : ℕ) → get_or part i 0 ≡ 0) → AreTallies ids tallies
     → AreBlocksBelow b ids blocks counts → AreBlocksBelow (b + 1) ids blocks counts
 passed-over b ids tallies part blocks counts is zeros all h = record {
@@ -91,7 +92,7 @@ passed-over b ids tallies part blocks counts is zeros all h = record {
   ];
 }
 
--- a block with a counter that is not 0 is taken over
+-- a block with a nonzero counter is added
 pub taken-over : (b i : ℕ) (ids tallies part blocks counts : List ℕ) → IsPart b tallies part → i < 8 → 0 < get_or part i 0 → AreTallies ids tallies
     → AreBlocksBelow b ids blocks counts → AreBlocksBelow (b + 1) ids (blocks ++ b ∷ []) (counts ++ part)
 taken-over b i ids tallies part blocks counts is in_block some all h =
@@ -103,12 +104,12 @@ taken-over b i ids tallies part blocks counts is in_block some all h =
     let of_part = part-counts b ids tallies part all is in
     record {
       whole = omega (arith, size, length-append counts part, is.eight, h.whole);
-      rise = λ i j before lt. elim (cases_lt j (length blocks)) [
-        | inl within ↦ rw (old j within, old i (omega (arith, before, within))) (h.rise i j before within)
+      rise = increasing_from more (λ i j before lt. elim (cases_lt j (length blocks)) [
+        | inl within ↦ rw (old j within, old i (omega (arith, before, within))) (below_later blocks h.rise i j before within)
         | inr past ↦
             let within : i < length blocks = omega (arith, before, lt, size) in
             rw (last j lt past, old i within) (h.below i within)
-      ];
+      ]);
       below = λ j lt. elim (cases_lt j (length blocks)) [
         | inl within ↦ omega (arith, old j within, h.below j within)
         | inr past ↦ omega (arith, last j lt past)

@@ -1,16 +1,16 @@
--- How often key numbers are in a list, and counters by key number.
+-- How often key numbers occur in a list, and counters by key number.
 use Rattle.std.specs.Prelude.{ℕ, ◌+◌, ◌<◌, ◌^◌, ◌==◌, List, [], ◌∷◌, length, count_by, slice_index_or}
 
--- the plain count: at how many positions of the list x stands
+-- the plain count: the number of positions of the list that hold x
 abbrev pub plain : List ℕ → ℕ → ℕ
 plain ids x = count_by (λ y. x == y) ids
 
--- counters by key number, and for how many more there is room
+-- counters by key number, and the capacity for more
 pub record Counters : Type 0 where
   pub counts : List ℕ
   pub room : ℕ
 
--- the counter of a key number; without one it is 0
+-- the counter of a key number; zero if there is none
 abbrev pub counter_of : List ℕ → ℕ → ℕ
 counter_of counts x = slice_index_or counts x 0
 
@@ -27,6 +27,6 @@ raised counts ids = raised_from 0 counts ids
 abbrev pub HaveCounters : List ℕ → List ℕ → Type 0
 HaveCounters counts ids = (x : ℕ) → 0 < plain ids x → x < length counts
 
--- no counter passes 64 bits by this list
+-- no counter exceeds 64 bits with this list
 abbrev pub SumsFit : List ℕ → List ℕ → Type 0
 SumsFit counts ids = (x : ℕ) → counter_of counts x + plain ids x < 2 ^ 64

@@ -1,4 +1,4 @@
-//! Blocks of eight key numbers, and how often a list has each of their numbers.
+//! Blocks of eight consecutive key numbers, and how often a list has each of their numbers.
 
 ghost use Rattle.std.specs.Prelude.{◌≡◌, ◌+◌, ◌*◌, ◌<◌, ◌≤◌, ◌^◌, ℕ, List, IfOk, OnOk, false, true, length, slice_index_or};
 ghost use Rattle.keyed_table.specs.Private.Blocks.{AreBlocksBelow, AreBlocksOf, AreTallies, AreWithin};
@@ -6,23 +6,23 @@ ghost use Rattle.keyed_table.specs.Private.Blocks.{AreBlocksBelow, AreBlocksOf, 
 use lane_words::Memory;
 use std::alloc::Global;
 
-/// How many key numbers a block has.
+/// The number of key numbers in a block.
 pub const BLOCK: usize = 8;
 
-/// The blocks that a list of key numbers touches, with how often each of their numbers is in it.
+/// The blocks that a list of key numbers touches, and how often each of their numbers is in it.
 ///
 /// Block `b` has the key numbers from `8 * b` on.
 #[derive(Debug, Drop)]
 pub struct Blocks {
-    /// The numbers of the blocks, which rise.
+    /// The numbers of the blocks, in increasing order.
     pub numbers: Vec<u32>,
-    /// Eight counters for each block, side by side.
+    /// Eight counters for each block.
     pub counts: Vec<u64>,
 }
 
 impl Blocks {
-    /// The blocks of a list whose numbers are in the first so many blocks, by way of a counter for
-    /// each number of these.
+    /// The blocks of a list whose numbers lie in the first `bound` blocks. It allocates a counter
+    /// for each number of these.
     pub fn of(alloc: Global, ids: &[u32], bound: usize) -> Result<Blocks, Memory>
         requires within { AreWithin bound ids.now }
         requires fit { 8 * bound ≤ 2 ^ 32 }
@@ -40,7 +40,7 @@ impl Blocks {
         Ok(blocks)
     }
 
-    /// Takes over a block of counters that begin at 0, where it has any but zeros.
+    /// Adds a block with its counters, unless all of them are zero.
     fn take(&mut self, tallies: &[u64], block: usize) -> Result<(), Memory>
         requires within { 8 * block + 8 ≤ length tallies.now }
         requires number { block < 2 ^ 32 }
@@ -59,7 +59,7 @@ impl Blocks {
     }
 }
 
-/// How many blocks there are up to the one of the largest number of a list.
+/// The number of blocks up to that of the largest number of a list.
 pub fn bound_of(ids: &[u32]) -> usize
     ensures within { AreWithin result ids.now }
     ensures fit { 8 * result ≤ 2 ^ 32 }
@@ -71,7 +71,7 @@ pub fn bound_of(ids: &[u32]) -> usize
     bound
 }
 
-/// How often each number of the first so many blocks is in a list that has no other.
+/// How often each number of the first `blocks` blocks is in a list that has no others.
 fn tallies_of(alloc: Global, ids: &[u32], blocks: usize) -> Result<Vec<u64>, Memory>
     requires within { AreWithin blocks ids.now }
     requires fit { 8 * blocks ≤ 2 ^ 32 }
@@ -85,7 +85,7 @@ fn tallies_of(alloc: Global, ids: &[u32], blocks: usize) -> Result<Vec<u64>, Mem
     Ok(tallies)
 }
 
-/// Whether some counters stand at 0.
+/// Whether all these counters are zero.
 fn are_zeros(counts: &[u64]) -> bool
     ensures yes { result ≡ true → (i : ℕ) → slice_index_or counts.now i 0 ≡ 0 }
     ensures no { result ≡ false → (i : ℕ) × (i < length counts.now)

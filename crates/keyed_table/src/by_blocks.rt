@@ -1,17 +1,18 @@
-//! A list of key numbers, counted by blocks of eight.
+//! A list of key numbers, counted in blocks of eight.
 
 ghost use Rattle.std.specs.Prelude.{◌≡◌, ◌*◌, ◌<◌, ◌≤◌, ◌%◌, ◌^◌, IfOk, length};
+ghost use Rattle.std.specs.List.Sorted.{IsStrictlyIncreasing};
 ghost use Rattle.keyed_table.specs.Counts.{HaveCounters, SumsFit, plain, raised};
-ghost use Rattle.keyed_table.specs.Private.Blocks.{AreNeighbours, AreWithin, DoRise};
+ghost use Rattle.keyed_table.specs.Private.Blocks.{AreNeighbours, AreWithin};
 
 use crate::blocks::{BLOCK, Blocks};
 use lane_words::{Memory, add_into};
 use std::alloc::Global;
 use std::marker::Model;
 
-/// A list of key numbers, and beside it how often each number is in it, in blocks of eight.
+/// A list of key numbers and how often each number is in it, in blocks of eight.
 ///
-/// The counts are always those of the list, whatever the list.
+/// The counts are always those of the list, for any list.
 #[derive(Debug, Drop)]
 pub struct ByBlocks {
     /// The list, in its own order.
@@ -33,7 +34,7 @@ impl Model for ByBlocks {
 }
 
 impl ByBlocks {
-    /// A list whose numbers are in the first so many blocks, with its counts.
+    /// Counts a list whose numbers lie in the first `bound` blocks.
     pub fn of(alloc: Global, ids: Vec<u32>, bound: usize) -> Result<ByBlocks, Memory>
         requires within { AreWithin bound ids.items }
         requires fit { 8 * bound ≤ 2 ^ 32 }
@@ -50,7 +51,7 @@ impl ByBlocks {
         self.ids.as_slice()
     }
 
-    /// How often a number is in the list: 0 where it is not.
+    /// How often a number is in the list, which may be never.
     pub fn get(&self, id: u32) -> u64
         ensures { result ≡ plain self.now id }
     {
@@ -60,8 +61,8 @@ impl ByBlocks {
         }
     }
 
-    /// Adds to each counter how often its number is in the list. The counters, each at the index of
-    /// its key number, stand in whole blocks.
+    /// Adds to each counter how often its number is in the list. The counters are indexed by number
+    /// and fill whole blocks.
     pub fn add_to(&self, cells: &mut [u64])
         requires whole { length cells.old % 8 ≡ 0 }
         requires numbers { HaveCounters cells.old self.now }
@@ -81,9 +82,10 @@ impl ByBlocks {
     }
 }
 
-/// Where the neighbouring blocks end that begin at an index.
+/// The end of the run of consecutive blocks that begins at this index.
+#[tactic(auto, using(crate::proofs::Touched::below_later))]
 fn run_end(numbers: &[u32], start: usize) -> usize
-    requires rise { DoRise numbers.now }
+    requires rise { IsStrictlyIncreasing numbers.now }
     requires start { start < length numbers.now }
     ensures after { start < result }
     ensures within { result ≤ length numbers.now }

@@ -9,14 +9,14 @@ use lane_words::Memory;
 use std::alloc::Global;
 use std::marker::Model;
 
-/// A list of key numbers, and beside it each number that is in it, once, with how often it is there.
+/// A list of key numbers, and its distinct numbers with how often each is in it.
 ///
-/// The counts are always those of the list, whatever the list.
+/// The counts are always those of the list, for any list.
 #[derive(Debug, Drop)]
 pub struct ByNumber {
     /// The list, in its own order.
     ids: Vec<u32>,
-    /// Its different numbers, which rise.
+    /// Its distinct numbers, in increasing order.
     numbers: Vec<u32>,
     /// How often each of them is in the list.
     counts: Vec<u64>,
@@ -34,7 +34,7 @@ impl Model for ByNumber {
 }
 
 impl ByNumber {
-    /// A list, with its counts, by way of a sorted copy.
+    /// Counts a list by sorting a copy.
     pub fn of(alloc: Global, ids: Vec<u32>) -> Result<ByNumber, Memory>
         ensures { IfOk result (λ counted. counted ≡ ids.items) }
     {
@@ -55,7 +55,7 @@ impl ByNumber {
         self.ids.as_slice()
     }
 
-    /// How often a number is in the list: 0 where it is not.
+    /// How often a number is in the list, which may be never.
     pub fn get(&self, id: u32) -> u64
         ensures { result ≡ plain self.now id }
     {
@@ -79,8 +79,7 @@ impl ByNumber {
     }
 }
 
-/// The different numbers of a list whose numbers rise, and how often each is in it: equal numbers
-/// stand side by side.
+/// The distinct numbers of a sorted list, and how often each occurs: equal numbers are adjacent.
 fn runs_of(alloc: Global, ids: &[u32]) -> Result<(Vec<u32>, Vec<u64>), Memory>
     requires { IsNonDecreasing ids.now }
     ensures { IfOk result (λ runs. AreCountsOf ids.now runs.0.items runs.1.items) }
@@ -98,7 +97,7 @@ fn runs_of(alloc: Global, ids: &[u32]) -> Result<(Vec<u32>, Vec<u64>), Memory>
     Ok((numbers, counts))
 }
 
-/// Whether the number after this one is another, or there is none.
+/// Whether the next number is a different one, or there is none.
 fn ends_run(ids: &[u32], at: usize) -> bool
     requires { at < length ids.now }
     ensures goes_on { result ≡ false → (at + 1 < length ids.now)

@@ -14,17 +14,17 @@ use std::marker::Model;
 /// A list with its counts, in one of three forms.
 #[derive(Debug, Drop)]
 enum Counted {
-    /// One that is no shorter than the key numbers up to its largest are many.
+    /// A list that is at least as long as its largest number plus one, rounded up to whole blocks.
     Blocks(ByBlocks),
-    /// Another one, whose numbers rise.
+    /// Any other list of increasing numbers.
     Rising(Rising),
-    /// Any other.
+    /// Any other list.
     Numbers(ByNumber),
 }
 
-/// A list of key numbers, and beside it how often each number is in it.
+/// A list of key numbers and how often each number is in it.
 ///
-/// The counts are always those of the list, whatever the list.
+/// The counts are always those of the list, for any list.
 #[derive(Debug, Drop)]
 pub struct Partial {
     counted: Counted,
@@ -40,7 +40,7 @@ impl Model for Partial {
 }
 
 impl Partial {
-    /// The list, with its counts. The only refusal is want of memory.
+    /// Counts a list. Fails only if memory runs out.
     pub fn of(alloc: Global, ids: Vec<u32>) -> Result<Partial, Memory>
         ensures { IfOk result (λ partial. partial ≡ ids.items) }
     {
@@ -66,7 +66,7 @@ impl Partial {
         }
     }
 
-    /// How often a number is in the list: 0 where it is not.
+    /// How often a number is in the list, which may be never.
     pub fn get(&self, id: u32) -> u64
         ensures { result ≡ plain self.now id }
     {
@@ -77,8 +77,8 @@ impl Partial {
         }
     }
 
-    /// Adds to each counter how often its number is in the list. The counters, each at the index of
-    /// its key number, stand in whole blocks.
+    /// Adds to each counter how often its number is in the list. The counters are indexed by number
+    /// and fill whole blocks.
     pub(crate) fn add_to(&self, cells: &mut [u64])
         requires whole { length cells.old % 8 ≡ 0 }
         requires numbers { HaveCounters cells.old self.now }

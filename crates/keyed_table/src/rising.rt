@@ -1,13 +1,14 @@
-//! A list of key numbers that rise, so that each is in it once.
+//! A list of increasing key numbers, in which each occurs once.
 
 ghost use Rattle.std.specs.Prelude.{◌≡◌, ◌+◌, ◌<◌, ◌↔◌, IsTrue, length};
+ghost use Rattle.std.specs.List.Sorted.{IsStrictlyIncreasing};
 ghost use Rattle.keyed_table.specs.Counts.{HaveCounters, SumsFit, plain, raised};
-ghost use Rattle.keyed_table.specs.Private.Blocks.{DoRise};
 
+use crate::counting::add_each;
 use std::marker::Model;
 
-/// A list of key numbers that rise, as those of a log whose records all have different new keys: it
-/// is its own count, and nothing stands beside it.
+/// A list of increasing key numbers, as in a log whose records all have different new keys. It
+/// needs no counts besides itself.
 #[derive(Debug, Drop)]
 pub struct Rising {
     /// The list.
@@ -16,19 +17,19 @@ pub struct Rising {
 
 impl Model for Rising {
     ghost use Rattle.std.specs.Prelude.{List, ℕ};
-    ghost use Rattle.keyed_table.specs.Private.Blocks.{DoRise};
+    ghost use Rattle.std.specs.List.Sorted.{IsStrictlyIncreasing};
 
     ghost Value = { List ℕ };
 
     ghost view = { λ p. p.ids.items };
 
-    ghost invariant = { λ p. DoRise p.ids.items };
+    ghost invariant = { λ p. IsStrictlyIncreasing p.ids.items };
 }
 
 impl Rising {
-    /// A list whose numbers rise.
+    /// A list whose numbers increase.
     pub fn of(ids: Vec<u32>) -> Rising
-        requires { DoRise ids.items }
+        requires { IsStrictlyIncreasing ids.items }
         ensures { result ≡ ids.items }
     {
         Rising { ids }
@@ -41,7 +42,7 @@ impl Rising {
         self.ids.as_slice()
     }
 
-    /// How often a number is in the list: 0 where it is not.
+    /// How often a number is in the list, which may be never.
     pub fn get(&self, id: u32) -> u64
         ensures { result ≡ plain self.now id }
     {
@@ -57,16 +58,13 @@ impl Rising {
         requires fit { SumsFit cells.old self.now }
         ensures { cells.new ≡ raised cells.old self.now }
     {
-        let ids = self.ids.as_slice();
-        for at in 0..ids.len() {
-            cells[ids[at] as usize] += 1;
-        }
+        add_each(cells, self.ids.as_slice());
     }
 }
 
-/// Whether the numbers of a list rise.
+/// Whether the numbers of a list increase.
 pub fn do_rise(ids: &[u32]) -> bool
-    ensures { IsTrue result ↔ DoRise ids.now }
+    ensures { IsTrue result ↔ IsStrictlyIncreasing ids.now }
 {
     for at in 1..ids.len() {
         if ids[at - 1] >= ids[at] {

@@ -5,19 +5,20 @@ ghost use Rattle.keyed_table.specs.Counts.{Counters, HaveCounters, SumsFit, coun
 
 use crate::Partial;
 use crate::blocks::BLOCK;
+use crate::counting::add_each;
 use lane_words::Memory;
 use std::alloc::Global;
 use std::marker::Model;
 
 /// A counter for each key number, from 0 on.
 ///
-/// Counters stand in whole blocks of eight. Those past the last key are at 0: they are the room for
+/// Counters fill whole blocks of eight. Those past the last key are zero: they are the capacity for
 /// more keys.
 #[derive(Debug, Drop)]
 pub struct Table {
-    /// How many keys there are.
+    /// The number of keys.
     keys: usize,
-    /// The counters, each at the index of its key number, and those past the keys.
+    /// The counters, indexed by key number, and those past the keys.
     cells: Vec<u64>,
 }
 
@@ -33,7 +34,7 @@ impl Model for Table {
 }
 
 impl Table {
-    /// No counters. It takes no memory.
+    /// An empty table. It allocates nothing.
     pub fn new(alloc: Global) -> Table
         ensures { result.counts ≡ [] }
     {
@@ -43,7 +44,8 @@ impl Table {
         }
     }
 
-    /// A counter at 0 for each of this many key numbers. Refused for want of memory.
+    /// A table with a counter at zero for each of `keys` key numbers. Fails only if memory runs
+    /// out.
     pub fn zeros(alloc: Global, keys: u32) -> Result<Table, Memory>
         ensures { IfOk result (λ table. table.counts ≡ replicate keys 0) }
     {
@@ -52,8 +54,8 @@ impl Table {
         Ok(Table { keys, cells })
     }
 
-    /// Makes room for at least one counter more. Refused, with the counters as they were, for want
-    /// of memory.
+    /// Reserves capacity for at least one more counter. Fails if memory runs out, and then leaves
+    /// the counters unchanged.
     pub fn reserve(&mut self) -> Result<(), Memory>
         ensures counts { self.new.counts ≡ self.old.counts }
         ensures room { OnOk result (1 ≤ self.new.room) }
@@ -65,17 +67,18 @@ impl Table {
         Ok(())
     }
 
-    /// A counter at 0 for the next key number, in the room that was made for it. It takes no
-    /// memory.
+    /// Adds a counter at zero for the next key number, within the reserved capacity. It allocates
+    /// nothing.
     pub fn add_key(&mut self)
         requires { 1 ≤ self.old.room }
-        ensures { self.new ≡ record { counts = self.old.counts ++ 0 ∷ []; room = self.old.room - 1 } }
+        ensures { self.new ≡ record
+            { counts = self.old.counts ++ 0 ∷ []; room = self.old.room - 1 } }
     {
         self.keys += 1;
     }
 
-    /// Adds how often each number is in the list of a partial count to its counter. It takes no
-    /// memory.
+    /// Adds how often each number occurs in the list of a partial count to its counter. It
+    /// allocates nothing.
     pub fn merge(&mut self, partial: &Partial)
         requires numbers { HaveCounters self.old.counts partial.now }
         requires fit { SumsFit self.old.counts partial.now }
@@ -85,7 +88,17 @@ impl Table {
         partial.add_to(&mut self.cells);
     }
 
-    /// How many counters there are.
+    /// Adds how often each number occurs in a list to its counter. It allocates nothing.
+    pub fn add_list(&mut self, ids: &[u32])
+        requires numbers { HaveCounters self.old.counts ids.now }
+        requires fit { SumsFit self.old.counts ids.now }
+        ensures { self.new ≡ record
+            { counts = raised self.old.counts ids.now; room = self.old.room } }
+    {
+        add_each(&mut self.cells, ids);
+    }
+
+    /// The number of counters.
     pub fn len(&self) -> usize
         ensures { result ≡ length self.now.counts }
     {

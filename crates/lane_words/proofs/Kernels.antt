@@ -1,4 +1,5 @@
--- A loop over words, pair by pair: its step over eight, its step over one, and the call for the rest.
+-- The loops of the kernels: a step over eight pairs of words, a step over one pair, and the call
+-- for the rest.
 use Rattle.std.proofs.Common.{ℕ, ◌≡◌, ◌+◌, ◌-◌, ◌%◌, ◌^◌, ◌<◌, ◌≤◌, ◌==◌, Bool, true, false, not, ◌||◌, List, [], ◌∷◌, ◌++◌, length, drop, take, refl, arith, zero, suc, ap, sym, ◌∙◌, get_or, map, bit_and, bit_or, bit_xor, length-drop, append-nil, inl, inr}
 use Rattle.std.proofs.Math.ListN.{set}
 use Rattle.std.specs.Prelude.{IsTrue, ◌↔◌}
@@ -14,7 +15,7 @@ use Rattle.std.proofs.lemmas.Simd.{length-chunk, length-zip2}
 use borrow.Rule.Slice.PartMut.{put_mid}
 use Rattle.lane_words.specs.Words.{and_not, any_set}
 
--- done as far as at, and from there on as before
+-- processed up to index at, and unchanged from there on
 abbrev pub done : (ℕ → ℕ → ℕ) → ℕ → List ℕ → List ℕ → List ℕ
 done f at old b = zip2 f (take at old) (take at b) ++ drop at old
 
@@ -25,7 +26,7 @@ put_first f (suc n) [] b len le = absurd (omega arith)
 put_first f (suc n) (x ∷ old) [] len le = absurd (omega arith)
 put_first f (suc n) (x ∷ old) (y ∷ b) len le = ap (λ r. f x y ∷ r) (put_first f n old b (omega arith) (omega arith))
 
--- n words more
+-- n more words
 pub words_more : (f : ℕ → ℕ → ℕ) (n at : ℕ) (old b : List ℕ) → length old ≡ length b → at + n ≤ length old → put_chunk at (done f at old b) (zip2 f (chunk at n (done f at old b)) (chunk at n b)) ≡ done f (at + n) old b
 words_more f n zero old b len le = let e : 0 + n ≡ n = omega arith in rw e (put_first f n old b len (omega arith))
 words_more f n (suc at) [] b len le = absurd (omega arith)
@@ -34,7 +35,7 @@ words_more f n (suc at) (x ∷ old) (y ∷ b) len le =
     let e : suc at + n ≡ suc (at + n) = omega arith in
     rw e (ap (λ r. f x y ∷ r) (words_more f n at old b (omega arith) (omega arith)))
 
--- one word more
+-- one more word
 pub one_more : (f : ℕ → ℕ → ℕ) (at : ℕ) (old b : List ℕ) → length old ≡ length b → at < length old → set (done f at old b) at (f (get_or (done f at old b) at 0) (get_or b at 0)) ≡ done f (at + 1) old b
 one_more f zero [] b len lt = absurd (omega arith)
 one_more f zero (x ∷ old) [] len lt = absurd (omega arith)
@@ -65,13 +66,13 @@ rest_done f (suc at) [] b len le = absurd (omega arith)
 rest_done f (suc at) (x ∷ old) [] len le = absurd (omega arith)
 rest_done f (suc at) (x ∷ old) (y ∷ b) len le = ap (λ r. f x y ∷ r) (rest_done f at old b (omega arith) (omega arith))
 
--- a complement in the lanes
+-- a complement, lane by lane
 pub zip2_not : (xs ys : List ℕ) → zip2 bit_and xs (map (λ y. 18446744073709551615 - y) ys) ≡ zip2 and_not xs ys
 zip2_not [] ys = refl
 zip2_not (x ∷ xs) [] = refl
 zip2_not (x ∷ xs) (y ∷ ys) = ap (λ r. and_not x y ∷ r) (zip2_not xs ys)
 
--- what a call leaves that works on the words from at on
+-- the result of a call on the words from at on
 pub rest_put : (f : ℕ → ℕ → ℕ) (at : ℕ) (now old b ys : List ℕ) → length old ≡ length b → at ≤ length old → now ≡ done f at old b → ys ≡ zip2 f (take (length now - at) (drop at now)) (take (length b - at) (drop at b)) → put_mid at (length now - at) now ys ≡ zip2 f old b
 rest_put f at now old b ys len le e y =
     let long : length now ≡ length old = ap length e ∙ length_done f at old b len in
@@ -81,11 +82,11 @@ rest_put f at now old b ys len le e y =
     let z : ys ≡ zip2 f (drop at now) (drop at b) = y ∙ rw (mine, theirs) refl in
     rw (gone, append-nil ys, z, e) (rest_done f at old b len le)
 
--- ---- whether a bit is set in what f makes of the pairs before at
+-- ---- whether a bit is set in f of the pairs before index at
 abbrev pub set_below : (ℕ → ℕ → ℕ) → ℕ → List ℕ → List ℕ → Bool
 set_below f at a b = any_set (zip2 f (take at a) (take at b))
 
--- whether a bit is set in one word
+-- whether any bit of one word is set
 abbrev pub is_set : ℕ → Bool
 is_set x = not (x == 0)
 
@@ -140,7 +141,7 @@ length-pairs f at n a b len le =
     let theirs = length-chunk at n b (omega arith) in
     length-zip2 f (chunk at n a) (chunk at n b) (mine ∙ sym theirs) ∙ mine
 
--- n pairs more, in lanes
+-- n more pairs, in lanes
 pub set_more : (f : ℕ → ℕ → ℕ) (n at : ℕ) (found a b : List ℕ) → length a ≡ length b → at + n ≤ length a → length found ≡ n → any_set found ≡ set_below f at a b → any_set (zip2 bit_or found (zip2 f (chunk at n a) (chunk at n b))) ≡ set_below f (at + n) a b
 set_more f n at found a b len le lanes e =
     let pairs = length-pairs f at n a b len le in
@@ -157,7 +158,7 @@ or_none : (x : Bool) → (x || false) ≡ x
 or_none true = refl
 or_none false = refl
 
--- one pair more
+-- one more pair
 pub set_one : (f : ℕ → ℕ → ℕ) (at found : ℕ) (a b : List ℕ) → length a ≡ length b → at < length a → is_set found ≡ set_below f at a b → is_set (bit_or found (f (get_or a at 0) (get_or b at 0))) ≡ set_below f (at + 1) a b
 set_one f at found a b len lt e =
     is_set-or found (f (get_or a at 0) (get_or b at 0))
@@ -193,7 +194,7 @@ set_rest f at a b len le =
 pub lanes_more : (f : ℕ → ℕ → ℕ) (n at : ℕ) (found a b : List ℕ) → length a ≡ length b → at + n ≤ length a → length found ≡ n → length (zip2 bit_or found (zip2 f (chunk at n a) (chunk at n b))) ≡ n
 lanes_more f n at found a b len le lanes = length-zip2 bit_or found (zip2 f (chunk at n a) (chunk at n b)) (lanes ∙ sym (length-pairs f at n a b len le)) ∙ lanes
 
--- what the lanes tell before the rest is looked at
+-- what the lanes say before the rest is looked at
 pub lanes_found : (f : ℕ → ℕ → ℕ) (at : ℕ) (found a b : List ℕ) → length a ≡ length b → at ≤ length a → any_set found ≡ set_below f at a b → is_set (fold_l bit_or 0 found) ≡ true → any_set (zip2 f a b) ≡ true
 lanes_found f at found a b len le e h = sym (set_rest f at a b len le) ∙ rw (← e, ← set_fold 0 found, h) refl
 
@@ -252,14 +253,14 @@ get_or-take-le (suc n) [] i = omega arith
 get_or-take-le (suc n) (x ∷ xs) zero = omega arith
 get_or-take-le (suc n) (x ∷ xs) (suc i) = get_or-take-le n xs i
 
--- the words from at on are as before
+-- the words from at on are unchanged
 pub rest_fits : (n m at : ℕ) (old b : List ℕ) → length old ≡ length b → at ≤ length old → Fit old b → Fit (take n (drop at (done (λ x y. x + y) at old b))) (take m (drop at b))
 rest_fits n m zero old b len le fit i = omega (arith, get_or-take-le n old i, get_or-take-le m b i, fit i)
 rest_fits n m (suc at) [] b len le fit i = absurd (omega arith)
 rest_fits n m (suc at) (x ∷ old) [] len le fit i = absurd (omega arith)
 rest_fits n m (suc at) (x ∷ old) (y ∷ b) len le fit i = rest_fits n m at old b (omega arith) (omega arith) (λ j. fit (suc j)) i
 
--- a sum in the lanes
+-- a sum, lane by lane
 zip2_fits : (a b : List ℕ) → Fit a b → zip2 (λ x y. (x + y) % 18446744073709551616) a b ≡ zip2 (λ x y. x + y) a b
 zip2_fits [] b fit = refl
 zip2_fits (x ∷ a) [] fit = refl
@@ -267,7 +268,7 @@ zip2_fits (x ∷ a) (y ∷ b) fit =
     let here : (x + y) % 18446744073709551616 ≡ x + y = omega (arith, fit 0) in
     rw (here, zip2_fits a b (λ i. fit (suc i))) refl
 
--- n sums more, in lanes
+-- n more sums, in lanes
 pub sums_more : (n at : ℕ) (old b : List ℕ) → length old ≡ length b → at + n ≤ length old → Fit old b → put_chunk at (done (λ x y. x + y) at old b) (zip2 (λ x y. (x + y) % 18446744073709551616) (chunk at n (done (λ x y. x + y) at old b)) (chunk at n b)) ≡ done (λ x y. x + y) (at + n) old b
 sums_more n at old b len le fit =
     let within : at ≤ length old = omega arith in

@@ -1,4 +1,4 @@
--- Sums over numbers.
+-- Sums of functions.
 use Rattle.std.specs.Prelude.{ℕ, zero, suc, ◌+◌}
 
 -- the sum of f over the numbers below n

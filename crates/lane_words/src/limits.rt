@@ -1,19 +1,20 @@
-//! The limits that several crates speak of.
+//! Limits that several crates share.
 
-/// The most partitions.
+/// The largest number of partitions, over all topics.
 pub const MOST_PARTITIONS: u32 = 4096;
 
-/// The most topics.
+/// The largest number of topics.
 pub const MOST_TOPICS: usize = 8;
 
-/// The most members of a group over its time.
+/// The largest number of members that a group can have had, lost ones included.
 pub const MOST_MEMBERS: usize = 512;
 
-/// The longest key, in bytes.
+/// The length of the longest key, in bytes.
 pub const LONGEST_KEY: usize = 65_535;
 
-/// The most records of one log, and the most keys: offsets and key numbers fit 32 bits.
+/// The largest number of records in one log, and of distinct keys. Offsets and key numbers fit in
+/// 32 bits.
 pub const MOST_RECORDS: u32 = u32::MAX;
 
-/// The last generation.
+/// The number of the last generation of a group.
 pub const LAST_GENERATION: u32 = u32::MAX;

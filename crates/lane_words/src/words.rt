@@ -1,4 +1,4 @@
-//! Slices of words, worked on eight words at a time: their bits, pair by pair.
+//! Kernels over slices of words, eight words at a time.
 
 ghost use Rattle.std.specs.Prelude.{◌≡◌, ◌↔◌, ◌+◌, ◌*◌, ◌<◌, ◌^◌, ℕ, IsTrue, length, not, bit_and, bit_or, slice_index_or, sum_by, count_ones};
 ghost use Rattle.std.specs.Simd.Lanes.{zip2};
@@ -8,14 +8,14 @@ mod plain;
 
 use std::simd::prelude::*;
 
-/// How many words are worked on at a time.
+/// How many words are processed at a time.
 const LANES: usize = 8;
 
-/// How many words of 32 bits are compared at a time: eight vectors of the processor at least, so that
-/// none waits for the one before it.
+/// How many 32-bit words `equal32` compares at a time: enough to fill eight vector registers, so
+/// that no comparison waits for the one before it.
 const WIDE: usize = 32;
 
-/// Clears in `a` the bits of `b`, which is as long.
+/// Clears in `a` the bits that are set in `b`, a slice of the same length.
 pub fn and_not_into(a: &mut [u64], b: &[u64])
     requires { length a.old ≡ length b.now }
     ensures { a.new ≡ zip2 and_not a.old b.now }
@@ -30,7 +30,7 @@ pub fn and_not_into(a: &mut [u64], b: &[u64])
     plain::and_not_into(&mut a[at..], &b[at..]);
 }
 
-/// Sets in `a` the bits of `b`, which is as long.
+/// Sets in `a` the bits that are set in `b`, a slice of the same length.
 pub fn or_into(a: &mut [u64], b: &[u64])
     requires { length a.old ≡ length b.now }
     ensures { a.new ≡ zip2 bit_or a.old b.now }
@@ -45,8 +45,8 @@ pub fn or_into(a: &mut [u64], b: &[u64])
     plain::or_into(&mut a[at..], &b[at..]);
 }
 
-/// Whether some bit is set in both, which are as long. All words are looked at, since a search that
-/// leaves early is not made into one over eight at a time.
+/// Whether any bit is set in both slices, which have the same length. It reads every word: a search
+/// that stops early is not vectorized.
 pub fn any_and(a: &[u64], b: &[u64]) -> bool
     requires { length a.now ≡ length b.now }
     ensures { result ≡ any_set (zip2 bit_and a.now b.now) }
@@ -60,7 +60,7 @@ pub fn any_and(a: &[u64], b: &[u64]) -> bool
     found.reduce_or() != 0 || plain::any_and(&a[at..], &b[at..])
 }
 
-/// Whether each bit of `a` is set in `b`, which is as long.
+/// Whether every bit of `a` is also set in `b`, a slice of the same length.
 pub fn is_within(a: &[u64], b: &[u64]) -> bool
     requires { length a.now ≡ length b.now }
     ensures { result ≡ not (any_set (zip2 and_not a.now b.now)) }
@@ -74,7 +74,7 @@ pub fn is_within(a: &[u64], b: &[u64]) -> bool
     found.reduce_or() == 0 && plain::is_within(&a[at..], &b[at..])
 }
 
-/// Whether both, which are as long, are equal.
+/// Whether two slices of the same length are equal.
 pub fn equal64(a: &[u64], b: &[u64]) -> bool
     requires { length a.now ≡ length b.now }
     ensures { IsTrue result ↔ (a.now ≡ b.now) }
@@ -88,8 +88,8 @@ pub fn equal64(a: &[u64], b: &[u64]) -> bool
     found.reduce_or() == 0 && plain::equal64(&a[at..], &b[at..])
 }
 
-/// Whether both, which are as long, are equal. Their words are compared 32 at a time, and the rest by
-/// eight.
+/// Whether two slices of the same length are equal. It compares 32 words at a time, and the rest
+/// eight at a time.
 pub fn equal32(a: &[u32], b: &[u32]) -> bool
     requires { length a.now ≡ length b.now }
     ensures { IsTrue result ↔ (a.now ≡ b.now) }
@@ -103,7 +103,7 @@ pub fn equal32(a: &[u32], b: &[u32]) -> bool
     found.reduce_or() == 0 && equal32_by_eight(&a[at..], &b[at..])
 }
 
-/// Whether both, which are as long, are equal.
+/// Whether two slices of the same length are equal.
 fn equal32_by_eight(a: &[u32], b: &[u32]) -> bool
     requires { length a.now ≡ length b.now }
     ensures { IsTrue result ↔ (a.now ≡ b.now) }
@@ -117,7 +117,7 @@ fn equal32_by_eight(a: &[u32], b: &[u32]) -> bool
     found.reduce_or() == 0 && plain::equal32(&a[at..], &b[at..])
 }
 
-/// Adds to each number of `a` the one of `b`, which is as long. Each sum has to fit.
+/// Adds the numbers of `b` to those of `a`, a slice of the same length. No sum may overflow.
 pub fn add_into(a: &mut [u64], b: &[u64])
     requires length { length a.old ≡ length b.now }
     requires fit { (i : ℕ) → slice_index_or a.old i 0 + slice_index_or b.now i 0 < 2 ^ 64 }
@@ -133,8 +133,8 @@ pub fn add_into(a: &mut [u64], b: &[u64])
     plain::add_into(&mut a[at..], &b[at..]);
 }
 
-/// How many bits are set in all words, of which there are fewer than 2^58. The processor counts the
-/// bits of one word at a time, and has no way to count those of eight.
+/// How many bits are set in all words, of which there are fewer than 2^58. It goes word by word:
+/// the processor has an instruction to count the bits of one word, and none for a vector of words.
 pub fn count_ones(a: &[u64]) -> u64
     requires { 64 * length a.now < 2 ^ 64 }
     ensures { result ≡ sum_by count_ones a.now }

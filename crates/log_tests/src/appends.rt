@@ -1,4 +1,4 @@
-//! Keys appended at once, beside the same keys appended one by one.
+//! Keys appended at once compared with the same keys appended one by one.
 
 ghost use Rattle.std.specs.Prelude.{◌<◌, ◌≤◌};
 
@@ -12,7 +12,7 @@ use std::random::RandomSource;
 use std::test::Fail;
 use std::thread::Threads;
 
-/// How appends of several keys are answered.
+/// The result of appending several keys.
 type Answer = Result<(), (u64, Refusal)>;
 
 /// Appends these keys one by one.
@@ -25,7 +25,7 @@ fn one_by_one(logs: &mut Logs, keys: &[&[u8]]) -> Answer {
     Ok(())
 }
 
-/// A list with these keys more.
+/// Adds these keys to a list.
 fn with_keys(list: KeyList, keys: &[&[u8]]) -> Result<KeyList, Refusal> {
     let mut list = list;
     for i in 0..keys.len() {
@@ -34,7 +34,7 @@ fn with_keys(list: KeyList, keys: &[&[u8]]) -> Result<KeyList, Refusal> {
     Ok(list)
 }
 
-/// A list of these keys, in which they are looked up.
+/// A list of these keys that looks keys up.
 fn looked_up(rt: &impl RandomSource, alloc: Global, keys: &[&[u8]]) -> Result<KeyList, Refusal> {
     let Ok(hasher) = RandomState::new(rt) else {
         return Err(Refusal::Memory);
@@ -42,8 +42,8 @@ fn looked_up(rt: &impl RandomSource, alloc: Global, keys: &[&[u8]]) -> Result<Ke
     with_keys(KeyList::looking_up(alloc, hasher), keys)
 }
 
-/// Adds lists of these keys: of none, of the first half, in which they are looked up, and of the
-/// others.
+/// Adds lists of these keys: an empty one, one of the first half that looks keys up, and one of the
+/// rest.
 fn add_lists(
     rt: &impl RandomSource,
     alloc: Global,
@@ -68,7 +68,7 @@ fn in_lists(
     Ok(lists)
 }
 
-/// Whether both have the same keys under the same numbers.
+/// Whether both have the same keys with the same numbers.
 fn have_same_keys(logs: &Logs, other: &Logs) -> bool {
     for id in 0..logs.keys().min(other.keys()) {
         if logs.key(id) != other.key(id) {
@@ -93,7 +93,7 @@ fn are_same(logs: &Logs, other: &Logs) -> bool {
     have_same_keys(logs, other) && have_same_records(logs, other)
 }
 
-/// Whether both ways give this answer, and the same logs.
+/// Whether both ways give this result and the same logs.
 fn both_give<R: Threads + Sync>(
     rt: &R,
     logs: &mut Logs,
@@ -106,7 +106,7 @@ fn both_give<R: Threads + Sync>(
     told == answer && plainly_told == answer && are_same(logs, plain)
 }
 
-/// Whether lists give this answer, and these logs.
+/// Whether lists give this result and these logs.
 fn lists_give<R: Threads + Sync>(
     rt: &R,
     logs: &mut Logs,
@@ -122,7 +122,7 @@ fn new_logs(rt: &impl RandomSource, alloc: Global) -> Result<Logs, Memory> {
     Logs::new(rt, alloc, 4)
 }
 
-/// Keys, the same keys in lists, and how appends of them are answered.
+/// Keys, the same keys in lists, and the result of appending them.
 #[derive(Clone, Copy)]
 struct Case<'a> {
     keys: &'a [&'a [u8]],
@@ -130,7 +130,7 @@ struct Case<'a> {
     answer: Answer,
 }
 
-/// Whether each way gives the answer, and then the same logs.
+/// Whether each way gives the result and the same logs.
 fn all_give_once<R: Threads + Sync>(
     rt: &R,
     logs: &mut Logs,
@@ -142,7 +142,7 @@ fn all_give_once<R: Threads + Sync>(
         && lists_give(rt, listed, case.lists, case.answer, plain)
 }
 
-/// Whether each way gives the answer, and then the same logs; and once more.
+/// Whether each way gives the result and the same logs, twice in a row.
 fn all_give<R: Threads + Sync>(
     rt: &R,
     logs: &mut Logs,
@@ -153,8 +153,8 @@ fn all_give<R: Threads + Sync>(
     all_give_once(rt, logs, plain, listed, case) && all_give_once(rt, logs, plain, listed, case)
 }
 
-// Each of these owns one thing more, and nothing else: each `?` is proved with all that lets go
-// what is owned there.
+// Each of these functions owns one more value than the one before it. That keeps proofs small: each
+// `?` is proved together with the drops of everything that is owned there.
 
 /// The same with new logs for the lists.
 fn two_give<R: RandomSource + Threads + Sync>(
@@ -168,7 +168,7 @@ fn two_give<R: RandomSource + Threads + Sync>(
     Ok(all_give(rt, logs, plain, &mut listed, case))
 }
 
-/// The same with new logs for appends one by one, too.
+/// The same with new logs for the appends one by one as well.
 fn one_gives<R: RandomSource + Threads + Sync>(
     rt: &R,
     alloc: Global,
@@ -189,7 +189,7 @@ fn give_new<R: RandomSource + Threads + Sync>(
     one_gives(rt, alloc, &mut logs, case)
 }
 
-/// Whether each way gives this answer to new logs, and then the same logs; and once more.
+/// Whether each way gives this result on new logs and the same logs, twice in a row.
 fn are_alike<R: RandomSource + Threads + Sync>(
     rt: &R,
     alloc: Global,
@@ -205,7 +205,7 @@ fn are_alike<R: RandomSource + Threads + Sync>(
     give_new(rt, alloc, &case)
 }
 
-/// Keys of which some come again.
+/// Keys of which some repeat.
 const REPEATS: [&[u8]; 7] = [b"21", b"4", b"21", b"", b"foobar", b"21", b""];
 
 #[test]
@@ -217,7 +217,7 @@ fn few_keys_at_once(rt: HostRuntime) -> Result<(), Fail> {
     Ok(())
 }
 
-/// Whether appends stop at this key, which is too long, among others, at the end and at the
+/// Whether appends stop at this key, which is too long, in the middle, at the end and at the
 /// beginning.
 fn are_stopped<R: RandomSource + Threads + Sync>(
     rt: &R,
@@ -240,8 +240,7 @@ fn appends_at_once_stop_at_a_key_that_is_refused(rt: HostRuntime) -> Result<(), 
     Ok(())
 }
 
-/// So many windows, of which those of a period come again and again: of up to 40 bytes, and often the
-/// same as another.
+/// Windows of up to 40 bytes that repeat with this period; many are equal.
 fn windows(
     alloc: Global,
     bytes: &[u8; 1000],
@@ -258,7 +257,7 @@ fn windows(
     Ok(keys)
 }
 
-/// Whether so many windows are appended at once as one by one.
+/// Whether appending `count` windows at once gives the same as one by one.
 fn are_windows_alike<R: RandomSource + Threads + Sync>(
     rt: &R,
     alloc: Global,
@@ -290,10 +289,10 @@ fn keys_that_come_again_at_once(rt: HostRuntime) -> Result<(), Fail> {
     Ok(())
 }
 
-/// Four bytes, of which short keys are the first ones.
+/// Four bytes, which short keys are prefixes of.
 const SHORT: [u8; 4] = [0xff; 4];
 
-/// Adds 6000 short keys, and then this one.
+/// Adds 6000 short keys and then this one.
 fn add_keys<'a>(keys: &mut Vec<&'a [u8]>, long: &'a [u8]) -> Result<(), Memory> {
     for i in 0..6000_usize {
         keys.push(SHORT.get(..i % 5).unwrap_or(long))?;
@@ -309,7 +308,7 @@ fn late_keys(alloc: Global, long: &[u8]) -> Result<Vec<&[u8]>, Memory> {
     Ok(keys)
 }
 
-/// Whether appends of 6000 short keys and of this one, which is too long, stop at it.
+/// Whether appending 6000 short keys and this one, which is too long, stops at it.
 fn are_stopped_late<R: RandomSource + Threads + Sync>(
     rt: &R,
     alloc: Global,

@@ -1,11 +1,11 @@
-//! Files that are drawn from a linear congruence.
+//! Random files, from a linear congruential generator.
 
 ghost use Rattle.std.specs.Prelude.{◌<◌};
 
 use lane_words::Memory;
 use std::alloc::Global;
 
-/// Numbers that look random.
+/// Pseudo-random numbers.
 #[derive(Drop)]
 pub struct Random {
     /// The last number.
@@ -26,7 +26,7 @@ impl Random {
     }
 }
 
-/// What files of any bytes are put together from.
+/// The pieces of text that arbitrary files are made of.
 fn scrap(n: u64) -> &'static str {
     match n {
         0 => "a",
@@ -43,7 +43,7 @@ fn scrap(n: u64) -> &'static str {
     }
 }
 
-/// What files of two columns are put together from, the last of which are at fault.
+/// The pieces of text that two-column files are made of. The last ones are invalid.
 fn row(n: u64) -> &'static str {
     match n {
         0..10 => "a,b\n",
@@ -57,7 +57,7 @@ fn row(n: u64) -> &'static str {
     }
 }
 
-/// What files of a key and a topic are put together from, the last of which are at fault.
+/// The pieces of text that files with a key and a topic are made of. The last ones are invalid.
 fn topic_row(n: u64) -> &'static str {
     match n {
         0..10 => "k,a\n",
@@ -72,7 +72,7 @@ fn topic_row(n: u64) -> &'static str {
     }
 }
 
-/// A file of any bytes.
+/// An arbitrary file.
 pub fn scraps(alloc: Global, random: &mut Random) -> Result<Vec<u8>, Memory> {
     let mut file = Vec::new(alloc);
     for _ in 0..random.below(40) {
@@ -81,7 +81,7 @@ pub fn scraps(alloc: Global, random: &mut Random) -> Result<Vec<u8>, Memory> {
     Ok(file)
 }
 
-/// A file of two columns.
+/// A file with two columns.
 pub fn rows(alloc: Global, random: &mut Random) -> Result<Vec<u8>, Memory> {
     let mut file = Vec::new(alloc);
     for _ in 0..random.below(40) {
@@ -90,7 +90,7 @@ pub fn rows(alloc: Global, random: &mut Random) -> Result<Vec<u8>, Memory> {
     Ok(file)
 }
 
-/// A file of a key and a topic.
+/// A file with a key and a topic.
 pub fn topic_rows(alloc: Global, random: &mut Random) -> Result<Vec<u8>, Memory> {
     let mut file = Vec::new(alloc);
     for _ in 0..random.below(40) {

@@ -1,4 +1,4 @@
-//! Files and their keys, from RFC 4180 and by hand.
+//! Files and their keys, from RFC 4180 and written by hand.
 
 ghost use Rattle.std.specs.Prelude.{◌≤◌};
 
@@ -8,10 +8,10 @@ use std::alloc::Global;
 use std::test::Fail;
 use std::thread::Threads;
 
-/// The names of the topics of a file that has some.
+/// The topic names of a file that has topics.
 pub const NAMES: [&[u8]; 2] = [b"a", b"b"];
 
-/// Adds a key to a text, ended by a semicolon.
+/// Adds a key and a semicolon to a text.
 fn add_key(text: &mut Vec<u8>, key: &[u8]) -> Result<(), Memory> {
     text.extend_from_slice(key)?;
     text.push(b';')?;
@@ -26,7 +26,7 @@ fn add_keys(text: &mut Vec<u8>, keys: &[&[u8]]) -> Result<(), Memory> {
     Ok(())
 }
 
-/// Keys in one text, each ended by a semicolon.
+/// Keys in one text, each followed by a semicolon.
 pub fn text_of_slices(alloc: Global, keys: &[&[u8]]) -> Result<Vec<u8>, Memory> {
     let mut text = Vec::new(alloc);
     let added = add_keys(&mut text, keys);
@@ -40,7 +40,7 @@ fn text_of(alloc: Global, keys: &KeyList) -> Result<Vec<u8>, Memory> {
     text_of_slices(alloc, &slices)
 }
 
-/// The keys of a file that is read in one piece, in one text.
+/// The keys of a file that is read as a whole, in one text.
 pub fn text_whole(alloc: Global, file: &[u8], column: u32, header: bool) -> Result<Vec<u8>, Refusal>
     requires { 1 ≤ column }
 {
@@ -74,7 +74,7 @@ fn a_file_has_the_keys_of_its_column(rt: HostRuntime) {
     }
 }
 
-/// Files with the column of their keys, whether they have a header, and their first fault.
+/// Files, the column of their keys, whether they have a header, and their first fault.
 const FAULTS: [(&[u8], u32, bool, Refusal); 4] = [
     (b"a,b\nc\nd,e\n", 1, false, Refusal::BadCsv { nth: 2 }),
     (b"a,b\nc\n", 3, true, Refusal::BadCsv { nth: 2 }),
@@ -97,7 +97,7 @@ fn the_first_record_at_fault_is_told(rt: HostRuntime) {
     }
 }
 
-/// Adds the index of a topic to a text, as a digit, and a key with its semicolon.
+/// Adds a topic's index as a digit, a key and a semicolon to a text.
 pub fn add_both(text: &mut Vec<u8>, topic: u8, key: &[u8]) -> Result<(), Memory> {
     text.push(b'0'.wrapping_add(topic))?;
     add_key(text, key)
@@ -124,7 +124,7 @@ pub fn text_of_topics(alloc: Global, found: &TopicKeys) -> Result<Vec<u8>, Memor
     text_of_both(alloc, &topics, &keys)
 }
 
-/// The blocks of a file, each of so many bytes but for the last.
+/// The blocks of a file, each of `size` bytes but for the last.
 fn parts_of(alloc: Global, file: &[u8], size: usize) -> Result<Vec<Vec<u8>>, Memory> {
     let mut parts = Vec::new(alloc);
     let mut rest = file;
@@ -139,13 +139,13 @@ fn parts_of(alloc: Global, file: &[u8], size: usize) -> Result<Vec<Vec<u8>>, Mem
     Ok(parts)
 }
 
-/// A file that was read in blocks of so many bytes.
+/// A file read in blocks of `size` bytes.
 pub fn file_in_blocks(alloc: Global, file: &[u8], size: usize) -> Result<Blocks, Memory> {
     let parts = parts_of(alloc, file, size)?;
     Blocks::of(alloc, parts)
 }
 
-/// The topics and the keys of a file whose keys stand in the first column, in one text.
+/// The topics and keys of a file whose keys are in the first column, in one text.
 fn topics_in<R: Threads + Sync>(
     rt: &R,
     alloc: Global,
@@ -160,7 +160,7 @@ fn topics_in<R: Threads + Sync>(
     Ok(text_of_topics(alloc, &found)?)
 }
 
-/// Files with the column of their topics, whether they have a header, and their first fault.
+/// Files, the column of their topics, whether they have a header, and their first fault.
 const TOPIC_FAULTS: [(&[u8], u32, bool, Refusal); 6] = [
     (b"21,c\n", 2, false, Refusal::NoSuchTopic { nth: 1 }),
     (b"21\n", 2, false, Refusal::NoSuchColumn { nth: 1 }),
@@ -175,7 +175,7 @@ const TOPIC_FAULTS: [(&[u8], u32, bool, Refusal); 6] = [
     ),
 ];
 
-/// The first fault of a file of several topics, if it has one.
+/// The first fault of a file with topics, if it has one.
 fn topic_fault_of<R: Threads + Sync>(
     rt: &R,
     alloc: Global,

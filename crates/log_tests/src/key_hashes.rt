@@ -1,6 +1,6 @@
-//! The hash of keys. What it is by its seeds is proved, and that a hasher gives them; that they are
-//! others each time, and that all of a key counts, is told here: two different keys are of one hash
-//! once in 2^33 draws.
+//! The hash of keys. Contracts prove what it is for given seeds, and that a hasher draws the seeds.
+//! These tests check that the seeds differ each time, and that every byte of a key counts: two
+//! different keys have the same hash once in 2^33 draws.
 
 ghost use Rattle.std.specs.Prelude.{◌≤◌, ◌+◌};
 
@@ -12,7 +12,7 @@ use std::random::RandomSource;
 /// The longest key that is tried: almost twice the longest that is stored inline.
 const LONGEST: usize = 40;
 
-/// A hash of keys with seeds of its own.
+/// A hash of keys with fresh seeds.
 fn new_hash(rt: &impl RandomSource) -> Result<KeyHash, Memory> {
     match RandomState::new(rt) {
         Ok(hasher) => Ok(KeyHash::of(hasher)),
@@ -35,7 +35,7 @@ fn counts_each_byte(hash: &KeyHash, len: usize) -> bool
     true
 }
 
-/// Whether a key of zeros has another hash than the one that is a byte longer.
+/// Whether a key of zeros has a different hash than the one that is a byte longer.
 fn counts_length(hash: &KeyHash, len: usize) -> bool
     requires { len + 1 ≤ LONGEST }
 {
@@ -43,7 +43,7 @@ fn counts_length(hash: &KeyHash, len: usize) -> bool
     hash.hash_of(&bytes[..len]) != hash.hash_of(&bytes[..len + 1])
 }
 
-/// Whether all of keys of all lengths counts.
+/// Whether every byte and the length count, for keys of all lengths.
 fn takes_all_in(rt: &impl RandomSource) -> Result<bool, Memory> {
     let hash = new_hash(rt)?;
     for len in 0..LONGEST {
@@ -54,7 +54,7 @@ fn takes_all_in(rt: &impl RandomSource) -> Result<bool, Memory> {
     Ok(true)
 }
 
-/// Whether two of them have no hash in common, of keys of all lengths.
+/// Whether two hashes differ on keys of all lengths.
 fn is_keyed(rt: &impl RandomSource) -> Result<bool, Memory> {
     let (one, other) = (new_hash(rt)?, new_hash(rt)?);
     let bytes = [b'a'; LONGEST];
@@ -66,7 +66,7 @@ fn is_keyed(rt: &impl RandomSource) -> Result<bool, Memory> {
     Ok(true)
 }
 
-/// Of 4096 numbers as keys, how many are of each 32nd part by the bits that tell the shard.
+/// How many of 4096 numbers, as keys, fall into each 32nd part by the bits that decide the shard.
 fn spread(hash: &KeyHash) -> [u32; 32] {
     let mut counts: [u32; 32] = [0; 32];
     for n in 0..4096_u32 {
@@ -76,7 +76,7 @@ fn spread(hash: &KeyHash) -> [u32; 32] {
     counts
 }
 
-/// Whether each part has from a half to twice of what it would have, were all of one size.
+/// Whether each part has between half and twice the average.
 fn is_even(rt: &impl RandomSource) -> Result<bool, Memory> {
     let counts = spread(&new_hash(rt)?);
     for count in counts {

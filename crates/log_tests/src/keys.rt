@@ -1,4 +1,4 @@
-//! Keys beside their plain form.
+//! The key dictionary compared with its reference implementation.
 
 use crate::plain_keys::PlainKeys;
 use key_numbers::KeyIds;
@@ -6,7 +6,7 @@ use lane_words::Memory;
 use std::alloc::Global;
 use std::random::RandomSource;
 
-/// Whether a key is known to both forms under one number, or is new to both and gets one number.
+/// Whether a key has the same number in both, or is new to both and gets the same number.
 fn is_numbered_alike(keys: &mut KeyIds, plain: &mut PlainKeys, key: &[u8]) -> Result<bool, Memory> {
     match (keys.find(key)?, plain.find(key)) {
         (None, None) if keys.count() < 1000 && plain.count() < 1000 => {
@@ -16,8 +16,8 @@ fn is_numbered_alike(keys: &mut KeyIds, plain: &mut PlainKeys, key: &[u8]) -> Re
     }
 }
 
-/// The key of a turn: each length up to 40 comes twice, round the longest that is stored inline, and
-/// then once more with another byte at the end.
+/// The key of a step: each length up to 40 occurs twice, including those around the longest that is
+/// stored inline, and then once more with a different last byte.
 fn key_of(alloc: Global, turn: usize) -> Result<Vec<u8>, Memory> {
     let bytes = [0x80_u8; 41];
     let mut key = Vec::from_slice(alloc, &bytes[..turn % 41])?;
@@ -27,7 +27,7 @@ fn key_of(alloc: Global, turn: usize) -> Result<Vec<u8>, Memory> {
     Ok(key)
 }
 
-/// The first of those turns in which a key is not numbered alike.
+/// The first step whose key is not numbered alike.
 fn first_other(
     alloc: Global,
     keys: &mut KeyIds,
@@ -42,7 +42,7 @@ fn first_other(
     Ok(None)
 }
 
-/// Whether both forms have the same keys.
+/// Whether both have the same keys.
 fn are_keys_alike(keys: &KeyIds, plain: &PlainKeys) -> bool {
     for number in 0..keys.count().min(plain.count()) {
         if keys.key(number) != plain.key(number) {
@@ -52,12 +52,12 @@ fn are_keys_alike(keys: &KeyIds, plain: &PlainKeys) -> bool {
     keys.count() == plain.count()
 }
 
-/// Whether both forms number the keys of those turns alike, and then have the same keys.
+/// Whether both number the keys of those steps alike, and then have the same keys.
 fn are_alike(alloc: Global, keys: &mut KeyIds, plain: &mut PlainKeys) -> Result<bool, Memory> {
     Ok(first_other(alloc, keys, plain)?.is_none() && are_keys_alike(keys, plain))
 }
 
-/// The same of new keys in the plain form.
+/// The same with a new reference dictionary.
 fn is_alike_plain(
     rt: &impl RandomSource,
     alloc: Global,
@@ -67,7 +67,7 @@ fn is_alike_plain(
     are_alike(alloc, keys, &mut plain)
 }
 
-/// The same of new keys in both forms.
+/// The same with two new dictionaries.
 fn are_new_alike(rt: &impl RandomSource, alloc: Global) -> Result<bool, Memory> {
     let mut keys = KeyIds::new(rt, alloc)?;
     is_alike_plain(rt, alloc, &mut keys)

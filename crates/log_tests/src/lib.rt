@@ -1,5 +1,6 @@
-//! Tests of the public calls of the crates below, of the logs and of `key_file`. They have a crate
-//! of their own, since a crate with tests is proved twice, once without them.
+//! Tests of the layers GROUND, INGEST and LOG: `lane_words`, `parallel`, `murmur_lanes`,
+//! `partitioner`, `key_numbers`, `key_lists`, `key_file` and `partition_log`. They have a crate of
+//! their own because a crate with tests is proved twice, once without them.
 #![tactic(auto)]
 
 ghost use Rattle.std.specs.Prelude.{◌≡◌, ◌+◌, ◌≤◌, length, slice_range};
@@ -35,7 +36,7 @@ mod topics;
 #[cfg(test)]
 mod words;
 
-/// So many of some bytes, from a place on: what keys of all lengths are taken from.
+/// `len` bytes from index `start` on. Tests take keys of all lengths from one buffer this way.
 pub fn window(bytes: &[u8], start: usize, len: usize) -> &[u8]
     requires { start + len ≤ length bytes.now }
     ensures { result.now ≡ slice_range bytes.now start (start + len) }

@@ -1,4 +1,4 @@
-//! Lists in which keys are looked up, beside lists in which none is.
+//! Lists that look keys up compared with lists that do not.
 
 ghost use Rattle.std.specs.Prelude.{◌<◌};
 
@@ -10,8 +10,8 @@ use std::random::RandomSource;
 use std::test::Fail;
 use std::thread::Threads;
 
-/// Adds the keys of so many records: each key of a period comes so often in a row, and every third
-/// is too long to be stored inline.
+/// Adds the keys of this many records: each key of a period occurs several times in a row, and
+/// every third is too long to be stored inline.
 fn push_keys(list: &mut KeyList, records: u32, each: u32, period: u32) -> Result<(), Memory>
     requires each { 0 < each }
     requires period { 0 < period }
@@ -26,7 +26,7 @@ fn push_keys(list: &mut KeyList, records: u32, each: u32, period: u32) -> Result
     Ok(())
 }
 
-/// The first record of which two lists have different keys, where there is one.
+/// The first record for which two lists have different keys, if there is one.
 fn first_other(list: &KeyList, plain: &KeyList) -> Option<usize> {
     for i in 0..list.len().min(plain.len()) {
         if list.get(i) != plain.get(i) {
@@ -36,7 +36,7 @@ fn first_other(list: &KeyList, plain: &KeyList) -> Option<usize> {
     None
 }
 
-/// An empty list in which keys are looked up.
+/// An empty list that looks keys up.
 fn looking_up(rt: &impl RandomSource, alloc: Global) -> Result<KeyList, Memory> {
     let Ok(hasher) = RandomState::new(rt) else {
         return Err(Memory);
@@ -44,7 +44,7 @@ fn looking_up(rt: &impl RandomSource, alloc: Global) -> Result<KeyList, Memory> 
     Ok(KeyList::looking_up(alloc, hasher))
 }
 
-/// The keys of so many records in a list, as `push_keys` adds them.
+/// A list of the keys of this many records, as `push_keys` adds them.
 fn pushed(list: KeyList, records: u32, each: u32, period: u32) -> Result<KeyList, Memory>
     requires each { 0 < each }
     requires period { 0 < period }
@@ -56,12 +56,12 @@ fn pushed(list: KeyList, records: u32, each: u32, period: u32) -> Result<KeyList
     }
 }
 
-/// How many keys a list has for its codes.
+/// The number of keys in the dictionary of a list.
 fn count_of(list: &KeyList, alloc: Global) -> Result<usize, Memory> {
     Ok(list.coded(alloc)?.keys.len())
 }
 
-/// How many keys a list has for its codes, where it has the keys of a plain one.
+/// The number of keys in the dictionary of a list, if it has the same records as a plain one.
 fn count_beside(list: &KeyList, plain: &KeyList, alloc: Global) -> Result<Option<usize>, Memory> {
     if list.len() != plain.len() || first_other(list, plain).is_some() {
         return Ok(None);
@@ -69,7 +69,7 @@ fn count_beside(list: &KeyList, plain: &KeyList, alloc: Global) -> Result<Option
     Ok(Some(count_of(list, alloc)?))
 }
 
-/// The same of a list beside a plain one of such records.
+/// The same for a list and a plain one of such records.
 fn count_beside_plain(
     list: &KeyList,
     alloc: Global,
@@ -84,7 +84,7 @@ fn count_beside_plain(
     count_beside(list, &plain, alloc)
 }
 
-/// The same of a list of such records, in which keys are looked up.
+/// The same for a list of such records that looks keys up.
 fn keys_of(
     rt: &impl RandomSource,
     alloc: Global,
@@ -119,7 +119,8 @@ fn keys_that_are_all_different_are_kept_as_they_come(rt: HostRuntime) {
 
 #[test]
 fn more_keys_than_are_looked_up(rt: HostRuntime) {
-    // 131,072 keys stand once; of the 8,928 behind them each of the three records has its own.
+    // 131,072 keys are stored once; of the 8,928 after them each of the three records stores its
+    // own.
     assert_eq!(rt;
         keys_of(&rt, rt.alloc(), 420_000, 3, 140_000),
         Ok(Some(131_072 + 3 * 8_928))
@@ -148,7 +149,7 @@ fn are_all(list: &KeyList, key: &[u8]) -> bool {
     true
 }
 
-/// Whether a list takes one key in three ways.
+/// Whether a list accepts one key in three ways.
 fn takes_thrice(list: &mut KeyList, alloc: Global) -> Result<bool, Memory> {
     push_thrice(list)?;
     // The one with a first text is not looked up.
@@ -172,7 +173,7 @@ fn three_lists(rt: &impl RandomSource, alloc: Global) -> Result<[KeyList; 3], Me
 /// The codes of those three lists.
 const CODES: [&[usize]; 3] = [&[0, 1, 0, 1, 0], &[], &[0, 1, 2]];
 
-/// How many lists are coded, how many keys they have, and whether the codes are these.
+/// How many lists are encoded, how many keys they have, and whether the codes are these.
 fn coded_as<R: Threads + Sync>(
     rt: &R,
     alloc: Global,

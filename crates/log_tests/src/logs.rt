@@ -1,5 +1,4 @@
-//! Each call once with ample memory, over keys whose places for four partitions are known from
-//! outside.
+//! Each call once with ample memory, over keys whose partitions among four are known from outside.
 
 ghost use Rattle.std.specs.Prelude.{◌≤◌};
 
@@ -9,9 +8,9 @@ use std::alloc::Global;
 use std::random::RandomSource;
 use std::test::Fail;
 
-// The calls, without what their contracts say: a test of many calls would else be proved over what
-// all of them say. And who owns logs makes few calls: each `?` is proved with all that lets go what
-// is owned there.
+// Wrappers without contracts: a test of many calls would otherwise be proved over the contracts of
+// all of them. And whoever owns logs makes few calls, since each `?` is proved together with the
+// drops of everything that is owned there.
 
 fn append(logs: &mut Logs, key: &[u8]) -> Result<(u32, u32), Refusal> {
     logs.append(key)
@@ -32,12 +31,12 @@ fn sealed_of(rt: &impl RandomSource, alloc: Global, keys: &[&[u8]]) -> Result<Se
     Ok(logs.seal())
 }
 
-/// Whether a key number is that of a key.
+/// Whether a key has this number.
 fn is_key<L: LogRead>(logs: &L, number: u32, key: &[u8]) -> bool {
     number < logs.keys() && logs.key(number) == key
 }
 
-/// Whether a log has so many records.
+/// Whether a log has this many records.
 fn is_length<L: LogRead>(logs: &L, p: u32, records: u32) -> bool {
     p < logs.partitions() && logs.len(p) == records
 }
@@ -47,7 +46,7 @@ fn are_ids<L: LogRead>(logs: &L, p: u32, ids: &[u32]) -> bool {
     p < logs.partitions() && logs.ids(p, 0, logs.len(p)) == ids
 }
 
-/// Whether a key has this place, and its record comes to this offset there.
+/// Whether a key goes to this partition, and its record gets this offset there.
 fn comes_to(logs: &mut Logs, key: &[u8], place: u32, offset: u32) -> bool {
     logs.place_of(key) == place && append(logs, key) == Ok((place, offset))
 }
@@ -61,7 +60,7 @@ fn are_of_five(logs: &Logs) -> bool {
         && ids.iter().all(|(p, numbers)| are_ids(logs, *p, numbers))
 }
 
-/// Those records, each with its place and its offset there.
+/// Those records, each with its partition and its offset there.
 const FIVE: [(&[u8], u32, u32); 5] = [
     (b"21", 0, 0),
     (b"4", 1, 0),
@@ -70,7 +69,7 @@ const FIVE: [(&[u8], u32, u32); 5] = [
     (b"21", 0, 1),
 ];
 
-/// Whether logs of four partitions take them in.
+/// Whether logs of four partitions accept them.
 fn takes_five(logs: &mut Logs) -> bool {
     for (key, place, offset) in &FIVE {
         if !comes_to(logs, key, *place, *offset) {
@@ -87,7 +86,7 @@ fn appends_in_order_of_place(rt: HostRuntime) -> Result<(), Fail> {
     Ok(())
 }
 
-/// Whether a copy has a third record of the first key, which what was copied has not.
+/// Whether a copy has a third record of the first key, and the original does not.
 fn are_copied(sealed: &SealedLogs, copy: &Logs, second: &[u8]) -> bool {
     sealed.partitions() == 4
         && copy.partitions() == 4
@@ -100,12 +99,12 @@ fn are_copied(sealed: &SealedLogs, copy: &Logs, second: &[u8]) -> bool {
         && are_ids(sealed, 0, &[0, 0])
 }
 
-/// Whether a third record of the first key comes to its place.
+/// Whether a third record of the first key goes to its partition.
 fn takes_third(logs: &mut Logs) -> bool {
     append(logs, b"21") == Ok((0, 2))
 }
 
-/// Whether a copy takes a third record of the first key, and what was copied does not.
+/// Whether a copy accepts a third record of the first key, and the original stays as it is.
 fn copy_takes(
     rt: &impl RandomSource,
     sealed: &SealedLogs,
@@ -134,7 +133,7 @@ fn append_bytes(logs: &mut Logs, keys: &[u8]) -> Result<(), Refusal> {
     Ok(())
 }
 
-/// Logs of as many partitions to which these keys of one byte were appended.
+/// Logs of this many partitions with records of these one-byte keys.
 fn logs_of(
     rt: &impl RandomSource,
     alloc: Global,
@@ -148,7 +147,7 @@ fn logs_of(
     Ok(logs)
 }
 
-/// Whether sealed logs of these keys in one partition are the same as these logs.
+/// Whether sealed logs of these keys in one partition equal these logs.
 fn is_same_sealed(
     rt: &impl RandomSource,
     alloc: Global,
@@ -159,7 +158,7 @@ fn is_same_sealed(
     Ok(sealed.same(logs))
 }
 
-/// Whether logs of these keys are the same, the others in this many partitions, and these in one.
+/// Whether logs of these keys in one partition equal logs of the other keys in this many.
 fn are_same(
     rt: &impl RandomSource,
     alloc: Global,
@@ -173,7 +172,7 @@ fn are_same(
     is_same_sealed(rt, alloc, keys, &logs)
 }
 
-/// The same records; then one record more, another key, the keys in another order, other records of
+/// The same records; then one more record, another key, the keys in another order, other records of
 /// the same keys.
 const PAIRS: [(&[u8], &[u8], bool); 5] = [
     (b"aba", b"aba", true),
@@ -192,11 +191,11 @@ fn same_tells_logs_that_differ(rt: HostRuntime) {
             "{others:?}"
         );
     }
-    // Other partitions.
+    // Another number of partitions.
     assert_eq!(rt; are_same(&rt, rt.alloc(), b"", 2, b""), Ok(false));
 }
 
-/// Whether the longest key and the shortest are taken, and one that is longer is not.
+/// Whether the longest key and the shortest are accepted, and a longer one is not.
 fn takes_longest(logs: &mut Logs, longest: &[u8], longer: &[u8]) -> bool {
     append(logs, longest) == Ok((0, 0))
         && append(logs, longer) == Err(Refusal::KeyTooLong)
@@ -206,7 +205,7 @@ fn takes_longest(logs: &mut Logs, longest: &[u8], longer: &[u8]) -> bool {
         && is_key(logs, 1, b"")
 }
 
-/// Whether they take all bytes but the last of a key, and not all.
+/// Whether they accept all bytes but the last of a key, and not all.
 fn takes_all_but_one(logs: &mut Logs, longer: &[u8]) -> bool {
     match longer.split_last() {
         Some((_, longest)) => takes_longest(logs, longest, longer),
@@ -227,7 +226,7 @@ fn takes_keys_up_to_the_longest(rt: HostRuntime) -> Result<(), Fail> {
     Ok(())
 }
 
-/// Sealed logs, as many as there may be, with records of ten thousand keys.
+/// Sealed logs of the largest number of partitions, with records of ten thousand keys.
 fn many_sealed(rt: &impl RandomSource, alloc: Global) -> Result<SealedLogs, Refusal> {
     let mut logs = Logs::new(rt, alloc, MOST_PARTITIONS)?;
     append_numbers(&mut logs, 10_000)?;
@@ -242,12 +241,12 @@ fn append_numbers(logs: &mut Logs, records: u32) -> Result<(), Refusal> {
     Ok(())
 }
 
-/// Whether logs are the same as others until those have one record more.
+/// Whether logs equal others until those have one more record.
 fn is_same_till_a_record(sealed: &SealedLogs, other: &mut Logs) -> bool {
     sealed.same(other) && append(other, &[0; 4]).is_ok() && !sealed.same(other)
 }
 
-/// Whether logs are the same as a copy of them until it has one record more.
+/// Whether logs equal a copy of them until it has one more record.
 fn are_same_till_a_record(
     rt: &impl RandomSource,
     alloc: Global,
@@ -264,7 +263,7 @@ fn same_over_as_many_logs_as_there_may_be(rt: HostRuntime) -> Result<(), Fail> {
     Ok(())
 }
 
-/// Whether logs are as many as there may be, and have no record.
+/// Whether there are as many logs as allowed, all of them empty.
 fn are_all_empty(logs: &Logs) -> bool {
     logs.partitions() == MOST_PARTITIONS && (0..MOST_PARTITIONS).all(|p| is_length(logs, p, 0))
 }
@@ -276,7 +275,7 @@ fn makes_as_many_logs_as_there_may_be(rt: HostRuntime) -> Result<(), Fail> {
     Ok(())
 }
 
-/// How many records a log has, where there is one.
+/// The number of records in a log, if there is one.
 fn length<L: LogRead>(logs: &L, p: u32) -> u32 {
     if p < logs.partitions() {
         logs.len(p)
@@ -285,7 +284,8 @@ fn length<L: LogRead>(logs: &L, p: u32) -> u32 {
     }
 }
 
-/// Whether a short key is appended, and then a long one of the same number at its place.
+/// Whether a short key is appended, and then a long one with the same number to the partition it
+/// goes to.
 fn takes_two(logs: &mut Logs, number: u32) -> bool {
     let mut long = [0_u8; 30];
     long[..4].copy_from_slice(&number.to_le_bytes());
@@ -295,7 +295,7 @@ fn takes_two(logs: &mut Logs, number: u32) -> bool {
     short.is_ok() && at.is_ok_and(|at| at.0 == place)
 }
 
-/// Whether logs take twice 70,000 keys, and one more record of the first.
+/// Whether logs accept 70,000 keys twice, and one more record of the first.
 fn takes_many(logs: &mut Logs) -> bool {
     for i in 0..70_000_u32 {
         if !takes_two(logs, i) {
@@ -316,7 +316,7 @@ fn has_many(logs: &Logs) -> bool {
         && is_key(logs, 139_998, &69_999_u32.to_le_bytes())
 }
 
-/// Whether new logs of two partitions take all that, and what they are sealed.
+/// Whether new logs of two partitions accept all that, and what their sealed form holds.
 fn many_taken(rt: &impl RandomSource, alloc: Global) -> Result<(bool, SealedLogs), Memory> {
     let mut logs = Logs::new(rt, alloc, 2)?;
     let are_taken = takes_many(&mut logs);

@@ -1,4 +1,4 @@
-//! Files in pieces, beside the program that reads them in one piece.
+//! Files read in chunks compared with files read as a whole.
 
 ghost use Rattle.std.specs.Prelude.{◌≤◌};
 
@@ -24,7 +24,7 @@ fn text_of_keys(alloc: Global, keys: &FileKeys) -> Result<Vec<u8>, Memory> {
     text_of_slices(alloc, &slices)
 }
 
-/// The keys of a file that is read in pieces, in one text.
+/// The keys of a file that is read in chunks, in one text.
 fn text_in_pieces<R: Threads + Sync>(
     rt: &R,
     alloc: Global,
@@ -39,7 +39,7 @@ fn text_in_pieces<R: Threads + Sync>(
     Ok(text_of_keys(alloc, &keys)?)
 }
 
-/// Whether a file has this text, or this fault, in some numbers of pieces.
+/// Whether a file has this text, or this fault, when read in several numbers of chunks.
 fn has_text_in_pieces<R: Threads + Sync>(
     rt: &R,
     alloc: Global,
@@ -60,10 +60,10 @@ fn has_text_in_pieces<R: Threads + Sync>(
     true
 }
 
-/// How many bytes the blocks have that a file is read in.
+/// The sizes of the blocks that a file is read in, in bytes.
 const SIZES: [usize; 4] = [1, 3, 8, 50];
 
-/// The keys of a file that is read in blocks of so many bytes, in one text.
+/// The keys of a file that is read in blocks of `size` bytes, in one text.
 fn text_in_blocks<R: Threads + Sync + RandomSource>(
     rt: &R,
     alloc: Global,
@@ -79,7 +79,7 @@ fn text_in_blocks<R: Threads + Sync + RandomSource>(
     Ok(text_of_keys(alloc, &keys)?)
 }
 
-/// Whether a file has this text, or this fault, in blocks of some sizes.
+/// Whether a file has this text, or this fault, when read in blocks of several sizes.
 fn has_text_in_blocks<R: Threads + Sync + RandomSource>(
     rt: &R,
     alloc: Global,
@@ -98,8 +98,8 @@ fn has_text_in_blocks<R: Threads + Sync + RandomSource>(
     true
 }
 
-/// Whether a file has the same keys, or the same fault, as a whole, in blocks, and in some numbers of
-/// pieces, in which keys are looked up or none is.
+/// Whether a file has the same keys, or the same fault, when read as a whole, in blocks, and in
+/// several numbers of chunks, with and without key lookups.
 fn are_keys_same<R: Threads + Sync + RandomSource>(
     rt: &R,
     alloc: Global,
@@ -176,7 +176,7 @@ fn add_record(file: &mut Vec<u8>, i: u64) -> Result<(), Memory> {
     Ok(())
 }
 
-/// A file of so many records.
+/// A file of this many records.
 fn file_of(alloc: Global, records: u64) -> Result<Vec<u8>, Memory> {
     let mut file = Vec::new(alloc);
     for i in 0..records {
@@ -185,13 +185,13 @@ fn file_of(alloc: Global, records: u64) -> Result<Vec<u8>, Memory> {
     Ok(file)
 }
 
-/// Whether keys are so many, and in one text these.
+/// Whether there are this many keys, and this is their text.
 fn are_keys(alloc: Global, keys: &FileKeys, len: usize, whole: &Text) -> Result<bool, Memory> {
     Ok(keys.len() == len && Ok(text_of_keys(alloc, keys)?) == *whole)
 }
 
-/// Whether a file in blocks of so many bytes has so many keys in its second column behind its header,
-/// and the same as a whole.
+/// Whether a file read in blocks of `size` bytes has this many keys in its second column below its
+/// header, and the same as when read as a whole.
 fn has_keys_apart<R: Threads + Sync + RandomSource>(
     rt: &R,
     alloc: Global,
@@ -207,7 +207,7 @@ fn has_keys_apart<R: Threads + Sync + RandomSource>(
 #[test]
 fn a_file_of_a_few_mebibytes_has_all_keys(rt: HostRuntime) -> Result<(), Fail> {
     let file = file_of(rt.alloc(), 200_000)?;
-    // So many bytes in one block are read in two pieces, where there are as many processors.
+    // This many bytes in one block are read in two chunks if there are two processors.
     assert!(rt; file.len() > 2 << 20);
     for size in [file.len(), 1 << 20] {
         assert_eq!(rt;
@@ -218,7 +218,7 @@ fn a_file_of_a_few_mebibytes_has_all_keys(rt: HostRuntime) -> Result<(), Fail> {
     Ok(())
 }
 
-/// The topics and the keys of a file, whose topics stand in the second column, in one text.
+/// The topics and keys of a file whose topics are in the second column, in one text.
 fn topics_in_pieces<R: Threads + Sync>(
     rt: &R,
     alloc: Global,
@@ -233,7 +233,7 @@ fn topics_in_pieces<R: Threads + Sync>(
     Ok(text_of_topics(alloc, &found)?)
 }
 
-/// The same of a file that is read in blocks of so many bytes.
+/// The same for a file that is read in blocks of `size` bytes.
 fn topics_in_blocks<R: Threads + Sync>(
     rt: &R,
     alloc: Global,
@@ -249,7 +249,7 @@ fn topics_in_blocks<R: Threads + Sync>(
     Ok(text_of_topics(alloc, &found)?)
 }
 
-/// Whether a file has these topics and keys, or this fault, in blocks of some sizes.
+/// Whether a file has these topics and keys, or this fault, when read in blocks of several sizes.
 fn has_topics_in_blocks<R: Threads + Sync>(
     rt: &R,
     alloc: Global,
@@ -268,7 +268,7 @@ fn has_topics_in_blocks<R: Threads + Sync>(
     true
 }
 
-/// Adds to a text the topics and the keys that were read one without the other.
+/// Adds topics and keys that were read separately to a text.
 fn add_columns(
     text: &mut Vec<u8>,
     topics: &KeyList,
@@ -300,8 +300,8 @@ fn text_of_columns(
     added.and(Ok(text))
 }
 
-/// Whether a file has this text, or this fault, where each of its two columns can be read, and else
-/// a fault.
+/// Whether a file has this text, or this fault, if each of its two columns can be read, and
+/// otherwise some fault.
 fn has_text_of_columns(alloc: Global, file: &[u8], column: u32, header: bool, whole: &Text) -> bool
     requires { 1 ≤ column }
 {
@@ -314,8 +314,8 @@ fn has_text_of_columns(alloc: Global, file: &[u8], column: u32, header: bool, wh
     }
 }
 
-/// Whether a file has the same topics and keys, or the same fault, in one piece, in several and in
-/// blocks, and as both columns have them.
+/// Whether a file has the same topics and keys, or the same fault, when read as a whole, in several
+/// chunks and in blocks, and as both columns have them.
 fn are_topics_same<R: Threads + Sync>(
     rt: &R,
     alloc: Global,

@@ -1,4 +1,5 @@
-//! Places from outside: a table computed by the rules alone; and places beside the plain program.
+//! Partitions from an outside source, a table computed from the rules by another program; and
+//! parallel placement compared with its reference implementation.
 
 ghost use Rattle.std.specs.Prelude.{◌<◌, IfOk};
 ghost use Rattle.partitioner.specs.Place.{AreTopics};
@@ -53,7 +54,7 @@ fn places_in_topics(rt: HostRuntime) -> Result<(), Fail> {
     Ok(())
 }
 
-/// Topics of which each of the eight has every eighth key.
+/// Topics assigned in rotation: each of the eight has every eighth key.
 fn topics_in_turn(alloc: Global, count: usize) -> Result<Vec<u8>, Fail>
     ensures { IfOk result (λ topics. AreTopics 8 count topics.items) }
 {
@@ -81,7 +82,7 @@ fn pieces_and_one_by_one_in_topics(rt: HostRuntime) -> Result<(), Fail> {
     Ok(())
 }
 
-/// Bytes of which keys are windows, those from 0x80 among them.
+/// Bytes that keys are windows of, some from 0x80 on.
 fn bytes_of_keys() -> [u8; 300] {
     let mut bytes = [0; 300];
     for i in 0..bytes.len() {
@@ -98,8 +99,7 @@ fn window(bytes: &[u8; 300], start: usize, len: usize) -> &[u8]
     &bytes[start..start + len]
 }
 
-/// Whether keys are placed by pieces side by side as they are one piece after the other, and one by
-/// one.
+/// Whether keys get the same partitions in parallel batches, in sequential batches, and one by one.
 fn are_placed_alike<R: Threads + Sync>(
     rt: &R,
     alloc: Global,

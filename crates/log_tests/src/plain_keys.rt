@@ -1,4 +1,4 @@
-//! The keys of all logs in the plainest form, a vector a key: what `KeyIds` of `key_numbers` is compared with.
+//! The reference implementation of the key dictionary `KeyIds`: a vector for each key.
 
 ghost use Rattle.std.specs.Prelude.{◌≡◌, ◌<◌, ◌≤◌, [], IfOk, IfSome, IfNone, OnOk, OnErr, MatchOption, length, true, false};
 ghost use Rattle.key_numbers.specs.Keys.{IsIdOf, id_of, is_known, key_at, with_key};
@@ -10,10 +10,10 @@ use std::hash::RandomState;
 use std::marker::Model;
 use std::random::RandomSource;
 
-/// Keys by their numbers.
+/// A dictionary of keys.
 #[derive(Drop)]
 pub struct PlainKeys {
-    /// Where the keys are stored.
+    /// The allocator of the keys.
     alloc: Global,
     /// The keys, each at the index of its number.
     set: IndexSet<Vec<u8>, RandomState>,
@@ -31,7 +31,7 @@ impl Model for PlainKeys {
 }
 
 impl PlainKeys {
-    /// No keys. It is refused where the random source fails.
+    /// An empty dictionary. Fails if the random source fails.
     pub fn new(rt: &impl RandomSource, alloc: Global) -> Result<PlainKeys, Memory>
         ensures { IfOk result (λ keys. keys ≡ []) }
     {
@@ -44,14 +44,14 @@ impl PlainKeys {
         })
     }
 
-    /// How many keys there are.
+    /// The number of keys.
     pub fn count(&self) -> u32
         ensures { result ≡ length self.now }
     {
         self.set.len() as u32
     }
 
-    /// The key of a number.
+    /// The key with this number.
     pub fn key(&self, number: u32) -> &[u8]
         requires { number < length self.now }
         ensures { result.now ≡ key_at self.now number }
@@ -59,7 +59,7 @@ impl PlainKeys {
         self.set.as_slice()[number as usize].as_slice()
     }
 
-    /// The number of a key, where it is known. It takes no memory.
+    /// The number of a key, or none if the key is not in the dictionary. It allocates nothing.
     pub fn find(&self, key: &[u8]) -> Option<u32>
         ensures known { IfSome result (IsIdOf self.now key.now) }
         ensures fresh { IfNone result (is_known self.now key.now ≡ false) }
@@ -70,7 +70,7 @@ impl PlainKeys {
         Some(number as u32)
     }
 
-    /// Numbers a new key, whose bytes are stored once.
+    /// Gives a new key the next number. Its bytes are stored once.
     pub fn add(&mut self, key: &[u8]) -> Result<u32, Memory>
         requires room { length self.old < MOST_RECORDS }
         requires fresh { is_known self.old key.now ≡ false }

@@ -1,5 +1,5 @@
-//! The places of keys one by one, as the definition says, and of one piece after the other, eight
-//! at a time: beside them the tests run the call that places pieces side by side.
+//! The reference implementation of placement: the partitions of keys one by one, as the definition
+//! says, and in sequential batches.
 
 ghost use Rattle.std.specs.Prelude.{length};
 ghost use Rattle.partitioner.specs.Place.{AreTopics};
@@ -9,7 +9,7 @@ use partitioner::Partitions;
 use std::alloc::Global;
 use std::thread::Threads;
 
-/// How many keys are one piece, for which no thread is started.
+/// The number of keys in a batch, which is too few to start a thread.
 const PIECE: usize = 4096;
 
 /// The partition of each of some keys, in their order.
@@ -21,7 +21,7 @@ pub fn place_all(
     Ok(keys.iter().map(|key| partitions.place(key)).collect(alloc)?)
 }
 
-/// The same, by a call for each piece.
+/// The same, with a call for each batch.
 pub fn place_in_turn<R: Threads + Sync>(
     partitions: Partitions,
     rt: &R,

@@ -1,4 +1,5 @@
-//! Logs of several topics: places and offsets from outside, and many appends beside one at a time.
+//! Logs of several topics: partitions and offsets from an outside source, and bulk appends compared
+//! with one at a time.
 
 ghost use Rattle.std.specs.Prelude.{IfOk, length};
 ghost use Rattle.partitioner.specs.Place.{AreTopics};
@@ -19,7 +20,7 @@ fn append_in(logs: &mut Logs, topic: u8, key: &[u8]) -> Result<(u32, u32), Refus
     }
 }
 
-/// The key numbers of a log, where there is one.
+/// The key numbers of a log, if there is one.
 fn ids(logs: &Logs, p: u32) -> &[u32] {
     if p < logs.partitions() {
         logs.ids(p, 0, logs.len(p))
@@ -28,8 +29,8 @@ fn ids(logs: &Logs, p: u32) -> &[u32] {
     }
 }
 
-/// Topics and keys, each with the place and the offset of its record in two topics of two and three
-/// partitions.
+/// Topics and keys, each with the partition and the offset of its record in two topics with two and
+/// three partitions.
 const APPENDS: [(u8, &[u8], u32, u32); 6] = [
     (0, b"21", 0, 0),
     (1, b"abc", 2, 0),
@@ -42,7 +43,7 @@ const APPENDS: [(u8, &[u8], u32, u32); 6] = [
 /// The key numbers of each log after those appends.
 const NUMBERS: [(u32, &[u32]); 5] = [(0, &[0]), (1, &[2]), (2, &[1, 0, 1]), (3, &[2]), (4, &[])];
 
-/// The first of those appends that comes to another place.
+/// The first of those appends that goes to another partition or offset.
 fn first_other(logs: &mut Logs) -> Option<usize> {
     for (index, (topic, key, place, offset)) in APPENDS.iter().enumerate() {
         if append_in(logs, *topic, key) != Ok((*place, *offset)) {
@@ -62,7 +63,7 @@ fn are_numbered(logs: &Logs) -> bool {
     logs.keys() == 3
 }
 
-/// Whether logs of those two topics number keys over both, and append in the first where none is
+/// Whether logs of those two topics number keys over both, and append to the first if none is
 /// named.
 fn number_over_all(logs: &mut Logs) -> bool {
     logs.topics() == 2
@@ -96,7 +97,8 @@ fn append_each_in(logs: &mut Logs, topics: &[u8], keys: &[&[u8]]) -> Result<(), 
     Ok(())
 }
 
-// Each of these owns one thing alone: each `?` is proved with all that lets go what is owned there.
+// Each of these functions owns a single value. That keeps proofs small: each `?` is proved together
+// with the drops of everything that is owned there.
 
 /// Sealed logs of three topics to which all these keys were appended at once.
 fn all_appended<R: Threads + Sync + RandomSource>(
@@ -114,12 +116,12 @@ fn all_appended<R: Threads + Sync + RandomSource>(
     }
 }
 
-/// Whether appends to other logs, one at a time, come to these.
+/// Whether appending to other logs one at a time gives these.
 fn is_same_after(sealed: &SealedLogs, other: &mut Logs, topics: &[u8], keys: &[&[u8]]) -> bool {
     append_each_in(other, topics, keys).is_ok() && sealed.same(other)
 }
 
-/// Whether appends to new logs of those topics, one at a time, come to these.
+/// Whether appending to new logs of those topics one at a time gives these.
 fn is_same_as_each(
     rt: &impl RandomSource,
     alloc: Global,
@@ -131,7 +133,7 @@ fn is_same_as_each(
     Ok(is_same_after(sealed, &mut plain, topics, keys))
 }
 
-/// Whether appends of all these keys at once, each in a topic, do what one at a time does.
+/// Whether appending all these keys at once, each to a topic, gives the same as one at a time.
 fn are_appended_alike<R: Threads + Sync + RandomSource>(
     rt: &R,
     alloc: Global,
@@ -144,7 +146,7 @@ fn are_appended_alike<R: Threads + Sync + RandomSource>(
     is_same_as_each(rt, alloc, &sealed, topics, keys)
 }
 
-/// Each topic in turn.
+/// The topics in rotation.
 fn topics_in_turn(alloc: Global, count: usize) -> Result<Vec<u8>, Fail>
     ensures { IfOk result (λ topics. AreTopics 3 count topics.items) }
 {
@@ -155,7 +157,7 @@ fn topics_in_turn(alloc: Global, count: usize) -> Result<Vec<u8>, Fail>
     Ok(topics)
 }
 
-/// Bytes of which keys are windows.
+/// Bytes that keys are windows of.
 fn bytes() -> [u8; 1000] {
     let mut bytes = [0; 1000];
     for i in 0..bytes.len() {
@@ -164,7 +166,7 @@ fn bytes() -> [u8; 1000] {
     bytes
 }
 
-/// Whether that is so of these keys, in each topic in turn.
+/// The same for these keys, with the topics in rotation.
 fn are_keys_alike<R: Threads + Sync + RandomSource>(
     rt: &R,
     alloc: Global,
@@ -174,7 +176,7 @@ fn are_keys_alike<R: Threads + Sync + RandomSource>(
     Ok(are_appended_alike(rt, alloc, &topics, keys)?)
 }
 
-/// Whether that is so of so many windows.
+/// The same for `count` windows.
 fn are_windows_alike<R: Threads + Sync + RandomSource>(
     rt: &R,
     alloc: Global,

@@ -1,5 +1,5 @@
-//! The calls over eight words at a time beside what they are word by word, for lengths around one
-//! chunk and many, with the only difference in the last word.
+//! The kernels over eight words at a time compared with their word-by-word definitions, for lengths
+//! around one vector and for many, where only the last word differs.
 
 ghost use Rattle.std.specs.Prelude.{◌≡◌, ◌+◌, ◌<◌, ◌^◌, ℕ, IsTrue, length, slice_index_or};
 
@@ -10,13 +10,13 @@ use std::alloc::{AllocError, Global};
 use std::process::Abort;
 use std::test::Fail;
 
-/// How many words are tried.
+/// The largest number of words that is tried.
 const LENGTHS: [usize; 14] = [0, 1, 7, 8, 9, 15, 16, 17, 31, 32, 33, 63, 64, 65];
 
 /// The bits that are tried in the last word.
 const LAST: [u64; 4] = [0, 1, 1 << 63, u64::MAX];
 
-/// Words that differ from one another, of which the lowest bit is clear.
+/// Words that all differ, with a clear lowest bit.
 fn words(alloc: Global, len: usize) -> Result<Vec<u64>, AllocError> {
     let mut words = Vec::with_capacity(alloc, len)?;
     for i in 0..len as u64 {
@@ -34,10 +34,10 @@ fn with_last(alloc: Global, words: &[u64], last: u64) -> Result<Vec<u64>, AllocE
     Ok(changed)
 }
 
-// What is asserted is told by functions that answer whether it is so: each assertion is proved with
-// all that lets go what the test owns.
+// The checks are in functions that return a boolean: each assertion is proved together with the
+// drops of everything the test owns.
 
-/// Whether the calls that change no words answer what the words say one by one.
+/// Whether the calls that change nothing return what their definitions say word by word.
 fn are_answered_alike(a: &[u64], b: &[u64]) -> bool
     requires { length a.now ≡ length b.now }
 {
@@ -50,7 +50,7 @@ fn are_answered_alike(a: &[u64], b: &[u64]) -> bool
     equal64(a, b) == same && any_and(a, b) == meet && is_within(a, b) == within
 }
 
-/// Whether each word is that of `b` without the bits of the one of `a`.
+/// Whether each word is that of `b` without the bits of that of `a`.
 fn are_cleared(words: &[u64], a: &[u64], b: &[u64]) -> bool {
     if words.len() != a.len() || a.len() != b.len() {
         return false;
@@ -63,7 +63,7 @@ fn are_cleared(words: &[u64], a: &[u64], b: &[u64]) -> bool {
     true
 }
 
-/// Whether each word is that of `b` with the bits of the one of `a`.
+/// Whether each word is that of `b` with the bits of that of `a`.
 fn are_joined(words: &[u64], a: &[u64], b: &[u64]) -> bool {
     if words.len() != a.len() || a.len() != b.len() {
         return false;
@@ -76,7 +76,7 @@ fn are_joined(words: &[u64], a: &[u64], b: &[u64]) -> bool {
     true
 }
 
-/// Whether the calls that change words make of each word what they are to make of it.
+/// Whether the calls that change words make each word what they should.
 fn are_changed_alike(alloc: Global, a: &[u64], b: &[u64]) -> Result<bool, AllocError>
     requires { length a.now ≡ length b.now }
 {
@@ -86,8 +86,8 @@ fn are_changed_alike(alloc: Global, a: &[u64], b: &[u64]) -> Result<bool, AllocE
     Ok(are_cleared(&cleared, a, b) && are_joined(&joined, a, b))
 }
 
-/// Whether all calls on two lists of as many words, which differ by these bits of the last one, are
-/// as word by word.
+/// Whether all calls on two lists of the same length, which differ by these bits of the last word,
+/// agree with their definitions.
 fn are_alike(alloc: Global, a: &[u64], last: u64) -> Result<bool, AllocError> {
     let b = with_last(alloc, a, last)?;
     Ok(
@@ -127,7 +127,7 @@ fn equal32_beside_its_words(rt: HostRuntime) -> Result<(), Fail> {
     Ok(())
 }
 
-/// Whether each pair of numbers, of which there are as many in both, adds up to one that fits.
+/// Whether no pair of numbers overflows when added. Both lists have the same length.
 fn is_fit(a: &[u64], b: &[u64]) -> bool
     requires { length a.now ≡ length b.now }
     ensures { IsTrue result
@@ -154,7 +154,7 @@ fn are_sums(sums: &[u64], a: &[u64], b: &[u64]) -> bool {
     true
 }
 
-/// Sums beside those of each two numbers.
+/// Sums compared with those of each pair.
 fn check_sums(rt: &impl Abort, alloc: Global, a: &[u64], b: &[u64]) -> Result<(), AllocError>
     requires length { length a.now ≡ length b.now }
     requires fit { (i : ℕ) → slice_index_or a.now i 0 + slice_index_or b.now i 0 < 2 ^ 64 }
@@ -193,8 +193,8 @@ fn sums_of_the_last_alone(rt: HostRuntime) -> Result<(), Fail> {
     Ok(())
 }
 
-/// Whether a list whose last word alone has a bit, if there is one, is told from one of as many words
-/// that has none.
+/// Whether a list in which only the last word has a bit, if it has a word, differs from one of the
+/// same length without bits.
 fn is_told(one: &[u64], none: &[u64], some: bool) -> bool
     requires { length one.now ≡ length none.now }
 {

@@ -8,11 +8,11 @@ use Rattle.murmur_lanes.proofs.Hashes.{one_more_word}
 abbrev pub no_key : Bor (List ℕ)
 no_key = record { ref_ptr = (0, 0); now = [] }
 
--- the keys are of this length
+-- all keys have this length
 abbrev pub AreLong : ℕ → List (Bor (List ℕ)) → Type 0
 AreLong len keys = (i : ℕ) → i < length keys → length (get_or keys i no_key).now ≡ len
 
--- lanes that begin as the hash of a key of this length does
+-- lanes that begin with the initial hash of keys of this length
 pub lanes_start : (n len hash : ℕ) (keys : List (Bor (List ℕ))) → ((key : List ℕ) → length key ≡ len → hash ≡ begun key) → length keys ≡ n → AreLong len keys → zip2 (λ h key. hash_rest h (drop 0 key.now)) (replicate n hash) keys ≡ map (λ key. hash_of key.now) keys
 lanes_start zero len hash [] begins e long = refl
 lanes_start zero len hash (k ∷ keys) begins e long = absurd (omega arith)

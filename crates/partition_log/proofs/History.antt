@@ -76,6 +76,6 @@ history l keyed appended a h topic =
       records = records-of l keyed appended a h (rw a.a_log_each below);
     }
 
--- the same, of a key that goes to its place in a topic
+-- the same, for a key in a topic
 pub history-at : (l : PartitionLogs) (at topic : ℕ) (key : Key) (appended : List Keyed) → IsValidLogs l → AreLogsOf appended l → IsOfTopic l (topic, key) → place_in l (topic, key) ≡ at → AreLogsOf (appended ++ (topic, key) ∷ []) (with_record_at l at key)
 history-at l at topic key appended a h is_of goes = subst (λ p. AreLogsOf (appended ++ (topic, key) ∷ []) (with_record_at l p key)) goes (history l (topic, key) appended a h is_of)

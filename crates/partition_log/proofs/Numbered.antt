@@ -12,7 +12,7 @@ not_so : (b : Bool) → (b ≡ true → ⊥) → b ≡ false
 not_so true f = absurd (f refl)
 not_so false f = refl
 
--- a number names a key exactly where it is the key's number
+-- a number is that of a key if and only if it is the key's number
 names : (keys : List Key) (x : Key) (id : ℕ) → IsWithoutRepeats keys → id < length keys → bytes_eq x (key_at keys id) ≡ (id_of keys x == id)
 names keys x id apart lt =
     elim (eqb_tells (id_of keys x) id) [
@@ -41,7 +41,7 @@ by_number keys (id ∷ ids) x apart below =
     ∙ ap (λ n. cond (id_of keys x == id) 1 0 + n) (by_number keys ids x apart (λ i lt. below (suc i) (omega (arith, lt))))
     ∙ sym (sum_by-cons (λ y. cond (id_of keys x == y) 1 0) id ids)
 
--- the number of a key that stands at a number
+-- the number of the key with this number
 pub number-back : (keys : List Key) (id : ℕ) → IsWithoutRepeats keys → id < length keys → id_of keys (key_at keys id) ≡ id
 number-back keys id apart lt =
     let there = known keys (key_at keys id) (among keys (key_at keys id) id lt refl) in

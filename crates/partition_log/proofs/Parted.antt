@@ -1,4 +1,4 @@
--- Each record of a list is in one log.
+-- Each record of a list is in exactly one log.
 use Rattle.std.proofs.Common.{◌≡◌, ◌∙◌, ◌+◌, ◌<◌, ◌≤◌, ℕ, zero, suc, Bool, true, false, List, [], ◌∷◌, cond, get_or, map, sym, ap, refl, arith, inl, inr}
 use Rattle.std.specs.Prelude.{◌==◌, All, filter}
 use Rattle.std.specs.Str.{bytes_eq}
@@ -53,7 +53,7 @@ one_key : (b : Bool) (k : Keyed) (x : Key) (ks : List Keyed) → plain (map key_
 one_key true k x ks = sum_by-cons (λ y. cond (bytes_eq x y) 1 0) k.1 (map key_of ks)
 one_key false k x ks = omega arith
 
--- the records of all places, counted place by place
+-- the records of all partitions, counted partition by partition
 pub parted : (n : ℕ) (place : Keyed → ℕ) (ks : List Keyed) (x : Key) → All (λ k. place k < n) ks → sum_below n (λ p. plain (map key_of (filter (λ k. place k == p) ks)) x) ≡ plain (map key_of ks) x
 unfolding at_place
 parted n place [] x below = sum-zero n
@@ -66,7 +66,7 @@ parted n place (k ∷ ks) x below =
     ∙ ap (λ m. one + m) (parted n place ks x (All-tail (λ y. place y < n) k ks below))
     ∙ sym (sum_by-cons (λ y. cond (bytes_eq x y) 1 0) k.1 (map key_of ks))
 
--- in the logs of a list of records each key is as often as in the list
+-- in the logs of a list of records each key occurs as often as in the list
 pub in_one_log : (appended : List Keyed) (l : PartitionLogs) (x : Key) → IsValidLogs l → AreLogsOf appended l → sum_below l.partitions (λ p. plain (keys_of_log l p) x) ≡ plain (keys_in appended) x
 in_one_log appended l x a h =
     sum-same l.partitions (λ p. plain (keys_of_log l p) x) (λ p. plain (keys_in (filter (λ k. place_in l k == p) appended)) x) (λ p lt. ap (λ ks. plain ks x) (h.records p lt))

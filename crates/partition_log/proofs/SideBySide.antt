@@ -1,4 +1,4 @@
--- Records that are appended to empty logs all at once.
+-- Records appended to empty logs all at once.
 use Rattle.std.proofs.Common.{◌≡◌, ◌∙◌, ◌+◌, ◌<◌, ◌≤◌, ℕ, suc, Bool, true, false, List, [], ◌∷◌, ◌++◌, Ok, Err, length, map, get_or, replicate, sym, ap, refl, subst, arith, inl, inr, length-append}
 use Rattle.std.specs.Prelude.{if◌then◌else◌, not, nat_lt, slice_set, All, IsOk}
 use Rattle.std.specs.List.{fold, zip}
@@ -37,7 +37,7 @@ unfolding with_records
 with_records-partitions l [] = refl
 with_records-partitions l (x ∷ records) = with_records-partitions (with_record_at l x.0 x.1) records
 
--- logs that are filled by the keys' last numbers are those to which the records are appended
+-- logs filled by the final key numbers are those with the records appended
 pub with_records-logs : (l : PartitionLogs) (records : List Placed) (all : List Key) → all ≡ fold with_key l.keys (map key_of records) → filled l.logs (map place_at records) (map (id_of all) (map key_of records)) ≡ (with_records l records).logs
 unfolding with_records
 with_records-logs l [] all is = refl
@@ -46,7 +46,7 @@ with_records-logs l (x ∷ records) all is =
     ap (λ n. filled (slice_set l.logs x.0 (log_at l x.0 ++ n ∷ [])) (map place_at records) (map (id_of all) (map key_of records))) final
     ∙ with_records-logs (with_record_at l x.0 x.1) records all is
 
--- no limit is met where these records are appended
+-- no limit applies where these records are appended
 pub record HasRoomFor (l : PartitionLogs) (more : List Placed) : Type 0 where
   pub valid : IsValidLogs l
   pub placed : All (λ (one : Placed). IsPlaceOf l one.1 one.0) more
@@ -54,7 +54,7 @@ pub record HasRoomFor (l : PartitionLogs) (more : List Placed) : Type 0 where
   pub keys : length l.keys + length more ≤ MOST_RECORDS
   pub short : All (λ (one : Placed). length one.1 ≤ LONGEST_KEY) more
 
--- where there is room for a record and more, its key finds room
+-- if there is capacity for a record and more, its key fits
 finds_room : (l : PartitionLogs) (x : Placed) (records : List Placed) → HasRoomFor l (x ∷ records) → is_full_for l x.0 x.1 ≡ false
 finds_room l x records h =
     or_from _ _ (lt-leb MOST_RECORDS (length (log_at l x.0)) (omega (arith, h.logs x.0)))
@@ -66,7 +66,7 @@ is_short l x records h = All-head (λ (one : Placed). length one.1 ≤ LONGEST_K
 is_placed : (l : PartitionLogs) (x : Placed) (records : List Placed) → HasRoomFor l (x ∷ records) → IsPlaceOf l x.1 x.0
 is_placed l x records h = All-head (λ (one : Placed). IsPlaceOf l one.1 one.0) x records h.placed
 
--- after the first record there is room for the others
+-- after the first record there is capacity for the others
 room-next : (l : PartitionLogs) (x : Placed) (records : List Placed) → HasRoomFor l (x ∷ records) → HasRoomFor (with_record_at l x.0 x.1) records
 room-next l x records h =
     let goes = is_placed l x records h in
@@ -86,7 +86,7 @@ room-next l x records h =
       short = All-tail (λ (one : Placed). length one.1 ≤ LONGEST_KEY) x records h.short;
     }
 
--- an answer where nothing is refused
+-- an answer that is not a refusal
 accepted-one : (a b : Bool) (v : ℕ × ℕ) → a ≡ false → b ≡ false → IsOk (if a then Err r.KeyTooLong else if b then Err r.LogFull else Ok v)
 accepted-one true b v e f = absurd (cc e)
 accepted-one false true v e f = absurd (cc f)
@@ -104,7 +104,7 @@ unfolding with_records
 all-valid l [] h = h.valid
 all-valid l (x ∷ records) h = all-valid (with_record_at l x.0 x.1) records (room-next l x records h)
 
--- logs with no key have no record
+-- logs without keys have no record
 pub no-record : (l : PartitionLogs) (p : ℕ) → IsValidLogs l → length l.keys ≡ 0 → length (log_at l p) ≡ 0
 no-record l p a none =
     elim (cases_lt 0 (length (log_at l p))) [
@@ -125,7 +125,7 @@ all-empty (log ∷ logs) h =
 pub no-records : (l : PartitionLogs) → IsValidLogs l → length l.keys ≡ 0 → l.logs ≡ replicate l.partitions []
 no-records l a none = all-empty l.logs (λ p. no-record l p a none) ∙ ap (λ n. replicate n []) a.a_log_each
 
--- logs with no key have room
+-- logs without keys have capacity
 pub has_room : (l : PartitionLogs) (records : List Placed) → IsValidLogs l → length l.keys ≡ 0 → length records ≤ MOST_RECORDS → All (λ (one : Placed). length one.1 ≤ LONGEST_KEY) records
     → All (λ (one : Placed). IsPlaceOf l one.1 one.0) records → HasRoomFor l records
 has_room l records a none few short placed = record {
@@ -136,12 +136,12 @@ has_room l records a none few short placed = record {
   short = short;
 }
 
--- logs of which the parts are those of these
+-- logs whose fields are those of these
 same-parts : (w : PartitionLogs) (counts : List ℕ) (partitions : ℕ) (keys : List Key) (logs : List (List ℕ)) → counts ≡ w.counts → partitions ≡ w.partitions → keys ≡ w.keys → logs ≡ w.logs
     → (let new : PartitionLogs = record { counts = counts; partitions = partitions; keys = keys; logs = logs } in new ≡ w)
 same-parts w counts partitions keys logs c p ks ls = rw (c, p, ks, ls) refl
 
--- logs of which the parts are those with the records appended
+-- logs whose fields are those with the records appended
 pub appended-whole : (l : PartitionLogs) (records : List Placed) (all : List Key) (logs : List (List ℕ)) → IsValidLogs l → l.keys ≡ [] → all ≡ distinct (map key_of records)
     → logs ≡ filled (replicate l.partitions []) (map place_at records) (map (id_of all) (map key_of records))
     → (let new : PartitionLogs = record { counts = l.counts; partitions = l.partitions; keys = all; logs = logs } in new ≡ with_records l records)
@@ -157,7 +157,7 @@ no-key : (keys : List Key) → length keys ≡ 0 → keys ≡ []
 no-key [] e = refl
 no-key (k ∷ keys) e = absurd (omega (arith, e))
 
--- places beside keys, taken apart
+-- partitions paired with keys, separated
 unzip-places : (places : List ℕ) (keys : List Key) → length places ≡ length keys → map place_at (zip places keys) ≡ places
 unzip-places [] [] e = refl
 unzip-places [] (k ∷ keys) e = absurd (omega (arith, e))
@@ -177,7 +177,7 @@ zip-short (p ∷ places) (k ∷ keys) h =
     All-cons (λ (one : Placed). length one.1 ≤ LONGEST_KEY) (p, k) (zip places keys) (All-head (λ (key : Key). length key ≤ LONGEST_KEY) k keys h)
     (zip-short places keys (All-tail (λ (key : Key). length key ≤ LONGEST_KEY) k keys h))
 
--- what keys give that are appended side by side
+-- the result of appending keys in parallel
 pub side-by-side : (old l : PartitionLogs) (keys all : List Key) (places ids : List ℕ) (count : ℕ) (logs : List (List ℕ)) → l ≡ old → IsValidLogs l → CanGoSideBySide old keys → count ≡ l.partitions → length places ≡ length keys
     → All (λ (one : Placed). IsPlaceOf old one.1 one.0) (zip places keys) → ids ≡ map (id_of (distinct keys)) keys → all ≡ distinct keys → logs ≡ filled (replicate count []) places ids
     → (let new : PartitionLogs = record { counts = l.counts; partitions = l.partitions; keys = all; logs = logs } in AreAppended old (zip places keys) new × IsValidLogs new)
@@ -200,7 +200,7 @@ side-by-side old l keys all places ids count logs seen a can counted as_many goe
       subst IsValidLogs (sym whole) (all-valid l records room),
     )
 
--- places of records are partitions
+-- records go to partitions
 pub all-below : (l : PartitionLogs) (places : List ℕ) (keys : List Key) → IsValidLogs l → length places ≡ length keys → All (λ (one : Placed). IsPlaceOf l one.1 one.0) (zip places keys) → All (λ p. p < l.partitions) places
 all-below l [] keys a e h = λ i d lt. absurd (omega (arith, lt))
 all-below l (p ∷ places) [] a e h = absurd (omega (arith, e))

@@ -1,4 +1,4 @@
--- Where an appended record stands.
+-- Where an appended record is.
 use Rattle.std.proofs.Common.{◌≡◌, ◌∙◌, ◌+◌, ◌<◌, ℕ, Bool, true, false, List, [], ◌∷◌, ◌++◌, length, get_or, sym, ap, arith, inl, inr, length-append}
 use Rattle.std.specs.Prelude.{if◌then◌else◌, nat_lt, Result, Ok, Err}
 use Rattle.std.proofs.Math.Seq.{get_or-append_seam}
@@ -10,7 +10,7 @@ use Rattle.partition_log.specs.Keys.{Key, Keyed, id_of, of_first}
 use Rattle.partition_log.specs.Logs.{IsOfTopic, IsValidLogs, PartitionLogs, append_answer, is_full_for, log_at, place_in, with_record}
 use Rattle.partition_log.proofs.Valid.{log-same, place-below}
 
--- the record of a key that was appended to logs stands at this place and offset, as the number of the key
+-- the record that was appended is at this partition and offset, as the number of its key
 pub record IsStored (l : PartitionLogs) (key : Key) (new : PartitionLogs) (place offset : ℕ) : Type 0 where
   pub placed : place < new.partitions
   pub within : offset < length (log_at new place)
@@ -21,7 +21,7 @@ answered true b v w e = absurd (cc e)
 answered false true v w e = absurd (cc e)
 answered false false v w e = cc e
 
--- an answer that is no fault is the expected one
+-- an answer that is not a refusal is the expected one
 pub accepted : {T : Type 0} (expected : Result T Refusal) (v : T) → Answers expected (Ok v) → expected ≡ Ok v
 accepted expected v (inl e) = sym e
 accepted expected v (inr e) = absurd (cc e)
@@ -51,6 +51,6 @@ stored l new keyed place offset a topic e h =
 pub first-topic : (l : PartitionLogs) (key : Key) → IsValidLogs l → IsOfTopic l (of_first key)
 first-topic l key a = omega (arith, a.counted.some)
 
--- its place is a partition
+-- it goes to a partition
 pub first-below : (l : PartitionLogs) (key : Key) → IsValidLogs l → place_in l (of_first key) < l.partitions
 first-below l key a = place-below l (of_first key) a (first-topic l key a)

@@ -1,4 +1,4 @@
--- Append-only logs of keyed records, one a partition. Partitions are those of one topic or of several.
+-- Append-only logs of keyed records, one for each partition of one or more topics.
 use Rattle.std.specs.Prelude.{◌≡◌, ℕ, ◌<◌, ◌≤◌, ◌==◌, ◌&&◌, ◌||◌, nat_lt, nat_le, not, All, Bool, List, [], ◌∷◌, ◌++◌, length, filter, map, if◌then◌else◌, slice_index_or, slice_set, Contains, Result, Ok, Err}
 use Rattle.std.specs.List.{sum}
 pub use Rattle.lane_words.specs.Sums.{sum_below}
@@ -8,8 +8,8 @@ use Rattle.lane_words.specs.declared.Refusal.{Refusal}
 use Rattle.lane_words.specs.declared.Refusal.TheVariants as r
 use Rattle.partition_log.specs.Keys.{Key, Keyed, is_known, keys_in, with_key, id_of, key_at, distinct, plain, IsWithoutRepeats}
 
--- logs: how many partitions each topic has and how many there are in all, the keys by their numbers,
--- and for each partition the numbers of its records' keys
+-- logs: the number of partitions of each topic and in total, the keys by number, and for each
+-- partition the key numbers of its records
 pub record PartitionLogs : Type 0 where
   pub counts : List ℕ
   pub partitions : ℕ
@@ -24,35 +24,35 @@ log_at l p = slice_index_or l.logs p []
 abbrev pub keys_of_log : PartitionLogs → ℕ → List Key
 keys_of_log l p = map (key_at l.keys) (log_at l p)
 
--- how often a key is in all logs together
+-- how often a key occurs in all logs together
 abbrev pub count_in_logs : PartitionLogs → Key → ℕ
 count_in_logs l x = sum_below l.partitions (λ p. plain (keys_of_log l p) x)
 
--- a record's topic is one of the logs'
+-- a record's topic is one of the logs' topics
 abbrev pub IsOfTopic : PartitionLogs → Keyed → Type 0
 IsOfTopic l keyed = keyed.0 < length l.counts
 
--- where a record goes
+-- the partition that a record goes to
 abbrev pub place_in : PartitionLogs → Keyed → ℕ
 place_in l keyed = place_in_topic l.counts keyed.0 keyed.1
 
--- a record of this key goes there, if it is of some topic
+-- some topic assigns this key to this partition
 abbrev pub IsPlaceOf : PartitionLogs → Key → ℕ → Type 0
 IsPlaceOf l key place =
     (topic : ℕ) × IsOfTopic l (topic, key) × (place_in l (topic, key) ≡ place)
 
--- whether a record of this key finds no room in a log of this many records: the log holds its
--- limit, or the key is new and the keys are at theirs
+-- whether a record of this key does not fit a log of this many records: the log is full, or the key
+-- is new and the keys are at their limit
 abbrev pub finds_no_room : List Key → ℕ → Key → Bool
 finds_no_room keys records key =
     nat_le MOST_RECORDS records || (not (is_known keys key) && nat_le MOST_RECORDS (length keys))
 
--- the same, in the log of this partition
+-- the same, for the log of this partition
 abbrev pub is_full_for : PartitionLogs → ℕ → Key → Bool
 is_full_for l place key = finds_no_room l.keys (length (log_at l place)) key
 
--- what an append of a record of this key to the log of this partition answers: the partition and the
--- record's offset, or a refusal
+-- the answer of an append of a record of this key to the log of this partition: the partition and
+-- the record's offset, or a refusal
 abbrev pub answer_at : PartitionLogs → ℕ → Key → Result (ℕ × ℕ) Refusal
 answer_at l place key =
     if nat_lt LONGEST_KEY (length key) then Err r.KeyTooLong
@@ -74,7 +74,7 @@ with_record_at l place key = record l {
 abbrev pub with_record : PartitionLogs → Keyed → PartitionLogs
 with_record l keyed = with_record_at l (place_in l keyed) keyed.1
 
--- an entry of log p is the number of a key whose place in some topic is p
+-- an entry of log p is the number of a key that some topic assigns to p
 pub record IsEntryOf (l : PartitionLogs) (p number : ℕ) : Type 0 where
   pub numbered : number < length l.keys
   pub placed : IsPlaceOf l (key_at l.keys number) p
@@ -83,7 +83,7 @@ pub record IsEntryOf (l : PartitionLogs) (p number : ℕ) : Type 0 where
 abbrev pub IsUsed : PartitionLogs → ℕ → Type 0
 IsUsed l number = (p : ℕ) × (p < l.partitions) × Contains (log_at l p) number
 
--- what logs keep
+-- the invariant of logs
 pub record IsValidLogs (l : PartitionLogs) : Type 0 where
   pub counted : AreCounts l.counts
   pub in_all : l.partitions ≡ sum l.counts
@@ -98,8 +98,8 @@ pub record IsValidLogs (l : PartitionLogs) : Type 0 where
   pub few_keys : length l.keys ≤ MOST_RECORDS
   pub few_records : (p : ℕ) → length (log_at l p) ≤ MOST_RECORDS
 
--- these are the logs of a list of records, appended one after the other: the keys are those of the
--- list without repeats, in order of first appearance, and log p has the keys of those whose place is
+-- these are the logs of a list of records, appended one after another: the keys are the distinct
+-- keys of the list, in order of first appearance, and log p has the keys of the records that go to
 -- p, in order
 pub record AreLogsOf (appended : List Keyed) (l : PartitionLogs) : Type 0 where
   pub topics : All (IsOfTopic l) appended

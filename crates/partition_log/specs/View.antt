@@ -1,4 +1,4 @@
--- How logs are seen.
+-- How contracts see logs.
 use Rattle.std.specs.Prelude.{map, vec_items}
 use Rattle.std.specs.List.{sum}
 use Rattle.partition_log.specs.Logs.{PartitionLogs}

@@ -11,10 +11,8 @@ use crate::Logs;
 use crate::filling::filled_logs;
 use key_numbers::pieces_of;
 use lane_words::{LONGEST_KEY, MOST_RECORDS, Memory, Refusal};
+use parallel::LEAST_KEYS;
 use std::thread::Threads;
-
-/// Fewer keys than these are appended one after the other, by the thread that has them.
-pub const SIDE_BY_SIDE: usize = 4096;
 
 impl Logs {
     /// Appends records of these keys to the first topic in order, until one is refused. Where one
@@ -63,8 +61,8 @@ impl Logs {
         self.append_placed(rt, keys, &places)
     }
 
-    /// The partition in the first topic of each of some keys, in their order, computed side by side.
-    /// Refused for want of memory alone, and not where there are no keys.
+    /// The partition in the first topic of each of some keys, in order, computed in parallel. Fails
+    /// only if memory runs out, and not if there are no keys.
     pub fn places_of<R: Threads + Sync>(&self, rt: &R, keys: &[&[u8]]) -> Result<Vec<u32>, Memory>
         ensures places { IfOk result (λ places. places.items
             ≡ map (λ key. place_in self.now (of_first key.now)) keys.now) }
@@ -128,13 +126,13 @@ impl Logs {
         ensures valid { IsValidLogs self.now }
     {
         self.keys.count() == 0
-            && keys.len() >= SIDE_BY_SIDE
+            && keys.len() >= LEAST_KEYS
             && keys.len() <= MOST_RECORDS as usize
             && are_short(keys)
     }
 
-    /// Appends records of these keys in order, all of them or none. Refused for want of memory, with
-    /// everything as it was.
+    /// Appends records of these keys in order, all of them or none. If memory runs out nothing
+    /// changes.
     fn append_side_by_side<R: Threads + Sync>(
         &mut self,
         rt: &R,
@@ -150,9 +148,14 @@ impl Logs {
     {
         let alloc = *self.logs.allocator();
         let pieces = pieces_of(alloc, keys)?;
-        let (shards, ids, ()) = self.keys.number_all(rt, &pieces, 0, || ())?;
-        let logs = filled_logs(alloc, self.partitions.count() as usize, places, &ids)?;
-        self.keys.begin_with(shards);
+        let (interned, ()) = self.keys.number_all(rt, &pieces, 0, || ())?;
+        let logs = filled_logs(
+            alloc,
+            self.partitions.count() as usize,
+            places,
+            &interned.ids,
+        )?;
+        self.keys.begin_with(interned.keys);
         self.logs = logs;
         Ok(())
     }

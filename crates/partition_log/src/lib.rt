@@ -1,11 +1,33 @@
-//! Append-only logs of keyed records.
+//! Append-only logs of keyed records, one for each partition.
+//!
+//! It promises:
+//! - `Logs::append` returns the partition and the offset of the record, or the first refusal that
+//!   applies, in a fixed order. The record is then the last of its log, and nothing else has
+//!   changed. After a refusal nothing has changed. A key that is already interned is accepted even
+//!   if the keys are at their limit.
+//! - `append_in` is the same for a given topic, and `append_at` for a partition that the caller has
+//!   computed. `append` is for the first topic.
+//! - If the logs were those of a list of records, they are then those of the list with this record
+//!   at its end.
+//! - `append_all` and `append_all_in` append records one after another, up to the first that is
+//!   refused, and report how many were appended before it and why it was refused. Many keys
+//!   appended to empty logs are interned in parallel, and then all of them are appended or none.
+//! - `append_lists` has the contract of `append_all`, for lists of keys. Where it can, it looks up
+//!   key numbers and partitions once for each key of a list's dictionary, and fills the logs list
+//!   by list, in parallel.
+//! - The invariant: distinct keys, none too long; each entry is the number of a key, in a log that
+//!   some topic assigns the key to; each key has an entry; the limits hold.
+//! - `seal` and `copy` change neither logs nor key numbers.
+//! - A law: over all logs of a list of records, each key occurs as often as in the list.
+//!
+//! Tests: `log_tests`.
 #![tactic(auto)]
 
 ghost use Rattle.std.specs.Prelude.{◌≡◌, ◌<◌, ◌≤◌, ◌↔◌, ◌++◌, ◌∷◌, [], ℕ, Ok, Err, List, map, length, vec_items, vec_len, slice_set, slice_range, replicate, slice_index_or, IfOk, IsTrue, OnOk, OnErr, if◌then◌else◌};
 ghost use Rattle.std.specs.List.{sum};
 ghost use Rattle.lane_words.specs.Answers.{Answers};
 ghost use Rattle.lane_words.specs.declared.Refusal.TheVariants as refusal;
-ghost use Rattle.partition_log.specs.Appends.{GrowByRecords};
+ghost use Rattle.partition_log.specs.Appends.{GrowByRecords, GrowsByKeyAt};
 ghost use Rattle.partition_log.specs.Keys.{key_at, of_first, with_key};
 ghost use Rattle.partition_log.specs.Private.Appends.{log_answer, with_id, with_id_at};
 ghost use Rattle.partition_log.specs.Logs.{AreCounts, AreLogsOf, IsOfTopic, IsPlaceOf, IsValidLogs, PartitionLogs, answer_at, append_answer, log_at, place_in, with_record, with_record_at};
@@ -28,18 +50,17 @@ use std::random::RandomSource;
 
 /// Append-only logs of keyed records, one for each of 1 to 4096 partitions of 1 to 8 topics.
 ///
-/// Partitions are counted over all topics, those of a topic after those of the topics before, and
-/// keys are numbered over all of them.
-/// A record is its key alone. A key has 0 to 65,535 bytes of any value and is numbered from 0 in
-/// the order of first appearance; a log holds up to 4,294,967,295 records, each as the number of
-/// its key, and there are up to 4,294,967,295 keys.
+/// Partitions are numbered over all topics: those of a topic follow those of the topics before it.
+/// Keys are numbered from 0 over all topics, in the order of first appearance. A record is a key in
+/// a topic; its log stores the number of its key. A key has 0 to 65,535 bytes of any value. A log
+/// holds up to 4,294,967,295 records, and there are up to 4,294,967,295 keys.
 #[derive(Debug, Drop)]
 pub struct Logs {
-    /// How many logs each topic has.
+    /// The number of partitions of each topic.
     partitions: Partitions,
     /// The keys of all logs.
     keys: KeyIds,
-    /// Of each log the key numbers of its records.
+    /// The records of each log, as key numbers.
     logs: Vec<Vec<u32>>,
 }
 
@@ -56,33 +77,33 @@ impl Model for Logs {
 
 /// Logs that can be read.
 pub trait LogRead {
-    // The logs as they stand.
+    // The present contents.
     ghost contents: { Self → PartitionLogs };
 
-    /// How many partitions there are.
+    /// The number of partitions.
     fn partitions(&self) -> u32
         ensures count { result ≡ (contents self.now).partitions }
         ensures valid { IsValidLogs (contents self.now) };
 
-    /// How many records the log of partition `p` holds, which is the offset of its next one.
+    /// The number of records in the log of partition `p`, which is the offset of its next record.
     fn len(&self, p: u32) -> u32
         requires { p < (contents self.now).partitions }
         ensures { result ≡ length (log_at (contents self.now) p) };
 
-    /// The numbers of the keys of the records at the offsets `from`, `from + 1` and so on below
-    /// `to`, in the log of partition `p`.
+    /// The key numbers of the records of partition `p` with offsets from `from` up to but not
+    /// including `to`.
     fn ids(&self, p: u32, from: u32, to: u32) -> &[u32]
         requires partition { p < (contents self.now).partitions }
         requires range { (from ≤ to) × (to ≤ length (log_at (contents self.now) p)) }
         ensures ids { result.now ≡ slice_range (log_at (contents self.now) p) from to }
         ensures valid { IsValidLogs (contents self.now) };
 
-    /// The key of a number.
+    /// The key with this number.
     fn key(&self, id: u32) -> &[u8]
         requires { id < length (contents self.now).keys }
         ensures { result.now ≡ key_at (contents self.now).keys id };
 
-    /// How many keys there are.
+    /// The number of keys.
     fn keys(&self) -> u32
         ensures { result ≡ length (contents self.now).keys };
 }
@@ -112,8 +133,8 @@ impl LogRead for Logs {
 }
 
 impl Logs {
-    /// Empty logs of this many partitions, of one topic. They are refused for want of memory, or where the random
-    /// source fails, from which the hasher of the keys is drawn.
+    /// Empty logs of a single topic with this many partitions. Fails if memory runs out, or if the
+    /// random source fails that the hash seeds of the keys are drawn from.
     pub fn new(rt: &impl RandomSource, alloc: Global, partitions: u32) -> Result<Logs, Memory>
         requires { (1 ≤ partitions) × (partitions ≤ MOST_PARTITIONS) }
         ensures counts { IfOk result (λ logs. logs.counts ≡ partitions ∷ []) }
@@ -124,8 +145,7 @@ impl Logs {
         Logs::of(rt, alloc, Partitions::new(partitions))
     }
 
-    /// Empty logs of as many partitions of each topic as these numbers say. They are refused as
-    /// those of one topic.
+    /// Empty logs of topics with these numbers of partitions. Fails as `new` does.
     pub fn with_topics(
         rt: &impl RandomSource,
         alloc: Global,
@@ -156,7 +176,7 @@ impl Logs {
         })
     }
 
-    /// How many topics there are.
+    /// The number of topics.
     pub fn topics(&self) -> usize
         ensures topics { result ≡ length self.now.counts }
         ensures valid { IsValidLogs self.now }
@@ -164,18 +184,19 @@ impl Logs {
         self.partitions.topics()
     }
 
-    /// The partition of a key in the first topic. The key need not have a record here. It takes no
-    /// memory.
+    /// The partition of a key in the first topic, whether or not the key has a record here. It
+    /// allocates nothing.
     pub fn place_of(&self, key: &[u8]) -> u32
         ensures place { result ≡ place_in self.now (of_first key.now) }
         ensures goes { IsPlaceOf self.now key.now result }
         ensures within { result < self.now.partitions }
     {
+        // Reading a field makes the invariant available: there is a first topic.
         let _ = &self.partitions;
         self.place_of_in(0, key)
     }
 
-    /// The same, in the topic of this index, with partitions counted over all topics.
+    /// The same in the topic with this index. Partitions are numbered over all topics.
     pub fn place_of_in(&self, topic: u8, key: &[u8]) -> u32
         requires { IsOfTopic self.now (topic, key.now) }
         ensures place { result ≡ place_in self.now (topic, key.now) }
@@ -185,12 +206,12 @@ impl Logs {
         self.partitions.place_in(topic, key)
     }
 
-    /// Appends a record of this key to the log of its place in the first topic, and answers the
-    /// partition and the record's offset.
+    /// Appends a record of this key to the first topic, and returns its partition and offset.
     ///
-    /// Refused, with everything as it was: a key of more than 65,535 bytes (`KeyTooLong`); a log
-    /// that holds its limit, or a new key where the keys are at theirs (`LogFull`); want of memory.
-    /// A known key takes four bytes of its log, and is accepted where the keys are at their limit.
+    /// Refused, with nothing changed: a key longer than 65,535 bytes (`KeyTooLong`); a full log, or
+    /// a new key when the keys are at their limit (`LogFull`); out of memory (`Memory`). A key that
+    /// is already interned takes four bytes of its log, and is accepted even if the keys are at
+    /// their limit.
     pub fn append(&mut self, key: &[u8]) -> Result<(u32, u32), Refusal>
         ensures answer { Answers (append_answer self.old (of_first key.now)) result }
         ensures ok { OnOk result (self.new ≡ with_record self.old (of_first key.now)) }
@@ -199,12 +220,12 @@ impl Logs {
         ensures history { OnOk result
             (GrowByRecords (of_first key.now ∷ []) self.old self.new) }
     {
+        // Reading a field makes the invariant available: there is a first topic.
         let _ = &self.partitions;
         self.append_in(0, key)
     }
 
-    /// The same, to the log of the key's place in the topic of this index. Partitions are counted
-    /// over all topics.
+    /// The same, to the topic with this index. Partitions are numbered over all topics.
     pub fn append_in(&mut self, topic: u8, key: &[u8]) -> Result<(u32, u32), Refusal>
         requires { IsOfTopic self.old (topic, key.now) }
         ensures answer { Answers (append_answer self.old (topic, key.now)) result }
@@ -218,16 +239,14 @@ impl Logs {
         self.append_at(place, key)
     }
 
-    /// The same, where the key's place in some topic is known.
+    /// The same, to the partition that some topic assigns to the key.
     pub fn append_at(&mut self, place: u32, key: &[u8]) -> Result<(u32, u32), Refusal>
         requires { IsPlaceOf self.old key.now place }
         ensures answer { Answers (answer_at self.old place key.now) result }
         ensures ok { OnOk result (self.new ≡ with_record_at self.old place key.now) }
         ensures err { OnErr result (self.new ≡ self.old) }
         ensures valid { OnOk result (IsValidLogs self.new) }
-        ensures history { OnOk result ((topic : ℕ) → IsOfTopic self.old (topic, key.now)
-            → place_in self.old (topic, key.now) ≡ place
-            → GrowByRecords ((topic, key.now) ∷ []) self.old self.new) }
+        ensures history { OnOk result (GrowsByKeyAt key.now place self.old self.new) }
     {
         if key.len() > LONGEST_KEY {
             return Err(Refusal::KeyTooLong);
@@ -236,7 +255,7 @@ impl Logs {
         Ok((place, offset))
     }
 
-    /// The same logs, to which nothing more is appended. It takes no memory.
+    /// The same logs, now read-only. It allocates nothing.
     pub fn seal(self) -> SealedLogs
         ensures same { result ≡ self }
         ensures valid { IsValidLogs self }
@@ -244,7 +263,7 @@ impl Logs {
         SealedLogs { logs: self }
     }
 
-    /// Whether other logs are equal to these.
+    /// Whether both logs are equal.
     fn same(&self, other: &Logs) -> bool
         ensures { IsTrue result ↔ (self.now ≡ other.now) }
     {
@@ -253,7 +272,7 @@ impl Logs {
             && same_logs(&self.logs, &other.logs)
     }
 
-    /// Equal logs, whose keys have a hasher of their own.
+    /// An equal copy, with hash seeds of its own.
     fn copy(&self, rt: &impl RandomSource, alloc: Global) -> Result<Logs, Memory>
         ensures equal { IfOk result (λ logs. logs ≡ self.now) }
         ensures valid { IfOk result IsValidLogs }
@@ -279,7 +298,7 @@ fn empty_logs(alloc: Global, count: usize) -> Result<Vec<Vec<u32>>, Memory>
     Ok(logs)
 }
 
-/// Logs with the same numbers.
+/// A copy of these logs.
 fn copy_logs(alloc: Global, logs: &Vec<Vec<u32>>) -> Result<Vec<Vec<u32>>, Memory>
     ensures { IfOk result (λ copy. map vec_items copy.items ≡ map vec_items logs.now.items) }
 {
@@ -290,15 +309,15 @@ fn copy_logs(alloc: Global, logs: &Vec<Vec<u32>>) -> Result<Vec<Vec<u32>>, Memor
     Ok(copy)
 }
 
-/// Whether logs have the same numbers.
+/// Whether logs have the same key numbers.
 fn same_logs(logs: &[Vec<u32>], others: &[Vec<u32>]) -> bool
     ensures { IsTrue result ↔ (map vec_items logs.now ≡ map vec_items others.now) }
 {
     logs == others
 }
 
-/// Appends the number of a key to its log, and answers the number's offset there. A new key is
-/// numbered first.
+/// Appends the number of a key to the log of this index, and returns its offset there. A new key is
+/// interned first.
 fn append_id(
     keys: &mut KeyIds,
     logs: &mut Vec<Vec<u32>>,
@@ -319,7 +338,7 @@ fn append_id(
     push_id(keys, log, key)
 }
 
-/// Appends the number of a key to this log, and answers the number's offset.
+/// Appends the number of a key to this log, and returns its offset.
 fn push_id(keys: &mut KeyIds, log: &mut Vec<u32>, key: &[u8]) -> Result<u32, Refusal>
     ensures answer { Answers (log_answer keys.old log.old.items key.now) result }
     ensures keys { OnOk result (keys.new ≡ with_key keys.old key.now) }

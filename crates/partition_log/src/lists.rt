@@ -4,20 +4,20 @@ ghost use Rattle.std.specs.Prelude.{◌≡◌, ◌↔◌, ◌<◌, ◌≤◌, tr
 ghost use Rattle.std.specs.Thread.{IsSync};
 ghost use Rattle.key_lists.specs.Lists.{AreCoded, TellsLongest, joined, keys_in};
 ghost use Rattle.partition_log.specs.Appends.{AreAppended, AreStoppedAfter, GrowByRecords, in_first, lent, placed};
-ghost use Rattle.key_numbers.specs.Keys.{distinct, id_of, lent_lists};
+ghost use Rattle.key_numbers.specs.Interned.{IsDictionaryOf};
+ghost use Rattle.key_numbers.specs.Keys.{lent_lists};
 ghost use Rattle.partition_log.specs.Keys.{of_first};
 ghost use Rattle.partition_log.specs.Logs.{IsValidLogs, place_in};
 ghost use Rattle.partition_log.specs.Private.Filled.{AreShort, CanGoSideBySide};
 ghost use Rattle.partition_log.specs.Private.Shares.{records_of};
 
 use crate::Logs;
-use crate::appends::SIDE_BY_SIDE;
 use crate::shares::logs_of_lists;
 use key_lists::{CodedPart, KeyList, coded_parts};
-use key_numbers::Shards;
+use key_numbers::Interned;
 use lane_words::{LONGEST_KEY, MOST_RECORDS, Memory, Refusal};
+use parallel::{LEAST_KEYS, drop_each};
 use std::alloc::Global;
-use std::thread;
 use std::thread::Threads;
 
 impl Logs {
@@ -49,7 +49,7 @@ impl Logs {
         self.append_each(rt, lists)
     }
 
-    /// Gives the memory of the logs back, that of many keys on several threads.
+    /// Drops the logs, many keys on several threads.
     pub fn let_go<R: Threads + Sync>(self, rt: &R) {
         let Logs { keys, .. } = self;
         keys.let_go(rt);
@@ -63,11 +63,11 @@ impl Logs {
         ensures valid { IsValidLogs self.now }
     {
         let records = len_of(lists);
-        self.keys.count() == 0 && records >= SIDE_BY_SIDE && records <= MOST_RECORDS as usize
+        self.keys.count() == 0 && records >= LEAST_KEYS && records <= MOST_RECORDS as usize
     }
 
-    /// Appends records of the keys of these lists, all of them or none, and tells whether it did: it
-    /// does not where one is too long. Refused for want of memory.
+    /// Appends records of the keys of these lists, all of them or none, and returns whether it did:
+    /// it does not if a key is too long. Fails only if memory runs out.
     fn append_coded<R: Threads + Sync>(&mut self, rt: &R, lists: &[KeyList]) -> Result<bool, Memory>
         requires none { length self.old.keys ≡ 0 }
         requires some { 0 < length (joined lists.now) }
@@ -84,7 +84,7 @@ impl Logs {
             return Ok(false);
         }
         self.append_firsts(rt, &coded)?;
-        let_go(rt, coded);
+        drop_each(rt, coded);
         Ok(true)
     }
 
@@ -103,17 +103,17 @@ impl Logs {
     {
         let alloc = *self.logs.allocator();
         let keys = keys_of(alloc, coded)?;
-        let (shards, numbers, places) = number_and_place(rt, self, &keys)?;
+        let (interned, places) = number_and_place(rt, self, &keys)?;
         let places = places?;
         let partitions = self.partitions.count() as usize;
-        let logs = logs_of_lists(rt, alloc, partitions, coded, &places, &numbers)?;
-        self.keys.begin_with(shards);
+        let logs = logs_of_lists(rt, alloc, partitions, coded, &places, &interned.ids)?;
+        self.keys.begin_with(interned.keys);
         self.logs = logs;
         Ok(())
     }
 
-    /// The partition in the first topic of each key of these lists, one list after another, those of
-    /// each list computed side by side. Refused for want of memory.
+    /// The partition in the first topic of each key of these lists, one list after another, those
+    /// of each list computed in parallel. Fails only if memory runs out.
     fn places_of_lists<R: Threads + Sync>(
         &self,
         rt: &R,
@@ -163,12 +163,10 @@ fn number_and_place<R: Threads + Sync>(
     rt: &R,
     logs: &Logs,
     lists: &[&[&[u8]]],
-) -> Result<(Shards, Vec<u32>, Result<Vec<u32>, Memory>), Memory>
+) -> Result<(Interned, Result<Vec<u32>, Memory>), Memory>
     requires few { length (lent_lists lists.now) ≤ MOST_RECORDS }
-    ensures keys { IfOk result (λ r. r.0 ≡ distinct (lent_lists lists.now)) }
-    ensures numbers { IfOk result (λ r. r.1.items
-        ≡ map (id_of (distinct (lent_lists lists.now))) (lent_lists lists.now)) }
-    ensures places { IfOk result (λ r. IfOk r.2 (λ places. places.items
+    ensures value { IfOk result (λ r. IsDictionaryOf (lent_lists lists.now) r.0) }
+    ensures places { IfOk result (λ r. IfOk r.1 (λ places. places.items
         ≡ map (λ key. place_in logs.now (of_first key)) (lent_lists lists.now))) }
     ensures valid { IsValidLogs logs.now }
 {
@@ -179,7 +177,8 @@ fn number_and_place<R: Threads + Sync>(
         || -> Result<Vec<u32>, Memory>
             requires { IsSync R.row }
             ensures { IfOk result (λ places. places.items
-                ≡ map (λ key. place_in logs.entry.now (of_first key)) (lent_lists lists.entry.now)) }
+                ≡ map (λ key. place_in logs.entry.now (of_first key))
+                (lent_lists lists.entry.now)) }
         { logs.places_of_lists(rt, lists) },
     )
 }
@@ -205,12 +204,6 @@ fn slices_of(alloc: Global, lists: &[KeyList]) -> Result<Vec<&[u8]>, Memory>
         lists[i].add_slices(&mut keys)?;
     }
     Ok(keys)
-}
-
-/// Gives the memory of coded lists back, that of each in a thread of its own.
-fn let_go<R: Threads + Sync>(rt: &R, coded: Vec<CodedPart<'_>>) {
-    // Where memory is refused, what is left goes with the list.
-    let _ = thread::map_vec(rt, coded, &|part: CodedPart<'_>| drop(part));
 }
 
 /// Whether no key of coded lists is too long.

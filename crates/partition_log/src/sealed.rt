@@ -1,4 +1,4 @@
-//! Logs to which nothing is appended any more.
+//! Read-only logs.
 
 ghost use Rattle.std.specs.Prelude.{◌≡◌, ◌↔◌, IfOk, IsTrue};
 ghost use Rattle.partition_log.specs.Logs.{IsValidLogs, PartitionLogs};
@@ -9,10 +9,10 @@ use std::alloc::Global;
 use std::marker::Model;
 use std::random::RandomSource;
 
-/// Logs that only can be read: nothing more is appended to them, so many may read them at once.
+/// Read-only logs: nothing is appended to them any more, so any number of threads may read them.
 #[derive(Debug, Drop)]
 pub struct SealedLogs {
-    /// The logs, which are only read.
+    /// The logs.
     pub(crate) logs: Logs,
 }
 
@@ -49,18 +49,17 @@ impl LogRead for SealedLogs {
 }
 
 impl SealedLogs {
-    /// Equal logs of their own, with the same key numbers, to which records can be appended.
-    /// Refused, as `Logs::new` is, for want of memory, or where the random source fails, from which
-    /// the hasher of the new keys is drawn.
+    /// An equal copy with the same key numbers, to which records can be appended. Fails, as
+    /// `Logs::new` does, if memory runs out or the random source fails.
     pub fn copy(&self, rt: &impl RandomSource, alloc: Global) -> Result<Logs, Memory>
         ensures equal { IfOk result (λ logs. logs ≡ self.now) }
         ensures valid { IfOk result IsValidLogs }
     {
         self.logs.copy(rt, alloc)
     }
-    /// Whether other logs are equal to these: of as many partitions, with the same keys by the same
-    /// numbers, and in each log the same numbers in order. It takes no memory, and time in
-    /// proportion to the keys' bytes and the records.
+    /// Whether other logs are equal: over the same number of partitions in each topic, with the
+    /// same keys by the same numbers, and the same key numbers in each log in order. It allocates
+    /// nothing, and takes time in proportion to the keys' bytes and the records.
     pub fn same(&self, other: &Logs) -> bool
         ensures { IsTrue result ↔ (self.now ≡ other.now) }
     {

@@ -7,8 +7,8 @@ ghost use Rattle.partition_log.specs.Private.Shares.{AreMerged, IsFillable, in_r
 
 use crate::filling::roomy_logs;
 use key_lists::CodedPart;
-use key_numbers::collected;
 use lane_words::Memory;
+use parallel::collected;
 use std::alloc::Global;
 use std::thread;
 use std::thread::Threads;
@@ -102,8 +102,9 @@ fn fill_at(
 ) -> Result<Vec<Vec<u32>>, Memory>
     requires shares { All (IsFillable partitions) shares.now }
     requires index { i < length shares.now }
-    ensures { (d : _) → IfOk result (λ logs. map vec_items logs.items ≡ filled (replicate partitions [])
-        (places_in (slice_index_or shares.now i d)) (numbers_in (slice_index_or shares.now i d))) }
+    ensures { (d : _) → IfOk result (λ logs. map vec_items logs.items
+        ≡ filled (replicate partitions []) (places_in (slice_index_or shares.now i d))
+        (numbers_in (slice_index_or shares.now i d))) }
 {
     fill_share(alloc, partitions, &shares[i])
 }
@@ -203,8 +204,9 @@ fn merged_logs<R: Threads + Sync>(
     collected(alloc, found)
 }
 
-/// Logs of the records of coded lists, each record in the log of its key's place, where `places` and
-/// `numbers` have those of the keys of all lists. Refused for want of memory.
+/// Logs of the records of encoded lists, each record in the log of its key's partition. `places`
+/// and `numbers` hold the partitions and key numbers of the keys of all lists. Fails only if memory
+/// runs out.
 pub fn logs_of_lists<R: Threads + Sync>(
     rt: &R,
     alloc: Global,

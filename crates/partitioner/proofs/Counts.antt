@@ -6,7 +6,7 @@ use Rattle.std.proofs.lemmas.List.Sums.{sum_by_more_le}
 use Rattle.partitioner.specs.Place.{AreCounts, place_in_topic, place_of, positive_hash}
 use Rattle.partitioner.specs.Private.Counts.{IsPadded, place_of_hash}
 
--- a list with zeros behind it
+-- a list followed by zeros
 pub list_padded : (counts : List ℕ) → IsPadded (counts ++ replicate (8 - length counts) 0) (length counts)
 list_padded counts =
     let seam = take-append_seam counts (replicate (8 - length counts) 0) in
@@ -16,7 +16,7 @@ list_padded counts =
 pub count_some : (counts : List ℕ) (topic : ℕ) → AreCounts counts → topic < length counts → 1 ≤ get_or counts topic 0
 count_some counts topic a lt = a.each topic 0 lt
 
--- a place in a topic is among all partitions
+-- a partition of a topic is one of all partitions
 pub place_within : (counts : List ℕ) (topic hash : ℕ) → AreCounts counts → topic < length counts → place_of_hash counts topic hash < sum counts
 place_within counts topic hash a lt =
     let some = count_some counts topic a lt in
@@ -29,11 +29,11 @@ pub place_in_topic-below : (counts : List ℕ) (topic : ℕ) (key : List ℕ) �
 unfolding place_of
 place_in_topic-below counts topic key a lt = place_within counts topic (positive_hash key) a lt
 
--- there is a partition
+-- there is at least one partition
 pub some_partitions : (counts : List ℕ) → AreCounts counts → 1 ≤ sum counts
 some_partitions counts a = let within = place_within counts 0 0 a (omega (arith, a.some)) in omega (arith, within)
 
--- the zeros that are left of eight
+-- the number of zeros that fill an array of eight
 pub zeros_left : (n : ℕ) → n ≤ 8 → drop n (replicate {A = ℕ} 8 0) ≡ replicate (8 - n) 0
 zeros_left zero le = refl
 zeros_left (suc zero) le = refl

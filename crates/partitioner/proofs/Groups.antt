@@ -1,18 +1,18 @@
--- Keys that wait, and hashes that are known so far.
+-- Groups of keys, and the hashes computed so far.
 use Rattle.std.proofs.Common.{ℕ, ◌≡◌, ◌≢◌, ◌+◌, ◌<◌, ◌≤◌, ◌^◌, ◌%◌, List, [], ◌∷◌, length, map, replicate, refl, arith, zero, suc, get_or, ap, sym, ◌∙◌, Bor, slice_set}
 use Rattle.std.proofs.Math.ListN.{length-set}
 use Rattle.murmur_lanes.specs.Murmur.{AreOfOneLength, hash_of}
 use Rattle.partitioner.specs.Place.{positive_hash}
 use Rattle.partitioner.specs.Private.Groups.{AreKnown, AreOfLength, AreUnhashed, AreWaitingFrom, IsOfLength, IsWaiting, joined_row, no_key}
 
--- keys without hashes
+-- no hash is computed yet
 pub known_unhashed : (keys : List (Bor (List ℕ))) (hashes : List ℕ) → AreUnhashed hashes → AreKnown keys hashes
 unfolding AreKnown
 known_unhashed [] hashes none = tt
 known_unhashed (key ∷ keys) [] none = tt
 known_unhashed (key ∷ keys) (p ∷ hashes) none = ((λ missing. absurd (missing (none 0 (omega arith)))), known_unhashed keys hashes (λ k lt. none (suc k) (omega arith)))
 
--- one hash more
+-- one more hash
 pub known_set : (keys : List (Bor (List ℕ))) (hashes : List ℕ) (i hash : ℕ) → AreKnown keys hashes → hash ≡ positive_hash (get_or keys i no_key).now → AreKnown keys (slice_set hashes i hash)
 unfolding AreKnown
 known_set [] hashes i hash known e = tt
@@ -20,7 +20,7 @@ known_set (key ∷ keys) [] i hash known e = tt
 known_set (key ∷ keys) (p ∷ hashes) zero hash known e = ((λ missing. e), known.1)
 known_set (key ∷ keys) (p ∷ hashes) (suc i) hash known e = (known.0, known_set keys hashes i hash known.1 e)
 
--- the hashes before an index are their keys', and those from there on too, or missing
+-- the hashes before an index are their keys', and those from there on too, or not computed yet
 unfoldable pub AreHashedBelow : ℕ → List (Bor (List ℕ)) → List ℕ → Type 0
 AreHashedBelow zero keys hashes = AreKnown keys hashes
 AreHashedBelow (suc i) [] hashes = Unit {0}
@@ -62,7 +62,7 @@ lane_of_length keys len [] lane all lt = absurd (omega arith)
 lane_of_length keys len (i ∷ row) zero all lt = all.0
 lane_of_length keys len (i ∷ row) (suc lane) all lt = lane_of_length keys len row lane all.1 (omega arith)
 
--- an index of a row is one of a key
+-- an index of a group is that of a key
 pub lane_within : (keys : List (Bor (List ℕ))) (len : ℕ) (row : List ℕ) (lane : ℕ) → AreOfLength keys len row → lane < length row → get_or row lane 0 < length keys
 lane_within keys len row lane all lt = (lane_of_length keys len row lane all lt).0
 
@@ -84,7 +84,7 @@ waiting_from keys from i len (row ∷ rows) [] waiting e below_rows below_counts
 waiting_from keys from zero len (row ∷ rows) (count ∷ counts) waiting e below_rows below_counts = let same : len ≡ from = omega arith in rw same waiting.0
 waiting_from keys from (suc i) len (row ∷ rows) (count ∷ counts) waiting e below_rows below_counts = waiting_from keys (suc from) i len rows counts waiting.1 (omega arith) (omega arith) (omega arith)
 
--- what waits at one length
+-- the group of one length
 pub waiting_at : (keys : List (Bor (List ℕ))) (len : ℕ) (rows : List (List ℕ)) (counts : List ℕ) → AreWaitingFrom keys 0 rows counts → len < length rows → len < length counts → IsWaiting keys len (get_or rows len []) (get_or counts len 0)
 waiting_at keys len rows counts waiting below_rows below_counts = waiting_from keys 0 len len rows counts waiting (omega arith) below_rows below_counts
 
@@ -104,7 +104,7 @@ unfolding AreWaitingFrom
 waiting_start keys from zero row e = tt
 waiting_start keys from (suc n) row e = ((e, omega arith, λ some. absurd (omega arith)), waiting_start keys (suc from) n row e)
 
--- the keys of a row
+-- the keys of a group
 abbrev pub row_keys : List (Bor (List ℕ)) → List ℕ → List (Bor (List ℕ))
 row_keys keys row = get_or keys (get_or row 0 0) no_key ∷ get_or keys (get_or row 1 0) no_key ∷ get_or keys (get_or row 2 0) no_key ∷ get_or keys (get_or row 3 0) no_key ∷ get_or keys (get_or row 4 0) no_key ∷ get_or keys (get_or row 5 0) no_key ∷ get_or keys (get_or row 6 0) no_key ∷ get_or keys (get_or row 7 0) no_key ∷ []
 
@@ -140,7 +140,7 @@ read_row [] i row lt = absurd (omega arith)
 read_row (r ∷ rows) zero row lt = refl
 read_row (r ∷ rows) (suc i) row lt = read_row rows i row (omega arith)
 
--- a row after one more index
+-- a group with one more index
 pub joined_long : (keys : List (Bor (List ℕ))) (len : ℕ) (row : List ℕ) (count i : ℕ) → IsWaiting keys len row count → length (joined_row row count i) ≡ 8
 joined_long keys len row zero i waiting = refl
 joined_long keys len row (suc count) i waiting = length-set {A = ℕ} row (suc count) i ∙ waiting.0

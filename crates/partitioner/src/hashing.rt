@@ -1,4 +1,4 @@
-//! The hashes of many keys, without their highest bits: keys of one length are hashed eight at a
+//! Hashes of many keys without their highest bits. Keys of the same length are hashed eight at a
 //! time.
 
 ghost use Rattle.std.specs.Prelude.{◌≡◌, ◌≤◌, ◌<◌, ◌+◌, ◌^◌, ◌%◌, ℕ, List, length, map, slice_index_or};
@@ -9,13 +9,14 @@ ghost use Rattle.partitioner.specs.Private.Groups.{AreKnown, AreOfLength, AreUnh
 
 use murmur_lanes::{murmur2, murmur2_x8};
 
-/// How many keys are hashed side by side.
+/// How many keys are hashed at once.
 const LANES: usize = 8;
 
-/// Keys of fewer bytes are hashed side by side with others of their length; a longer one is alone.
+/// Keys shorter than this are grouped by length and hashed eight at a time. A longer key is hashed
+/// alone.
 const GROUPED: usize = 65;
 
-/// What stands for the hash of a key that is not hashed yet: no hash without its highest bit.
+/// Stands for a hash that is not computed yet. No hash without its highest bit has this value.
 pub const UNHASHED: u32 = u32::MAX;
 
 /// A hash without its highest bit, as `Utils.toPositive` gives it.
@@ -33,7 +34,7 @@ pub fn hash_key(key: &[u8]) -> u32
     positive(murmur2(key))
 }
 
-/// Hashes the keys, of which none is hashed yet.
+/// Computes the hashes of all keys. None of them may be computed yet.
 #[tactic(auto, using(crate::proofs::Groups::known_unhashed))]
 pub fn hash_keys(keys: &[&[u8]], hashes: &mut [u32])
     requires length { length hashes.old ≡ length keys.now }
@@ -44,7 +45,7 @@ pub fn hash_keys(keys: &[&[u8]], hashes: &mut [u32])
     hash_rest(keys, hashes);
 }
 
-/// Hashes keys of which eight have one length, and leaves the others.
+/// Hashes the keys that fall into groups of eight of the same length, and leaves the others.
 fn hash_eights(keys: &[&[u8]], hashes: &mut [u32])
     requires length { length hashes.old ≡ length keys.now }
     requires known { AreKnown keys.now hashes.old }
@@ -60,7 +61,7 @@ fn hash_eights(keys: &[&[u8]], hashes: &mut [u32])
     }
 }
 
-/// Lets a key wait with those of its length, and hashes these when they are eight.
+/// Adds a key to the group of its length, and hashes the group once it has eight keys.
 fn wait(
     i: usize,
     keys: &[&[u8]],
@@ -88,7 +89,7 @@ fn wait(
     }
 }
 
-/// Hashes eight keys of one length.
+/// Hashes eight keys of the same length.
 fn hash_eight(row: [usize; LANES], keys: &[&[u8]], hashes: &mut [u32])
     requires row { (len : ℕ) × AreOfLength keys.now len row }
     requires length { length hashes.old ≡ length keys.now }
@@ -105,7 +106,7 @@ fn hash_eight(row: [usize; LANES], keys: &[&[u8]], hashes: &mut [u32])
     }
 }
 
-/// Hashes the keys that are not hashed yet, one by one.
+/// Hashes one by one the keys that are not hashed yet.
 fn hash_rest(keys: &[&[u8]], hashes: &mut [u32])
     requires length { length hashes.old ≡ length keys.now }
     requires known { AreKnown keys.now hashes.old }
@@ -118,8 +119,8 @@ fn hash_rest(keys: &[&[u8]], hashes: &mut [u32])
     }
 }
 
-/// The row after one more index. One that begins is filled with it, so that all eight are of keys of
-/// one length from then on.
+/// The group with one more index. A new group is filled with its first index, so that all eight
+/// indices are of keys of one length from then on.
 fn joined(row: [usize; LANES], count: usize, i: usize) -> [usize; LANES]
     requires { count < 8 }
     ensures { result ≡ joined_row row count i }

@@ -1,4 +1,14 @@
-//! Which partition a record of a key goes to.
+//! Which partition a keyed record goes to.
+//!
+//! It promises:
+//! - `Partitions::place_in` is the key's murmur2 hash without its highest bit, modulo the number of
+//!   the topic's partitions, plus the number of partitions of the topics before it. It is below the
+//!   total number of partitions. `place` is the same in the first topic.
+//! - `place_all` and `place_all_in` return the partitions of a list of keys, in order. Lists of
+//!   more than `parallel::LEAST_KEYS` keys are hashed on several threads, and on each of them eight
+//!   keys of the same length at once.
+//!
+//! Tests: `log_tests`.
 #![tactic(auto)]
 
 ghost use Rattle.std.specs.Prelude.{◌≡◌, ◌≤◌, ◌<◌, ◌+◌, ◌∷◌, ◌↔◌, [], ℕ, All, length, map, slice_index_or, zip, IfOk, IsTrue};
@@ -11,22 +21,21 @@ mod hashing;
 
 use hashing::{UNHASHED, hash_key, hash_keys};
 use lane_words::{MOST_PARTITIONS, MOST_TOPICS, Memory};
+use parallel::LEAST_KEYS;
 use rayon::prelude::*;
 use std::alloc::Global;
 use std::marker::Model;
 use std::thread::Threads;
 
-/// How many keys are placed in one piece of work: fewer would not be worth a thread.
-const PIECE: usize = 4096;
-
-/// How many partitions each of 1 to 8 topics has, which are 1 to 4096 in all.
+/// The numbers of partitions of 1 to 8 topics, 1 to 4096 in total.
 ///
-/// Partitions are counted from 0 over all topics, those of a topic after those of the topics before.
+/// Partitions are numbered from 0 over all topics: those of a topic follow those of the topics
+/// before it.
 #[derive(Clone, Copy, Debug)]
 pub struct Partitions {
-    /// How many each topic has, and then zeros.
+    /// The number of partitions of each topic, followed by zeros.
     counts: [u32; MOST_TOPICS],
-    /// How many topics there are.
+    /// The number of topics.
     topics: usize,
 }
 
@@ -50,7 +59,7 @@ impl Model for Partitions {
 }
 
 impl Partitions {
-    /// This many partitions, of one topic.
+    /// A single topic with `count` partitions.
     pub fn new(count: u32) -> Partitions
         requires { (1 ≤ count) × (count ≤ MOST_PARTITIONS) }
         ensures { result ≡ count ∷ [] }
@@ -61,7 +70,7 @@ impl Partitions {
         }
     }
 
-    /// As many partitions of each topic as these numbers say. It takes no memory.
+    /// Topics with these numbers of partitions. It allocates nothing.
     pub fn with_topics(counts: &[u32]) -> Partitions
         requires { AreCounts counts.now }
         ensures { result ≡ counts.now }
@@ -74,7 +83,7 @@ impl Partitions {
         }
     }
 
-    /// How many there are, of all topics.
+    /// The number of partitions of all topics together.
     pub fn count(&self) -> u32
         ensures count { result ≡ sum self.now }
         ensures range { (1 ≤ sum self.now) × (sum self.now ≤ MOST_PARTITIONS) }
@@ -83,7 +92,7 @@ impl Partitions {
         self.before(self.topics)
     }
 
-    /// How many topics there are.
+    /// The number of topics.
     pub fn topics(&self) -> usize
         ensures topics { result ≡ length self.now }
         ensures valid { AreCounts self.now }
@@ -91,14 +100,14 @@ impl Partitions {
         self.topics
     }
 
-    /// Whether others are as many, topic by topic.
+    /// Whether both have the same number of partitions, topic by topic.
     pub fn same(&self, other: &Partitions) -> bool
         ensures { IsTrue result ↔ (self.now ≡ other.now) }
     {
         self.counts[..self.topics] == other.counts[..other.topics]
     }
 
-    /// How many partitions the topics before this one have.
+    /// The number of partitions of the topics before this one.
     fn before(&self, topic: usize) -> u32
         requires { topic ≤ length self.now }
         ensures { result ≡ partitions_before self.now topic }
@@ -110,20 +119,21 @@ impl Partitions {
         before
     }
 
-    /// The partition of a key of any length and any bytes: its murmur2 without the highest bit,
-    /// modulo the number of partitions. Of several topics it is the key's place in the first. It
-    /// takes no memory.
+    /// The partition of a key of any length and any bytes: its murmur2 hash without the highest
+    /// bit, modulo the number of partitions. With several topics it is the key's partition in the
+    /// first. It allocates nothing.
     pub fn place(&self, key: &[u8]) -> u32
         ensures place { result ≡ place_in_topic self.now 0 key.now }
         ensures within { result < sum self.now }
     {
+        // Reading a field makes the invariant available: there is a first topic.
         let _ = &self.counts;
         self.place_in(0, key)
     }
 
-    /// The partition of a key in the topic of this index, counted over all topics: its murmur2
-    /// without the highest bit, modulo the number of the topic's partitions, after the partitions of
-    /// the topics before. It takes no memory.
+    /// The partition of a key in the topic with this index, numbered over all topics: its murmur2
+    /// hash without the highest bit, modulo the number of the topic's partitions, plus the number
+    /// of partitions of the topics before it. It allocates nothing.
     pub fn place_in(&self, topic: u8, key: &[u8]) -> u32
         requires { topic < length self.now }
         ensures place { result ≡ place_in_topic self.now topic key.now }
@@ -132,7 +142,7 @@ impl Partitions {
         self.place_of_hash(topic as usize, hash_key(key))
     }
 
-    /// The partition in a topic of a key of this hash without its highest bit.
+    /// The partition in a topic of a key with this hash, whose highest bit is clear.
     fn place_of_hash(&self, topic: usize, hash: u32) -> u32
         requires { topic < length self.now }
         ensures place { result ≡ place_of_hash self.now topic hash }
@@ -142,11 +152,12 @@ impl Partitions {
         self.before(topic) + hash % counts[topic]
     }
 
-    /// The partition of each of some keys, in their order. Of several topics they are the keys'
-    /// places in the first. Refused for want of memory alone.
+    /// The partition of each of some keys, in order; with several topics, their partitions in the
+    /// first. Fails only if memory runs out.
     ///
-    /// Pieces of 4,096 keys are placed side by side, on two threads a processor at most. Up to one
-    /// piece no thread is started, and where one can't be, its pieces are placed without it.
+    /// Keys are processed in batches of 4,096 in parallel, on at most two threads a processor. A
+    /// single batch starts no thread, and where no thread can be started the calling thread does
+    /// the work.
     pub fn place_all<R: Threads + Sync>(
         &self,
         rt: &R,
@@ -161,8 +172,8 @@ impl Partitions {
         Ok(places)
     }
 
-    /// The partition of each of some keys in its topic, in their order: as `place_all`, with a topic
-    /// for each key.
+    /// The partition of each of some keys in its topic, in order: as `place_all`, with a topic for
+    /// each key.
     pub fn place_all_in<R: Threads + Sync>(
         &self,
         rt: &R,
@@ -171,15 +182,15 @@ impl Partitions {
         keys: &[&[u8]],
     ) -> Result<Vec<u32>, Memory>
         requires topics { AreTopics (length self.now) (length keys.now) topics.now }
-        ensures { IfOk result (λ places. places.items
-            ≡ map (λ keyed. place_in_topic self.now keyed.0 keyed.1.now) (zip topics.now keys.now)) }
+        ensures { IfOk result (λ places. places.items ≡ map
+            (λ keyed. place_in_topic self.now keyed.0 keyed.1.now) (zip topics.now keys.now)) }
     {
         let mut places = vec![in alloc; UNHASHED; keys.len()]?;
         self.place_pieces_in(rt, topics, keys, &mut places);
         Ok(places)
     }
 
-    /// Places the keys, of which none is hashed yet, by pieces.
+    /// Finds the partitions of the keys in batches. No key may be hashed yet.
     fn place_pieces<R: Threads + Sync>(&self, rt: &R, keys: &[&[u8]], places: &mut [u32])
         requires length { length places.old ≡ length keys.now }
         requires unhashed { AreUnhashed places.old }
@@ -189,7 +200,7 @@ impl Partitions {
         par_chunks_mut_for_each(
             rt,
             places,
-            PIECE,
+            LEAST_KEYS,
             |from: usize, piece: &mut [u32]|
                 requires { (from + length piece.now ≤ length keys.now) × AreUnhashed piece.now }
                 ensures { ArePlacedFrom partitions (λ i. 0) keys.entry.now from
@@ -198,7 +209,7 @@ impl Partitions {
         );
     }
 
-    /// Places the keys from this index on, as many as there are places.
+    /// Finds the partitions of the keys from this index on, one for each element of `places`.
     fn place_piece(&self, keys: &[&[u8]], from: usize, places: &mut [u32])
         requires range { from + length places.old ≤ length keys.now }
         requires unhashed { AreUnhashed places.old }
@@ -208,17 +219,18 @@ impl Partitions {
         self.place_hashes(places);
     }
 
-    /// Puts the places in the first topic where the hashes are.
+    /// Replaces each hash by the key's partition in the first topic.
     fn place_hashes(&self, hashes: &mut [u32])
         ensures { ArePlaces self.now (λ i. 0) hashes.old hashes.new }
     {
+        // Reading a field makes the invariant available: there is a first topic.
         let _ = &self.counts;
         for i in 0..hashes.len() {
             hashes[i] = self.place_of_hash(0, hashes[i]);
         }
     }
 
-    /// Places the keys in their topics, of which none is hashed yet, by pieces.
+    /// Finds the partitions of the keys in their topics in batches. No key may be hashed yet.
     fn place_pieces_in<R: Threads + Sync>(
         &self,
         rt: &R,
@@ -236,9 +248,10 @@ impl Partitions {
         par_chunks_mut_for_each(
             rt,
             places,
-            PIECE,
+            LEAST_KEYS,
             |from: usize, piece: &mut [u32]|
-                requires piece { (from + length piece.now ≤ length keys.now) × AreUnhashed piece.now }
+                requires piece { (from + length piece.now ≤ length keys.now)
+                    × AreUnhashed piece.now }
                 requires topics { AreTopics (length partitions) (length keys.now) topics.now }
                 ensures { ArePlacedFrom partitions (λ i. slice_index_or topics.entry.now i 0)
                     keys.entry.now from (length piece.entry.now) piece.exit.now }
@@ -246,7 +259,8 @@ impl Partitions {
         );
     }
 
-    /// Places the keys from this index on in their topics, as many as there are places.
+    /// Finds the partitions of the keys from this index on in their topics, one for each element of
+    /// `places`.
     fn place_piece_in(&self, topics: &[u8], keys: &[&[u8]], from: usize, places: &mut [u32])
         requires range { from + length places.old ≤ length keys.now }
         requires topics { AreTopics (length self.now) (length keys.now) topics.now }
@@ -259,7 +273,7 @@ impl Partitions {
         self.place_hashes_in(topics, places);
     }
 
-    /// Puts the places in these topics where the hashes are.
+    /// Replaces each hash by the key's partition in its topic.
     fn place_hashes_in(&self, topics: &[u8], hashes: &mut [u32])
         requires topics { AreTopics (length self.now) (length hashes.old) topics.now }
         ensures { ArePlaces self.now (λ i. slice_index_or topics.now i 0) hashes.old hashes.new }

@@ -1,8 +1,8 @@
--- Keys that are numbered shard by shard, and their key numbers.
+-- Keys interned shard by shard, and their key numbers.
 use Rattle.std.specs.Prelude.{◌≡◌, ◌<◌, ◌≤◌, ◌+◌, ◌*◌, ◌/◌, ◌==◌, ◌%◌, ◌^◌, ℕ, IfOk, List, Result, [], ◌∷◌, ◌++◌, All, Bool, filter, fold, length, map, min, if◌then◌else◌, slice_index_or, take, vec_items}
 use Rattle.lane_words.specs.declared.limits.TheConstants.{MOST_RECORDS}
 use Rattle.std.specs.Borrow.{Bor}
-use Rattle.key_numbers.specs.Keys.{Key, distinct, id_of, key_at, lent, with_key}
+use Rattle.key_numbers.specs.Keys.{Key, distinct, id_of, key_at, lent, lent_lists, with_key}
 use Rattle.key_numbers.specs.Private.KeyHash.{hash_of}
 use Rattle.key_numbers.specs.declared.key_hash.KeyHash.{KeyHash}
 use Rattle.key_numbers.specs.declared.dealing.TheConstants.{PIECES}
@@ -10,37 +10,41 @@ use Rattle.key_numbers.specs.declared.dealing.Dealt.{Dealt}
 use Rattle.key_numbers.specs.declared.shards.TheConstants.{SHARDS}
 use Rattle.key_numbers.specs.declared.shards.KeyAt.{KeyAt}
 use Rattle.key_numbers.specs.declared.numbering.NumberedShard.{NumberedShard}
+use Rattle.key_numbers.specs.declared.numbering.ShardedRecords.{ShardedRecords}
 
--- the shard of a key: some bits of its hash
+-- the shard of a key, from some bits of its hash
 unfoldable pub shard_of : KeyHash → Key → ℕ
 shard_of hasher key = hash_of hasher key / 2 ^ 19 % SHARDS
 
--- the keys of shard s, in order, where a function tells the shard of each key
+-- the keys of shard s, in order; a function gives the shard of each key
 abbrev pub of_shard : (Key → ℕ) → ℕ → List Key → List Key
 of_shard shard s keys = filter (λ k. shard k == s) keys
 
--- where piece p of these begins: of one length, but for the last ones
+-- the index at which slice p of these begins: all slices have one length, but for the last ones
 abbrev pub start_of : ℕ → List Key → ℕ
 start_of p keys = min (p * (length keys / PIECES + 1)) (length keys)
 
--- of each shard its keys, in order
+-- the keys of each shard, in order
 abbrev pub rows_in : Dealt → List (List Key)
 rows_in dealt = map vec_items dealt.rows.items
 
--- rows of so many shards: each has its keys, in order
-pub record AreRows (shard : Key → ℕ) (count : ℕ) (keys : List Key) (rows : List (List Key)) : Type 0 where
+-- the rows of count shards: each has its shard's keys, in order
+pub record AreRows (shard : Key → ℕ) (count : ℕ) (keys : List Key) (rows : List (List Key))
+    : Type 0 where
   pub each : length rows ≡ count
   pub are : (s : ℕ) → s < count → slice_index_or rows s [] ≡ of_shard shard s keys
 
--- these keys are dealt to their shards
+-- these keys, scattered to their shards
 pub record IsDealt (shard : Key → ℕ) (keys : List Key) (dealt : Dealt) : Type 0 where
   pub shards : dealt.shards.items ≡ map shard keys
   pub rows : AreRows shard SHARDS keys (rows_in dealt)
 
--- so are those of each list
-pub record AreDealt (shard : Key → ℕ) (lists : List (Bor (List (Bor Key)))) (dealt : List Dealt) : Type 0 where
+-- the keys of each list, scattered to their shards
+pub record AreDealt (shard : Key → ℕ) (lists : List (Bor (List (Bor Key)))) (dealt : List Dealt)
+    : Type 0 where
   pub as_many : length dealt ≡ length lists
-  pub are : (i : ℕ) (d : Dealt) (e : Bor (List (Bor Key))) → i < length lists → IsDealt shard (lent (slice_index_or lists i e).now) (slice_index_or dealt i d)
+  pub are : (i : ℕ) (d : Dealt) (e : Bor (List (Bor Key))) → i < length lists
+      → IsDealt shard (lent (slice_index_or lists i e).now) (slice_index_or dealt i d)
 
 -- the keys of a shard after more records
 abbrev pub with_keys : List Key → List Key → List Key
@@ -48,7 +52,8 @@ with_keys table row = fold with_key table row
 
 -- for each shard the key numbers of its keys, by their numbers in the shard
 abbrev pub AreGlobal : (Key → ℕ) → List Key → List (List ℕ) → Type 0
-AreGlobal shard keys ids = (s : ℕ) → s < length ids → slice_index_or ids s [] ≡ map (id_of (distinct keys)) (distinct (of_shard shard s keys))
+AreGlobal shard keys ids = (s : ℕ) → s < length ids → slice_index_or ids s []
+    ≡ map (id_of (distinct keys)) (distinct (of_shard shard s keys))
 
 -- whether a record is the first of its key
 abbrev pub is_first : List ℕ → ℕ → Bool
@@ -58,7 +63,7 @@ is_first ids local = local == length ids
 abbrev pub with_first : List ℕ → ℕ → ℕ → List ℕ
 with_first ids local next = if is_first ids local then ids ++ next ∷ [] else ids
 
--- where the keys stand after one more record, of this shard
+-- the locations of the keys after one more record, of this shard
 abbrev pub with_first_at : List KeyAt → List ℕ → ℕ → ℕ → List KeyAt
 with_first_at order ids shard local =
     if is_first ids local then order ++ (record { shard = shard; number = local }) ∷ [] else order
@@ -67,61 +72,89 @@ with_first_at order ids shard local =
 abbrev pub next_after : List ℕ → ℕ → ℕ → ℕ
 next_after ids local next = if is_first ids local then next + 1 else next
 
--- the keys of a shard of these, and the numbers in the shard of its records
+-- the keys of a shard, and the numbers there of its records
 abbrev pub AreNumberedIn : (Key → ℕ) → ℕ → List Key → List Key → List ℕ → Type 0
 AreNumberedIn shard s keys table locals =
-    (table ≡ distinct (of_shard shard s keys)) × (locals ≡ map (id_of (distinct (of_shard shard s keys))) (of_shard shard s keys))
+    (table ≡ distinct (of_shard shard s keys))
+    × (locals ≡ map (id_of (distinct (of_shard shard s keys))) (of_shard shard s keys))
 
--- as many shards, where none was refused, are those from one on, numbered
-abbrev pub AreNumberedFrom : {E : Type 0} → (Key → ℕ) → List Key → ℕ → ℕ → List (Result NumberedShard E) → Type 0
-AreNumberedFrom {E} shard keys from count found = (k : ℕ) (d : Result NumberedShard E) → k < count
-    → IfOk (slice_index_or found k d) (λ n. AreNumberedIn shard (from + k) keys n.table n.locals.items)
+-- the shards from one on, interned, if memory was not refused
+abbrev pub AreNumberedFrom : {E : Type 0} → (Key → ℕ) → List Key → ℕ → ℕ
+    → List (Result NumberedShard E) → Type 0
+AreNumberedFrom {E} shard keys from count found =
+    (k : ℕ) (d : Result NumberedShard E) → k < count → IfOk (slice_index_or found k d)
+    (λ n. AreNumberedIn shard (from + k) keys n.table n.locals.items)
 
--- the keys of each of so many shards
-pub record AreTables (shard : Key → ℕ) (count : ℕ) (keys : List Key) (tables : List (List Key)) : Type 0 where
+-- the keys of each of count shards
+pub record AreTables (shard : Key → ℕ) (count : ℕ) (keys : List Key) (tables : List (List Key))
+    : Type 0 where
   pub each : length tables ≡ count
   pub are : (s : ℕ) → s < count → slice_index_or tables s [] ≡ distinct (of_shard shard s keys)
 
--- the numbers in each of so many shards of its records
-pub record AreLocals (shard : Key → ℕ) (count : ℕ) (keys : List Key) (locals : List (List ℕ)) : Type 0 where
+-- the numbers in each of count shards of its records
+pub record AreLocals (shard : Key → ℕ) (count : ℕ) (keys : List Key) (locals : List (List ℕ))
+    : Type 0 where
   pub each : length locals ≡ count
-  pub are : (s : ℕ) → s < count → slice_index_or locals s [] ≡ map (id_of (distinct (of_shard shard s keys))) (of_shard shard s keys)
+  pub are : (s : ℕ) → s < count → slice_index_or locals s []
+      ≡ map (id_of (distinct (of_shard shard s keys))) (of_shard shard s keys)
 
--- the key that stands there
+-- the key at a location
 abbrev pub key_there : List (List Key) → KeyAt → Key
 key_there tables at = key_at (slice_index_or tables at.shard []) at.number
 
--- so many records of each shard are among the first ones
-pub record ArePassed (shard : Key → ℕ) (count : ℕ) (keys : List Key) (i : ℕ) (met : List ℕ) : Type 0 where
-  pub each : length met ≡ count
-  pub passed : (s : ℕ) → s < count → slice_index_or met s 0 ≡ length (of_shard shard s (take i keys))
+-- the keys of records, one list after another
+abbrev pub keys_in : ShardedRecords → List Key
+keys_in records = lent_lists records.lists.now
 
--- the key numbers of records can be read from those of their shards
-pub record AreReadable (shard : Key → ℕ) (keys : List Key) (shards : List ℕ) (locals ids : List (List ℕ)) : Type 0 where
+-- the shard of each key
+abbrev pub shard_by : ShardedRecords → Key → ℕ
+shard_by records = shard_of records.hasher
+
+-- the numbers in each shard of its records
+abbrev pub locals_in : ShardedRecords → List (List ℕ)
+locals_in records = map vec_items records.locals.now
+
+-- the number of records of each shard among the first i records
+pub record ArePassed (shard : Key → ℕ) (count : ℕ) (keys : List Key) (i : ℕ) (met : List ℕ)
+    : Type 0 where
+  pub each : length met ≡ count
+  pub passed : (s : ℕ) → s < count → slice_index_or met s 0
+      ≡ length (of_shard shard s (take i keys))
+
+-- the key numbers of the records can be read from the numbers in their shards
+pub record AreReadable (shard : Key → ℕ) (keys : List Key) (shards : List ℕ)
+    (locals ids : List (List ℕ)) : Type 0 where
   pub sharded : shards ≡ map shard keys
   pub numbered : AreLocals shard SHARDS keys locals
   pub each : length ids ≡ SHARDS
   pub are : AreGlobal shard keys ids
 
--- as many numbers as count are what f gives of the keys from an index on
+-- count numbers are those that f gives for the keys from an index on
 abbrev pub AreFrom : (Key → ℕ) → List Key → ℕ → ℕ → List ℕ → Type 0
 AreFrom f keys from count numbers =
     (k d : ℕ) → k < count → slice_index_or numbers k d ≡ f (key_at keys (from + k))
 
--- where each of these keys stands, where those of a shard are numbered by their records
-pub record AreOrdered (shard : Key → ℕ) (all keys : List Key) (count : ℕ) (order : List KeyAt) : Type 0 where
-  pub named : map (λ (at : KeyAt). key_at (distinct (of_shard shard at.shard all)) at.number) order ≡ keys
-  pub there : All (λ (at : KeyAt). (at.shard < count) × (at.number < length (distinct (of_shard shard at.shard all)))) order
+-- the location of each of these keys, if those of a shard are numbered by their records
+pub record AreOrdered (shard : Key → ℕ) (all keys : List Key) (count : ℕ) (order : List KeyAt)
+    : Type 0 where
+  pub named : map (λ (at : KeyAt). key_at (distinct (of_shard shard at.shard all)) at.number) order
+      ≡ keys
+  pub there : All (λ (at : KeyAt). (at.shard < count)
+      × (at.number < length (distinct (of_shard shard at.shard all)))) order
 
--- a key stands there
+-- there is a key at a location
 abbrev pub IsThere : List (List Key) → KeyAt → Type 0
-IsThere tables at = (at.shard < length tables) × (at.number < length (slice_index_or tables at.shard []))
+IsThere tables at =
+    (at.shard < length tables) × (at.number < length (slice_index_or tables at.shard []))
 
--- what shards keep: each has the keys that go to it, in order, and their key numbers
-pub record AreShards (shard : Key → ℕ) (keys : List Key) (tables : List (List Key)) (ids : List (List ℕ)) (order : List KeyAt) : Type 0 where
+-- the invariant of a sharded map: each shard has the keys that belong to it, in order, and their
+-- key numbers
+pub record AreShards (shard : Key → ℕ) (keys : List Key) (tables : List (List Key))
+    (ids : List (List ℕ)) (order : List KeyAt) : Type 0 where
   pub few : length order ≤ MOST_RECORDS
   pub a_table_each : 0 < length order → length tables ≡ SHARDS
   pub ids_each : 0 < length order → length ids ≡ SHARDS
   pub keys_of : (s : ℕ) → s < length tables → slice_index_or tables s [] ≡ of_shard shard s keys
-  pub ids_of : (s : ℕ) → s < length ids → slice_index_or ids s [] ≡ map (id_of keys) (of_shard shard s keys)
+  pub ids_of : (s : ℕ) → s < length ids → slice_index_or ids s []
+      ≡ map (id_of keys) (of_shard shard s keys)
   pub there : All (IsThere tables) order

@@ -1,4 +1,4 @@
--- A key as the set of keys keeps it: a short one inline, a long one in memory of its own.
+-- A key as the key map stores it: a short one inline, a long one on the heap.
 use Rattle.std.specs.Prelude.{ℕ, ◌≡◌, ◌≤◌, ⊤, List, take}
 use Rattle.key_numbers.specs.declared.stored_key.TheConstants.{LONGEST_INLINE}
 use Rattle.key_numbers.specs.declared.stored_key.ShortKey.{ShortKey}
@@ -18,7 +18,7 @@ abbrev pub bytes_in : Storage → List ℕ
 bytes_in (Inline bytes size) = take size bytes
 bytes_in (Heap text) = text.items
 
--- an inline key has its size
+-- an inline key is no longer than its array
 abbrev pub IsValidStoredKey : Storage → Type 0
 IsValidStoredKey (Inline bytes size) = size ≤ LONGEST_INLINE
 IsValidStoredKey (Heap text) = ⊤

@@ -1,44 +1,46 @@
 -- Blocks of eight key numbers with their counters: block b has the key numbers from 8 * b on.
 use Rattle.std.specs.Prelude.{◌≡◌, ◌≢◌, ◌+◌, ◌*◌, ◌/◌, ◌<◌, ℕ, List, length, slice_index_or}
+use Rattle.std.specs.List.Sorted.{IsStrictlyIncreasing}
 use Rattle.keyed_table.specs.Counts.{plain}
 
--- numbers rise
-abbrev pub DoRise : List ℕ → Type 0
-DoRise numbers = (i j : ℕ) → i < j → j < length numbers → slice_index_or numbers i 0 < slice_index_or numbers j 0
-
--- block number b has a number of the list
+-- block b has a number of the list
 abbrev pub IsTouched : List ℕ → ℕ → Type 0
 IsTouched ids b = (x : ℕ) × (0 < plain ids x) × (x / 8 ≡ b)
 
--- these counters are the plain counts of a list in these blocks, and all its numbers are in them
+-- these counters are the plain counts of a list in these blocks, which hold all its numbers
 pub record HaveCounts (ids blocks counts : List ℕ) : Type 0 where
   pub whole : length counts ≡ 8 * length blocks
-  pub rise : DoRise blocks
-  pub counted : (j k : ℕ) → j < length blocks → k < 8 → slice_index_or counts (8 * j + k) 0 ≡ plain ids (8 * slice_index_or blocks j 0 + k)
-  pub others : (x : ℕ) → ((j : ℕ) → j < length blocks → slice_index_or blocks j 0 ≢ x / 8) → plain ids x ≡ 0
+  pub rise : IsStrictlyIncreasing blocks
+  pub counted : (j k : ℕ) → j < length blocks → k < 8
+      → slice_index_or counts (8 * j + k) 0 ≡ plain ids (8 * slice_index_or blocks j 0 + k)
+  pub others : (x : ℕ) → ((j : ℕ) → j < length blocks → slice_index_or blocks j 0 ≢ x / 8)
+      → plain ids x ≡ 0
 
--- the same, of no block more than the list touches
+-- the same, and the list touches each of these blocks
 pub record AreBlocksOf (ids blocks counts : List ℕ) : Type 0 where
   pub have : HaveCounts ids blocks counts
   pub touched : (j : ℕ) → j < length blocks → IsTouched ids (slice_index_or blocks j 0)
 
--- from index start to end the blocks are neighbours
+-- from index start to end the blocks are consecutive
 abbrev pub AreNeighbours : List ℕ → ℕ → ℕ → Type 0
-AreNeighbours blocks start end = (i : ℕ) → start + i < end → slice_index_or blocks (start + i) 0 ≡ slice_index_or blocks start 0 + i
+AreNeighbours blocks start end = (i : ℕ) → start + i < end
+    → slice_index_or blocks (start + i) 0 ≡ slice_index_or blocks start 0 + i
 
--- each number of a list is in one of the first so many blocks
+-- each number of a list lies in the first bound blocks
 abbrev pub AreWithin : ℕ → List ℕ → Type 0
 AreWithin bound ids = (i : ℕ) → i < length ids → slice_index_or ids i 0 < 8 * bound
 
--- counters from number 0 on have the plain counts of a list, in which there is no other number
+-- counters from number 0 on have the plain counts of a list that has no other number
 abbrev pub AreTallies : List ℕ → List ℕ → Type 0
 AreTallies ids tallies = (x : ℕ) → slice_index_or tallies x 0 ≡ plain ids x
 
--- the blocks of a list as far as they are below block b
+-- the blocks of a list below block b
 pub record AreBlocksBelow (b : ℕ) (ids blocks counts : List ℕ) : Type 0 where
   pub whole : length counts ≡ 8 * length blocks
-  pub rise : DoRise blocks
+  pub rise : IsStrictlyIncreasing blocks
   pub below : (j : ℕ) → j < length blocks → slice_index_or blocks j 0 < b
-  pub counted : (j k : ℕ) → j < length blocks → k < 8 → slice_index_or counts (8 * j + k) 0 ≡ plain ids (8 * slice_index_or blocks j 0 + k)
+  pub counted : (j k : ℕ) → j < length blocks → k < 8
+      → slice_index_or counts (8 * j + k) 0 ≡ plain ids (8 * slice_index_or blocks j 0 + k)
   pub touched : (j : ℕ) → j < length blocks → IsTouched ids (slice_index_or blocks j 0)
-  pub others : (x : ℕ) → x / 8 < b → ((j : ℕ) → j < length blocks → slice_index_or blocks j 0 ≢ x / 8) → plain ids x ≡ 0
+  pub others : (x : ℕ) → x / 8 < b
+      → ((j : ℕ) → j < length blocks → slice_index_or blocks j 0 ≢ x / 8) → plain ids x ≡ 0

@@ -2,11 +2,11 @@
 use Rattle.std.specs.Prelude.{◌≡◌, ◌-◌, ◌%◌, ◌≤◌, ℕ, List, length, take, slice_index_or}
 use Rattle.keyed_table.specs.Counts.{Counters}
 
--- the counters of so many keys, and those past them, in which there is room for more keys
+-- the counters of the keys, and the capacity for more after them
 abbrev pub table_view : ℕ → List ℕ → Counters
 table_view keys cells = record { counts = take keys cells; room = length cells - keys }
 
--- whole blocks of eight, in which those past the keys stand at 0
+-- whole blocks of eight, in which the counters past the keys are zero
 pub record IsValidTable (keys : ℕ) (cells : List ℕ) : Type 0 where
   pub whole : length cells % 8 ≡ 0
   pub within : keys ≤ length cells

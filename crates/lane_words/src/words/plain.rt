@@ -1,10 +1,11 @@
-//! The same word by word, as the definitions say: for the words after the last eight.
+//! The same calls one word at a time, as their definitions say. They handle the words that do not
+//! fill a vector.
 
 ghost use Rattle.std.specs.Prelude.{◌≡◌, ◌↔◌, ◌+◌, ◌<◌, ◌^◌, ℕ, IsTrue, length, not, bit_and, bit_or, slice_index_or};
 ghost use Rattle.std.specs.Simd.Lanes.{zip2};
 ghost use Rattle.lane_words.specs.Words.{and_not, any_set};
 
-/// Clears in `a` the bits of `b`, which is as long.
+/// Clears in `a` the bits that are set in `b`, a slice of the same length.
 pub fn and_not_into(a: &mut [u64], b: &[u64])
     requires { length a.old ≡ length b.now }
     ensures { a.new ≡ zip2 and_not a.old b.now }
@@ -14,7 +15,7 @@ pub fn and_not_into(a: &mut [u64], b: &[u64])
     }
 }
 
-/// Sets in `a` the bits of `b`, which is as long.
+/// Sets in `a` the bits that are set in `b`, a slice of the same length.
 pub fn or_into(a: &mut [u64], b: &[u64])
     requires { length a.old ≡ length b.now }
     ensures { a.new ≡ zip2 bit_or a.old b.now }
@@ -24,7 +25,7 @@ pub fn or_into(a: &mut [u64], b: &[u64])
     }
 }
 
-/// Whether some bit is set in both, which are as long.
+/// Whether any bit is set in both slices, which have the same length.
 pub fn any_and(a: &[u64], b: &[u64]) -> bool
     requires { length a.now ≡ length b.now }
     ensures { result ≡ any_set (zip2 bit_and a.now b.now) }
@@ -36,7 +37,7 @@ pub fn any_and(a: &[u64], b: &[u64]) -> bool
     found != 0
 }
 
-/// Whether each bit of `a` is set in `b`, which is as long.
+/// Whether every bit of `a` is also set in `b`, a slice of the same length.
 pub fn is_within(a: &[u64], b: &[u64]) -> bool
     requires { length a.now ≡ length b.now }
     ensures { result ≡ not (any_set (zip2 and_not a.now b.now)) }
@@ -48,7 +49,7 @@ pub fn is_within(a: &[u64], b: &[u64]) -> bool
     found == 0
 }
 
-/// Whether both, which are as long, are equal.
+/// Whether two slices of the same length are equal.
 pub fn equal64(a: &[u64], b: &[u64]) -> bool
     requires { length a.now ≡ length b.now }
     ensures { IsTrue result ↔ (a.now ≡ b.now) }
@@ -60,7 +61,7 @@ pub fn equal64(a: &[u64], b: &[u64]) -> bool
     found == 0
 }
 
-/// Whether both, which are as long, are equal.
+/// Whether two slices of the same length are equal.
 pub fn equal32(a: &[u32], b: &[u32]) -> bool
     requires { length a.now ≡ length b.now }
     ensures { IsTrue result ↔ (a.now ≡ b.now) }
@@ -72,7 +73,7 @@ pub fn equal32(a: &[u32], b: &[u32]) -> bool
     found == 0
 }
 
-/// Adds to each number of `a` the one of `b`, which is as long. Each sum has to fit.
+/// Adds the numbers of `b` to those of `a`, a slice of the same length. No sum may overflow.
 pub fn add_into(a: &mut [u64], b: &[u64])
     requires length { length a.old ≡ length b.now }
     requires fit { (i : ℕ) → slice_index_or a.old i 0 + slice_index_or b.now i 0 < 2 ^ 64 }

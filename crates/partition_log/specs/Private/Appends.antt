@@ -1,11 +1,11 @@
--- A key that is appended to a log.
+-- A key appended to a log.
 use Rattle.std.specs.Prelude.{List, ℕ, [], ◌∷◌, ◌++◌, length, if◌then◌else◌, slice_index_or, slice_set, Result, Ok, Err}
 use Rattle.lane_words.specs.declared.Refusal.{Refusal}
 use Rattle.lane_words.specs.declared.Refusal.TheVariants as r
 use Rattle.partition_log.specs.Keys.{Key, id_of}
 use Rattle.partition_log.specs.Logs.{finds_no_room}
 
--- what an append of a key to this log answers: its offset, or that there is no room
+-- the answer of an append of a key to this log: its offset, or that the log is full
 abbrev pub log_answer : List Key → List ℕ → Key → Result ℕ Refusal
 log_answer keys log key =
     if finds_no_room keys (length log) key then Err r.LogFull else Ok (length log)

@@ -1,4 +1,4 @@
--- Logs that are filled record by record, and keys that are appended side by side.
+-- Logs filled record by record, and keys appended in parallel.
 use Rattle.std.specs.Prelude.{◌≡◌, ◌<◌, ◌≤◌, ℕ, List, [], ◌∷◌, ◌++◌, All, length, slice_index_or, slice_set}
 use Rattle.std.specs.List.{zip}
 use Rattle.lane_words.specs.declared.limits.TheConstants.{LONGEST_KEY, MOST_RECORDS}
@@ -9,9 +9,10 @@ use Rattle.partition_log.specs.Logs.{IsPlaceOf, PartitionLogs}
 abbrev pub filled : List (List ℕ) → List ℕ → List ℕ → List (List ℕ)
 filled logs [] ids = logs
 filled logs (place ∷ places) [] = logs
-filled logs (place ∷ places) (id ∷ ids) = filled (slice_set logs place (slice_index_or logs place [] ++ id ∷ [])) places ids
+filled logs (place ∷ places) (id ∷ ids) =
+    filled (slice_set logs place (slice_index_or logs place [] ++ id ∷ [])) places ids
 
--- each of these keys goes to its place in some topic
+-- some topic assigns each of these keys to its partition
 pub record ArePlaced (l : PartitionLogs) (places : List ℕ) (keys : List Key) : Type 0 where
   pub as_many : length places ≡ length keys
   pub goes : All (λ (one : ℕ × Key). IsPlaceOf l one.1 one.0) (zip places keys)
@@ -20,7 +21,7 @@ pub record ArePlaced (l : PartitionLogs) (places : List ℕ) (keys : List Key) :
 abbrev pub AreShort : List Key → Type 0
 AreShort keys = All (λ (key : Key). length key ≤ LONGEST_KEY) keys
 
--- no limit is met by these keys: there is no key yet, and they are few and short
+-- no limit applies to these keys: there is no key yet, and they are few and short
 pub record CanGoSideBySide (l : PartitionLogs) (keys : List Key) : Type 0 where
   pub none : length l.keys ≡ 0
   pub some : 0 < length keys

@@ -39,7 +39,8 @@ pub record IsFillable (partitions : ℕ) (share : Share) : Type 0 where
   pub below : All (λ p. p < partitions) share.places.now
 
 -- of each partition the logs of all parts, one part after another
-pub record AreMerged (partitions : ℕ) (parts : List (List (List ℕ))) (logs : List (List ℕ)) : Type 0 where
+pub record AreMerged (partitions : ℕ) (parts : List (List (List ℕ))) (logs : List (List ℕ))
+    : Type 0 where
   pub as_many : length logs ≡ partitions
   pub each : (p : ℕ) → p < partitions
       → slice_index_or logs p [] ≡ in_row (map (λ part. slice_index_or part p []) parts)

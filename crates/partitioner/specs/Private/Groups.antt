@@ -1,29 +1,29 @@
--- Keys that wait to be hashed with others of their length, and hashes and places that are known so
--- far. What is hashed is hashed without its highest bit, so that 2 ^ 32 - 1 is no hash.
+-- Keys grouped by length until they can be hashed eight at a time, and the hashes computed so far.
+-- Hashes are without their highest bit, so 2 ^ 32 - 1 is no hash.
 use Rattle.std.specs.Prelude.{ℕ, zero, suc, ◌≡◌, ◌≢◌, ◌<◌, ◌+◌, ◌^◌, ◌-◌, List, [], length, ◌∷◌, replicate}
 use Rattle.std.specs.Prelude.{slice_index, slice_set, slice_index_or as get_or}
 use Rattle.std.specs.Simd.Lanes.{Each1, Each2}
 use Rattle.std.specs.Borrow.{Bor}
 use Rattle.partitioner.specs.Place.{place_in_topic, positive_hash}
 
--- what stands where there is no key
+-- stands for a missing key
 abbrev pub no_key : Bor (List ℕ)
 no_key = record { ref_ptr = (0, 0); now = [] }
 
--- a hash that is not known to be missing is the one expected
+-- a hash is the expected one, unless it is not computed yet
 abbrev pub IsKnown : ℕ → ℕ → Type 0
 IsKnown hash expected = hash ≢ 2 ^ 32 - 1 → hash ≡ expected
 
--- no key is hashed
+-- no hash is computed yet
 abbrev pub AreUnhashed : List ℕ → Type 0
 AreUnhashed hashes = (k : ℕ) → k < length hashes → slice_index hashes k ≡ 2 ^ 32 - 1
 
--- the places of so many keys from this index on, where a function tells the topic of each
+-- the partitions of count keys from this index on; a function gives the topic of each
 abbrev pub ArePlacedFrom : List ℕ → (ℕ → ℕ) → List (Bor (List ℕ)) → ℕ → ℕ → List ℕ → Type 0
 ArePlacedFrom counts topic keys from count places = (k : ℕ) (d : Bor (List ℕ)) → k < count
     → slice_index places k ≡ place_in_topic counts (topic (from + k)) (get_or keys (from + k) d).now
 
--- each hash is its key's, or missing
+-- each hash is its key's, or not computed yet
 unfoldable pub AreKnown : List (Bor (List ℕ)) → List ℕ → Type 0
 AreKnown keys hashes = Each2 (λ key hash. IsKnown hash (positive_hash key.now)) keys hashes
 
@@ -31,21 +31,23 @@ AreKnown keys hashes = Each2 (λ key hash. IsKnown hash (positive_hash key.now))
 abbrev pub IsOfLength : List (Bor (List ℕ)) → ℕ → ℕ → Type 0
 IsOfLength keys len i = (i < length keys) × (length (get_or keys i no_key).now ≡ len)
 
--- each index is that of a key of this length
+-- every index is that of a key of this length
 unfoldable pub AreOfLength : List (Bor (List ℕ)) → ℕ → List ℕ → Type 0
 AreOfLength keys len row = Each1 (λ i. IsOfLength keys len i) row
 
--- fewer than eight keys of this length wait
+-- the group of this length has fewer than eight keys
 abbrev pub IsWaiting : List (Bor (List ℕ)) → ℕ → List ℕ → ℕ → Type 0
-IsWaiting keys len row count = (length row ≡ 8) × (count < 8) × (0 < count → AreOfLength keys len row)
+IsWaiting keys len row count =
+    (length row ≡ 8) × (count < 8) × (0 < count → AreOfLength keys len row)
 
--- fewer than eight keys of each length from this one on wait
+-- each group of this or a greater length has fewer than eight keys
 unfoldable pub AreWaitingFrom : List (Bor (List ℕ)) → ℕ → List (List ℕ) → List ℕ → Type 0
 AreWaitingFrom keys len [] counts = Unit {0}
 AreWaitingFrom keys len (row ∷ rows) [] = Unit {0}
-AreWaitingFrom keys len (row ∷ rows) (count ∷ counts) = IsWaiting keys len row count × AreWaitingFrom keys (suc len) rows counts
+AreWaitingFrom keys len (row ∷ rows) (count ∷ counts) =
+    IsWaiting keys len row count × AreWaitingFrom keys (suc len) rows counts
 
--- the row after one more index
+-- the group with one more index
 abbrev pub joined_row : List ℕ → ℕ → ℕ → List ℕ
 joined_row row zero i = replicate 8 i
 joined_row row (suc count) i = slice_set row (suc count) i

@@ -4,7 +4,8 @@ use Rattle.key_file.specs.Pieces.{later_fault}
 use Rattle.key_file.specs.Private.Pieces.{bytes_of, fault_number, keys_in, lent}
 use Rattle.key_file.specs.Private.Wanted.{taking}
 use Rattle.key_file.proofs.Parts.{keys-first, keys-other, left-all, left-count, left-fault, left-first-fault, left-next, left-number, lent-long}
-use Rattle.key_file.proofs.Joined.{answer_err, answer_ok, drop_last, drop_next}
+use Rattle.parallel.proofs.Iterated.{drop_last, drop_next}
+use Rattle.key_file.proofs.Joined.{answer_err, answer_ok}
 use Rattle.key_file.proofs.Listed.{count_more}
 use Rattle.key_file.proofs.join.join_keys.Goals as goal
 use Rattle.key_file.proofs.join.join_keys.Goals.{then-header, else-header}

@@ -2,7 +2,7 @@ use Rattle.std.proofs.Common.{◌≡◌, ◌+◌, ◌-◌, ◌*◌, ◌∙◌, �
 use Rattle.std.specs.Prelude.{IfOk}
 use Rattle.key_numbers.specs.Keys.{lent_lists}
 use Rattle.key_numbers.specs.Private.Sharded.{AreNumberedFrom, AreNumberedIn, shard_of}
-use Rattle.key_numbers.specs.declared.numbering.TheConstants.{OF_GROUP}
+use Rattle.key_numbers.specs.declared.shards.TheConstants.{OF_GROUP}
 use Rattle.key_numbers.proofs.Gathered.{numbered-more}
 use Rattle.key_numbers.proofs.numbering.number_group.Goals as goal
 

@@ -23,11 +23,11 @@ pub walk_beside-walked-requires-clause-shards : goal.walk_beside-walked-requires
 walk_beside-walked-requires-clause-shards g c κs within = c.deref-3.ensures.value ∙ c.in_ok-shards.ensures
 
 pub walk_beside-walked-requires-clause-tables : goal.walk_beside-walked-requires-clause-tables
-walk_beside-walked-requires-clause-tables g c κs within = ap length c.deref-4.ensures.value ∙ c.in_ok-tables.ensures.tables.each ∙ c.in_ok-found.ensures.len
+walk_beside-walked-requires-clause-tables g c κs within = ap length c.deref-5.ensures.value ∙ c.in_ok-tables.ensures.tables.each ∙ c.in_ok-found.ensures.len
 
 pub walk_beside-walked-requires-clause-locals : goal.walk_beside-walked-requires-clause-locals
 walk_beside-walked-requires-clause-locals g c κs within =
-    rw c.deref-5.ensures.value (subst (λ n. AreLocals (shard_of c.args.hasher) n (lent_lists c.args.lists.now) (map vec_items c.in_ok-tables.locals.items)) c.in_ok-found.ensures.len c.in_ok-tables.ensures.locals)
+    rw c.deref-4.ensures.value (subst (λ n. AreLocals (shard_of c.args.hasher) n (lent_lists c.args.lists.now) (map vec_items c.in_ok-tables.locals.items)) c.in_ok-found.ensures.len c.in_ok-tables.ensures.locals)
 
 pub walk_beside-walked-requires-clause-beside : goal.walk_beside-walked-requires-clause-beside
 walk_beside-walked-requires-clause-beside g c κs within = c.requires.beside
@@ -40,10 +40,10 @@ read_pieces-requires-clause-readable g c κs within =
     let ids = c.in_ok-ids.ids in
     let len = rw c.in_ok-ids.was at c.walk_beside-walked.ensures.len in
     let counted : length ids.items ≡ vec_len ids = omega (arith, ids.ok.0) in record {
-      sharded = c.deref-6.ensures.value ∙ c.in_ok-shards.ensures;
-      numbered = rw c.deref-7.ensures.value (subst (λ n. AreLocals (shard_of c.args.hasher) n (lent_lists c.args.lists.now) (map vec_items c.in_ok-tables.locals.items)) c.in_ok-found.ensures.len c.in_ok-tables.ensures.locals);
-      each = ap (λ xs. length (map vec_items xs)) c.deref-8.ensures.value ∙ length-map ids.items vec_items ∙ counted ∙ len;
-      are = rw c.deref-8.ensures.value (rw c.in_ok-ids.was at c.walk_beside-walked.ensures.ids);
+      sharded = c.deref-3.ensures.value ∙ c.in_ok-shards.ensures;
+      numbered = rw c.deref-4.ensures.value (subst (λ n. AreLocals (shard_of c.args.hasher) n (lent_lists c.args.lists.now) (map vec_items c.in_ok-tables.locals.items)) c.in_ok-found.ensures.len c.in_ok-tables.ensures.locals);
+      each = ap (λ xs. length (map vec_items xs)) c.deref-6.ensures.value ∙ length-map ids.items vec_items ∙ counted ∙ len;
+      are = rw c.deref-6.ensures.value (rw c.in_ok-ids.was at c.walk_beside-walked.ensures.ids);
     }
 
 pub returns-clause-tables : goal.returns-clause-tables

@@ -10,55 +10,55 @@ use Rattle.key_numbers.proofs.numbering.read_numbers.Goals as goal
 
 pub bounds-locals-shard : goal.bounds-locals-shard
 bounds-locals-shard c =
-    let all = lent_lists c.args.lists.now in
+    let all = lent_lists c.args.records.now.lists.now in
     let i = c.args.from + c.loop-k.k in
     let i_in : i < length all = omega (arith, c.loop-k-test.true, c.requires.range) in
-    omega (arith, shard-below c.args.hasher all c.args.shards.now i c.requires.readable.sharded i_in, c.requires.readable.numbered.each, length-map c.args.locals.now vec_items)
+    omega (arith, shard-below c.args.records.now.hasher all c.args.records.now.shards.now i c.requires.readable.sharded i_in, c.requires.readable.numbered.each, length-map c.args.records.now.locals.now vec_items)
 
 pub bounds-met-shard : goal.bounds-met-shard
 bounds-met-shard c =
-    let all = lent_lists c.args.lists.now in
+    let all = lent_lists c.args.records.now.lists.now in
     let i = c.args.from + c.loop-k.k in
     let i_in : i < length all = omega (arith, c.loop-k-test.true, c.requires.range) in
-    shard-below c.args.hasher all c.args.shards.now i c.requires.readable.sharded i_in
+    shard-below c.args.records.now.hasher all c.args.records.now.shards.now i c.requires.readable.sharded i_in
 
 pub bounds-met-shard-in-loop-k : goal.bounds-met-shard-in-loop-k
 bounds-met-shard-in-loop-k c =
-    let all = lent_lists c.args.lists.now in
+    let all = lent_lists c.args.records.now.lists.now in
     let i = c.args.from + c.loop-k.k in
     let i_in : i < length all = omega (arith, c.loop-k-test.true, c.requires.range) in
-    shard-below c.args.hasher all c.args.shards.now i c.requires.readable.sharded i_in
+    shard-below c.args.records.now.hasher all c.args.records.now.shards.now i c.requires.readable.sharded i_in
 
 pub bounds-met-shard-in-loop-k-2 : goal.bounds-met-shard-in-loop-k-2
 bounds-met-shard-in-loop-k-2 c =
-    let all = lent_lists c.args.lists.now in
+    let all = lent_lists c.args.records.now.lists.now in
     let i = c.args.from + c.loop-k.k in
     let i_in : i < length all = omega (arith, c.loop-k-test.true, c.requires.range) in
-    shard-below c.args.hasher all c.args.shards.now i c.requires.readable.sharded i_in
+    shard-below c.args.records.now.hasher all c.args.records.now.shards.now i c.requires.readable.sharded i_in
 
 pub bounds-ids-shard : goal.bounds-ids-shard
 bounds-ids-shard c =
-    let all = lent_lists c.args.lists.now in
+    let all = lent_lists c.args.records.now.lists.now in
     let i = c.args.from + c.loop-k.k in
     let i_in : i < length all = omega (arith, c.loop-k-test.true, c.requires.range) in
-    omega (arith, shard-below c.args.hasher all c.args.shards.now i c.requires.readable.sharded i_in, c.requires.readable.each, length-map c.args.ids.now vec_items)
+    omega (arith, shard-below c.args.records.now.hasher all c.args.records.now.shards.now i c.requires.readable.sharded i_in, c.requires.readable.each, length-map c.args.ids.now vec_items)
 
 pub overflow_add-met : goal.overflow_add-met
 overflow_add-met c =
-    let all = lent_lists c.args.lists.now in
+    let all = lent_lists c.args.records.now.lists.now in
     let i = c.args.from + c.loop-k.k in
     let i_in : i < length all = omega (arith, c.loop-k-test.true, c.requires.range) in
     let i_le : i ≤ length all = omega (arith, i_in) in
-    let shard = get_or c.args.shards.now i 0 in
-    let below = shard-below c.args.hasher all c.args.shards.now i c.requires.readable.sharded i_in in
-    omega (arith, passed-few (shard_of c.args.hasher) SHARDS all i c.loop-k.met shard below i_le c.loop-k.invariant.passed, c.loop-k-test.true, c.requires.range, shards-long (shard_of c.args.hasher) all c.args.shards.now c.requires.readable.sharded)
+    let shard = get_or c.args.records.now.shards.now i 0 in
+    let below = shard-below c.args.records.now.hasher all c.args.records.now.shards.now i c.requires.readable.sharded i_in in
+    omega (arith, passed-few (shard_of c.args.records.now.hasher) SHARDS all i c.loop-k.met shard below i_le c.loop-k.invariant.passed, c.loop-k-test.true, c.requires.range, shards-long (shard_of c.args.records.now.hasher) all c.args.records.now.shards.now c.requires.readable.sharded)
 
 pub index-local-requires : goal.index-local-requires
 index-local-requires c =
-    let hasher = c.args.hasher in
-    let all = lent_lists c.args.lists.now in
-    let shards = c.args.shards.now in
-    let locals = c.args.locals.now in
+    let hasher = c.args.records.now.hasher in
+    let all = lent_lists c.args.records.now.lists.now in
+    let shards = c.args.records.now.shards.now in
+    let locals = c.args.records.now.locals.now in
     let ids = c.args.ids.now in
     let i = c.args.from + c.loop-k.k in
     let i_in : i < length all = omega (arith, c.loop-k-test.true, c.requires.range) in
@@ -73,10 +73,10 @@ index-local-requires c =
 
 pub index-requires : goal.index-requires
 index-requires c =
-    let hasher = c.args.hasher in
-    let all = lent_lists c.args.lists.now in
-    let shards = c.args.shards.now in
-    let locals = c.args.locals.now in
+    let hasher = c.args.records.now.hasher in
+    let all = lent_lists c.args.records.now.lists.now in
+    let shards = c.args.records.now.shards.now in
+    let locals = c.args.records.now.locals.now in
     let ids = c.args.ids.now in
     let i = c.args.from + c.loop-k.k in
     let i_in : i < length all = omega (arith, c.loop-k-test.true, c.requires.range) in
@@ -97,10 +97,10 @@ index-requires c =
 
 pub loop-k-preserved : goal.loop-k-preserved
 loop-k-preserved c =
-    let hasher = c.args.hasher in
-    let all = lent_lists c.args.lists.now in
-    let shards = c.args.shards.now in
-    let locals = c.args.locals.now in
+    let hasher = c.args.records.now.hasher in
+    let all = lent_lists c.args.records.now.lists.now in
+    let shards = c.args.records.now.shards.now in
+    let locals = c.args.records.now.locals.now in
     let ids = c.args.ids.now in
     let i = c.args.from + c.loop-k.k in
     let i_in : i < length all = omega (arith, c.loop-k-test.true, c.requires.range) in

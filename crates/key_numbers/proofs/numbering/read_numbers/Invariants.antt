@@ -6,6 +6,6 @@ use Rattle.key_numbers.proofs.numbering.read_numbers.Given as goal
 
 abbrev pub invariant-loop-k : goal.invariant-loop-k
 invariant-loop-k l = record {
-  passed : ArePassed (shard_of l.fn.hasher) SHARDS (lent_lists l.lists) (l.from + l.k) l.met;
-  read : AreFrom (id_of (distinct (lent_lists l.lists))) (lent_lists l.lists) l.from l.k l.numbers;
+  passed : ArePassed (shard_of l.records.hasher) SHARDS (lent_lists l.records.lists.now) (l.from + l.k) l.met;
+  read : AreFrom (id_of (distinct (lent_lists l.records.lists.now))) (lent_lists l.records.lists.now) l.from l.k l.numbers;
 }

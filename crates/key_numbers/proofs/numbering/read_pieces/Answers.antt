@@ -5,7 +5,7 @@ use Rattle.key_numbers.proofs.numbering.read_pieces.Goals as goal
 
 pub returns : goal.returns
 returns g c =
-    let all = lent_lists c.args.lists.now in
+    let all = lent_lists c.args.records.now.lists.now in
     let f = id_of (distinct all) in
     let new = c.for_each_chunk_mut.new.s in
     let long = c.for_each_chunk_mut.auto.s in

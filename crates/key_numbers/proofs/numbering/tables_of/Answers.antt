@@ -3,7 +3,8 @@ use Rattle.std.specs.Vec.Iter.{into_iter_items}
 use Rattle.std.proofs.lemmas.List.{map-append}
 use Rattle.key_numbers.specs.Private.Sharded.{AreLocals, AreNumberedIn, AreTables, shard_of}
 use Rattle.key_numbers.specs.Keys.{lent_lists}
-use Rattle.key_numbers.proofs.Gathered.{drop_last, drop_next, locals-more, locals-none, tables-more, tables-none}
+use Rattle.parallel.proofs.Iterated.{drop_last, drop_next}
+use Rattle.key_numbers.proofs.Gathered.{locals-more, locals-none, tables-more, tables-none}
 use Rattle.key_numbers.proofs.numbering.tables_of.Goals as goal
 
 pub loop-shard-init : goal.loop-shard-init

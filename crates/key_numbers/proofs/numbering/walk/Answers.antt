@@ -12,51 +12,51 @@ use Rattle.key_numbers.proofs.numbering.walk.Goals as goal
 
 pub loop-i-init : goal.loop-i-init
 loop-i-init c =
-    let all = lent_lists c.args.lists.now in
-    let start : IsWalked (shard_of c.args.hasher) all [] (map vec_items c.in_ok-ids.ids.items) 0 =
-    subst (λ (ids : List (List ℕ)). IsWalked (shard_of c.args.hasher) all [] ids 0) (sym c.in_ok-ids.ensures) (walked-none (shard_of c.args.hasher) all SHARDS) in
+    let all = lent_lists c.args.records.now.lists.now in
+    let start : IsWalked (shard_of c.args.records.now.hasher) all [] (map vec_items c.in_ok-ids.ids.items) 0 =
+    subst (λ (ids : List (List ℕ)). IsWalked (shard_of c.args.records.now.hasher) all [] ids 0) (sym c.in_ok-ids.ensures) (walked-none (shard_of c.args.records.now.hasher) all SHARDS) in
     let none : List ℕ = [] in record {
       len = sym (length-map c.in_ok-ids.ids.items vec_items) ∙ ap length c.in_ok-ids.ensures ∙ length-replicate SHARDS none;
-      passed = passed-none (shard_of c.args.hasher) SHARDS all;
+      passed = passed-none (shard_of c.args.records.now.hasher) SHARDS all;
       walked = rw c.in_ok-order.ensures.items start;
-      ordered = rw c.in_ok-order.ensures.items (ordered-none (shard_of c.args.hasher) all SHARDS);
+      ordered = rw c.in_ok-order.ensures.items (ordered-none (shard_of c.args.records.now.hasher) all SHARDS);
     }
 
 pub bounds-locals-shard : goal.bounds-locals-shard
 bounds-locals-shard c =
-    let all = lent_lists c.args.lists.now in
-    let i_in : c.loop-i.i < length all = omega (arith, c.loop-i-test.true, shards-long (shard_of c.args.hasher) all c.args.shards.now c.requires.shards) in
-    omega (arith, shard-below c.args.hasher all c.args.shards.now c.loop-i.i c.requires.shards i_in, c.requires.locals.each, length-map c.args.locals.now vec_items)
+    let all = lent_lists c.args.records.now.lists.now in
+    let i_in : c.loop-i.i < length all = omega (arith, c.loop-i-test.true, shards-long (shard_of c.args.records.now.hasher) all c.args.records.now.shards.now c.requires.shards) in
+    omega (arith, shard-below c.args.records.now.hasher all c.args.records.now.shards.now c.loop-i.i c.requires.shards i_in, c.requires.locals.each, length-map c.args.records.now.locals.now vec_items)
 
 pub bounds-met-shard : goal.bounds-met-shard
 bounds-met-shard c =
-    let all = lent_lists c.args.lists.now in
-    let i_in : c.loop-i.i < length all = omega (arith, c.loop-i-test.true, shards-long (shard_of c.args.hasher) all c.args.shards.now c.requires.shards) in
-    omega (arith, shard-below c.args.hasher all c.args.shards.now c.loop-i.i c.requires.shards i_in)
+    let all = lent_lists c.args.records.now.lists.now in
+    let i_in : c.loop-i.i < length all = omega (arith, c.loop-i-test.true, shards-long (shard_of c.args.records.now.hasher) all c.args.records.now.shards.now c.requires.shards) in
+    omega (arith, shard-below c.args.records.now.hasher all c.args.records.now.shards.now c.loop-i.i c.requires.shards i_in)
 
 pub bounds-met-shard-in-loop-i : goal.bounds-met-shard-in-loop-i
 bounds-met-shard-in-loop-i c =
-    let all = lent_lists c.args.lists.now in
-    let i_in : c.loop-i.i < length all = omega (arith, c.loop-i-test.true, shards-long (shard_of c.args.hasher) all c.args.shards.now c.requires.shards) in
-    omega (arith, shard-below c.args.hasher all c.args.shards.now c.loop-i.i c.requires.shards i_in)
+    let all = lent_lists c.args.records.now.lists.now in
+    let i_in : c.loop-i.i < length all = omega (arith, c.loop-i-test.true, shards-long (shard_of c.args.records.now.hasher) all c.args.records.now.shards.now c.requires.shards) in
+    omega (arith, shard-below c.args.records.now.hasher all c.args.records.now.shards.now c.loop-i.i c.requires.shards i_in)
 
 pub bounds-met-shard-in-loop-i-2 : goal.bounds-met-shard-in-loop-i-2
 bounds-met-shard-in-loop-i-2 c =
-    let all = lent_lists c.args.lists.now in
-    let i_in : c.loop-i.i < length all = omega (arith, c.loop-i-test.true, shards-long (shard_of c.args.hasher) all c.args.shards.now c.requires.shards) in
-    omega (arith, shard-below c.args.hasher all c.args.shards.now c.loop-i.i c.requires.shards i_in)
+    let all = lent_lists c.args.records.now.lists.now in
+    let i_in : c.loop-i.i < length all = omega (arith, c.loop-i-test.true, shards-long (shard_of c.args.records.now.hasher) all c.args.records.now.shards.now c.requires.shards) in
+    omega (arith, shard-below c.args.records.now.hasher all c.args.records.now.shards.now c.loop-i.i c.requires.shards i_in)
 
 pub index-local-requires : goal.index-local-requires
 index-local-requires c =
-    let all = lent_lists c.args.lists.now in
-    let shards = c.args.shards.now in
-    let locals = c.args.locals.now in
+    let all = lent_lists c.args.records.now.lists.now in
+    let shards = c.args.records.now.shards.now in
+    let locals = c.args.records.now.locals.now in
     let i = c.loop-i.i in
     let shard = get_or shards i 0 in
-    let i_in : i < length all = omega (arith, c.loop-i-test.true, shards-long (shard_of c.args.hasher) all c.args.shards.now c.requires.shards) in
-    let below : shard < SHARDS = shard-below c.args.hasher all shards i c.requires.shards i_in in
+    let i_in : i < length all = omega (arith, c.loop-i-test.true, shards-long (shard_of c.args.records.now.hasher) all c.args.records.now.shards.now c.requires.shards) in
+    let below : shard < SHARDS = shard-below c.args.records.now.hasher all shards i c.requires.shards i_in in
     let in_locals : shard < length locals = omega (arith, below, c.requires.locals.each, length-map locals vec_items) in
-    let next = next-local (shard_of c.args.hasher) SHARDS all i c.loop-i.met (get_or (map vec_items locals) shard []) shard i_in (shard-at (shard_of c.args.hasher) all shards i c.requires.shards i_in) below
+    let next = next-local (shard_of c.args.records.now.hasher) SHARDS all i c.loop-i.met (get_or (map vec_items locals) shard []) shard i_in (shard-at (shard_of c.args.records.now.hasher) all shards i c.requires.shards i_in) below
     (c.requires.locals.are shard below) c.loop-i.invariant.passed in
     let row = get_or-map vec_items locals shard c.index-locals-shard.result [] in_locals ∙ ap vec_items (sym c.index-locals-shard.is) in
     let counted : vec_len c.index-locals-shard.result ≡ length c.index-locals-shard.result.items = search rules in
@@ -64,32 +64,32 @@ index-local-requires c =
 
 pub overflow_add-met : goal.overflow_add-met
 overflow_add-met c =
-    let all = lent_lists c.args.lists.now in
+    let all = lent_lists c.args.records.now.lists.now in
     let i = c.loop-i.i in
-    let i_in : i < length all = omega (arith, c.loop-i-test.true, shards-long (shard_of c.args.hasher) all c.args.shards.now c.requires.shards) in
+    let i_in : i < length all = omega (arith, c.loop-i-test.true, shards-long (shard_of c.args.records.now.hasher) all c.args.records.now.shards.now c.requires.shards) in
     let i_le : i ≤ length all = omega (arith, i_in) in
-    let shard = get_or c.args.shards.now i 0 in
-    let below : shard < SHARDS = shard-below c.args.hasher all c.args.shards.now i c.requires.shards i_in in
-    omega (arith, passed-few (shard_of c.args.hasher) SHARDS all i c.loop-i.met shard below i_le c.loop-i.invariant.passed, c.loop-i-test.true)
+    let shard = get_or c.args.records.now.shards.now i 0 in
+    let below : shard < SHARDS = shard-below c.args.records.now.hasher all c.args.records.now.shards.now i c.requires.shards i_in in
+    omega (arith, passed-few (shard_of c.args.records.now.hasher) SHARDS all i c.loop-i.met shard below i_le c.loop-i.invariant.passed, c.loop-i-test.true)
 
 pub number_record-requires-clause-room : goal.number_record-requires-clause-room
 number_record-requires-clause-room c =
-    let all = lent_lists c.args.lists.now in
-    omega (arith, c.loop-i.invariant.walked.counted, few-distinct (take c.loop-i.i all), length-take c.loop-i.i all, c.loop-i-test.true, c.requires.few, shards-long (shard_of c.args.hasher) all c.args.shards.now c.requires.shards)
+    let all = lent_lists c.args.records.now.lists.now in
+    omega (arith, c.loop-i.invariant.walked.counted, few-distinct (take c.loop-i.i all), length-take c.loop-i.i all, c.loop-i-test.true, c.requires.few, shards-long (shard_of c.args.records.now.hasher) all c.args.records.now.shards.now c.requires.shards)
 
 pub number_record-requires-clause-shard : goal.number_record-requires-clause-shard
 number_record-requires-clause-shard c =
-    let all = lent_lists c.args.lists.now in
-    let i_in : c.loop-i.i < length all = omega (arith, c.loop-i-test.true, shards-long (shard_of c.args.hasher) all c.args.shards.now c.requires.shards) in
-    omega (arith, shard-below c.args.hasher all c.args.shards.now c.loop-i.i c.requires.shards i_in, c.loop-i.invariant.len)
+    let all = lent_lists c.args.records.now.lists.now in
+    let i_in : c.loop-i.i < length all = omega (arith, c.loop-i-test.true, shards-long (shard_of c.args.records.now.hasher) all c.args.records.now.shards.now c.requires.shards) in
+    omega (arith, shard-below c.args.records.now.hasher all c.args.records.now.shards.now c.loop-i.i c.requires.shards i_in, c.loop-i.invariant.len)
 
 pub loop-i-preserved : goal.loop-i-preserved
 loop-i-preserved c =
-    let hasher = c.args.hasher in
-    let all = lent_lists c.args.lists.now in
+    let hasher = c.args.records.now.hasher in
+    let all = lent_lists c.args.records.now.lists.now in
     let i = c.loop-i.i in
-    let shards = c.args.shards.now in
-    let locals = c.args.locals.now in
+    let shards = c.args.records.now.shards.now in
+    let locals = c.args.records.now.locals.now in
     let ids : List (List ℕ) = map vec_items c.loop-i.ids.items in
     let order = c.loop-i.order.items in
     let met = c.loop-i.met in
@@ -97,7 +97,7 @@ loop-i-preserved c =
     let shard = get_or shards i 0 in
     let local = c.index-local.result.now in
     let old = get_or ids shard [] in
-    let i_in : i < length all = omega (arith, c.loop-i-test.true, shards-long (shard_of c.args.hasher) all c.args.shards.now c.requires.shards) in
+    let i_in : i < length all = omega (arith, c.loop-i-test.true, shards-long (shard_of c.args.records.now.hasher) all c.args.records.now.shards.now c.requires.shards) in
     let within : shard < SHARDS = shard-below hasher all shards i c.requires.shards i_in in
     let at = shard-at (shard_of hasher) all shards i c.requires.shards i_in in
     let long : length ids ≡ SHARDS = length-map c.loop-i.ids.items vec_items ∙ inv.len in
@@ -125,12 +125,12 @@ loop-i-preserved c =
 
 pub returns-clause-ids : goal.returns-clause-ids
 returns-clause-ids c =
-    let all = lent_lists c.args.lists.now in
-    let done : length all ≤ c.loop-i.i = omega (arith, c.loop-i-test.false, shards-long (shard_of c.args.hasher) all c.args.shards.now c.requires.shards) in
-    walked-all (shard_of c.args.hasher) all c.loop-i.i (map vec_items c.loop-i.ids.items) (length c.loop-i.order.items) done c.loop-i.invariant.walked
+    let all = lent_lists c.args.records.now.lists.now in
+    let done : length all ≤ c.loop-i.i = omega (arith, c.loop-i-test.false, shards-long (shard_of c.args.records.now.hasher) all c.args.records.now.shards.now c.requires.shards) in
+    walked-all (shard_of c.args.records.now.hasher) all c.loop-i.i (map vec_items c.loop-i.ids.items) (length c.loop-i.order.items) done c.loop-i.invariant.walked
 
 pub returns-clause-order : goal.returns-clause-order
 returns-clause-order c =
-    let all = lent_lists c.args.lists.now in
-    let whole : take c.loop-i.i all ≡ all = take_all c.loop-i.i all (omega (arith, c.loop-i-test.false, shards-long (shard_of c.args.hasher) all c.args.shards.now c.requires.shards)) in
-    subst (λ ks. AreOrdered (shard_of c.args.hasher) all (distinct ks) SHARDS c.loop-i.order.items) whole c.loop-i.invariant.ordered
+    let all = lent_lists c.args.records.now.lists.now in
+    let whole : take c.loop-i.i all ≡ all = take_all c.loop-i.i all (omega (arith, c.loop-i-test.false, shards-long (shard_of c.args.records.now.hasher) all c.args.records.now.shards.now c.requires.shards)) in
+    subst (λ ks. AreOrdered (shard_of c.args.records.now.hasher) all (distinct ks) SHARDS c.loop-i.order.items) whole c.loop-i.invariant.ordered

@@ -24,8 +24,8 @@ logs_of_lists-requires-clause-below g c κs within =
     let firsts = joined (map keys_in c.args.coded.now) in
     let lists = ap lent_lists c.deref.ensures.value ∙ c.in_ok-keys.ensures in
     let place = λ (key : Key). place_in c.args.self.now (of_first key) in
-    let places = (rw c.in_ok-places.was at c.in_ok-shards.ensures.places) ∙ ap (map place) lists in
-    let placed = lists-placed c.args.self.now c.deref-2.result.now firsts c.in_ok-shards.ensures.valid (c.deref-2.ensures.value ∙ places) in
+    let places = (rw c.in_ok-places.was at c.in_ok-interned.ensures.places) ∙ ap (map place) lists in
+    let placed = lists-placed c.args.self.now c.deref-2.result.now firsts c.in_ok-interned.ensures.valid (c.deref-2.ensures.value ∙ places) in
     let goes = subst (λ (l : PartitionLogs). ArePlaced l c.deref-2.result.now firsts) (sym c.self.view_is) placed in
     rw c.count-partitions.ensures.count (all-below before c.deref-2.result.now firsts c.self.invariant goes.as_many goes.goes)
 
@@ -34,11 +34,11 @@ invariant_of-self g c =
     let before : PartitionLogs = record { counts = c.self.inside.partitions; partitions = sum c.self.inside.partitions; keys = c.self.inside.keys; logs = map vec_items c.self.inside.logs.items } in
     let lists = ap lent_lists c.deref.ensures.value ∙ c.in_ok-keys.ensures in
     let place = λ (key : Key). place_in c.args.self.now (of_first key) in
-    let places = (rw c.in_ok-places.was at c.in_ok-shards.ensures.places) ∙ ap (map place) lists in
-    let keys = c.in_ok-shards.ensures.keys ∙ ap distinct lists in
-    let numbers = c.in_ok-shards.ensures.numbers ∙ ap (λ ks. map (id_of (distinct ks)) ks) lists in
+    let places = (rw c.in_ok-places.was at c.in_ok-interned.ensures.places) ∙ ap (map place) lists in
+    let keys = c.in_ok-interned.ensures.value.keys ∙ ap distinct lists in
+    let numbers = c.in_ok-interned.ensures.value.ids ∙ ap (λ ks. map (id_of (distinct ks)) ks) lists in
     let made = by-lists c.args.self.now before c.args.coded.now c.begin_with.new.self c.deref-2.result.now c.deref-3.result.now c.count-partitions.result (map vec_items c.in_ok-logs.logs.items) c.self.view_is c.self.invariant
-    c.requires.coded c.requires.fits c.count-partitions.ensures.count c.in_ok-shards.ensures.valid (c.deref-2.ensures.value ∙ places) (c.deref-3.ensures.value ∙ numbers)
+    c.requires.coded c.requires.fits c.count-partitions.ensures.count c.in_ok-interned.ensures.valid (c.deref-2.ensures.value ∙ places) (c.deref-3.ensures.value ∙ numbers)
     (c.begin_with.ensures ∙ keys) c.in_ok-logs.ensures in
     made.1
 
@@ -47,11 +47,11 @@ returns-clause-ok g c =
     let before : PartitionLogs = record { counts = c.self.inside.partitions; partitions = sum c.self.inside.partitions; keys = c.self.inside.keys; logs = map vec_items c.self.inside.logs.items } in
     let lists = ap lent_lists c.deref.ensures.value ∙ c.in_ok-keys.ensures in
     let place = λ (key : Key). place_in c.args.self.now (of_first key) in
-    let places = (rw c.in_ok-places.was at c.in_ok-shards.ensures.places) ∙ ap (map place) lists in
-    let keys = c.in_ok-shards.ensures.keys ∙ ap distinct lists in
-    let numbers = c.in_ok-shards.ensures.numbers ∙ ap (λ ks. map (id_of (distinct ks)) ks) lists in
+    let places = (rw c.in_ok-places.was at c.in_ok-interned.ensures.places) ∙ ap (map place) lists in
+    let keys = c.in_ok-interned.ensures.value.keys ∙ ap distinct lists in
+    let numbers = c.in_ok-interned.ensures.value.ids ∙ ap (λ ks. map (id_of (distinct ks)) ks) lists in
     let made = by-lists c.args.self.now before c.args.coded.now c.begin_with.new.self c.deref-2.result.now c.deref-3.result.now c.count-partitions.result (map vec_items c.in_ok-logs.logs.items) c.self.view_is c.self.invariant
-    c.requires.coded c.requires.fits c.count-partitions.ensures.count c.in_ok-shards.ensures.valid (c.deref-2.ensures.value ∙ places) (c.deref-3.ensures.value ∙ numbers)
+    c.requires.coded c.requires.fits c.count-partitions.ensures.count c.in_ok-interned.ensures.valid (c.deref-2.ensures.value ∙ places) (c.deref-3.ensures.value ∙ numbers)
     (c.begin_with.ensures ∙ keys) c.in_ok-logs.ensures in
     made.0
 
@@ -60,11 +60,11 @@ returns-clause-valid g c =
     let before : PartitionLogs = record { counts = c.self.inside.partitions; partitions = sum c.self.inside.partitions; keys = c.self.inside.keys; logs = map vec_items c.self.inside.logs.items } in
     let lists = ap lent_lists c.deref.ensures.value ∙ c.in_ok-keys.ensures in
     let place = λ (key : Key). place_in c.args.self.now (of_first key) in
-    let places = (rw c.in_ok-places.was at c.in_ok-shards.ensures.places) ∙ ap (map place) lists in
-    let keys = c.in_ok-shards.ensures.keys ∙ ap distinct lists in
-    let numbers = c.in_ok-shards.ensures.numbers ∙ ap (λ ks. map (id_of (distinct ks)) ks) lists in
+    let places = (rw c.in_ok-places.was at c.in_ok-interned.ensures.places) ∙ ap (map place) lists in
+    let keys = c.in_ok-interned.ensures.value.keys ∙ ap distinct lists in
+    let numbers = c.in_ok-interned.ensures.value.ids ∙ ap (λ ks. map (id_of (distinct ks)) ks) lists in
     let made = by-lists c.args.self.now before c.args.coded.now c.begin_with.new.self c.deref-2.result.now c.deref-3.result.now c.count-partitions.result (map vec_items c.in_ok-logs.logs.items) c.self.view_is c.self.invariant
-    c.requires.coded c.requires.fits c.count-partitions.ensures.count c.in_ok-shards.ensures.valid (c.deref-2.ensures.value ∙ places) (c.deref-3.ensures.value ∙ numbers)
+    c.requires.coded c.requires.fits c.count-partitions.ensures.count c.in_ok-interned.ensures.valid (c.deref-2.ensures.value ∙ places) (c.deref-3.ensures.value ∙ numbers)
     (c.begin_with.ensures ∙ keys) c.in_ok-logs.ensures in
     made.1
 
@@ -75,19 +75,19 @@ pub logs_of_lists-requires-clause-places : goal.logs_of_lists-requires-clause-pl
 logs_of_lists-requires-clause-places g c κs within =
     let all = lent_lists c.deref.result.now in
     let place = λ (key : Key). place_in c.args.self.now (of_first key) in
-    let places = rw c.in_ok-places.was at c.in_ok-shards.ensures.places in
+    let places = rw c.in_ok-places.was at c.in_ok-interned.ensures.places in
     ap length (c.deref-2.ensures.value ∙ places) ∙ length-map all place ∙ ap length (ap lent_lists c.deref.ensures.value ∙ c.in_ok-keys.ensures)
 
 pub logs_of_lists-requires-clause-numbers : goal.logs_of_lists-requires-clause-numbers
 logs_of_lists-requires-clause-numbers g c κs within =
     let all = lent_lists c.deref.result.now in
-    ap length (c.deref-3.ensures.value ∙ c.in_ok-shards.ensures.numbers) ∙ length-map all (id_of (distinct all)) ∙ ap length (ap lent_lists c.deref.ensures.value ∙ c.in_ok-keys.ensures)
+    ap length (c.deref-3.ensures.value ∙ c.in_ok-interned.ensures.value.ids) ∙ length-map all (id_of (distinct all)) ∙ ap length (ap lent_lists c.deref.ensures.value ∙ c.in_ok-keys.ensures)
 
 pub returns-in_err-keys-clause-valid : goal.returns-in_err-keys-clause-valid
 returns-in_err-keys-clause-valid g c = subst IsValidLogs c.self.view_is c.self.invariant
 
-pub returns-in_err-shards-clause-valid : goal.returns-in_err-shards-clause-valid
-returns-in_err-shards-clause-valid g c = subst IsValidLogs c.self.view_is c.self.invariant
+pub returns-in_err-interned-clause-valid : goal.returns-in_err-interned-clause-valid
+returns-in_err-interned-clause-valid g c = subst IsValidLogs c.self.view_is c.self.invariant
 
 pub returns-in_err-places-clause-valid : goal.returns-in_err-places-clause-valid
 returns-in_err-places-clause-valid g c = subst IsValidLogs c.self.view_is c.self.invariant

@@ -19,8 +19,8 @@ pub invariant_of-self : goal.invariant_of-self
 invariant_of-self g c =
     let before : PartitionLogs = record { counts = c.self.inside.partitions; partitions = sum c.self.inside.partitions; keys = c.self.inside.keys; logs = map vec_items c.self.inside.logs.items } in
     let lists = ap lent_lists c.deref.ensures.value ∙ c.in_ok-pieces.ensures in
-    let numbered = c.deref-2.ensures.value ∙ c.in_ok-shards.ensures.numbers ∙ ap (λ ks. map (id_of (distinct ks)) ks) lists in
-    let all = c.in_ok-shards.ensures.keys ∙ ap distinct lists in
+    let numbered = c.deref-2.ensures.value ∙ c.in_ok-interned.ensures.value.ids ∙ ap (λ ks. map (id_of (distinct ks)) ks) lists in
+    let all = c.in_ok-interned.ensures.value.keys ∙ ap distinct lists in
     (side-by-side c.args.self.now before (lent c.args.keys.now) c.begin_with.new.self c.args.places.now c.deref-2.result.now c.count.result (map vec_items c.in_ok-logs.logs.items) c.self.view_is c.self.invariant c.requires.fits
     c.count.ensures.count c.requires.places.as_many c.requires.places.goes numbered (c.begin_with.ensures ∙ all) c.in_ok-logs.ensures).1
 
@@ -28,8 +28,8 @@ pub returns-clause-ok : goal.returns-clause-ok
 returns-clause-ok g c =
     let before : PartitionLogs = record { counts = c.self.inside.partitions; partitions = sum c.self.inside.partitions; keys = c.self.inside.keys; logs = map vec_items c.self.inside.logs.items } in
     let lists = ap lent_lists c.deref.ensures.value ∙ c.in_ok-pieces.ensures in
-    let numbered = c.deref-2.ensures.value ∙ c.in_ok-shards.ensures.numbers ∙ ap (λ ks. map (id_of (distinct ks)) ks) lists in
-    let all = c.in_ok-shards.ensures.keys ∙ ap distinct lists in
+    let numbered = c.deref-2.ensures.value ∙ c.in_ok-interned.ensures.value.ids ∙ ap (λ ks. map (id_of (distinct ks)) ks) lists in
+    let all = c.in_ok-interned.ensures.value.keys ∙ ap distinct lists in
     (side-by-side c.args.self.now before (lent c.args.keys.now) c.begin_with.new.self c.args.places.now c.deref-2.result.now c.count.result (map vec_items c.in_ok-logs.logs.items) c.self.view_is c.self.invariant c.requires.fits
     c.count.ensures.count c.requires.places.as_many c.requires.places.goes numbered (c.begin_with.ensures ∙ all) c.in_ok-logs.ensures).0
 
@@ -37,8 +37,8 @@ pub returns-clause-valid : goal.returns-clause-valid
 returns-clause-valid g c =
     let before : PartitionLogs = record { counts = c.self.inside.partitions; partitions = sum c.self.inside.partitions; keys = c.self.inside.keys; logs = map vec_items c.self.inside.logs.items } in
     let lists = ap lent_lists c.deref.ensures.value ∙ c.in_ok-pieces.ensures in
-    let numbered = c.deref-2.ensures.value ∙ c.in_ok-shards.ensures.numbers ∙ ap (λ ks. map (id_of (distinct ks)) ks) lists in
-    let all = c.in_ok-shards.ensures.keys ∙ ap distinct lists in
+    let numbered = c.deref-2.ensures.value ∙ c.in_ok-interned.ensures.value.ids ∙ ap (λ ks. map (id_of (distinct ks)) ks) lists in
+    let all = c.in_ok-interned.ensures.value.keys ∙ ap distinct lists in
     (side-by-side c.args.self.now before (lent c.args.keys.now) c.begin_with.new.self c.args.places.now c.deref-2.result.now c.count.result (map vec_items c.in_ok-logs.logs.items) c.self.view_is c.self.invariant c.requires.fits
     c.count.ensures.count c.requires.places.as_many c.requires.places.goes numbered (c.begin_with.ensures ∙ all) c.in_ok-logs.ensures).1
 
@@ -54,13 +54,13 @@ number_all-requires-clause-beside g c κs within = tt
 pub filled_logs-requires-clause-as_many : goal.filled_logs-requires-clause-as_many
 filled_logs-requires-clause-as_many g c =
     let all = lent_lists c.deref.result.now in
-    ap length (c.deref-2.ensures.value ∙ c.in_ok-shards.ensures.numbers) ∙ length-map all (id_of (distinct all)) ∙ ap length (ap lent_lists c.deref.ensures.value ∙ c.in_ok-pieces.ensures) ∙ sym c.requires.places.as_many
+    ap length (c.deref-2.ensures.value ∙ c.in_ok-interned.ensures.value.ids) ∙ length-map all (id_of (distinct all)) ∙ ap length (ap lent_lists c.deref.ensures.value ∙ c.in_ok-pieces.ensures) ∙ sym c.requires.places.as_many
 
 pub returns-in_err-pieces-clause-valid : goal.returns-in_err-pieces-clause-valid
 returns-in_err-pieces-clause-valid g c = subst IsValidLogs c.self.view_is c.self.invariant
 
-pub returns-in_err-shards-clause-valid : goal.returns-in_err-shards-clause-valid
-returns-in_err-shards-clause-valid g c = subst IsValidLogs c.self.view_is c.self.invariant
+pub returns-in_err-interned-clause-valid : goal.returns-in_err-interned-clause-valid
+returns-in_err-interned-clause-valid g c = subst IsValidLogs c.self.view_is c.self.invariant
 
 pub returns-in_err-logs-clause-valid : goal.returns-in_err-logs-clause-valid
 returns-in_err-logs-clause-valid g c = subst IsValidLogs c.self.view_is c.self.invariant

@@ -6,8 +6,8 @@ use Rattle.key_numbers.specs.Private.Sharded.{shard_of}
 use Rattle.key_numbers.proofs.Whole.{whole-keys, whole-shards}
 use Rattle.key_numbers.proofs.shards.Shards.of.Goals as goal
 
-pub invariant_of-shards : goal.invariant_of-shards
-invariant_of-shards g c =
+pub invariant_of-keys : goal.invariant_of-keys
+invariant_of-keys g c =
     let keys = lent_lists c.args.lists.now in
     let numbered = c.in_ok-numbered.ensures in
     let ids = c.in_ok-numbered.numbered.ids.items in
@@ -16,7 +16,10 @@ invariant_of-shards g c =
     whole-shards (shard_of c.args.hasher) keys c.in_ok-numbered.numbered.tables.items (map vec_items ids) c.in_ok-numbered.numbered.order.items few numbered.tables (length-map ids vec_items ∙ counted ∙ numbered.ids_each)
     numbered.ids numbered.order
 
-pub returns-clause-keys : goal.returns-clause-keys
-returns-clause-keys g c =
+pub returns-clause-value : goal.returns-clause-value
+returns-clause-value g c =
     let numbered = c.in_ok-numbered.ensures in
-    whole-keys (shard_of c.args.hasher) (lent_lists c.args.lists.now) c.in_ok-numbered.numbered.tables.items c.in_ok-numbered.numbered.order.items numbered.tables numbered.order
+    record {
+      keys = whole-keys (shard_of c.args.hasher) (lent_lists c.args.lists.now) c.in_ok-numbered.numbered.tables.items c.in_ok-numbered.numbered.order.items numbered.tables numbered.order;
+      ids = numbered.numbers;
+    }

@@ -1,0 +1,16 @@
+//! Counters that are raised number by number.
+
+ghost use Rattle.std.specs.Prelude.{◌≡◌};
+ghost use Rattle.keyed_table.specs.Counts.{HaveCounters, SumsFit, raised};
+
+/// Raises the counter of each number by how often the number occurs in the list. The counters are
+/// indexed by number.
+pub fn add_each(cells: &mut [u64], ids: &[u32])
+    requires numbers { HaveCounters cells.old ids.now }
+    requires fit { SumsFit cells.old ids.now }
+    ensures { cells.new ≡ raised cells.old ids.now }
+{
+    for at in 0..ids.len() {
+        cells[ids[at] as usize] += 1;
+    }
+}
