@@ -1,22 +1,21 @@
 -- Counts of logs by key number, log by log.
-use Rattle.std.proofs.Common.{◌≡◌, ◌∙◌, ◌+◌, ◌-◌, ◌<◌, ◌≤◌, ◌*◌, ◌^◌, ℕ, zero, suc, List, [], length, map, get_or, sym, ap, arith, inl, inr, suc-mul}
+use Rattle.std.proofs.Common.{◌≡◌, ◌∙◌, ◌+◌, ◌-◌, ◌<◌, ◌≤◌, ◌*◌, ◌^◌, ℕ, zero, suc, List, length, get_or, sym, ap, arith, inl, inr, suc-mul}
 use Rattle.std.specs.Prelude.{◌==◌, IfOk, Result, Ok}
 use Rattle.std.proofs.lemmas.Bool.{cases_lt}
-use Rattle.std.proofs.lemmas.List.{get_or-map, get_or_default, get_or_past, length-map, same_lists}
+use Rattle.std.proofs.lemmas.List.{get_or_past}
 use Rattle.std.proofs.lemmas.List.Sums.{count_by-le-length}
 use Rattle.std.proofs.lemmas.Nat.{mul-le}
 use Rattle.keyed_table.specs.Counts as table
 use Rattle.keyed_table.proofs.Elements.{stands-somewhere}
 use Rattle.keyed_table.proofs.Raised.{counter-raised, length-raised}
-use Rattle.partition_log.specs.Keys.{Keyed, distinct, key_at, keys_in, plain}
-use Rattle.partition_log.specs.Logs.{IsValidLogs, AreLogsOf, PartitionLogs, keys_of_log, log_at}
+use Rattle.partition_log.specs.Keys.{key_at, plain}
+use Rattle.partition_log.specs.Logs.{IsValidLogs, PartitionLogs, keys_of_log, log_at}
 use Rattle.partition_log.proofs.Numbered.{by_number, number-back}
-use Rattle.partition_log.proofs.Parted.{in_one_log, sum-same}
-use Rattle.count_report.specs.CountReport.{counts_of}
+use Rattle.partition_log.proofs.Parted.{sum-same}
+use Rattle.report_rows.specs.CountRows.{AreCountsByNumber}
 use Rattle.count_report.specs.Private.Counted.{AreCountsBelow, so_far}
-use Rattle.count_report.specs.Tally.{AreCountsByNumber}
 
--- the logs below p have at most so many records
+-- the most records that the logs below p can have
 most-so-far : (l : PartitionLogs) (p n : ℕ) → IsValidLogs l → so_far l p n ≤ p * (2 ^ 32 - 1)
 most-so-far l zero n a = omega arith
 most-so-far l (suc p) n a =
@@ -39,7 +38,7 @@ in-range l p counts a h lt x =
       | inr past ↦ omega (arith, get_or_past counts x 0 (omega (arith, h.one_each, past)), some, a.few_records p)
     ]
 
--- one log more
+-- one more log
 pub next-log : (l : PartitionLogs) (p : ℕ) (counts : List ℕ) → AreCountsBelow l p counts → AreCountsBelow l (p + 1) (table.raised counts (log_at l p))
 unfolding table.raised
 next-log l p counts h = record {
@@ -50,7 +49,7 @@ next-log l p counts h = record {
       counter-raised 0 counts (log_at l p) n (omega (arith, lt, h.one_each)) ∙ ap (λ m. get_or counts n 0 + table.plain (log_at l p) m) from ∙ ap (λ m. m + table.plain (log_at l p) n) (h.counted n lt) ∙ ap (λ q. so_far l q n) (sym next);
 }
 
--- the list of a partial count that was made among others is its log
+-- the list of one of several partial counts is its log
 pub counted-log : {E : Type 0} (l : PartitionLogs) (p i : ℕ) (made read : List (Result (List ℕ) E)) (answer : Result (List ℕ) E) (partial : List ℕ) → IfOk (get_or made i answer) (λ ids. ids ≡ log_at l p)
     → read ≡ made → answer ≡ get_or read i answer → answer ≡ Ok partial → partial ≡ log_at l p
 counted-log l p i made read answer partial h same is ok =
@@ -64,16 +63,3 @@ all-logs l p counts a e h = record {
   counted = λ n lt. h.counted n lt ∙ ap (λ q. so_far l q n) e ∙ sum-same l.partitions (λ q. table.plain (log_at l q) n) (λ q. plain (keys_of_log l q) (key_at l.keys n))
       (λ q below. ap (table.plain (log_at l q)) (sym (number-back l.keys n a.without_repeats lt)) ∙ sym (by_number l.keys (log_at l q) (key_at l.keys n) a.without_repeats (λ i within. (a.entries q i within).numbered)));
 }
-
--- in the logs of some records the counts are those of their keys
-pub counts-are : (records : List Keyed) (l : PartitionLogs) (counts : List ℕ) → IsValidLogs l → AreLogsOf records l → AreCountsByNumber l counts → counts ≡ counts_of (keys_in records)
-unfolding counts_of
-counts-are records l counts a h c =
-    let keys = keys_in records in
-    let numbers : l.keys ≡ distinct keys = h.numbers in
-    let long : length counts ≡ length (map (plain keys) (distinct keys)) = c.one_each ∙ ap length numbers ∙ sym (length-map (distinct keys) (plain keys)) in
-    same_lists counts (map (plain keys) (distinct keys)) long (λ n d lt.
-    let numbered : n < length l.keys = omega (arith, lt, c.one_each) in
-    let listed : n < length (distinct keys) = omega (arith, numbered, ap length numbers) in
-    get_or_default counts n d 0 lt ∙ c.counted n numbered ∙ in_one_log records l (key_at l.keys n) a h
-    ∙ ap (λ ks. plain keys (key_at ks n)) numbers ∙ sym (get_or-map (plain keys) (distinct keys) n [] d listed))

@@ -1,6 +1,1 @@
-pub mod Appended
 pub mod Counted
-pub mod Faulted
-pub mod Placed
-pub mod Taken
-pub mod Told

@@ -1,16 +1,17 @@
-//! The report of a plain count, from the bytes of a file to the bytes of its rows.
+//! A count, from a source to a sink.
 
-ghost use Rattle.std.specs.Prelude.{◌≡◌, ◌≤◌, ◌<◌, ◌+◌, ◌-◌, ◌^◌, ◌⊎◌, Err, Ok, IfOk, IfErr, IfSome, flat_map, vec_items};
-ghost use Rattle.lane_words.specs.declared.Refusal.TheVariants as refusal;
-ghost use Rattle.count_report.specs.CountReport.{report_of_count, report_of_records};
-ghost use Rattle.count_report.specs.Records.{AreOfTopics, partition_counts, records_in};
-ghost use Rattle.count_report.specs.Reports.{AreInRange, IsFaultOf, IsNoWrite, WritesAtEndAlone, WritesReport, failed_reads, failed_writes};
-ghost use Rattle.count_report.specs.Tally.{IsKeyFault};
+ghost use Rattle.std.specs.Prelude.{◌≡◌, ◌<◌, ◌+◌, ◌-◌, Ok, IfOk, IfErr, IfSome, flat_map, vec_items};
+ghost use Rattle.lane_words.specs.Answers.{Answers};
+ghost use Rattle.count_report.specs.CountReport.{report_of_count, report_of_records, texts_seen};
+ghost use Rattle.devices.specs.Devices.{CanStillFail};
+ghost use Rattle.ingest.specs.Records.{AreOfTopics, partition_counts, records_in};
+ghost use Rattle.ingest.specs.Reports.{AreInRange, IsFaultOf, IsNoWrite, WritesAtEndAlone, WritesReport, failed_reads, failed_writes};
+ghost use Rattle.ingest.specs.RecordFaults.{IsKeyFault};
 
-use crate::reading::{FileRecords, file_records};
-use crate::tally::{counts_after, logs_of};
+use crate::tally::counts_after;
 use command_line::Options;
 use devices::{Sink, Source, write_texts};
+use ingest::{FileRecords, file_records, logs_of};
 use lane_words::Refusal;
 use report_rows::count_rows::count_rows_texts;
 use std::alloc::Global;
@@ -18,7 +19,7 @@ use std::random::RandomSource;
 use std::thread;
 use std::thread::Threads;
 
-/// The text of the plain count of some records, in some texts one after another.
+/// The text of a count of these records, in texts to be written one after another.
 fn plain_report<R: Threads + Sync + RandomSource>(
     rt: &R,
     alloc: Global,
@@ -27,30 +28,28 @@ fn plain_report<R: Threads + Sync + RandomSource>(
 ) -> Result<Vec<Vec<u8>>, Refusal>
     requires options { AreInRange options.now }
     requires topics { AreOfTopics (partition_counts options.now) (records_in records) }
-    ensures text { IfOk result (λ texts.
-        report_of_records (partition_counts options.now) (records_in records)
-        ≡ Ok (flat_map vec_items texts.items)) }
+    ensures answer { Answers
+        (report_of_records (partition_counts options.now) (records_in records))
+        (texts_seen result) }
     ensures kind { IfErr result IsKeyFault }
-    ensures refused { IfErr result (λ e. (e ≡ refusal.Memory)
-        ⊎ (report_of_records (partition_counts options.now) (records_in records) ≡ Err e)) }
 {
     let logs = logs_of(rt, alloc, &records, options)?;
     let total = records.len() as u64;
-    // The logs have a copy of each key that the text needs.
+    // The records can go: the logs have a copy of each key.
     let counts = counts_after(rt, alloc, records, &logs)?;
     let texts = count_rows_texts(rt, alloc, &logs, counts.counts(), total, total)?;
     logs.let_go(rt);
     Ok(texts)
 }
 
-/// The text of the plain count of a file's records, in some texts one after another.
+/// The text of a count of a file, in texts to be written one after another.
 fn file_report<R: Threads + Sync + RandomSource, S: Source>(
     rt: &R,
     alloc: Global,
     file: &mut S,
     options: &Options,
 ) -> Result<Vec<Vec<u8>>, Refusal>
-    requires source { S.failures file.old < 2 ^ 64 - 1 }
+    requires source { CanStillFail (S.failures file.old) }
     requires options { AreInRange options.now }
     ensures text { IfOk result (λ texts. IfSome (S.left file.old)
         (λ bytes. report_of_count options.now bytes ≡ Ok (flat_map vec_items texts.items))) }
@@ -63,24 +62,28 @@ fn file_report<R: Threads + Sync + RandomSource, S: Source>(
     plain_report(rt, alloc, records, options)
 }
 
-/// Gives the memory of texts back, that of each on a thread of its own.
+/// Frees texts, each on a thread of its own.
 fn let_go<R: Threads + Sync>(rt: &R, texts: Vec<Vec<u8>>) {
-    // Where memory is refused, what is left goes with the list.
+    // If an allocation fails here, the rest is freed with the list.
     let _ = thread::map_vec(rt, texts, &|text: Vec<u8>| drop(text));
 }
 
-/// Counts how often each key occurs in a file of comma-separated records, and writes a row for each
-/// key, in the order of first appearance, and a row of the totals.
+/// Counts how often each key occurs in a CSV file, and writes a row for each key, in the order of
+/// first appearance, and a row of the totals.
 ///
-/// The file is read whole, its records are checked, and the text is made whole before the first
-/// write. So after any answer but `Ok` and `WriteFailed` nothing was written, and after
-/// `WriteFailed` a beginning of the text.
+/// The whole file is read and the whole text is made before the first write. So after `WriteFailed`
+/// a prefix of the text is written, and after any other refusal nothing.
 ///
-/// Refused: a read that failed (`ReadFailed`); the first record of another length than the first
-/// one (`BadCsv`), without a column that is read (`NoSuchColumn`) or, where there are topics, of
-/// none of them (`NoSuchTopic`); only where there is none, the first key that can't be appended
-/// (`KeyTooLong`, `LogFull`); a write that failed; want of memory, or of the random bytes for a
-/// hasher (`Memory`).
+/// # Errors
+///
+/// In this order:
+/// - `ReadFailed`: a read failed.
+/// - The first bad record: `BadCsv` if it has another number of fields than the first record,
+///   `NoSuchColumn` if it lacks a column, `NoSuchTopic` if its topic is none of those given.
+/// - The first record that can't be appended: `KeyTooLong`, `LogFull`.
+/// - `WriteFailed`: a write failed.
+///
+/// `Memory`, at any point: an allocation failed, or the system had no random bytes.
 pub fn count_text<R: Threads + Sync + RandomSource, S: Source, K: Sink>(
     rt: &R,
     alloc: Global,
@@ -88,8 +91,8 @@ pub fn count_text<R: Threads + Sync + RandomSource, S: Source, K: Sink>(
     options: &Options,
     out: &mut K,
 ) -> Result<(), Refusal>
-    requires source { S.failures file.old < 2 ^ 64 - 1 }
-    requires sink { K.failures out.old < 2 ^ 64 - 1 }
+    requires source { CanStillFail (S.failures file.old) }
+    requires sink { CanStillFail (K.failures out.old) }
     requires options { AreInRange options.now }
     ensures report { IfSome (S.left file.old) (λ bytes.
         WritesReport (report_of_count options.now bytes)

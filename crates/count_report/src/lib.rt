@@ -1,11 +1,18 @@
-//! The report of a count, and what the other reports share with it: the records of a file, and
-//! their logs.
+//! The report of a count, from the bytes of a file to the bytes of its rows.
+//!
+//! Promises:
+//! - `count_text` appends to the sink the report that the file's bytes and the options define: all
+//!   of it, a prefix of it after `WriteFailed`, and nothing after any other refusal. A fault is the
+//!   first one by that definition.
+//! - A failed read or write is reported only if the device failed during the call.
+//! - `counts_in_groups` and `counts_in_turn` return how often each key occurs in all logs together,
+//!   in parallel and on one thread; only an allocation can fail.
+//!
+//! Tests: `report_tests`.
 #![tactic(auto)]
 
 mod count;
-mod reading;
 mod tally;
 
 pub use count::count_text;
-pub use reading::{FileRecords, file_records, partition_counts};
-pub use tally::{counts_in_groups, counts_in_turn, logs_of};
+pub use tally::{counts_in_groups, counts_in_turn};

@@ -1,118 +1,27 @@
-//! Keys in logs, and how often each key is in them.
+//! How often each key occurs in logs.
 
-ghost use Rattle.std.specs.Prelude.{◌≡◌, ◌≤◌, ◌<◌, ◌+◌, ◌-◌, ◌⊎◌, [], ℕ, None, Some, IfOk, IfErr, OnOk, length, map, replicate, slice_index_or, vec_len};
+ghost use Rattle.std.specs.Prelude.{◌≡◌, ◌≤◌, ◌<◌, ◌+◌, ◌-◌, IfOk, OnOk, length, replicate, vec_len};
 ghost use Rattle.std.specs.Thread.{IsSync};
-ghost use Rattle.lane_words.specs.declared.Refusal.TheVariants as refusal;
-ghost use Rattle.partition_log.specs.Appends.{AreAppended, in_first, placed};
-ghost use Rattle.partition_log.specs.Logs.{IsValidLogs, AreLogsOf, log_at};
-ghost use Rattle.count_report.specs.CountReport.{first_fault};
-ghost use Rattle.count_report.specs.Private.Appending.{EndsAppends};
+ghost use Rattle.partition_log.specs.Logs.{IsValidLogs, log_at};
 ghost use Rattle.count_report.specs.Private.Counted.{AreCountsBelow, AreCountsFrom};
-ghost use Rattle.count_report.specs.Records.{AreOfTopics, partition_counts, record_of, records_in};
-ghost use Rattle.count_report.specs.Reports.{AreInRange};
-ghost use Rattle.count_report.specs.Tally.{AreCountsByNumber, IsKeyFault};
+ghost use Rattle.report_rows.specs.CountRows.{AreCountsByNumber};
 
-use crate::reading::{FileRecords, partition_counts};
-use command_line::Options;
-use key_file::{FileKeys, TopicKeys};
+use ingest::FileRecords;
 use keyed_table::{Partial, Table};
-use lane_words::{MOST_PARTITIONS, Memory, Refusal};
+use lane_words::{MOST_PARTITIONS, Memory};
 use partition_log::{LogRead, Logs};
 use std::alloc::Global;
-use std::random::RandomSource;
 use std::thread;
 use std::thread::Threads;
 
-/// How many records there are at least, so that threads are worth their start.
+/// The fewest records that are worth several threads.
 const LEAST_RECORDS: u64 = 4096;
 
-/// How many logs are counted at a time where it can't be told how many processors there are.
+/// The number of logs counted at a time if the number of processors is unknown.
 const GROUP: u32 = 8;
 
-/// The logs of the records of a file, appended one after the other.
-///
-/// Refused by the first record that can't be appended, and for want of memory or of the random
-/// bytes for a hasher.
-pub fn logs_of<R: Threads + Sync + RandomSource>(
-    rt: &R,
-    alloc: Global,
-    records: &FileRecords,
-    options: &Options,
-) -> Result<Logs, Refusal>
-    requires options { AreInRange options.now }
-    requires topics { AreOfTopics (partition_counts options.now) (records_in records.now) }
-    ensures logs { IfOk result (AreLogsOf (records_in records.now)) }
-    ensures counts { IfOk result (λ logs. logs.counts ≡ partition_counts options.now) }
-    ensures valid { IfOk result IsValidLogs }
-    ensures accepted { OnOk result
-        (first_fault (partition_counts options.now) [] (records_in records.now) ≡ None) }
-    ensures kind { IfErr result IsKeyFault }
-    ensures refused { IfErr result (λ e. (e ≡ refusal.Memory)
-        ⊎ (first_fault (partition_counts options.now) [] (records_in records.now) ≡ Some e)) }
-{
-    let counts = partition_counts(alloc, options)?;
-    let mut logs = Logs::with_topics(rt, alloc, counts.as_slice())?;
-    append_records(rt, alloc, &mut logs, records)?;
-    Ok(logs)
-}
-
-/// Appends the records of a file, one after the other.
-fn append_records<R: Threads + Sync>(
-    rt: &R,
-    alloc: Global,
-    logs: &mut Logs,
-    records: &FileRecords,
-) -> Result<(), Refusal>
-    requires valid { IsValidLogs logs.old }
-    requires topics { AreOfTopics logs.old.counts (records_in records.now) }
-    ensures ok { OnOk result
-        (AreAppended logs.old (placed logs.old (records_in records.now)) logs.new) }
-    ensures err { IfErr result (EndsAppends logs.old (records_in records.now) logs.new) }
-    ensures valid { IsValidLogs logs.new }
-{
-    match records {
-        FileRecords::Keys(keys) => append_keys(rt, logs, keys),
-        FileRecords::InTopics(keys) => append_topic_keys(rt, alloc, logs, keys),
-    }
-}
-
-/// Appends records of these keys to the first topic.
-fn append_keys<R: Threads + Sync>(rt: &R, logs: &mut Logs, keys: &FileKeys) -> Result<(), Refusal>
-    requires { IsValidLogs logs.old }
-    ensures ok { OnOk result
-        (AreAppended logs.old (placed logs.old (in_first keys.now)) logs.new) }
-    ensures err { IfErr result (EndsAppends logs.old (in_first keys.now) logs.new) }
-    ensures valid { IsValidLogs logs.new }
-{
-    match logs.append_lists(rt, keys.lists()) {
-        Ok(()) => Ok(()),
-        Err((_, why)) => Err(why),
-    }
-}
-
-/// Appends records of these keys, each to its topic.
-fn append_topic_keys<R: Threads + Sync>(
-    rt: &R,
-    alloc: Global,
-    logs: &mut Logs,
-    keys: &TopicKeys,
-) -> Result<(), Refusal>
-    requires valid { IsValidLogs logs.old }
-    requires topics { AreOfTopics logs.old.counts (map record_of keys.now) }
-    ensures ok { OnOk result
-        (AreAppended logs.old (placed logs.old (map record_of keys.now)) logs.new) }
-    ensures err { IfErr result (EndsAppends logs.old (map record_of keys.now) logs.new) }
-    ensures valid { IsValidLogs logs.new }
-{
-    let (topics, slices) = keys.topics_and_slices(alloc)?;
-    match logs.append_all_in(rt, topics.as_slice(), slices.as_slice()) {
-        Ok(()) => Ok(()),
-        Err((_, why)) => Err(why),
-    }
-}
-
-/// How often each key is in all logs together, by its number, once the records that the logs were made
-/// of are let go. Many records are counted on several threads.
+/// How often each key occurs in all logs together, by key number. Drops the records, and for long
+/// logs counts in parallel with that.
 pub fn counts_after<R: Threads + Sync>(
     rt: &R,
     alloc: Global,
@@ -137,7 +46,7 @@ pub fn counts_after<R: Threads + Sync>(
     counts
 }
 
-/// Whether logs are not worth the start of threads: there is one alone, or they have few records.
+/// Whether the logs are not worth several threads: there is only one, or they have few records.
 fn are_few<L: LogRead>(logs: &L) -> bool {
     let mut records: u64 = 0;
     for p in 0..logs.partitions() {
@@ -146,7 +55,7 @@ fn are_few<L: LogRead>(logs: &L) -> bool {
     logs.partitions() == 1 || records < LEAST_RECORDS
 }
 
-/// The counts of all logs, one log after the other.
+/// The counts of all logs, made on this thread.
 pub fn counts_in_turn<L: LogRead>(alloc: Global, logs: &L) -> Result<Table, Memory>
     requires { IsValidLogs (L.contents logs.now) }
     ensures { IfOk result (λ table. AreCountsByNumber (L.contents logs.now) table.counts) }
@@ -158,7 +67,7 @@ pub fn counts_in_turn<L: LogRead>(alloc: Global, logs: &L) -> Result<Table, Memo
     Ok(table)
 }
 
-/// The counts of all logs, a group of them at a time.
+/// The counts of all logs, made in parallel, a group of logs at a time.
 pub fn counts_in_groups<R: Threads + Sync, L: LogRead + Sync>(
     rt: &R,
     alloc: Global,
@@ -180,8 +89,7 @@ pub fn counts_in_groups<R: Threads + Sync, L: LogRead + Sync>(
     Ok(table)
 }
 
-/// A counter at 0 for each key, and side by side with that the counts of the logs below one. Either is
-/// refused for want of memory.
+/// A counter at 0 for each key, and in parallel the counts of each log below `to`.
 fn zeros_and_first_group<R: Threads + Sync, L: LogRead + Sync>(
     rt: &R,
     alloc: Global,
@@ -212,8 +120,8 @@ fn zeros_and_first_group<R: Threads + Sync, L: LogRead + Sync>(
     )
 }
 
-/// How many logs are counted at a time: two for each processor, so that a long one leaves none of
-/// them idle for long, while only so many partial counts stand at once.
+/// The number of logs counted at a time: two for each processor, so that a long log leaves none of
+/// them idle for long, and the partial counts in memory stay few.
 fn group_size(rt: &impl Threads) -> u32
     ensures { 1 ≤ result }
 {
@@ -223,7 +131,7 @@ fn group_size(rt: &impl Threads) -> u32
     }
 }
 
-/// Adds the counts of the logs from one on, below another, to those of the logs before.
+/// Adds the counts of the logs from `from` on, below `to`, to those of the logs before.
 fn add_group<R: Threads + Sync, L: LogRead + Sync>(
     rt: &R,
     alloc: Global,
@@ -241,7 +149,7 @@ fn add_group<R: Threads + Sync, L: LogRead + Sync>(
     merge_group(logs, from, to, &group, table)
 }
 
-/// Adds the counts of the logs from one on, below another, to those of the logs before.
+/// Adds the counts of the logs from `from` on, below `to`, to those of the logs before.
 fn merge_group<L: LogRead>(
     logs: &L,
     from: u32,
@@ -265,8 +173,7 @@ fn merge_group<L: LogRead>(
     Ok(())
 }
 
-/// How often each key is in each of the logs from one on, below another. Each is counted on a thread
-/// of its own.
+/// The counts of each log from `from` on, below `to`, each made on a thread of its own.
 fn group_counts<R: Threads + Sync, L: LogRead + Sync>(
     rt: &R,
     alloc: Global,
@@ -289,7 +196,7 @@ fn group_counts<R: Threads + Sync, L: LogRead + Sync>(
     Ok(group)
 }
 
-/// How often each key is in one log.
+/// How often each key occurs in one log.
 fn log_counts<L: LogRead>(alloc: Global, logs: &L, p: u32) -> Result<Partial, Memory>
     requires { p < (L.contents logs.now).partitions }
     ensures { IfOk result (λ partial. partial ≡ log_at (L.contents logs.now) p) }

@@ -1,9 +1,9 @@
-//! Where bytes come from and go to.
+//! The traits `Source` and `Sink`, their adapters over std, and whole reads and writes.
 
 ghost use Rattle.std.specs.Prelude.{◌≡◌, ◌≤◌, ◌<◌, ◌+◌, ◌-◌, ◌^◌, ℕ, List, Option, Err, Ok, true, IfOk, IfErr, OnOk, OnErr, IfSome, MatchResult, flat_map, length, is_ok, take, vec_items, if◌then◌else◌};
 ghost use Rattle.std.specs.Io.{ReadsAtMost, WritesAtMost};
 ghost use Rattle.std.specs.Io.KnownBytes.{ReadConsumes, WriteAppends, IsAtEnd, Appends, Consumes};
-ghost use Rattle.devices.specs.Devices.{AppendsBeginning, TellsRead};
+ghost use Rattle.devices.specs.Devices.{AppendsBeginning, CanStillFail, TellsRead};
 ghost use Rattle.lane_words.specs.declared.Refusal.TheVariants as refusal;
 
 use lane_words::Refusal;
@@ -12,64 +12,64 @@ use std::io::{Read, Write};
 use std::thread;
 use std::thread::Threads;
 
-/// A device failed in a read or a write.
+/// A read or a write failed.
 #[derive(Clone, Copy, Debug, PartialEq, Eq)]
 pub struct DeviceFailed;
 
-/// What bytes are read from. A caller asks no more of it once 2^64 - 1 reads have failed.
+/// A source of bytes. It must not be read again once 2^64 - 1 reads have failed.
 pub trait Source {
-    // The bytes that are left, where they are known.
+    // The bytes not read yet, if they are known.
     ghost left: { Self → Option (List ℕ) };
 
-    // How many reads have failed.
+    // The number of reads that have failed.
     ghost failures: { Self → ℕ };
 
-    /// About how many bytes are left, where that is known beforehand, and else 0. It decides how
-    /// memory is taken, and nothing else.
+    /// An estimate of the number of bytes left, or 0 if there is none. It decides how memory is
+    /// allocated and nothing else.
     fn expected(&self) -> usize {
         0
     }
 
-    /// Reads bytes into the front of `buf`, and tells how many: none only at the end, or where
-    /// `buf` has no room. A read that failed has taken nothing.
+    /// Reads bytes into the front of `buf` and returns their number, which is 0 only at the end or
+    /// for an empty `buf`. A failed read consumes nothing.
     fn read(&mut self, buf: &mut [u8]) -> Result<usize, DeviceFailed>
-        requires { failures self.old < 2 ^ 64 - 1 }
+        requires { CanStillFail (failures self.old) }
         ensures bound { ReadsAtMost result buf.new }
         ensures bytes { ReadConsumes (left self.old) (left self.new) result buf.new }
         ensures counted { failures self.new ≡ failures self.old + (if is_ok result then 0 else 1) };
 }
 
-/// What bytes are written to. A caller asks no more of it once 2^64 - 1 writes have failed.
+/// A sink of bytes. It must not be written to again once 2^64 - 1 writes have failed.
 pub trait Sink {
-    // The bytes that were written, where they are known.
+    // The bytes written so far, if they are known.
     ghost written: { Self → Option (List ℕ) };
 
-    // How many writes have failed.
+    // The number of writes that have failed.
     ghost failures: { Self → ℕ };
 
-    /// Writes a beginning of `bytes`, and tells how many bytes it took: at least one, where there
-    /// is one. A write that failed has written nothing.
+    /// Writes a prefix of `bytes` and returns its length, which is at least 1 unless `bytes` is
+    /// empty. A failed write writes nothing.
     fn write(&mut self, bytes: &[u8]) -> Result<usize, DeviceFailed>
-        requires { failures self.old < 2 ^ 64 - 1 }
+        requires { CanStillFail (failures self.old) }
         ensures bound { WritesAtMost result bytes.now }
         ensures some { IfOk result (λ n. 0 < length bytes.now → 0 < n) }
         ensures bytes { WriteAppends (written self.old) (written self.new) result bytes.now }
         ensures counted { failures self.new ≡ failures self.old + (if is_ok result then 0 else 1) };
 }
 
-/// A source over any reader of std. Whatever the error of a read, the read has failed.
+/// A source over any reader of std. Every error of the reader counts as a failed read.
 #[derive(Drop)]
 pub struct FromRead<R> {
-    /// What is read from.
+    /// The reader.
     reader: R,
-    /// About how many bytes it has.
+    /// The estimate of its length in bytes.
     expected: usize,
-    /// How many reads have failed.
+    /// The number of failed reads.
     failures: u64,
 }
 
 impl<R: Read> FromRead<R> {
-    /// A source of the bytes that the reader has left, with no failed read.
+    /// A source of the bytes left in the reader, with no estimate of their number.
     pub fn new(reader: R) -> FromRead<R>
         ensures left { ⟦<FromRead<R> as Source>⟧.left result ≡ R.remaining reader }
         ensures failures { ⟦<FromRead<R> as Source>⟧.failures result ≡ 0 }
@@ -77,7 +77,7 @@ impl<R: Read> FromRead<R> {
         FromRead::expecting(reader, 0)
     }
 
-    /// A source of the bytes that the reader has left, which are about so many, with no failed read.
+    /// A source of the bytes left in the reader, of which about `expected` are to come.
     pub fn expecting(reader: R, expected: usize) -> FromRead<R>
         ensures left { ⟦<FromRead<R> as Source>⟧.left result ≡ R.remaining reader }
         ensures failures { ⟦<FromRead<R> as Source>⟧.failures result ≡ 0 }
@@ -110,17 +110,18 @@ impl<R: Read> Source for FromRead<R> {
     }
 }
 
-/// A sink over any writer of std. A write that takes none of some bytes has failed.
+/// A sink over any writer of std. An error of the writer counts as a failed write, and so does a
+/// write that takes none of the bytes.
 #[derive(Drop)]
 pub struct FromWrite<W> {
-    /// What is written to.
+    /// The writer.
     writer: W,
-    /// How many writes have failed.
+    /// The number of failed writes.
     failures: u64,
 }
 
 impl<W: Write> FromWrite<W> {
-    /// A sink that writes on after what the writer holds, with no failed write.
+    /// A sink that appends to what the writer holds.
     pub fn new(writer: W) -> FromWrite<W>
         ensures written { ⟦<FromWrite<W> as Sink>⟧.written result ≡ W.contents writer }
         ensures failures { ⟦<FromWrite<W> as Sink>⟧.failures result ≡ 0 }
@@ -148,17 +149,17 @@ impl<W: Write> Sink for FromWrite<W> {
     }
 }
 
-/// How many bytes one read asks for.
+/// The number of bytes that one read asks for.
 const PIECE: usize = 256 * 1024;
 
-/// Reads a source to its end, through a buffer.
+/// Reads a source to its end through a buffer.
 fn read_through<S: Source>(
     alloc: Global,
     source: &mut S,
     piece: &mut [u8],
 ) -> Result<Vec<u8>, Refusal>
     requires room { 0 < length piece.old }
-    requires failures { S.failures source.old < 2 ^ 64 - 1 }
+    requires failures { CanStillFail (S.failures source.old) }
     ensures whole { IfOk result (λ all. IfSome (S.left source.old) (λ bytes. all.items ≡ bytes)) }
     ensures end { OnOk result (IsAtEnd (S.left source.new)) }
     ensures quiet { OnOk result (S.failures source.new ≡ S.failures source.old) }
@@ -181,9 +182,11 @@ fn read_through<S: Source>(
 
 /// Reads a source to its end.
 ///
-/// Refused with `ReadFailed` where a read failed, and with `Memory` where a growth was refused.
+/// # Errors
+///
+/// `ReadFailed` if a read failed, `Memory` if an allocation failed.
 pub fn read_all<S: Source>(alloc: Global, source: &mut S) -> Result<Vec<u8>, Refusal>
-    requires { S.failures source.old < 2 ^ 64 - 1 }
+    requires { CanStillFail (S.failures source.old) }
     ensures whole { IfOk result (λ all. IfSome (S.left source.old) (λ bytes. all.items ≡ bytes)) }
     ensures end { OnOk result (IsAtEnd (S.left source.new)) }
     ensures quiet { OnOk result (S.failures source.new ≡ S.failures source.old) }
@@ -195,9 +198,9 @@ pub fn read_all<S: Source>(alloc: Global, source: &mut S) -> Result<Vec<u8>, Ref
     read_through(alloc, source, piece.as_mut_slice())
 }
 
-/// Reads into a room until it is full or the source is at its end, and tells how many bytes came.
+/// Reads until the buffer is full or the source is at its end. Returns the number of bytes read.
 fn fill<S: Source>(source: &mut S, room: &mut [u8]) -> Result<usize, Refusal>
-    requires { S.failures source.old < 2 ^ 64 - 1 }
+    requires { CanStillFail (S.failures source.old) }
     ensures range { IfOk result (λ n. n ≤ length room.new) }
     ensures bytes { IfOk result
         (λ n. Consumes (S.left source.old) (S.left source.new) (take n room.new)) }
@@ -218,16 +221,16 @@ fn fill<S: Source>(source: &mut S, room: &mut [u8]) -> Result<usize, Refusal>
     Ok(filled)
 }
 
-/// A room of zeros. It has memory for as much again, as a vector takes that grows: so it stays where
-/// it is when a few bytes are put behind it, and a large one is given back to the system at once.
+/// A buffer of `size` zeros with capacity for as many bytes again. So it is not moved when a few
+/// bytes are appended, and the system gets the pages of a large one back at once when it is freed.
 fn room_of(alloc: Global, size: usize) -> Result<Vec<u8>, AllocError> {
     let mut room = Vec::with_capacity(alloc, size.saturating_mul(2))?;
     room.resize(size, 0)?;
     Ok(room)
 }
 
-/// Rooms of this size, each made by a thread of its own: what takes long is that the system gives
-/// their pages.
+/// Buffers of this size, each made on a thread of its own: most of the time goes into the page
+/// faults.
 fn rooms<R: Threads + Sync>(
     rt: &R,
     alloc: Global,
@@ -237,14 +240,14 @@ fn rooms<R: Threads + Sync>(
     thread::map_indices(rt, alloc, count, &|_| room_of(alloc, size))
 }
 
-/// Reads a source through rooms into blocks, up to its end or until all of them are full, and tells
-/// whether it came to the end.
+/// Reads into the buffers, one after another, until the source is at its end or all of them are
+/// full. Returns the blocks read and whether the end was reached.
 fn read_rooms<S: Source>(
     alloc: Global,
     source: &mut S,
     rooms: Vec<Result<Vec<u8>, AllocError>>,
 ) -> Result<(Vec<Vec<u8>>, bool), Refusal>
-    requires { S.failures source.old < 2 ^ 64 - 1 }
+    requires { CanStillFail (S.failures source.old) }
     ensures bytes { IfOk result (λ r.
         Consumes (S.left source.old) (S.left source.new) (flat_map vec_items r.0.items)) }
     ensures end { IfOk result (λ r. r.1 ≡ true → IsAtEnd (S.left source.new)) }
@@ -269,17 +272,19 @@ fn read_rooms<S: Source>(
     Ok((blocks, false))
 }
 
-/// Reads a source to its end, into blocks that follow one another: into so many of about the same
-/// size where more than one is asked for, as the source expects, and what is left into one more.
+/// Reads a source to its end into consecutive blocks. If `count` is more than 1, the first `count`
+/// blocks share the length that the source expects, and one more block takes the rest.
 ///
-/// Refused as `read_all` is.
+/// # Errors
+///
+/// As for `read_all`.
 pub fn read_blocks<R: Threads + Sync, S: Source>(
     rt: &R,
     alloc: Global,
     source: &mut S,
     count: usize,
 ) -> Result<Vec<Vec<u8>>, Refusal>
-    requires { S.failures source.old < 2 ^ 64 - 1 }
+    requires { CanStillFail (S.failures source.old) }
     ensures whole { IfOk result (λ blocks. IfSome (S.left source.old)
         (λ bytes. flat_map vec_items blocks.items ≡ bytes)) }
     ensures end { OnOk result (IsAtEnd (S.left source.new)) }
@@ -300,11 +305,13 @@ pub fn read_blocks<R: Threads + Sync, S: Source>(
     Ok(blocks)
 }
 
-/// Writes all bytes, in as many pieces as the sink takes.
+/// Writes all bytes, in as many writes as the sink takes.
 ///
-/// Refused with `WriteFailed` where a write failed: then a beginning of the bytes is written.
+/// # Errors
+///
+/// `WriteFailed` if a write failed; a prefix of the bytes is then written.
 pub fn write_all<K: Sink>(sink: &mut K, bytes: &[u8]) -> Result<(), Refusal>
-    requires { K.failures sink.old < 2 ^ 64 - 1 }
+    requires { CanStillFail (K.failures sink.old) }
     ensures all { OnOk result (Appends (K.written sink.old) (K.written sink.new) bytes.now) }
     ensures quiet { OnOk result (K.failures sink.new ≡ K.failures sink.old) }
     ensures kind { IfErr result (λ e. e ≡ refusal.WriteFailed) }
@@ -322,11 +329,13 @@ pub fn write_all<K: Sink>(sink: &mut K, bytes: &[u8]) -> Result<(), Refusal>
     Ok(())
 }
 
-/// Writes some texts, one after another, so that nobody has to join them first.
+/// Writes texts one after another, so that the caller need not concatenate them.
 ///
-/// Refused with `WriteFailed` where a write failed: then a beginning of all texts is written.
+/// # Errors
+///
+/// `WriteFailed` if a write failed; a prefix of the concatenation is then written.
 pub fn write_texts<K: Sink>(sink: &mut K, texts: &[Vec<u8>]) -> Result<(), Refusal>
-    requires { K.failures sink.old < 2 ^ 64 - 1 }
+    requires { CanStillFail (K.failures sink.old) }
     ensures all { OnOk result
         (Appends (K.written sink.old) (K.written sink.new) (flat_map vec_items texts.now)) }
     ensures quiet { OnOk result (K.failures sink.new ≡ K.failures sink.old) }

@@ -1,10 +1,16 @@
-//! Where bytes come from and go to, and how a fault is told.
+//! Byte sources and sinks: the boundary between the reports and the system.
+//!
+//! Promises:
+//! - `read_all` returns every byte that the source has left, `read_blocks` the same bytes in
+//!   consecutive blocks, and `write_all` and `write_texts` append exactly the bytes given.
+//! - An error names the device call that failed. `ReadFailed` and `WriteFailed` come only if the
+//!   device counted one failure during the call; after `WriteFailed` a prefix is written.
+//!
+//! Tests: `report_tests`, with devices that transfer a few bytes at a time and fail in mid-stream.
 #![tactic(auto)]
 
 mod device;
-mod faults;
 
 pub use device::{
     DeviceFailed, FromRead, FromWrite, Sink, Source, read_all, read_blocks, write_all, write_texts,
 };
-pub use faults::{fault_line, status};

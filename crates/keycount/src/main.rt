@@ -1,5 +1,11 @@
-//! `keycount`: counts the keys of a file of comma-separated records, replays a script over them, or
-//! runs a plan over them by a thread for each member.
+//! `keycount`: counts the keys of a CSV file, replays a script over them, or runs a plan over them
+//! with a thread for each member.
+//!
+//! The program opens the files, lends the runtime's devices and threads to a call of `report_cli`,
+//! and prints the line of a fault. All that it reads and writes is a promise of `report_cli`.
+//!
+//! Tests: the example in `data`, `stdin` and `stdout`, `report_tests` for the calls, and the
+//! black-box tests for the program.
 #![tactic(auto)]
 
 ghost use Rattle.report_cli.specs.Reports.{AreInRange};
@@ -19,7 +25,7 @@ use std::sync::Wait;
 use std::thread::Threads;
 use workers::{Gate, GateAnswer};
 
-/// What is told where FILE and SCRIPT are both `-`.
+/// The error if FILE and SCRIPT are both `-`.
 const TWICE: &str = "error: only one of FILE and SCRIPT can be standard input\n";
 
 /// Opens the file at this path.
@@ -30,14 +36,16 @@ fn opened(rt: &HostRuntime, path: &str) -> Result<File, Refusal> {
     Ok(file)
 }
 
-/// What FILE is read from, and about how many bytes it has, where that is known.
+/// What FILE is read from.
 #[derive(Drop)]
 struct Input<F> {
+    /// The reader.
     reader: F,
+    /// An estimate of its length in bytes, or 0 if there is none.
     expected: usize,
 }
 
-/// The file at this path, of which as many bytes are expected as the system tells.
+/// The file at this path, with its size as the estimate.
 fn input_at(rt: &HostRuntime, path: &str) -> Result<Input<File>, Refusal> {
     let reader = opened(rt, path)?;
     let expected = match reader.metadata() {
@@ -47,7 +55,7 @@ fn input_at(rt: &HostRuntime, path: &str) -> Result<Input<File>, Refusal> {
     Ok(Input { reader, expected })
 }
 
-/// An input of which nothing is known beforehand.
+/// An input of unknown size.
 fn stream<F: Read + Drop>(reader: F) -> Input<F> {
     Input {
         reader,
@@ -55,7 +63,7 @@ fn stream<F: Read + Drop>(reader: F) -> Input<F> {
     }
 }
 
-/// Counts the keys of a file, and prints the rows.
+/// Counts the keys of a file and prints the rows.
 fn count<R: Threads + Sync + RandomSource, F: Read + Drop>(
     rt: &HostRuntime,
     threads: &R,
@@ -69,7 +77,7 @@ fn count<R: Threads + Sync + RandomSource, F: Read + Drop>(
     count_text(threads, rt.alloc(), &mut source, options, &mut sink)
 }
 
-/// Counts the keys of the file at this path. The path `-` is standard input.
+/// Counts the keys of the file at this path, or of standard input if the path is `-`.
 fn count_file<R: Threads + Sync + RandomSource>(
     rt: &HostRuntime,
     threads: &R,
@@ -84,7 +92,7 @@ fn count_file<R: Threads + Sync + RandomSource>(
     }
 }
 
-/// Replays a script over the keys of a file, and prints the rows.
+/// Replays a script over the keys of a file and prints the rows.
 fn replay<R: Threads + Sync + RandomSource, F: Read + Drop, S: Read + Drop>(
     rt: &HostRuntime,
     threads: &R,
@@ -108,7 +116,7 @@ fn replay<R: Threads + Sync + RandomSource, F: Read + Drop, S: Read + Drop>(
 }
 
 /// Replays the script at one path over the keys of the file at another. Both are opened before
-/// either is read. The path `-` is standard input, of one of the two.
+/// either is read. One of the paths can be `-`, which stands for standard input.
 fn replay_files<R: Threads + Sync + RandomSource>(
     rt: &HostRuntime,
     threads: &R,
@@ -137,7 +145,7 @@ fn replay_files<R: Threads + Sync + RandomSource>(
     }
 }
 
-/// Lets each worker commit whenever it wants.
+/// A gate that lets every worker commit at once.
 struct OpenGate;
 
 impl Gate for OpenGate {
@@ -146,7 +154,7 @@ impl Gate for OpenGate {
     }
 }
 
-/// Runs a plan over the keys of a file, and prints the rows.
+/// Runs a plan over the keys of a file and prints the rows.
 fn run<R: Threads + Wait + RandomSource + Sync, F: Read + Drop, S: Read + Drop>(
     rt: &HostRuntime,
     threads: &R,
@@ -170,7 +178,7 @@ fn run<R: Threads + Wait + RandomSource + Sync, F: Read + Drop, S: Read + Drop>(
     )
 }
 
-/// Runs the plan at one path over the keys of the file at another. The paths are as of a replay.
+/// Runs the plan at one path over the keys of the file at another, with paths as for a replay.
 fn run_files<R: Threads + Wait + RandomSource + Sync>(
     rt: &HostRuntime,
     threads: &R,
@@ -199,14 +207,14 @@ fn run_files<R: Threads + Wait + RandomSource + Sync>(
     }
 }
 
-/// Tells a fault on standard error, and gives its exit status.
+/// Prints the line of a fault on standard error and returns its exit status.
 fn told(rt: &HostRuntime, fault: &Refusal) -> ExitCode {
-    // Where standard error fails too, the status still tells.
+    // If standard error fails too, there is still the status.
     let _ = fault_line(fault, &mut FromWrite::new(rt.stderr()));
     ExitCode::from(status(fault))
 }
 
-/// The status of a job that was done or refused.
+/// The exit status of a job. A fault is printed.
 fn ended(rt: &HostRuntime, answer: Result<(), Refusal>) -> ExitCode {
     match answer {
         Ok(()) => ExitCode::SUCCESS,
@@ -214,13 +222,14 @@ fn ended(rt: &HostRuntime, answer: Result<(), Refusal>) -> ExitCode {
     }
 }
 
-/// Tells on standard error what is wrong with the words.
+/// Prints on standard error what is wrong with the arguments.
 fn refused_words(rt: &HostRuntime, text: &str) -> ExitCode {
     let _ = eprint!(rt; "{text}");
     ExitCode::from(2)
 }
 
-/// Does what the words say. The threads are the runtime's, which only `main` can lend.
+/// Does the job that the arguments ask for. The threads are the runtime's, which only `main` can
+/// lend.
 fn act<R: Threads + Wait + RandomSource + Sync>(
     rt: &HostRuntime,
     threads: &R,
@@ -253,7 +262,7 @@ fn act<R: Threads + Wait + RandomSource + Sync>(
     }
 }
 
-/// The words of a command line, each as text.
+/// The arguments as string slices.
 fn texts_of<'a>(rt: &HostRuntime, owned: &'a [String]) -> Result<Vec<&'a str>, AllocError> {
     let mut words = Vec::with_capacity(rt.alloc(), owned.len())?;
     for word in owned {

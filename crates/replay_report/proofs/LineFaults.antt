@@ -10,8 +10,8 @@ use Rattle.script.specs.Replay.{answer_of, is_bad, lines_seen, read_answer_in, s
 use Rattle.script.specs.Grammar.{lines_from}
 use Rattle.script.specs.declared.replay.Line.{Line}
 use Rattle.script.specs.declared.topics.Topic.{Topic}
-use Rattle.count_report.specs.Reports.{failed_reads}
-use Rattle.count_report.proofs.Told.{IsLineFault, TellsLines}
+use Rattle.ingest.specs.Reports.{failed_reads}
+use Rattle.ingest.proofs.Told.{IsLineFault, TellsLines}
 
 bad_line : (bad : Option (ℕ × List ℕ)) (lines : List Line) (e : Refusal) → option_map_or (λ b. Err (r.BadLine b.0)) bad (Ok lines) ≡ Err e → IsLineFault e
 bad_line None lines e h = absurd (cc h)
@@ -21,7 +21,7 @@ pub lines_tell : (topics : List Topic) → TellsLines (read_answer_in topics)
 unfolding answer_of
 lines_tell topics bytes e h = bad_line (find (λ line. is_bad topics line.1) (lines_from 1 bytes)) (filter_map (said topics) (lines_from 1 bytes)) e h
 
--- what is said of the lines that were read is said of the answer
+-- what holds of the lines read holds of the answer
 pub lines_err : (P : Refusal → Type 0) (result : Result (Vec Line Global) Refusal) → IfErr (lines_seen result) P → IfErr result P
 lines_err P (Ok lines) h = tt
 lines_err P (Err e) h = h

@@ -1,4 +1,4 @@
--- The text of lines, line by line.
+-- The text of a script's lines, line by line.
 use Rattle.std.proofs.Common.{◌≡◌, ◌≢◌, ◌∙◌, ◌+◌, ◌<◌, ◌≤◌, ℕ, suc, List, [], ◌∷◌, ◌++◌, Ok, Err, Result, add-one, append_assoc, drop, drop-cons, get_or, inl, inr, length, sym, ap, refl, subst}
 use Rattle.std.specs.Prelude.{◌⊎◌}
 use Rattle.std.proofs.lemmas.List.{drop_all}
@@ -9,7 +9,7 @@ use Rattle.script.specs.declared.topics.Topic.{Topic}
 use Rattle.world.specs.World.{WorldState}
 use Rattle.replay_report.specs.ReplayReport.{LineOutcome, outcome_of_line, rows_of_answer, rows_of_line, text_before, text_of_lines, unless_over}
 use Rattle.group_machine.specs.Cluster.{ClusterState}
-use Rattle.replay_rows.specs.ReplayRows.{closing_rows, move_rows}
+use Rattle.report_rows.specs.ReplayRows.{closing_rows, move_rows}
 use Rattle.replay_report.specs.Private.Replay.{GoesOn, IsOver, WritesText}
 
 goes_on : (answer : Result (Unit {0}) Refusal) (text : Result (List ℕ) Refusal) → answer ≢ Err r.GenerationsOver → unless_over answer text ≡ text
@@ -21,13 +21,13 @@ pub text_of_lines-nil : (topics : List Topic) (batch : ℕ) (w : WorldState) →
 unfolding text_of_lines
 text_of_lines-nil topics batch w = refl
 
--- a line that goes on
+-- a line that does not end the replay
 pub text_of_lines-next : (topics : List Topic) (batch : ℕ) (w : WorldState) (line : Line) (lines : List Line) → (outcome_of_line batch w line.action).answer ≢ Err r.GenerationsOver
     → text_of_lines topics batch w (line ∷ lines) ≡ text_before (rows_of_line topics line.number w (outcome_of_line batch w line.action)) (text_of_lines topics batch (outcome_of_line batch w line.action).after lines)
 unfolding text_of_lines
 text_of_lines-next topics batch w line lines h = goes_on _ _ h
 
--- a line that ends all
+-- a line that ends the replay
 pub text_of_lines-over : (topics : List Topic) (batch : ℕ) (w : WorldState) (line : Line) (lines : List Line) → (outcome_of_line batch w line.action).answer ≡ Err r.GenerationsOver → text_of_lines topics batch w (line ∷ lines) ≡ Err r.GenerationsOver
 unfolding text_of_lines
 text_of_lines-over topics batch w line lines h = rw h refl
@@ -45,7 +45,7 @@ written Written text now more (Ok rest) e h = let same : now ++ more ≡ text ++
 written Written text now more (Err fault) e h = absurd (cc e)
 
 -- ---- one line
--- the moves and the refusal that were written are the rows of the line
+-- the moves and the refusal written are the rows of the line
 pub rows_written : (topics : List Topic) (Written : List ℕ → Type 0) (text rows : List ℕ) (line from : ℕ) (w w2 : WorldState) (s : ClusterState) (outcome : LineOutcome) (answer : Result (Unit {0}) Refusal) → GoesOn outcome answer w2 → s ≡ w2.cluster
     → from ≡ length w.cluster.group.moves → rows ≡ rows_of_answer line answer → Written ((text ++ move_rows topics s.group (drop from s.group.moves)) ++ rows) → Written (text ++ rows_of_line topics line w outcome)
 unfolding rows_of_line
@@ -57,11 +57,11 @@ rows_written topics Written text rows line from w w2 s outcome answer goes s_is 
     ∙ ap (λ n. text ++ (move_rows topics outcome.after.cluster.group (drop n outcome.after.cluster.group.moves) ++ rows)) from_is
     ∙ ap (λ rs. text ++ (move_rows topics outcome.after.cluster.group (drop (length w.cluster.group.moves) outcome.after.cluster.group.moves) ++ rs)) told) h
 
--- ---- a line of many
+-- ---- one of many lines
 next_line : (lines : List Line) (i : ℕ) (line : Line) → i < length lines → line ≡ get_or lines i line → drop i lines ≡ line ∷ drop (i + 1) lines
 next_line lines i line lt is = drop-cons lines i line lt ∙ ap (λ x. x ∷ drop (suc i) lines) (sym is) ∙ rw add-one refl
 
--- the rows of the next line stand before the text of the rest
+-- the rows of the next line come before the text of the rest
 pub lines_step : (topics : List Topic) (batch : ℕ) (w w2 : WorldState) (lines : List Line) (i : ℕ) (line : Line) → i < length lines → line ≡ get_or lines i line → (outcome_of_line batch w line.action).answer ≢ Err r.GenerationsOver
     → w2 ≡ (outcome_of_line batch w line.action).after
     → text_of_lines topics batch w (drop i lines) ≡ text_before (rows_of_line topics line.number w (outcome_of_line batch w line.action)) (text_of_lines topics batch w2 (drop (i + 1) lines))

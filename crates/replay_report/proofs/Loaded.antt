@@ -1,4 +1,4 @@
--- A load of records, and the first of them that can't be appended.
+-- A load of records, and the first record that can't be appended.
 use Rattle.std.proofs.Common.{◌≡◌, ◌∙◌, ◌<◌, ℕ, suc, zero, List, [], ◌∷◌, ◌++◌, append_assoc, sym, ap, refl, inl, inr, subst}
 use Rattle.std.specs.Prelude.{◌⊎◌, Some, None, Result, Ok, Err, IsOk, take, drop, length, zip}
 use Rattle.std.specs.Borrow.{Bor}
@@ -20,21 +20,20 @@ use Rattle.world.specs.Valid.{IsValidWorld}
 use Rattle.world.specs.World.{WorldState}
 use Rattle.world.proofs.Events.{valid_after}
 use Rattle.world.proofs.Runs.{history_after}
-use Rattle.count_report.specs.CountReport.{first_fault, record_fault}
-use Rattle.count_report.specs.Records.{AreOfTopics}
-use Rattle.count_report.specs.Tally.{IsKeyFault}
+use Rattle.ingest.specs.RecordFaults.{first_fault, record_fault, IsKeyFault}
+use Rattle.ingest.specs.Records.{AreOfTopics}
 use Rattle.replay_report.specs.Private.Loading.{AreAppendsOf, IsAppendOf, LoadsRecords}
 use Rattle.replay_report.specs.ReplayReport.{loaded}
-use Rattle.count_report.proofs.Faulted.{first_fault-later, first_fault-nil, first_fault-now, record_fault-kind, refused, taken}
+use Rattle.ingest.proofs.Faulted.{first_fault-later, first_fault-nil, first_fault-now, record_fault-kind, refused, taken}
 
 -- ---- one record
--- what a step that appended a record tells
+-- the facts of a step that appended a record
 record IsAppended (w : WorldState) (keyed : Keyed) (w2 : WorldState) : Type 0 where
   pub accepted : IsOk (append_answer w.cluster.logs keyed)
   pub after : w2 ≡ (append_event w keyed).after
   pub counts : w2.cluster.logs.counts ≡ w.cluster.logs.counts
 
--- an append to a topic that there is
+-- an append to an existing topic
 in_topic : (w : WorldState) (keyed : Keyed) → IsOfTopic w.cluster.logs keyed → append_in_event w keyed ≡ append_event w keyed
 in_topic w keyed topic = rw (lt-ltb keyed.0 (length w.cluster.logs.counts) topic) refl
 
@@ -57,7 +56,7 @@ appended_step w keyed p offset w2 (inl comes) = go (append_answer w.cluster.logs
       counts = ap (λ (x : WorldState). x.cluster.logs.counts) c.1;
     }
 
--- a refused append tells the fault of the record, or that memory was refused
+-- a refused append has the record's fault, or an allocation failed
 refused_step : (w : WorldState) (keyed : Keyed) (why : Refusal) → MayCome w (append_event w keyed) (reply.Refused why) w → (why ≡ r.Memory) ⊎ (append_answer w.cluster.logs keyed ≡ Err why)
 refused_step w keyed why (inr comes) = inl (cc comes.0)
 refused_step w keyed why (inl comes) = go (append_answer w.cluster.logs keyed) refl comes
@@ -72,9 +71,9 @@ appends-one (event.Append key) keyed p offset is = ap (λ (k : Keyed). k ∷ [])
 appends-one (event.AppendIn t key) keyed p offset is = ap (λ (k : Keyed). k ∷ []) (sym is)
 appends-one e keyed p offset is = absurd is
 
--- ---- records, one after the other
--- where records were appended to the logs of others, what is known of the world after them: any records
--- after these have the fault that they have after all
+-- ---- records in order
+-- the facts after these records were appended to the logs of others in a world. The fault of any
+-- further records is the same as after all of them.
 pub record IsLoaded (counts : List ℕ) (before : List Keyed) (w : WorldState) (records : List Keyed) (w2 : WorldState) : Type 0 where
   pub after : w2 ≡ loaded w records
   pub valid : IsValidWorld w2
@@ -90,7 +89,7 @@ loaded-cons : (w : WorldState) (keyed : Keyed) (records : List Keyed) → loaded
 unfolding loaded
 loaded-cons w keyed records = refl
 
--- a record of a topic of worlds that have as many
+-- a record of one of these topics is of a topic of the world
 of-topic : (counts : List ℕ) (w : WorldState) (keyed : Keyed) → w.cluster.logs.counts ≡ counts → keyed.0 < length counts → IsOfTopic w.cluster.logs keyed
 of-topic counts w keyed same lt = subst (λ (cs : List ℕ). keyed.0 < length cs) (sym same) lt
 
@@ -178,7 +177,7 @@ load_stopped-at counts w events records n why w2 v h same are topics done (inl s
     go whole faults (inl e) = inl e
     go whole faults (inr e) = inr (ap (first_fault counts []) (sym whole) ∙ faults ∙ e)
 
--- a record was refused, or memory was
+-- a record was refused, or an allocation failed
 pub load_stopped : (counts : List ℕ) (w : WorldState) (records : List Keyed) (why : Refusal) (w2 : WorldState) → IsValidWorld w → AreLogsOf [] w.cluster.logs → w.cluster.logs.counts ≡ counts → AreOfTopics counts records
     → LoadsRecords w records (Err why) w2 → IsKeyFault why × ((why ≡ r.Memory) ⊎ (first_fault counts [] records ≡ Some why))
 load_stopped counts w records why w2 v h same topics (inl m) = (subst IsKeyFault (sym m) tt, inl m)

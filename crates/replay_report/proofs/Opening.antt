@@ -5,7 +5,7 @@ use Rattle.std.specs.List.{sum}
 use Rattle.std.proofs.lemmas.List.{get_or-replicate, get_or_default, length-map, length-replicate, nil_from_length, same_lists}
 use Rattle.partition_log.specs.Keys.{distinct, key_at}
 use Rattle.partition_log.specs.Logs.{IsValidLogs, AreLogsOf, PartitionLogs, log_at}
-use Rattle.count_report.proofs.Placed.{partitions-are}
+use Rattle.ingest.proofs.Placed.{partitions-are}
 use Rattle.commit_store.specs.Commits.{Commits, committed_at}
 use Rattle.group_machine.specs.Cluster.{ClusterState}
 use Rattle.group_machine.specs.State.{GroupState, opening}
@@ -14,7 +14,7 @@ use Rattle.world.specs.Valid.{IsValidWorld}
 use Rattle.world.specs.World.{WorldState}
 use Rattle.replay_report.specs.ReplayReport.{opening_world}
 
--- a list of which each item is known
+-- a list of equal items
 all_alike : {X : Type 0} (xs : List X) (n : ℕ) (x d : X) → length xs ≡ n → ((i : ℕ) → i < n → slice_index_or xs i d ≡ x) → xs ≡ replicate n x
 all_alike xs n x d long each =
     same_lists xs (replicate n x) (long ∙ sym (length-replicate n x)) (λ i e lt.
@@ -57,7 +57,7 @@ cluster_opening counts s group logs store =
     ∙ ap (λ l. let r : ClusterState = record { group = opening (sum counts); logs = l; store = s.store } in r) logs
     ∙ ap (λ x. let r : ClusterState = record { group = opening (sum counts); logs = empty_logs counts; store = x } in r) store
 
--- there is one world of these topics in which nothing has happened
+-- there is only one new world with these topics
 pub opening_is : (counts : List ℕ) (w : WorldState) → IsOpening (sum counts) w → w.cluster.logs.counts ≡ counts → ((p : ℕ) → committed_at w.cluster.store p ≡ 0) → IsValidWorld w → w.cluster.store.room ≡ 0 → w ≡ opening_world counts
 unfolding opening_world
 opening_is counts w o same offsets v room =
@@ -69,7 +69,7 @@ opening_is counts w o same offsets v room =
     ∙ ap (λ cs. let r : WorldState = record { cluster = (opening_world counts).cluster; consumers = cs; mail = w.mail } in r) o.consumers
     ∙ ap (λ m. let r : WorldState = record { cluster = (opening_world counts).cluster; consumers = []; mail = m } in r) o.mail
 
--- no record is in its logs
+-- its logs have no record
 pub opening_logs : (counts : List ℕ) → AreLogsOf [] (opening_world counts).cluster.logs
 unfolding opening_world distinct
 opening_logs counts = record {

@@ -18,13 +18,13 @@ use Rattle.script.specs.declared.action.Action.TheVariants.{Append, AppendIn, Jo
 use Rattle.script.specs.declared.replay.Line.{Line}
 use Rattle.script.specs.declared.topics.Topic.{Topic}
 use Rattle.command_line.specs.declared.options.Options.{Options}
-use Rattle.count_report.specs.CountReport.{first_fault}
-use Rattle.count_report.specs.Records.{partition_counts, records_of}
-use Rattle.replay_rows.specs.ReplayRows.{closing_rows, move_rows, refused_row}
-use Rattle.count_report.specs.Reports.{report_of_read}
+use Rattle.ingest.specs.RecordFaults.{first_fault}
+use Rattle.ingest.specs.Records.{partition_counts, records_of}
+use Rattle.report_rows.specs.ReplayRows.{closing_rows, move_rows, refused_row}
+use Rattle.ingest.specs.Reports.{report_of_read}
 
 -- ---- the world before the first line
--- nothing has happened in it, and its topics have so many partitions each
+-- a new world whose topics have these numbers of partitions
 unfoldable pub opening_world : List ℕ → WorldState
 opening_world counts = record {
   cluster = record {
@@ -41,12 +41,12 @@ opening_world counts = record {
   mail = [];
 }
 
--- these records were appended, one after the other
+-- a world with these records appended in order
 unfoldable pub loaded : WorldState → List Keyed → WorldState
 loaded w records = fold (λ so_far keyed. (append_event so_far keyed).after) w records
 
 -- ---- one line
--- what comes of a line: its answer, and the world after it
+-- the outcome of a line: its answer, and the world after it
 pub record LineOutcome : Type 0 where
   pub answer : Result (Unit {0}) Refusal
   pub after : WorldState
@@ -57,12 +57,11 @@ outcome_of_event outcome = record { answer = answer_in outcome.reply; after = ou
 abbrev pub outcome_of_course : Course → LineOutcome
 outcome_of_course course = record { answer = course.answer; after = course.after }
 
--- the number that a name stands for; 0, which is nobody's, where it stands for none
+-- the number of the member of this name, or 0, which is no member's number
 abbrev pub number_named : GroupState → List ℕ → ℕ
 number_named g name = unwrap_or (member_named g name) 0
 
--- what comes of what a line says, where there is memory for it: a poll of a drain takes at most
--- `batch` records, and a member is told by its name
+-- the outcome of a line if no allocation fails. A poll of a drain takes at most `batch` records.
 unfoldable pub outcome_of_line : ℕ → WorldState → Action → LineOutcome
 outcome_of_line batch w (Append key) = outcome_of_event (append_event w (of_first key))
 outcome_of_line batch w (AppendIn topic key) =
@@ -93,15 +92,14 @@ abbrev pub rows_of_answer : ℕ → Result (Unit {0}) Refusal → List ℕ
 rows_of_answer line (Ok _) = []
 rows_of_answer line (Err why) = refused_row line (code_of why)
 
--- the rows of a line in a world: the moves that it made, by the names of the group after it, and
--- then its refusal
+-- the rows of a line: its moves, with the members' names after it, and then its refusal
 unfoldable pub rows_of_line : List Topic → ℕ → WorldState → LineOutcome → List ℕ
 rows_of_line topics line w outcome =
     move_rows topics outcome.after.cluster.group
     (drop (length w.cluster.group.moves) outcome.after.cluster.group.moves)
     ++ rows_of_answer line outcome.answer
 
--- a text, and then the text of the rest
+-- a text, followed by the text of the rest
 abbrev pub text_before : List ℕ → Result (List ℕ) Refusal → Result (List ℕ) Refusal
 text_before text (Ok rest) = Ok (text ++ rest)
 text_before text (Err fault) = Err fault
@@ -112,8 +110,7 @@ abbrev pub unless_over : Result (Unit {0}) Refusal → Result (List ℕ) Refusal
 unless_over (Err r.GenerationsOver) text = Err r.GenerationsOver
 unless_over answer text = text
 
--- the rows of lines, one line after the other, and then the closing rows; or the fault that ends
--- them
+-- the rows of the lines in order, and then the closing rows; or the fault that ends the replay
 unfoldable pub text_of_lines : List Topic → ℕ → WorldState → List Line
     → Result (List ℕ) Refusal
 text_of_lines topics batch w [] = Ok (closing_rows topics w.cluster)
@@ -123,17 +120,17 @@ text_of_lines topics batch w (line ∷ lines) =
     (text_before (rows_of_line topics line.number w outcome)
     (text_of_lines topics batch outcome.after lines))
 
--- ---- the report
--- what a replay of lines over records writes, or the fault that it tells: the first record that
--- can't be appended, and only then that of a line
+-- ---- the report what a replay of lines over records writes, or its fault: the first record that
+-- can't be appended, and only then a line that would pass the last generation
 unfoldable pub report_of_lines : Options → List Keyed → List Line → Result (List ℕ) Refusal
 report_of_lines options records lines =
     option_map_or Err (first_fault (partition_counts options) [] records)
     (text_of_lines options.topics.items options.batch
     (loaded (opening_world (partition_counts options)) records) lines)
 
--- what a replay of a script over a file writes, or the fault that it tells: the first bad record,
--- then the first bad line, then the first record that can't be appended, then that of a line
+-- what a replay of a script over a file writes, or its fault: the first bad record, then the first
+-- bad line, then the first record that can't be appended, then a line that would pass the last
+-- generation
 abbrev pub report_of_replay : Options → List ℕ → List ℕ → Result (List ℕ) Refusal
 report_of_replay options file script =
     report_of_read

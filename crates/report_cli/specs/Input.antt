@@ -1,4 +1,4 @@
--- A job that would read standard input twice.
+-- Jobs that would read standard input twice.
 use Rattle.std.specs.Prelude.{◌≡◌, codes}
 use Rattle.command_line.specs.declared.words.Job.{Job}
 use Rattle.command_line.specs.declared.words.Job.TheVariants.{Count, Replay, Run}

@@ -1,11 +1,11 @@
-//! Which of a job's files are standard input.
+//! The files of a job that are standard input.
 
 ghost use Rattle.std.specs.Prelude.{◌≡◌, ◌↔◌, IsTrue, codes};
 ghost use Rattle.report_cli.specs.Input.{ReadsInputTwice};
 
 use command_line::Job;
 
-/// Whether a path stands for standard input, which is `-`.
+/// Whether a path is `-`, which stands for standard input.
 fn is_standard_input(path: &str) -> bool
     ensures { IsTrue result ↔ (path.now ≡ codes "-") }
 {
@@ -13,7 +13,7 @@ fn is_standard_input(path: &str) -> bool
 }
 
 /// Whether a job would read standard input twice, for its file and for its script. It can be read
-/// once alone.
+/// only once.
 pub fn reads_input_twice(job: &Job) -> bool
     ensures { IsTrue result ↔ ReadsInputTwice job.now }
 {

@@ -1,11 +1,21 @@
-//! What `keycount` reads and writes: words to a job, and bytes of a file to bytes of rows.
+//! The facade of `keycount`: from arguments to a job, from files to rows, and from faults to lines.
+//!
+//! Promises:
+//! - `fault_line` writes the line of a fault and `status` returns its exit status; neither
+//!   allocates.
+//! - `reads_input_twice` says whether both files of a job are standard input.
+//! - The other calls are those of `command_line`, `devices` and the three reports.
+//!
+//! Tests: `report_tests`, and the program's black-box tests.
 #![tactic(auto)]
 
+mod faults;
 mod input;
 
 pub use command_line::{Job, Options, Usage, read_words};
 pub use count_report::count_text;
-pub use devices::{DeviceFailed, FromRead, FromWrite, Sink, Source, fault_line, status};
+pub use devices::{DeviceFailed, FromRead, FromWrite, Sink, Source};
+pub use faults::{fault_line, status};
 pub use input::reads_input_twice;
 pub use replay_report::replay_text;
 pub use run_report::run_text;

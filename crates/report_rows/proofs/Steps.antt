@@ -1,4 +1,4 @@
--- Rows that follow one another.
+-- Consecutive rows.
 use Rattle.std.proofs.Common.{◌≡◌, ◌∙◌, ◌+◌, ◌-◌, ◌≤◌, ◌<◌, ℕ, List, [], ◌∷◌, ◌++◌, Some, length, take, drop, get_or, sym, ap, ap₂, refl, arith, append_assoc}
 use Rattle.std.specs.Prelude.{slice_get, slice_range, suc, zero}
 use Rattle.std.proofs.Math.Seq.{take-add}
@@ -11,14 +11,14 @@ row_key [] i k h = cc h
 row_key (x ∷ ks) zero k h = cc h
 row_key (x ∷ ks) (suc i) k h = row_key ks i k h
 
--- a part of a list, cut in two
+-- a part of a list, split in two
 range_parted : {X : Type 0} (xs : List X) (a m b : ℕ) → a ≤ m → m ≤ b → slice_range xs a b ≡ slice_range xs a m ++ slice_range xs m b
 range_parted xs a m b le le2 =
     let long : b - a ≡ (m - a) + (b - m) = omega (arith, le, le2) in
     let whole : a + (m - a) ≡ m = omega (arith, le) in
     ap (λ n. take n (drop a xs)) long ∙ take-add (m - a) (b - m) (drop a xs) ∙ ap (λ l. slice_range xs a m ++ take (b - m) l) (drop-drop (m - a) a xs ∙ ap (λ k. drop k xs) whole)
 
--- the part of one item
+-- a part with one item
 range_one : {X : Type 0} (xs : List X) (i : ℕ) (d : X) → i < length xs → slice_range xs i (i + 1) ≡ get_or xs i d ∷ []
 range_one xs i d lt =
     let one : (i + 1) - i ≡ 1 = omega arith in
@@ -36,7 +36,7 @@ rows-append (k ∷ ks) more [] others e = absurd (omega (arith, e))
 rows-append (k ∷ ks) more (n ∷ ns) others e =
     ap (λ t. count_row k n ++ t) (rows-append ks more ns others (omega (arith, e))) ∙ sym (append_assoc (count_row k n) (count_rows ks ns) (count_rows more others))
 
--- rows that are made in two parts
+-- rows made in two parts
 pub rows_parted : (ks : List (List ℕ)) (ns : List ℕ) (a m b : ℕ) → a ≤ m → m ≤ b → b ≤ length ns → length ks ≡ length ns → rows_between ks ns a b ≡ rows_between ks ns a m ++ rows_between ks ns m b
 rows_parted ks ns a m b le le2 le3 e =
     let keys = range_long ks a m le (omega (arith, le2, le3, e)) in

@@ -1,2 +1,3 @@
 pub mod CountRows
+pub mod ReplayRows
 pub mod Rows

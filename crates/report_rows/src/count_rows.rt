@@ -1,9 +1,9 @@
-//! The rows of a count, as text.
+//! The rows of a count.
 
-ghost use Rattle.std.specs.Prelude.{◌≡◌, ◌<◌, ◌≤◌, ◌++◌, ℕ, List, IfOk, OnOk, flat_map, length, slice_range, vec_items};
+ghost use Rattle.std.specs.Prelude.{◌≡◌, ◌<◌, ◌≤◌, ◌++◌, IfOk, OnOk, flat_map, length, vec_items};
 ghost use Rattle.std.specs.Thread.{IsSync};
 ghost use Rattle.report_rows.specs.CountRows.{count_row, count_rows, rows_between};
-ghost use Rattle.report_rows.specs.Rows.{HasText, total_row};
+ghost use Rattle.report_rows.specs.Rows.{AddsRows, total_row};
 
 use crate::rows;
 use csv::Writer;
@@ -14,23 +14,21 @@ use std::alloc::Global;
 use std::thread;
 use std::thread::Threads;
 
-/// In about how many parts the rows are made side by side.
+/// The number of parts, about, that the rows are made in, in parallel.
 const PARTS: u32 = 8;
 
-/// How many rows a part has at least, so that it is worth the start of a thread.
+/// The fewest rows that are worth a thread.
 const LEAST_ROWS: u32 = 16_384;
 
-/// Writes the row of a key and its count.
+/// Writes the row of a key with its count.
 pub fn write_count(writer: &mut Writer<Vec<u8>>, key: &[u8], count: u64) -> Result<(), Memory>
-    ensures { OnOk result ((text : List ℕ) → HasText writer.old text
-        → HasText writer.new (text ++ count_row key.now count)) }
+    ensures { OnOk result (AddsRows writer.old writer.new (count_row key.now count)) }
 {
     let mut digits = Buffer::new();
     rows::write_row(writer, &[b"count", key, digits.format(count).as_bytes()])
 }
 
-/// Writes the row of each key of some logs with its count, from the key of a number on, below
-/// another.
+/// Writes the row of each key with its count, from key number `from` on, below `to`.
 fn write_counts<L: LogRead>(
     writer: &mut Writer<Vec<u8>>,
     logs: &L,
@@ -40,8 +38,8 @@ fn write_counts<L: LogRead>(
 ) -> Result<(), Memory>
     requires as_many { length (L.contents logs.now).keys ≡ length counts.now }
     requires range { (from ≤ to) × (to ≤ length counts.now) }
-    ensures { OnOk result ((text : List ℕ) → HasText writer.old text → HasText writer.new
-        (text ++ rows_between (L.contents logs.now).keys counts.now from to)) }
+    ensures { OnOk result (AddsRows writer.old writer.new
+        (rows_between (L.contents logs.now).keys counts.now from to)) }
 {
     for id in from..to {
         write_count(writer, logs.key(id), counts[id as usize])?;
@@ -49,7 +47,7 @@ fn write_counts<L: LogRead>(
     Ok(())
 }
 
-/// The rows of the keys from a number on, below another.
+/// The rows of the keys from number `from` on, below `to`, made on this thread.
 fn rows_in_turn<L: LogRead>(
     alloc: Global,
     logs: &L,
@@ -67,7 +65,7 @@ fn rows_in_turn<L: LogRead>(
     rows::text_of(writer)
 }
 
-/// A text alone.
+/// A list of one text.
 fn alone(alloc: Global, text: Vec<u8>) -> Result<Vec<Vec<u8>>, Memory>
     ensures { IfOk result (λ texts. flat_map vec_items texts.items ≡ text.items) }
 {
@@ -76,7 +74,7 @@ fn alone(alloc: Global, text: Vec<u8>) -> Result<Vec<Vec<u8>>, Memory>
     Ok(texts)
 }
 
-/// Texts with others behind them.
+/// Both lists of texts, one after the other.
 fn put_behind(front: Vec<Vec<u8>>, back: Vec<Vec<u8>>) -> Result<Vec<Vec<u8>>, Memory>
     ensures { IfOk result (λ texts. flat_map vec_items texts.items
         ≡ flat_map vec_items front.items ++ flat_map vec_items back.items) }
@@ -86,23 +84,34 @@ fn put_behind(front: Vec<Vec<u8>>, back: Vec<Vec<u8>>) -> Result<Vec<Vec<u8>>, M
     Ok(texts)
 }
 
-/// The same, as texts of which none is joined with another. More rows than `most` are made in two
-/// halves side by side, and so is each half.
+/// Which rows are made: those of the keys from number `from` on, below `to`, with at most `most` of
+/// them on a thread.
+#[derive(Clone, Copy)]
+struct Span {
+    /// The first key.
+    from: u32,
+    /// The key after the last one.
+    to: u32,
+    /// The most rows that one thread makes.
+    most: u32,
+}
+
+/// The rows of a span of keys, in texts to be written one after another. More than `most` rows are
+/// made in two halves in parallel, and each half likewise.
 fn rows_apart<R: Threads + Sync, L: LogRead + Sync>(
     rt: &R,
     alloc: Global,
     logs: &L,
     counts: &[u64],
-    from: u32,
-    to: u32,
-    most: u32,
+    span: Span,
 ) -> Result<Vec<Vec<u8>>, Memory>
     requires as_many { length (L.contents logs.now).keys ≡ length counts.now }
-    requires range { (from ≤ to) × (to ≤ length counts.now) }
-    requires most { 1 ≤ most }
+    requires range { (span.from ≤ span.to) × (span.to ≤ length counts.now) }
+    requires most { 1 ≤ span.most }
     ensures { IfOk result (λ texts. flat_map vec_items texts.items
-        ≡ rows_between (L.contents logs.now).keys counts.now from to) }
+        ≡ rows_between (L.contents logs.now).keys counts.now span.from span.to) }
 {
+    let Span { from, to, most } = span;
     if to - from <= most {
         return alone(alloc, rows_in_turn(alloc, logs, counts, from, to)?);
     }
@@ -115,19 +124,43 @@ fn rows_apart<R: Threads + Sync, L: LogRead + Sync>(
                 × (from ≤ middle) × (middle ≤ length counts.now) × (1 ≤ most) }
             ensures { IfOk result (λ texts. flat_map vec_items texts.items
                 ≡ rows_between (L.contents logs.entry.now).keys counts.entry.now from middle) }
-        { rows_apart(rt, alloc, logs, counts, from, middle, most) },
+        {
+            rows_apart(
+                rt,
+                alloc,
+                logs,
+                counts,
+                Span {
+                    from,
+                    to: middle,
+                    most,
+                },
+            )
+        },
         || -> Result<Vec<Vec<u8>>, Memory>
             requires { IsSync R.row × IsSync L.row
                 × (length (L.contents logs.now).keys ≡ length counts.now)
                 × (middle ≤ to) × (to ≤ length counts.now) × (1 ≤ most) }
             ensures { IfOk result (λ texts. flat_map vec_items texts.items
                 ≡ rows_between (L.contents logs.entry.now).keys counts.entry.now middle to) }
-        { rows_apart(rt, alloc, logs, counts, middle, to, most) },
+        {
+            rows_apart(
+                rt,
+                alloc,
+                logs,
+                counts,
+                Span {
+                    from: middle,
+                    to,
+                    most,
+                },
+            )
+        },
     );
     put_behind(front?, back?)
 }
 
-/// The row of the totals, as a text.
+/// The row of the totals as a text.
 fn total_text(alloc: Global, committed: u64, appended: u64) -> Result<Vec<u8>, Memory>
     ensures { IfOk result (λ text. text.items ≡ total_row committed appended) }
 {
@@ -136,7 +169,7 @@ fn total_text(alloc: Global, committed: u64, appended: u64) -> Result<Vec<u8>, M
     rows::text_of(writer)
 }
 
-/// Texts with another one joined to the last of them.
+/// Texts with `end` appended to the last of them.
 fn with_end(texts: Vec<Vec<u8>>, end: Vec<u8>) -> Result<Vec<Vec<u8>>, Memory>
     ensures { IfOk result (λ all. flat_map vec_items all.items
         ≡ flat_map vec_items texts.items ++ end.items) }
@@ -154,8 +187,8 @@ fn with_end(texts: Vec<Vec<u8>>, end: Vec<u8>) -> Result<Vec<Vec<u8>>, Memory>
     Ok(all)
 }
 
-/// The text of a count in some texts, one after another: a row for each key, and the row of the
-/// totals. Many rows are made on several threads, and stay in as many texts; few are one text.
+/// The text of a count: a row for each key, and the row of the totals. Few rows are one text; many
+/// are made in parallel and stay in several texts, to be written one after another.
 pub fn count_rows_texts<R: Threads + Sync, L: LogRead + Sync>(
     rt: &R,
     alloc: Global,
@@ -170,6 +203,11 @@ pub fn count_rows_texts<R: Threads + Sync, L: LogRead + Sync>(
 {
     let keys = logs.keys();
     let most = (keys / PARTS).max(LEAST_ROWS);
-    let rows = rows_apart(rt, alloc, logs, counts, 0, keys, most)?;
+    let span = Span {
+        from: 0,
+        to: keys,
+        most,
+    };
+    let rows = rows_apart(rt, alloc, logs, counts, span)?;
     with_end(rows, total_text(alloc, committed, appended)?)
 }

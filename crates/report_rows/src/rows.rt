@@ -1,15 +1,15 @@
-//! Rows as text: the writer that reports share, and the row of the totals.
+//! The CSV writer that every report uses, and the row of the totals.
 
-ghost use Rattle.std.specs.Prelude.{◌≡◌, ◌++◌, [], ℕ, List, IfOk, OnOk, map};
+ghost use Rattle.std.specs.Prelude.{◌≡◌, [], ℕ, List, IfOk, OnOk, map};
 ghost use Rattle.csv.specs.Writing.{row_text};
-ghost use Rattle.report_rows.specs.Rows.{HasText, row_writer, total_row};
+ghost use Rattle.report_rows.specs.Rows.{AddsRows, HasText, row_writer, total_row};
 
 use csv::{Writer, WriterBuilder};
 use itoa::Buffer;
 use lane_words::Memory;
 use std::alloc::Global;
 
-/// A writer of rows that has written nothing yet.
+/// A writer of rows into memory, empty at first.
 pub fn new_writer(alloc: Global) -> Writer<Vec<u8>>
     ensures { HasText result [] }
 {
@@ -18,10 +18,10 @@ pub fn new_writer(alloc: Global) -> Writer<Vec<u8>>
         .from_writer(Vec::new(alloc))
 }
 
-/// Writes a row. A writer into memory that takes rows of any length fails for want of memory alone.
+/// Writes a row. The writer is flexible and in memory, so only an allocation can fail.
 pub fn write_row(writer: &mut Writer<Vec<u8>>, fields: &[&[u8]]) -> Result<(), Memory>
-    ensures { OnOk result ((text : List ℕ) → HasText writer.old text
-        → HasText writer.new (text ++ row_text row_writer (map (λ f. f.now) fields.now))) }
+    ensures { OnOk result
+        (AddsRows writer.old writer.new (row_text row_writer (map (λ f. f.now) fields.now))) }
 {
     if writer.write_fields(fields).is_err() {
         return Err(Memory);
@@ -29,14 +29,13 @@ pub fn write_row(writer: &mut Writer<Vec<u8>>, fields: &[&[u8]]) -> Result<(), M
     Ok(())
 }
 
-/// Writes the row of the totals.
+/// Writes the row of the totals: records committed, and records appended.
 pub fn write_total(
     writer: &mut Writer<Vec<u8>>,
     committed: u64,
     appended: u64,
 ) -> Result<(), Memory>
-    ensures { OnOk result ((text : List ℕ) → HasText writer.old text
-        → HasText writer.new (text ++ total_row committed appended)) }
+    ensures { OnOk result (AddsRows writer.old writer.new (total_row committed appended)) }
 {
     let (mut first, mut second) = (Buffer::new(), Buffer::new());
     write_row(
@@ -49,8 +48,7 @@ pub fn write_total(
     )
 }
 
-/// The text that a writer has written. Its last bytes go into memory only here, so that this can be
-/// refused too.
+/// The text that the writer has written. The flush of its buffer allocates, so this can fail too.
 pub fn text_of(writer: Writer<Vec<u8>>) -> Result<Vec<u8>, Memory>
     ensures { (text : List ℕ) → HasText writer text → IfOk result (λ all. all.items ≡ text) }
 {

@@ -1,4 +1,4 @@
-//! Rows by hand, of clusters whose every call is told.
+//! The rows of clusters, worked by hand.
 
 ghost use Rattle.std.specs.Prelude.{◌≤◌};
 
@@ -7,20 +7,20 @@ use csv::Writer;
 use group_machine::{Cluster, Commit, Name};
 use keyed_table::Partial;
 use lane_words::{MOST_PARTITIONS, Memory, Refusal};
-use replay_rows::{write_closing, write_moves, write_refused};
+use report_rows::replay_rows::{write_closing, write_moves, write_refused};
 use report_rows::rows;
 use script::Topic;
 use std::alloc::Global;
 use std::process::Abort;
 use std::random::RandomSource;
 
-/// A call on a cluster that is taken, or the rows that it has then.
+/// A call on a cluster that must succeed, or the rows that it must have then.
 ///
-/// A test is a list of them, which one loop makes: a course of calls one after the other is proved
-/// over what all of them say, and takes minutes.
+/// A test is a list of steps for one loop. A sequence of calls is proved over the contracts of all
+/// the calls before each, which takes minutes.
 #[derive(Clone, Copy)]
 enum Step<'a> {
-    /// One joins under this name, and is given this number.
+    /// A member joins under this name and gets this number.
     Join(&'a [u8], u32),
     /// A member is lost.
     Lose(u32),
@@ -28,19 +28,19 @@ enum Step<'a> {
     Append(&'a [u8]),
     /// Member 1 commits, in generation 1, records of these keys from the start of a log.
     Commit(u32, &'a [u32]),
-    /// The rows of moves from an index on.
+    /// The rows of the moves from an index on.
     Moves(usize, &'a [u8]),
     /// The closing rows.
     Closing(&'a [u8]),
 }
 
-/// Whether one joins under this name, and is given this number.
+/// Whether a member joins under this name and gets this number.
 fn joins(rt: &impl Abort, cluster: &mut Cluster, name: &[u8], number: u32) -> bool {
     let name = Name::new(name).expect(rt, "a name");
     cluster.join(name) == Ok(number)
 }
 
-/// Whether a step is taken, or tells these rows.
+/// Whether a step succeeds, or the cluster has these rows.
 fn is_so(
     rt: &impl Abort,
     alloc: Global,
@@ -59,7 +59,7 @@ fn is_so(
     Ok(is_so)
 }
 
-/// The first step that is not so.
+/// The index of the first step that fails.
 fn first_other(
     rt: &impl Abort,
     alloc: Global,
@@ -75,13 +75,13 @@ fn first_other(
     Ok(None)
 }
 
-/// Whether a writer has written this.
+/// Whether a writer has written this text.
 fn has_text(writer: Writer<Vec<u8>>, wanted: &[u8]) -> Result<bool, Memory> {
     let text = rows::text_of(writer)?;
     Ok(text.as_slice() == wanted)
 }
 
-/// Whether a cluster has these rows of moves from an index on.
+/// Whether these are the rows of a cluster's moves from an index on.
 fn has_moves(
     alloc: Global,
     topics: &[Topic],
@@ -94,7 +94,7 @@ fn has_moves(
     has_text(writer, wanted)
 }
 
-/// Whether a cluster has these closing rows.
+/// Whether these are the closing rows of a cluster.
 fn has_closing(
     alloc: Global,
     topics: &[Topic],
@@ -106,14 +106,14 @@ fn has_closing(
     has_text(writer, wanted)
 }
 
-/// What member 1 sends in generation 1 of records of these keys, from the start of a log.
+/// The commit of member 1 in generation 1 of records of these keys from the start of a log.
 fn sent(alloc: Global, partition: u32, ids: &[u32]) -> Result<Commit, Memory> {
     let ids = Vec::from_slice(alloc, ids)?;
     let partial = Partial::of(alloc, ids)?;
     Ok(Commit::new(1, 1, partition, 0, partial))
 }
 
-/// Whether a cluster takes what is sent, and then has committed so many records.
+/// Whether a cluster accepts a commit and then has committed this many records.
 fn takes(cluster: &mut Cluster, sent: &Commit, records: usize) -> bool {
     matches!(cluster.commit(sent), Ok(end) if end as usize == records)
 }
@@ -129,8 +129,9 @@ fn commit(
     Ok(takes(cluster, &sent, ids.len()))
 }
 
-/// The first step that is not so, of a cluster of this many partitions. Nobody else owns a cluster: each
-/// `?` and each assertion is proved with all that lets go what is owned there.
+/// The index of the first step that fails on a new cluster with this many partitions. No other
+/// function owns a cluster: every `?` and assertion is proved together with the drops of what is
+/// owned.
 fn first_other_of<R: Abort + RandomSource>(
     rt: &R,
     alloc: Global,
@@ -149,7 +150,7 @@ const FIRST_MOVES: &[u8] = b"move,1,0,,A\nmove,1,1,,A\nmove,1,2,,A\nmove,1,3,,A\
 const FIRST_CLOSING: &[u8] = b"owner,0,A\nowner,1,A\nowner,2,A\nowner,3,A\n\
     offset,0,0,0\noffset,1,0,0\noffset,2,0,0\noffset,3,0,0\ntotal,0,0\n";
 
-/// One joins four partitions.
+/// A member joins, with four partitions.
 const ONE_JOINS: [Step; 6] = [
     Step::Moves(0, b""),
     Step::Join(b"A", 1),
@@ -169,7 +170,7 @@ const NOBODYS_CLOSING: &[u8] = b"owner,0,\nowner,1,\noffset,0,0,0\noffset,1,0,0\
 
 const SECOND_MOVES: &[u8] = b"move,2,0,A,worker-2_B\nmove,2,1,A,worker-2_B\n";
 
-/// One joins two partitions, is lost, and another one follows.
+/// A member joins, with two partitions, is lost, and another one joins.
 const ONE_FOLLOWS: [Step; 5] = [
     Step::Join(b"A", 1),
     Step::Lose(1),
@@ -188,7 +189,7 @@ const COUNTED_CLOSING: &[u8] = b"owner,0,A\nowner,1,A\nowner,2,A\nowner,3,A\n\
     offset,0,2,2\noffset,1,0,1\noffset,2,0,1\noffset,3,1,1\n\
     count,21,2\ncount,abc,1\ntotal,3,5\n";
 
-/// One commits three of the five records.
+/// A member commits three of the five records.
 const THREE_COMMITTED: [Step; 9] = [
     Step::Append(b"21"),
     Step::Append(b"4"),
@@ -212,12 +213,12 @@ const TOPIC_MOVES: &[u8] = b"move,1,a,0,,A\nmove,1,a,1,,A\nmove,1,b,0,,A\n";
 const TOPIC_CLOSING: &[u8] = b"owner,a,0,A\nowner,a,1,A\nowner,b,0,A\n\
     offset,a,0,0,0\noffset,a,1,0,0\noffset,b,0,0,0\ntotal,0,0\n";
 
-/// The topic a of two partitions, and b of one.
+/// The topics a with two partitions and b with one.
 fn a_and_b(rt: &impl Abort) -> [Topic; 2] {
     [topic(rt, b"a", 2), topic(rt, b"b", 1)]
 }
 
-/// One joins three partitions of two topics.
+/// A member joins, with three partitions of two topics.
 const OF_TOPICS: [Step; 3] = [
     Step::Join(b"A", 1),
     Step::Moves(0, TOPIC_MOVES),
@@ -237,7 +238,7 @@ fn write_two_refused(writer: &mut Writer<Vec<u8>>) -> Result<(), Memory> {
     write_refused(writer, u64::MAX, &Refusal::OffsetMismatch { committed: 5 })
 }
 
-/// Whether those are written so.
+/// Whether these are the rows of those two lines.
 fn are_refused(alloc: Global, wanted: &[u8]) -> Result<bool, Memory> {
     let mut writer = rows::new_writer(alloc);
     write_two_refused(&mut writer)?;

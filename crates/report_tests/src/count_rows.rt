@@ -1,4 +1,4 @@
-//! The rows of a count, as RFC 4180 has them.
+//! The rows of a count, with RFC 4180 quoting, and made in parallel.
 
 ghost use Rattle.std.specs.Prelude.{◌≡◌, length};
 
@@ -19,7 +19,7 @@ fn append_each(logs: &mut Logs, keys: &[&[u8]]) -> Result<(), Refusal> {
     Ok(())
 }
 
-/// How many keys logs have, and whether this text alone tells these counts of theirs.
+/// The number of keys in the logs, and whether this one text is the report of these counts.
 fn told<R: Threads + Sync>(
     rt: &R,
     alloc: Global,
@@ -35,7 +35,7 @@ fn told<R: Threads + Sync>(
     Ok((keys, texts.len() == 1 && texts[0].as_slice() == wanted))
 }
 
-/// The same of new logs with a record of each key.
+/// The same for new logs with a record of each key.
 fn told_of_keys<R: Threads + Sync + RandomSource>(
     rt: &R,
     alloc: Global,
@@ -64,7 +64,7 @@ fn append_numbers(logs: &mut Logs, keys: u32) -> Result<(), Refusal> {
     Ok(())
 }
 
-/// Whether a text is several ones, one after another.
+/// Whether a text is the concatenation of several others.
 fn is_several(text: &[u8], parts: &[Vec<u8>]) -> bool {
     let mut rest = text;
     for part in parts {
@@ -76,7 +76,7 @@ fn is_several(text: &[u8], parts: &[Vec<u8>]) -> bool {
     rest.is_empty() && parts.len() > 1
 }
 
-/// Writes the row of each key with its count, one after the other, and the totals.
+/// Writes the row of each key with its count, and the totals, on this thread.
 fn write_each(writer: &mut Writer<Vec<u8>>, logs: &Logs, counts: &[u64]) -> Result<(), Memory>
     requires { length logs.now.keys ≡ length counts.now }
 {
@@ -86,7 +86,7 @@ fn write_each(writer: &mut Writer<Vec<u8>>, logs: &Logs, counts: &[u64]) -> Resu
     rows::write_total(writer, 1, 2)
 }
 
-/// Those rows.
+/// Those rows as a text.
 fn rows_in_turn(alloc: Global, logs: &Logs, counts: &[u64]) -> Result<Vec<u8>, Memory>
     requires { length logs.now.keys ≡ length counts.now }
 {
@@ -95,7 +95,7 @@ fn rows_in_turn(alloc: Global, logs: &Logs, counts: &[u64]) -> Result<Vec<u8>, M
     rows::text_of(writer)
 }
 
-/// Whether texts are the rows that are made one after the other, and the totals.
+/// Whether these texts are the rows that one thread makes.
 fn are_made_in_turn(
     alloc: Global,
     logs: &Logs,
@@ -108,7 +108,7 @@ fn are_made_in_turn(
     Ok(is_several(plain.as_slice(), texts))
 }
 
-/// Whether the texts of a count are.
+/// Whether `count_rows_texts` makes those rows.
 fn are_told_in_turn<R: Threads + Sync>(
     rt: &R,
     alloc: Global,
@@ -121,7 +121,7 @@ fn are_told_in_turn<R: Threads + Sync>(
     are_made_in_turn(alloc, logs, counts, texts.as_slice())
 }
 
-/// Whether those of a count of 3 for each key are.
+/// Whether it does for a count of 3 for each key.
 fn threes_are_told_in_turn<R: Threads + Sync>(
     rt: &R,
     alloc: Global,
@@ -131,7 +131,7 @@ fn threes_are_told_in_turn<R: Threads + Sync>(
     are_told_in_turn(rt, alloc, logs, counts.as_slice())
 }
 
-/// Whether those of new logs with a record of each number below this one are.
+/// Whether it does for new logs with a record of each number below this one.
 fn numbers_are_told_in_turn<R: Threads + Sync + RandomSource>(
     rt: &R,
     alloc: Global,

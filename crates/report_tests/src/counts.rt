@@ -1,7 +1,7 @@
-//! The worked rows of a count, over devices that give and take little, and that fail.
+//! Counts worked by hand, over devices that transfer a few bytes at a time, and that fail.
 
 ghost use Rattle.std.specs.Prelude.{◌≡◌, ◌≤◌, ◌<◌, ◌-◌, ◌^◌};
-ghost use Rattle.count_report.specs.Reports.{AreInRange};
+ghost use Rattle.ingest.specs.Reports.{AreInRange};
 
 use crate::slow::{Drip, Page};
 use crate::two_topics::options_of_two;
@@ -22,10 +22,10 @@ const TOPIC_TEXT: &[u8] = b"count,21,2\ncount,abc,1\ncount,4,2\ntotal,5,5\n";
 
 const TEXT: &[u8] = b"count,21,2\ncount,4,1\ncount,foobar,1\ncount,abc,1\ntotal,5,5\n";
 
-// A count is called in functions that say nothing of it, and each owns little: each assertion is
-// proved over all that was said before it, and with all that lets go what is owned there.
+// Each count is called in a function without a contract that owns little. An assertion is proved
+// over the contracts of all the calls before it, together with the drops of what is owned.
 
-/// What a count of a file answers, with these options and into this writer.
+/// The answer of a count of a file with these options, into this writer.
 fn counted<R: Threads + Sync + RandomSource, W: Write + Drop>(
     rt: &R,
     alloc: Global,
@@ -39,7 +39,7 @@ fn counted<R: Threads + Sync + RandomSource, W: Write + Drop>(
     count_text(rt, alloc, &mut file, options, &mut sink)
 }
 
-/// What a count of a file without topics answers, in this many partitions and over this text.
+/// The answer of a count of a file without topics, with this many partitions, into this text.
 fn counted_over<R: Threads + Sync + RandomSource>(
     rt: &R,
     alloc: Global,
@@ -62,7 +62,7 @@ fn a_file_is_counted_whatever_the_partitions(rt: HostRuntime) {
     }
 }
 
-/// What a count of a file of the two topics answers, and whether it has written this.
+/// The answer of a count of a file with the two topics, and whether it has written this text.
 fn counted_in_topics<R: Threads + Sync + RandomSource + Abort>(
     rt: &R,
     alloc: Global,
@@ -89,8 +89,7 @@ fn a_file_of_two_topics_is_counted(rt: HostRuntime) {
     }
 }
 
-/// What a count of the file answers, read byte by byte up to the read that fails, and written to
-/// this page.
+/// The answer of a count of the file, read byte by byte up to the read that fails, into this page.
 fn counted_slowly<R: Threads + Sync + RandomSource>(
     rt: &R,
     alloc: Global,
@@ -116,7 +115,7 @@ fn a_read_that_fails_is_told_and_nothing_is_written(rt: HostRuntime) {
     assert_eq!(rt; (answer, page.text.as_slice()), (Ok(()), TEXT));
 }
 
-/// What a count answers that may write so often, and the beginning of its text that it writes.
+/// A number of writes before one fails, the answer, and the prefix of the text that is written.
 fn beginning(calls: u8) -> (Result<(), Refusal>, &'static [u8]) {
     let taken = (4 * usize::from(calls)).min(TEXT.len());
     if taken == TEXT.len() {
@@ -135,7 +134,7 @@ fn a_write_that_fails_leaves_a_beginning(rt: HostRuntime) {
     }
 }
 
-/// Adds a number in decimal, between these.
+/// Appends a number in decimal between these two texts.
 fn add(text: &mut Vec<u8>, before: &[u8], number: u32, after: &[u8]) -> Result<(), Memory> {
     let mut digits = Buffer::new();
     text.extend_from_slice(before)?;
@@ -144,7 +143,7 @@ fn add(text: &mut Vec<u8>, before: &[u8], number: u32, after: &[u8]) -> Result<(
     Ok(())
 }
 
-/// Adds 300000 records of 200000 keys.
+/// Appends 300000 records of 200000 keys.
 fn add_records(file: &mut Vec<u8>) -> Result<(), Memory> {
     for i in 0..300_000_u32 {
         add(file, b"", i % 200_000, b",some more text\n")?;
@@ -152,7 +151,7 @@ fn add_records(file: &mut Vec<u8>) -> Result<(), Memory> {
     Ok(())
 }
 
-/// Adds the rows of their count.
+/// Appends the rows of their count.
 fn add_rows(text: &mut Vec<u8>) -> Result<(), Memory> {
     for i in 0..200_000_u32 {
         let count = if i < 100_000 { b",2\n" } else { b",1\n" };
@@ -162,7 +161,7 @@ fn add_rows(text: &mut Vec<u8>) -> Result<(), Memory> {
     Ok(())
 }
 
-/// What a count of a file of those records answers, over this text.
+/// The answer of a count of a file with those records, into this text.
 fn records_counted<R: Threads + Sync + RandomSource>(
     rt: &R,
     alloc: Global,
@@ -173,7 +172,7 @@ fn records_counted<R: Threads + Sync + RandomSource>(
     counted_over(rt, alloc, file.as_slice(), 4096, text)
 }
 
-/// Whether a text begins with the rows of their count, and the byte behind them.
+/// Whether a text begins with the rows of their count, and the byte after them.
 fn begins_with_rows(alloc: Global, text: &[u8]) -> Result<(bool, Option<u8>), Memory> {
     let mut rows = Vec::new(alloc);
     add_rows(&mut rows)?;

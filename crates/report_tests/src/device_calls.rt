@@ -1,4 +1,4 @@
-//! Bytes that are read and written little by little, and calls that fail.
+//! Whole reads and writes over devices that transfer a few bytes at a time, and that fail.
 
 ghost use Rattle.std.specs.Prelude.{◌<◌, ◌-◌, ◌^◌};
 
@@ -9,7 +9,7 @@ use std::alloc::Global;
 use std::test::Fail;
 use std::thread::Threads;
 
-/// Whether a source is read to its end, and gave these bytes.
+/// Whether a source is read to its end as these bytes.
 fn gives<S: Source>(alloc: Global, source: &mut S, bytes: &[u8]) -> Result<bool, Refusal>
     requires { S.failures source.old < 2 ^ 64 - 1 }
 {
@@ -17,8 +17,8 @@ fn gives<S: Source>(alloc: Global, source: &mut S, bytes: &[u8]) -> Result<bool,
     Ok(all.as_slice() == bytes)
 }
 
-/// Whether a source that gives one byte a read, and fails at one, gave these bytes, and after how
-/// many failures.
+/// Whether a source that yields one byte a read, and fails at one, is read as these bytes, and its
+/// number of failures.
 fn drips(
     alloc: Global,
     bytes: &[u8],
@@ -36,7 +36,7 @@ fn a_source_is_read_to_its_end(rt: HostRuntime) {
     assert_eq!(rt; gives(rt.alloc(), &mut file, b"three"), Ok(true));
 }
 
-/// Whether a source is read to its end in blocks, and gave these bytes.
+/// Whether a source is read to its end in blocks of these bytes.
 fn gives_in_blocks<R: Threads + Sync, S: Source>(
     rt: &R,
     alloc: Global,
@@ -90,7 +90,7 @@ fn three_texts(alloc: Global) -> Result<Vec<Vec<u8>>, Memory> {
     added.and(Ok(texts))
 }
 
-/// Adds those.
+/// Appends those.
 fn add_three(alloc: Global, texts: &mut Vec<Vec<u8>>) -> Result<(), Memory> {
     for text in [b"01234".as_slice(), b"", b"56789"] {
         texts.push(Vec::from_slice(alloc, text)?)?;
@@ -98,8 +98,8 @@ fn add_three(alloc: Global, texts: &mut Vec<Vec<u8>>) -> Result<(), Memory> {
     Ok(())
 }
 
-/// What a page of four writes answers to texts, whether it then has this text, what it answers
-/// where they come again, and after how many failures.
+/// The answer of a page of four writes to these texts, whether it then has this text, its answer to
+/// the same texts again, and its number of failures.
 fn written_twice(
     alloc: Global,
     texts: &[Vec<u8>],
@@ -130,7 +130,7 @@ fn a_failed_write_is_told(rt: HostRuntime) {
     );
 }
 
-// A slice takes none of the bytes that it has no room for.
+// A slice takes only the bytes that fit.
 #[test]
 fn a_full_writer_has_failed(rt: HostRuntime) {
     let mut room = [0u8; 3];

@@ -1,8 +1,8 @@
-//! The lines and the statuses, as the program's users see them.
+//! The lines and the exit statuses of faults, as users see them.
 
 use crate::slow::Page;
-use devices::{fault_line, status};
 use lane_words::Refusal;
+use report_cli::{fault_line, status};
 use std::alloc::Global;
 
 /// Faults, with their lines and statuses.
@@ -30,8 +30,8 @@ const FAULTS: [(Refusal, &[u8], u8); 9] = [
     (Refusal::Memory, b"fault 90\n", 3),
 ];
 
-/// What a page that takes so many writes answers to the line of a fault, whether it then has this
-/// text, and after how many failures.
+/// The answer of a page of this many writes to the line of a fault, whether it then has this text,
+/// and its number of failures.
 fn written(
     alloc: Global,
     fault: &Refusal,

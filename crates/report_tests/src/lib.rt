@@ -1,9 +1,11 @@
-//! Tests of devices, of the command line, of rows and of the three reports, by their public calls. They have a crate of
-//! their own, since a crate with tests is proved twice, once without them.
+//! Tests of the reports, of their rows, and of what they read and write, by public calls:
+//! `devices`, `command_line`, `report_rows`, `ingest`, the three reports and `report_cli`.
+//!
+//! They have a crate of their own, since a crate with tests is proved twice.
 #![tactic(auto)]
 
 ghost use Rattle.std.specs.Prelude.{◌≡◌, ◌≤◌};
-ghost use Rattle.count_report.specs.Reports.{AreInRange};
+ghost use Rattle.ingest.specs.Reports.{AreInRange};
 
 #[cfg(test)]
 mod cluster_rows;
@@ -38,7 +40,7 @@ pub const FILE: &[u8] = b"21\n4\nfoobar\nabc\n21\n";
 /// Five records of two topics.
 pub const TOPIC_FILE: &[u8] = b"21,a\nabc,b\n21,b\n4,a\n4,b\n";
 
-/// The options of a file without topics.
+/// Options without topics, with this many partitions.
 pub fn options(alloc: Global, partitions: u32) -> Options
     requires { (1 ≤ partitions) × (partitions ≤ MOST_PARTITIONS) }
     ensures range { AreInRange result }

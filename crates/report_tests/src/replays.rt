@@ -1,6 +1,6 @@
-//! Worked rows of a replay.
+//! Replays worked by hand.
 
-ghost use Rattle.count_report.specs.Reports.{AreInRange};
+ghost use Rattle.ingest.specs.Reports.{AreInRange};
 
 use crate::two_topics::options_of_two;
 use crate::{FILE, TOPIC_FILE, options};
@@ -14,7 +14,7 @@ use std::process::Abort;
 use std::random::RandomSource;
 use std::thread::Threads;
 
-/// What a replay of a script over a file answers, with these options and into this writer.
+/// The answer of a replay of a script over a file with these options, into this writer.
 fn replayed<R: Threads + Sync + RandomSource, W: Write + Drop>(
     rt: &R,
     alloc: Global,
@@ -30,7 +30,7 @@ fn replayed<R: Threads + Sync + RandomSource, W: Write + Drop>(
     replay_text(rt, alloc, &mut file, &mut script, options, &mut sink)
 }
 
-/// What a replay over the five records answers, in four partitions and into this writer.
+/// The answer of a replay over the five records with four partitions, into this writer.
 fn replayed_in_four<R: Threads + Sync + RandomSource, W: Write + Drop>(
     rt: &R,
     alloc: Global,
@@ -83,7 +83,7 @@ const APPENDED: &[u8] = b"refused,2,1\nowner,a,0,\nowner,a,1,\nowner,b,0,\nowner
     offset,a,0,0,1\noffset,a,1,0,1\noffset,b,0,0,3\noffset,b,1,0,1\noffset,b,2,0,0\n\
     total,0,6\n";
 
-/// What a replay over a file of the two topics answers, and whether it has written this.
+/// The answer of a replay over a file with the two topics, and whether it has written this text.
 fn replayed_in_topics<R: Threads + Sync + RandomSource + Abort>(
     rt: &R,
     alloc: Global,
@@ -95,7 +95,7 @@ fn replayed_in_topics<R: Threads + Sync + RandomSource + Abort>(
     Ok((answer, text.as_slice() == row.2))
 }
 
-/// A file, a script, and the text of the replay or its refusal.
+/// A file, a script, the text of the replay, and its answer.
 type Row<'a> = (&'a [u8], &'a [u8], &'a [u8], Result<(), Refusal>);
 
 #[test]

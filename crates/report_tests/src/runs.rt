@@ -1,7 +1,7 @@
-//! Worked rows of a run, and gates that hold workers back.
+//! Runs worked by hand, and gates that hold workers back.
 
 ghost use Rattle.std.specs.Prelude.{◌≤◌};
-ghost use Rattle.count_report.specs.Reports.{AreInRange};
+ghost use Rattle.ingest.specs.Reports.{AreInRange};
 ghost use Rattle.command_line.specs.declared.options.TheConstants.{MOST_BATCH};
 
 use crate::two_topics::options_of_two;
@@ -32,7 +32,7 @@ const LEFT_TEXT: &[u8] = b"move,1,0,,A\nmove,1,1,,A\nmove,1,2,,A\nmove,1,3,,A\n\
     offset,0,2,2\noffset,1,1,1\noffset,2,1,1\noffset,3,1,1\n\
     count,21,2\ncount,4,1\ncount,foobar,1\ncount,abc,1\ntotal,5,5\n";
 
-/// Always answers the same.
+/// A gate with one answer.
 #[derive(Drop)]
 struct Always(GateAnswer);
 
@@ -42,7 +42,7 @@ impl Gate for Always {
     }
 }
 
-/// What a run of a plan over a file answers, with these options and this gate, and into this text.
+/// The answer of a run of a plan over a file with these options and this gate, into this text.
 fn ran_into<R: Threads + Wait + RandomSource + Sync, G: Gate + Sync>(
     rt: &R,
     alloc: Global,
@@ -58,7 +58,7 @@ fn ran_into<R: Threads + Wait + RandomSource + Sync, G: Gate + Sync>(
     run_text(rt, alloc, &mut file, &mut plan, options, gate, &mut sink)
 }
 
-/// The options of four partitions and of this batch.
+/// Options with four partitions and this batch.
 fn options_of_batch(alloc: Global, batch: u32) -> Options
     requires { (1 ≤ batch) × (batch ≤ MOST_BATCH) }
     ensures { AreInRange result }
@@ -73,7 +73,7 @@ fn options_of_batch(alloc: Global, batch: u32) -> Options
     }
 }
 
-/// What a run of a plan over the five records answers, and whether it has written this.
+/// The answer of a run of a plan over the five records, and whether it has written this text.
 fn ran<R: Threads + Wait + RandomSource + Sync, G: Gate + Sync>(
     rt: &R,
     alloc: Global,
@@ -96,8 +96,8 @@ const TOPIC_TEXT: &[u8] = b"move,1,a,0,,A\nmove,1,a,1,,A\nmove,1,b,0,,A\nmove,1,
     offset,a,0,1,1\noffset,a,1,1,1\noffset,b,0,2,2\noffset,b,1,1,1\noffset,b,2,0,0\n\
     count,21,2\ncount,abc,1\ncount,4,2\ntotal,5,5\n";
 
-/// What a run of two members over a file of the two topics answers, and whether it has written
-/// this.
+/// The answer of a run of two members over a file with the two topics, and whether it has written
+/// this text.
 fn ran_in_topics<R: Threads + Wait + RandomSource + Sync + Abort>(
     rt: &R,
     alloc: Global,
@@ -160,7 +160,7 @@ fn a_gate_that_stops_leaves_nothing_written(rt: HostRuntime) {
     assert_eq!(rt; ran, (Err(Refusal::GateLimit), true));
 }
 
-/// What a gate keeps of a worker.
+/// What a gate remembers of a worker.
 #[derive(Drop)]
 struct Worker {
     asked: AtomicU32,
@@ -175,7 +175,7 @@ impl Worker {
         }
     }
 
-    /// Which question this is, from 0 on. The second one raises the flag.
+    /// The number of questions before this one. The second question raises the flag.
     fn question(&self) -> u32 {
         let question = self.asked.fetch_add(1, Ordering::SeqCst);
         if question == 1 {
@@ -188,7 +188,7 @@ impl Worker {
         self.flag.load(Ordering::SeqCst)
     }
 
-    /// Goes once the flag is up.
+    /// Answers once the flag is up.
     fn wait(&self) -> GateAnswer {
         for _ in 0..1_000_000_000u64 {
             if self.is_flag_up() {
@@ -199,9 +199,9 @@ impl Worker {
     }
 }
 
-/// Holds each of two workers back until the other has come on: below generation 3 nobody commits;
-/// then a member's second question raises its flag, the second member's first question waits for
-/// the flag of the first, and the first member's second question for the flag of the second.
+/// Makes each of two workers wait for the other. Below generation 3 nobody commits. Then a member's
+/// second question raises its flag; the second member's first question waits for the flag of the
+/// first, and the first member's second question for the flag of the second.
 #[derive(Drop)]
 struct Handshake {
     first: Worker,

@@ -1,4 +1,4 @@
-//! Devices that give and take little at a time, and fail at a call of their own.
+//! Devices that transfer a few bytes at a time and fail at a given call.
 
 ghost use Rattle.std.specs.Prelude.{◌≡◌, ℕ, IfOk, Some, drop};
 
@@ -6,7 +6,7 @@ use devices::{DeviceFailed, Sink, Source};
 use lane_words::Memory;
 use std::alloc::Global;
 
-/// Gives one byte a read, and fails from the read at `fails_at` on.
+/// A source that yields one byte a read and fails at every read from the byte at `fails_at` on.
 #[derive(Drop)]
 pub(crate) struct Drip {
     bytes: Vec<u8>,
@@ -16,7 +16,7 @@ pub(crate) struct Drip {
 }
 
 impl Drip {
-    /// Gives these bytes from the first on, and has not failed.
+    /// A source of these bytes without a failure so far.
     pub(crate) fn new(alloc: Global, bytes: &[u8], fails_at: usize) -> Result<Drip, Memory>
         ensures { IfOk result (λ d. d.failures ≡ 0) }
     {
@@ -48,7 +48,7 @@ impl Source for Drip {
     }
 }
 
-/// Takes up to four bytes a write, and fails once it has taken `calls` writes.
+/// A sink that takes up to four bytes a write and fails after `calls` writes.
 #[derive(Drop)]
 pub(crate) struct Page {
     pub(crate) text: Vec<u8>,
@@ -57,7 +57,7 @@ pub(crate) struct Page {
 }
 
 impl Page {
-    /// Has no text yet, and has not failed.
+    /// An empty sink without a failure so far.
     pub(crate) fn new(alloc: Global, calls: u64) -> Page
         ensures { result.failures ≡ 0 }
     {

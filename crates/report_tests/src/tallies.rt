@@ -1,4 +1,4 @@
-//! Counts of many records, on several threads, beside those of one log after the other.
+//! Counts of many records made in parallel, against those made on one thread.
 
 ghost use Rattle.std.specs.Prelude.{◌≤◌};
 ghost use Rattle.partition_log.specs.Logs.{IsValidLogs};
@@ -12,7 +12,7 @@ use std::random::RandomSource;
 use std::test::Fail;
 use std::thread::Threads;
 
-/// Logs of so many records, whose keys come back again and again, some far more often than others.
+/// Logs of this many records, whose keys repeat, some far more often than others.
 fn logs<R: Threads + Sync + RandomSource>(
     rt: &R,
     alloc: Global,
@@ -35,10 +35,10 @@ fn append_each(logs: &mut Logs, records: u64) -> Result<(), Refusal> {
     Ok(())
 }
 
-// Who owns a table or logs makes one call more: each `?` is proved with all that lets go what is
-// owned there.
+// A function that owns a table or logs makes one call more: every `?` is proved together with the
+// drops of what is owned.
 
-/// Whether the program for many records has these counts too.
+/// Whether the counts made in parallel are these.
 fn groups_agree<R: Threads + Sync, L: LogRead + Sync>(
     rt: &R,
     alloc: Global,
@@ -50,7 +50,7 @@ fn groups_agree<R: Threads + Sync, L: LogRead + Sync>(
     Ok(counts_in_groups(rt, alloc, logs)?.counts() == in_turn.counts())
 }
 
-/// Whether the program for many records counts as one log after the other does.
+/// Whether the counts made in parallel are those made on one thread.
 fn both_agree<R: Threads + Sync, L: LogRead + Sync>(
     rt: &R,
     alloc: Global,
@@ -62,7 +62,7 @@ fn both_agree<R: Threads + Sync, L: LogRead + Sync>(
     groups_agree(rt, alloc, logs, &in_turn)
 }
 
-/// Whether these logs are counted alike by both.
+/// Whether they are so for new logs of this size.
 fn are_counted_alike<R: Threads + Sync + RandomSource>(
     rt: &R,
     alloc: Global,

@@ -1,7 +1,7 @@
 //! The two topics of these tests, and options with them.
 
 ghost use Rattle.std.specs.Prelude.{◌≡◌, IfOk};
-ghost use Rattle.count_report.specs.Reports.{AreInRange};
+ghost use Rattle.ingest.specs.Reports.{AreInRange};
 ghost use Rattle.script.specs.Topics.{AreTopics};
 
 use crate::options;
@@ -12,7 +12,7 @@ use script::Topic;
 use std::alloc::Global;
 use std::process::Abort;
 
-/// A topic of this name, which is one, and of this many partitions.
+/// A topic of this name, which must be valid, with this many partitions.
 pub fn topic(rt: &impl Abort, name: &[u8], partitions: u32) -> Topic
     ensures { result ≡ record { name = name.now; partitions = partitions } }
 {
@@ -20,14 +20,14 @@ pub fn topic(rt: &impl Abort, name: &[u8], partitions: u32) -> Topic
     Topic { name, partitions }
 }
 
-/// The topic a of two partitions, and b of three.
+/// The topics a with two partitions and b with three.
 fn a_and_b(rt: &impl Abort) -> [Topic; 2]
     ensures { AreTopics result }
 {
     [topic(rt, b"a", 2), topic(rt, b"b", 3)]
 }
 
-/// The options of a file of these topics.
+/// Options with these topics.
 pub fn options_of_two(rt: &impl Abort, alloc: Global) -> Result<Options, Memory>
     ensures { IfOk result AreInRange }
 {

@@ -1,4 +1,4 @@
-//! Words of a command line, and what they ask for.
+//! Command lines, and the jobs that they ask for.
 
 use command_line::{
     AFTER_COUNT, AFTER_KEYCOUNT, AFTER_REPLAY, AFTER_RUN, Job, Options, Usage, read_words,
@@ -9,12 +9,12 @@ use std::alloc::Global;
 /// The partitions, the column, whether there is a header, and the batch.
 type Plain = (u32, u32, bool, u32);
 
-/// Those where the words do not say.
+/// Their defaults.
 const PLAIN: Plain = (4, 1, false, 500);
 
 const FULL: Plain = (4096, 65535, true, 500);
 
-/// These of options.
+/// These values of options.
 fn plain(options: &Options) -> Plain {
     (
         options.partitions,
@@ -27,10 +27,10 @@ fn plain(options: &Options) -> Plain {
 /// Paths and options. A count has one path.
 type Told<'a> = (&'a str, &'a str, Plain);
 
-/// Words, with what they ask for.
+/// Arguments, with the job that they ask for.
 type Row = (&'static [&'static str], Told<'static>);
 
-/// The subcommand of a job, and what it tells.
+/// The subcommand of a job, and its paths and options.
 fn told_of<'a>(job: &Job<'a>) -> (&'static str, Told<'a>) {
     match job {
         Job::Count { file, options } => ("count", (*file, "", plain(options))),
@@ -47,7 +47,7 @@ fn told_of<'a>(job: &Job<'a>) -> (&'static str, Told<'a>) {
     }
 }
 
-/// Whether words are answered with a job of this subcommand, which tells this.
+/// Whether the answer is a job of this subcommand, with these paths and options.
 fn is_job(answer: &Result<Job, Usage>, subcommand: &str, told: &Told<'_>) -> bool {
     match answer {
         Ok(job) => told_of(job) == (subcommand, *told),
@@ -55,14 +55,14 @@ fn is_job(answer: &Result<Job, Usage>, subcommand: &str, told: &Told<'_>) -> boo
     }
 }
 
-/// Whether words ask for that job. A test asserts what this tells, and owns no answer: each
-/// assertion is proved with all that lets go what is owned there.
+/// Whether the arguments ask for that job. A test asserts the result of this function and owns no
+/// answer: an assertion is proved together with the drops of what is owned.
 fn asks_for(alloc: Global, words: &[&str], subcommand: &str, told: &Told<'_>) -> bool {
     let answer = read_words(alloc, words);
     is_job(&answer, subcommand, told)
 }
 
-/// The first row whose words do not ask for that job of this subcommand.
+/// The index of the first row whose arguments do not ask for that job of this subcommand.
 fn first_other(alloc: Global, subcommand: &str, rows: &[Row]) -> Option<usize> {
     for (i, (words, told)) in rows.iter().enumerate() {
         if !asks_for(alloc, words, subcommand, told) {
@@ -72,7 +72,7 @@ fn first_other(alloc: Global, subcommand: &str, rows: &[Row]) -> Option<usize> {
     None
 }
 
-/// Words of a count, with its path and its options.
+/// Arguments of a count, with its path and its options.
 const COUNTS: [Row; 9] = [
     (&["count", "f"], ("f", "", PLAIN)),
     (&["count", ""], ("", "", PLAIN)),
@@ -133,7 +133,7 @@ fn options_stand_round_the_path(rt: HostRuntime) {
     assert_eq!(rt; first_other(rt.alloc(), "count", &COUNTS), None);
 }
 
-/// Words of a replay, with its paths and its options.
+/// Arguments of a replay, with its paths and its options.
 const REPLAYS: [Row; 8] = [
     (&["replay", "f", "s"], ("f", "s", PLAIN)),
     (&["replay", "-", "-"], ("-", "-", PLAIN)),
@@ -178,7 +178,7 @@ fn a_replay_has_two_paths_and_a_batch(rt: HostRuntime) {
     assert_eq!(rt; first_other(rt.alloc(), "replay", &REPLAYS), None);
 }
 
-/// Words of a run, with its paths and its options.
+/// Arguments of a run, with its paths and its options.
 const RUNS: [Row; 4] = [
     (&["run", "f", "p"], ("f", "p", PLAIN)),
     (&["run", "-", "-"], ("-", "-", PLAIN)),
@@ -218,8 +218,8 @@ fn are_topics(topics: &[Topic], wanted: Topics) -> bool {
     true
 }
 
-/// Whether words are answered with these topics and this column of theirs, or, where none are wanted,
-/// with what is told of a list that is none.
+/// Whether the answer has these topics and this topic column, or, if there are none, is the error
+/// of an invalid list.
 fn tells(answer: &Result<Job, Usage>, wanted: Option<Topics>, column: u32) -> bool {
     match (answer, wanted) {
         (
@@ -231,13 +231,13 @@ fn tells(answer: &Result<Job, Usage>, wanted: Option<Topics>, column: u32) -> bo
     }
 }
 
-/// Whether words are.
+/// Whether the arguments are answered so.
 fn are_told(alloc: Global, words: &[&str], wanted: Option<Topics>, column: u32) -> bool {
     let answer = read_words(alloc, words);
     tells(&answer, wanted, column)
 }
 
-/// Lists of topics, with theirs, where they are lists.
+/// Lists of topics, each with its topics if it is valid.
 const LISTS: [(&str, Option<Topics>); 24] = [
     ("a:4", Some(&[("a", 4)])),
     ("a:2,b:3", Some(&[("a", 2), ("b", 3)])),
@@ -291,8 +291,7 @@ fn lists_of_topics_are_read(rt: HostRuntime) {
 /// One topic.
 const ONE: Topics = &[("-", 1)];
 
-/// Words of each subcommand, with the column of their topics, and with those, where there is no
-/// fault.
+/// Arguments of each subcommand, with the topic column, and with the topics if they are valid.
 const TOPICS: [(&[&str], u32, Option<Topics>); 6] = [
     (&["count", "f"], 2, Some(&[])),
     (&["count", "--topic-column=65535", "f"], 65535, Some(&[])),
@@ -317,7 +316,7 @@ fn each_subcommand_has_topics(rt: HostRuntime) {
     }
 }
 
-/// Words that are not understood.
+/// Arguments that are not understood.
 const BAD: [&[&str]; 39] = [
     &[],
     &["count"],
@@ -360,7 +359,7 @@ const BAD: [&[&str]; 39] = [
     &["f"],
 ];
 
-/// Whether words are not understood.
+/// Whether the arguments are not understood.
 fn are_bad(alloc: Global, words: &[&str]) -> bool {
     let answer = read_words(alloc, words);
     matches!(&answer, Err(Usage::Bad(_)))
@@ -373,12 +372,12 @@ fn bad_words_are_refused(rt: HostRuntime) {
     }
 }
 
-/// Whether a text begins and ends so.
+/// Whether a text begins and ends like this.
 fn is_between(text: &str, begin: &str, end: &str) -> bool {
     text.starts_with(begin) && text.trim_end().ends_with(end)
 }
 
-/// Whether words are answered with a text that begins and ends so.
+/// Whether the answer is a text that begins and ends like this.
 fn is_text(answer: &Result<Job, Usage>, begin: &str, end: &str) -> bool {
     match answer {
         Err(Usage::Help(text)) => is_between(text.as_str(), begin, end),
@@ -386,7 +385,7 @@ fn is_text(answer: &Result<Job, Usage>, begin: &str, end: &str) -> bool {
     }
 }
 
-/// Whether words ask for such a text.
+/// Whether the arguments ask for such a text.
 fn is_asked(alloc: Global, words: &[&str], begin: &str, end: &str) -> bool {
     let answer = read_words(alloc, words);
     is_text(&answer, begin, end)

@@ -7,7 +7,7 @@ use Rattle.lane_words.specs.declared.Refusal.TheVariants as r
 use Rattle.script.specs.Grammar.{◌>>=◌, lines_from}
 use Rattle.script.specs.Plan.{change_fault, change_said, changes_in, entered, first_fault, is_allowed, is_anybody_left, is_no_plan_line, line_fault, plan_answer, plan_of, roster_of, with_a_line, Roster}
 use Rattle.script.specs.declared.plan.Change.{Change}
-use Rattle.count_report.proofs.Told.{IsLineFault, TellsLines}
+use Rattle.ingest.proofs.Told.{IsLineFault, TellsLines}
 
 change_told : (number : ℕ) (before : Roster) (change : Change) (e : Refusal) → change_fault number before change ≡ Some e → IsLineFault e
 unfolding change_fault

@@ -1,4 +1,4 @@
--- The rows of the end of a run are those of the records and of the plan.
+-- The rows after a run are those that the records and the plan define.
 use Rattle.std.proofs.Common.{◌≡◌, ◌∙◌, ◌+◌, ◌<◌, ◌≤◌, ℕ, zero, suc, Bool, true, false, ◌||◌, List, [], ◌∷◌, ◌++◌, length, map, cond, get_or, Option, Some, None, sym, ap, ap₂, refl, arith, inl, inr, subst, append_assoc, slice_get}
 use Rattle.std.specs.Prelude.{◌==◌, ◌⊎◌, All, filter, find, unwrap_or, Result, Ok, Err, IsOk, fold}
 use Rattle.std.specs.List.{sum}
@@ -32,20 +32,19 @@ use Rattle.script.specs.declared.topics.Topic.{Topic}
 use Rattle.workers.specs.Plans.{settled}
 use Rattle.workers.specs.Runs.{IsRunOf, IsRunRefusal}
 use Rattle.command_line.specs.declared.options.Options.{Options}
-use Rattle.count_report.specs.CountReport.{counts_of, fault_or, first_fault}
-use Rattle.report_rows.specs.CountRows.{count_rows}
+use Rattle.ingest.specs.RecordFaults.{fault_or, first_fault, IsKeyFault}
+use Rattle.report_rows.specs.CountRows.{counts_of, count_rows, AreCountsByNumber}
 use Rattle.report_rows.specs.Rows.{total_row}
-use Rattle.replay_rows.specs.ReplayRows.{closing_rows, committed_count_rows, committed_total, appended_total, end_of, move_row, move_rows, name_or_empty, offset_row, offset_rows, owner_row, owner_rows, rows_below}
+use Rattle.report_rows.specs.ReplayRows.{closing_rows, committed_count_rows, committed_total, appended_total, end_of, move_row, move_rows, name_or_empty, offset_row, offset_rows, owner_row, owner_rows, rows_below}
 use Rattle.run_report.specs.RunReport.{ended_rows, group_rows, records_to, report_of_plan, text_of_run}
-use Rattle.count_report.specs.Reports.{IsNoDeviceFault}
+use Rattle.ingest.specs.Reports.{IsNoDeviceFault}
 use Rattle.run_report.specs.Private.Runs.{EndsRun, IsRunOver}
-use Rattle.count_report.specs.Tally.{AreCountsByNumber, IsKeyFault}
-use Rattle.count_report.proofs.Counted.{counts-are}
-use Rattle.count_report.specs.Records.{partition_counts, place_of_record}
-use Rattle.count_report.proofs.Placed.{log-long, partitions-are}
-use Rattle.replay_rows.proofs.Replayed.{counted_is}
+use Rattle.report_rows.proofs.Counts.{counts-are}
+use Rattle.ingest.specs.Records.{partition_counts, place_of_record}
+use Rattle.ingest.proofs.Placed.{log-long, partitions-are}
+use Rattle.report_rows.proofs.Replayed.{counted_is}
 
--- ---- rows see no flags
+-- ---- rows do not depend on flags
 name_reseated : (m : ℕ) (f : ℕ → Option Seat → Option Seat) (slots : List Slot) (k : ℕ)
     → option_map (λ (s : Slot). s.name) (slice_get (reseated_from m f slots) k) ≡ option_map (λ (s : Slot). s.name) (slice_get slots k)
 name_reseated m f [] k = refl
@@ -115,7 +114,7 @@ offsets_are topics counts records plan s h =
     (λ p lt. let ends = ends_are counts records plan s h p lt in ap₂ (offset_row topics p) ends.0 ends.1)
     ∙ ap (λ m. rows_below m (λ p. offset_row topics p (records_to counts records p) (records_to counts records p))) n
 
--- ---- the totals: each record goes to one partition
+-- ---- the totals: each record is in one partition
 at_place : ℕ → ℕ → ℕ
 at_place place p = cond (place == p) 1 0
 
@@ -197,7 +196,7 @@ known_there seen (x ∷ keys) k h = go (known_there (with_key seen x) keys k h)
     go (inl e) = first (one_more seen x k e)
     go (inr e) = inr (or_right (bytes_eq k x) (is_known keys k) e)
 
--- a key among others is counted there
+-- a key that occurs is counted
 counted_there : (keys : List Key) (k : Key) → is_known keys k ≡ true → plain keys k ≡ 0 → ⊥
 counted_there [] k h e = absurd (cc h)
 counted_there (x ∷ keys) k h e = go (bytes_eq k x) (counted_there keys k) h (sym (sum_by-cons (λ y. cond (bytes_eq k y) 1 0) x keys) ∙ e)
@@ -213,7 +212,7 @@ distinct_counted keys k h = elim (known_there [] keys k h) [
   | inr e ↦ counted_there keys k e
 ]
 
--- the rows of keys that were all counted leave none out
+-- if all keys were counted, each has a row
 counted_rows : (keys some : List Key) → ((k : Key) → is_known some k ≡ true → plain keys k ≡ 0 → ⊥) → committed_count_rows some (map (plain keys) some) ≡ count_rows some (map (plain keys) some)
 unfolding committed_count_rows count_rows
 counted_rows keys [] h = refl
@@ -246,7 +245,7 @@ joined m o f c t =
     sym (append_assoc m ((o ++ f) ++ c) t) ∙ ap (λ x. x ++ t) (sym (append_assoc m (o ++ f) c) ∙ ap (λ x. x ++ c) (sym (append_assoc m o f)))
     ∙ append_assoc ((m ++ o) ++ f) c t
 
--- the moves and the closing rows of the end of a run
+-- the moves and the closing rows after a run
 pub text_is : (topics : List Topic) (counts : List ℕ) (records : List Keyed) (plan : List Change) (s : ClusterState) → IsRunOver counts records plan s
     → move_rows topics s.group s.group.moves ++ closing_rows topics s ≡ text_of_run topics counts records plan
 unfolding text_of_run
@@ -280,7 +279,7 @@ pub text_told : (options : Options) (records : List Keyed) (plan : List Change) 
 unfolding report_of_plan
 text_told options records plan text none is = ap (λ fault. fault_or fault (text_of_run options.topics.items (partition_counts options) records plan)) none ∙ ap Ok (sym is)
 
--- a record can't
+-- a record can't be appended
 fault_told : (options : Options) (records : List Keyed) (plan : List Change) (fault : Refusal) → first_fault (partition_counts options) [] records ≡ Some fault → report_of_plan options records plan ≡ Err fault
 unfolding report_of_plan
 fault_told options records plan fault some = ap (λ o. fault_or o (text_of_run options.topics.items (partition_counts options) records plan)) some
@@ -301,7 +300,7 @@ pub key_ends_run : (options : Options) (records : List Keyed) (plan : List Chang
 key_ends_run options records plan e k (inl m) = key_ends (report_of_plan options records plan) e k (inl m)
 key_ends_run options records plan e k (inr h) = key_ends (report_of_plan options records plan) e k (inr (fault_told options records plan e h))
 
--- so does what a run is refused for
+-- so does a refusal of the run
 pub refusal_ends_run : (options : Options) (records : List Keyed) (plan : List Change) (e : Refusal) → first_fault (partition_counts options) [] records ≡ None → IsRunRefusal e → EndsRun (report_of_plan options records plan) e
 refusal_ends_run options records plan e none h = go h
   where

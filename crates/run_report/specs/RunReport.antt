@@ -1,6 +1,6 @@
--- The report of a run: a text, or a fault. It is one of the records and of the plan alone: however
--- the threads fall, each record is committed and counted once.
-use Rattle.std.specs.Prelude.{◌==◌, ℕ, List, [], ◌++◌, length, filter, Option, Result, Err, IsOk}
+-- The report of a run: a text, or a fault. It is a function of the records and the plan: whatever
+-- the schedule of the threads, each record is committed and counted once.
+use Rattle.std.specs.Prelude.{◌==◌, ℕ, List, [], ◌++◌, length, filter, Option, Result, Err, IsOk, IfSome}
 use Rattle.std.specs.Io.KnownBytes.{Keeps}
 use Rattle.std.specs.List.{sum}
 use Rattle.lane_words.specs.declared.Refusal.{Refusal}
@@ -12,17 +12,18 @@ use Rattle.script.specs.declared.plan.Change.{Change}
 use Rattle.script.specs.declared.topics.Topic.{Topic}
 use Rattle.workers.specs.Plans.{settled}
 use Rattle.command_line.specs.declared.options.Options.{Options}
-use Rattle.count_report.specs.CountReport.{fault_or, first_fault, plain_text}
-use Rattle.count_report.specs.Records.{partition_counts, place_of_record, records_of}
-use Rattle.replay_rows.specs.ReplayRows.{move_rows, offset_row, owner_rows, rows_below}
-use Rattle.count_report.specs.Reports.{WritesReport, report_of_read}
+use Rattle.ingest.specs.RecordFaults.{fault_or, first_fault}
+use Rattle.report_rows.specs.CountRows.{plain_text}
+use Rattle.ingest.specs.Records.{partition_counts, place_of_record, records_of}
+use Rattle.report_rows.specs.ReplayRows.{move_rows, offset_row, owner_rows, rows_below}
+use Rattle.ingest.specs.Reports.{WritesReport, report_of_read}
 
--- how many of these records go to a partition, which is how long its log is
+-- the number of these records in a partition, which is its end offset
 abbrev pub records_to : List ℕ → List Keyed → ℕ → ℕ
 records_to counts records p =
     length (filter (λ keyed. place_of_record counts keyed == p) records)
 
--- the row of each partition of which the end is committed
+-- the offset row of each partition, with its end committed
 abbrev pub ended_rows : List Topic → List ℕ → List Keyed → List ℕ
 ended_rows topics counts records =
     rows_below (sum counts)
@@ -32,32 +33,37 @@ ended_rows topics counts records =
 abbrev pub group_rows : List Topic → GroupState → List ℕ
 group_rows topics g = move_rows topics g g.moves ++ owner_rows topics g
 
--- the moves and the owners that a plan comes to, the ends of the logs, and what a count of the keys
--- writes, where the topics have so many partitions each
+-- the moves and the owners that a plan leads to, the offsets, and what a count of the keys writes,
+-- among topics with these numbers of partitions
 unfoldable pub text_of_run : List Topic → List ℕ → List Keyed → List Change → List ℕ
 text_of_run topics counts records plan =
     group_rows topics (settled (sum counts) plan) ++ ended_rows topics counts records
     ++ plain_text (keys_in records)
 
--- what a run of a plan over records writes, or the fault that it tells: the first record that can't
--- be appended
+-- what a run of a plan over records writes, or its fault: the first record that can't be appended
 unfoldable pub report_of_plan : Options → List Keyed → List Change → Result (List ℕ) Refusal
 report_of_plan options records plan =
     fault_or (first_fault (partition_counts options) [] records)
     (text_of_run options.topics.items (partition_counts options) records plan)
 
--- what a run of a script over a file writes, or the fault that it tells: the first bad record, then
--- the first bad line, and only then the first record that can't be appended
+-- what a run of a script over a file writes, or its fault: the first bad record, then the first bad
+-- line, and only then the first record that can't be appended
 abbrev pub report_of_run : Options → List ℕ → List ℕ → Result (List ℕ) Refusal
 report_of_run options file script =
     report_of_read
     (λ records. report_of_read (report_of_plan options records) (plan_answer script))
     (records_of options file)
 
--- what an answer says of the bytes that were written, where this is the report. A run that was
--- stopped, or that differed from what was given, has written nothing, and its report is a text
+-- what an answer says of the bytes written, given the report. A run that was stopped, or that
+-- differed from what it was given, has written nothing, and its report is a text
 abbrev pub WritesRun : Result (List ℕ) Refusal → Option (List ℕ) → Option (List ℕ)
     → Result (Unit {0}) Refusal → Type 0
 WritesRun report old new (Err r.GateLimit) = IsOk report × Keeps old new
 WritesRun report old new (Err r.Differs) = IsOk report × Keeps old new
 WritesRun report old new result = WritesReport report old new result
+
+-- if the bytes of a file and of a script are known, the report of their run is written
+abbrev pub WritesRunIfKnown : (List ℕ → List ℕ → Result (List ℕ) Refusal) → Option (List ℕ)
+    → Option (List ℕ) → Option (List ℕ) → Option (List ℕ) → Result (Unit {0}) Refusal → Type 0
+WritesRunIfKnown report file script old new result =
+    IfSome file (λ bytes. IfSome script (λ lines. WritesRun (report bytes lines) old new result))

@@ -1,4 +1,4 @@
--- The load of a file's records into a world.
+-- The records of a file, loaded into a world.
 use Rattle.std.specs.Prelude.{◌≡◌, ◌⊎◌, ℕ, List, Result, Ok, Err}
 use Rattle.std.specs.List.{AllZip}
 use Rattle.lane_words.specs.declared.Refusal.{Refusal}
@@ -19,8 +19,8 @@ IsAppendOf event keyed = ⊥
 abbrev pub AreAppendsOf : List Event → List Keyed → Type 0
 AreAppendsOf events records = AllZip IsAppendOf events records
 
--- a load of records: all are appended, or it is refused as the first that is not, or for want of
--- memory
+-- a load of records: all are appended, or it is refused like the first record that is not, or
+-- because an allocation failed
 abbrev pub LoadsRecords : WorldState → List Keyed → Result (Unit {0}) Refusal → WorldState → Type 0
 LoadsRecords w records (Ok _) w2 =
     (events : List Event) × AreAppendsOf events records × Appends w events w2

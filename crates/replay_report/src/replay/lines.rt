@@ -1,29 +1,30 @@
-//! The lines of a replay: what each does in the world, and its rows.
+//! The lines of a script: their effects on the world, and their rows.
 
-ghost use Rattle.std.specs.Prelude.{◌≡◌, ◌≢◌, ◌≤◌, ◌⊎◌, ◌++◌, ℕ, List, Ok, Err, IfOk, IfErr, OnOk};
+ghost use Rattle.std.specs.Prelude.{◌≡◌, ◌≢◌, ◌≤◌, ◌⊎◌, ℕ, Ok, Err, IfOk, IfErr, OnOk};
+ghost use Rattle.lane_words.specs.Answers.{Answers};
 ghost use Rattle.lane_words.specs.declared.Refusal.TheVariants as refusal;
-ghost use Rattle.replay_report.specs.Private.Replay.{ComesOrMemory, GoesOn, IsEvent, IsOver, WritesText};
-ghost use Rattle.count_report.specs.Reports.{IsNoDeviceFault};
-ghost use Rattle.report_rows.specs.Rows.{HasText};
-ghost use Rattle.replay_report.specs.ReplayReport.{number_named, outcome_of_event, outcome_of_line, rows_of_answer, rows_of_line, text_of_lines};
+ghost use Rattle.replay_report.specs.Private.Replay.{ComesOrMemory, GoesOn, IsEvent, IsOver, WritesLines, line_rows};
+ghost use Rattle.ingest.specs.Reports.{IsNoDeviceFault, text_seen};
+ghost use Rattle.report_rows.specs.Rows.{AddsRows};
+ghost use Rattle.replay_report.specs.ReplayReport.{number_named, outcome_of_event, outcome_of_line, rows_of_answer, text_of_lines};
 ghost use Rattle.world.specs.Courses.{outcome_of};
 
 use csv::Writer;
 use group_machine::Name;
 use lane_words::{Memory, Refusal};
-use report_rows::rows;
+use report_rows::{replay_rows, rows};
 use script::{Action, Line, Topic};
 use std::alloc::Global;
 use world::{Event, Reply, World};
 
-/// The number that a name stands for; 0, which is nobody's, where it stands for none.
+/// The number of the member of this name, or 0, which is no member's number.
 fn number_named(world: &World, name: &Name) -> u32
     ensures { result ≡ number_named world.now.cluster.group name.now }
 {
     world.cluster().member_named(name).unwrap_or(0)
 }
 
-/// One event, and whether it was refused.
+/// Applies an event, and returns its refusal if it is refused.
 fn happen(world: &mut World, event: Event<'_>) -> Result<(), Refusal>
     ensures { ComesOrMemory (outcome_of_event (outcome_of world.old event.entry)) result world.new }
 {
@@ -33,7 +34,7 @@ fn happen(world: &mut World, event: Event<'_>) -> Result<(), Refusal>
     }
 }
 
-/// The event that a line names. A member is told by its name.
+/// The event that a line stands for.
 #[tactic(auto, unfolding(crate::specs::ReplayReport::outcome_of_line))]
 fn event_of<'a>(world: &World, action: &'a Action) -> Event<'a>
     requires { IsEvent action.now }
@@ -69,7 +70,7 @@ fn event_of<'a>(world: &World, action: &'a Action) -> Event<'a>
     }
 }
 
-/// Does what a line says.
+/// Applies a line.
 #[tactic(auto, unfolding(crate::specs::ReplayReport::outcome_of_line))]
 fn act(world: &mut World, action: &Action, batch: u32) -> Result<(), Refusal>
     requires { 1 ≤ batch }
@@ -85,10 +86,12 @@ fn act(world: &mut World, action: &Action, batch: u32) -> Result<(), Refusal>
     }
 }
 
-/// Does what a line says, and tells whether that was refused.
+/// Applies a line and returns its answer.
 ///
-/// Refused itself, since nothing is to be written, for want of memory, and where the line would
-/// pass the last generation.
+/// # Errors
+///
+/// What ends the whole replay: `Memory` if an allocation failed, and `GenerationsOver` if the line
+/// would pass the last generation.
 fn perform(world: &mut World, action: &Action, batch: u32) -> Result<Result<(), Refusal>, Refusal>
     requires { 1 ≤ batch }
     ensures performed { IfOk result
@@ -105,14 +108,13 @@ fn perform(world: &mut World, action: &Action, batch: u32) -> Result<Result<(), 
     Ok(answer)
 }
 
-/// Writes the row of a refusal, where a line was refused.
+/// Writes the row of a refusal, if the line was refused.
 fn write_answer(
     writer: &mut Writer<Vec<u8>>,
     line: u64,
     answer: Result<(), Refusal>,
 ) -> Result<(), Memory>
-    ensures { OnOk result ((text : List ℕ) → HasText writer.old text
-        → HasText writer.new (text ++ rows_of_answer line answer)) }
+    ensures { OnOk result (AddsRows writer.old writer.new (rows_of_answer line answer)) }
 {
     match answer {
         Ok(()) => Ok(()),
@@ -120,7 +122,7 @@ fn write_answer(
     }
 }
 
-/// Does what a line says, and writes its rows: the moves that it made, and its refusal.
+/// Applies a line and writes its rows: its moves, and its refusal.
 fn write_line(
     writer: &mut Writer<Vec<u8>>,
     topics: &[Topic],
@@ -131,9 +133,8 @@ fn write_line(
     requires { 1 ≤ batch }
     ensures world { OnOk result (world.new
         ≡ (outcome_of_line batch world.old line.now.action).after) }
-    ensures rows { OnOk result ((text : List ℕ) → HasText writer.old text
-        → HasText writer.new (text ++ rows_of_line topics.now line.now.number world.old
-        (outcome_of_line batch world.old line.now.action))) }
+    ensures rows { OnOk result
+        (AddsRows writer.old writer.new (line_rows topics.now batch world.old line.now)) }
     ensures not_over { OnOk result ((outcome_of_line batch world.old line.now.action).answer
         ≢ Err refusal.GenerationsOver) }
     ensures refused { IfErr result (λ e. (e ≡ refusal.Memory) ⊎ IsOver e
@@ -146,7 +147,7 @@ fn write_line(
     Ok(())
 }
 
-/// Does what the lines say, one after the other, and writes their rows.
+/// Applies the lines in order and writes their rows, and then the closing rows.
 fn write_lines(
     writer: &mut Writer<Vec<u8>>,
     topics: &[Topic],
@@ -155,9 +156,8 @@ fn write_lines(
     batch: u32,
 ) -> Result<(), Refusal>
     requires { 1 ≤ batch }
-    ensures rows { OnOk result ((text : List ℕ) → HasText writer.old text
-        → WritesText (text_of_lines topics.now batch world.old lines.now) text
-        (HasText writer.new)) }
+    ensures rows { OnOk result (WritesLines writer.old writer.new
+        (text_of_lines topics.now batch world.old lines.now)) }
     ensures kind { IfErr result IsNoDeviceFault }
     ensures refused { IfErr result
         (λ e. (e ≡ refusal.Memory) ⊎ (text_of_lines topics.now batch world.old lines.now ≡ Err e)) }
@@ -169,8 +169,8 @@ fn write_lines(
     Ok(())
 }
 
-/// The text of lines in a world: their rows, and the closing rows. With topics, each partition is
-/// told by its topic.
+/// The text of a script's lines in a world: their rows, and the closing rows. With topics, a
+/// partition is named by its topic and its number there.
 pub fn text_of_lines(
     alloc: Global,
     topics: &[Topic],
@@ -179,11 +179,9 @@ pub fn text_of_lines(
     batch: u32,
 ) -> Result<Vec<u8>, Refusal>
     requires { 1 ≤ batch }
-    ensures text { IfOk result
-        (λ text. text_of_lines topics.now batch world.old lines.now ≡ Ok text.items) }
+    ensures answer { Answers (text_of_lines topics.now batch world.old lines.now)
+        (text_seen result) }
     ensures kind { IfErr result IsNoDeviceFault }
-    ensures refused { IfErr result
-        (λ e. (e ≡ refusal.Memory) ⊎ (text_of_lines topics.now batch world.old lines.now ≡ Err e)) }
 {
     let mut writer = rows::new_writer(alloc);
     write_lines(&mut writer, topics, world, lines, batch)?;

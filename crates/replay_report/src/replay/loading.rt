@@ -1,18 +1,16 @@
-//! The world of a replay before the first line of its script.
+//! The world in which a replay begins.
 
-ghost use Rattle.std.specs.Prelude.{◌≡◌, ◌⊎◌, [], None, Some, IfOk, IfErr, OnOk, map};
-ghost use Rattle.lane_words.specs.declared.Refusal.TheVariants as refusal;
+ghost use Rattle.std.specs.Prelude.{◌≡◌, IfOk, OnOk, map};
 ghost use Rattle.partition_log.specs.Appends.{in_first};
-ghost use Rattle.count_report.specs.CountReport.{first_fault};
-ghost use Rattle.count_report.specs.Records.{AreOfTopics, partition_counts, record_of, records_in};
-ghost use Rattle.count_report.specs.Reports.{AreInRange};
-ghost use Rattle.count_report.specs.Tally.{IsKeyFault};
+ghost use Rattle.ingest.specs.RecordFaults.{TakesRecords};
+ghost use Rattle.ingest.specs.Records.{AreOfTopics, partition_counts, record_of, records_in};
+ghost use Rattle.ingest.specs.Reports.{AreInRange};
 ghost use Rattle.replay_report.specs.Private.Loading.{LoadsRecords};
 ghost use Rattle.replay_report.specs.ReplayReport.{loaded, opening_world};
 ghost use Rattle.world.specs.Valid.{IsValidWorld};
 
 use command_line::Options;
-use count_report::{FileRecords, partition_counts};
+use ingest::{FileRecords, partition_counts};
 use key_file::{FileKeys, TopicKeys};
 use lane_words::{Memory, Refusal};
 use std::alloc::Global;
@@ -20,7 +18,7 @@ use std::random::RandomSource;
 use std::thread::Threads;
 use world::World;
 
-/// A world in which nothing has happened, of the topics of these options.
+/// A new world with the topics of these options.
 fn opened(rt: &impl RandomSource, alloc: Global, options: &Options) -> Result<World, Memory>
     requires { AreInRange options.now }
     ensures opening { IfOk result
@@ -32,10 +30,13 @@ fn opened(rt: &impl RandomSource, alloc: Global, options: &Options) -> Result<Wo
     Ok(world)
 }
 
-/// A world to which the records of a file were appended, one after the other, and in which nothing
-/// else has happened. The records are let go: its logs have a copy of each key.
+/// A new world with the records of a file appended in order. The records are dropped, since the
+/// logs have a copy of each key.
 ///
-/// Refused by the first record that can't be appended.
+/// # Errors
+///
+/// The fault of the first record that can't be appended; `Memory` if an allocation failed or the
+/// system had no random bytes.
 pub fn world_of<R: Threads + Sync + RandomSource>(
     rt: &R,
     alloc: Global,
@@ -47,16 +48,12 @@ pub fn world_of<R: Threads + Sync + RandomSource>(
     ensures world { IfOk result (λ world. world
         ≡ loaded (opening_world (partition_counts options.now)) (records_in records)) }
     ensures valid { IfOk result IsValidWorld }
-    ensures accepted { OnOk result
-        (first_fault (partition_counts options.now) [] (records_in records) ≡ None) }
-    ensures kind { IfErr result IsKeyFault }
-    ensures refused { IfErr result (λ e. (e ≡ refusal.Memory)
-        ⊎ (first_fault (partition_counts options.now) [] (records_in records) ≡ Some e)) }
+    ensures answer { TakesRecords (partition_counts options.now) (records_in records) result }
 {
     loaded(rt, alloc, &records, options)
 }
 
-/// The same of records that are kept.
+/// The same of borrowed records.
 fn loaded<R: Threads + Sync + RandomSource>(
     rt: &R,
     alloc: Global,
@@ -68,18 +65,14 @@ fn loaded<R: Threads + Sync + RandomSource>(
     ensures world { IfOk result (λ world. world
         ≡ loaded (opening_world (partition_counts options.now)) (records_in records.now)) }
     ensures valid { IfOk result IsValidWorld }
-    ensures accepted { OnOk result
-        (first_fault (partition_counts options.now) [] (records_in records.now) ≡ None) }
-    ensures kind { IfErr result IsKeyFault }
-    ensures refused { IfErr result (λ e. (e ≡ refusal.Memory)
-        ⊎ (first_fault (partition_counts options.now) [] (records_in records.now) ≡ Some e)) }
+    ensures answer { TakesRecords (partition_counts options.now) (records_in records.now) result }
 {
     let mut world = opened(rt, alloc, options)?;
     load_records(rt, alloc, &mut world, records)?;
     Ok(world)
 }
 
-/// Appends the records of a file, one after the other.
+/// Appends the records in order.
 fn load_records<R: Threads + Sync>(
     rt: &R,
     alloc: Global,
@@ -96,7 +89,7 @@ fn load_records<R: Threads + Sync>(
     }
 }
 
-/// Appends records of these keys to the first topic.
+/// Appends a record of each key to the first topic.
 fn load_keys<R: Threads + Sync>(
     rt: &R,
     alloc: Global,
@@ -113,7 +106,7 @@ fn load_keys<R: Threads + Sync>(
     }
 }
 
-/// Appends records of these keys, each to its topic.
+/// Appends a record of each key to the topic that stands before it.
 fn load_topic_keys<R: Threads + Sync>(
     rt: &R,
     alloc: Global,

@@ -1,4 +1,4 @@
--- A run, before its text is written.
+-- A run before its text is written.
 use Rattle.std.specs.Prelude.{◌≡◌, ℕ, List, Result, IsOk}
 use Rattle.lane_words.specs.declared.Refusal.{Refusal}
 use Rattle.lane_words.specs.declared.Refusal.TheVariants as r
@@ -7,10 +7,10 @@ use Rattle.partition_log.specs.Logs.{AreLogsOf}
 use Rattle.group_machine.specs.Cluster.{ClusterState, IsValidCluster}
 use Rattle.script.specs.declared.plan.Change.{Change}
 use Rattle.workers.specs.Runs.{IsRunOf}
-use Rattle.count_report.specs.Reports.{IsFaultOf}
+use Rattle.ingest.specs.Reports.{IsFaultOf}
 
--- the cluster is the end of a run of a plan over the logs of these records, of topics with so many
--- partitions each
+-- this is the cluster after a run of a plan over the logs of these records, among topics with these
+-- numbers of partitions
 pub record IsRunOver
     (counts : List ℕ) (records : List Keyed) (plan : List Change) (s : ClusterState) : Type 0 where
   pub valid : IsValidCluster s
@@ -18,7 +18,7 @@ pub record IsRunOver
   pub logs : AreLogsOf records s.logs
   pub run : IsRunOf s.logs plan s
 
--- why a run ends with nothing to write: it was stopped or differed, and its report is a text, or
+-- why a run ends with nothing to write: it was stopped or differed, though its report is a text, or
 -- for a fault that ends a read
 abbrev pub EndsRun : Result (List ℕ) Refusal → Refusal → Type 0
 EndsRun report r.GateLimit = IsOk report

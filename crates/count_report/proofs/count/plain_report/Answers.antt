@@ -1,18 +1,21 @@
-use Rattle.std.proofs.Common.{◌∙◌, ◌++◌, Ok, List, length, sym, ap}
+use Rattle.std.proofs.Common.{◌≡◌, ◌∙◌, [], ◌++◌, Ok, Err, List, inl, length, rules, sym, ap}
 use Rattle.std.proofs.lemmas.List.{length-map}
 use Rattle.partition_log.specs.Keys.{Key, Keyed, distinct, keys_in}
-use Rattle.report_rows.specs.CountRows.{count_rows}
+use Rattle.report_rows.specs.CountRows.{count_rows, counts_of, plain_text}
 use Rattle.report_rows.specs.Rows.{total_row}
-use Rattle.count_report.specs.CountReport.{counts_of, fault_or, plain_text}
-use Rattle.count_report.specs.Records.{records_in}
-use Rattle.count_report.proofs.Counted.{counts-are}
+use Rattle.ingest.specs.RecordFaults.{fault_or, first_fault}
+use Rattle.ingest.specs.Records.{partition_counts, records_in}
+use Rattle.ingest.proofs.Faulted.{fault_told}
+use Rattle.ingest.proofs.Told.{as_answer}
+use Rattle.count_report.specs.CountReport.{report_of_records}
+use Rattle.report_rows.proofs.Counts.{counts-are}
 use Rattle.count_report.proofs.count.plain_report.Goals as goal
 
 pub count_rows_texts-requires-after_bounds : goal.count_rows_texts-requires-after_bounds
 count_rows_texts-requires-after_bounds g c κs within = sym c.in_ok-counts.ensures.one_each ∙ ap length (sym c.counts-2.ensures)
 
-pub returns-clause-text : goal.returns-clause-text
-returns-clause-text g c =
+pub returns-clause-answer : goal.returns-clause-answer
+returns-clause-answer g c =
     let records = records_in c.args.records in
     let keys = keys_in records in
     let logs = c.in_ok-logs.ensures in
@@ -21,4 +24,12 @@ returns-clause-text g c =
     let total = c.len-total.result in
     let rows = c.in_ok-texts.ensures ∙ ap (λ (ks : List Key). count_rows ks c.counts-2.result.now ++ total_row total total) logs.logs.numbers
     ∙ ap (λ ns. count_rows (distinct keys) ns ++ total_row total total) counts ∙ ap (λ n. count_rows (distinct keys) (counts_of keys) ++ total_row n n) long in
-    ap (λ fault. fault_or fault (plain_text keys)) logs.accepted ∙ ap Ok (sym rows)
+    inl (sym (ap (λ fault. fault_or fault (plain_text keys)) logs.answer ∙ ap Ok (sym rows)))
+
+pub returns-in_err-logs-clause-answer : goal.returns-in_err-logs-clause-answer
+returns-in_err-logs-clause-answer g c =
+    let records = records_in c.args.records in
+    let counts = partition_counts c.args.options.now in
+    let fault = c.in_err-logs.field-0.0 in
+    let same : c.from_residual.result ≡ Err fault = search rules in
+    rw same (as_answer (report_of_records counts records) fault (fault_told (first_fault counts [] records) (plain_text (keys_in records)) fault c.in_err-logs.ensures.answer.1))

@@ -1,11 +1,25 @@
-use Rattle.std.proofs.Common.{rules}
+use Rattle.std.proofs.Common.{◌≡◌, Err, Option, Some, Result, List, ℕ, ap, inl, inr, rules}
+use Rattle.std.specs.Prelude.{◌⊎◌}
+use Rattle.std.specs.Option.{option_map_or}
+use Rattle.lane_words.specs.declared.Refusal.{Refusal}
+use Rattle.lane_words.specs.declared.Refusal.TheVariants as r
+use Rattle.ingest.specs.Records.{records_in}
+use Rattle.ingest.proofs.Told.{as_answer}
 use Rattle.replay_report.specs.ReplayReport.{report_of_lines}
 use Rattle.replay_report.proofs.replay.report_of_lines.Goals as goal
 
-pub returns-clause-text : goal.returns-clause-text
-unfolding report_of_lines
-returns-clause-text g c = search rules
+-- a record that can't be appended ends a replay
+ended : (fault : Option Refusal) (text : Result (List ℕ) Refusal) (e : Refusal) → (e ≡ r.Memory) ⊎ (fault ≡ Some e) → (e ≡ r.Memory) ⊎ (option_map_or Err fault text ≡ Err e)
+ended fault text e (inl m) = inl m
+ended fault text e (inr h) = inr (ap (λ f. option_map_or Err f text) h)
 
-pub returns-clause-refused : goal.returns-clause-refused
+pub returns-in_err-world-clause-answer : goal.returns-in_err-world-clause-answer
 unfolding report_of_lines
-returns-clause-refused g c = search rules
+returns-in_err-world-clause-answer g c =
+    let fault = c.in_err-world.field-0.0 in
+    let same : c.from_residual.result ≡ Err fault = search rules in
+    rw same (as_answer (report_of_lines c.args.options.now (records_in c.args.records) c.args.lines.now) fault (ended _ _ fault c.in_err-world.ensures.answer.1))
+
+pub returns-clause-answer : goal.returns-clause-answer
+unfolding report_of_lines
+returns-clause-answer g c = search rules

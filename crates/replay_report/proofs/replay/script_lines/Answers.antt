@@ -1,6 +1,6 @@
 use Rattle.std.proofs.Common.{arith}
 use Rattle.script.specs.Replay.{lines_seen, read_answer_in}
-use Rattle.count_report.proofs.Told.{answer_kind, answer_reads, answer_refused}
+use Rattle.ingest.proofs.Told.{answer_kind, answer_reads, answer_refused}
 use Rattle.replay_report.proofs.LineFaults.{lines_err, lines_reads, lines_tell}
 use Rattle.replay_report.proofs.replay.script_lines.Goals as goal
 

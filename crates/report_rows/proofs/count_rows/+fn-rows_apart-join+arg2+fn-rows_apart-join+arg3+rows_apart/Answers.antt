@@ -8,8 +8,8 @@ pub returns : goal.returns
 returns g t c =
     let keys = (g.L.LogRead.contents c.args.logs.now).keys in
     let counts = c.args.counts.now in
-    let from = c.args.from in
-    let to = c.args.to in
+    let from = c.args.span.from in
+    let to = c.args.span.to in
     let middle = from + (to - from) / 2 in
     let front = flat_map vec_items c.in_ok-front.field-0.items in
     let back = flat_map vec_items c.in_ok-back.field-0.items in

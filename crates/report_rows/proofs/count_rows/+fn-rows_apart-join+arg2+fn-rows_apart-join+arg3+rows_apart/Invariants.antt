@@ -8,4 +8,4 @@ abbrev pub decreases-join+arg3 : goal.decreases-join+arg3
 decreases-join+arg3 g l = 2 * (l.to - l.middle) + 1
 
 abbrev pub decreases-rows_apart : goal.decreases-rows_apart
-decreases-rows_apart g l = 2 * (l.to - l.from)
+decreases-rows_apart g l = 2 * (l.span.to - l.span.from)

@@ -1,9 +1,9 @@
 use Rattle.std.proofs.Common.{◌∙◌, ◌++◌, List, ap}
 use Rattle.std.proofs.lemmas.Result.{IfOk-weaker}
 use Rattle.script.specs.declared.topics.Topic.{Topic}
-use Rattle.count_report.specs.Records.{partition_counts, records_in}
+use Rattle.ingest.specs.Records.{partition_counts, records_in}
 use Rattle.group_machine.specs.Cluster.{ClusterState}
-use Rattle.replay_rows.specs.ReplayRows.{closing_rows, move_rows}
+use Rattle.report_rows.specs.ReplayRows.{closing_rows, move_rows}
 use Rattle.run_report.proofs.Ran.{text_is, text_told}
 use Rattle.run_report.proofs.run.report_of_plan.Goals as goal
 

@@ -1,6 +1,6 @@
 use Rattle.std.proofs.Common.{arith}
 use Rattle.script.specs.Plan.{plan_answer}
-use Rattle.count_report.proofs.Told.{answer_kind, answer_reads, answer_refused, answer_unstopped}
+use Rattle.ingest.proofs.Told.{answer_kind, answer_reads, answer_refused, answer_unstopped}
 use Rattle.run_report.proofs.PlanFaults.{plan_tells}
 use Rattle.run_report.proofs.run.script_plan.Goals as goal
 

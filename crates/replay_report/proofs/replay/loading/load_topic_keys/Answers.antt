@@ -2,8 +2,8 @@ use Rattle.std.proofs.Common.{◌≡◌, Bor, List, ℕ, inr, length, map, subst
 use Rattle.key_file.specs.KeyFile.{key_behind, topic_of}
 use Rattle.partition_log.specs.Keys.{Key}
 use Rattle.world.specs.Runs.{appends_in}
-use Rattle.count_report.specs.Records.{record_of}
-use Rattle.count_report.proofs.Taken.{records-are, topics-are}
+use Rattle.ingest.specs.Records.{record_of}
+use Rattle.ingest.proofs.Taken.{records-are, topics-are}
 use Rattle.replay_report.specs.Private.Loading.{AreAppendsOf}
 use Rattle.replay_report.proofs.Loaded.{topic_appends}
 use Rattle.replay_report.proofs.replay.loading.load_topic_keys.Goals as goal

@@ -1,7 +1,7 @@
 use Rattle.std.proofs.Common.{◌≡◌, ◌∙◌, [], ℕ, List, ap, rules, subst, sym}
 use Rattle.std.specs.Prelude.{Err}
 use Rattle.partition_log.specs.Logs.{AreLogsOf}
-use Rattle.count_report.specs.Records.{AreOfTopics, partition_counts, records_in}
+use Rattle.ingest.specs.Records.{AreOfTopics, partition_counts, records_in}
 use Rattle.replay_report.specs.ReplayReport.{loaded, opening_world}
 use Rattle.replay_report.proofs.Loaded.{load_done, load_stopped}
 use Rattle.replay_report.proofs.Opening.{opening_counts, opening_logs}
@@ -27,25 +27,17 @@ returns-clause-world g c =
     let done = load_done counts w (records_in c.args.records.now) c.load_records.new.world new.valid (logs_are counts w new.opening) (counts_are counts w new.opening) c.requires.topics c.in_ok-load_records.ensures.loads in
     done.0 ∙ ap (λ x. loaded x (records_in c.args.records.now)) new.opening
 
-pub returns-clause-accepted : goal.returns-clause-accepted
-returns-clause-accepted g c =
+pub returns-clause-answer : goal.returns-clause-answer
+returns-clause-answer g c =
     let counts = partition_counts c.args.options.now in
     let w = c.in_ok-world.world in
     let new = c.in_ok-world.ensures in
     (load_done counts w (records_in c.args.records.now) c.load_records.new.world new.valid (logs_are counts w new.opening) (counts_are counts w new.opening) c.requires.topics c.in_ok-load_records.ensures.loads).1
 
-pub returns-in_err-load_records-clause-kind : goal.returns-in_err-load_records-clause-kind
-returns-in_err-load_records-clause-kind g c =
+pub returns-in_err-load_records-clause-answer : goal.returns-in_err-load_records-clause-answer
+returns-in_err-load_records-clause-answer g c =
     let counts = partition_counts c.args.options.now in
     let w = c.in_ok-world.world in
     let new = c.in_ok-world.ensures in
     let same : c.from_residual-in_err-load_records.result ≡ Err c.in_err-load_records.field-0.0 = search rules in
-    rw same (load_stopped counts w (records_in c.args.records.now) c.in_err-load_records.field-0.0 c.load_records.new.world new.valid (logs_are counts w new.opening) (counts_are counts w new.opening) c.requires.topics c.in_err-load_records.ensures.loads).0
-
-pub returns-in_err-load_records-clause-refused : goal.returns-in_err-load_records-clause-refused
-returns-in_err-load_records-clause-refused g c =
-    let counts = partition_counts c.args.options.now in
-    let w = c.in_ok-world.world in
-    let new = c.in_ok-world.ensures in
-    let same : c.from_residual-in_err-load_records.result ≡ Err c.in_err-load_records.field-0.0 = search rules in
-    rw same (load_stopped counts w (records_in c.args.records.now) c.in_err-load_records.field-0.0 c.load_records.new.world new.valid (logs_are counts w new.opening) (counts_are counts w new.opening) c.requires.topics c.in_err-load_records.ensures.loads).1
+    rw same (load_stopped counts w (records_in c.args.records.now) c.in_err-load_records.field-0.0 c.load_records.new.world new.valid (logs_are counts w new.opening) (counts_are counts w new.opening) c.requires.topics c.in_err-load_records.ensures.loads)

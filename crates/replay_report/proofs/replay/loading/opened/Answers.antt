@@ -1,6 +1,6 @@
 use Rattle.std.proofs.Common.{◌∙◌, subst}
 use Rattle.std.specs.List.{sum}
-use Rattle.count_report.specs.Records.{partition_counts}
+use Rattle.ingest.specs.Records.{partition_counts}
 use Rattle.world.specs.Runs.{IsOpening}
 use Rattle.replay_report.proofs.Opening.{opening_is}
 use Rattle.replay_report.proofs.replay.loading.opened.Goals as goal

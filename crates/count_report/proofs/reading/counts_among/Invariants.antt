@@ -1,6 +1,0 @@
-use Rattle.std.proofs.Common.{◌≡◌, map, take}
-use Rattle.script.specs.declared.topics.Topic.{Topic}
-use Rattle.count_report.proofs.reading.counts_among.Given as goal
-
-abbrev pub invariant-loop-topic : goal.invariant-loop-topic
-invariant-loop-topic l = l.counts.items ≡ map (λ (t : Topic). t.partitions) (take l.topic-index l.topics)

@@ -1,0 +1,85 @@
+-- The first record that can't be appended, by the answers of the logs.
+use Rattle.std.proofs.Common.{◌≡◌, ◌∙◌, ℕ, Bool, true, false, List, [], ◌∷◌, ◌++◌, length, sym, ap, refl, inl, inr, subst}
+use Rattle.std.specs.Prelude.{◌==◌, if◌then◌else◌, ◌⊎◌, filter, nat_lt, Option, Some, None, Result, Ok, Err, IsOk}
+use Rattle.lane_words.specs.Answers.{Answers}
+use Rattle.lane_words.specs.declared.limits.TheConstants.{LONGEST_KEY}
+use Rattle.lane_words.specs.declared.Refusal.{Refusal}
+use Rattle.lane_words.specs.declared.Refusal.TheVariants as r
+use Rattle.partition_log.specs.Keys.{Keyed}
+use Rattle.partition_log.specs.Logs.{AreLogsOf, IsOfTopic, IsValidLogs, PartitionLogs, append_answer, finds_no_room, is_full_for, log_at, place_in}
+use Rattle.partition_log.proofs.Valid.{place-below}
+use Rattle.ingest.specs.RecordFaults.{fault_or, first_fault, record_fault, records_beside, IsKeyFault}
+use Rattle.ingest.specs.Records.{place_of_record}
+use Rattle.ingest.proofs.Placed.{log-long, place-is}
+
+-- the fault in an answer
+abbrev pub fault_in : {T : Type 0} → Result T Refusal → Option Refusal
+fault_in (Ok v) = None
+fault_in (Err fault) = Some fault
+
+told : {T : Type 0} (a b : Bool) (v : T) → fault_in (if a then Err r.KeyTooLong else if b then Err r.LogFull else Ok v) ≡ (if a then Some r.KeyTooLong else if b then Some r.LogFull else None)
+told true b v = refl
+told false true v = refl
+told false false v = refl
+
+-- the answer of an append to the logs of these records has the record's fault
+pub record_fault-is : (counts : List ℕ) (l : PartitionLogs) (before : List Keyed) (keyed : Keyed) → IsValidLogs l → AreLogsOf before l → l.counts ≡ counts → IsOfTopic l keyed
+    → fault_in (append_answer l keyed) ≡ record_fault counts before keyed
+record_fault-is counts l before keyed a h same topic =
+    let place = place_in l keyed in
+    let key = keyed.1 in
+    let records : length (log_at l place) ≡ records_beside counts before keyed =
+    log-long l counts before place same h (place-below l keyed a topic) ∙ ap (λ p. length (filter (λ other. place_of_record counts other == p) before)) (place-is l counts keyed same) in
+    told (nat_lt LONGEST_KEY (length key)) (finds_no_room l.keys (length (log_at l place)) key) _
+    ∙ ap (λ m. if nat_lt LONGEST_KEY (length key) then Some r.KeyTooLong else if finds_no_room l.keys m key then Some r.LogFull else None) records
+    ∙ ap (λ keys. if nat_lt LONGEST_KEY (length key) then Some r.KeyTooLong else if finds_no_room keys (records_beside counts before keyed) key then Some r.LogFull else None) h.numbers
+
+-- no record is left
+pub first_fault-nil : (counts : List ℕ) (before : List Keyed) → first_fault counts before [] ≡ None
+unfolding first_fault
+first_fault-nil counts before = refl
+
+-- the next record can be appended
+pub first_fault-later : (counts : List ℕ) (before : List Keyed) (keyed : Keyed) (records : List Keyed) → record_fault counts before keyed ≡ None
+    → first_fault counts before (keyed ∷ records) ≡ first_fault counts (before ++ keyed ∷ []) records
+unfolding first_fault
+first_fault-later counts before keyed records h = rw h refl
+
+-- the next record can't be appended
+pub first_fault-now : (counts : List ℕ) (before : List Keyed) (keyed : Keyed) (records : List Keyed) (fault : Refusal) → record_fault counts before keyed ≡ Some fault
+    → first_fault counts before (keyed ∷ records) ≡ Some fault
+unfolding first_fault
+first_fault-now counts before keyed records fault h = rw h refl
+
+none_in : {T : Type 0} (answer : Result T Refusal) → IsOk answer → fault_in answer ≡ None
+none_in (Ok v) h = refl
+none_in (Err fault) h = absurd (cc h)
+
+-- a record that the logs accept has no fault
+pub taken : (counts : List ℕ) (l : PartitionLogs) (before : List Keyed) (keyed : Keyed) → IsValidLogs l → AreLogsOf before l → l.counts ≡ counts → IsOfTopic l keyed → IsOk (append_answer l keyed) → record_fault counts before keyed ≡ None
+taken counts l before keyed a h same topic ok = sym (record_fault-is counts l before keyed a h same topic) ∙ none_in (append_answer l keyed) ok
+
+-- a record that the logs refuse has that fault
+pub refused : (counts : List ℕ) (l : PartitionLogs) (before : List Keyed) (keyed : Keyed) (fault : Refusal) → IsValidLogs l → AreLogsOf before l → l.counts ≡ counts → IsOfTopic l keyed → append_answer l keyed ≡ Err fault
+    → record_fault counts before keyed ≡ Some fault
+refused counts l before keyed fault a h same topic e = sym (record_fault-is counts l before keyed a h same topic) ∙ ap fault_in e
+
+kind-at : {T : Type 0} (a b : Bool) (v : T) (fault : Refusal) → (if a then Err r.KeyTooLong else if b then Err r.LogFull else Ok v) ≡ Err fault → IsKeyFault fault
+kind-at true b v fault e = let is : r.KeyTooLong ≡ fault = cc e in subst IsKeyFault is tt
+kind-at false true v fault e = let is : r.LogFull ≡ fault = cc e in subst IsKeyFault is tt
+kind-at false false v fault e = absurd (cc e)
+
+-- the refusals of an append
+pub record_fault-kind : (l : PartitionLogs) (keyed : Keyed) (fault : Refusal) → (fault ≡ r.Memory) ⊎ (append_answer l keyed ≡ Err fault) → IsKeyFault fault
+record_fault-kind l keyed fault (inl e) = subst IsKeyFault (sym e) tt
+record_fault-kind l keyed fault (inr e) = kind-at (nat_lt LONGEST_KEY (length keyed.1)) (is_full_for l (place_in l keyed) keyed.1) _ fault e
+
+-- a refusal is the expected one, or an allocation failed
+pub refused_as_told : {T : Type 0} (expected : Result T Refusal) (fault : Refusal) → Answers expected (Err fault) → (fault ≡ r.Memory) ⊎ (expected ≡ Err fault)
+refused_as_told expected fault (inl e) = inr (sym e)
+refused_as_told expected fault (inr e) = inl (cc e)
+
+-- a record that can't be appended ends a report
+pub fault_told : (fault : Option Refusal) (text : List ℕ) (e : Refusal) → (e ≡ r.Memory) ⊎ (fault ≡ Some e) → (e ≡ r.Memory) ⊎ (fault_or fault text ≡ Err e)
+fault_told fault text e (inl m) = inl m
+fault_told fault text e (inr h) = inr (ap (λ f. fault_or f text) h)

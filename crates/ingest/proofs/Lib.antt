@@ -1,0 +1,5 @@
+pub mod Appended
+pub mod Faulted
+pub mod Placed
+pub mod Taken
+pub mod Told

@@ -1,0 +1,130 @@
+-- The records of a file, from the keys that are read.
+use Rattle.std.proofs.Common.{◌≡◌, ◌∙◌, ◌<◌, ◌+◌, ℕ, Bool, true, false, List, [], ◌∷◌, ◌++◌, length, map, cond, get_or, take, sym, ap, refl, arith, inl, inr, subst}
+use Rattle.std.specs.Prelude.{◌==◌, ◌≤◌, ◌⊎◌, All, Option, Some, None, Result, Ok, Err, zip}
+use Rattle.std.specs.Borrow.{Bor}
+use Rattle.std.specs.List.{position_from}
+use Rattle.std.specs.Result.{result_map_both}
+use Rattle.std.specs.Str.{bytes_eq}
+use Rattle.std.proofs.lemmas.List.{length-map, map-append, take_more}
+use Rattle.std.proofs.lemmas.List.Elements.{All-cons, All-head, All-map, All-nil, All-tail}
+use Rattle.lane_words.specs.declared.Refusal.{Refusal}
+use Rattle.lane_words.specs.declared.Refusal.TheVariants as r
+use Rattle.csv.specs.Reading.{default_config, records, strip_bom}
+use Rattle.csv.specs.Records.{field_at}
+use Rattle.key_file.specs.KeyFile.{Record, Taking, behind_index, behind_topic, key_before, key_behind, keyed, keys_from, keys_of_records, topic_key_in, topic_keys_of, topic_of}
+use Rattle.key_file.specs.declared.lack.Lack.{Lack}
+use Rattle.partitioner.specs.Place.{AreTopics}
+use Rattle.partition_log.specs.Appends.{in_first, lent}
+use Rattle.partition_log.specs.Keys.{Key, Keyed, of_first}
+use Rattle.script.specs.declared.topics.Topic.{Topic}
+use Rattle.command_line.specs.declared.options.Options.{Options}
+use Rattle.ingest.specs.Records.{AreOfTopics, counts_among, record_of, records_among}
+
+-- ---- the topic of a record is one of the names
+position-below : (t : List ℕ → Bool) (i n : ℕ) (names : List (List ℕ)) → position_from t i names ≡ Some n → n < i + length names
+position-below t i n [] e = absurd (cc e)
+position-below t i n (name ∷ names) e = go (t name) (position-below t (i + 1) n names) e
+  where
+    go : (b : Bool) → (position_from t (i + 1) names ≡ Some n → n < i + 1 + length names) → cond b (Some i) (position_from t (i + 1) names) ≡ Some n → n < i + length (name ∷ names)
+    go true later h = let is : i ≡ n = cc h in omega arith
+    go false later h = omega (arith, later h)
+
+index-among : (names : List (List ℕ)) (index : Option ℕ) (key taken : List ℕ) → ((n : ℕ) → index ≡ Some n → n < length names) → behind_index index key ≡ Ok taken → topic_of taken < length names
+index-among names None key taken below e = absurd (cc e)
+index-among names (Some n) key taken below e = let is : n ∷ key ≡ taken = cc e in subst (λ k. topic_of k < length names) is (below n refl)
+
+topic-among : (names : List (List ℕ)) (topic key : Option (List ℕ)) (taken : List ℕ) → behind_topic names topic key ≡ Ok taken → topic_of taken < length names
+topic-among names None key taken e = absurd (cc e)
+topic-among names (Some topic) None taken e = absurd (cc e)
+topic-among names (Some topic) (Some key) taken e =
+    index-among names (position_from (bytes_eq topic) 0 names) key taken (λ n at. omega (arith, position-below (bytes_eq topic) 0 n names at)) e
+
+module _ (P : List ℕ → Type 0) (wanted : Taking) (each : (fields : Record) (key : List ℕ) → wanted fields ≡ Ok key → P key) where
+  key-before : (key : List ℕ) (rest : Result (List (List ℕ)) Refusal) (all : List (List ℕ)) → P key → ((keys : List (List ℕ)) → rest ≡ Ok keys → All P keys) → key_before key rest ≡ Ok all → All P all
+  key-before key (Ok keys) all p h e = let is : key ∷ keys ≡ all = cc e in subst (All P) is (All-cons P key keys p (h keys refl))
+  key-before key (Err fault) all p h e = absurd (cc e)
+
+  key-at : (nth : ℕ) (key : Result (List ℕ) Lack) (rest : Result (List (List ℕ)) Refusal) (all : List (List ℕ)) → ((k : List ℕ) → key ≡ Ok k → P k) → ((keys : List (List ℕ)) → rest ≡ Ok keys → All P keys)
+      → keyed nth key rest ≡ Ok all → All P all
+  key-at nth (Err lack) rest all p h e = absurd (cc e)
+  key-at nth (Ok key) rest all p h e = key-before key rest all (p key refl) h e
+
+  taken-from : (width nth : ℕ) (rows : List Record) (all : List (List ℕ)) → keys_from wanted width nth rows ≡ Ok all → All P all
+  unfolding keys_from
+  taken-from width nth [] all e = let is : [] ≡ all = cc e in subst (All P) is (All-nil P)
+  taken-from width nth (fields ∷ rows) all e = go (length fields == width) (taken-from width (nth + 1) rows) e
+    where
+      go : (b : Bool) → ((keys : List (List ℕ)) → keys_from wanted width (nth + 1) rows ≡ Ok keys → All P keys)
+          → cond b (keyed nth (wanted fields) (keys_from wanted width (nth + 1) rows)) (Err (r.BadCsv nth)) ≡ Ok all → All P all
+      go true later h = key-at nth (wanted fields) (keys_from wanted width (nth + 1) rows) all (each fields) later h
+      go false later h = absurd (cc h)
+
+  taken-of : (header : Bool) (rows : List Record) (all : List (List ℕ)) → keys_of_records wanted header rows ≡ Ok all → All P all
+  taken-of header [] all e = let is : [] ≡ all = cc e in subst (All P) is (All-nil P)
+  taken-of false (first ∷ rows) all e = taken-from (length first) 1 (first ∷ rows) all e
+  taken-of true (first ∷ rows) all e = taken-from (length first) 2 rows all e
+
+-- records read with topics are of these topics
+pub topics-among : (column topic_column : ℕ) (header : Bool) (partitions : ℕ) (topics : List Topic) (bytes : List ℕ) (names keys : List (List ℕ)) → (length topics == 0) ≡ false → names ≡ map (λ (t : Topic). t.name) topics
+    → topic_keys_of column topic_column names header bytes ≡ Ok keys → AreOfTopics (counts_among partitions topics) (map record_of keys)
+topics-among column topic_column header partitions [] bytes names keys some is e = absurd (cc some)
+topics-among column topic_column header partitions (topic ∷ topics) bytes names keys some is e =
+    let long : length names ≡ length (map (λ (t : Topic). t.partitions) (topic ∷ topics)) =
+    ap length is ∙ length-map (topic ∷ topics) (λ (t : Topic). t.name) ∙ sym (length-map (topic ∷ topics) (λ (t : Topic). t.partitions)) in
+    All-map (λ (k : Keyed). k.0 < length (map (λ (t : Topic). t.partitions) (topic ∷ topics))) record_of keys
+    (subst (λ n. All (λ k. topic_of k < n) keys) long
+    (taken-of (λ k. topic_of k < length names) (topic_key_in column topic_column names)
+    (λ fields key. topic-among names (field_at fields _) (field_at fields _) key) header (records default_config (strip_bom bytes)) keys e))
+
+firsts : (n : ℕ) → 1 ≤ n → (keys : List Key) → All (λ (k : Keyed). k.0 < n) (in_first keys)
+firsts n some [] = All-nil (λ (k : Keyed). k.0 < n)
+firsts n some (key ∷ keys) = All-cons (λ (k : Keyed). k.0 < n) (of_first key) (in_first keys) some (firsts n some keys)
+
+-- records of the first topic are of some topic
+pub first-among : (partitions : ℕ) (topics : List Topic) (keys : List Key) → AreOfTopics (counts_among partitions topics) (in_first keys)
+first-among partitions topics keys = firsts (length (counts_among partitions topics)) (go topics) keys
+  where
+    go : (topics : List Topic) → 1 ≤ length (counts_among partitions topics)
+    go [] = omega arith
+    go (topic ∷ topics) = omega arith
+
+-- ---- the keys read are those of the records
+pub topic-records : (options : Options) (bytes : List ℕ) (topics : List Topic) (names : List (List ℕ)) → (length topics == 0) ≡ false → names ≡ map (λ (t : Topic). t.name) topics
+    → records_among options topics bytes ≡ result_map_both (map record_of) (λ fault. fault) (topic_keys_of options.column options.topic_column names options.header bytes)
+topic-records options bytes [] names some is = absurd (cc some)
+topic-records options bytes (topic ∷ topics) names some is =
+    ap (λ ns. result_map_both (map record_of) (λ fault. fault) (topic_keys_of options.column options.topic_column ns options.header bytes)) (sym is)
+
+-- a refusal of the keys is one of the records
+pub records-refused : {A B : Type 0} (f : A → B) (taken : Result A Refusal) (all : Result B Refusal) (e : Refusal) → all ≡ result_map_both f (λ fault. fault) taken → (e ≡ r.Memory) ⊎ (taken ≡ Err e) → (e ≡ r.Memory) ⊎ (all ≡ Err e)
+records-refused f taken all e is (inl m) = inl m
+records-refused f taken all e is (inr h) = inr (is ∙ ap (result_map_both f (λ fault. fault)) h)
+
+-- ---- records as pairs
+-- the topics and the keys of records, zipped
+zipped-records : (keys : List (List ℕ)) → zip (map topic_of keys) (map key_behind keys) ≡ map record_of keys
+zipped-records [] = refl
+zipped-records (key ∷ keys) = ap (λ (records : List Keyed). record_of key ∷ records) (zipped-records keys)
+
+pub records-are : (keys : List (List ℕ)) (topics topic_items : List ℕ) (slices items : List (Bor Key)) → topics ≡ topic_items → topic_items ≡ map topic_of keys → slices ≡ items → map (λ key. key.now) items ≡ map key_behind keys
+    → zip topics (lent slices) ≡ map record_of keys
+records-are keys topics topic_items slices items ts these ss those =
+    ap (λ xs. zip xs (lent slices)) (ts ∙ these) ∙ ap (zip (map topic_of keys)) (ap lent ss ∙ those) ∙ zipped-records keys
+
+topics-below : (n : ℕ) (keys : List (List ℕ)) → All (λ (k : Keyed). k.0 < n) (map record_of keys) → All (λ t. t < n) (map topic_of keys)
+topics-below n [] h = All-nil (λ t. t < n)
+topics-below n (key ∷ keys) h =
+    All-cons (λ t. t < n) (topic_of key) (map topic_of keys) (All-head (λ (k : Keyed). k.0 < n) (record_of key) (map record_of keys) h) (topics-below n keys (All-tail (λ (k : Keyed). k.0 < n) (record_of key) (map record_of keys) h))
+
+-- the topics of records are the logs'
+pub topics-are : (n : ℕ) (keys : List (List ℕ)) (topics topic_items : List ℕ) (slices items : List (Bor Key)) → All (λ (k : Keyed). k.0 < n) (map record_of keys) → topics ≡ topic_items → topic_items ≡ map topic_of keys → slices ≡ items
+    → map (λ key. key.now) items ≡ map key_behind keys → AreTopics n (length slices) topics
+topics-are n keys topics topic_items slices items h ts these ss those = record {
+  as_many = ap length (ts ∙ these) ∙ length-map keys topic_of ∙ sym (length-map keys key_behind) ∙ ap length (sym those) ∙ length-map items (λ (key : Bor Key). key.now) ∙ ap length (sym ss);
+  among = subst (All (λ t. t < n)) (sym (ts ∙ these)) (topics-below n keys h);
+}
+
+-- the view of one more item
+pub seen-more : {X Y : Type 0} (f : X → Y) (xs : List X) (i : ℕ) (x : X) → i < length xs → x ≡ get_or xs i x → map f (take i xs) ++ f x ∷ [] ≡ map f (take (i + 1) xs)
+seen-more f xs i x lt is =
+    sym (ap (map f) (take_more xs i x lt) ∙ map-append f (take i xs) (get_or xs i x ∷ []) ∙ ap (λ y. map f (take i xs) ++ f y ∷ []) (sym is))

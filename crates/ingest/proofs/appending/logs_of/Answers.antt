@@ -1,0 +1,29 @@
+use Rattle.std.proofs.Common.{◌∙◌, rules}
+use Rattle.ingest.specs.Records.{partition_counts, records_in}
+use Rattle.ingest.proofs.Appended.{all_appended, appends_ended}
+use Rattle.ingest.proofs.appending.logs_of.Goals as goal
+
+pub returns-in_err-append_records-clause-answer : goal.returns-in_err-append_records-clause-answer
+returns-in_err-append_records-clause-answer g c =
+    let new = c.in_ok-logs.ensures in
+    let same = new.counts ∙ c.as_slice.ensures.value ∙ c.in_ok-counts.ensures.value in
+    let known = appends_ended (partition_counts c.args.options.now) c.in_ok-logs.logs c.append_records.new.logs (records_in c.args.records.now) c.in_err-append_records.field-0.0 new.valid new.empty same c.requires.topics c.in_err-append_records.ensures.err in
+    search rules
+
+pub returns-clause-logs : goal.returns-clause-logs
+returns-clause-logs g c =
+    let new = c.in_ok-logs.ensures in
+    let same = new.counts ∙ c.as_slice.ensures.value ∙ c.in_ok-counts.ensures.value in
+    (all_appended (partition_counts c.args.options.now) c.in_ok-logs.logs c.append_records.new.logs (records_in c.args.records.now) new.valid new.empty same c.requires.topics c.in_ok-append_records.ensures.ok).0
+
+pub returns-clause-counts : goal.returns-clause-counts
+returns-clause-counts g c =
+    let new = c.in_ok-logs.ensures in
+    let same = new.counts ∙ c.as_slice.ensures.value ∙ c.in_ok-counts.ensures.value in
+    (all_appended (partition_counts c.args.options.now) c.in_ok-logs.logs c.append_records.new.logs (records_in c.args.records.now) new.valid new.empty same c.requires.topics c.in_ok-append_records.ensures.ok).1
+
+pub returns-clause-answer : goal.returns-clause-answer
+returns-clause-answer g c =
+    let new = c.in_ok-logs.ensures in
+    let same = new.counts ∙ c.as_slice.ensures.value ∙ c.in_ok-counts.ensures.value in
+    (all_appended (partition_counts c.args.options.now) c.in_ok-logs.logs c.append_records.new.logs (records_in c.args.records.now) new.valid new.empty same c.requires.topics c.in_ok-append_records.ensures.ok).2

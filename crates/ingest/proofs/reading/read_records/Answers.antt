@@ -1,0 +1,46 @@
+use Rattle.std.proofs.Common.{◌≡◌, ◌∙◌, Bor, List, ℕ, Err, false, inl, length, map, ap, rules, sym}
+use Rattle.std.specs.Prelude.{◌==◌}
+use Rattle.std.specs.Result.{result_map_both}
+use Rattle.script.specs.declared.topics.Topic.{Topic}
+use Rattle.key_file.specs.KeyFile.{topic_keys_of}
+use Rattle.ingest.specs.Records.{record_of, records_of}
+use Rattle.ingest.proofs.Told.{as_answer}
+use Rattle.ingest.proofs.Taken.{first-among, records-refused, topic-records, topics-among}
+use Rattle.ingest.proofs.reading.read_records.Goals as goal
+
+named : (topics items : List Topic) (is_empty : _) → topics ≡ items → is_empty ≡ (length topics == 0) → is_empty ≡ false → (length items == 0) ≡ false
+named topics items is_empty same is none = ap (λ ts. length ts == 0) (sym same) ∙ sym is ∙ none
+
+names_are : (names items : List (Bor (List ℕ))) (topics all : List Topic) → names ≡ items → map (λ name. name.now) items ≡ map (λ (t : Topic). t.name) topics → topics ≡ all → map (λ name. name.now) names ≡ map (λ (t : Topic). t.name) all
+names_are names items topics all same is these = ap (map (λ (name : Bor (List ℕ)). name.now)) same ∙ is ∙ ap (map (λ (t : Topic). t.name)) these
+
+pub returns-then-is_empty-clause-topics : goal.returns-then-is_empty-clause-topics
+returns-then-is_empty-clause-topics g c = first-among c.args.options.now.partitions c.args.options.now.topics.items c.in_ok-keys.keys
+
+pub returns-in_err-keys-2-clause-answer : goal.returns-in_err-keys-2-clause-answer
+returns-in_err-keys-2-clause-answer g c =
+    let options = c.args.options.now in
+    let bytes = c.args.file.now in
+    let topics = c.as_slice-topics.ensures.value in
+    let some = named c.as_slice-topics.result.now options.topics.items c.is_empty.result topics c.is_empty.ensures c.if-is_empty.false in
+    let names = names_are c.as_slice-names.result.now c.in_ok-names.names.items c.as_slice-topics.result.now options.topics.items c.as_slice-names.ensures.value c.in_ok-names.ensures topics in
+    let is = topic-records options bytes options.topics.items (map (λ (name : Bor (List ℕ)). name.now) c.as_slice-names.result.now) some names in
+    let same : c.from_residual-in_err-keys-2.result ≡ Err c.in_err-keys-2.field-0.0 = search rules in
+    rw same (as_answer (records_of options bytes) c.in_err-keys-2.field-0.0 (records-refused (map record_of) (topic_keys_of options.column options.topic_column (map (λ (name : Bor (List ℕ)). name.now) c.as_slice-names.result.now) options.header bytes) (records_of options bytes) c.in_err-keys-2.field-0.0 is c.in_err-keys-2.ensures.fault))
+
+pub returns-clause-topics : goal.returns-clause-topics
+returns-clause-topics g c =
+    let options = c.args.options.now in
+    let topics = c.as_slice-topics.ensures.value in
+    let some = named c.as_slice-topics.result.now options.topics.items c.is_empty.result topics c.is_empty.ensures c.if-is_empty.false in
+    let names = names_are c.as_slice-names.result.now c.in_ok-names.names.items c.as_slice-topics.result.now options.topics.items c.as_slice-names.ensures.value c.in_ok-names.ensures topics in
+    topics-among options.column options.topic_column options.header options.partitions options.topics.items c.args.file.now (map (λ (name : Bor (List ℕ)). name.now) c.as_slice-names.result.now) c.in_ok-keys-2.keys some names c.in_ok-keys-2.ensures.keys
+
+pub returns-clause-answer : goal.returns-clause-answer
+returns-clause-answer g c =
+    let options = c.args.options.now in
+    let topics = c.as_slice-topics.ensures.value in
+    let some = named c.as_slice-topics.result.now options.topics.items c.is_empty.result topics c.is_empty.ensures c.if-is_empty.false in
+    let names = names_are c.as_slice-names.result.now c.in_ok-names.names.items c.as_slice-topics.result.now options.topics.items c.as_slice-names.ensures.value c.in_ok-names.ensures topics in
+    let is = topic-records options c.args.file.now options.topics.items (map (λ (name : Bor (List ℕ)). name.now) c.as_slice-names.result.now) some names in
+    inl (sym (is ∙ ap (result_map_both (map record_of) (λ fault. fault)) c.in_ok-keys-2.ensures.keys))

@@ -1,0 +1,4 @@
+pub mod Private
+pub mod RecordFaults
+pub mod Records
+pub mod Reports

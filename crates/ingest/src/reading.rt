@@ -1,0 +1,133 @@
+//! The records of a file, read from a source.
+
+ghost use Rattle.std.specs.Prelude.{◌≡◌, ◌+◌, ◌<◌, ◌-◌, Ok, IfOk, IfErr, IfSome, length, map};
+ghost use Rattle.devices.specs.Devices.{CanStillFail};
+ghost use Rattle.key_file.specs.KeyFile.{IsFileFault};
+ghost use Rattle.lane_words.specs.Answers.{Answers};
+ghost use Rattle.partition_log.specs.Logs.{AreCounts};
+ghost use Rattle.ingest.specs.Records.{AreOfTopics, partition_counts, records_in, records_of, records_seen};
+ghost use Rattle.ingest.specs.Reports.{AreInRange, IsFaultOf, IsNoStop, IsNoWrite, failed_reads};
+
+use command_line::Options;
+use devices::{Source, read_blocks};
+use key_file::{Blocks, FileKeys, TopicKeys, pieces_for, read_keys_apart, read_topic_keys_apart};
+use lane_words::{Memory, Refusal};
+use script::Topic;
+use std::alloc::Global;
+use std::random::RandomSource;
+use std::thread::Threads;
+
+/// The records read from a file.
+#[derive(Debug, Drop)]
+pub enum FileRecords {
+    /// Without topics: a key for each record.
+    Keys(FileKeys),
+    /// With topics: a key for each record, with the index of its topic.
+    InTopics(TopicKeys),
+}
+
+impl FileRecords {
+    /// The number of records.
+    pub fn len(&self) -> usize
+        ensures { result ≡ length (records_in self.now) }
+    {
+        match self {
+            FileRecords::Keys(keys) => keys.len(),
+            FileRecords::InTopics(keys) => keys.len(),
+        }
+    }
+}
+
+/// The number of partitions of each of these topics.
+fn counts_among(alloc: Global, topics: &[Topic]) -> Result<Vec<u32>, Memory>
+    ensures { IfOk result (λ counts. counts.items ≡ map (λ topic. topic.partitions) topics.now) }
+{
+    let mut counts = Vec::with_capacity(alloc, topics.len())?;
+    for topic in topics {
+        counts.push(topic.partitions)?;
+    }
+    Ok(counts)
+}
+
+/// The number of partitions of each topic. Options without topics stand for one topic.
+pub fn partition_counts(alloc: Global, options: &Options) -> Result<Vec<u32>, Memory>
+    requires { AreInRange options.now }
+    ensures value { IfOk result (λ counts. counts.items ≡ partition_counts options.now) }
+    ensures valid { AreCounts (partition_counts options.now) }
+{
+    let topics = options.topics.as_slice();
+    if topics.is_empty() {
+        Ok(Vec::from_slice(alloc, &[options.partitions])?)
+    } else {
+        counts_among(alloc, topics)
+    }
+}
+
+/// The names of these topics.
+fn names_of<'a>(alloc: Global, topics: &'a [Topic]) -> Result<Vec<&'a [u8]>, Memory>
+    ensures { IfOk result (λ names. map (λ name. name.now) names.items
+        ≡ map (λ topic. topic.name) topics.now) }
+{
+    let mut names = Vec::with_capacity(alloc, topics.len())?;
+    for topic in topics {
+        names.push(topic.name.text())?;
+    }
+    Ok(names)
+}
+
+/// The records of a file that is in memory.
+fn read_records<R: Threads + Sync + RandomSource>(
+    rt: &R,
+    alloc: Global,
+    file: &Blocks,
+    options: &Options,
+) -> Result<FileRecords, Refusal>
+    requires { AreInRange options.now }
+    ensures answer { Answers (records_of options.now file.now) (records_seen result) }
+    ensures topics { IfOk result
+        (λ records. AreOfTopics (partition_counts options.now) (records_in records)) }
+    ensures kind { IfErr result IsFileFault }
+{
+    let topics = options.topics.as_slice();
+    let (column, header) = (options.column, options.header);
+    if topics.is_empty() {
+        let keys = read_keys_apart(rt, alloc, file, column, header)?;
+        return Ok(FileRecords::Keys(keys));
+    }
+    let names = names_of(alloc, topics)?;
+    let names = names.as_slice();
+    let topic_column = options.topic_column;
+    let keys = read_topic_keys_apart(rt, alloc, file, column, topic_column, names, header)?;
+    Ok(FileRecords::InTopics(keys))
+}
+
+/// Reads a file to its end and returns its records. A long file is parsed in parallel.
+///
+/// # Errors
+///
+/// `ReadFailed` if a read failed; the fault of the first bad record (`BadCsv`, `NoSuchColumn`,
+/// `NoSuchTopic`); `Memory` if an allocation failed or the system had no random bytes.
+pub fn file_records<R: Threads + Sync + RandomSource, S: Source>(
+    rt: &R,
+    alloc: Global,
+    file: &mut S,
+    options: &Options,
+) -> Result<FileRecords, Refusal>
+    requires source { CanStillFail (S.failures file.old) }
+    requires options { AreInRange options.now }
+    ensures records { IfOk result (λ records. IfSome (S.left file.old)
+        (λ bytes. records_of options.now bytes ≡ Ok (records_in records))) }
+    ensures topics { IfOk result
+        (λ records. AreOfTopics (partition_counts options.now) (records_in records)) }
+    ensures refused { IfErr result (λ e. IfSome (S.left file.old)
+        (λ bytes. IsFaultOf (records_of options.now bytes) e)) }
+    ensures kind { IfErr result IsNoWrite }
+    ensures unstopped { IfErr result IsNoStop }
+    ensures reads { S.failures file.new ≡ S.failures file.old + failed_reads result }
+{
+    let count = pieces_for(rt, file.expected());
+    let blocks = Blocks::of(alloc, read_blocks(rt, alloc, file, count)?)?;
+    let records = read_records(rt, alloc, &blocks, options);
+    blocks.let_go(rt);
+    records
+}

@@ -1,7 +1,0 @@
-use Rattle.std.proofs.Common.{◌≡◌}
-use Rattle.lane_words.specs.Sums.{sum_below}
-use Rattle.commit_store.specs.Commits.{committed_at}
-use Rattle.replay_rows.proofs.committed_total.Given as goal
-
-abbrev pub invariant-loop-p : goal.invariant-loop-p
-invariant-loop-p l = l.total ≡ sum_below l.p (committed_at l.cluster.store)

@@ -1,8 +1,0 @@
-use Rattle.std.proofs.Common.{◌++◌, ℕ, List}
-use Rattle.report_rows.specs.Rows.{HasText}
-use Rattle.replay_rows.specs.ReplayRows.{owner_row, rows_below}
-use Rattle.replay_rows.proofs.write_owners.Given as goal
-
-abbrev pub invariant-loop-p : goal.invariant-loop-p
-invariant-loop-p l = (text : List ℕ) → HasText l.fn.writer text
-    → HasText l.writer (text ++ rows_below l.p (owner_row l.topics l.cluster.group))

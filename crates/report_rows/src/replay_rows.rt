@@ -1,0 +1,244 @@
+//! The rows of a replay and of a run: moves, refusals, owners, offsets, counts and totals.
+
+ghost use Rattle.std.specs.Prelude.{◌≡◌, ◌<◌, ◌∷◌, [], IfNone, IfSome, OnOk, decimal, drop, length};
+ghost use Rattle.lane_words.specs.Refusal.{code_of};
+ghost use Rattle.report_rows.specs.Rows.{AddsRows};
+ghost use Rattle.report_rows.specs.ReplayRows.{appended_total, closing_rows, committed_count_rows, committed_total, counted_row, move_row, move_rows, name_or_empty, offset_row, offset_rows, owner_row, owner_rows, partition_fields, refused_row};
+
+use crate::{count_rows, rows};
+use csv::Writer;
+use group_machine::{Cluster, Move};
+use itoa::Buffer;
+use lane_words::{Memory, Refusal};
+use partition_log::LogRead;
+use script::Topic;
+
+/// The name of a member, or nothing if there is none.
+fn name_or_empty(cluster: &Cluster, member: Option<u32>) -> &[u8]
+    ensures { result.now ≡ name_or_empty cluster.now.group member }
+{
+    let Some(number) = member else {
+        return b"";
+    };
+    match cluster.name(number) {
+        Some(name) => name.text(),
+        None => b"",
+    }
+}
+
+/// The name of a partition's topic and the partition's number in it. Without topics there is no
+/// name, and the number is the partition's own.
+fn place_among(topics: &[Topic], partition: u32) -> (Option<&[u8]>, u32)
+    ensures named { IfSome result.0 (λ name. partition_fields topics.now partition
+        ≡ name.now ∷ decimal result.1 ∷ []) }
+    ensures bare { IfNone result.0
+        (partition_fields topics.now partition ≡ decimal result.1 ∷ []) }
+{
+    let mut number = partition;
+    for topic in topics {
+        if number < topic.partitions {
+            return (Some(topic.name.text()), number);
+        }
+        number -= topic.partitions;
+    }
+    (None, number)
+}
+
+/// Writes the row of a move.
+fn write_move(
+    writer: &mut Writer<Vec<u8>>,
+    topics: &[Topic],
+    cluster: &Cluster,
+    made: &Move,
+) -> Result<(), Memory>
+    ensures { OnOk result
+        (AddsRows writer.old writer.new (move_row topics.now cluster.now.group made.now)) }
+{
+    let (mut first, mut second) = (Buffer::new(), Buffer::new());
+    let (topic, number) = place_among(topics, made.partition);
+    let generation = first.format(made.generation).as_bytes();
+    let partition = second.format(number).as_bytes();
+    let last = name_or_empty(cluster, made.last);
+    let holder = name_or_empty(cluster, Some(made.holder));
+    match topic {
+        Some(name) => rows::write_row(
+            writer,
+            &[b"move", generation, name, partition, last, holder],
+        ),
+        None => rows::write_row(writer, &[b"move", generation, partition, last, holder]),
+    }
+}
+
+/// Writes the rows of the moves of a cluster from this index on. With topics, a partition is named
+/// by its topic and its number there.
+pub fn write_moves(
+    writer: &mut Writer<Vec<u8>>,
+    topics: &[Topic],
+    cluster: &Cluster,
+    from: usize,
+) -> Result<(), Memory>
+    ensures { OnOk result (AddsRows writer.old writer.new
+        (move_rows topics.now cluster.now.group (drop from cluster.now.group.moves))) }
+{
+    let moves = cluster.moves();
+    for i in from..moves.len() {
+        write_move(writer, topics, cluster, &moves[i])?;
+    }
+    Ok(())
+}
+
+/// Writes the row of a refused line of a script.
+pub fn write_refused(
+    writer: &mut Writer<Vec<u8>>,
+    line: u64,
+    refusal: &Refusal,
+) -> Result<(), Memory>
+    ensures { OnOk result
+        (AddsRows writer.old writer.new (refused_row line (code_of refusal.now))) }
+{
+    let (mut number, mut code) = (Buffer::new(), Buffer::new());
+    rows::write_row(
+        writer,
+        &[
+            b"refused",
+            number.format(line).as_bytes(),
+            code.format(refusal.code()).as_bytes(),
+        ],
+    )
+}
+
+/// Writes the row of a partition and its owner.
+fn write_owner(
+    writer: &mut Writer<Vec<u8>>,
+    topics: &[Topic],
+    cluster: &Cluster,
+    p: u32,
+) -> Result<(), Memory>
+    ensures { OnOk result
+        (AddsRows writer.old writer.new (owner_row topics.now cluster.now.group p)) }
+{
+    let mut digits = Buffer::new();
+    let (topic, number) = place_among(topics, p);
+    let partition = digits.format(number).as_bytes();
+    let owner = name_or_empty(cluster, cluster.owner(p));
+    match topic {
+        Some(name) => rows::write_row(writer, &[b"owner", name, partition, owner]),
+        None => rows::write_row(writer, &[b"owner", partition, owner]),
+    }
+}
+
+/// Writes the row of each partition and its owner.
+fn write_owners(
+    writer: &mut Writer<Vec<u8>>,
+    topics: &[Topic],
+    cluster: &Cluster,
+) -> Result<(), Memory>
+    ensures { OnOk result
+        (AddsRows writer.old writer.new (owner_rows topics.now cluster.now.group)) }
+{
+    for p in 0..cluster.partitions() {
+        write_owner(writer, topics, cluster, p)?;
+    }
+    Ok(())
+}
+
+/// Writes the row of a partition, its committed offset and its end offset.
+fn write_offset(
+    writer: &mut Writer<Vec<u8>>,
+    topics: &[Topic],
+    p: u32,
+    committed: u32,
+    end: u32,
+) -> Result<(), Memory>
+    ensures { OnOk result (AddsRows writer.old writer.new (offset_row topics.now p committed end)) }
+{
+    let (mut digits, mut first, mut second) = (Buffer::new(), Buffer::new(), Buffer::new());
+    let (topic, number) = place_among(topics, p);
+    let partition = digits.format(number).as_bytes();
+    let committed = first.format(committed).as_bytes();
+    let end = second.format(end).as_bytes();
+    match topic {
+        Some(name) => rows::write_row(writer, &[b"offset", name, partition, committed, end]),
+        None => rows::write_row(writer, &[b"offset", partition, committed, end]),
+    }
+}
+
+/// Writes the row of each partition, its committed offset and its end offset.
+fn write_offsets(
+    writer: &mut Writer<Vec<u8>>,
+    topics: &[Topic],
+    cluster: &Cluster,
+) -> Result<(), Memory>
+    ensures { OnOk result (AddsRows writer.old writer.new (offset_rows topics.now cluster.now)) }
+{
+    let (store, logs) = (cluster.store(), cluster.logs());
+    for p in 0..cluster.partitions() {
+        write_offset(writer, topics, p, store.committed(p), logs.len(p))?;
+    }
+    Ok(())
+}
+
+/// Writes the row of a key with its count, or nothing if the count is 0.
+fn write_counted(writer: &mut Writer<Vec<u8>>, key: &[u8], count: u64) -> Result<(), Memory>
+    ensures { OnOk result (AddsRows writer.old writer.new (counted_row key.now count)) }
+{
+    if count == 0 {
+        return Ok(());
+    }
+    count_rows::write_count(writer, key, count)
+}
+
+/// Writes the rows of the keys with a count above 0, in the order of the keys.
+fn write_committed_counts<L: LogRead>(
+    writer: &mut Writer<Vec<u8>>,
+    logs: &L,
+    counts: &[u64],
+) -> Result<(), Memory>
+    requires { length (L.contents logs.now).keys ≡ length counts.now }
+    ensures { OnOk result (AddsRows writer.old writer.new
+        (committed_count_rows (L.contents logs.now).keys counts.now)) }
+{
+    for id in 0..logs.keys() {
+        write_counted(writer, logs.key(id), counts[id as usize])?;
+    }
+    Ok(())
+}
+
+/// The number of records committed.
+fn committed_total(cluster: &Cluster) -> u64
+    ensures { result ≡ committed_total cluster.now }
+{
+    let store = cluster.store();
+    let mut total = 0;
+    for p in 0..cluster.partitions() {
+        total += u64::from(store.committed(p));
+    }
+    total
+}
+
+/// The number of records appended.
+fn appended_total(cluster: &Cluster) -> u64
+    ensures { result ≡ appended_total cluster.now }
+{
+    let logs = cluster.logs();
+    let mut total = 0;
+    for p in 0..cluster.partitions() {
+        total += u64::from(logs.len(p));
+    }
+    total
+}
+
+/// Writes the rows after the last line of a script or of a plan. With topics, a partition is named
+/// by its topic and its number there.
+pub fn write_closing(
+    writer: &mut Writer<Vec<u8>>,
+    topics: &[Topic],
+    cluster: &Cluster,
+) -> Result<(), Memory>
+    ensures { OnOk result (AddsRows writer.old writer.new (closing_rows topics.now cluster.now)) }
+{
+    write_owners(writer, topics, cluster)?;
+    write_offsets(writer, topics, cluster)?;
+    write_committed_counts(writer, cluster.logs(), cluster.store().counts())?;
+    rows::write_total(writer, committed_total(cluster), appended_total(cluster))
+}
