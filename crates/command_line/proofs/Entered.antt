@@ -35,7 +35,7 @@ use Rattle.clap.specs.declared.parser.matches.ValueSource.TheVariants.{CommandLi
 use Rattle.command_line.specs.CommandLine.{HasJob, HaveBadList, IsBadListTold, IsFlag, IsJobOf, IsNumber, IsRefusal, keycount_app, keycount_top, path}
 use Rattle.command_line.specs.Private.CommandLine.{IsCommand, ReadsNumber, TakesCount, TakesOptions, TakesScript, Tells, TellsBadList}
 use Rattle.command_line.specs.Topics.{AreTopicsOf, IsBadList}
-use Rattle.script.specs.declared.topics.Topic.{Topic}
+use Rattle.partitioner.specs.declared.topic.Topic.{Topic}
 use Rattle.command_line.specs.declared.words.Job.{Job}
 use Rattle.command_line.specs.declared.words.Job.TheVariants.{Count, Replay, Run}
 use Rattle.command_line.specs.declared.words.Usage.{Usage}

@@ -1,7 +1,7 @@
 -- The bounds of the options of a job.
 use Rattle.std.specs.Prelude.{◌≤◌}
 use Rattle.lane_words.specs.declared.limits.TheConstants.{MOST_PARTITIONS}
-use Rattle.script.specs.Topics.{MayBeTopics}
+use Rattle.partitioner.specs.Topic.{MayBeTopics}
 use Rattle.command_line.specs.declared.options.Options.{Options}
 use Rattle.command_line.specs.declared.options.TheConstants.{LAST_COLUMN, MOST_BATCH}
 

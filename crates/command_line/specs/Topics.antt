@@ -3,10 +3,10 @@ use Rattle.std.specs.Prelude.{◌≡◌, ℕ, ◌==◌, ◌&&◌, nat_le, Bool, 
 use Rattle.std.specs.Char.{is_ascii_digit}
 use Rattle.std.specs.List.{after_first, before_first, list_all, slice_split}
 use Rattle.std.specs.Str.Parse.{digits_value}
-use Rattle.group_machine.specs.Name.{is_name}
+use Rattle.partitioner.specs.Name.{is_name}
 use Rattle.lane_words.specs.declared.limits.TheConstants.{MOST_PARTITIONS}
-use Rattle.script.specs.Topics.{AreTopics}
-use Rattle.script.specs.declared.topics.Topic.{Topic}
+use Rattle.partitioner.specs.Topic.{AreTopics}
+use Rattle.partitioner.specs.declared.topic.Topic.{Topic}
 use Rattle.command_line.specs.declared.topics.TheConstants.{MOST_DIGITS}
 
 abbrev pub is_comma : ℕ → Bool

@@ -1,6 +1,6 @@
 //! The options of a job, and their bounds.
 
-use script::Topic;
+use partitioner::Topic;
 
 /// The options of a job. The type does not check the bounds; `read_words` does.
 #[derive(Debug, Drop)]

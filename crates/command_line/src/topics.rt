@@ -3,13 +3,13 @@
 ghost use Rattle.std.specs.Prelude.{◌≡◌, ◌≤◌, ◌↔◌, IfOk, IsTrue, List, ℕ};
 ghost use Rattle.std.specs.Char.{is_ascii_digit};
 ghost use Rattle.std.specs.List.{list_all};
-ghost use Rattle.script.specs.Topics.{MayBeTopics, partitions_in};
+ghost use Rattle.partitioner.specs.Topic.{MayBeTopics, partitions_in};
 ghost use Rattle.command_line.specs.Private.Topics.{IsNew, MayFollow, TellsTopics, count_of};
 ghost use Rattle.command_line.specs.Topics.{topic_of};
 
-use group_machine::Name;
+use partitioner::Name;
 use lane_words::{MOST_PARTITIONS, MOST_TOPICS};
-use script::Topic;
+use partitioner::Topic;
 use std::alloc::{AllocError, Global};
 
 /// The maximum number of digits of a number of partitions.

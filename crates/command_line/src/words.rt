@@ -15,7 +15,7 @@ use crate::topics;
 use clap::error::ErrorKind;
 use clap::{Arg, ArgAction, ArgMatches, Command, Error, value_parser};
 use lane_words::MOST_PARTITIONS;
-use script::Topic;
+use partitioner::Topic;
 use std::alloc::{AllocError, Global};
 
 /// What the program is asked to do.

@@ -2,7 +2,6 @@ pub mod Cluster
 pub mod Completion
 pub mod Good
 pub mod Moves
-pub mod Name
 pub mod NextSteps
 pub mod Private
 pub mod Settled

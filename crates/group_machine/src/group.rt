@@ -18,12 +18,12 @@ pub mod members;
 mod moves;
 pub mod slots;
 
-use crate::Name;
 use bit_planes::Plane;
 use change::Change;
 use completion::Completion;
 use lane_words::{LAST_GENERATION, MOST_MEMBERS, MOST_PARTITIONS, Memory, Refusal};
 pub use members::Members;
+use partitioner::Name;
 use std::alloc::Global;
 
 /// Whether a group is empty, prepares a generation or is stable.

@@ -20,10 +20,9 @@ mod cluster;
 mod commit;
 mod group;
 mod lease;
-mod name;
 
 pub use cluster::{Cluster, NextStep};
 pub use commit::Commit;
 pub use group::{Members, Move, Phase};
 pub use lease::Lease;
-pub use name::Name;
+pub use partitioner::Name;

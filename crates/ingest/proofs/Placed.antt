@@ -8,8 +8,8 @@ use Rattle.std.proofs.lemmas.List.Sums.{sum-map}
 use Rattle.lane_words.specs.declared.limits.TheConstants.{MOST_PARTITIONS}
 use Rattle.partition_log.specs.Keys.{Keyed, key_at}
 use Rattle.partition_log.specs.Logs.{AreCounts, AreLogsOf, IsValidLogs, PartitionLogs, log_at, place_in}
-use Rattle.script.specs.Topics.{MayBeTopics}
-use Rattle.script.specs.declared.topics.Topic.{Topic}
+use Rattle.partitioner.specs.Topic.{MayBeTopics}
+use Rattle.partitioner.specs.declared.topic.Topic.{Topic}
 use Rattle.command_line.specs.Options.{AreInRange}
 use Rattle.command_line.specs.declared.options.Options.{Options}
 use Rattle.ingest.specs.Records.{counts_among, partition_counts, place_of_record}

@@ -16,7 +16,7 @@ use Rattle.key_file.specs.declared.lack.Lack.{Lack}
 use Rattle.partitioner.specs.Place.{AreTopics}
 use Rattle.partition_log.specs.Appends.{in_first, lent}
 use Rattle.partition_log.specs.Keys.{Key, Keyed, of_first}
-use Rattle.script.specs.declared.topics.Topic.{Topic}
+use Rattle.partitioner.specs.declared.topic.Topic.{Topic}
 use Rattle.command_line.specs.declared.options.Options.{Options}
 use Rattle.ingest.specs.Records.{AreOfTopics, counts_among, record_of, records_among}
 

@@ -5,7 +5,7 @@ use Rattle.lane_words.specs.declared.Refusal.{Refusal}
 use Rattle.partition_log.specs.Appends.{in_first}
 use Rattle.partition_log.specs.Keys.{Keyed}
 use Rattle.partition_log.specs.Logs.{place_in_topic}
-use Rattle.script.specs.declared.topics.Topic.{Topic}
+use Rattle.partitioner.specs.declared.topic.Topic.{Topic}
 use Rattle.command_line.specs.declared.options.Options.{Options}
 use Rattle.key_file.specs.KeyFile.{key_behind, keys_of, topic_keys_of, topic_of}
 use Rattle.ingest.specs.declared.reading.FileRecords.{FileRecords}

@@ -12,7 +12,7 @@ use command_line::Options;
 use devices::{Source, read_blocks};
 use key_file::{Blocks, FileKeys, TopicKeys, pieces_for, read_keys_apart, read_topic_keys_apart};
 use lane_words::{Memory, Refusal};
-use script::Topic;
+use partitioner::Topic;
 use std::alloc::Global;
 use std::random::RandomSource;
 use std::thread::Threads;

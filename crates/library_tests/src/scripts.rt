@@ -1,8 +1,8 @@
 //! Tests of scripts, by the lines that they parse to.
 
 ghost use Rattle.std.specs.Prelude.{◌≡◌, true};
-ghost use Rattle.group_machine.specs.Name.{is_name};
-ghost use Rattle.script.specs.Topics.{AreTopics, MayBeTopics};
+ghost use Rattle.partitioner.specs.Name.{is_name};
+ghost use Rattle.partitioner.specs.Topic.{AreTopics, MayBeTopics};
 
 use crate::longer;
 use group_machine::Name;

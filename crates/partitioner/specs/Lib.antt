@@ -1,2 +1,4 @@
+pub mod Name
 pub mod Place
 pub mod Private
+pub mod Topic

@@ -18,14 +18,18 @@ ghost use Rattle.partitioner.specs.Private.Counts.{ArePlaces, place_of_hash};
 ghost use Rattle.partitioner.specs.Private.Groups.{ArePlacedFrom, AreUnhashed};
 
 mod hashing;
+mod name;
+mod topic;
 
 use hashing::{UNHASHED, hash_key, hash_keys};
 use lane_words::{MOST_PARTITIONS, MOST_TOPICS, Memory};
+pub use name::Name;
 use parallel::LEAST_KEYS;
 use rayon::prelude::*;
 use std::alloc::Global;
 use std::marker::Model;
 use std::thread::Threads;
+pub use topic::Topic;
 
 /// The numbers of partitions of 1 to 8 topics, 1 to 4096 in total.
 ///

@@ -9,7 +9,7 @@ use Rattle.lane_words.specs.declared.Refusal.TheVariants as r
 use Rattle.script.specs.Replay.{answer_of, is_bad, lines_seen, read_answer_in, said}
 use Rattle.script.specs.Grammar.{lines_from}
 use Rattle.script.specs.declared.replay.Line.{Line}
-use Rattle.script.specs.declared.topics.Topic.{Topic}
+use Rattle.partitioner.specs.declared.topic.Topic.{Topic}
 use Rattle.ingest.specs.Reports.{failed_reads}
 use Rattle.ingest.proofs.Told.{IsLineFault, TellsLines}
 

@@ -5,7 +5,7 @@ use Rattle.std.proofs.lemmas.List.{drop_all}
 use Rattle.lane_words.specs.declared.Refusal.{Refusal}
 use Rattle.lane_words.specs.declared.Refusal.TheVariants as r
 use Rattle.script.specs.declared.replay.Line.{Line}
-use Rattle.script.specs.declared.topics.Topic.{Topic}
+use Rattle.partitioner.specs.declared.topic.Topic.{Topic}
 use Rattle.world.specs.World.{WorldState}
 use Rattle.replay_report.specs.ReplayReport.{LineOutcome, outcome_of_line, rows_of_answer, rows_of_line, text_before, text_of_lines, unless_over}
 use Rattle.group_machine.specs.Cluster.{ClusterState}

@@ -16,7 +16,7 @@ use Rattle.script.specs.Replay.{read_answer_in}
 use Rattle.script.specs.declared.action.Action.{Action}
 use Rattle.script.specs.declared.action.Action.TheVariants.{Append, AppendIn, Join, Keep, Return, Rejoin, Sync, Leave, Lose, Poll, Send, Deliver, Unanswered, Settle, Drain}
 use Rattle.script.specs.declared.replay.Line.{Line}
-use Rattle.script.specs.declared.topics.Topic.{Topic}
+use Rattle.partitioner.specs.declared.topic.Topic.{Topic}
 use Rattle.command_line.specs.declared.options.Options.{Options}
 use Rattle.ingest.specs.RecordFaults.{first_fault}
 use Rattle.ingest.specs.Records.{partition_counts, records_of}

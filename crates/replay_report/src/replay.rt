@@ -7,7 +7,7 @@ ghost use Rattle.ingest.specs.Reports.{AreInRange, MakesIfKnown, CountsFailures,
 ghost use Rattle.replay_report.specs.ReplayReport.{report_of_lines, report_of_replay};
 ghost use Rattle.lane_words.specs.Answers.{Answers};
 ghost use Rattle.script.specs.Replay.{lines_seen, read_answer_in};
-ghost use Rattle.script.specs.Topics.{MayBeTopics};
+ghost use Rattle.partitioner.specs.Topic.{MayBeTopics};
 
 mod lines;
 mod loading;

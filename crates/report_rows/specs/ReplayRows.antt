@@ -7,7 +7,7 @@ use Rattle.commit_store.specs.Commits.{committed_at}
 use Rattle.group_machine.specs.declared.group.Move.{Move}
 use Rattle.group_machine.specs.State.{GroupState, name_of, owner_of}
 use Rattle.group_machine.specs.Cluster.{ClusterState}
-use Rattle.script.specs.declared.topics.Topic.{Topic}
+use Rattle.partitioner.specs.declared.topic.Topic.{Topic}
 use Rattle.report_rows.specs.Rows.{row_writer, total_row}
 use Rattle.report_rows.specs.CountRows.{count_row}
 

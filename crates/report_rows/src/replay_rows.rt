@@ -11,7 +11,7 @@ use group_machine::{Cluster, Move};
 use itoa::Buffer;
 use lane_words::{Memory, Refusal};
 use partition_log::LogRead;
-use script::Topic;
+use partitioner::Topic;
 
 /// The name of a member, or nothing if there is none.
 fn name_or_empty(cluster: &Cluster, member: Option<u32>) -> &[u8]

@@ -9,7 +9,7 @@ use keyed_table::Partial;
 use lane_words::{MOST_PARTITIONS, Memory, Refusal};
 use report_rows::replay_rows::{write_closing, write_moves, write_refused};
 use report_rows::rows;
-use script::Topic;
+use partitioner::Topic;
 use std::alloc::Global;
 use std::process::Abort;
 use std::random::RandomSource;

@@ -2,13 +2,13 @@
 
 ghost use Rattle.std.specs.Prelude.{◌≡◌, IfOk};
 ghost use Rattle.ingest.specs.Reports.{AreInRange};
-ghost use Rattle.script.specs.Topics.{AreTopics};
+ghost use Rattle.partitioner.specs.Topic.{AreTopics};
 
 use crate::options;
 use command_line::Options;
 use group_machine::Name;
 use lane_words::Memory;
-use script::Topic;
+use partitioner::Topic;
 use std::alloc::Global;
 use std::process::Abort;
 

@@ -3,7 +3,7 @@
 use command_line::{
     AFTER_COUNT, AFTER_KEYCOUNT, AFTER_REPLAY, AFTER_RUN, Job, Options, Usage, read_words,
 };
-use script::Topic;
+use partitioner::Topic;
 use std::alloc::Global;
 
 /// The partitions, the column, whether there is a header, and the batch.

@@ -28,7 +28,7 @@ use Rattle.group_machine.specs.declared.group.Seat.{Seat}
 use Rattle.group_machine.specs.declared.group.Slot.{Slot}
 use Rattle.group_machine.proofs.PresentLemmas.{present_each}
 use Rattle.script.specs.declared.plan.Change.{Change}
-use Rattle.script.specs.declared.topics.Topic.{Topic}
+use Rattle.partitioner.specs.declared.topic.Topic.{Topic}
 use Rattle.workers.specs.Plans.{settled}
 use Rattle.workers.specs.Runs.{IsRunOf, IsRunRefusal}
 use Rattle.command_line.specs.declared.options.Options.{Options}

@@ -9,7 +9,7 @@ use Rattle.partition_log.specs.Keys.{Keyed, keys_in}
 use Rattle.group_machine.specs.State.{GroupState}
 use Rattle.script.specs.Plan.{plan_answer}
 use Rattle.script.specs.declared.plan.Change.{Change}
-use Rattle.script.specs.declared.topics.Topic.{Topic}
+use Rattle.partitioner.specs.declared.topic.Topic.{Topic}
 use Rattle.workers.specs.Plans.{settled}
 use Rattle.command_line.specs.declared.options.Options.{Options}
 use Rattle.ingest.specs.RecordFaults.{fault_or, first_fault}

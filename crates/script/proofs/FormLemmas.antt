@@ -2,16 +2,16 @@
 use Rattle.std.proofs.Common.{◌≡◌, refl, sym, ap, ◌∙◌, ℕ, true, cond, not, List, codes, Option, Some, None}
 use Rattle.std.specs.List.{list_all}
 use Rattle.std.specs.Option.{option_and_then}
-use Rattle.group_machine.specs.Name.{is_name}
+use Rattle.partitioner.specs.Name.{is_name}
 use Rattle.script.proofs.Parts.{split-there}
 use Rattle.script.proofs.TopicLemmas.{said-in}
 use Rattle.script.proofs.WordLemmas.{command-word, name-word, number-word}
 use Rattle.script.specs.Forms.{◌⎵◌, IsAppend, IsNumbered, IsPoll, IsSend, IsWritten}
 use Rattle.script.specs.Grammar.{action_of, append_action, appended, bare_action, command_action, is_space, mail_action, member_action, name_of, poll_action, send_action, single_action, split_word}
-use Rattle.script.specs.Topics.{MayBeTopics}
+use Rattle.partitioner.specs.Topic.{MayBeTopics}
 use Rattle.script.specs.declared.action.Action.{Action}
 use Rattle.script.specs.declared.action.Action.TheVariants.{Append, AppendIn, Join, Keep, Return, Rejoin, Sync, Leave, Lose, Poll, Send, Deliver, Unanswered, Settle, Drain}
-use Rattle.script.specs.declared.topics.Topic.{Topic}
+use Rattle.partitioner.specs.declared.topic.Topic.{Topic}
 
 named : (name : List ℕ) → is_name name ≡ true → name_of name ≡ Some name
 unfolding name_of

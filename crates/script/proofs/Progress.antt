@@ -12,7 +12,7 @@ use Rattle.script.specs.Private.Answers.{line_answer}
 use Rattle.script.specs.Replay.{action_said, answer_of, is_bad, said}
 use Rattle.script.specs.declared.action.Action.{Action}
 use Rattle.script.specs.declared.replay.Line.{Line}
-use Rattle.script.specs.declared.topics.Topic.{Topic}
+use Rattle.partitioner.specs.declared.topic.Topic.{Topic}
 
 -- lines that are parsed already, before the result for the rest
 abbrev pub after : List Line → Result (List Line) Refusal → Result (List Line) Refusal

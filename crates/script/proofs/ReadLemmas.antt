@@ -3,12 +3,12 @@ use Rattle.std.proofs.Common.{◌≡◌, refl, ap, subst, ◌∙◌, ℕ, Bool, 
 use Rattle.std.proofs.lemmas.Slice.Eq.{bytes_eq-Decides}
 use Rattle.std.specs.Option.{IfSome, option_and_then, option_map_or, option_or}
 use Rattle.std.specs.Str.{bytes_eq}
-use Rattle.group_machine.specs.Name.{is_name}
+use Rattle.partitioner.specs.Name.{is_name}
 use Rattle.script.proofs.Parts.{split-parts}
 use Rattle.script.proofs.TopicLemmas.{in-said}
 use Rattle.script.specs.Forms.{◌⎵◌, IsNamed, IsNumbered, IsSaidIn, IsWritten}
 use Rattle.script.specs.Grammar.{action_of, append_action, appended, bare_action, command_action, mail_action, member_action, name_of, number_of, poll_action, send_action, single_action, split_word, topic_said}
-use Rattle.script.specs.declared.topics.Topic.{Topic}
+use Rattle.partitioner.specs.declared.topic.Topic.{Topic}
 
 module _ {A : Type 0} (P : A → Type 0) where
   -- what holds of the value of each branch holds of the value

@@ -7,13 +7,13 @@ use Rattle.std.proofs.lemmas.List.Quantifiers.{position-Some}
 use Rattle.std.proofs.lemmas.List.Sums.{position_or_len_is}
 use Rattle.std.proofs.lemmas.Option.{get_or_from_slice_get, slice_get-get_or, slice_get_within}
 use Rattle.std.proofs.lemmas.Slice.Eq.{bytes_eq-Decides}
-use Rattle.group_machine.specs.Name.{is_name}
+use Rattle.partitioner.specs.Name.{is_name}
 use Rattle.script.proofs.Parts.{split-parts, split-there}
 use Rattle.script.proofs.WordLemmas.{name-word}
 use Rattle.script.specs.Forms.{IsInTopic, IsSaidIn}
 use Rattle.script.specs.Grammar.{split_word, topic_before, topic_said}
-use Rattle.script.specs.Topics.{MayBeTopics, topic_named}
-use Rattle.script.specs.declared.topics.Topic.{Topic}
+use Rattle.partitioner.specs.Topic.{MayBeTopics, topic_named}
+use Rattle.partitioner.specs.declared.topic.Topic.{Topic}
 use borrow.Author.Tests.{eqb-true, lt-ltb}
 
 no_topic : Topic

@@ -5,7 +5,7 @@ use Rattle.std.proofs.lemmas.List.Sums.{AllPass-from_list_all}
 use Rattle.std.specs.Char.{is_ascii_digit}
 use Rattle.std.specs.List.{All, list_all}
 use Rattle.std.specs.Str.Parse.{digits_value}
-use Rattle.group_machine.specs.Name.{is_name, is_name_byte}
+use Rattle.partitioner.specs.Name.{is_name, is_name_byte}
 use Rattle.script.specs.Grammar.{is_space, number_of}
 use borrow.Author.Tests.{eqb-true}
 

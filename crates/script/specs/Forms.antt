@@ -1,12 +1,12 @@
 -- The written forms of actions.
 use Rattle.std.specs.Prelude.{◌≡◌, ℕ, true, List, [], ◌∷◌, ◌++◌, codes, Option, Some, None}
 use Rattle.std.specs.List.{slice_get}
-use Rattle.group_machine.specs.Name.{is_name}
+use Rattle.partitioner.specs.Name.{is_name}
 use Rattle.script.specs.Grammar.{number_of}
 use Rattle.script.specs.Topics.{partition_at}
 use Rattle.script.specs.declared.action.Action.{Action}
 use Rattle.script.specs.declared.action.Action.TheVariants.{Append, AppendIn, Join, Keep, Return, Rejoin, Sync, Leave, Lose, Poll, Send, Deliver, Unanswered, Settle, Drain}
-use Rattle.script.specs.declared.topics.Topic.{Topic}
+use Rattle.partitioner.specs.declared.topic.Topic.{Topic}
 
 -- a word, a space and a text
 infixr 20 ◌⎵◌

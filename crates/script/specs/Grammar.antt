@@ -6,12 +6,13 @@ use Rattle.std.specs.Option.{option_and_then, option_map, option_map_or, option_
 use Rattle.std.specs.Str.{bytes_eq}
 use Rattle.std.specs.Str.Lines.{strip_carriage_return}
 use Rattle.std.specs.Str.Parse.{digits_value}
-use Rattle.group_machine.specs.Name.{is_name}
+use Rattle.partitioner.specs.Name.{is_name}
 use Rattle.script.specs.declared.action.Action.{Action}
 use Rattle.script.specs.declared.action.Action.TheVariants.{Append, AppendIn, Join, Keep, Return, Rejoin, Sync, Leave, Lose, Poll, Send, Deliver, Unanswered, Settle, Drain}
-use Rattle.script.specs.Topics.{partition_at, topic_named}
+use Rattle.partitioner.specs.Topic.{topic_named}
+use Rattle.script.specs.Topics.{partition_at}
 use Rattle.script.specs.declared.limits.TheConstants.{MOST_DIGITS}
-use Rattle.script.specs.declared.topics.Topic.{Topic}
+use Rattle.partitioner.specs.declared.topic.Topic.{Topic}
 
 infixl 10 ◌>>=◌
 abbrev pub ◌>>=◌ : {A B : Type 0} → Option A → (A → Option B) → Option B

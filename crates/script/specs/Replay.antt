@@ -10,7 +10,7 @@ use Rattle.script.specs.Grammar.{action_of, lines_from}
 use Rattle.script.specs.declared.action.Action.{Action}
 use Rattle.script.specs.declared.limits.TheConstants.{LONGEST_LINE}
 use Rattle.script.specs.declared.replay.Line.{Line}
-use Rattle.script.specs.declared.topics.Topic.{Topic}
+use Rattle.partitioner.specs.declared.topic.Topic.{Topic}
 
 -- an empty line, or a comment, which begins with '#'
 abbrev pub is_silent : List ℕ → Bool

@@ -5,10 +5,10 @@ ghost use Rattle.lane_words.specs.declared.limits.TheConstants.{MOST_MEMBERS};
 ghost use Rattle.script.specs.Forms.{IsWritten};
 ghost use Rattle.script.specs.Grammar.{action_of};
 ghost use Rattle.script.specs.Plan.{IsPlan};
-ghost use Rattle.script.specs.Topics.{MayBeTopics};
+ghost use Rattle.partitioner.specs.Topic.{MayBeTopics};
 ghost use Rattle.script.specs.declared.action.Action.{Action};
 ghost use Rattle.script.specs.declared.plan.Change.{Change};
-ghost use Rattle.script.specs.declared.topics.Topic.{Topic};
+ghost use Rattle.partitioner.specs.declared.topic.Topic.{Topic};
 
 /// A line in a form of an action parses to this action, with topics and without.
 pub fn forms_are_read()

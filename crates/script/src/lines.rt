@@ -5,13 +5,13 @@ ghost use Rattle.std.specs.Str.Lines.{strip_carriage_return};
 ghost use Rattle.lane_words.specs.Answers.{Answers};
 ghost use Rattle.script.specs.Grammar.{lines_from, split_lines};
 ghost use Rattle.script.specs.Private.Answers.{line_answer};
-ghost use Rattle.script.specs.Topics.{MayBeTopics};
+ghost use Rattle.partitioner.specs.Topic.{MayBeTopics};
 
 use crate::action::{self, Action};
 use crate::limits::LONGEST_LINE;
-use crate::topics::Topic;
 use crate::words;
 use lane_words::Refusal;
+use partitioner::Topic;
 use std::alloc::Global;
 
 /// The first line, without its line end, and the bytes after it.

@@ -2,12 +2,12 @@
 
 ghost use Rattle.lane_words.specs.Answers.{Answers};
 ghost use Rattle.script.specs.Replay.{lines_seen, read_answer, read_answer_in};
-ghost use Rattle.script.specs.Topics.{AreTopics, MayBeTopics};
+ghost use Rattle.partitioner.specs.Topic.{AreTopics, MayBeTopics};
 
 use crate::action::Action;
 use crate::lines;
-use crate::topics::Topic;
 use lane_words::Refusal;
+use partitioner::Topic;
 use std::alloc::Global;
 
 /// A line with an action.

@@ -2,21 +2,12 @@
 
 ghost use Rattle.std.specs.Prelude.{◌≡◌, ◌≤◌, ℕ, length, take, IfSome, IfNone};
 ghost use Rattle.script.specs.Grammar.{topic_said};
-ghost use Rattle.script.specs.Topics.{MayBeTopics, partition_at, partitions_in, topic_named};
+ghost use Rattle.partitioner.specs.Topic.{MayBeTopics, partitions_in, topic_named};
+ghost use Rattle.script.specs.Topics.{partition_at};
 
 use crate::limits::NO_PARTITION;
 use crate::words;
-use group_machine::Name;
-
-/// A topic with partitions of its own. The partitions of several topics are counted over all of
-/// them, in the order of the topics.
-#[derive(Debug, Drop)]
-pub struct Topic {
-    /// The name, which no other topic has.
-    pub name: Name,
-    /// The number of partitions: at least 1, and at most 4096 for all topics together.
-    pub partitions: u32,
-}
+use partitioner::Topic;
 
 /// Splits the name of a topic from the text after it, and returns the topic's index and the text.
 /// Without topics there is no index, and the text is returned as it is.

@@ -4,8 +4,8 @@ use Rattle.std.specs.Global.{Global}
 use Rattle.std.specs.List.{All}
 use Rattle.std.specs.Str.Parse.{digits_value}
 use Rattle.lane_words.specs.declared.limits.TheConstants.{MOST_PARTITIONS, MOST_TOPICS}
-use Rattle.script.specs.Topics.{partitions_in}
-use Rattle.script.specs.declared.topics.Topic.{Topic}
+use Rattle.partitioner.specs.Topic.{partitions_in}
+use Rattle.partitioner.specs.declared.topic.Topic.{Topic}
 use Rattle.command_line.specs.Topics.{is_count, IsBadList, SaysTopics}
 
 -- the number of partitions that the digits denote

@@ -6,8 +6,8 @@ ghost use Rattle.group_machine.specs.Slots.{members_in, owner_in};
 ghost use Rattle.group_machine.specs.State.{is_kept_as, kept_in, name_at, number_in};
 
 use super::{Slot, slots};
-use crate::Name;
 use lane_words::MOST_MEMBERS;
+use partitioner::Name;
 use std::marker::Model;
 
 /// An iterator over the present members, in rising order.

@@ -11,7 +11,7 @@ ghost use Rattle.group_machine.specs.Settled.{agrees};
 ghost use Rattle.group_machine.specs.Private.Walks.{AreSeatsOver};
 
 use super::{Phase, Seat, Slot};
-use crate::Name;
+use partitioner::Name;
 
 /// Whether a member, present or not, has this name.
 pub fn is_used(slots: &[Slot], name: &Name) -> bool

@@ -7,7 +7,7 @@ use Rattle.lane_words.specs.declared.Refusal.TheVariants as r
 use Rattle.script.specs.declared.action.Action.{Action}
 use Rattle.script.specs.declared.action.Action.TheVariants.{Settle, Drain}
 use Rattle.script.specs.declared.replay.Line.{Line}
-use Rattle.script.specs.declared.topics.Topic.{Topic}
+use Rattle.partitioner.specs.declared.topic.Topic.{Topic}
 use Rattle.world.specs.World.{WorldState}
 use Rattle.report_rows.specs.Rows.{HasText}
 use Rattle.replay_report.specs.ReplayReport.{LineOutcome, outcome_of_line, rows_of_line}

@@ -4,7 +4,7 @@ use Rattle.lane_words.specs.declared.Refusal.{Refusal}
 use Rattle.lane_words.specs.declared.Refusal.TheVariants as r
 use Rattle.script.specs.Replay.{action_said, is_bad}
 use Rattle.script.specs.declared.action.Action.{Action}
-use Rattle.script.specs.declared.topics.Topic.{Topic}
+use Rattle.partitioner.specs.declared.topic.Topic.{Topic}
 
 -- a bad line is refused, and any other has its action, if any
 unfoldable pub line_answer : List Topic → ℕ × List ℕ → Result (Option Action) Refusal

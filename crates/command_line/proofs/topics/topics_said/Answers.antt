@@ -3,7 +3,7 @@ use Rattle.std.proofs.lemmas.Iterator.Consumers.{YieldsList-end, YieldsList-so_f
 use Rattle.std.proofs.lemmas.Iterator.Splits.{YieldsList-from_str_split}
 use Rattle.std.specs.List.{slice_split}
 use Rattle.std.proofs.lemmas.List.{map_push}
-use Rattle.script.specs.declared.topics.Topic.{Topic}
+use Rattle.partitioner.specs.declared.topic.Topic.{Topic}
 use Rattle.command_line.specs.Topics.{is_comma, topic_of}
 use Rattle.command_line.proofs.TopicLists.{more_known, no_room_in, nothing_in, some_said, split_there, topic_said}
 use Rattle.command_line.proofs.topics.topics_said.Goals as goal

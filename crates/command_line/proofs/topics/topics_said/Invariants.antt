@@ -1,5 +1,5 @@
 use Rattle.std.proofs.Common.{◌≡◌, ℕ, List, Bor, Some, map}
-use Rattle.script.specs.Topics.{MayBeTopics}
+use Rattle.partitioner.specs.Topic.{MayBeTopics}
 use Rattle.command_line.specs.Topics.{topic_of}
 use Rattle.command_line.proofs.topics.topics_said.Given as goal
 

@@ -1,5 +1,5 @@
 use Rattle.std.proofs.Common.{◌≡◌, map, take}
-use Rattle.script.specs.declared.topics.Topic.{Topic}
+use Rattle.partitioner.specs.declared.topic.Topic.{Topic}
 use Rattle.ingest.proofs.reading.counts_among.Given as goal
 
 abbrev pub invariant-loop-topic : goal.invariant-loop-topic

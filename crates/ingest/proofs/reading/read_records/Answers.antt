@@ -1,7 +1,7 @@
 use Rattle.std.proofs.Common.{◌≡◌, ◌∙◌, Bor, List, ℕ, Err, false, inl, length, map, ap, rules, sym}
 use Rattle.std.specs.Prelude.{◌==◌}
 use Rattle.std.specs.Result.{result_map_both}
-use Rattle.script.specs.declared.topics.Topic.{Topic}
+use Rattle.partitioner.specs.declared.topic.Topic.{Topic}
 use Rattle.key_file.specs.KeyFile.{topic_keys_of}
 use Rattle.ingest.specs.Records.{record_of, records_of}
 use Rattle.ingest.proofs.Told.{as_answer}

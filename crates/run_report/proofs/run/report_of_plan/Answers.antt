@@ -1,6 +1,6 @@
 use Rattle.std.proofs.Common.{◌∙◌, ◌++◌, List, ap}
 use Rattle.std.proofs.lemmas.Result.{IfOk-weaker}
-use Rattle.script.specs.declared.topics.Topic.{Topic}
+use Rattle.partitioner.specs.declared.topic.Topic.{Topic}
 use Rattle.ingest.specs.Records.{partition_counts, records_in}
 use Rattle.group_machine.specs.Cluster.{ClusterState}
 use Rattle.report_rows.specs.ReplayRows.{closing_rows, move_rows}

@@ -1,5 +1,5 @@
 use Rattle.std.proofs.Common.{◌≡◌, take}
-use Rattle.script.specs.Topics.{partitions_in}
+use Rattle.partitioner.specs.Topic.{partitions_in}
 use Rattle.script.proofs.topics.partitions_before.Given as goal
 
 abbrev pub invariant-loop-topic : goal.invariant-loop-topic

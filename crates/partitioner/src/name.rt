@@ -1,15 +1,15 @@
-//! Names of members.
+//! Names of members and topics.
 
 ghost use Rattle.std.specs.Prelude.{◌≡◌, true, Some, None, if◌then◌else◌};
 ghost use Rattle.std.specs.List.{list_all};
-ghost use Rattle.group_machine.specs.Name.{is_name, is_name_byte};
+ghost use Rattle.partitioner.specs.Name.{is_name, is_name_byte};
 
 use std::marker::Model;
 
 /// The limit of a name, in bytes.
 const LONGEST_NAME: usize = 32;
 
-/// A member's name: 1 to 32 ASCII letters, digits, `-` and `_`. It is stored inline.
+/// A name: 1 to 32 ASCII letters, digits, `-` and `_`. It is stored inline.
 #[derive(Debug, Drop)]
 pub struct Name {
     /// The name, followed by zeros.
@@ -20,7 +20,7 @@ pub struct Name {
 
 impl Model for Name {
     ghost use Rattle.std.specs.Prelude.{List, ℕ};
-    ghost use Rattle.group_machine.specs.Name.{text_in, IsValidName};
+    ghost use Rattle.partitioner.specs.Name.{text_in, IsValidName};
 
     ghost Value = { List ℕ };
 

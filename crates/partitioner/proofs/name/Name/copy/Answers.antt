@@ -1,5 +1,5 @@
 use Rattle.std.proofs.Common.{rules}
-use Rattle.group_machine.proofs.name.Name.copy.Goals as goal
+use Rattle.partitioner.proofs.name.Name.copy.Goals as goal
 
 pub invariant_of-result : goal.invariant_of-result
 invariant_of-result c = search rules

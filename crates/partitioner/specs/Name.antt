@@ -1,7 +1,7 @@
--- The names of members.
+-- The names of members and topics.
 use Rattle.std.specs.Prelude.{◌≡◌, ℕ, ◌≤◌, Bool, true, ◌&&◌, ◌||◌, ◌==◌, nat_le, List, length, take}
 use Rattle.std.specs.List.{list_all}
-use Rattle.group_machine.specs.declared.name.TheConstants.{LONGEST_NAME}
+use Rattle.partitioner.specs.declared.name.TheConstants.{LONGEST_NAME}
 
 abbrev pub is_letter : ℕ → Bool
 is_letter b = (nat_le 65 b && nat_le b 90) || (nat_le 97 b && nat_le b 122)

@@ -1,5 +1,5 @@
 use Rattle.std.proofs.Common.{rules}
-use Rattle.group_machine.proofs.name.is_name.Goals as goal
+use Rattle.partitioner.proofs.name.is_name.Goals as goal
 
 pub returns : goal.returns
 returns c = search rules
