@@ -7,9 +7,8 @@ ghost use Rattle.partitioner.specs.Topic.{MayBeTopics, partitions_in};
 ghost use Rattle.command_line.specs.Private.Topics.{IsNew, MayFollow, TellsTopics, count_of};
 ghost use Rattle.command_line.specs.Topics.{topic_of};
 
-use partitioner::Name;
 use lane_words::{MOST_PARTITIONS, MOST_TOPICS};
-use partitioner::Topic;
+use partitioner::{Name, Topic};
 use std::alloc::{AllocError, Global};
 
 /// The maximum number of digits of a number of partitions.

@@ -4,8 +4,7 @@ ghost use Rattle.std.specs.Prelude.{◌≡◌, Some, IfOk};
 ghost use Rattle.script.specs.Grammar.{action_of, append_action, bare_action, command_action, mail_action, member_action, poll_action, send_action, single_action};
 ghost use Rattle.partitioner.specs.Topic.{MayBeTopics};
 
-use crate::topics;
-use crate::words;
+use crate::{topics, words};
 use group_machine::Name;
 use lane_words::Memory;
 use partitioner::Topic;
