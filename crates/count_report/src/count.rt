@@ -13,10 +13,10 @@ use command_line::Options;
 use devices::{Sink, Source, write_texts};
 use ingest::{FileRecords, file_records, logs_of};
 use lane_words::Refusal;
+use parallel::drop_each;
 use report_rows::count_rows::count_rows_texts;
 use std::alloc::Global;
 use std::random::RandomSource;
-use std::thread;
 use std::thread::Threads;
 
 /// The text of a count of these records, in texts to be written one after another.
@@ -62,12 +62,6 @@ fn file_report<R: Threads + Sync + RandomSource, S: Source>(
     plain_report(rt, alloc, records, options)
 }
 
-/// Frees texts, each on a thread of its own.
-fn let_go<R: Threads + Sync>(rt: &R, texts: Vec<Vec<u8>>) {
-    // If an allocation fails here, the rest is freed with the list.
-    let _ = thread::map_vec(rt, texts, &|text: Vec<u8>| drop(text));
-}
-
 /// Counts how often each key occurs in a CSV file, and writes a row for each key, in the order of
 /// first appearance, and a row of the totals.
 ///
@@ -103,6 +97,6 @@ pub fn count_text<R: Threads + Sync + RandomSource, S: Source, K: Sink>(
 {
     let texts = file_report(rt, alloc, file, options)?;
     let written = write_texts(out, texts.as_slice());
-    let_go(rt, texts);
+    drop_each(rt, texts);
     written
 }

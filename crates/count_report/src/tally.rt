@@ -62,7 +62,7 @@ pub fn counts_in_turn<L: LogRead>(alloc: Global, logs: &L) -> Result<Table, Memo
 {
     let mut table = Table::zeros(alloc, logs.keys())?;
     for p in 0..logs.partitions() {
-        table.merge(&log_counts(alloc, logs, p)?);
+        table.add_list(all_ids(logs, p));
     }
     Ok(table)
 }
@@ -201,6 +201,13 @@ fn log_counts<L: LogRead>(alloc: Global, logs: &L, p: u32) -> Result<Partial, Me
     requires { p < (L.contents logs.now).partitions }
     ensures { IfOk result (λ partial. partial ≡ log_at (L.contents logs.now) p) }
 {
-    let ids = Vec::from_slice(alloc, logs.ids(p, 0, logs.len(p)))?;
-    Partial::of(alloc, ids)
+    Partial::of(alloc, Vec::from_slice(alloc, all_ids(logs, p))?)
+}
+
+/// The key numbers of one log.
+fn all_ids<L: LogRead>(logs: &L, p: u32) -> &[u32]
+    requires { p < (L.contents logs.now).partitions }
+    ensures { result.now ≡ log_at (L.contents logs.now) p }
+{
+    logs.ids(p, 0, logs.len(p))
 }
