@@ -4,7 +4,7 @@ use Rattle.std.specs.Result.{result_and}
 use Rattle.lane_words.specs.declared.Refusal.{Refusal}
 use Rattle.lane_words.specs.declared.Refusal.TheVariants as r
 use Rattle.bit_planes.specs.PartitionSet.{PartitionSet, is_in}
-pub use Rattle.partition_log.specs.Appends.{GrowByRecords}
+pub use Rattle.partition_log.specs.Appends.{GrowByRecords, GrowsByKeyAt}
 pub use Rattle.partition_log.specs.Keys.{Key, Keyed, is_known, of_first}
 pub use Rattle.partition_log.specs.Logs.{AreCounts, IsOfTopic, IsPlaceOf, answer_at, place_in}
 pub use Rattle.commit_store.specs.Commits.{IsValidLogs, AreLogsOf, Commits, Fits, IsExact, PartitionLogs, append_answer, commit_answer, committed_at, with_commit, with_record_at}

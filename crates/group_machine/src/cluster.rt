@@ -6,7 +6,7 @@ ghost use Rattle.lane_words.specs.Answers.{Answers};
 ghost use Rattle.group_machine.specs.State.{assigned_of, granted_of, is_joined, is_kept, is_present, is_synced, member_named, member_of, members, name_of, opening, owner_of};
 ghost use Rattle.group_machine.specs.Steps.{join_answer, joined_by, joined_kept_by, leave_answer, left_by, rejoin_answer, rejoined_by, synced_by, take_over_answer, taken_over_by};
 ghost use Rattle.group_machine.specs.Settled.{is_settled};
-ghost use Rattle.group_machine.specs.Cluster.{AreCounts, AreLogsOf, ClusterState, GrowByRecords, IsDue, IsOfTopic, IsPlaceOf, IsValidCluster, answer_at, append_answer, appended_at, appended_to, cluster_commit_answer, cluster_sync_answer, committed_at, committed_by, fence, of_first, place_in, with_group, without_room};
+ghost use Rattle.group_machine.specs.Cluster.{AreCounts, AreLogsOf, ClusterState, GrowByRecords, GrowsByKeyAt, IsDue, IsOfTopic, IsPlaceOf, IsValidCluster, answer_at, append_answer, appended_at, appended_to, cluster_commit_answer, cluster_sync_answer, committed_at, committed_by, fence, of_first, with_group, without_room};
 
 mod next_step;
 
@@ -265,9 +265,7 @@ impl Cluster {
         ensures ok { OnOk result (self.new ≡ appended_at self.old place key.now) }
         ensures err { OnErr result (self.new ≡ self.old) }
         ensures valid { OnOk result (IsValidCluster self.new) }
-        ensures history { OnOk result ((topic : ℕ) → IsOfTopic self.old.logs (topic, key.now)
-            → place_in self.old.logs (topic, key.now) ≡ place
-            → GrowByRecords ((topic, key.now) ∷ []) self.old.logs self.new.logs) }
+        ensures history { OnOk result (GrowsByKeyAt key.now place self.old.logs self.new.logs) }
     {
         self.store.reserve_key()?;
         let at = self.logs.append_at(place, key)?;
