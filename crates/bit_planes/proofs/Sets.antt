@@ -197,9 +197,6 @@ rank_below s q h = omega (arith, rank_most s (suc q), rank_next s q, one_of (is_
 pub size_most : (s : PartitionSet) → size s ≤ partitions_of s
 size_most s = omega (arith, size_is s, how_many-le (partitions_of s) (is_in s))
 
-pub size_empty : (p : ℕ) → size (empty_set p) ≡ 0
-size_empty p = size_is (empty_set p) ∙ how_many-none (partitions_of (empty_set p)) (is_in (empty_set p)) (λ q lt. in_empty p q)
-
 pub size_full : (p : ℕ) → size (full_set p) ≡ p
 size_full p =
     let e = partitions_full p in
@@ -307,9 +304,6 @@ pub any_below-of_none : (n : ℕ) (f : ℕ → Bool) → ((q : ℕ) → q < n �
 any_below-of_none zero f none = refl
 any_below-of_none (suc n) f none = neither (any_below n f) (f n) (any_below-of_none n f (λ q lt. none q (omega arith))) (none n (omega arith))
 
-pub any_below-more : (f : ℕ → Bool) (n : ℕ) (x y : Bool) → x ≡ any_below n f → y ≡ f n → (x || y) ≡ any_below (n + 1) f
-any_below-more f n x y before here = let next : n + 1 ≡ suc n = omega arith in rw (next, before, here) refl
-
 pub not_false : (x : Bool) → not x ≡ true → x ≡ false
 not_false true h = sym h
 not_false false h = refl
@@ -384,19 +378,6 @@ true_is : (x y : Bool) → (x ≡ false → y ≡ true → ⊥) → y ≡ true �
 true_is true y not_so h = refl
 true_is false y not_so h = absurd (not_so refl h)
 
-pub meets_at : (s t : PartitionSet) (q : ℕ) → is_in s q ≡ true → is_in t q ≡ true → meets s t ≡ true
-meets_at s t q e f = true_is (meets s t) true (λ no h. let none = meets_says s t no q in clash (is_in s q) (is_in t q) e f none) refl
-  where
-    clash : (x y : Bool) → x ≡ true → y ≡ true → (x && y) ≡ false → ⊥
-    clash x y e f h = grind (arith, e, f, h)
-
-pub not_within_at : (s t : PartitionSet) (q : ℕ) → is_in s q ≡ true → is_in t q ≡ false → is_within s t ≡ false
-not_within_at s t q e f = false_is (is_within s t) (λ h. let there = within_says s t h q e in cc (there, f))
-  where
-    false_is : (x : Bool) → (x ≡ true → false ≡ true) → x ≡ false
-    false_is true h = sym (h refl)
-    false_is false h = refl
-
 pub tells_apart : (s t : PartitionSet) (b : Bool) → b ≡ meets s t → (b ≡ false) ↔ ((q : ℕ) → (is_in s q && is_in t q) ≡ false)
 tells_apart s t b e = (λ h. meets_says s t (sym e ∙ h), λ none. e ∙ meets_of s t none)
 
@@ -408,13 +389,6 @@ pub tells_same : (s t : PartitionSet) (b : Bool) → b ≡ is_same s t → IsTru
 tells_same s t true e = (λ h. same_says s t (sym e), λ h. refl)
 tells_same s t false e = (λ h. absurd (cc h), λ h. let so : is_same s t ≡ true = ap (is_same s) (sym h) ∙ same_self s in absurd (grind (arith, e, so)))
 
--- ---- what a walk over all numbers shows
-pub meets_none : (s t : PartitionSet) (n : ℕ) → partitions_of s ≤ n → ((q : ℕ) → q < n → (is_in s q && is_in t q) ≡ false) → false ≡ meets s t
-meets_none s t n le none = sym (meets_of s t (λ q. elim (cases_lt q n) [
-  | inl lt ↦ none q lt
-  | inr past_n ↦ not_first (is_in s q) (is_in t q) (past s q (omega arith))
-]))
-
 pub within_all : (s t : PartitionSet) (n : ℕ) → partitions_of s ≤ n → ((q : ℕ) → q < n → is_in s q ≡ true → is_in t q ≡ true) → true ≡ is_within s t
 within_all s t n le all = sym (within_of s t (λ q e. let lt = in_below s q e in all q (omega arith) e))
 
@@ -422,13 +396,6 @@ pub same_all : (s t : PartitionSet) (n : ℕ) → partitions_of s ≡ partitions
 same_all s t n len le all =
     let e = same_set s t len (λ q lt. all q (omega arith)) in
     sym (ap (is_same s) (sym e) ∙ same_self s)
-
-pub not_same_at : (s t : PartitionSet) (q : ℕ) → (is_in s q ≡ is_in t q → ⊥) → false ≡ is_same s t
-not_same_at s t q differ = false_is (is_same s t) (λ h. differ (ap (λ u. is_in u q) (same_says s t h)))
-  where
-    false_is : (x : Bool) → (x ≡ true → ⊥) → false ≡ x
-    false_is true h = absurd (h refl)
-    false_is false h = refl
 
 pub rank_in : (s : PartitionSet) (q : ℕ) → is_in s q ≡ true → rank s (q + 1) ≡ rank s q + 1
 rank_in s q h = omega (arith, rank_more s q, one_of (is_in s q) h)

@@ -75,9 +75,6 @@ from_one true false e = absurd (omega arith)
 from_one false true e = absurd (omega arith)
 from_one false false e = refl
 
-same_one : (m : ℕ) → m < 2 → (m == 1) ≡ true → m ≡ 1
-same_one m lt e = grind (arith, nat_tests)
-
 -- words with the same bits
 pub same_word : (x y : ℕ) → x < 2 ^ 64 → y < 2 ^ 64 → ((k : ℕ) → k < 64 → is_bit x k ≡ is_bit y k) → x ≡ y
 same_word x y fx fy same = same_from_bits_below 64 x y fx fy (λ k lt. sym (one_bit x k) ∙ (ap one (same k lt) ∙ one_bit y k))

@@ -25,10 +25,6 @@ sum-set [] i v lt = absurd (omega (arith, lt))
 sum-set (x ∷ xs) zero v lt = omega (arith, sum-cons x xs, sum-cons v xs)
 sum-set (x ∷ xs) (suc i) v lt = omega (arith, sum-cons x xs, sum-cons x (set xs i v), sum-set xs i v (omega (arith, lt)))
 
-pub sum-push : (xs : List ℕ) (v : ℕ) → sum (xs ++ v ∷ []) ≡ sum xs + v
-sum-push [] v = omega (arith, sum-cons v [])
-sum-push (x ∷ xs) v = omega (arith, sum-cons x xs, sum-cons x (xs ++ v ∷ []), sum-push xs v)
-
 -- numbers below a bound add up to at most their number times the bound
 pub sum-most : (xs : List ℕ) (most : ℕ) → ((i : ℕ) → get_or xs i 0 ≤ most) → sum xs ≤ length xs * most
 sum-most [] most h = omega arith

@@ -2,11 +2,10 @@
 use Rattle.std.proofs.Common.{ℕ, suc, ◌≡◌, ◌≢◌, ◌+◌, ◌<◌, ◌==◌, Bool, true, false, ◌||◌, ◌&&◌, not, List, [], ◌∷◌, ◌++◌, length, map, take, get_or, Some, None, cond, refl, ap, sym, subst, ◌∙◌, arith}
 use Rattle.std.proofs.lemmas.List.{take_all}
 use Rattle.std.specs.Prelude.{nat_lt}
-use Rattle.std.proofs.lemmas.Bool.{le-ltb}
 use Rattle.std.proofs.lemmas.Bool.Decides.{nat_tests}
-use Rattle.bit_planes.specs.PartitionSet.{PartitionSet, partitions_of, is_in, one, union, minus, empty_set}
+use Rattle.bit_planes.specs.PartitionSet.{PartitionSet, partitions_of, is_in, one, union, minus}
 use Rattle.bit_planes.specs.SetRows.{SetRows, IsValidRows, IsRising, find_row, set_or_empty}
-use Rattle.bit_planes.proofs.Sets.{in_empty, in_minus, in_union, partitions_empty, partitions_minus, partitions_union}
+use Rattle.bit_planes.proofs.Sets.{in_empty, in_minus, in_union, partitions_minus, partitions_union}
 use Rattle.bit_planes.proofs.RowLaws.{rising_rest}
 use Rattle.coop_rebalance.specs.Private.Grants.{times_granted, AreGrants}
 use Rattle.coop_rebalance.specs.Withheld.{granted_to_other}
@@ -91,14 +90,6 @@ more_some t false = grind (arith, nat_tests)
 more_several : (t : ℕ) (x : Bool) → (nat_lt 1 t || (x && not (x && not (nat_lt 0 t)))) ≡ nat_lt 1 (t + one x)
 more_several t true = grind (arith, nat_tests)
 more_several t false = grind (arith, nat_tests)
-
-pub grants_none : (p : ℕ) → AreGrants (empty_set p) (empty_set p) (record { partitions = p; rows = [] })
-grants_none p = record {
-  some_below = partitions_empty p;
-  several_below = partitions_empty p;
-  to_some = λ q. in_empty p q ∙ sym (le-ltb 0 0 (omega arith));
-  to_several = λ q. in_empty p q ∙ sym (le-ltb 1 0 (omega arith));
-}
 
 -- one row more
 pub grants_more : (p : ℕ) (rows : Rows) (row : ℕ × PartitionSet) (some several : PartitionSet) → partitions_of row.1 ≡ p → AreGrants some several (record { partitions = p; rows = rows })

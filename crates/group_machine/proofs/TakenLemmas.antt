@@ -56,6 +56,3 @@ one_taken member added old takers left p next steps lt was = record {
   where
     taken : (b : Bool) → is_in added p ≡ true → taken_by member added old p ≡ Some member
     taken b e = rw e refl
-
-pub all_taken : (member : ℕ) (added : PartitionSet) (old takers : List (Option ℕ)) (left : List ℕ) → left ≡ [] → AreTaken member added old takers left → (q : ℕ) → slice_index_or takers q None ≡ taken_by member added old q
-all_taken member added old takers left over was q = was.done q (ap (is_listed q) over)

@@ -1,11 +1,11 @@
 -- The records of a file, from the keys that are read.
-use Rattle.std.proofs.Common.{◌≡◌, ◌∙◌, ◌<◌, ◌+◌, ℕ, Bool, true, false, List, [], ◌∷◌, ◌++◌, length, map, cond, get_or, take, sym, ap, refl, arith, inl, inr, subst}
+use Rattle.std.proofs.Common.{◌≡◌, ◌∙◌, ◌<◌, ◌+◌, ℕ, Bool, true, false, List, [], ◌∷◌, ◌++◌, length, map, cond, sym, ap, refl, arith, inl, inr, subst}
 use Rattle.std.specs.Prelude.{◌==◌, ◌≤◌, ◌⊎◌, All, Option, Some, None, Result, Ok, Err, zip}
 use Rattle.std.specs.Borrow.{Bor}
 use Rattle.std.specs.List.{position_from}
 use Rattle.std.specs.Result.{result_map_both}
 use Rattle.std.specs.Str.{bytes_eq}
-use Rattle.std.proofs.lemmas.List.{length-map, map-append, take_more}
+use Rattle.std.proofs.lemmas.List.{length-map}
 use Rattle.std.proofs.lemmas.List.Elements.{All-cons, All-head, All-map, All-nil, All-tail}
 use Rattle.lane_words.specs.declared.Refusal.{Refusal}
 use Rattle.lane_words.specs.declared.Refusal.TheVariants as r
@@ -123,8 +123,3 @@ topics-are n keys topics topic_items slices items h ts these ss those = record {
   as_many = ap length (ts ∙ these) ∙ length-map keys topic_of ∙ sym (length-map keys key_behind) ∙ ap length (sym those) ∙ length-map items (λ (key : Bor Key). key.now) ∙ ap length (sym ss);
   among = subst (All (λ t. t < n)) (sym (ts ∙ these)) (topics-below n keys h);
 }
-
--- the view of one more item
-pub seen-more : {X Y : Type 0} (f : X → Y) (xs : List X) (i : ℕ) (x : X) → i < length xs → x ≡ get_or xs i x → map f (take i xs) ++ f x ∷ [] ≡ map f (take (i + 1) xs)
-seen-more f xs i x lt is =
-    sym (ap (map f) (take_more xs i x lt) ∙ map-append f (take i xs) (get_or xs i x ∷ []) ∙ ap (λ y. map f (take i xs) ++ f y ∷ []) (sym is))

@@ -120,10 +120,6 @@ one-between text from at le lt =
 abbrev pub Goes : State → State → List ℕ → ℕ → ℕ → List ℕ → Type 0
 Goes s t text at to more = (fields : Record) (field : List ℕ) → walk s fields field (drop at text) ≡ walk t fields (field ++ more) (drop to text)
 
-pub goes-none : (s : State) (text : List ℕ) (at : ℕ) → Goes s s text at at (slice_range text at at)
-goes-none s text at fields field =
-    ap (λ f. walk s fields f (drop at text)) (sym (append-nil field) ∙ ap (λ m. field ++ m) (sym (none-between text at at refl)))
-
 goes-then : (s t u : State) (text : List ℕ) (a b c : ℕ) (m n : List ℕ) → Goes s t text a b m → Goes t u text b c n → Goes s u text a c (m ++ n)
 goes-then s t u text a b c m n g h fields field =
     g fields field ∙ h fields (field ++ m) ∙ ap (λ f. walk u fields f (drop c text)) (append_assoc field m n)
@@ -208,11 +204,6 @@ quoted-rest text at le plain fields field =
     ∙ quoted-over fields (field ++ slice_range text at (length text))
     ∙ ap (walk st.InField fields (field ++ slice_range text at (length text))) (sym over)
 
--- ---- what is kept of a field
-kept-none : (wanted : Bool) (old : List ℕ) → kept wanted old [] ≡ old
-kept-none true old = append-nil old
-kept-none false old = refl
-
 kept-more : (wanted : Bool) (old a b : List ℕ) → kept wanted (kept wanted old a) b ≡ kept wanted old (a ++ b)
 kept-more true old a b = append_assoc old a b
 kept-more false old a b = refl
@@ -221,13 +212,6 @@ kept-more false old a b = refl
 abbrev pub InQuotes : List ℕ → ℕ → ℕ → Bool → List ℕ → List ℕ → Type 0
 InQuotes text start at wanted old new =
     (more : List ℕ) × Goes st.InQuoted st.InQuoted text start at more × (new ≡ kept wanted old more)
-
-pub quotes-first : (text : List ℕ) (start : ℕ) (wanted : Bool) (old : List ℕ) → InQuotes text start start wanted old old
-quotes-first text start wanted old = (
-  slice_range text start start,
-  goes-none st.InQuoted text start,
-  sym (kept-none wanted old) ∙ ap (kept wanted old) (sym (none-between text start start refl)),
-)
 
 pub quotes-on : (text : List ℕ) (start at to : ℕ) (wanted : Bool) (old mid new more : List ℕ) → InQuotes text start at wanted old mid
     → Goes st.InQuoted st.InQuoted text at to more → new ≡ kept wanted mid more → InQuotes text start to wanted old new

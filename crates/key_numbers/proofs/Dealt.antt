@@ -13,7 +13,6 @@ use Rattle.key_numbers.specs.Keys.{Key, distinct, id_of, lent, lent_lists, with_
 use Rattle.lane_words.specs.declared.Memory.{Memory}
 use Rattle.key_numbers.specs.declared.dealing.Dealt.{Dealt}
 use Rattle.key_numbers.specs.Private.Sharded.{AreDealt, AreRows, IsDealt, of_shard, start_of, with_keys}
-use Rattle.key_numbers.specs.declared.dealing.TheConstants.{PIECES}
 use Rattle.key_numbers.proofs.Firsts.{own, stays}
 use Rattle.key_numbers.proofs.ShardRecords.{IsNumberedTo, few-distinct, few-filtered, shard-other, shard-own}
 
@@ -121,13 +120,6 @@ take-parted keys from to ordered within =
 -- the slices of keys, with one more
 pub more-pieces : (keys : List Key) (p : ℕ) → take (start_of (p + 1) keys) keys ≡ take (start_of p keys) keys ++ slice_range keys (start_of p keys) (start_of (p + 1) keys)
 more-pieces keys p = take-parted keys (start_of p keys) (start_of (p + 1) keys) (omega arith) (omega arith)
-
--- no key is before the first slice, and none after the last
-pub no-pieces : (keys : List Key) → start_of 0 keys ≡ 0
-no-pieces keys = omega arith
-
-pub all-pieces : (keys : List Key) → length keys ≤ start_of PIECES keys
-all-pieces keys = omega arith
 
 -- a slice of what a function gives
 pub piece-map : {X Y : Type 0} (f : X → Y) (xs : List X) (from to : ℕ) → map f (slice_range xs from to) ≡ slice_range (map f xs) from to

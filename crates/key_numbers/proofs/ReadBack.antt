@@ -3,7 +3,6 @@ use Rattle.std.proofs.Common.{◌≡◌, ◌∙◌, ◌+◌, ◌<◌, ℕ, List,
 use Rattle.std.specs.Prelude.{slice_set}
 use Rattle.key_numbers.specs.declared.key_hash.KeyHash.{KeyHash}
 use Rattle.std.proofs.lemmas.Bool.{cases_eq}
-use Rattle.std.proofs.lemmas.List.{length-map}
 use Rattle.key_numbers.specs.Keys.{Key, distinct, id_of}
 use Rattle.key_numbers.specs.Private.Sharded.{AreFrom, ArePassed, AreReadable, shard_of}
 use Rattle.key_numbers.specs.declared.shards.TheConstants.{SHARDS}
@@ -28,10 +27,6 @@ read-record hasher keys shards locals ids i met h lt so =
       local_in = own.0;
       number = own.1;
     }
-
--- each record has a shard
-pub read-shards : (hasher : KeyHash) (keys : List Key) (shards : List ℕ) (locals ids : List (List ℕ)) → AreReadable (shard_of hasher) keys shards locals ids → length shards ≡ length keys
-read-shards hasher keys shards locals ids h = ap length h.sharded ∙ length-map keys (shard_of hasher)
 
 -- one more number
 pub from-more : (f : Key → ℕ) (keys : List Key) (from k : ℕ) (numbers : List ℕ) (number : ℕ) → AreFrom f keys from k numbers → k < length numbers → number ≡ f (get_or keys (from + k) [])

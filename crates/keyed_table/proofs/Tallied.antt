@@ -1,30 +1,13 @@
 -- Blocks taken from counters that begin with number 0.
-use Rattle.std.proofs.Common.{◌≡◌, ◌∙◌, ◌+◌, ◌-◌, ◌*◌, ◌/◌, ◌%◌, ◌<◌, ◌≤◌, ℕ, List, [], ◌∷◌, ◌++◌, length, take, drop, get_or, get_or-take, get_or-drop, length-drop, set, sym, ap, refl, arith, inl, inr, replicate, get_or-set_same, get_or-set_other, length-append}
-use Rattle.std.proofs.lemmas.Bool.{cases_lt, cases_eq}
-use Rattle.std.proofs.lemmas.List.{get_or-append_right, get_or-replicate, get_or_append_left, get_or_past, get_or_push, length-replicate, length-take, length_push}
+use Rattle.std.proofs.Common.{◌≡◌, ◌∙◌, ◌+◌, ◌-◌, ◌*◌, ◌/◌, ◌%◌, ◌<◌, ◌≤◌, ℕ, List, [], ◌∷◌, ◌++◌, length, take, drop, get_or, get_or-take, get_or-drop, length-drop, sym, ap, refl, arith, inl, inr, length-append}
+use Rattle.std.proofs.lemmas.Bool.{cases_lt}
+use Rattle.std.proofs.lemmas.List.{get_or-append_right, get_or_append_left, get_or_push, length-take, length_push}
 use Rattle.std.proofs.lemmas.List.Sums.{count_by-le-length}
 use Rattle.std.specs.Prelude.{◌==◌}
 use Rattle.keyed_table.specs.Counts.{plain}
 use Rattle.keyed_table.specs.Private.Blocks.{AreBlocksBelow, AreBlocksOf, AreTallies, AreWithin}
-use Rattle.keyed_table.proofs.Elements.{none-past, plain-next-other, plain-next-own}
+use Rattle.keyed_table.proofs.Elements.{none-past}
 use Rattle.keyed_table.proofs.Touched.{below_later, increasing_from}
-
--- zeros count nothing
-pub nothing-tallied : (n : ℕ) → AreTallies [] (replicate n 0)
-nothing-tallied n x = elim (cases_lt x n) [
-  | inl within ↦ get_or-replicate n x 0 0 within
-  | inr past ↦ get_or_past (replicate n 0) x 0 (omega (arith, past, length-replicate {A = ℕ} n 0))
-]
-
--- the next number of a list is counted
-pub tallied-more : (ids tallies : List ℕ) (at : ℕ) → at < length ids → get_or ids at 0 < length tallies → AreTallies (take at ids) tallies
-    → AreTallies (take (at + 1) ids) (set tallies (get_or ids at 0) (get_or tallies (get_or ids at 0) 0 + 1))
-tallied-more ids tallies at lt within h x =
-    let id = get_or ids at 0 in
-    elim (cases_eq x id) [
-      | inl same ↦ rw same (get_or-set_same tallies id _ 0 within ∙ ap (λ n. n + 1) (h id) ∙ sym (plain-next-own ids at lt))
-      | inr differs ↦ get_or-set_other tallies id x _ 0 differs ∙ h x ∙ sym (plain-next-other ids at lt x differs)
-    ]
 
 -- a counter is at most the count of numbers counted so far
 pub tally-fits : (ids tallies : List ℕ) (at : ℕ) → AreTallies (take at ids) tallies → get_or tallies (get_or ids at 0) 0 ≤ at

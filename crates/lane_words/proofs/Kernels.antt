@@ -52,13 +52,6 @@ length_done f (suc at) [] b len = refl
 length_done f (suc at) (x ∷ old) [] len = absurd (omega arith)
 length_done f (suc at) (x ∷ old) (y ∷ b) len = ap (λ n. suc n) (length_done f at old b (omega arith))
 
-pub done_all : (f : ℕ → ℕ → ℕ) (at : ℕ) (old b : List ℕ) → length old ≡ length b → at ≡ length old → done f at old b ≡ zip2 f old b
-done_all f zero [] b len e = refl
-done_all f zero (x ∷ old) b len e = absurd (omega arith)
-done_all f (suc at) [] b len e = absurd (omega arith)
-done_all f (suc at) (x ∷ old) [] len e = absurd (omega arith)
-done_all f (suc at) (x ∷ old) (y ∷ b) len e = ap (λ r. f x y ∷ r) (done_all f at old b (omega arith) (omega arith))
-
 -- the words from at on
 pub rest_done : (f : ℕ → ℕ → ℕ) (at : ℕ) (old b : List ℕ) → length old ≡ length b → at ≤ length old → take at (done f at old b) ++ zip2 f (drop at (done f at old b)) (drop at b) ≡ zip2 f old b
 rest_done f zero old b len le = refl

@@ -337,13 +337,6 @@ by-lists old l coded all places numbers count logs seen a so can counted valid p
     let made = side-by-side old l records all (read_by places coded) (read_by numbers coded) count logs seen a can counted goes.as_many goes.goes ids_are (is ∙ same) filled_are in
     (subst (λ rs. AreAppended old rs (record { counts = l.counts; partitions = l.partitions; keys = all; logs = logs })) (places-are old (read_by places coded) (in_first records) records at (sym (first-keys records))) made.0, made.1)
 
--- the keys of the first coded lists, with those of one more
-pub joined-more : (coded : List CodedPart) (i : ℕ) (d : CodedPart) → i < length coded → joined (map keys_in (take (i + 1) coded)) ≡ joined (map keys_in (take i coded)) ++ keys_in (get_or coded i d)
-joined-more coded i d lt =
-    let one = keys_in (get_or coded i d) in
-    ap (λ (cs : List CodedPart). joined (map keys_in cs)) (take_more coded i d lt) ∙ ap joined (map-append keys_in (take i coded) (get_or coded i d ∷ []))
-    ∙ flat_map-append (λ (ks : List Key). ks) (map keys_in (take i coded)) (one ∷ []) ∙ ap (λ ks. joined (map keys_in (take i coded)) ++ ks) (append-nil one)
-
 -- an item that is there, whatever is taken where it is not
 pub get_or-any : {X : Type 0} (xs : List X) (i : ℕ) (d e : X) → i < length xs → get_or xs i d ≡ get_or xs i e
 get_or-any [] i d e lt = absurd (omega (arith, lt))

@@ -50,7 +50,3 @@ stored l new keyed place offset a topic e h =
 -- a record of the first topic is of a topic
 pub first-topic : (l : PartitionLogs) (key : Key) → IsValidLogs l → IsOfTopic l (of_first key)
 first-topic l key a = omega (arith, a.counted.some)
-
--- it goes to a partition
-pub first-below : (l : PartitionLogs) (key : Key) → IsValidLogs l → place_in l (of_first key) < l.partitions
-first-below l key a = place-below l (of_first key) a (first-topic l key a)

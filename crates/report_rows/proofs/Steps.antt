@@ -1,15 +1,9 @@
 -- Consecutive rows.
-use Rattle.std.proofs.Common.{◌≡◌, ◌∙◌, ◌+◌, ◌-◌, ◌≤◌, ◌<◌, ℕ, List, [], ◌∷◌, ◌++◌, Some, length, take, drop, get_or, sym, ap, ap₂, refl, arith, append_assoc}
-use Rattle.std.specs.Prelude.{slice_get, slice_range, suc, zero}
+use Rattle.std.proofs.Common.{◌≡◌, ◌∙◌, ◌+◌, ◌-◌, ◌≤◌, ◌<◌, ℕ, List, [], ◌∷◌, ◌++◌, length, take, drop, get_or, sym, ap, ap₂, refl, arith, append_assoc}
+use Rattle.std.specs.Prelude.{slice_range}
 use Rattle.std.proofs.Math.Seq.{take-add}
 use Rattle.std.proofs.lemmas.List.{append-nil, drop-drop, drop_more, length-drop, length-take}
 use Rattle.report_rows.specs.CountRows.{count_row, count_rows, rows_between}
-
--- a key by its number
-pub row_key : (ks : List (List ℕ)) (i : ℕ) (k : List ℕ) → slice_get ks i ≡ Some k → k ≡ get_or ks i []
-row_key [] i k h = cc h
-row_key (x ∷ ks) zero k h = cc h
-row_key (x ∷ ks) (suc i) k h = row_key ks i k h
 
 -- a part of a list, split in two
 range_parted : {X : Type 0} (xs : List X) (a m b : ℕ) → a ≤ m → m ≤ b → slice_range xs a b ≡ slice_range xs a m ++ slice_range xs m b

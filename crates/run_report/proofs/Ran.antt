@@ -14,12 +14,12 @@ use Rattle.lane_words.specs.Sums.{sum_below}
 use Rattle.lane_words.specs.declared.Refusal.{Refusal}
 use Rattle.lane_words.specs.declared.Refusal.TheVariants as r
 use Rattle.partition_log.specs.Keys.{Key, Keyed, distinct, is_known, key_at, keys_in, plain, with_key}
-use Rattle.partition_log.specs.Logs.{AreLogsOf, IsOfTopic, PartitionLogs}
+use Rattle.partition_log.specs.Logs.{IsOfTopic}
 use Rattle.partition_log.proofs.Numbered.{number-back}
 use Rattle.partition_log.proofs.Parted.{sum-plus, sum-same, sum-zero}
 use Rattle.partition_log.proofs.Valid.{place-below}
 use Rattle.commit_store.specs.Commits.{committed_at}
-use Rattle.group_machine.specs.Cluster.{ClusterState, IsValidCluster}
+use Rattle.group_machine.specs.Cluster.{ClusterState}
 use Rattle.group_laws.specs.Rounds.{bare, bare_seat}
 use Rattle.group_machine.specs.Slots.{each_changed, present, reseated_from}
 use Rattle.group_machine.specs.State.{GroupState, name_of, owner_of}
@@ -30,14 +30,13 @@ use Rattle.group_machine.proofs.PresentLemmas.{present_each}
 use Rattle.script.specs.declared.plan.Change.{Change}
 use Rattle.partitioner.specs.declared.topic.Topic.{Topic}
 use Rattle.workers.specs.Plans.{settled}
-use Rattle.workers.specs.Runs.{IsRunOf, IsRunRefusal}
+use Rattle.workers.specs.Runs.{IsRunRefusal}
 use Rattle.command_line.specs.declared.options.Options.{Options}
 use Rattle.ingest.specs.RecordFaults.{fault_or, first_fault, IsKeyFault}
 use Rattle.report_rows.specs.CountRows.{counts_of, count_rows, AreCountsByNumber}
 use Rattle.report_rows.specs.Rows.{total_row}
 use Rattle.report_rows.specs.ReplayRows.{closing_rows, committed_count_rows, committed_total, appended_total, end_of, move_row, move_rows, name_or_empty, offset_row, offset_rows, owner_row, owner_rows, rows_below}
 use Rattle.run_report.specs.RunReport.{ended_rows, group_rows, records_to, report_of_plan, text_of_run}
-use Rattle.ingest.specs.Reports.{IsNoDeviceFault}
 use Rattle.run_report.specs.Private.Runs.{EndsRun, IsRunOver}
 use Rattle.report_rows.proofs.Counts.{counts-are}
 use Rattle.ingest.specs.Records.{partition_counts, place_of_record}
@@ -261,18 +260,6 @@ text_is topics counts records plan s h =
     ∙ ap (λ c. (group_rows topics (settled n plan) ++ ended_rows topics counts records) ++ (c ++ total_row (committed_total s) (appended_total s))) (counts_are counts records plan s h)
     ∙ ap₂ (λ c t. (group_rows topics (settled n plan) ++ ended_rows topics counts records) ++ (count_rows (distinct keys) (counts_of keys) ++ total_row c t)) (totals.0 ∙ long) (totals.1 ∙ long)
 
--- ---- the report
--- a run over the logs of some records
-pub run_over : (counts : List ℕ) (records : List Keyed) (plan : List Change) (l : PartitionLogs) (s : ClusterState) → IsValidCluster s → l.counts ≡ counts → AreLogsOf records l → IsRunOf l plan s → IsRunOver counts records plan s
-run_over counts records plan l s valid same logs run =
-    let is : l ≡ s.logs = sym run.logs_are in
-    record {
-      valid = valid;
-      counts_are = sym (ap (λ (x : PartitionLogs). x.counts) is) ∙ same;
-      logs = subst (AreLogsOf records) is logs;
-      run = subst (λ (x : PartitionLogs). IsRunOf x plan s) is run;
-    }
-
 -- all records can be appended
 pub text_told : (options : Options) (records : List Keyed) (plan : List Change) (text : List ℕ) → first_fault (partition_counts options) [] records ≡ None
     → text ≡ text_of_run options.topics.items (partition_counts options) records plan → report_of_plan options records plan ≡ Ok text
@@ -311,14 +298,3 @@ refusal_ends_run options records plan e none h = go h
     go (inl m) = subst (EndsRun (report_of_plan options records plan)) (sym m) tt
     go (inr (inl m)) = subst (EndsRun (report_of_plan options records plan)) (sym m) told
     go (inr (inr m)) = subst (EndsRun (report_of_plan options records plan)) (sym m) told
-
-pub run_no_device : (e : Refusal) → IsRunRefusal e → IsNoDeviceFault e
-run_no_device e (inl m) = subst IsNoDeviceFault (sym m) tt
-run_no_device e (inr (inl m)) = subst IsNoDeviceFault (sym m) tt
-run_no_device e (inr (inr m)) = subst IsNoDeviceFault (sym m) tt
-
-pub key_no_device : (e : Refusal) → IsKeyFault e → IsNoDeviceFault e
-key_no_device r.KeyTooLong k = tt
-key_no_device r.LogFull k = tt
-key_no_device r.Memory k = tt
-key_no_device e k = absurd k

@@ -27,9 +27,6 @@ none-allowed = record {
   left = λ i below. absurd (omega arith);
 }
 
-pub plan-allowed : (lines : List Change) → 1 ≤ length lines → AreAllowed lines → IsPlan lines
-plan-allowed lines some h = record { some = some; allowed = h.allowed; left = h.left }
-
 -- a change without a fault
 without_fault : (n : ℕ) (allowed left : Bool)
     → cond (not allowed) (Some (r.BadLine n)) (cond (not left) (Some (r.NobodyLeft n)) None) ≡ None

@@ -24,14 +24,6 @@ lies_length [] (b ∷ bs) lies = absurd lies
 lies_length (a ∷ rest) [] lies = absurd lies
 lies_length (a ∷ rest) (b ∷ bs) lies = ap (λ n. suc n) (lies_length rest bs lies.1)
 
-pub lies_trans : (a b c : List PartitionSet) → Lies a b → Lies b c → Lies a c
-lies_trans [] [] [] x y = tt
-lies_trans [] [] (r ∷ c) x y = absurd y
-lies_trans [] (r ∷ b) c x y = absurd x
-lies_trans (r ∷ a) [] c x y = absurd x
-lies_trans (r ∷ a) (s ∷ b) [] x y = absurd y
-lies_trans (r ∷ a) (s ∷ b) (t ∷ c) x y = (λ q. let h = x.0 q in let k = y.0 q in omega arith, lies_trans a b c x.1 y.1)
-
 pub lies_holders : (rows bs : List PartitionSet) (q : ℕ) → Lies rows bs → holders rows q ≤ holders bs q
 lies_holders [] [] q lies = omega arith
 lies_holders [] (b ∷ bs) q lies = absurd lies

@@ -23,29 +23,6 @@ sets_next owned [] i m lt e = absurd (omega arith)
 sets_next owned (x ∷ ms) zero m lt e = rw e refl
 sets_next owned (x ∷ ms) (suc i) m lt e = let n : suc i + 1 ≡ suc (i + 1) = omega arith in rw n (sets_next owned ms i m (omega arith) e)
 
-pub sets_end : (owned : SetRows) (ms : List ℕ) → sets_of owned (drop (length ms) ms) ≡ []
-sets_end owned [] = refl
-sets_end owned (m ∷ ms) = sets_end owned ms
-
--- ---- how many are heavy
-pub heavies_next : (share : ℕ) (owned : SetRows) (ms : List ℕ) (i m : ℕ) (b : Bool) → i < length ms → m ≡ get_or ms i m → b ≡ is_heavy share (set_of owned m) → heavies share (sets_of owned (drop i ms)) ≡ cond b 1 0 + heavies share (sets_of owned (drop (i + 1) ms))
-heavies_next share owned ms i m b lt e is = rw (sets_next owned ms i m lt e, is) (heavies_cons share (set_of owned m) (sets_of owned (drop (i + 1) ms)))
-
--- ---- shares
-pub heavy_share : (share h o : ℕ) (owned : SetRows) (ms : List ℕ) (i m c : ℕ) → i < length ms → m ≡ get_or ms i m → c ≡ size (set_of owned m) → share < c
-    → shares share h o (sets_of owned (drop i ms)) ≡ (share + one_of h) ∷ shares share (h - 1) o (sets_of owned (drop (i + 1) ms))
-heavy_share share h o owned ms i m c lt e is heavy =
-    let b : is_heavy share (set_of owned m) ≡ true = lt-ltb share (size (set_of owned m)) (omega arith) in
-    ap (λ rows. shares share h o rows) (sets_next owned ms i m lt e)
-    ∙ ap (λ t. cond t ((share + one_of h) ∷ shares share (h - 1) o (sets_of owned (drop (i + 1) ms))) ((share + one_of o) ∷ shares share h (o - 1) (sets_of owned (drop (i + 1) ms)))) b
-
-pub light_share : (share h o : ℕ) (owned : SetRows) (ms : List ℕ) (i m c : ℕ) → i < length ms → m ≡ get_or ms i m → c ≡ size (set_of owned m) → c ≤ share
-    → shares share h o (sets_of owned (drop i ms)) ≡ (share + one_of o) ∷ shares share h (o - 1) (sets_of owned (drop (i + 1) ms))
-light_share share h o owned ms i m c lt e is light =
-    let b : is_heavy share (set_of owned m) ≡ false = le-ltb share (size (set_of owned m)) (omega arith) in
-    ap (λ rows. shares share h o rows) (sets_next owned ms i m lt e)
-    ∙ ap (λ t. cond t ((share + one_of h) ∷ shares share (h - 1) o (sets_of owned (drop (i + 1) ms))) ((share + one_of o) ∷ shares share h (o - 1) (sets_of owned (drop (i + 1) ms)))) b
-
 -- ---- by sizes alone
 pub sizes_next : (owned : SetRows) (ms : List ℕ) (i m : ℕ) → i < length ms → m ≡ get_or ms i m → sizes (sets_of owned (drop i ms)) ≡ size (set_of owned m) ∷ sizes (sets_of owned (drop (i + 1) ms))
 sizes_next owned ms i m lt e = ap sizes (sets_next owned ms i m lt e)
@@ -76,9 +53,6 @@ pub size_next : (ns : List ℕ) (i n : ℕ) → i < length ns → n ≡ get_or n
 size_next [] i n lt e = absurd (omega arith)
 size_next (x ∷ ns) zero n lt e = rw e refl
 size_next (x ∷ ns) (suc i) n lt e = let k : suc i + 1 ≡ suc (i + 1) = omega arith in rw k (size_next ns i n (omega arith) e)
-
-pub heavies_by_next : (share : ℕ) (ns : List ℕ) (i n : ℕ) (b : Bool) → i < length ns → n ≡ get_or ns i n → b ≡ nat_lt share n → heavies_by share (drop i ns) ≡ cond b 1 0 + heavies_by share (drop (i + 1) ns)
-heavies_by_next share ns i n b lt e is = rw (size_next ns i n lt e, is) (sum_by-cons (λ n. cond (nat_lt share n) 1 0) n (drop (i + 1) ns))
 
 pub heavy_by : (share h o : ℕ) (ns : List ℕ) (i n : ℕ) → i < length ns → n ≡ get_or ns i n → share < n → shares_by share h o (drop i ns) ≡ (share + one_of h) ∷ shares_by share (h - 1) o (drop (i + 1) ns)
 heavy_by share h o ns i n lt e heavy = rw (size_next ns i n lt e, lt-ltb share n heavy) refl

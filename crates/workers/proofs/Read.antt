@@ -1,7 +1,7 @@
 -- A worker's consumer stays within the logs that it reads.
 use Rattle.std.proofs.Common.{ℕ, ◌≡◌, ◌≢◌, ◌≤◌, ◌==◌, Bool, true, false, ◌||◌, List, [], ◌∷◌, Option, Some, None, Result, Ok, Err, length, nat_le, refl, ap, sym, subst, ◌∙◌, inl, inr, arith}
 use Rattle.std.specs.Prelude.{max, if◌then◌else◌}
-use Rattle.std.proofs.lemmas.Bool.{cases_eq, cases_lt, false≢true}
+use Rattle.std.proofs.lemmas.Bool.{cases_lt, false≢true}
 use Rattle.std.proofs.lemmas.Bool.Decides.{nat_tests}
 use Rattle.lane_words.specs.declared.Refusal.{Refusal}
 use Rattle.lane_words.specs.declared.Refusal.TheVariants as r
@@ -43,18 +43,6 @@ neither k p b ne e = grind (arith, nat_tests, e)
 
 pub next_in : (lease : LeaseTerms) (l : PartitionLogs) (left : List ℕ) (p : ℕ) (next : List ℕ) → left ≡ p ∷ next → HaveBegun lease l left → is_in lease.assigned p ≡ true
 next_in lease l left p next steps was = was.within p (ap (is_listed p) steps ∙ this p (is_listed p next))
-
-pub one_begun : (lease : LeaseTerms) (l : PartitionLogs) (left : List ℕ) (p : ℕ) (next : List ℕ) → left ≡ p ∷ next → start_of lease p ≤ length (log_at l p) → HaveBegun lease l left → HaveBegun lease l next
-one_begun lease l left p next steps here was = record {
-  done = λ k mine h. elim (cases_eq k p) [
-    | inl same ↦ rw same here
-    | inr other ↦ was.done k mine (ap (is_listed k) steps ∙ neither k p (is_listed k next) other h)
-  ];
-  within = λ k h. was.within k (ap (is_listed k) steps ∙ later (k == p) (is_listed k next) h);
-}
-
-pub all_begun : (lease : LeaseTerms) (l : PartitionLogs) (left : List ℕ) → left ≡ [] → HaveBegun lease l left → BeginsWithin lease l
-all_begun lease l left over was p mine = was.done p mine (ap (is_listed p) over)
 
 -- ---- positions
 leased_position : (lease : LeaseTerms) (p most : ℕ) (o : Option Held) → slot_position o ≤ most → (is_in lease.assigned p ≡ true → start_of lease p ≤ most) → slot_position (leased_slot lease p o) ≤ most

@@ -13,7 +13,7 @@ use Rattle.group_machine.specs.NextSteps.{has_to_rejoin}
 use Rattle.group_laws.specs.Passes.{is_calm}
 use Rattle.world.specs.Courses.{Course, Follows, after_all, answer_in, answered_at_once, chain, for_each, goes_on, happens, nothing, outcome_of}
 use Rattle.world.specs.Draining.{drain_log, drain_member, drain_members, draining, held_by, is_read_up, read_on, read_up}
-use Rattle.world.specs.Settling.{commit_pending, flush, forgiven, is_pending, pass, passes, rejoin_if_due, settling, sync_if_new, turn, unless_mismatch}
+use Rattle.world.specs.Settling.{commit_pending, flush, forgiven, is_pending, pass, passes, rejoin_if_due, settling, sync_if_new, turn}
 use Rattle.world.specs.Steps.{Comes, Step, refused}
 use Rattle.world.specs.World.{WorldState}
 
@@ -225,10 +225,6 @@ nothing_pending m p w e = left_out (is_pending w m p) _ w e
 pub something_pending : (m p : ℕ) (w : WorldState) → is_pending w m p ≡ true → Continues w (commit_pending m p w) w (chain (happens (event.Send m p) w) (λ sent. happens (event.Deliver (length sent.mail)) sent))
 unfolding commit_pending
 something_pending m p w e = taken (is_pending w m p) _ (nothing w) w e
-
-pub forgives : (w w2 : WorldState) (c : Course) (a result : Result (Unit {0}) Refusal) → Follows w c a w2 → result ≡ unless_mismatch a → Follows w (forgiven c) result w2
-forgives w w2 c a result (inl told) same = inl (same ∙ ap unless_mismatch told.0, told.1)
-forgives w w2 c a result (inr way) same = inr (same ∙ ap unless_mismatch way.0, record { came = way.1.came; left = way.1.left; events_are = way.1.events_are; world_is = way.1.world_is })
 
 pub flush_is : (m p : ℕ) (w : WorldState) → Continues w (flush m p w) w (chain (forgiven (commit_pending m p w)) (commit_pending m p))
 unfolding flush

@@ -67,9 +67,6 @@ marked_kept old f n flags e m = record {
 pub marked_all : (old : List Bool) (f : ℕ → Bool) (p n : ℕ) (flags : List Bool) → p ≤ 4096 → p ≤ n → AreMarked old f n flags → seen p flags ≡ set_where p f
 marked_all old f p n flags few le m = seen_where p flags f few m.len (λ q lt. m.done q (omega arith))
 
-pub marked_clear : (old : List Bool) (f : ℕ → Bool) (n : ℕ) (flags : List Bool) → ((q : ℕ) → n ≤ q → q < 4096 → get_or old q false ≡ false) → AreMarked old f n flags → (q : ℕ) → n ≤ q → q < 4096 → get_or flags q false ≡ false
-marked_clear old f n flags clear m q le lt = m.left q le ∙ clear q le lt
-
 -- no flag
 pub none_at : (q : ℕ) → q < 4096 → get_or (replicate 4096 false) q false ≡ false
 none_at q lt = get_or-replicate 4096 q false false lt
