@@ -344,7 +344,8 @@ impl Group {
     fn complete(&mut self, planned: Option<Completion>)
         requires changed { IsChanged (group_view self.old) }
         requires planned { IsPlanned (group_view self.old) planned }
-        requires room { HasRoom planned (vec_len self.old.moves) (vec_capacity self.old.moves) }
+        requires room { HasRoom planned
+            (vec_len self.old.moves) (vec_capacity self.old.moves) }
         ensures completed { group_view self.new ≡ completed (group_view self.old) }
         ensures valid { IsValidGroup (group_view self.new) }
     {

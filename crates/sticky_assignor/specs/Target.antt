@@ -59,4 +59,5 @@ rows_by (suc n) f = f 0 ∷ rows_by n (λ i. f (suc i))
 -- each member has what it retains and what it takes
 unfoldable pub target : ℕ → List PartitionSet → List PartitionSet
 target partitions owned =
-    rows_by (length owned) (λ i. union (kept_row partitions owned i) (taken_row partitions owned i))
+    rows_by (length owned)
+    (λ i. union (kept_row partitions owned i) (taken_row partitions owned i))

@@ -82,7 +82,10 @@ given_of quota row free = lowest (quota - size (lowest quota row)) free
 abbrev pub filled_rows : PartitionSet → List ℕ → List ℕ → SetRows → SetRows
 filled_rows free qs ms owned =
     let kept = keeping qs (sets_of owned ms) in
-    record { partitions = owned.partitions; rows = pair_up ms (filled free (gaps qs kept) kept) }
+    record {
+      partitions = owned.partitions;
+      rows = pair_up ms (filled free (gaps qs kept) kept);
+    }
 
 -- quotas, then what is retained, then the free partitions
 abbrev pub filling : ℕ → List PartitionSet → List PartitionSet
