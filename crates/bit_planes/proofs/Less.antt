@@ -98,7 +98,6 @@ less old new m s valid e = record {
   });
 }
 
--- at the index of the member's row
 pub less_there : (inside old : SetRows) (m i : ℕ) (s t : PartitionSet) (row : ℕ × PartitionSet) → inside ≡ old → IsValidRows inside → IsIndexOf old.rows m i → row ≡ get_or inside.rows i row → t ≡ minus row.1 s → IsLess old (record inside { rows = set inside.rows i (row.0, t) }) m s
 less_there inside old m i s t row seen valid index at less_is =
     let here : IsIndexOf inside.rows m i = subst (λ (r : SetRows). IsIndexOf r.rows m i) (sym seen) index in
@@ -108,13 +107,11 @@ less_there inside old m i s t row seen valid index at less_is =
     (ap (λ (x : ℕ × PartitionSet). record inside { rows = set inside.rows i x }) element
     ∙ ap (λ (rows : Rows). record inside { rows = rows }) (less_at inside.rows m i s row valid.rising here.within here.there)))
 
--- the row at an index is over the same number of partitions
 pub below_there : (inside old : SetRows) (m i : ℕ) (row : ℕ × PartitionSet) → inside ≡ old → IsValidRows inside → IsIndexOf old.rows m i → row ≡ get_or inside.rows i row → partitions_of row.1 ≡ old.partitions
 below_there inside old m i row seen valid index at =
     let here : IsIndexOf inside.rows m i = subst (λ (r : SetRows). IsIndexOf r.rows m i) (sym seen) index in
     ap (λ (r : ℕ × PartitionSet). partitions_of r.1) at ∙ over_at inside.partitions inside.rows i row valid.over here.within ∙ ap (λ (r : SetRows). r.partitions) seen
 
--- where it has none
 pub less_nowhere : (old : SetRows) (m i : ℕ) (s : PartitionSet) → IsValidRows old → IsGapFor old.rows m i → IsLess old old m s
 less_nowhere old m i s valid gap =
     let none : map (less_row m s) old.rows ≡ old.rows = no_less old.rows m s (λ j lt. elim (cases_lt j i) [

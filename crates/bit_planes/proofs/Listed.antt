@@ -45,25 +45,21 @@ list_where-at (suc n) f q lt h = elim (cases_lt q n) [
       rw e (last_listed (how_many n f) (list_where n f) n (f n) (sym len) (ap f (sym e) ∙ h))
 ]
 
--- an element, and the elements above it
 pub elements-at : (s : PartitionSet) (q : ℕ) → is_in s q ≡ true → drop (rank s q) (elements s) ≡ q ∷ drop (rank s (q + 1)) (elements s)
 unfolding elements
 elements-at s q h =
     let next : rank s (q + 1) ≡ suc (how_many q (is_in s)) = omega (arith, rank_in s q h, rank_is s q) in
     rw (next, rank_is s q) (list_where-at (partitions_of s) (is_in s) q (in_below s q h) h)
 
--- all elements
 pub elements-first : (s : PartitionSet) → drop (rank s 0) (elements s) ≡ elements s
 elements-first s = rw (rank_is s 0) refl
 
--- no element
 pub elements-end : (s : PartitionSet) (r : ℕ) → r ≡ rank s (partitions_of s) → drop r (elements s) ≡ []
 unfolding elements
 elements-end s r e =
     let len = length-list_where (partitions_of s) (is_in s) in
     drop_all r (list_where (partitions_of s) (is_in s)) (omega (arith, e, rank_is s (partitions_of s)))
 
--- no element is between two numbers
 rank_between : (s : PartitionSet) (from q : ℕ) → from ≤ q → ((n : ℕ) → from ≤ n → n < q → is_in s n ≡ false) → rank s q ≡ rank s from
 rank_between s from zero le none = let e : from ≡ 0 = omega arith in rw e refl
 rank_between s from (suc q) le none = elim (cases_lt from (suc q)) [
@@ -73,18 +69,15 @@ rank_between s from (suc q) le none = elim (cases_lt from (suc q)) [
   | inr ge ↦ let e : from ≡ suc q = omega arith in rw e refl
 ]
 
--- the elements from a number on, by the lowest of them
 pub elements-next : (s : PartitionSet) (from q : ℕ) → IsLowestElement s from q → drop (rank s from) (elements s) ≡ q ∷ drop (rank s (q + 1)) (elements s)
 elements-next s from q low = ap (λ r. drop r (elements s)) (sym (rank_between s from q low.not_below low.none)) ∙ elements-at s q low.member
 
--- from a number on there is none
 pub elements-over : (s : PartitionSet) (from : ℕ) → ((q : ℕ) → from ≤ q → is_in s q ≡ false) → drop (rank s from) (elements s) ≡ []
 elements-over s from none = elements-end s (rank s from) (elim (cases_lt from (partitions_of s)) [
   | inl lt ↦ sym (rank_between s from (partitions_of s) (omega arith) (λ n le below. none n le))
   | inr le ↦ rank_past s from le ∙ sym (rank_past s (partitions_of s) (omega arith))
 ])
 
--- as many as there are
 pub length-elements : (s : PartitionSet) → length (elements s) ≡ rank s (partitions_of s)
 unfolding elements
 length-elements s = length-list_where (partitions_of s) (is_in s) ∙ sym (rank_is s (partitions_of s))

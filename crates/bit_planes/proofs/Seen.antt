@@ -21,13 +21,11 @@ seen_below p words = partitions_where p (bit_of words)
 pub below_is : (p : ℕ) (words : List ℕ) (s : PartitionSet) → seen p words ≡ s → partitions_of s ≡ p
 below_is p words s e = sym (ap partitions_of e) ∙ seen_below p words
 
--- words whose marks below p are as f says
 pub seen_where : (p : ℕ) (words : List ℕ) (f : ℕ → Bool) → ((q : ℕ) → q < p → bit_of words q ≡ f q) → seen p words ≡ set_where p f
 seen_where p words f marks =
     let e = seen_below p words in
     same_set (seen p words) (set_where p f) (e ∙ sym (partitions_where p f)) (λ q lt. in_where p (bit_of words) q (omega arith) ∙ (marks q (omega arith) ∙ sym (in_where p f q (omega arith))))
 
--- each mark, where none is past p
 pub marks_are : (p : ℕ) (words : List ℕ) (s : PartitionSet) → AreClearFrom words p → seen p words ≡ s → (q : ℕ) → bit_of words q ≡ is_in s q
 marks_are p words s clear view q = elim (cases_lt q p) [
   | inl lt ↦ sym (in_where p (bit_of words) q lt) ∙ ap (λ t. is_in t q) view
@@ -56,7 +54,6 @@ long_front p n words s shown =
     let used = shown.used in
     length-take-le n words (omega arith)
 
--- each mark in the words that are used
 pub shown_front : (p n : ℕ) (words : List ℕ) (s : PartitionSet) → IsShown p n words s → (q : ℕ) → bit_of (take n words) q ≡ is_in s q
 shown_front p n words s shown q =
     let long = shown.long in
@@ -123,11 +120,9 @@ union_clear p n words s t xs same shown len marks =
     let below = below_is p words s shown.view in
     spliced_clear p n words s xs (λ q. is_in s q || is_in t q) shown len marks (λ q none le. neither (is_in s q) (is_in t q) none (past t q (omega arith)))
 
--- marks of s alone
 pub part_clear : (p n : ℕ) (words : List ℕ) (s : PartitionSet) (xs : List ℕ) (f : ℕ → Bool) → IsShown p n words s → length xs ≡ length (take n words) → ((q : ℕ) → bit_of xs q ≡ (is_in s q && f q)) → AreClearFrom (xs ++ drop n words) p
 part_clear p n words s xs f shown len marks = spliced_clear p n words s xs (λ q. is_in s q && f q) shown len marks (λ q none le. not_first (is_in s q) (f q) none)
 
--- the rank in the words that are used
 pub rank_shown : (p n : ℕ) (words : List ℕ) (s : PartitionSet) → IsShown p n words s → (q : ℕ) → how_many q (bit_of (take n words)) ≡ rank s q
 rank_shown p n words s shown q = how_many-same q (bit_of (take n words)) (is_in s) (λ k lt. shown_front p n words s shown k) ∙ sym (rank_is s q)
 
@@ -170,7 +165,6 @@ with_clear p words old n lt clear with q le = with q ∙ neither (bit_of old q) 
 pub without_clear : (p : ℕ) (words old : List ℕ) (n : ℕ) → AreClearFrom old p → ((q : ℕ) → bit_of words q ≡ (bit_of old q && not (q == n))) → AreClearFrom words p
 without_clear p words old n clear with q le = with q ∙ not_first (bit_of old q) (not (q == n)) (clear q le)
 
--- a number that is not in the set is taken out of it
 pub without_past : (s : PartitionSet) (n : ℕ) → partitions_of s ≤ n → s ≡ without_one s n
 without_past s n le = same_set s (without_one s n) (sym (partitions_without s n)) (λ q lt. stays (is_in s q) (q == n) (less_id q n (omega arith)) ∙ sym (in_without s n q))
   where

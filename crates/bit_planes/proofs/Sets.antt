@@ -137,7 +137,6 @@ pub how_many-le : (n : ℕ) (f : ℕ → Bool) → how_many n f ≤ n
 how_many-le zero f = omega arith
 how_many-le (suc n) f = omega (arith, how_many-le n f, one_le (f n))
 
--- two disjoint conditions are counted separately
 pub how_many-add : (n : ℕ) (f g h : ℕ → Bool) → ((q : ℕ) → q < n → one (h q) ≡ one (f q) + one (g q)) → how_many n h ≡ how_many n f + how_many n g
 how_many-add zero f g h add = refl
 how_many-add (suc n) f g h add = omega (arith, add n (omega arith), how_many-add n f g h (λ q lt. add q (omega arith)))
@@ -183,7 +182,6 @@ rank_most s q = elim (cases_lt q (partitions_of s)) [
   | inr le ↦ omega (arith, rank_is s q, size_is s, how_many-stops (partitions_of s) q (is_in s) (past s) le)
 ]
 
--- from `partitions_of` on every element is below
 pub rank_past : (s : PartitionSet) (q : ℕ) → partitions_of s ≤ q → rank s q ≡ size s
 rank_past s q le = omega (arith, rank_is s q, size_is s, how_many-stops (partitions_of s) q (is_in s) (past s) le)
 
@@ -278,7 +276,6 @@ lowest_within n s q = rw (in_lowest n s q) (one_and_below (is_in s q) (nat_lt (r
 pub lowest_splits : (n : ℕ) (s : PartitionSet) (q : ℕ) → one (is_in (lowest n s) q) + one (is_in (minus s (lowest n s)) q) ≡ one (is_in s q)
 lowest_splits n s q = omega (arith, one_in_minus s (lowest n s) q (lowest_within n s q))
 
--- where there are no more than n, the n lowest are all
 pub all_low : (x : Bool) (r n : ℕ) → (x ≡ true → r < n) → x ≡ (x && nat_lt r n)
 all_low true r n low = sym (lt-ltb r n (low refl))
 all_low false r n low = refl

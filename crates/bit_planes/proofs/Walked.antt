@@ -11,7 +11,6 @@ use Rattle.bit_planes.proofs.Sets.{how_many-none, how_many-lowest}
 use Rattle.bit_planes.proofs.WordBits.{no_bit, ones_are}
 use Rattle.bit_planes.proofs.Words.{marked_at, marked_else, none_past}
 
--- the marks below word i, and those in it
 pub marks_split : (words : List ℕ) (i k : ℕ) → k ≤ 64 → how_many (64 * i + k) (bit_of words) ≡ how_many (64 * i) (bit_of words) + how_many k (is_bit (get_or words i 0))
 marks_split words i zero le = let e : 64 * i + 0 ≡ 64 * i = omega arith in rw e (omega arith)
 marks_split words i (suc k) le =
@@ -89,7 +88,6 @@ kept_more old n i left words w v ones lt e counted bits before =
       rest = λ j le. let other : j ≢ i = omega arith in get_or-set_other words i j v 0 other ∙ before.rest j (omega arith);
     }
 
--- where what is kept of a word is counted
 pub kept_counted : (old : List ℕ) (n i left : ℕ) (words : List ℕ) (w v ones after : ℕ) → i < length words → w ≡ get_or words i 0 → ones ≡ how_many 64 (is_bit v) → after ≡ left - ones → HasLowestBits left w v → AreKept old n i left words → AreKept old n (i + 1) after (slice_set words i v)
 kept_counted old n i left words w v ones after lt e counted less bits before =
     let fewer : how_many 64 (is_bit v) ≡ min left (how_many 64 (is_bit w)) = how_many-lowest left 64 (is_bit w) (is_bit v) bits in
@@ -100,7 +98,6 @@ none_and : (x y : Bool) → x ≡ false → x ≡ (x && y)
 none_and true y e = absurd (cc e)
 none_and false y e = refl
 
--- a word without marks is passed over
 pub kept_passed : (old : List ℕ) (n i left : ℕ) (words : List ℕ) → get_or words i 0 ≡ 0 → AreKept old n i left words → AreKept old n (i + 1) left words
 kept_passed old n i left words none before =
     let left_is = before.counted in

@@ -43,20 +43,17 @@ turn_at r i row valid lt at = record {
     member_or (row ∷ rows) zero d lt = refl
     member_or (row ∷ rows) (suc k) d lt = member_or rows k d (omega arith)
 
--- one turn of the loop
 pub row_turn : (r : SetRows) (start t u : Rows) (xs : List (ℕ × Bor PartitionSet)) (x : Option (ℕ × Bor PartitionSet)) (row : ℕ × Bor PartitionSet)
     → IsValidRows r → start ≡ r.rows → Yields Steps start xs t → x ≡ Some row → Steps t x u → IsTurn r (length xs) (row_seen row)
 row_turn r start t u xs x row valid begins yielded is steps =
     let turn = YieldsList-turn (YieldsList-from_first row_seen (λ s. s) r.rows begins) xs t yielded x u row is steps in
     turn_at r (length xs) (row_seen row) valid turn.0 turn.1
 
--- the end of the loop
 pub row_end : (r : SetRows) (start t u : Rows) (xs : List (ℕ × Bor PartitionSet)) (x : Option (ℕ × Bor PartitionSet))
     → start ≡ r.rows → Yields Steps start xs t → x ≡ None → Steps t x u → length xs ≡ length r.rows
 row_end r start t u xs x begins yielded is steps =
     (YieldsList-end (YieldsList-from_first row_seen (λ s. s) r.rows begins) xs t yielded x u is steps).1
 
--- where a member's row stands
 pub stands_at : (rows : Rows) (m : ℕ) (s : PartitionSet) → find_row rows m ≡ Some s → (i : ℕ) × (i < length rows) × (get_or rows i (m, s) ≡ (m, s))
 stands_at [] m s e = absurd (cc e)
 stands_at (row ∷ rows) m s e = elim (row.0 == m) as (λ b. (row.0 == m) ≡ b → (if b then Some row.1 else find_row rows m) ≡ Some s → (i : ℕ) × (i < length (row ∷ rows)) × (get_or (row ∷ rows) i (m, s) ≡ (m, s))) [

@@ -75,7 +75,6 @@ from_one true false e = absurd (omega arith)
 from_one false true e = absurd (omega arith)
 from_one false false e = refl
 
--- words with the same bits
 pub same_word : (x y : ℕ) → x < 2 ^ 64 → y < 2 ^ 64 → ((k : ℕ) → k < 64 → is_bit x k ≡ is_bit y k) → x ≡ y
 same_word x y fx fy same = same_from_bits_below 64 x y fx fy (λ k lt. sym (one_bit x k) ∙ (ap one (same k lt) ∙ one_bit y k))
 
@@ -92,7 +91,6 @@ lowest_bit w some fits = let z = bit_at-trailing_zeros w64 w some fits in record
   clear = λ k lt. bit_is w k ∙ ap (λ n. n == 1) (z.2 k lt);
 }
 
--- all bits below n
 pub low_ones : (n k : ℕ) → is_bit (2 ^ n - 1) k ≡ nat_lt k n
 low_ones n k = bit_is (2 ^ n - 1) k ∙ elim (cases_lt k n) [
   | inl lt ↦ rw (bit_at_ones n k lt) (grind (arith, nat_tests))
@@ -238,7 +236,6 @@ gone_already : (x : Bool) (r n : ℕ) → false ≡ (x && not (nat_lt r n)) → 
 gone_already true r n e = grind (arith, nat_tests)
 gone_already false r n e = refl
 
--- a word of which no bit is left
 pub lacks_all : (old n : ℕ) → LacksLowestBits n old 0 → LacksLowestBits (n + 1) old 0
 lacks_all old n lacks k lt = no_bit k ∙ gone_already (is_bit old k) (how_many k (is_bit old)) n (sym (no_bit k) ∙ lacks k lt)
 

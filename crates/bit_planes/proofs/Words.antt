@@ -14,7 +14,6 @@ bit_of_is : (words : List ℕ) (q : ℕ) → bit_of words q ≡ is_bit (get_or w
 unfolding bit_of
 bit_of_is words q = refl
 
--- the number that bit k of word i marks
 pub marked_at : (words : List ℕ) (q i k : ℕ) → q ≡ 64 * i + k → k < 64 → bit_of words q ≡ is_bit (get_or words i 0) k
 marked_at words q i k e lt =
     let word : q / 64 ≡ i = omega arith in
@@ -36,7 +35,6 @@ shifted w s k = bit_of_at (w / 2 ^ s) w k (s + k) (ap (λ n. n % 2) (shr-shr w s
 pub clear_past : (words : List ℕ) (from : ℕ) → length words ≤ from / 64 → AreClearFrom words from
 clear_past words from le q below = none_past words q (omega arith)
 
--- in the first word
 pub found_first : (words : List ℕ) (from w : ℕ) → from / 64 < length words → w ≡ get_or words (from / 64) 0 → w < 2 ^ 64 → 0 < w / 2 ^ (from % 64) → IsLowestFrom words from (from + trailing_zeros w64 (w / 2 ^ (from % 64)))
 found_first words from w within e fits some =
     let s : ℕ = from % 64 in
@@ -61,7 +59,6 @@ first_clear words from w e none = record {
       marked_at words q (from / 64) (s + j) (omega arith) (omega arith) ∙ (ap (λ v. is_bit v (s + j)) (sym e) ∙ (sym (shifted w s j) ∙ (ap (λ v. is_bit v j) none ∙ no_bit j)));
 }
 
--- in word i
 pub found_in : (words : List ℕ) (from i w : ℕ) → i < length words → w ≡ get_or words i 0 → 0 < w → w < 2 ^ 64 → from ≤ 64 * i → AreClearTo words from (64 * i) → IsLowestFrom words from (i * 64 + trailing_zeros w64 w)
 found_in words from i w within e some fits le before =
     let t : ℕ = trailing_zeros w64 w in

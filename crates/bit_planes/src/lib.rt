@@ -1,13 +1,10 @@
 //! Sets of partitions without heap memory, and tables of such sets by member number.
 //!
-//! A [`Plane`] is a bit set over 1 to 4096 partitions; a [`PlaneRows`] maps member numbers to
-//! planes, in rising order. The assignor and the group do all their set arithmetic here.
-//!
 //! What it promises:
-//! - Each call of `Plane` returns the set that its name says, by its elements. Two planes over the
-//!   same number of partitions with the same elements are equal. No call on a plane allocates.
-//! - `PlaneRows::put` sets the row of one member and `remove_from` takes elements out of it. Both
-//!   leave every other row as it was, and the members stay in rising order.
+//! - Each call of `Plane`, a bit set over 1 to 4096 partitions, returns the set that its name says.
+//!   Over one number of partitions, planes with the same elements are equal. No call allocates.
+//! - A `PlaneRows` maps member numbers, in rising order, to planes. `put` and `remove_from` change
+//!   the row of one member alone.
 //!
 //! Tests: `cluster_tests`, which also compares each call with a reference implementation.
 #![tactic(auto)]

@@ -14,8 +14,7 @@ use std::marker::Model;
 /// The number of words for the most partitions.
 const WORDS: usize = (MOST_PARTITIONS / WORD_BITS) as usize;
 
-/// A set of partitions, of which there are 1 to 4096. It is stored inline: no call on it
-/// allocates.
+/// A set over 1 to 4096 partitions. It is stored inline: no call on it allocates.
 #[derive(Drop)]
 pub struct Plane {
     /// The number of partitions.
@@ -104,8 +103,7 @@ impl Plane {
         bits::set(&mut self.words, q);
     }
 
-    /// Removes a number from the set, which stays as it was if the number is not in it. Numbers at
-    /// or above the number of partitions are allowed.
+    /// Removes a number, if it is in the set. It may be at or above the number of partitions.
     pub fn remove(&mut self, q: u32)
         ensures value { self.new ≡ without_one self.old q }
         ensures elements { (n : ℕ) → is_in self.new n ≡ (is_in self.old n && not (n == q)) }
@@ -159,8 +157,7 @@ impl Plane {
         all
     }
 
-    /// The difference: the elements that are not in the other set, which is over the same number of
-    /// partitions.
+    /// The elements that are not in the other set, which is over the same number of partitions.
     pub fn minus(&self, other: &Plane) -> Plane
         requires { partitions_of self.now ≡ partitions_of other.now }
         ensures value { result ≡ minus self.now other.now }
@@ -189,8 +186,7 @@ impl Plane {
         }
     }
 
-    /// Whether the set shares an element with the other, which is over the same number of
-    /// partitions.
+    /// Whether it shares an element with a set over the same number of partitions.
     pub fn meets(&self, other: &Plane) -> bool
         requires { partitions_of self.now ≡ partitions_of other.now }
         ensures value { result ≡ meets self.now other.now }

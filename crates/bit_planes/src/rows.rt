@@ -46,8 +46,7 @@ impl PlaneRows {
         }
     }
 
-    /// A table without rows, for sets over this many partitions, 1 to 4096, with capacity for `n`
-    /// rows. It fails only when out of memory.
+    /// As `new`, with capacity for this many rows. Fails only if memory runs out.
     pub fn with_room(alloc: Global, partitions: u32, rows: usize) -> Result<PlaneRows, Memory>
         requires { (1 ≤ partitions) × (partitions ≤ MOST_PARTITIONS) }
         ensures value { IfOk result (λ r. r ≡ no_rows partitions) }

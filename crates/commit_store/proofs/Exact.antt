@@ -16,12 +16,10 @@ use Rattle.partition_log.proofs.Numbered.{by_number}
 use Rattle.partition_log.proofs.Parted.{in_one_log, sum-same, sum-zero}
 use Rattle.commit_store.specs.Commits.{IsValidLogs, AreLogsOf, Commits, Fits, IsExact, Key, Keyed, PartitionLogs, committed_at, count_at, keys_of_log, log_at, id_of, plain, raised, keys_in, sum_below, with_commit}
 
--- counts of two lists, one after the other
 plain-append : (ks js : List Key) (x : Key) → plain (ks ++ js) x ≡ plain ks x + plain js x
 plain-append [] js x = omega arith
 plain-append (k ∷ ks) js x = omega (arith, plain-append ks js x, sum_by-cons (λ y. cond (bytes_eq x y) 1 0) k ks, sum_by-cons (λ y. cond (bytes_eq x y) 1 0) k (ks ++ js))
 
--- one term of a sum that is more
 pub sum_more : (n p d : ℕ) (f g : ℕ → ℕ) → p < n → ((q : ℕ) → q ≢ p → g q ≡ f q) → g p ≡ f p + d → sum_below n g ≡ sum_below n f + d
 sum_more zero p d f g lt others here = absurd (omega (arith, lt))
 sum_more (suc n) p d f g lt others here =
@@ -42,7 +40,6 @@ take-plus (suc c) k [] = let e : suc c + k ≡ suc (c + k) = omega arith in rw e
     take-none (suc k) = refl
 take-plus (suc c) k (x ∷ xs) = let e : suc c + k ≡ suc (c + k) = omega arith in rw e (ap (λ ys. x ∷ ys) (take-plus c k xs))
 
--- the numbers of a commit that fits are those of keys
 pub numbers-below : (s : Commits) (l : PartitionLogs) (p from : ℕ) (ids : List ℕ) → IsValidLogs l → Fits s l p from ids → (i : ℕ) → i < length ids → get_or ids i 0 < length l.keys
 numbers-below s l p from ids a fits i lt =
     let many : from + length ids - from ≡ length ids = omega arith in
@@ -50,7 +47,6 @@ numbers-below s l p from ids a fits i lt =
     ap (λ ns. get_or ns i 0) (sym fits.same) ∙ get_or-take (from + length ids - from) (drop from (log_at l p)) i 0 (omega (arith, many, lt)) ∙ get_or-drop from (log_at l p) i 0 in
     rw read (a.entries p (from + i) (omega (arith, lt, fits.within))).numbered
 
--- the counter of a number, raised
 pub counter_raised : (cs ids : List ℕ) (x : ℕ) → counts.HaveCounters cs ids → get_or (raised cs ids) x 0 ≡ get_or cs x 0 + counts.plain ids x
 unfolding raised
 counter_raised cs ids x have =
@@ -68,7 +64,6 @@ counter_raised cs ids x have =
         at_none zero h = refl
         at_none (suc n) h = absurd (h (omega arith))
 
--- the committed part of a log, after a commit that fits
 more_committed : (s : Commits) (l : PartitionLogs) (p from : ℕ) (ids : List ℕ) (x : Key) → IsValidLogs l → Fits s l p from ids
     → plain (take (committed_at s p + length ids) (keys_of_log l p)) x ≡ plain (take (committed_at s p) (keys_of_log l p)) x + counts.plain ids (id_of l.keys x)
 more_committed s l p from ids x a fits =
@@ -81,7 +76,6 @@ more_committed s l p from ids x a fits =
     ∙ ap (λ ks. plain ks x + plain (map (key_at l.keys) ids) x) (sym (take-map (key_at l.keys) c (log_at l p)))
     ∙ ap (λ n. plain (take c (keys_of_log l p)) x + n) (by_number l.keys ids x a.without_repeats (numbers-below s l p from ids a fits))
 
--- each number of a commit that fits has a counter
 pub have-counters : (s : Commits) (l : PartitionLogs) (p from : ℕ) (ids : List ℕ) → IsValidLogs l → Fits s l p from ids → length l.keys ≤ length s.counts → counts.HaveCounters s.counts ids
 have-counters s l p from ids a fits many x more =
     let there = stands-somewhere ids x more in
@@ -111,7 +105,6 @@ commit-exact s l p from ids a placed stored many fits e =
           counter_raised s.counts ids n have ∙ omega (arith, none, e.spare n le);
     }
 
--- nothing committed and nothing counted is exact over any logs
 pub nothing-exact : (s : Commits) (l : PartitionLogs) → ((p : ℕ) → committed_at s p ≡ 0) → ((n : ℕ) → count_at s n ≡ 0) → IsExact s l
 nothing-exact s l none blank = record {
   within = λ p. omega (arith, none p);
@@ -126,7 +119,6 @@ one_at_0 [] (suc n) = refl
 one_at_0 (c ∷ cs) zero = refl
 one_at_0 (c ∷ cs) (suc n) = one_at_0 cs n
 
--- one counter more, at 0
 pub counter-exact : (s : Commits) (room : ℕ) (l : PartitionLogs) → IsExact s l → IsExact (record s { counts = s.counts ++ 0 ∷ []; room = room }) l
 counter-exact s room l e = record {
   within = e.within;
@@ -134,7 +126,6 @@ counter-exact s room l e = record {
   spare = λ n le. one_at_0 s.counts n ∙ e.spare n le;
 }
 
--- an interned key keeps its number
 same-number : (ks : List Key) (k x : Key) → IsWithoutRepeats ks → is_known ks x ≡ true → id_of (with_key ks k) x ≡ id_of ks x
 same-number ks k x apart h =
     let g = grows ks k in
@@ -144,7 +135,6 @@ same-number ks k x apart h =
     let new = known (with_key ks k) x (among (with_key ks k) x (id_of ks x) within stands) in
     stays_apart ks k apart (id_of (with_key ks k) x) (id_of ks x) new.0 within (new.1 ∙ sym stands)
 
--- a key that was new has no number of one that was interned
 later-number : (ks : List Key) (k x : Key) → is_known ks x ≡ false → length ks ≤ id_of (with_key ks k) x
 later-number ks k x h =
     elim (cases_lt (id_of (with_key ks k) x) (length ks)) [
@@ -184,7 +174,6 @@ longer-log l at key p a below =
           omega (arith, ap length more, length-append (log_at l p) (id_of l.keys key ∷ []))
     ]
 
--- a record that is appended leaves a store exact
 pub append-exact : (s : Commits) (l : PartitionLogs) (at : ℕ) (key : Key) → IsValidLogs l → IsPlaceOf l key at → IsExact s l → IsExact s (with_record_at l at key)
 append-exact s l at key a goes e = record {
   within = λ p. omega (arith, e.within p, longer-log l at key p a (goes-below l key at a goes));
@@ -203,7 +192,6 @@ all-counted s l appended x a h e ends =
     ∙ sum-same l.partitions (λ p. plain (take (committed_at s p) (keys_of_log l p)) x) (λ p. plain (keys_of_log l p) x) (λ p lt. ap (λ ks. plain ks x) (take_all (committed_at s p) (keys_of_log l p) (omega (arith, ends p lt, length-map (log_at l p) (key_at l.keys)))))
     ∙ in_one_log appended l x a h
 
--- each of some zeros is 0
 pub zero-at : (n p : ℕ) → get_or {A = ℕ} (replicate n 0) p 0 ≡ 0
 zero-at zero p = refl
 zero-at (suc n) zero = refl

@@ -14,7 +14,6 @@ use Rattle.keyed_table.specs.Counts.{HaveCounters, SumsFit, plain, raised, raise
 sum-cons : (x : ℕ) (xs : List ℕ) → sum (x ∷ xs) ≡ x + sum xs
 sum-cons x xs = sum_by-cons (λ n. n) x xs
 
--- one counter is at most all together
 pub one-of-sum : (xs : List ℕ) (i : ℕ) → get_or xs i 0 ≤ sum xs
 one-of-sum [] i = omega arith
 one-of-sum (x ∷ xs) zero = omega (arith, sum-cons x xs)
@@ -35,7 +34,6 @@ sum-most (x ∷ xs) most h =
 plain-cons : (id : ℕ) (ids : List ℕ) (x : ℕ) → plain (id ∷ ids) x ≡ cond (x == id) 1 0 + plain ids x
 plain-cons id ids x = sum_by-cons (λ y. cond (x == y) 1 0) id ids
 
--- raised by one number, and then by the others
 raised-past : (start : ℕ) (counts : List ℕ) (id : ℕ) (ids : List ℕ) → id < start → sum (raised_from start counts (id ∷ ids)) ≡ sum (raised_from start counts ids)
 raised-past start [] id ids lt = refl
 raised-past start (n ∷ counts) id ids lt =
@@ -88,7 +86,6 @@ sums-fit s ids a few x =
     let most : length s.offsets * (2 ^ 32 - 1) ≤ 4096 * (2 ^ 32 - 1) = mul-le (length s.offsets) (2 ^ 32 - 1) 4096 (2 ^ 32 - 1) a.few (omega arith) in
     omega (arith, one-of-sum s.counts x, a.adds_up, offsets, most, few, count_by-le-length (λ y. x == y) ids)
 
--- a store stays one after a commit
 pub stays-commits : (s : Commits) (p : ℕ) (ids : List ℕ) → IsValidStore s → p < length s.offsets → HaveCounters s.counts ids → committed_at s p + length ids < 2 ^ 32 → IsValidStore (with_commit s p ids)
 stays-commits s p ids a lt have fit =
     let end = committed_at s p + length ids in

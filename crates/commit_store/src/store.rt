@@ -34,8 +34,7 @@ impl Model for Store {
 }
 
 impl Store {
-    /// A store for this many partitions, with nothing committed and no counters. It fails only when
-    /// out of memory.
+    /// An empty store for this many partitions, without counters. Fails only if memory runs out.
     pub fn new(alloc: Global, partitions: u32) -> Result<Store, Memory>
         requires { (1 ≤ partitions) × (partitions ≤ MOST_PARTITIONS) }
         ensures partitions { IfOk result (λ store. length store.offsets ≡ partitions) }
@@ -46,8 +45,7 @@ impl Store {
         Store::over(alloc, partitions, 0)
     }
 
-    /// A store for this many partitions, with nothing committed and a counter at 0 for each of this
-    /// many key numbers. It fails only when out of memory.
+    /// As `new`, but with a counter at 0 for each of `keys` key numbers.
     pub fn over(alloc: Global, partitions: u32, keys: u32) -> Result<Store, Memory>
         requires { (1 ≤ partitions) × (partitions ≤ MOST_PARTITIONS) }
         ensures partitions { IfOk result (λ store. length store.offsets ≡ partitions) }
@@ -60,8 +58,7 @@ impl Store {
         Ok(Store { committed, counts })
     }
 
-    /// Reserves capacity for at least one more counter. It fails only when out of memory, and then
-    /// changes nothing.
+    /// Reserves capacity for at least one more counter. Fails if memory runs out, changing nothing.
     pub fn reserve_key(&mut self) -> Result<(), Memory>
         ensures same { self.new ≡ record self.old { room = self.new.room } }
         ensures room { OnOk result (1 ≤ self.new.room) }
@@ -70,8 +67,7 @@ impl Store {
         self.counts.reserve()
     }
 
-    /// Adds a counter at 0 for the next key number, in the capacity reserved for it. It allocates
-    /// nothing.
+    /// Adds a counter at 0 for the next key number, in reserved capacity. It allocates nothing.
     pub fn add_key(&mut self)
         requires { 1 ≤ self.old.room }
         ensures added { self.new ≡ record self.old

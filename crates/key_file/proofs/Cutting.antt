@@ -14,7 +14,6 @@ use Rattle.key_file.specs.declared.stand.Stand.TheVariants as k
 use Rattle.memchr.specs.Find.{Passes, is_byte}
 use Rattle.key_file.proofs.Stands.{next-outside, stand-append}
 
--- a part of a text, and then the next one
 pub slice_range_split : (xs : List ℕ) (i j m : ℕ) → i ≤ j → j ≤ m → slice_range xs i m ≡ slice_range xs i j ++ slice_range xs j m
 slice_range_split xs i j m h k =
     let e : m - i ≡ (j - i) + (m - j) = omega arith in
@@ -28,7 +27,6 @@ slice_range_step xs i m h within =
     ap (λ n. take n (drop i xs)) count ∙ ap (take (suc (m - (i + 1)))) (drop-cons xs i 0 within)
     ∙ ap (λ n. get_or xs i 0 ∷ take (m - (i + 1)) (drop n xs)) (sym (add-one i))
 
--- one byte more
 stand-one : (s : Stand) (c : ℕ) → stand_after s (c ∷ []) ≡ stand_next s c
 unfolding stand_after
 stand-one s c = refl
@@ -41,12 +39,10 @@ pub stand-nil : (s : Stand) → stand_after s [] ≡ s
 unfolding stand_after
 stand-nil s = refl
 
--- behind one byte more
 pub stand-more : (s t : Stand) (xs : List ℕ) (i : ℕ) → i < length xs → t ≡ stand_after s (take i xs) → stand_next t (get_or xs i 0) ≡ stand_after s (take (i + 1) xs)
 stand-more s t xs i h e =
     rw (take_more xs i 0 h, stand-append (take i xs) s (get_or xs i 0 ∷ []), e) (sym (stand-one (stand_after s (take i xs)) (get_or xs i 0)))
 
--- the byte order mark
 pub bom-short : (file : List ℕ) → length file < 3 → bom_length file ≡ 0
 unfolding bom_length
 bom-short [] h = refl
@@ -61,7 +57,6 @@ bom-long (a ∷ []) h = absurd (omega arith)
 bom-long (a ∷ b ∷ []) h = absurd (omega arith)
 bom-long (a ∷ b ∷ c ∷ file) h = refl
 
--- what is left behind the mark
 pub strip-drop : (xs : List ℕ) → strip_bom xs ≡ drop (bom_length xs) xs
 unfolding strip_bom bom_length
 strip-drop [] = refl
@@ -69,7 +64,6 @@ strip-drop (a ∷ []) = refl
 strip-drop (a ∷ b ∷ []) = refl
 strip-drop (a ∷ b ∷ c ∷ xs) = elim (cases_Bool (is_bom a b c)) [ inl t ↦ rw t refl | inr f ↦ rw f refl ]
 
--- bytes behind those that have the mark, if there is one
 strip-more : (xs ys : List ℕ) → 3 ≤ length xs → strip_bom (xs ++ ys) ≡ strip_bom xs ++ ys
 unfolding strip_bom
 strip-more [] ys h = absurd (omega arith)
@@ -77,11 +71,9 @@ strip-more (a ∷ []) ys h = absurd (omega arith)
 strip-more (a ∷ b ∷ []) ys h = absurd (omega arith)
 strip-more (a ∷ b ∷ c ∷ xs) ys h = elim (cases_Bool (is_bom a b c)) [ inl t ↦ rw t refl | inr f ↦ rw f refl ]
 
--- where a reader stands behind the first bytes of a file and some more
 pub stand-behind : (before more : List ℕ) → 3 ≤ length before → stand_after k.Record (strip_bom (before ++ more)) ≡ stand_after (stand_after k.Record (strip_bom before)) more
 stand-behind before more h = ap (stand_after k.Record) (strip-more before more h) ∙ stand-append (strip_bom before) k.Record more
 
--- bytes with no double quote
 pub lacks : (xs : List ℕ) (n : ℕ) → n ≤ length xs → ((k : ℕ) → 0 ≤ k → k < n → Passes (is_byte 34) xs k → ⊥) → All (λ c. c ≢ 34) (take n xs)
 lacks xs n h none k d within e =
     let inside : k < n = below n xs k h within in
@@ -122,7 +114,6 @@ pub plain-none : (xs : List ℕ) (s : Stand) → length xs ≡ 0 → stand_after
 plain-none [] s e = stand-nil s
 plain-none (c ∷ xs) s e = absurd (omega arith)
 
--- bytes before a quote, and those behind it
 pub stand-run : (s : Stand) (xs : List ℕ) (at : ℕ) → at < length xs → get_or xs at 0 ≡ 34 → stand_after s xs ≡ stand_after (stand_next (stand_after s (take at xs)) 34) (drop (at + 1) xs)
 stand-run s xs at h e =
     ap (stand_after s) (sym (take-append-drop at xs)) ∙ stand-append (take at xs) s (drop at xs)

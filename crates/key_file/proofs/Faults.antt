@@ -31,7 +31,7 @@ keys_of-kind wanted header [] = tt
 keys_of-kind wanted false (x ∷ rows) = keys_from-kind wanted (length x) 1 (x ∷ rows)
 keys_of-kind wanted true (x ∷ rows) = keys_from-kind wanted (length x) 2 rows
 
--- what a file is refused for, beside want of memory
+-- what a file is refused for, apart from running out of memory
 pub fault-kind : (wanted : Taking) (header : Bool) (file : List ℕ) (e : Refusal) → (e ≡ r.Memory) ⊎ (taken_of wanted header file ≡ Err e) → IsFileFault e
 fault-kind wanted header file e (inl m) = rw m tt
 fault-kind wanted header file e (inr h) = subst FailsAsFile h (keys_of-kind wanted header (file_records file))

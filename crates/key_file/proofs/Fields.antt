@@ -133,7 +133,6 @@ bare-step text at i le lt d n r goes fields field =
     ∙ ap (λ f. walk st.InField fields f (drop (i + 1) text))
     (append_assoc field (slice_range text at i) (get_or text i 0 ∷ []) ∙ ap (λ m. field ++ m) (sym (one-between text at i le lt)))
 
--- a run of bytes in quotes without a double quote
 quoted-run : (run : List ℕ) (fields : Record) (field rest : List ℕ) → All (λ c. c ≢ 34) run
     → walk st.InQuoted fields field (run ++ rest) ≡ walk st.InQuoted fields (field ++ run) rest
 quoted-run [] fields field rest plain = ap (λ f. walk st.InQuoted fields f rest) (sym (append-nil field))
@@ -221,7 +220,6 @@ quotes-on text start at to wanted old mid new more before goes keeps = (
   keeps ∙ ap (λ m. kept wanted m more) before.2 ∙ kept-more wanted old before.0 more,
 )
 
--- and then to its end
 pub quotes-closed : (text : List ℕ) (start at to end : ℕ) (wanted : Bool) (old mid new last more : List ℕ) → start ≤ at → at ≤ to → InQuotes text start at wanted old mid
     → Goes st.InQuoted st.InField text at to more → new ≡ kept wanted mid more → ReadsField st.InField text to end wanted new last
     → ReadsField st.InQuoted text start end wanted old last
@@ -376,7 +374,6 @@ quote-there text xs at n same passes = sym (get_or-drop at text n 0) ∙ ap (λ 
 pub inside-text : (text xs : List ℕ) (at n : ℕ) → xs ≡ drop at text → n < length xs → at + n < length text
 inside-text text xs at n same lt = omega (arith, ap length same, length-drop at text, lt)
 
--- what holds of a value, of another statement that follows
 pub ok-then : {T E : Type 0} (r : Result T E) (P Q : T → Type 0) → ((x : T) → P x → Q x) → IfOk r P → IfOk r Q
 ok-then (Ok x) P Q f h = f x h
 ok-then (Err e) P Q f h = tt
@@ -454,7 +451,6 @@ reads-first text column width keys row none unmarked is count =
     ap (records default_config) (strip-none text unmarked) ∙ records-walk text ∙ ap (λ s. walk s [] [] text) (sym (head-none row.count count)) in
     ([], is, rw none (ap (keys_from (key_in (column + 1)) width 1) from))
 
--- the walk goes on
 on-walk : (text : List ℕ) (column width : ℕ) (keys : List (List ℕ)) (nth : ℕ) (total : Result (List (List ℕ)) Refusal) (old new : List Record)
     → total ≡ after_keys keys (keys_from (key_in (column + 1)) width nth old) → old ≡ new → total ≡ after_keys keys (keys_from (key_in (column + 1)) width nth new)
 on-walk text column width keys nth total old new is same = is ∙ ap (λ rows. after_keys keys (keys_from (key_in (column + 1)) width nth rows)) same

@@ -18,7 +18,6 @@ pub after_keys-fault : (xs : List (List ℕ)) (e : Refusal) → after_keys xs (E
 after_keys-fault [] e = refl
 after_keys-fault (x ∷ xs) e = ap (key_before x) (after_keys-fault xs e)
 
--- where a file has a first record, its other records have keys
 pub count_of : (wanted : Taking) (header : Bool) (width : ℕ) (rows : List Record) (keys : List (List ℕ)) → IsWidthOf width rows → keys_of_records wanted header rows ≡ Ok keys
     → length rows ≡ without_key header + length keys
 count_of wanted false width rows keys b e =
@@ -28,7 +27,6 @@ count_of wanted true width rows keys b e =
     let n = keys_from-count wanted (length b.0) 2 b.1 keys (rw b.2 at e) in
     rw b.2 (omega (arith, n))
 
--- an answer that is no want of memory
 pub answer_ok : (expected : Result (List (List ℕ)) Refusal) (answer : Result (List (List ℕ)) Refusal) (keys : List (List ℕ)) → Answers expected answer → answer ≡ Ok keys → expected ≡ Ok keys
 answer_ok expected answer keys (inl h) e = sym h ∙ e
 answer_ok expected answer keys (inr h) e = cc (sym e ∙ h)
@@ -38,7 +36,6 @@ pub answer_err : (expected : Result (List (List ℕ)) Refusal) (answer : Result 
 answer_err expected answer fault (inl h) e = inr (sym h ∙ e)
 answer_err expected answer fault (inr h) e = inl (cc (sym e ∙ h))
 
--- a file has no more keys than bytes
 keys-few : (wanted : Taking) (header : Bool) (rows : List Record) (keys : List (List ℕ)) → keys_of_records wanted header rows ≡ Ok keys → length keys ≤ length rows
 keys-few wanted header [] keys e = let none : [] ≡ keys = cc e in rw (← none) (omega arith)
 keys-few wanted header (x ∷ rows) keys e =

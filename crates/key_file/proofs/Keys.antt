@@ -21,19 +21,16 @@ pub after_keys-more : (ks : List (List ℕ)) (k : List ℕ) (rest : Result (List
 after_keys-more [] k rest = refl
 after_keys-more (x ∷ ks) k rest = ap (key_before x) (after_keys-more ks k rest)
 
--- a record of the right length that lacks nothing
 pub keys_from-key : (wanted : Taking) (width nth : ℕ) (fields : Record) (rest : List Record) (key : List ℕ) → length fields ≡ width → wanted fields ≡ Ok key
     → keys_from wanted width nth (fields ∷ rest) ≡ key_before key (keys_from wanted width (nth + 1) rest)
 unfolding keys_from
 keys_from-key wanted width nth fields rest key e h = rw (eq-eqb (length fields) width e, h) refl
 
--- one that lacks something
 pub keys_from-lacks : (wanted : Taking) (width nth : ℕ) (fields : Record) (rest : List Record) (lack : Lack) → length fields ≡ width → wanted fields ≡ Err lack
     → keys_from wanted width nth (fields ∷ rest) ≡ Err (lack_at nth lack)
 unfolding keys_from
 keys_from-lacks wanted width nth fields rest lack e h = rw (eq-eqb (length fields) width e, h) refl
 
--- one of another length
 pub keys_from-other : (wanted : Taking) (width nth : ℕ) (fields : Record) (rest : List Record) → length fields ≢ width
     → keys_from wanted width nth (fields ∷ rest) ≡ Err (r.BadCsv nth)
 unfolding keys_from
@@ -43,7 +40,6 @@ keys_from-other wanted width nth fields rest e =
       | inr f ↦ rw (f.0) refl
     ]
 
--- no record is left
 pub keys_from-nil : (wanted : Taking) (width nth : ℕ) → keys_from wanted width nth [] ≡ Ok []
 unfolding keys_from
 keys_from-nil wanted width nth = refl

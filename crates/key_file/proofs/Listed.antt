@@ -11,13 +11,11 @@ all_keys-more lists keys = flat_map-append (λ (k : List (List ℕ)). k) lists (
 pub count_more : (lists : List (List (List ℕ))) (keys : List (List ℕ)) → length (all_keys (lists ++ keys ∷ [])) ≡ length (all_keys lists) + length keys
 count_more lists keys = ap length (all_keys-more lists keys) ∙ length-append (all_keys lists) keys
 
--- one list more
 pub all_keys-next : (lists : List (List (List ℕ))) (i : ℕ) (keys : List (List ℕ)) → i < length lists → keys ≡ get_or lists i keys
     → all_keys (take (i + 1) lists) ≡ all_keys (take i lists) ++ keys
 all_keys-next lists i keys h e =
     ap all_keys (take_more lists i keys h) ∙ all_keys-more (take i lists) (get_or lists i keys) ∙ ap (λ ks. all_keys (take i lists) ++ ks) (sym e)
 
--- the first lists have no more keys than all
 pub all_keys-front : (lists : List (List (List ℕ))) (i : ℕ) → length (all_keys (take i lists)) ≤ length (all_keys lists)
 all_keys-front lists zero = omega arith
 all_keys-front [] (suc i) = omega arith

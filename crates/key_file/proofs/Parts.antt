@@ -17,7 +17,6 @@ use Rattle.key_file.proofs.Pieces.{keys_from-count, pieces-keys, pieces-records}
 use Rattle.key_file.proofs.Short.{fault-below, file_records-short}
 use Rattle.key_file.proofs.Stands.{cut_file}
 
--- the pieces of a file have its bytes
 pub pieces-bytes : (pieces : List (List ℕ)) (file : List ℕ) → ArePieces file pieces → bytes_of pieces ≡ file
 unfolding ArePieces
 pieces-bytes [] file h = sym h
@@ -32,7 +31,6 @@ pub one-piece : (block : List ℕ) → ArePieces block (block ∷ [])
 unfolding ArePieces
 one-piece block = refl
 
--- the last piece grows
 pub pieces-longer : (pieces : List (List ℕ)) (last more file : List ℕ) → ArePieces file (pieces ++ last ∷ []) → ArePieces (file ++ more) (pieces ++ (last ++ more) ∷ [])
 unfolding ArePieces
 pieces-longer [] last more file h = ap (λ xs. xs ++ more) h
@@ -41,7 +39,6 @@ pieces-longer (piece ∷ []) last more file h =
 pieces-longer (piece ∷ next ∷ pieces) last more file h =
     (h.0 ++ more, ap (λ xs. xs ++ more) h.1 ∙ append_assoc piece (10 ∷ h.0) more, h.2, pieces-longer (next ∷ pieces) last more (10 ∷ h.0) h.3)
 
--- the last piece is cut
 pub pieces-split : (pieces : List (List ℕ)) (front rest file : List ℕ) → ArePieces file (pieces ++ (front ++ 10 ∷ rest) ∷ []) → in_quotes (stand_after k.Record (strip_bom front)) ≡ false
     → ArePieces file (pieces ++ front ∷ (10 ∷ rest) ∷ [])
 unfolding ArePieces
@@ -49,13 +46,11 @@ pieces-split [] front rest file h q = (rest, h, q, refl)
 pieces-split (piece ∷ []) front rest file h q = (h.0, h.1, h.2, pieces-split [] front rest (10 ∷ h.0) h.3 q)
 pieces-split (piece ∷ next ∷ pieces) front rest file h q = (h.0, h.1, h.2, pieces-split (next ∷ pieces) front rest (10 ∷ h.0) h.3 q)
 
--- the next element, and those behind it
 drop-step : {X : Type 0} (xs : List X) (n : ℕ) (d : X) → n < length xs → drop n xs ≡ get_or xs n d ∷ drop (n + 1) xs
 drop-step [] n d h = absurd (omega arith)
 drop-step (x ∷ xs) zero d h = refl
 drop-step (x ∷ xs) (suc n) d h = let up : suc n + 1 ≡ suc (n + 1) = omega arith in rw up (drop-step xs n d (omega arith))
 
--- the last piece is cut at a line feed that no quotes protect
 pub last-cut : (pieces : List (List ℕ)) (last file : List ℕ) (cut : ℕ) → ArePieces file (pieces ++ last ∷ []) → cut < length last → get_or last cut 0 ≡ 10
     → in_quotes (stand_after k.Record (strip_bom (take cut last))) ≡ false → ArePieces file ((pieces ++ take cut last ∷ []) ++ drop cut last ∷ [])
 last-cut pieces last file cut h within feed q =
@@ -98,7 +93,6 @@ begun-rest (piece ∷ next ∷ pieces) file (suc i) width h b =
     let none : file_records piece ≡ [] = b.before 0 (omega arith) in
     (rest.0, ap file_records h.1 ∙ cut_file piece h.0 h.2 ∙ ap (λ rows. rows ++ file_records (10 ∷ h.0)) none ∙ rest.1)
 
--- no piece has a record
 pub none-begun : (pieces : List (List ℕ)) (file : List ℕ) → ArePieces file pieces → HaveNoRecord pieces (length pieces) → file_records file ≡ []
 none-begun pieces file h none = pieces-records pieces file h ∙ flat-none pieces none
   where
@@ -107,7 +101,6 @@ none-begun pieces file h none = pieces-records pieces file h ∙ flat-none piece
     flat-none (piece ∷ pieces) none =
         ap (λ rows. rows ++ flat_map file_records pieces) (none 0 (omega arith)) ∙ flat-none pieces (λ j less. none (suc j) (omega (arith, less)))
 
--- keys behind keys behind keys
 after_keys-append : (xs ys : List (List ℕ)) (rest : Result (List (List ℕ)) Refusal) → after_keys xs (after_keys ys rest) ≡ after_keys (xs ++ ys) rest
 after_keys-append [] ys rest = refl
 after_keys-append (x ∷ xs) ys rest = ap (key_before x) (after_keys-append xs ys rest)
@@ -117,7 +110,6 @@ pub record Left (wanted : Taking) (header : Bool) (width : ℕ) (file : List ℕ
   pub keys : taken_of wanted header file ≡ after_keys (all_keys lists) (joined (without_key header + length (all_keys lists)) (map (piece_keys wanted width) (drop n pieces)))
   pub fits : without_key header + length (all_keys lists) + length (flat_map file_records (drop n pieces)) ≡ length (file_records file)
 
--- the keys of the first piece
 pub left-first : (wanted : Taking) (header : Bool) (width : ℕ) (file : List ℕ) (pieces : List (List ℕ)) (keys : List (List ℕ)) → ArePieces file pieces → 0 < length pieces
     → IsWidthOf width (file_records (get_or pieces 0 [])) → taken_of wanted header (get_or pieces 0 []) ≡ Ok keys → Left wanted header width file pieces 1 (keys ∷ [])
 left-first wanted header width file [] keys h some b e = absurd (omega arith)
@@ -133,7 +125,6 @@ left-first wanted header width file (piece ∷ pieces) keys h some b e =
       fits = rw all (omega (arith, count, records, both));
     }
 
--- a fault in the first piece
 pub left-first-fault : (wanted : Taking) (header : Bool) (width : ℕ) (file : List ℕ) (pieces : List (List ℕ)) (fault : Refusal) → ArePieces file pieces → 0 < length pieces
     → IsWidthOf width (file_records (get_or pieces 0 [])) → taken_of wanted header (get_or pieces 0 []) ≡ Err fault → taken_of wanted header file ≡ Err fault
 left-first-fault wanted header width file [] fault h some b e = absurd (omega arith)
@@ -141,7 +132,6 @@ left-first-fault wanted header width file (piece ∷ pieces) fault h some b e =
     pieces-keys wanted header file piece pieces b.0 b.1 h b.2
     ∙ ap (λ found. then_keys found (joined (length (b.0 ∷ b.1)) (map (piece_keys wanted (length b.0)) pieces))) e
 
--- the keys of one piece more
 pub left-more : (wanted : Taking) (header : Bool) (width : ℕ) (file : List ℕ) (pieces : List (List ℕ)) (n : ℕ) (lists : List (List (List ℕ))) (keys : List (List ℕ))
     → Left wanted header width file pieces n lists → n < length pieces → piece_keys wanted width (get_or pieces n []) ≡ Ok keys → Left wanted header width file pieces (n + 1) (lists ++ keys ∷ [])
 left-more wanted header width file pieces n lists keys so within e =
@@ -161,7 +151,6 @@ left-more wanted header width file pieces n lists keys so within e =
       fits = rw (more, sum) (omega (arith, old, both, count));
     }
 
--- a fault in a piece behind others
 pub left-fault : (wanted : Taking) (header : Bool) (width : ℕ) (file : List ℕ) (pieces : List (List ℕ)) (n : ℕ) (lists : List (List (List ℕ))) (fault : Refusal)
     → Left wanted header width file pieces n lists → n < length pieces → piece_keys wanted width (get_or pieces n []) ≡ Err fault
     → taken_of wanted header file ≡ Err (later_fault (without_key header + length (all_keys lists)) fault)
@@ -174,7 +163,6 @@ left-fault wanted header width file pieces n lists fault so within e =
     so.keys ∙ ap (λ ps. after_keys (all_keys lists) (joined c (map (piece_keys wanted width) ps))) step ∙ ap (after_keys (all_keys lists)) next
     ∙ after_keys-fault (all_keys lists) (later_fault c fault)
 
--- the number of such a fault
 pub left-number : (wanted : Taking) (header : Bool) (width : ℕ) (file : List ℕ) (pieces : List (List ℕ)) (n : ℕ) (lists : List (List (List ℕ))) (fault : Refusal)
     → Left wanted header width file pieces n lists → n < length pieces → piece_keys wanted width (get_or pieces n []) ≡ Err fault
     → fault_number fault + (without_key header + length (all_keys lists)) ≤ length file
@@ -188,7 +176,6 @@ left-number wanted header width file pieces n lists fault so within e =
     let short = file_records-short file in
     omega (arith, old, both, number, short)
 
--- there are no more keys than bytes
 pub left-count : (wanted : Taking) (header : Bool) (width : ℕ) (file : List ℕ) (pieces : List (List ℕ)) (n : ℕ) (lists : List (List (List ℕ))) → Left wanted header width file pieces n lists
     → without_key header + length (all_keys lists) ≤ length file
 left-count wanted header width file pieces n lists so = let short = file_records-short file in omega (arith, so.fits, short)
@@ -199,7 +186,6 @@ drop-none [] (suc n) h = refl
 drop-none (x ∷ xs) zero h = absurd (omega (arith, h))
 drop-none (x ∷ xs) (suc n) h = drop-none xs n (omega (arith, h))
 
--- the keys of all pieces
 pub left-all : (wanted : Taking) (header : Bool) (width : ℕ) (file : List ℕ) (pieces : List (List ℕ)) (n : ℕ) (lists : List (List (List ℕ))) → Left wanted header width file pieces n lists → n ≡ length pieces
     → taken_of wanted header file ≡ Ok (all_keys lists)
 left-all wanted header width file pieces n lists so all =
@@ -214,7 +200,6 @@ keys-first wanted header width pieces n none = rw none refl
 pub keys-other : (wanted : Taking) (header : Bool) (width : ℕ) (pieces : List (List ℕ)) (n : ℕ) → 0 < n → keys_in wanted header width pieces n ≡ piece_keys wanted width (get_or pieces n [])
 keys-other wanted header width pieces n some = rw (ne_eqb n 0 (λ e. absurd (omega (arith, e)))) refl
 
--- the keys of the next piece
 pub left-next : (wanted : Taking) (header : Bool) (width : ℕ) (file : List ℕ) (pieces : List (List ℕ)) (n m : ℕ) (lists : List (List (List ℕ))) (keys : List (List ℕ)) → ArePieces file pieces
     → BeginWith width pieces → n ≡ length lists → m ≡ n + 1 → n < length pieces → (0 < n → Left wanted header width file pieces n lists) → keys_in wanted header width pieces n ≡ Ok keys
     → Left wanted header width file pieces m (lists ++ keys ∷ [])
@@ -235,16 +220,13 @@ next-cut pieces rest file aim more h within feed q =
     let inside : aim + more < length rest = omega (arith, within, length-drop aim rest) in
     last-cut pieces rest file (aim + more) h inside here (rw front q)
 
--- one piece more is lent
 pub lent-more : (pieces : List (Bor (List ℕ))) (piece : Bor (List ℕ)) → lent (pieces ++ piece ∷ []) ≡ lent pieces ++ piece.now ∷ []
 lent-more pieces piece = map-append (λ (p : Bor (List ℕ)). p.now) pieces (piece ∷ [])
 
--- a file of one block
 pub alone : (block : List ℕ) → ArePieces (bytes_of (block ∷ [])) (block ∷ [])
 unfolding ArePieces
 alone block = append-nil block
 
--- the pieces that are lent, by their places
 pub lent-at : (pieces : List (Bor (List ℕ))) (i : ℕ) (d : Bor (List ℕ)) → i < length pieces → get_or (lent pieces) i [] ≡ (get_or pieces i d).now
 lent-at [] i d h = absurd (omega (arith, h))
 lent-at (piece ∷ pieces) zero d h = refl
@@ -262,19 +244,16 @@ lent-drop (piece ∷ pieces) (suc i) = lent-drop pieces i
 pub lent-rest : (pieces : List (Bor (List ℕ))) (i : ℕ) → lent (take (length pieces - i) (drop i pieces)) ≡ drop i (lent pieces)
 lent-rest pieces i = ap lent (take_all (length pieces - i) (drop i pieces) (omega (arith, length-drop i pieces))) ∙ lent-drop pieces i
 
--- the first piece that has a record is the first of those from there on
 pub begun-first : (pieces : List (List ℕ)) (i width : ℕ) → IsBegun pieces i width → BeginWith width (drop i pieces)
 begun-first pieces i width b =
     let same : i + 0 ≡ i = omega arith in
     let first : get_or (drop i pieces) 0 [] ≡ get_or pieces i [] = get_or-drop i pieces 0 [] ∙ ap (λ n. get_or pieces n []) same in
     (omega (arith, b.within, length-drop i pieces), rw first b.first)
 
--- pieces from one on have no more bytes than all
 pub rest-short : (pieces : List (List ℕ)) (i : ℕ) → length (bytes_of (drop i pieces)) ≤ length (bytes_of pieces)
 rest-short pieces zero = omega arith
 rest-short [] (suc i) = omega arith
 rest-short (piece ∷ pieces) (suc i) = omega (arith, rest-short pieces i, length-append piece (bytes_of pieces))
 
--- a file in pieces, by the bytes of these
 pub of-bytes : (pieces : List (List ℕ)) (file : List ℕ) → ArePieces file pieces → ArePieces (bytes_of pieces) pieces
 of-bytes pieces file h = subst (λ all. ArePieces all pieces) (sym (pieces-bytes pieces file h)) h

@@ -65,7 +65,6 @@ keys_from-later wanted width nth earlier (x ∷ xs) =
     let same : nth + earlier + 1 ≡ nth + 1 + earlier = omega arith in
     rw (same, keys_from-later wanted width (nth + 1) earlier xs) (keyed-later (length x == width) nth earlier (wanted x) (keys_from wanted width (nth + 1) xs))
 
--- no byte, no record
 nothing : file_records [] ≡ []
 unfolding records_from next_record strip_bom
 nothing = refl
@@ -77,11 +76,9 @@ pieces-records (piece ∷ []) file h = rw h (sym (append-nil (file_records piece
 pieces-records (piece ∷ next ∷ pieces) file h =
     rw h.1 (cut_file piece h.0 h.2 ∙ ap (λ rest. file_records piece ++ rest) (pieces-records (next ∷ pieces) (10 ∷ h.0) h.3))
 
--- the first piece, where there are others: the rest of the file
 first_piece : (piece : List ℕ) (pieces : List (List ℕ)) (file : List ℕ) → ArePieces file (piece ∷ pieces) → file_records file ≡ file_records piece ++ flat_map file_records pieces
 first_piece piece pieces file h = pieces-records (piece ∷ pieces) file h
 
--- the keys of records in pieces
 after-later : (earlier : ℕ) (found : Result (List (List ℕ)) Refusal) (n : ℕ) (rest : Result (List (List ℕ)) Refusal) (others : List (Result (List (List ℕ)) Refusal)) → Counted found n
     → rest ≡ joined (earlier + n) others → then_keys (later_keys earlier found) rest ≡ joined earlier (found ∷ others)
 after-later earlier (Ok keys) n rest others c e = rw (e, ← c) refl
@@ -102,7 +99,6 @@ joined-pieces wanted width (piece ∷ pieces) earlier =
     (after-later earlier (piece_keys wanted width piece) (length rows) _ (map (piece_keys wanted width) pieces) (counted wanted width 1 rows)
     (joined-pieces wanted width pieces (earlier + length rows)))
 
--- the keys of a file's records in two pieces, of which the first has one
 pub keys_of-two : (wanted : Taking) (header : Bool) (first : Record) (more ys : List Record)
     → keys_of_records wanted header (first ∷ more ++ ys)
     ≡ then_keys (keys_of_records wanted header (first ∷ more)) (keys_from wanted (length first) (1 + length (first ∷ more)) ys)

@@ -72,7 +72,6 @@ leaves_end : (b : Bool) (p : Read) → Leaves 0 (Some p) → Leaves 0 (if b then
 leaves_end true p h = h
 leaves_end false p h = tt
 
--- a record leaves at most what stood there
 pub next-leaves : (s : State) (fields : List (List ℕ)) (field : List ℕ) (xs : List ℕ) → Leaves (length xs) (next_record default_config s fields field xs)
 unfolding next_record
 next-leaves s fields field [] = leaves_end (ends_at_end s) (fields ++ (field ∷ []), st.StartRecord, []) (inl refl, omega arith)
@@ -81,7 +80,6 @@ next-leaves s fields field (c ∷ xs) =
     (λ e. (step-between s c e, omega arith))
     (leaves_more (length xs) _ (next-leaves (step default_config s c).0 (fields_after (step default_config s c).1 fields field) (field_after (step default_config s c).1 c field) xs))
 
--- a record that was read took a byte
 pub next-takes : (s : State) (fields : List (List ℕ)) (field : List ℕ) (c : ℕ) (xs : List ℕ) → Leaves (length xs) (next_record default_config s fields field (c ∷ xs))
 unfolding next_record
 next-takes s fields field c xs =
@@ -89,7 +87,6 @@ next-takes s fields field c xs =
     (λ e. (step-between s c e, omega arith))
     (next-leaves (step default_config s c).0 (fields_after (step default_config s c).1 fields field) (field_after (step default_config s c).1 c field) xs)
 
--- at the end of the text, between two records, there is none
 pub next-none : (s : State) → IsBetween s → next_record default_config s [] [] [] ≡ None
 unfolding next_record
 next-none s (inl e) = rw e refl
@@ -123,12 +120,10 @@ takes_next None n k l h found fields s z e = rw e refl
 takes_next (Some p) n k l h found fields s z e =
     rw (e.0, e.1, e.2, e.3) (l.0, ap (λ rest. p.0 ∷ rest) (records_from-enough n (length p.2 + 1) p.1 p.2 l.0 (omega (arith, l.1)) (omega arith)))
 
--- the records of a text begin with the next one
 pub records_at-next : (s : State) (y : List ℕ) → records_at s y ≡ records_next (records_from default_config (length y)) (next_record default_config s [] [] y)
 unfolding records_from
 records_at-next s y = rw add-one refl
 
--- at the end there is none
 pub records_at-nil : (s : State) → IsBetween s → records_at s [] ≡ []
 records_at-nil s b = records_at-next s [] ∙ ap (λ o. records_next (records_from default_config 0) o) (next-none s b)
 
@@ -141,19 +136,16 @@ takes_at s0 (c ∷ xs) b found fields s z e =
     subst (λ rows. TakesFirst rows found fields s z) (sym (records_at-next s0 (c ∷ xs)))
     (takes_next (next_record default_config s0 [] [] (c ∷ xs)) (length (c ∷ xs)) (length xs) (next-takes s0 [] [] c xs) (omega arith) found fields s z e)
 
--- what a read of a record does to the records that a text has left
 pub takes_first : (s0 : State) (y : List ℕ) (k : Option (List ℕ)) (found : Bool) (fields : List (List ℕ)) (s : State) → IsBetween s0
     → ReadsNext default_config s0 (Some y) k found fields s
     → (z : List ℕ) × (k ≡ Some z) × TakesFirst (records_at s0 y) found fields s z
 takes_first s0 y None found fields s b h = absurd h
 takes_first s0 y (Some z) found fields s b h = (z, refl, takes_at s0 y b found fields s z h)
 
--- facts for a test, from other facts for it
 pub match_map : (b : Bool) {P Q P2 Q2 : Type 0} → MatchBool b P Q → (P → P2) → (Q → Q2) → MatchBool b P2 Q2
 match_map true h p q = p h
 match_map false h p q = q h
 
--- a reader of known bytes after a read has known bytes again
 source_after : {R : Type 0} (rem : R → Option (List ℕ)) (new : Reader R) (z : List ℕ) → new.bom_checked ≡ true → pending_of (rem new.rdr) new ≡ Some z
     → source_of rem new ≡ Some z
 source_after rem new z begun h = rw begun h

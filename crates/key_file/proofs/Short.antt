@@ -61,7 +61,6 @@ strip-short (a ∷ []) = omega arith
 strip-short (a ∷ b ∷ []) = omega arith
 strip-short (a ∷ b ∷ c ∷ xs) = elim (cases_Bool (is_bom a b c)) [ inl t ↦ rw t (omega arith) | inr f ↦ rw f (omega arith) ]
 
--- a file has no more records than bytes
 pub file_records-short : (xs : List ℕ) → length (file_records xs) ≤ length xs
 file_records-short xs = let a = records-short (strip_bom xs) in let b = strip-short xs in omega (arith, a, b)
 

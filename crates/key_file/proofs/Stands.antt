@@ -93,7 +93,6 @@ sees_record st.InComment x e r = absurd e
 pub cut_behind : (a b : List ℕ) → stand_after k.Record a ≡ k.Record → records default_config (a ++ b) ≡ records default_config a ++ records default_config b
 cut_behind a b e = records-append a b (sees_record _ _ (after-sees a st.StartRecord k.Record refl) e)
 
--- a line feed behind bytes, of which no quotes protect it
 line_end : (s : State) (x : Stand) (fields : List (List ℕ)) (field b : List ℕ) → Sees s x → in_quotes x ≡ false → Holds s fields field
     → walk s fields field (10 ∷ b) ≡ walk s fields field [] ++ walk st.StartRecord [] [] b
 unfolding walk
@@ -117,7 +116,6 @@ walk-line (c ∷ a) s x fields field b e q h =
     (λ more. walk-line a (step default_config s c).0 (stand_next x c) (fields_after (step default_config s c).1 fields field) (field_after (step default_config s c).1 c field) b
     (step-sees s x c e) q (step-holds s fields field c h more))
 
--- a blank line is no record
 blank : (b : List ℕ) → walk st.StartRecord [] [] (10 ∷ b) ≡ walk st.StartRecord [] [] b
 unfolding walk
 blank b = refl
@@ -140,7 +138,6 @@ unfolding stand_after
 line-record [] x q = outside_ends x q
 line-record (c ∷ a) x q = line-record a (stand_next x c) q
 
--- without a double quote nothing is in quotes
 unquoted-outside : (p q : Bool) → in_quotes (if p then k.Fresh else if q then k.Record else k.Bare) ≡ false
 unquoted-outside true q = refl
 unquoted-outside false true = refl
@@ -162,7 +159,6 @@ pub cut_without_quotes : (a b : List ℕ) → All (λ c. c ≢ 34) a
     → records default_config ((a ++ 10 ∷ []) ++ b) ≡ records default_config (a ++ 10 ∷ []) ++ records default_config b
 cut_without_quotes a b n = cut_behind (a ++ 10 ∷ []) b (line-record a k.Record (no_quote-outside a k.Record n refl))
 
--- where a byte order mark is dropped, a line feed ends it
 line-no_bom : (b : List ℕ) → strip_bom (10 ∷ b) ≡ 10 ∷ b
 unfolding strip_bom
 line-no_bom [] = refl

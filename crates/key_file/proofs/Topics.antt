@@ -3,19 +3,16 @@ use Rattle.std.proofs.Common.{◌≡◌, ◌<◌, ◌+◌, ◌∙◌, ℕ, List,
 use Rattle.std.proofs.lemmas.List.{drop_more, get_or-map, length-map, map-append, take_more}
 use Rattle.std.specs.List.{position_from}
 
--- one name is not the topic's
 pub position-next : (t : List ℕ → Bool) (names : List (Bor (List ℕ))) (i : ℕ) (d : Bor (List ℕ)) → i < length names → t (get_or names i d).now ≡ false
     → position_from t i (drop i (map (λ name. name.now) names)) ≡ position_from t (i + 1) (drop (i + 1) (map (λ name. name.now) names))
 position-next t names i d h e =
     rw (drop_more (map (λ (name : Bor (List ℕ)). name.now) names) i [] (omega (arith, h, length-map names (λ (name : Bor (List ℕ)). name.now))), get_or-map (λ (name : Bor (List ℕ)). name.now) names i d [] h, e) refl
 
--- it is the topic's
 pub position-here : (t : List ℕ → Bool) (names : List (Bor (List ℕ))) (i : ℕ) (d : Bor (List ℕ)) → i < length names → t (get_or names i d).now ≡ true
     → position_from t i (drop i (map (λ name. name.now) names)) ≡ Some i
 position-here t names i d h e =
     rw (drop_more (map (λ (name : Bor (List ℕ)). name.now) names) i [] (omega (arith, h, length-map names (λ (name : Bor (List ℕ)). name.now))), get_or-map (λ (name : Bor (List ℕ)). name.now) names i d [] h, e) refl
 
--- what is seen of one key more
 pub taken-more : {X : Type 0} (f : List ℕ → X) (keys : List (Bor (List ℕ))) (i : ℕ) (key : Bor (List ℕ)) → i < length keys → key ≡ get_or keys i key
     → map f (take i (map (λ k. k.now) keys)) ++ f key.now ∷ [] ≡ map f (take (i + 1) (map (λ k. k.now) keys))
 taken-more f keys i key h e =

@@ -47,7 +47,6 @@ walks (c ∷ y) s fields field n h =
     (ap (λ rest. fields_after (step default_config s c).1 fields field ∷ rest) (one_turn n (step default_config s c).0 y (walks y (step default_config s c).0 [] []) h))
     (walks y (step default_config s c).0 (fields_after (step default_config s c).1 fields field) (field_after (step default_config s c).1 c field) n (omega arith))
 
--- the records of a text are those of a walk over it
 pub records-walk : (y : List ℕ) → records default_config y ≡ walk st.StartRecord [] [] y
 unfolding records_from
 records-walk y = rw add-one (walks y st.StartRecord [] [] (length y) (omega arith))
@@ -107,7 +106,6 @@ step-holds st.InQuoted fields field c h = choose fields field c (c == 34) (st.Af
 step-holds st.AfterQuote fields field c h = choose fields field c (c == 34) (st.InQuoted, act.Copy) (in_field default_config c) (λ e. tt) (in_field-holds fields field c)
 step-holds st.InEscape fields field c h = λ e. tt
 
--- a test that both sides take
 pub append_if : (b : Bool) (x y x2 y2 z : List Record) → x ≡ x2 ++ z → (b ≡ false → y ≡ y2 ++ z) → (if b then x else y) ≡ (if b then x2 else y2) ++ z
 append_if true x y x2 y2 z h k = h
 append_if false x y x2 y2 z h k = k refl
@@ -124,7 +122,6 @@ behind_none st.InQuoted fields field b h e = cc e
 behind_none st.AfterQuote fields field b h e = cc e
 behind_none st.InEscape fields field b h e = cc e
 
--- a walk over two texts, where between them no record is begun
 walk-append : (a : List ℕ) (s : State) (fields : List (List ℕ)) (field b : List ℕ) → Holds s fields field → ends_at_end (state_after s a) ≡ false
     → walk s fields field (a ++ b) ≡ walk s fields field a ++ walk (state_after s a) [] [] b
 unfolding walk state_after

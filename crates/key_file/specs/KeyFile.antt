@@ -1,7 +1,6 @@
--- The keys of a file of comma-separated records, or the first record that is at fault. What the
--- records of a file are is csv's own definition, of its default dialect: RFC 4180, where a line
--- feed alone ends a record too, an empty line is no record, and a byte order mark at the start is
--- passed over.
+-- The keys of a file of comma-separated records, or its first fault. `csv` defines its records, in
+-- the default dialect: RFC 4180, where a line feed alone ends a record too, an empty line is no
+-- record, and a byte order mark at the start is skipped.
 use Rattle.std.specs.Prelude.{⊤, ℕ, ◌==◌, List, [], ◌∷◌, length, if◌then◌else◌, Option, Some, None, Result, Ok, Err, true, false, ◌+◌, ◌-◌, Bool}
 use Rattle.std.specs.List.{position_from}
 use Rattle.std.specs.Str.{bytes_eq}

@@ -1,12 +1,9 @@
 //! The keys of a file of comma-separated records, read as a whole or in chunks in parallel.
 //!
 //! It promises:
-//! - `read_keys`, `read_keys_in_pieces` and `read_keys_apart` return the keys of the column of a
-//!   file, or its first fault, exactly as the definition by records says (`keys_of`), however the
-//!   file is split. `read_topic_keys_in_pieces` and `read_topic_keys_apart` do the same for files
-//!   with a column of topics.
-//! - A fault is that of the first record at fault: a wrong number of fields, a missing column, or
-//!   an unknown topic. The only other error is running out of memory.
+//! - Each read returns the keys of a column, with their topics or without, or the first fault,
+//!   exactly as the definition by records says (`keys_of`), however the file is split. The only
+//!   other error is running out of memory.
 //! - Laws: when a file can be split at a line feed, and how the records and keys of a file follow
 //!   from those of its chunks.
 //!

@@ -24,7 +24,6 @@ more-at b table x is new = ap (λ c. if c then table else table ++ x ∷ []) (is
 same-at : (table : List Key) (x : Key) → is_known table x ≡ true → with_key table x ≡ table
 same-at table x is = ap (λ c. if c then table else table ++ x ∷ []) is
 
--- a key that is among others is known where they are added
 known-added : (ks zs : List Key) (x : Key) → is_known zs x ≡ true → is_known (fold with_key ks zs) x ≡ true
 known-added ks [] x h = absurd (cc h)
 known-added ks (z ∷ zs) x h =
@@ -37,17 +36,14 @@ known-added ks (z ∷ zs) x h =
     ]
 
 -- ---- one more record
--- the code of a known key
 pub code-known : (keys : List Key) (key : Key) (code : ℕ) → IsIdOf keys key code → TakesCode keys keys key code
 code-known keys key code id = record { grown = inl refl; within = id.1; there = ap (key_at keys) id.0 ∙ (known keys key id.2).1 }
 
--- so what a table tells of a key, which stays as it is
 pub code-found : (found : Result (Option ℕ) Memory) (old new : List Key) (key : Key) → IfOk found (λ f. IfSome f (IsIdOf old key)) → new ≡ old → IfOk found (λ f. IfSome f (TakesCode old new key))
 code-found (Ok (Some code)) old new key is same = rw same (code-known old key code is)
 code-found (Ok None) old new key is same = tt
 code-found (Err e) old new key is same = tt
 
--- of one that is numbered
 grown-at : (b : Bool) (keys : List Key) (key : Key) → ((if b then keys else keys ++ key ∷ []) ≡ keys) ⊎ ((if b then keys else keys ++ key ∷ []) ≡ keys ++ key ∷ [])
 grown-at true keys key = inl refl
 grown-at false keys key = inr refl
@@ -55,7 +51,6 @@ grown-at false keys key = inr refl
 pub code-numbered : (keys : List Key) (key : Key) → TakesCode keys (with_key keys key) key (id_of keys key)
 code-numbered keys key = let more = grows keys key in record { grown = grown-at (is_known keys key) keys key; within = more.numbered; there = more.found }
 
--- the same keys by codes, where keys are added behind them
 same-below : (old new : List Key) (codes : List ℕ) → ((c : ℕ) → c < length old → key_at new c ≡ key_at old c) → All (λ code. code < length old) codes → map (key_at new) codes ≡ map (key_at old) codes
 same-below old new [] same within = refl
 same-below old new (code ∷ codes) same within =
@@ -122,7 +117,6 @@ pushed-coded (Ok v) old new codes more x so done same =
 pushed-coded (Err e) old new codes more x so done same = rw (same.0, same.1) so
 
 -- ---- lists
--- parts are coded where each of them is
 pub each-coded : (parts : List (List Key)) (coded : List CodedPart) → length coded ≡ length parts
     → ((i : ℕ) (d : CodedPart) → i < length parts → IsCoded (get_or parts i []) (get_or coded i d)) → AreCoded parts coded
 each-coded [] [] e h = tt
@@ -131,7 +125,6 @@ each-coded (p ∷ parts) [] e h = absurd (omega (arith, e))
 each-coded (p ∷ parts) (c ∷ coded) e h =
     (h zero c (omega arith), each-coded parts coded (omega (arith, e)) (λ i d lt. h (suc i) d (omega (arith, lt))))
 
--- what was found of each list, where nothing was refused
 pub found-coded : (lists : List (List Key)) (found : List (Result CodedPart Memory)) (coded : List CodedPart) → found ≡ map Ok coded → length found ≡ length lists
     → ((i : ℕ) (d : Result CodedPart Memory) → i < length lists → IfOk (get_or found i d) (IsCoded (get_or lists i [])))
     → AreCoded lists coded
@@ -142,7 +135,6 @@ found-coded lists found coded is long h =
     let at : get_or found i (Ok d) ≡ Ok (get_or coded i d) = ap (λ (fs : List (Result CodedPart Memory)). get_or fs i (Ok d)) is ∙ get_or-map Ok coded i d (Ok d) (omega (arith, lt, many)) in
     rw at at own)
 
--- what holds of what was found, where nothing was refused
 pub found-all : {A : Type 0} (P : A → Type 0) (found : List (Result A Memory)) (all : List A) → found ≡ map Ok all
     → ((i : ℕ) (d : Result A Memory) → i < length found → IfOk (get_or found i d) P) → All P all
 found-all {A} P found all is h = λ k d lt.
@@ -151,7 +143,6 @@ found-all {A} P found all is h = λ k d lt.
     rw at at own
 
 -- ---- the keys of the parts
--- one more key among those that are added
 added-more : (ks zs : List Key) (z : Key) → fold with_key ks (with_key zs z) ≡ with_key (fold with_key ks zs) z
 added-more ks zs z =
     elim (cases_Bool (is_known zs z)) [
@@ -168,7 +159,6 @@ added-distinct : (ks part : List Key) → fold with_key ks (distinct part) ≡ f
 unfolding distinct
 added-distinct ks part = added-all ks [] part
 
--- so lists of the same keys without repeats add the same
 added-same : (ks xs ys : List Key) → distinct xs ≡ distinct ys → fold with_key ks xs ≡ fold with_key ks ys
 added-same ks xs ys same = sym (added-distinct ks xs) ∙ ap (fold with_key ks) same ∙ added-distinct ks ys
 
@@ -185,7 +175,6 @@ pub distinct-parts : (parts : List (List Key)) (coded : List CodedPart) → AreC
 unfolding distinct
 distinct-parts parts coded so = added-parts [] parts coded so
 
--- which are no more
 pub few-firsts : (parts : List (List Key)) (coded : List CodedPart) → AreCoded parts coded → length (joined (map keys_in coded)) ≤ length (joined parts)
 few-firsts [] [] so = omega arith
 few-firsts [] (c ∷ coded) so = absurd so
@@ -205,13 +194,11 @@ pub read-codes : (f : Key → ℕ) (part keys : List Key) (codes : List ℕ) →
 read-codes f part keys codes so = read-keys f keys codes so.within ∙ ap (map f) so.same_records
 
 -- ---- keys by their places
--- an element that is there
 pub there : (keys : List Key) (i : ℕ) (key : Key) → slice_get keys i ≡ Some key → key ≡ get_or keys i []
 there [] i key e = cc e
 there (x ∷ keys) zero key e = cc e
 there (x ∷ keys) (suc i) key e = there keys i key e
 
--- the bytes of one key more
 pub slices_more : (old now : List (Bor (List ℕ))) (keys : List (List ℕ)) (i : ℕ) (key : Bor (List ℕ)) → i < length keys → slice_get keys i ≡ Some key.now
     → map (λ (k : Bor (List ℕ)). k.now) now ≡ map (λ (k : Bor (List ℕ)). k.now) old ++ take i keys
     → map (λ (k : Bor (List ℕ)). k.now) (now ++ key ∷ []) ≡ map (λ (k : Bor (List ℕ)). k.now) old ++ take (i + 1) keys

@@ -5,17 +5,14 @@ use Rattle.std.proofs.Math.Seq.{drop-append_seam}
 use Rattle.std.proofs.lemmas.List.{take_all, take-append-le, drop-append-le}
 use Rattle.key_lists.specs.Private.KeyText.{IsValidKeyText, keys_between}
 
--- as many keys as ends
 pub length-keys_between : (s : ℕ) (es b : List ℕ) → length (keys_between s es b) ≡ length es
 length-keys_between s [] b = refl
 length-keys_between s (e ∷ es) b = ap suc (length-keys_between e es b)
 
--- a text's ends stand within it
 pub ends_within : (s : ℕ) (es : List ℕ) (n : ℕ) → IsValidKeyText s es n → s ≤ n
 ends_within s [] n h = omega arith
 ends_within s (e ∷ es) n h = omega (arith, h.0, ends_within e es n h.1)
 
--- one more key at the end of the text
 pub ends_push : (s : ℕ) (es : List ℕ) (n m : ℕ) → IsValidKeyText s es n → n ≤ m → IsValidKeyText s (es ++ m ∷ []) m
 ends_push s [] n m h k = (omega arith, refl)
 ends_push s (e ∷ es) n m h k = (h.0, ends_push e es n m h.1 k)
@@ -47,7 +44,6 @@ key_stands s (e ∷ es) b (suc i) h k =
     let rest = key_stands e es b i h.1 (omega arith) in
     record { ordered = rest.ordered; within = rest.within }
 
--- a key by its number
 pub key_at : (s : ℕ) (es b : List ℕ) (i : ℕ) → i < length es
     → slice_get (keys_between s es b) i ≡ Some (take (get_or es i 0 - get_or (s ∷ es) i 0) (drop (get_or (s ∷ es) i 0) b))
 key_at s [] b i k = absurd (omega arith)

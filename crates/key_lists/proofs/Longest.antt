@@ -4,17 +4,14 @@ use Rattle.std.proofs.lemmas.List.Elements.{All-cons, All-head, All-nil, All-tai
 use Rattle.key_numbers.specs.Keys.{Key}
 use Rattle.key_lists.specs.Lists.{longest_of}
 
--- with one key more
 pub longest-more : (keys : List Key) (key : Key) → longest_of (keys ++ key ∷ []) ≡ max (longest_of keys) (length key)
 longest-more [] key = omega arith
 longest-more (k ∷ keys) key = ap (max (length k)) (longest-more keys key) ∙ omega arith
 
--- none is longer
 pub all-up-to : (n : ℕ) (keys : List Key) → longest_of keys ≤ n → All (λ (key : Key). length key ≤ n) keys
 all-up-to n [] le = All-nil (λ (key : Key). length key ≤ n)
 all-up-to n (k ∷ keys) le = All-cons (λ (key : Key). length key ≤ n) k keys (omega (arith, le)) (all-up-to n keys (omega (arith, le)))
 
--- and one is as long
 pub longest-up-to : (n : ℕ) (keys : List Key) → All (λ (key : Key). length key ≤ n) keys → longest_of keys ≤ n
 longest-up-to n [] all = omega arith
 longest-up-to n (k ∷ keys) all =

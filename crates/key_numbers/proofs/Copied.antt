@@ -13,18 +13,15 @@ clash ks n m apart lt before stands =
     let same : m ≡ n = apart m n (omega (arith, before, lt)) lt (sym (get_or-take n ks m [] before) ∙ stands) in
     omega (arith, same, before)
 
--- each key is new after those before it
 pub is_new : (ks : List Key) (n : ℕ) → IsWithoutRepeats ks → n < length ks → is_known (take n ks) (key_at ks n) ≡ false
 is_new ks n apart lt =
     not_so (is_known (take n ks) (key_at ks n)) (λ h.
     let there = known (take n ks) (key_at ks n) h in
     clash ks n (id_of (take n ks) (key_at ks n)) apart lt (omega (arith, there.0, length-take n ks)) there.1)
 
--- the keys up to one, and that one
 pub next_copied : (ks : List Key) (n : ℕ) → IsWithoutRepeats ks → n < length ks → with_key (take n ks) (key_at ks n) ≡ take (n + 1) ks
 next_copied ks n apart lt = let new = is_new ks n apart lt in rw new (sym (take_more ks n [] lt))
 
--- what copies of some values look like, with the next one
 pub next_shown : {A B : Type 0} (f : A → B) (xs ys : List A) (i : ℕ) (x y : A) → i < length xs → x ≡ get_or xs i x → f y ≡ f x → map f ys ≡ take i (map f xs) → map f (ys ++ y ∷ []) ≡ take (i + 1) (map f xs)
 next_shown f xs ys i x y lt read same done =
     let long : i < length (map f xs) = omega (arith, length-map xs f, lt) in

@@ -24,7 +24,6 @@ dealt-none shard count keys = let none : List Key = [] in record { each = length
     empty-at (suc n) zero = refl
     empty-at (suc n) (suc s) = empty-at n s
 
--- one more key, in the row of its shard
 pub dealt-more : (shard : Key → ℕ) (count : ℕ) (keys : List Key) (i : ℕ) (rows : List (List Key)) (s : ℕ) → i < length keys → s ≡ shard (get_or keys i []) → s < count → AreRows shard count (take i keys) rows
     → AreRows shard count (take (i + 1) keys) (slice_set rows s (get_or rows s [] ++ get_or keys i [] ∷ []))
 dealt-more shard count keys i rows s lt at below so =
@@ -49,7 +48,6 @@ ids-stay ks (y ∷ ys) zs =
     let same = (stays (fold with_key (with_key ks y) ys) zs y there.0).1 in
     ap₂ (λ n ns. n ∷ ns) same (ids-stay (with_key ks y) ys zs)
 
--- the number of a record of a row, from the keys before it
 pub number-next : (ks row : List Key) (k : ℕ) → k < length row → id_of (with_keys ks row) (get_or row k []) ≡ id_of (with_keys ks (take k row)) (get_or row k [])
 number-next ks row k lt =
     let x = get_or row k [] in
@@ -59,7 +57,6 @@ number-next ks row k lt =
     ap (λ xs. id_of (with_keys ks xs) x) seam ∙ ap (λ ws. id_of ws x) (fold-append with_key ks (take k row) (x ∷ behind))
     ∙ (stays (with_key before x) behind x (own before x).0).1 ∙ (own before x).1
 
--- the keys of lists, split at one of them
 pub lists-more : (lists : List (Bor (List (Bor Key)))) (i : ℕ) (e : Bor (List (Bor Key))) → i < length lists → lent_lists (take (i + 1) lists) ≡ lent_lists (take i lists) ++ lent (get_or lists i e).now
 lists-more lists i e lt =
     let own : Bor (List (Bor Key)) → List Key = λ list. lent list.now in
@@ -71,7 +68,6 @@ lists-parted lists i e lt =
     let own : Bor (List (Bor Key)) → List Key = λ list. lent list.now in
     ap lent_lists (sym (take-append-drop (i + 1) lists)) ∙ flat_map-append own (take (i + 1) lists) (drop (i + 1) lists) ∙ ap (λ ks. ks ++ lent_lists (drop (i + 1) lists)) (lists-more lists i e lt)
 
--- the numbers in a shard, with those of a row
 pub row-numbered : (shard : Key → ℕ) (s : ℕ) (keys xs ys zs : List Key) (table : List Key) (locals : List ℕ) → keys ≡ (xs ++ ys) ++ zs → IsNumberedTo shard s keys xs table locals
     → let row = of_shard shard s ys in
     IsNumberedTo shard s keys (xs ++ ys) (with_keys table row) (locals ++ map (id_of (with_keys table row)) row)
@@ -98,7 +94,6 @@ row-room shard s keys xs ys zs table locals seam so =
     let p : Key → Bool = λ k. shard k == s in
     omega (arith, ap length so.keys_of, few-distinct (of_shard shard s xs), few-filtered p xs, few-filtered p ys, ap length seam, length-append (xs ++ ys) zs, length-append xs ys)
 
--- lists each scattered by a thread of its own
 pub found-dealt : (shard : Key → ℕ) (lists : List (Bor (List (Bor Key)))) (found : List (Result Dealt Memory)) (dealt : List Dealt) → found ≡ map Ok dealt → length found ≡ length lists
     → ((i : ℕ) (d : Result Dealt Memory) (e : Bor (List (Bor Key))) → i < length lists → IfOk (get_or found i d) (IsDealt shard (lent (get_or lists i e).now))) → AreDealt shard lists dealt
 found-dealt shard lists found dealt is as_many each =
@@ -107,7 +102,6 @@ found-dealt shard lists found dealt is as_many each =
       are = λ i d e lt. subst (λ r. IfOk r (IsDealt shard (lent (get_or lists i e).now))) (ap (λ rs. get_or rs i (Ok d)) is ∙ get_or-map Ok dealt i d (Ok d) (omega (arith, lt, long))) (each i (Ok d) e lt);
     }
 
--- the keys up to one are those up to another, and those between them
 pub take-parted : (keys : List Key) (from to : ℕ) → from ≤ to → to ≤ length keys → take to keys ≡ take from keys ++ slice_range keys from to
 take-parted keys from to ordered within =
     let own = slice_range keys from to in
@@ -117,10 +111,8 @@ take-parted keys from to ordered within =
     sym (take-append-drop from keys) ∙ ap (λ ks. take from keys ++ ks) (drop_split keys from to ordered) ∙ sym (append_assoc (take from keys) own (drop to keys)) in
     ap (take to) seam ∙ take_at (take from keys ++ own) (drop to keys) to long
 
--- the slices of keys, with one more
 pub more-pieces : (keys : List Key) (p : ℕ) → take (start_of (p + 1) keys) keys ≡ take (start_of p keys) keys ++ slice_range keys (start_of p keys) (start_of (p + 1) keys)
 more-pieces keys p = take-parted keys (start_of p keys) (start_of (p + 1) keys) (omega arith) (omega arith)
 
--- a slice of what a function gives
 pub piece-map : {X Y : Type 0} (f : X → Y) (xs : List X) (from to : ℕ) → map f (slice_range xs from to) ≡ slice_range (map f xs) from to
 piece-map f xs from to = sym (take-map f (to - from) (drop from xs)) ∙ ap (take (to - from)) (sym (drop-map f from xs))

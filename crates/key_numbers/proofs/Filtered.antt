@@ -9,7 +9,6 @@ use Rattle.std.proofs.lemmas.List.Elements.{filter-append}
 use Rattle.std.proofs.lemmas.Slice.Eq.{bytes_eq-Decides}
 use Rattle.key_numbers.specs.Keys.{Key, distinct, is_known, with_key}
 
--- a key that fails the filter differs from one that passes
 differs : (p : Key → Bool) (x y : Key) → p x ≡ true → p y ≡ false → bytes_eq x y ≡ false
 differs p x y px py = false_from_ne_true (bytes_eq x y) (λ e. both_ways (p x) (ap p ((bytes_eq-Decides x y).0 e) ∙ py) px)
 
@@ -29,7 +28,6 @@ kept-at false p ks x px =
     let one : filter p (x ∷ []) ≡ x ∷ [] = rw px refl in
     filter-append p ks (x ∷ []) ∙ ap (λ zs. filter p ks ++ zs) one
 
--- one more key that passes
 pub with_key-kept : (p : Key → Bool) (ks : List Key) (x : Key) → p x ≡ true → filter p (with_key ks x) ≡ with_key (filter p ks) x
 with_key-kept p ks x px =
     kept-at (is_known ks x) p ks x px ∙ ap (λ b. if b then filter p ks else filter p ks ++ x ∷ []) (sym (known-filter p x px ks))
@@ -40,7 +38,6 @@ dropped-at false p ks x px =
     let none : filter p (x ∷ []) ≡ [] = rw px refl in
     filter-append p ks (x ∷ []) ∙ ap (λ zs. filter p ks ++ zs) none ∙ append-nil (filter p ks)
 
--- one more key that does not
 pub with_key-dropped : (p : Key → Bool) (ks : List Key) (x : Key) → p x ≡ false → filter p (with_key ks x) ≡ filter p ks
 with_key-dropped p ks x px = dropped-at (is_known ks x) p ks x px
 

@@ -12,7 +12,6 @@ use Rattle.key_numbers.specs.Private.Sharded.{of_shard}
 use Rattle.key_numbers.proofs.Growth.{fresh, grows, known}
 use Rattle.key_numbers.proofs.Filtered.{filter-distinct, known-filter}
 
--- keys appended at the end do not affect an interned key
 pub known-append : (ks zs : List Key) (x : Key) → is_known ks x ≡ true → (is_known (ks ++ zs) x ≡ true) × (id_of (ks ++ zs) x ≡ id_of ks x)
 known-append [] zs x h = absurd (cc h)
 known-append (k ∷ ks) zs x h =
@@ -35,7 +34,6 @@ new-last (k ∷ ks) x h =
           rw e (there.0, ap (λ n. 1 + n) there.1)
     ]
 
--- an added key is interned, with the number that it had or got
 own-at : (b : Bool) (ks : List Key) (x : Key) → is_known ks x ≡ b → (let ws = if b then ks else ks ++ x ∷ [] in (is_known ws x ≡ true) × (id_of ws x ≡ id_of ks x))
 own-at true ks x e = (e, refl)
 own-at false ks x e = new-last ks x e
@@ -55,14 +53,12 @@ stays ks (z ∷ zs) x h =
     let later = stays (with_key ks z) zs x there.0 in
     (later.0, later.1 ∙ there.1)
 
--- the number of a key, from the keys before one of its records
 pub number-there : (xs ys : List Key) (x : Key) → id_of (distinct (xs ++ x ∷ ys)) x ≡ id_of (distinct xs) x
 unfolding distinct
 number-there xs ys x =
     let ks = distinct xs in
     ap (λ ws. id_of ws x) (fold-append with_key [] xs (x ∷ ys)) ∙ (stays (with_key ks x) ys x (own ks x).0).1 ∙ (own ks x).1
 
--- the key of a record is interned
 pub known-there : (xs ys : List Key) (x : Key) → is_known (distinct (xs ++ x ∷ ys)) x ≡ true
 unfolding distinct
 known-there xs ys x =
@@ -77,7 +73,6 @@ new_is_next ks x =
       | inr e ↦ (λ h. e, λ f. fresh ks x e)
     ]
 
--- the same in the key's shard, and for keys interned among all
 pub first_in_shard : (shard : Key → ℕ) (xs ys : List Key) (x : Key)
     → (id_of (distinct (of_shard shard (shard x) (xs ++ x ∷ ys))) x ≡ length (distinct (of_shard shard (shard x) xs))) ↔ (is_known (distinct xs) x ≡ false)
 first_in_shard shard xs ys x =
@@ -96,7 +91,6 @@ longer : (ks zs : List Key) → length ks ≤ length (fold with_key ks zs)
 longer ks [] = omega arith
 longer ks (z ∷ zs) = omega (arith, (grows ks z).longer, longer (with_key ks z) zs)
 
--- the keys of the first records are no more than all
 pub length-first : (xs ys : List Key) → length (distinct xs) ≤ length (distinct (xs ++ ys))
 unfolding distinct
 length-first xs ys =

@@ -44,7 +44,6 @@ locals-more shard keys locals n m more up h is =
       ];
     }
 
--- interned shards appended to others
 numbered-joined : {E : Type 0} (shard : Key → ℕ) (keys : List Key) (from m n : ℕ) (front back : List (Result NumberedShard E)) → length front ≡ m → AreNumberedFrom shard keys from m front
     → AreNumberedFrom shard keys (from + m) n back → AreNumberedFrom shard keys from (m + n) (front ++ back)
 numbered-joined {E} shard keys from m n front back long a b = λ k d lt.
@@ -56,7 +55,6 @@ numbered-joined {E} shard keys from m n front back long a b = λ k d lt.
           subst (IsShard (from + k)) (sym (get_or-append_right front back m k d long high)) (subst (λ s. IsShard s (get_or back (k - m) d)) at (b (k - m) d (omega (arith, high, lt))))
     ]
 
--- interned shards, with one more
 pub numbered-more : {E : Type 0} (shard : Key → ℕ) (keys : List Key) (from n : ℕ) (found : List (Result NumberedShard E)) (one : Result NumberedShard E) → length found ≡ n → AreNumberedFrom shard keys from n found
     → IfOk one (λ x. AreNumberedIn shard (from + n) keys x.table x.locals.items) → AreNumberedFrom shard keys from (n + 1) (found ++ one ∷ [])
 numbered-more {E} shard keys from n found one long before own = λ k d lt.
@@ -69,7 +67,6 @@ numbered-more {E} shard keys from n found one long before own = λ k d lt.
           subst (IsShard (from + k)) read (subst (λ i. IsShard (from + i) one) (sym long ∙ last) own)
     ]
 
--- the interned shards of groups, concatenated
 pub groups-numbered : {E : Type 0} (shard : Key → ℕ) (keys : List Key) (from : ℕ) (groups : List (Vec (Result NumberedShard E) Global))
     → ((g : ℕ) (d : Vec (Result NumberedShard E) Global) → g < length groups → (length (get_or groups g d).items ≡ OF_GROUP) × AreNumberedFrom shard keys (from + g * OF_GROUP) OF_GROUP (get_or groups g d).items)
     → (length (flat_map vec_items groups) ≡ length groups * OF_GROUP) × AreNumberedFrom shard keys from (length groups * OF_GROUP) (flat_map vec_items groups)
@@ -86,7 +83,6 @@ groups-numbered {E} shard keys from (x ∷ xs) h =
       subst (λ n. AreNumberedFrom shard keys from n (x.items ++ flat_map vec_items xs)) many (numbered-joined shard keys from OF_GROUP (length xs * OF_GROUP) x.items (flat_map vec_items xs) first.0 own rest.1),
     )
 
--- all groups, if memory was not refused
 pub all-groups : {E F : Type 0} (shard : Key → ℕ) (keys : List Key) (found : List (Result (Vec (Result NumberedShard E) Global) F)) (groups : List (Vec (Result NumberedShard E) Global)) → found ≡ map Ok groups → length found ≡ 8
     → ((g : ℕ) (d : Result (Vec (Result NumberedShard E) Global) F) → g < 8 → IfOk (get_or found g d) (λ group. (length group.items ≡ OF_GROUP) × AreNumberedFrom shard keys (g * OF_GROUP) OF_GROUP group.items))
     → (length (flat_map vec_items groups) ≡ SHARDS) × AreNumberedFrom shard keys 0 SHARDS (flat_map vec_items groups)

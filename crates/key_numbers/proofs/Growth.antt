@@ -18,7 +18,6 @@ known-at false x k ks e ih h =
     let there = ih h in
     rw next (omega (arith, there.0), there.1)
 
--- an interned key is at the index of its number
 pub known : (ks : List Key) (k : Key) → is_known ks k ≡ true → (id_of ks k < length ks) × (key_at ks (id_of ks k) ≡ k)
 known [] k h = absurd (cc h)
 known (x ∷ ks) k h = known-at (bytes_eq k x) x k ks refl (known ks k) h
@@ -27,7 +26,6 @@ fresh-at : (b : Bool) (n m : ℕ) (rest : Bool) → (rest ≡ false → n ≡ m)
 fresh-at true n m rest ih h = absurd (cc h)
 fresh-at false n m rest ih h = let same = ih h in omega (arith, same)
 
--- a new key gets the next number
 pub fresh : (ks : List Key) (k : Key) → is_known ks k ≡ false → id_of ks k ≡ length ks
 fresh [] k h = refl
 fresh (x ∷ ks) k h = fresh-at (bytes_eq k x) (id_of ks k) (length ks) (is_known ks k) (fresh ks k) h
@@ -36,7 +34,6 @@ or-right : (b rest : Bool) → rest ≡ true → (b || rest) ≡ true
 or-right true rest h = refl
 or-right false rest h = h
 
--- a key at some index is interned
 pub among : (ks : List Key) (k : Key) (n : ℕ) → n < length ks → key_at ks n ≡ k → is_known ks k ≡ true
 among [] k n lt e = absurd (omega arith)
 among (x ∷ ks) k zero lt e = let same : bytes_eq k x ≡ true = (bytes_eq-Decides k x).1 (sym e) in rw same refl
@@ -102,6 +99,5 @@ apart-at false ks k e apart = λ (m n : ℕ) (m_in : m < length (ks ++ k ∷ [])
           ]
     ]
 
--- the keys with one more are distinct
 pub stays_apart : (ks : List Key) (k : Key) → IsWithoutRepeats ks → IsWithoutRepeats (with_key ks k)
 stays_apart ks k apart = apart-at (is_known ks k) ks k refl apart

@@ -5,7 +5,6 @@ use Rattle.std.proofs.lemmas.Bool.{cases_eq}
 use Rattle.std.proofs.Math.Seq.{drop-cons}
 use Rattle.key_numbers.specs.Private.KeyHash.{with_product, with_products, word_from}
 
--- one more seed
 pub seed-more : (f : ℕ → ℕ) (seeds : List ℕ) (i seed : ℕ) → i < length seeds → seed ≡ f i → ((k : ℕ) → k < i → get_or seeds k 0 ≡ f k) → (k : ℕ) → k < i + 1 → get_or (slice_set seeds i seed) k 0 ≡ f k
 seed-more f seeds i seed lt is so = λ k below.
     elim (cases_eq k i) [
@@ -13,7 +12,6 @@ seed-more f seeds i seed lt is so = λ k below.
       | inr other ↦ get_or-set_other seeds i k seed 0 other ∙ so k (omega (arith, below, other))
     ]
 
--- one more word
 one_more_word : (key : List ℕ) (sum seed : ℕ) (seeds : List ℕ) (at : ℕ) → at + 4 ≤ length key → with_products sum (seed ∷ seeds) (drop at key) ≡ with_products (with_product sum seed (word_from key at)) seeds (drop (at + 4) key)
 one_more_word (a ∷ b ∷ c ∷ d ∷ rest) sum seed seeds zero le = refl
 one_more_word (x ∷ key) sum seed seeds (suc at) le =
@@ -27,7 +25,6 @@ one_more_word (a ∷ []) sum seed seeds zero le = absurd (omega arith)
 one_more_word (a ∷ b ∷ []) sum seed seeds zero le = absurd (omega arith)
 one_more_word (a ∷ b ∷ c ∷ []) sum seed seeds zero le = absurd (omega arith)
 
--- the same with the seed of the word's index
 pub next-product : (key seeds : List ℕ) (sum i : ℕ) → i < length seeds → 4 * i + 4 ≤ length key
     → with_products sum (drop i seeds) (drop (4 * i) key) ≡ with_products (with_product sum (get_or seeds i 0) (word_from key (4 * i))) (drop (i + 1) seeds) (drop (4 * (i + 1)) key)
 next-product key seeds sum i lt le =
@@ -38,7 +35,6 @@ next-product key seeds sum i lt le =
     ∙ ap (λ n. with_products (with_product sum (get_or seeds i 0) (word_from key (4 * i))) (drop n seeds) (drop (4 * i + 4) key)) next
     ∙ ap (λ n. with_products (with_product sum (get_or seeds i 0) (word_from key (4 * i))) (drop (i + 1) seeds) (drop n key)) four
 
--- what is no word takes one seed
 of_rest : (sum seed : ℕ) (seeds rest : List ℕ) → length rest < 4 → with_products sum (seed ∷ []) rest ≡ with_products sum (seed ∷ seeds) rest
 of_rest sum seed seeds [] lt = refl
 of_rest sum seed seeds (a ∷ []) lt = refl

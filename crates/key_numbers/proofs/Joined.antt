@@ -5,7 +5,6 @@ use Rattle.std.proofs.lemmas.Bool.{cases_Bool}
 use Rattle.key_numbers.specs.Keys.{Key, is_known, id_of, with_key}
 use Rattle.key_numbers.proofs.Firsts.{known-append}
 
--- a key that is not among the first ones
 pub behind : (ks zs : List Key) (x : Key) → is_known ks x ≡ false → (is_known (ks ++ zs) x ≡ is_known zs x) × (id_of (ks ++ zs) x ≡ length ks + id_of zs x)
 behind [] zs x h = (refl, omega arith)
 behind (k ∷ ks) zs x h =
@@ -17,7 +16,6 @@ behind (k ∷ ks) zs x h =
           rw e (there.0, omega (arith, there.1))
     ]
 
--- a new key is in neither list
 pub new-in-both : (ks zs : List Key) (x : Key) → is_known (ks ++ zs) x ≡ false → (is_known ks x ≡ false) × (is_known zs x ≡ false)
 new-in-both ks zs x h =
     elim (cases_Bool (is_known ks x)) [
@@ -25,13 +23,11 @@ new-in-both ks zs x h =
       | inr e ↦ (e, sym (behind ks zs x e).0 ∙ h)
     ]
 
--- a new key after the last ones
 pub added-behind : (ks zs : List Key) (x : Key) → is_known (ks ++ zs) x ≡ false → ks ++ with_key zs x ≡ with_key (ks ++ zs) x
 added-behind ks zs x h =
     let last : is_known zs x ≡ false = (new-in-both ks zs x h).1 in
     rw (h, last) (sym (append_assoc ks zs (x ∷ [])))
 
--- if there is no key at all, the second list is empty
 pub none-behind : (ks zs : List Key) → ks ++ zs ≡ [] → zs ≡ []
 none-behind [] zs e = e
 none-behind (k ∷ ks) zs e = absurd (cc e)

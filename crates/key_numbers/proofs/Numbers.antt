@@ -19,11 +19,9 @@ picked : (b : Bool) (n i : ℕ) → Some i ≡ cond b (Some n) None → i ≡ n
 picked true n i e = cc e
 picked false n i e = cc e
 
--- the first index that passes
 pub position-is : {X : Type 0} (p : X → Bool) (xs : List X) (i : ℕ) → Some i ≡ position p xs → i ≡ position_or_len p xs
 position-is p xs i e = picked (nat_lt (position_or_len p xs) (length xs)) (position_or_len p xs) i e
 
--- a list that one more element may have been added to, through a map
 pub added-map : {X Y : Type 0} (f : X → Y) (b : Bool) (xs : List X) (x : X) → map f (if b then xs else xs ++ x ∷ []) ≡ (if b then map f xs else map f xs ++ f x ∷ [])
 added-map f true xs x = refl
 added-map f false xs x = map-append f xs (x ∷ [])

@@ -16,12 +16,10 @@ pub ordered-none : (shard : Key → ℕ) (all : List Key) (count : ℕ) → AreO
 unfolding distinct
 ordered-none shard all count = record { named = refl; there = All-nil _ }
 
--- a record of an interned key changes nothing
 ordered-known : (shard : Key → ℕ) (all xs : List Key) (x : Key) (count : ℕ) (order : List KeyAt) → is_known (distinct xs) x ≡ true → AreOrdered shard all (distinct xs) count order
     → AreOrdered shard all (distinct (xs ++ x ∷ [])) count order
 ordered-known shard all xs x count order e h = subst (λ ks. AreOrdered shard all ks count order) (sym (more-known xs x e)) h
 
--- a new key is located at the number of its record
 ordered-new : (shard : Key → ℕ) (all xs ys : List Key) (x : Key) (count local : ℕ) (order : List KeyAt) → all ≡ xs ++ x ∷ ys → shard x < count
     → local ≡ id_of (distinct (of_shard shard (shard x) all)) x → is_known (distinct xs) x ≡ false → AreOrdered shard all (distinct xs) count order
     → AreOrdered shard all (distinct (xs ++ x ∷ [])) count (order ++ (record { shard = shard x; number = local }) ∷ [])
@@ -42,7 +40,6 @@ ordered-new shard all xs ys x count local order is lt at e h =
       there = All-append stands order (here ∷ []) h.there last;
     }
 
--- one more record
 ordered-one : (shard : Key → ℕ) (all xs ys : List Key) (x : Key) (ids : List (List ℕ)) (next local count : ℕ) (order : List KeyAt) → all ≡ xs ++ x ∷ ys → shard x < length ids → shard x < count
     → local ≡ id_of (distinct (of_shard shard (shard x) all)) x → IsWalked shard all xs ids next → AreOrdered shard all (distinct xs) count order
     → AreOrdered shard all (distinct (xs ++ x ∷ [])) count (with_first_at order (get_or ids (shard x) []) (shard x) local)
@@ -61,7 +58,6 @@ ordered-one shard all xs ys x ids next local count order is lt below at w h =
           rw test (ordered-new shard all xs ys x count local order is below at e h)
     ]
 
--- record i, of shard s and with this number there
 pub ordered-more : (shard : Key → ℕ) (keys : List Key) (i s local : ℕ) (ids : List (List ℕ)) (next count : ℕ) (order : List KeyAt) → i < length keys → s ≡ shard (get_or keys i [])
     → s < length ids → s < count → local ≡ id_of (distinct (of_shard shard s keys)) (get_or keys i []) → IsWalked shard keys (take i keys) ids next → AreOrdered shard keys (distinct (take i keys)) count order
     → AreOrdered shard keys (distinct (take (i + 1) keys)) count (with_first_at order (get_or ids s []) s local)

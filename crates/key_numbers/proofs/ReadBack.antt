@@ -28,7 +28,6 @@ read-record hasher keys shards locals ids i met h lt so =
       number = own.1;
     }
 
--- one more number
 pub from-more : (f : Key → ℕ) (keys : List Key) (from k : ℕ) (numbers : List ℕ) (number : ℕ) → AreFrom f keys from k numbers → k < length numbers → number ≡ f (get_or keys (from + k) [])
     → AreFrom f keys from (k + 1) (slice_set numbers k number)
 from-more f keys from k numbers number h lt is = λ j d below.

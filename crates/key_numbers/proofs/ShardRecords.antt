@@ -22,7 +22,6 @@ pub numbered-none : (shard : Key → ℕ) (s : ℕ) (keys : List Key) → IsNumb
 unfolding distinct
 numbered-none shard s keys = record { keys_of = refl; locals_of = refl }
 
--- the records of a shard, with one that is not of it
 pub shard-other : (shard : Key → ℕ) (s : ℕ) (keys : List Key) (i : ℕ) → i < length keys → shard (get_or keys i []) ≢ s → of_shard shard s (take (i + 1) keys) ≡ of_shard shard s (take i keys)
 shard-other shard s keys i lt ne =
     let test : (shard (get_or keys i []) == s) ≡ false = ne_eqb (shard (get_or keys i [])) s ne in
@@ -30,7 +29,6 @@ shard-other shard s keys i lt ne =
     ap (of_shard shard s) (take_more keys i [] lt) ∙ filter-append (λ k. shard k == s) (take i keys) (get_or keys i [] ∷ [])
     ∙ ap (λ ks. of_shard shard s (take i keys) ++ ks) none ∙ append-nil (of_shard shard s (take i keys))
 
--- the records of a shard, with one more of it
 pub shard-own : (shard : Key → ℕ) (s : ℕ) (keys : List Key) (i : ℕ) → i < length keys → shard (get_or keys i []) ≡ s → of_shard shard s (take (i + 1) keys) ≡ of_shard shard s (take i keys) ++ get_or keys i [] ∷ []
 shard-own shard s keys i lt is =
     let test : (shard (get_or keys i []) == s) ≡ true = eq-eqb (shard (get_or keys i [])) s is in
@@ -38,7 +36,6 @@ shard-own shard s keys i lt is =
     ap (of_shard shard s) (take_more keys i [] lt) ∙ filter-append (λ k. shard k == s) (take i keys) (get_or keys i [] ∷ [])
     ∙ ap (λ ks. of_shard shard s (take i keys) ++ ks) one
 
--- the records of a shard, split at one of them
 pub shard-parted : (shard : Key → ℕ) (s : ℕ) (keys : List Key) (i : ℕ) → i < length keys → shard (get_or keys i []) ≡ s
     → of_shard shard s keys ≡ of_shard shard s (take i keys) ++ get_or keys i [] ∷ of_shard shard s (drop (i + 1) keys)
 shard-parted shard s keys i lt is =
@@ -48,12 +45,10 @@ shard-parted shard s keys i lt is =
     ap (of_shard shard s) seam ∙ filter-append (λ k. shard k == s) (take i keys) (get_or keys i [] ∷ drop (i + 1) keys)
     ∙ ap (λ ks. of_shard shard s (take i keys) ++ ks) ends
 
--- no more keys are added than records
 pub few-added : (ks zs : List Key) → length (fold with_key ks zs) ≤ length ks + length zs
 few-added ks [] = omega arith
 few-added ks (z ∷ zs) = omega (arith, (grows ks z).by_one, few-added (with_key ks z) zs)
 
--- there are no more distinct keys than keys
 pub few-distinct : (keys : List Key) → length (distinct keys) ≤ length keys
 unfolding distinct
 few-distinct keys = let few = few-added [] keys in omega (arith, few)
@@ -111,20 +106,16 @@ passed-more shard count keys i met s lt at below so =
       ];
     }
 
--- no more records of a shard are seen than there are
 pub passed-few : (shard : Key → ℕ) (count : ℕ) (keys : List Key) (i : ℕ) (met : List ℕ) (s : ℕ) → s < count → i ≤ length keys → ArePassed shard count keys i met → get_or met s 0 ≤ i
 passed-few shard count keys i met s below le so =
     omega (arith, so.passed s below, few-filtered (λ k. shard k == s) (take i keys), length-take i keys, le)
 
--- each record has a shard
 pub shards-long : (shard : Key → ℕ) (keys : List Key) (shards : List ℕ) → shards ≡ map shard keys → length shards ≡ length keys
 shards-long shard keys shards are = ap length are ∙ length-map keys shard
 
--- the shard of record i
 pub shard-at : (shard : Key → ℕ) (keys : List Key) (shards : List ℕ) (i : ℕ) → shards ≡ map shard keys → i < length keys → get_or shards i 0 ≡ shard (get_or keys i [])
 shard-at shard keys shards i are lt = ap (λ ss. get_or ss i 0) are ∙ get_or-map shard keys i [] 0 lt
 
--- a shard is below the number of shards
 pub shard_of-below : (hasher : KeyHash) (key : Key) → shard_of hasher key < SHARDS
 unfolding shard_of
 shard_of-below hasher key = omega arith
@@ -135,14 +126,12 @@ shard-below hasher keys shards i are lt =
     let at = shard-at (shard_of hasher) keys shards i are lt in
     rw at below
 
--- a borrowed key
 pub lent-key : (keys : List (Bor (List ℕ))) (i : ℕ) (d : Bor (List ℕ)) → i < length keys → get_or (lent keys) i [] ≡ (get_or keys i d).now
 lent-key keys i d lt = get_or-map (λ (key : Bor (List ℕ)). key.now) keys i d [] lt
 
 pub lent-long : (keys : List (Bor (List ℕ))) → length (lent keys) ≡ length keys
 lent-long keys = length-map keys (λ (key : Bor (List ℕ)). key.now)
 
--- what a function of keys gives of borrowed keys
 pub lent-placed : (place : Key → ℕ) (keys : List (Bor (List ℕ))) → map (λ (key : Bor (List ℕ)). place key.now) keys ≡ map place (lent keys)
 lent-placed place [] = refl
 lent-placed place (key ∷ keys) = ap (λ ps. place key.now ∷ ps) (lent-placed place keys)

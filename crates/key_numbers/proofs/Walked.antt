@@ -29,7 +29,6 @@ more-known xs x e = one-more xs x ∙ ap (λ b. if b then distinct xs else disti
 pub more-new : (xs : List Key) (x : Key) → is_known (distinct xs) x ≡ false → distinct (xs ++ x ∷ []) ≡ distinct xs ++ x ∷ []
 more-new xs x e = one-more xs x ∙ ap (λ b. if b then distinct xs else distinct xs ++ x ∷ []) e
 
--- one more record of an interned key
 walked-known : (shard : Key → ℕ) (all xs : List Key) (x : Key) (globals : List (List ℕ)) (next : ℕ) → is_known (distinct xs) x ≡ true → IsWalked shard all xs globals next → IsWalked shard all (xs ++ x ∷ []) globals next
 walked-known shard all xs x globals next e w =
     let same = more-known xs x e in record {
@@ -37,7 +36,6 @@ walked-known shard all xs x globals next e w =
       numbers = λ s lt. w.numbers s lt ∙ ap (λ ks. map (id_of (distinct all)) (of_shard shard s ks)) (sym same);
     }
 
--- the first record of a key
 walked-new : (shard : Key → ℕ) (all xs ys : List Key) (x : Key) (globals : List (List ℕ)) (next : ℕ) → all ≡ xs ++ x ∷ ys → is_known (distinct xs) x ≡ false → shard x < length globals
     → IsWalked shard all xs globals next → IsWalked shard all (xs ++ x ∷ []) (slice_set globals (shard x) (get_or globals (shard x) [] ++ next ∷ [])) (next + 1)
 walked-new shard all xs ys x globals next is e lt w =
@@ -68,7 +66,6 @@ walked-new shard all xs ys x globals next is e lt w =
           ];
     }
 
--- one more record
 walked-one : (shard : Key → ℕ) (all xs ys : List Key) (x : Key) (globals : List (List ℕ)) (next local : ℕ) → all ≡ xs ++ x ∷ ys → shard x < length globals
     → local ≡ id_of (distinct (of_shard shard (shard x) all)) x → IsWalked shard all xs globals next
     → (let old = get_or globals (shard x) [] in IsWalked shard all (xs ++ x ∷ []) (slice_set globals (shard x) (with_first old local next)) (next_after old local next))
@@ -87,7 +84,6 @@ walked-one shard all xs ys x globals next local is lt at w =
           rw test (walked-new shard all xs ys x globals next is e lt w)
     ]
 
--- record i, of shard s and with this number there
 pub walked-more : (shard : Key → ℕ) (keys : List Key) (i s local : ℕ) (globals : List (List ℕ)) (next : ℕ) → i < length keys → s ≡ shard (get_or keys i []) → s < length globals
     → local ≡ id_of (distinct (of_shard shard s keys)) (get_or keys i []) → IsWalked shard keys (take i keys) globals next
     → (let old = get_or globals s [] in IsWalked shard keys (take (i + 1) keys) (slice_set globals s (with_first old local next)) (next_after old local next))
@@ -100,7 +96,6 @@ walked-more shard keys i s local globals next lt at below is w =
     (subst (λ xs. IsWalked shard keys xs (slice_set globals (shard x) (with_first (get_or globals (shard x) []) local next)) (next_after (get_or globals (shard x) []) local next))
     (sym (take_more keys i [] lt)) (walked-one shard keys (take i keys) (drop (i + 1) keys) x globals next local seam below_x is_x w))
 
--- before the first record
 pub walked-none : (shard : Key → ℕ) (keys : List Key) (n : ℕ) → IsWalked shard keys [] (replicate n []) 0
 unfolding distinct
 walked-none shard keys n = record {
@@ -113,13 +108,11 @@ walked-none shard keys n = record {
     empty-at (suc n) zero = refl
     empty-at (suc n) (suc s) = empty-at n s
 
--- after the last
 pub walked-all : (shard : Key → ℕ) (keys : List Key) (n : ℕ) (globals : List (List ℕ)) (next : ℕ) → length keys ≤ n → IsWalked shard keys (take n keys) globals next → AreGlobal shard keys globals
 walked-all shard keys n globals next le w = λ s lt.
     let whole : take n keys ≡ keys = take_all n keys le in
     w.numbers s lt ∙ ap (λ ks. map (id_of (distinct keys)) (of_shard shard s (distinct ks))) whole ∙ ap (map (id_of (distinct keys))) (filter-distinct (λ k. shard k == s) keys)
 
--- the key of record i is interned in its shard
 pub own-known : (shard : Key → ℕ) (keys : List Key) (i : ℕ) → i < length keys → is_known (distinct (of_shard shard (shard (get_or keys i [])) keys)) (get_or keys i []) ≡ true
 own-known shard keys i lt =
     let x = get_or keys i [] in

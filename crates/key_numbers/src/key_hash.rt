@@ -100,8 +100,7 @@ fn sip_hash_of(hasher: RandomState, key: &[u8]) -> u64
 }
 
 impl KeyHash {
-    /// A hash of keys with seeds drawn from this hasher: seed i is its hash of i. Long keys are
-    /// hashed by the hasher itself.
+    /// A hash of keys by this hasher: seed i is its hash of i, and long keys are hashed by it.
     pub fn of(hasher: RandomState) -> KeyHash
         ensures { IsDrawn hasher result }
     {

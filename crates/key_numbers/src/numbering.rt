@@ -28,8 +28,7 @@ pub struct NumberedKeys {
     pub numbers: Vec<u32>,
 }
 
-/// Interns keys in the order of their first appearance, with memory reserved for `room` distinct
-/// ones.
+/// Interns keys in order of first appearance, with memory reserved for `room` distinct ones.
 pub fn number_keys<R: Threads + Sync, T: Send + Drop, F: FnOnce() -> T + Send + Drop>(
     rt: &R,
     alloc: Global,
@@ -239,8 +238,7 @@ fn tables_of(
     Ok((tables, locals))
 }
 
-/// Takes one more record of a shard. If it is the first of its key, the key gets the next key
-/// number.
+/// Takes one more record of a shard. The first record of a key gives it the next key number.
 fn number_record(
     ids: &mut Vec<Vec<u32>>,
     order: &mut Vec<KeyAt>,

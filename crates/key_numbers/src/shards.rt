@@ -96,10 +96,8 @@ impl Shards {
         }
     }
 
-    /// Interns the keys of these lists, as `KeyIds::number_all` describes it.
-    ///
-    /// Each group of shards is interned in a thread of its own, or by the calling thread if none
-    /// can be started.
+    /// Interns the keys of these lists, as `KeyIds::number_all` describes it, each group of shards
+    /// in a thread of its own, or by the calling thread if none can be started.
     pub(crate) fn of<R: Threads + Sync, T: Send + Drop, F: FnOnce() -> T + Send + Drop>(
         rt: &R,
         alloc: Global,

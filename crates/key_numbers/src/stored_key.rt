@@ -11,8 +11,7 @@ ghost use Rattle.key_numbers.specs.Private.StoredKey.{IsCopyOf, bytes_of};
 use std::hash::{Hash, Hasher};
 use std::marker::Model;
 
-/// The longest key that is stored inline, in bytes. With its size and the variant tag it fills
-/// three words.
+/// The longest key stored inline, in bytes: it, its size and the variant tag fill three words.
 pub const LONGEST_INLINE: usize = 22;
 
 /// Where the bytes of a key are.

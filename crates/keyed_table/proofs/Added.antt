@@ -17,7 +17,6 @@ pub record AreAdded (ids blocks old cells : List ℕ) (start : ℕ) : Type 0 whe
   pub before : (x : ℕ) → (start < length blocks → x / 8 < get_or blocks start 0) → get_or cells x 0 ≡ get_or old x 0 + plain ids x
   pub rest : (x : ℕ) → start < length blocks → get_or blocks start 0 ≤ x / 8 → get_or cells x 0 ≡ get_or old x 0
 
--- nothing is added yet
 pub added-none : (ids blocks counts old : List ℕ) → AreBlocksOf ids blocks counts → AreAdded ids blocks old old 0
 added-none ids blocks counts old h = record {
   same = refl;
@@ -25,7 +24,6 @@ added-none ids blocks counts old h = record {
   rest = λ x lt le. refl;
 }
 
--- what the part of a list from an index on becomes, and the rest of it
 below-part : (from k : ℕ) (cells ys : List ℕ) (x : ℕ) → from ≤ length cells → x < from → get_or (put_mid from k cells ys) x 0 ≡ get_or cells x 0
 below-part from k cells ys x le lt =
     get_or_append_left (take from cells) (ys ++ drop k (drop from cells)) 0 x (omega (arith, length-take from cells)) ∙ get_or-take from cells x 0 lt
@@ -88,7 +86,6 @@ run-within ids blocks counts old start end h near some le have whole =
     let lt : found.0 < length old = have found.0 found.1 in
     omega (arith, last, found.2, lt, whole, some)
 
--- the sums of a run do not overflow
 pub run-fits : (ids blocks counts old cells : List ℕ) (start end from at k m : ℕ) → AreBlocksOf ids blocks counts → AreAdded ids blocks old cells start → AreNeighbours blocks start end → start < end → end ≤ length blocks → SumsFit old ids
     → from ≡ 8 * get_or blocks start 0 → at ≡ 8 * start → k ≡ 8 * (end - start) → m ≡ k
     → (i : ℕ) → get_or (take k (drop from cells)) i 0 + get_or (take m (drop at counts)) i 0 < 2 ^ 64
@@ -106,7 +103,6 @@ run-fits ids blocks counts old cells start end from at k m h added near some le 
           omega (arith, none, none')
     ]
 
--- a run of consecutive blocks is added
 pub added-run : (ids blocks counts old cells ys : List ℕ) (start end from at k m : ℕ) → AreBlocksOf ids blocks counts → AreAdded ids blocks old cells start → AreNeighbours blocks start end → start < end → end ≤ length blocks
     → from + k ≤ length cells → from ≡ 8 * get_or blocks start 0 → at ≡ 8 * start → k ≡ 8 * (end - start) → m ≡ k
     → ys ≡ zip2 (λ x y. x + y) (take k (drop from cells)) (take m (drop at counts))
@@ -159,7 +155,6 @@ added-run ids blocks counts old cells ys start end from at k m h added near some
           above-part from k cells ys x (omega (arith, within)) size above ∙ added.rest x start_in (omega (arith, above, from_is));
     }
 
--- at the end all blocks are added
 pub added-all : (ids blocks old cells : List ℕ) (start : ℕ) → AreAdded ids blocks old cells start → length blocks ≤ start → cells ≡ raised old ids
 unfolding raised
 added-all ids blocks old cells start added le =

@@ -8,7 +8,6 @@ use Rattle.keyed_table.specs.Counts.{HaveCounters, SumsFit, plain, raised, raise
 use Rattle.keyed_table.proofs.Elements.{plain-next-other, plain-next-own}
 use Rattle.keyed_table.proofs.Raised.{counter-raised, length-raised}
 
--- the first n numbers of a list occur no more often than all of them
 plain-take-le : (ids : List ℕ) (n x : ℕ) → plain (take n ids) x ≤ plain ids x
 plain-take-le ids zero x = omega arith
 plain-take-le [] (suc n) x = omega arith
@@ -21,27 +20,23 @@ pub record AreCountedTo (old ids cells : List ℕ) (at : ℕ) : Type 0 where
   pub same : length cells ≡ length old
   pub counts : (x : ℕ) → get_or cells x 0 ≡ get_or old x 0 + plain (take at ids) x
 
--- no number is counted
 pub counted-none : (old ids : List ℕ) → AreCountedTo old ids old 0
 counted-none old ids = record {
   same = refl;
   counts = λ x. let none : plain (take 0 ids) x ≡ 0 = refl in omega (arith, none);
 }
 
--- the next number has a counter
 pub next-within : (old ids cells : List ℕ) (at : ℕ) → HaveCounters old ids → AreCountedTo old ids cells at → at < length ids → get_or ids at 0 < length cells
 next-within old ids cells at have h lt =
     let id = get_or ids at 0 in
     let some : 0 < plain ids id = omega (arith, plain-next-own ids at lt, plain-take-le ids (at + 1) id) in
     omega (arith, have id some, h.same)
 
--- its counter does not overflow
 pub next-fits : (old ids cells : List ℕ) (at : ℕ) → SumsFit old ids → AreCountedTo old ids cells at → at < length ids → get_or cells (get_or ids at 0) 0 + 1 < 2 ^ 64
 next-fits old ids cells at fit h lt =
     let id = get_or ids at 0 in
     omega (arith, h.counts id, plain-next-own ids at lt, plain-take-le ids (at + 1) id, fit id)
 
--- the next number is counted
 pub counted-more : (old ids cells : List ℕ) (at : ℕ) → HaveCounters old ids → AreCountedTo old ids cells at → at < length ids
     → AreCountedTo old ids (set cells (get_or ids at 0) (get_or cells (get_or ids at 0) 0 + 1)) (at + 1)
 counted-more old ids cells at have h lt =
@@ -55,7 +50,6 @@ counted-more old ids cells at have h lt =
       ];
     }
 
--- all numbers are counted
 pub counted-all : (old ids cells : List ℕ) (at : ℕ) → AreCountedTo old ids cells at → length ids ≤ at → cells ≡ raised old ids
 unfolding raised
 counted-all old ids cells at h le =

@@ -9,7 +9,6 @@ use Rattle.std.proofs.lemmas.List.Sums.{sum_by-cons}
 use Rattle.std.specs.List.Sorted.{IsPermutation}
 use Rattle.keyed_table.specs.Counts.{plain}
 
--- a number that is in a list is at some index
 pub stands-somewhere : (ids : List ℕ) (x : ℕ) → 0 < plain ids x → (i : ℕ) × (i < length ids) × (get_or ids i 0 ≡ x)
 stands-somewhere [] x more = absurd (omega (arith, more))
 stands-somewhere (id ∷ ids) x more =
@@ -20,7 +19,6 @@ stands-somewhere (id ∷ ids) x more =
           (suc rest.0, omega (arith, rest.1), rest.2)
     ]
 
--- each number of a list is below a bound, so a number from the bound on is not in it
 pub none-past : (ids : List ℕ) (bound x : ℕ) → ((i : ℕ) → i < length ids → get_or ids i 0 < bound) → bound ≤ x → plain ids x ≡ 0
 none-past [] bound x below le = refl
 none-past (id ∷ ids) bound x below le =
@@ -29,12 +27,10 @@ none-past (id ∷ ids) bound x below le =
       | inr f ↦ sum_by-cons (λ y. cond (x == y) 1 0) id ids ∙ ap (λ b. cond b 1 0 + plain ids x) f.0 ∙ omega (arith, none-past ids bound x (λ i lt. below (suc i) (omega (arith, lt))) le)
     ]
 
--- one more number
 pub plain-push : (ids : List ℕ) (y x : ℕ) → plain (ids ++ y ∷ []) x ≡ plain ids x + cond (x == y) 1 0
 plain-push [] y x = grind (arith, common_steps)
 plain-push (i ∷ ids) y x = let ih = plain-push ids y x in grind (arith, common_steps)
 
--- the next number of a list, counted
 pub plain-next : (ids : List ℕ) (n x : ℕ) → n < length ids → plain (take (n + 1) ids) x ≡ plain (take n ids) x + cond (x == get_or ids n 0) 1 0
 plain-next ids n x lt = ap (λ ys. plain ys x) (take_more ids n 0 lt) ∙ plain-push (take n ids) (get_or ids n 0) x
 
@@ -50,7 +46,6 @@ is_other x y ne = elim (eqb_tells x y) [
   | inr f ↦ f.0
 ]
 
--- the next number occurs once more, and every other as often as before
 pub plain-next-own : (ids : List ℕ) (n : ℕ) → n < length ids → plain (take (n + 1) ids) (get_or ids n 0) ≡ plain (take n ids) (get_or ids n 0) + 1
 plain-next-own ids n lt = plain-next ids n (get_or ids n 0) lt ∙ ap (λ b. plain (take n ids) (get_or ids n 0) + cond b 1 0) (is_self (get_or ids n 0))
 

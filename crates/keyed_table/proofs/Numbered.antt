@@ -62,7 +62,6 @@ pub record AreCountedRuns (ids numbers counts : List ℕ) (start at : ℕ) : Typ
   pub below : at < length ids → (j : ℕ) → j < start → get_or ids j 0 < get_or ids at 0
   pub ended : at ≡ length ids → start ≡ at
 
--- a finished run is counted
 pub run-ends : (ids numbers counts : List ℕ) (start at : ℕ) → IsNonDecreasing ids → at < length ids → AreCountedRuns ids numbers counts start at
     → (at + 1 < length ids → get_or ids (at + 1) 0 ≢ get_or ids at 0)
     → AreCountedRuns ids (numbers ++ get_or ids at 0 ∷ []) (counts ++ (at + 1 - start) ∷ []) (at + 1) (at + 1)
@@ -81,7 +80,6 @@ run-ends ids numbers counts start at rising lt h ends = record {
   ended = λ e. refl;
 }
 
--- a run goes on
 pub run-goes-on : (ids numbers counts : List ℕ) (start at : ℕ) → AreCountedRuns ids numbers counts start at → at + 1 < length ids → get_or ids (at + 1) 0 ≡ get_or ids at 0 → AreCountedRuns ids numbers counts start (at + 1)
 run-goes-on ids numbers counts start at h lt same = record {
   so_far = h.so_far;
@@ -116,7 +114,6 @@ pub record AreAddedOnes (ids numbers old cells : List ℕ) (at : ℕ) : Type 0 w
   pub before : (x : ℕ) → (at < length numbers → x < get_or numbers at 0) → get_or cells x 0 ≡ get_or old x 0 + plain ids x
   pub rest : (x : ℕ) → at < length numbers → get_or numbers at 0 ≤ x → get_or cells x 0 ≡ get_or old x 0
 
--- nothing is added yet
 pub ones-none : (ids numbers counts old : List ℕ) → AreCountsOf ids numbers counts → AreAddedOnes ids numbers old old 0
 ones-none ids numbers counts old h = record {
   same = refl;
@@ -124,11 +121,9 @@ ones-none ids numbers counts old h = record {
   rest = λ x lt le. refl;
 }
 
--- each number has a counter
 pub one-within : (ids numbers counts old : List ℕ) (at : ℕ) → AreCountsOf ids numbers counts → at < length numbers → HaveCounters old ids → get_or numbers at 0 < length old
 one-within ids numbers counts old at h lt have = have (get_or numbers at 0) (h.there at lt)
 
--- the number at the index is added
 pub one-more : (ids numbers counts old cells : List ℕ) (at : ℕ) → AreCountsOf ids numbers counts → AreAddedOnes ids numbers old cells at → at < length numbers → HaveCounters old ids
     → AreAddedOnes ids numbers old (set cells (get_or numbers at 0) (get_or cells (get_or numbers at 0) 0 + get_or counts at 0)) (at + 1)
 one-more ids numbers counts old cells at h added lt have =
@@ -154,7 +149,6 @@ one-more ids numbers counts old cells at h added lt have =
           get_or-set_other cells own x sum 0 (λ e. omega (arith, step, past, e)) ∙ added.rest x lt (omega (arith, step, past));
     }
 
--- at the end all numbers are added
 pub ones-all : (ids numbers old cells : List ℕ) (at : ℕ) → AreAddedOnes ids numbers old cells at → length numbers ≤ at → cells ≡ raised old ids
 unfolding raised
 ones-all ids numbers old cells at added le =
@@ -168,7 +162,6 @@ ones-all ids numbers old cells at added le =
 counts-alike : (ids numbers same counts alike : List ℕ) → numbers ≡ same → counts ≡ alike → AreCountsOf ids numbers counts → AreCountsOf ids same alike
 counts-alike ids numbers same counts alike e f h = rw (← e, ← f) h
 
--- its first numbers, each once
 rising-below : (ids : List ℕ) → IsStrictlyIncreasing ids → (n : ℕ) → n ≤ length ids → AreCountsOf (take n ids) (take n ids) (replicate n 1)
 rising-below ids rise zero le = record {
   whole = refl;
@@ -184,7 +177,6 @@ rising-below ids rise (suc n) le =
     let more = run-counted ids (take n ids) (replicate n 1) n 1 (get_or ids n 0) (n + 1) refl (omega (arith, lt)) (omega arith) last (λ j before. below_later ids rise j n before lt) (rising-below ids rise n (omega (arith, le))) in
     subst (λ m. AreCountsOf (take m ids) (take m ids) (replicate m 1)) (sym e) (counts-alike (take (n + 1) ids) (take n ids ++ get_or ids n 0 ∷ []) (take (n + 1) ids) (replicate n 1 ++ 1 ∷ []) (replicate (n + 1) 1) (sym (take_more ids n 0 lt)) (replicate_more n 1) more)
 
--- each of its numbers is in it once
 pub rising-counts : (ids : List ℕ) → IsStrictlyIncreasing ids → AreCountsOf ids ids (replicate (length ids) 1)
 rising-counts ids rise = rw (take_all (length ids) ids (omega arith)) at (rising-below ids rise (length ids) (omega arith))
 

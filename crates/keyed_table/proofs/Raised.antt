@@ -55,7 +55,6 @@ take-raised start zero cells ids = refl
 take-raised start (suc keys) [] ids = refl
 take-raised start (suc keys) (n ∷ cells) ids = ap (λ rest. (n + plain ids start) ∷ rest) (take-raised (start + 1) keys cells ids)
 
--- the keys' counters are raised, and the capacity is the same
 pub merged-view : (keys : ℕ) (cells now ids : List ℕ) → now ≡ raised cells ids → table_view keys now ≡ record { counts = raised (take keys cells) ids; room = length cells - keys }
 unfolding raised
 merged-view keys cells now ids is =

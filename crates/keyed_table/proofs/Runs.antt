@@ -7,7 +7,6 @@ use Rattle.std.proofs.lemmas.List.{length-take}
 use Rattle.keyed_table.specs.Counts.{plain}
 use Rattle.keyed_table.proofs.Elements.{none-past, plain-next}
 
--- a run of n equal numbers
 pub run-same : (ids : List ℕ) (start n v : ℕ) → start + n ≤ length ids → ((j : ℕ) → start ≤ j → j < start + n → get_or ids j 0 ≡ v) → plain (take (start + n) ids) v ≡ plain (take start ids) v + n
 run-same ids start zero v le all = let e : start + 0 ≡ start = omega arith in rw e (omega arith)
 run-same ids start (suc n) v le all =
@@ -41,7 +40,6 @@ all_equal ids start at j run from to =
       | inr le ↦ let e : j ≡ at = omega (arith, to, le) in ap (λ i. get_or ids i 0) e
     ]
 
--- a number larger than all before start is not among them
 pub none-before : (ids : List ℕ) (start v : ℕ) → start ≤ length ids → ((j : ℕ) → j < start → get_or ids j 0 < v) → plain (take start ids) v ≡ 0
 none-before ids start v le below =
     none-past (take start ids) v v

@@ -15,7 +15,6 @@ tally-fits ids tallies at h =
     let id = get_or ids at 0 in
     omega (arith, h id, count_by-le-length (λ y. id == y) (take at ids), length-take at ids)
 
--- below the first block there is none
 pub none-below : (ids : List ℕ) → AreBlocksBelow 0 ids [] []
 none-below ids = record {
   whole = refl;
@@ -26,7 +25,6 @@ none-below ids = record {
   others = λ x lt none. absurd (omega (arith, lt));
 }
 
--- below a bound of all numbers there are all blocks
 pub all-below : (b : ℕ) (ids blocks counts : List ℕ) → AreWithin b ids → AreBlocksBelow b ids blocks counts → AreBlocksOf ids blocks counts
 all-below b ids blocks counts within h = record {
   have = record {
@@ -46,18 +44,15 @@ pub record IsPart (b : ℕ) (tallies part : List ℕ) : Type 0 where
   pub eight : length part ≡ 8
   pub same : (k : ℕ) → k < 8 → get_or part k 0 ≡ get_or tallies (8 * b + k) 0
 
--- eight counters from 8 * b on
 pub part-of : (b n : ℕ) (tallies : List ℕ) → n ≡ 8 → 8 * b + 8 ≤ length tallies → IsPart b tallies (take n (drop (8 * b) tallies))
 part-of b n tallies e le = record {
   eight = omega (arith, e, le, length-take n (drop (8 * b) tallies), length-drop (8 * b) tallies);
   same = λ k small. get_or-take n (drop (8 * b) tallies) k 0 (omega (arith, e, small)) ∙ get_or-drop (8 * b) tallies k 0;
 }
 
--- what a part counts
 part-counts : (b : ℕ) (ids tallies part : List ℕ) → AreTallies ids tallies → IsPart b tallies part → (k : ℕ) → k < 8 → get_or part k 0 ≡ plain ids (8 * b + k)
 part-counts b ids tallies part all is k small = is.same k small ∙ all (8 * b + k)
 
--- a block of zeros is skipped
 pub passed-over : (b : ℕ) (ids tallies part blocks counts : List ℕ) → IsPart b tallies part → ((i : ℕ) → get_or part i 0 ≡ 0) → AreTallies ids tallies
     → AreBlocksBelow b ids blocks counts → AreBlocksBelow (b + 1) ids blocks counts
 passed-over b ids tallies part blocks counts is zeros all h = record {
@@ -75,7 +70,6 @@ passed-over b ids tallies part blocks counts is zeros all h = record {
   ];
 }
 
--- a block with a nonzero counter is added
 pub taken-over : (b i : ℕ) (ids tallies part blocks counts : List ℕ) → IsPart b tallies part → i < 8 → 0 < get_or part i 0 → AreTallies ids tallies
     → AreBlocksBelow b ids blocks counts → AreBlocksBelow (b + 1) ids (blocks ++ b ∷ []) (counts ++ part)
 taken-over b i ids tallies part blocks counts is in_block some all h =

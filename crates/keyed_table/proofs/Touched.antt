@@ -5,7 +5,6 @@ use Rattle.std.specs.List.Sorted.{IsStrictlyIncreasing}
 use Rattle.keyed_table.specs.Counts.{plain}
 use Rattle.keyed_table.specs.Private.Blocks.{HaveCounts}
 
--- the counter of a number in its block
 pub count-in-block : (ids blocks counts : List ℕ) (j x : ℕ) → HaveCounts ids blocks counts → j < length blocks → get_or blocks j 0 ≡ x / 8 → get_or counts (8 * j + x % 8) 0 ≡ plain ids x
 count-in-block ids blocks counts j x h lt same = h.counted j (x % 8) lt (omega arith) ∙ ap (plain ids) (omega (arith, same))
 
@@ -17,7 +16,6 @@ none-counted ids blocks counts i x h below above =
       | inr past ↦ absurd (omega (arith, above j past lt, same))
     ]))
 
--- each number is below all later ones
 pub below_later : (numbers : List ℕ) → IsStrictlyIncreasing numbers → (i j : ℕ) → i < j → j < length numbers → get_or numbers i 0 < get_or numbers j 0
 below_later numbers rise i zero less lt = absurd (omega (arith, less))
 below_later numbers rise i (suc j) less lt =

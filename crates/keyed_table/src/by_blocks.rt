@@ -11,8 +11,6 @@ use std::alloc::Global;
 use std::marker::Model;
 
 /// A list of key numbers and how often each number is in it, in blocks of eight.
-///
-/// The counts are always those of the list, for any list.
 #[derive(Debug, Drop)]
 pub struct ByBlocks {
     /// The list, in its own order.
@@ -61,8 +59,7 @@ impl ByBlocks {
         }
     }
 
-    /// Adds to each counter how often its number is in the list. The counters are indexed by number
-    /// and fill whole blocks.
+    /// Adds to each counter how often its number is in the list. The counters fill whole blocks.
     pub fn add_to(&self, cells: &mut [u64])
         requires whole { length cells.old % 8 ≡ 0 }
         requires numbers { HaveCounters cells.old self.now }

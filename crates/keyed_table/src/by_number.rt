@@ -10,8 +10,6 @@ use std::alloc::Global;
 use std::marker::Model;
 
 /// A list of key numbers, and its distinct numbers with how often each is in it.
-///
-/// The counts are always those of the list, for any list.
 #[derive(Debug, Drop)]
 pub struct ByNumber {
     /// The list, in its own order.

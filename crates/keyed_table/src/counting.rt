@@ -3,8 +3,7 @@
 ghost use Rattle.std.specs.Prelude.{◌≡◌};
 ghost use Rattle.keyed_table.specs.Counts.{HaveCounters, SumsFit, raised};
 
-/// Raises the counter of each number by how often the number occurs in the list. The counters are
-/// indexed by number.
+/// Raises each counter, by number, by how often its number occurs in the list.
 pub fn add_each(cells: &mut [u64], ids: &[u32])
     requires numbers { HaveCounters cells.old ids.now }
     requires fit { SumsFit cells.old ids.now }

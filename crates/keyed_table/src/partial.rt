@@ -23,8 +23,6 @@ enum Counted {
 }
 
 /// A list of key numbers and how often each number is in it.
-///
-/// The counts are always those of the list, for any list.
 #[derive(Debug, Drop)]
 pub struct Partial {
     counted: Counted,
@@ -77,8 +75,7 @@ impl Partial {
         }
     }
 
-    /// Adds to each counter how often its number is in the list. The counters are indexed by number
-    /// and fill whole blocks.
+    /// Adds to each counter how often its number is in the list. The counters fill whole blocks.
     pub(crate) fn add_to(&self, cells: &mut [u64])
         requires whole { length cells.old % 8 ≡ 0 }
         requires numbers { HaveCounters cells.old self.now }

@@ -44,8 +44,7 @@ impl Table {
         }
     }
 
-    /// A table with a counter at zero for each of `keys` key numbers. Fails only if memory runs
-    /// out.
+    /// A table with `keys` counters, all of them zero. Fails only if memory runs out.
     pub fn zeros(alloc: Global, keys: u32) -> Result<Table, Memory>
         ensures { IfOk result (λ table. table.counts ≡ replicate keys 0) }
     {
@@ -54,8 +53,7 @@ impl Table {
         Ok(Table { keys, cells })
     }
 
-    /// Reserves capacity for at least one more counter. Fails if memory runs out, and then leaves
-    /// the counters unchanged.
+    /// Reserves capacity for at least one more counter. Fails if memory runs out, changing nothing.
     pub fn reserve(&mut self) -> Result<(), Memory>
         ensures counts { self.new.counts ≡ self.old.counts }
         ensures room { OnOk result (1 ≤ self.new.room) }
@@ -67,8 +65,7 @@ impl Table {
         Ok(())
     }
 
-    /// Adds a counter at zero for the next key number, within the reserved capacity. It allocates
-    /// nothing.
+    /// Adds a counter at zero for the next key number, in reserved capacity. It allocates nothing.
     pub fn add_key(&mut self)
         requires { 1 ≤ self.old.room }
         ensures { self.new ≡ record
@@ -77,8 +74,7 @@ impl Table {
         self.keys += 1;
     }
 
-    /// Adds how often each number occurs in the list of a partial count to its counter. It
-    /// allocates nothing.
+    /// Adds to each counter how often its number is in the counted list. It allocates nothing.
     pub fn merge(&mut self, partial: &Partial)
         requires numbers { HaveCounters self.old.counts partial.now }
         requires fit { SumsFit self.old.counts partial.now }

@@ -1,5 +1,4 @@
--- The loops of the kernels: a step over eight pairs of words, a step over one pair, and the call
--- for the rest.
+-- The loops of the kernels: steps over eight pairs of words and over one, and the rest.
 use Rattle.std.proofs.Common.{ℕ, ◌≡◌, ◌+◌, ◌-◌, ◌%◌, ◌^◌, ◌<◌, ◌≤◌, ◌==◌, Bool, true, false, not, ◌||◌, List, [], ◌∷◌, ◌++◌, length, drop, take, refl, arith, zero, suc, ap, sym, ◌∙◌, get_or, map, bit_and, bit_or, bit_xor, length-drop, append-nil, inl, inr}
 use Rattle.std.proofs.Math.ListN.{set}
 use Rattle.std.specs.Prelude.{IsTrue, ◌↔◌}
@@ -26,7 +25,6 @@ put_first f (suc n) [] b len le = absurd (omega arith)
 put_first f (suc n) (x ∷ old) [] len le = absurd (omega arith)
 put_first f (suc n) (x ∷ old) (y ∷ b) len le = ap (λ r. f x y ∷ r) (put_first f n old b (omega arith) (omega arith))
 
--- n more words
 pub words_more : (f : ℕ → ℕ → ℕ) (n at : ℕ) (old b : List ℕ) → length old ≡ length b → at + n ≤ length old → put_chunk at (done f at old b) (zip2 f (chunk at n (done f at old b)) (chunk at n b)) ≡ done f (at + n) old b
 words_more f n zero old b len le = let e : 0 + n ≡ n = omega arith in rw e (put_first f n old b len (omega arith))
 words_more f n (suc at) [] b len le = absurd (omega arith)
@@ -35,7 +33,6 @@ words_more f n (suc at) (x ∷ old) (y ∷ b) len le =
     let e : suc at + n ≡ suc (at + n) = omega arith in
     rw e (ap (λ r. f x y ∷ r) (words_more f n at old b (omega arith) (omega arith)))
 
--- one more word
 pub one_more : (f : ℕ → ℕ → ℕ) (at : ℕ) (old b : List ℕ) → length old ≡ length b → at < length old → set (done f at old b) at (f (get_or (done f at old b) at 0) (get_or b at 0)) ≡ done f (at + 1) old b
 one_more f zero [] b len lt = absurd (omega arith)
 one_more f zero (x ∷ old) [] len lt = absurd (omega arith)
@@ -52,20 +49,17 @@ length_done f (suc at) [] b len = refl
 length_done f (suc at) (x ∷ old) [] len = absurd (omega arith)
 length_done f (suc at) (x ∷ old) (y ∷ b) len = ap (λ n. suc n) (length_done f at old b (omega arith))
 
--- the words from at on
 pub rest_done : (f : ℕ → ℕ → ℕ) (at : ℕ) (old b : List ℕ) → length old ≡ length b → at ≤ length old → take at (done f at old b) ++ zip2 f (drop at (done f at old b)) (drop at b) ≡ zip2 f old b
 rest_done f zero old b len le = refl
 rest_done f (suc at) [] b len le = absurd (omega arith)
 rest_done f (suc at) (x ∷ old) [] len le = absurd (omega arith)
 rest_done f (suc at) (x ∷ old) (y ∷ b) len le = ap (λ r. f x y ∷ r) (rest_done f at old b (omega arith) (omega arith))
 
--- a complement, lane by lane
 pub zip2_not : (xs ys : List ℕ) → zip2 bit_and xs (map (λ y. 18446744073709551615 - y) ys) ≡ zip2 and_not xs ys
 zip2_not [] ys = refl
 zip2_not (x ∷ xs) [] = refl
 zip2_not (x ∷ xs) (y ∷ ys) = ap (λ r. and_not x y ∷ r) (zip2_not xs ys)
 
--- the result of a call on the words from at on
 pub rest_put : (f : ℕ → ℕ → ℕ) (at : ℕ) (now old b ys : List ℕ) → length old ≡ length b → at ≤ length old → now ≡ done f at old b → ys ≡ zip2 f (take (length now - at) (drop at now)) (take (length b - at) (drop at b)) → put_mid at (length now - at) now ys ≡ zip2 f old b
 rest_put f at now old b ys len le e y =
     let long : length now ≡ length old = ap length e ∙ length_done f at old b len in
@@ -134,7 +128,6 @@ length-pairs f at n a b len le =
     let theirs = length-chunk at n b (omega arith) in
     length-zip2 f (chunk at n a) (chunk at n b) (mine ∙ sym theirs) ∙ mine
 
--- n more pairs, in lanes
 pub set_more : (f : ℕ → ℕ → ℕ) (n at : ℕ) (found a b : List ℕ) → length a ≡ length b → at + n ≤ length a → length found ≡ n → any_set found ≡ set_below f at a b → any_set (zip2 bit_or found (zip2 f (chunk at n a) (chunk at n b))) ≡ set_below f (at + n) a b
 set_more f n at found a b len le lanes e =
     let pairs = length-pairs f at n a b len le in
@@ -151,17 +144,14 @@ or_none : (x : Bool) → (x || false) ≡ x
 or_none true = refl
 or_none false = refl
 
--- one more pair
 pub set_one : (f : ℕ → ℕ → ℕ) (at found : ℕ) (a b : List ℕ) → length a ≡ length b → at < length a → is_set found ≡ set_below f at a b → is_set (bit_or found (f (get_or a at 0) (get_or b at 0))) ≡ set_below f (at + 1) a b
 set_one f at found a b len lt e =
     is_set-or found (f (get_or a at 0) (get_or b at 0))
     ∙ rw (e, zip2-split f at 1 a b len, chunk-one at a lt, chunk-one at b (omega arith)) (ap (λ x. set_below f at a b || x) (sym (or_none (is_set (f (get_or a at 0) (get_or b at 0))))) ∙ sym (any_set-append (zip2 f (take at a) (take at b)) (f (get_or a at 0) (get_or b at 0) ∷ [])))
 
--- all pairs
 pub set_all : (f : ℕ → ℕ → ℕ) (at : ℕ) (a b : List ℕ) → length a ≡ length b → length a ≤ at → set_below f at a b ≡ any_set (zip2 f a b)
 set_all f at a b len le = rw (take_all at a le, take_all at b (omega arith)) refl
 
--- the lanes as one word
 pub set_fold : (x : ℕ) (xs : List ℕ) → is_set (fold_l bit_or x xs) ≡ (is_set x || any_set xs)
 set_fold x [] = sym (or_none (is_set x))
 set_fold x (y ∷ xs) = set_fold (bit_or x y) xs ∙ rw (is_set-or x y) (or_swap (is_set x) (is_set y) (any_set xs))
@@ -176,7 +166,6 @@ told_none x = twice (x == 0)
 pub rests : (at : ℕ) (a b : List ℕ) → length a ≡ length b → length (take (length a - at) (drop at a)) ≡ length (take (length b - at) (drop at b))
 rests at a b len = omega (arith, length-drop at a, length-drop at b, length-take (length a - at) (drop at a), length-take (length b - at) (drop at b))
 
--- the pairs before at, and those from there on
 pub set_rest : (f : ℕ → ℕ → ℕ) (at : ℕ) (a b : List ℕ) → length a ≡ length b → at ≤ length a → (set_below f at a b || any_set (zip2 f (take (length a - at) (drop at a)) (take (length b - at) (drop at b)))) ≡ any_set (zip2 f a b)
 set_rest f at a b len le =
     let same : length b - at ≡ length a - at = omega arith in
@@ -187,7 +176,6 @@ set_rest f at a b len le =
 pub lanes_more : (f : ℕ → ℕ → ℕ) (n at : ℕ) (found a b : List ℕ) → length a ≡ length b → at + n ≤ length a → length found ≡ n → length (zip2 bit_or found (zip2 f (chunk at n a) (chunk at n b))) ≡ n
 lanes_more f n at found a b len le lanes = length-zip2 bit_or found (zip2 f (chunk at n a) (chunk at n b)) (lanes ∙ sym (length-pairs f at n a b len le)) ∙ lanes
 
--- what the lanes say before the rest is looked at
 pub lanes_found : (f : ℕ → ℕ → ℕ) (at : ℕ) (found a b : List ℕ) → length a ≡ length b → at ≤ length a → any_set found ≡ set_below f at a b → is_set (fold_l bit_or 0 found) ≡ true → any_set (zip2 f a b) ≡ true
 lanes_found f at found a b len le e h = sym (set_rest f at a b len le) ∙ rw (← e, ← set_fold 0 found, h) refl
 
@@ -246,14 +234,12 @@ get_or-take-le (suc n) [] i = omega arith
 get_or-take-le (suc n) (x ∷ xs) zero = omega arith
 get_or-take-le (suc n) (x ∷ xs) (suc i) = get_or-take-le n xs i
 
--- the words from at on are unchanged
 pub rest_fits : (n m at : ℕ) (old b : List ℕ) → length old ≡ length b → at ≤ length old → Fit old b → Fit (take n (drop at (done (λ x y. x + y) at old b))) (take m (drop at b))
 rest_fits n m zero old b len le fit i = omega (arith, get_or-take-le n old i, get_or-take-le m b i, fit i)
 rest_fits n m (suc at) [] b len le fit i = absurd (omega arith)
 rest_fits n m (suc at) (x ∷ old) [] len le fit i = absurd (omega arith)
 rest_fits n m (suc at) (x ∷ old) (y ∷ b) len le fit i = rest_fits n m at old b (omega arith) (omega arith) (λ j. fit (suc j)) i
 
--- a sum, lane by lane
 zip2_fits : (a b : List ℕ) → Fit a b → zip2 (λ x y. (x + y) % 18446744073709551616) a b ≡ zip2 (λ x y. x + y) a b
 zip2_fits [] b fit = refl
 zip2_fits (x ∷ a) [] fit = refl
@@ -261,7 +247,6 @@ zip2_fits (x ∷ a) (y ∷ b) fit =
     let here : (x + y) % 18446744073709551616 ≡ x + y = omega (arith, fit 0) in
     rw (here, zip2_fits a b (λ i. fit (suc i))) refl
 
--- n more sums, in lanes
 pub sums_more : (n at : ℕ) (old b : List ℕ) → length old ≡ length b → at + n ≤ length old → Fit old b → put_chunk at (done (λ x y. x + y) at old b) (zip2 (λ x y. (x + y) % 18446744073709551616) (chunk at n (done (λ x y. x + y) at old b)) (chunk at n b)) ≡ done (λ x y. x + y) (at + n) old b
 sums_more n at old b len le fit =
     let within : at ≤ length old = omega arith in

@@ -12,8 +12,7 @@ pub const MOST_MEMBERS: usize = 512;
 /// The length of the longest key, in bytes.
 pub const LONGEST_KEY: usize = 65_535;
 
-/// The largest number of records in one log, and of distinct keys. Offsets and key numbers fit in
-/// 32 bits.
+/// The most records in one log, and the most distinct keys: offsets and key numbers have 32 bits.
 pub const MOST_RECORDS: u32 = u32::MAX;
 
 /// The number of the last generation of a group.

@@ -88,8 +88,7 @@ pub fn equal64(a: &[u64], b: &[u64]) -> bool
     found.reduce_or() == 0 && plain::equal64(&a[at..], &b[at..])
 }
 
-/// Whether two slices of the same length are equal. It compares 32 words at a time, and the rest
-/// eight at a time.
+/// Whether two slices of the same length are equal: 32 words at a time, and then eight at a time.
 pub fn equal32(a: &[u32], b: &[u32]) -> bool
     requires { length a.now ≡ length b.now }
     ensures { IsTrue result ↔ (a.now ≡ b.now) }

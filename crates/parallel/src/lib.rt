@@ -1,12 +1,11 @@
-//! Work on several threads: collecting results, dropping in parallel, and how much work is worth a
-//! thread.
+//! Work on several threads: collecting results, dropping, and how much work is worth a thread.
 //!
 //! It promises:
 //! - `collected` turns a list of results into the list of their values, in order. It fails where
 //!   one of them, or the new list, ran out of memory.
 //! - `drop_each` drops every item, and changes nothing else.
-//! - Below a threshold (`LEAST_KEYS`, `LEAST_BYTES`, `LEAST_DROPS`) starting threads takes longer
-//!   than the work itself. The thresholds decide how long a call takes, never what it returns.
+//! - The thresholds (`LEAST_KEYS`, `LEAST_BYTES`, `LEAST_DROPS`) decide how long a call takes,
+//!   never what it returns: below them, starting threads takes longer than the work itself.
 //!
 //! Tests: `log_tests`, through the crates that call it.
 #![tactic(auto)]

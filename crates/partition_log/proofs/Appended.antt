@@ -21,7 +21,6 @@ use Rattle.partition_log.proofs.Valid.{accepted-parts, goes-below, valid}
 abbrev appended_one : PartitionLogs → Placed → PartitionLogs
 appended_one l one = with_record_at l one.0 one.1
 
--- one more record
 pub with_records-push : (l : PartitionLogs) (records : List Placed) (one : Placed) → with_records l (records ++ one ∷ []) ≡ with_record_at (with_records l records) one.0 one.1
 unfolding with_records
 with_records-push l records one = fold-append appended_one l records (one ∷ [])
@@ -39,7 +38,6 @@ pub none_appended : (l : PartitionLogs) → AreAppended l [] l
 unfolding with_records
 none_appended l = (tt, refl)
 
--- the next of the records is appended
 pub appended_more : (l l2 l3 : PartitionLogs) (records : List Placed) (i : ℕ) (one : Placed) (at : ℕ × ℕ) → i < length records → get_or records i (0, []) ≡ one → AreAppended l (take i records) l2
     → Answers (answer_at l2 one.0 one.1) (Ok at) → l3 ≡ with_record_at l2 one.0 one.1 → AreAppended l (take (i + 1) records) l3
 appended_more l l2 l3 records i one at lt stands before answer is =
@@ -49,17 +47,14 @@ appended_more l l2 l3 records i one at lt stands before answer is =
       ap (λ x. with_record_at x one.0 one.1) before.1 ∙ sym (with_records-push l (take i records) one),
     )
 
--- the next of the records is refused
 pub stopped : (l l2 : PartitionLogs) (records : List Placed) (i : ℕ) (one : Placed) (why : Refusal) → i < length records → get_or records i (0, []) ≡ one → AreAppended l (take i records) l2
     → Answers (answer_at l2 one.0 one.1) (Err why) → AreStoppedAfter i why l records l2
 stopped l l2 records i one why lt stands before answer =
     record { among = lt; appended = before; refused = subst (λ (x : Placed). Answers (answer_at l2 x.0 x.1) (Err why)) (sym stands) answer }
 
--- memory runs out before the first record
 pub stopped-first : (l : PartitionLogs) (records : List Placed) → 0 < length records → AreStoppedAfter 0 r.Memory l records l
 stopped-first l records some = record { among = some; appended = none_appended l; refused = inr refl }
 
--- partitions paired with keys
 pub zipped-long : (places : List ℕ) (keys : List (Bor Key)) → length places ≡ length keys → length (zip places (lent keys)) ≡ length keys
 zipped-long places keys e = let both = length-zip places (lent keys) in omega (arith, both, e, lent-long keys)
 
@@ -68,7 +63,6 @@ zipped-at places keys i e d same lt =
     get_or-zip places (lent keys) i (0, []) (omega (arith, same, lt)) (omega (arith, lt, lent-long keys))
     ∙ ap (λ (k : Key). (get_or places i 0, k)) (lent-key keys i d lt)
 
--- the partitions of records, paired with their keys, are the records with their partitions
 pub zipped-placed : (l : PartitionLogs) (records : List Keyed) → zip (map (place_in l) records) (map (λ keyed. keyed.1) records) ≡ placed l records
 zipped-placed l [] = refl
 zipped-placed l (keyed ∷ records) = ap (λ (xs : List Placed). (place_in l keyed, keyed.1) ∷ xs) (zipped-placed l records)
@@ -81,7 +75,6 @@ pub first-keys : (keys : List Key) → map (λ (keyed : Keyed). keyed.1) (in_fir
 first-keys [] = refl
 first-keys (key ∷ keys) = ap (λ ks. key ∷ ks) (first-keys keys)
 
--- logs remain valid
 pub stay-valid : (l : PartitionLogs) (records : List Keyed) → IsValidLogs l → All (IsOfTopic l) records → AreAccepted l (placed l records) → IsValidLogs (with_records l (placed l records)) × GrowByRecords records l (with_records l (placed l records))
 unfolding with_records
 stay-valid l [] a topics all = (a, λ appended h. subst (λ ks. AreLogsOf ks l) (sym (append-nil appended)) h)
@@ -101,24 +94,20 @@ stay-valid l (keyed ∷ records) a topics all =
 pub placed-still : (l l2 : PartitionLogs) (key : Key) (place : ℕ) → l2.counts ≡ l.counts → IsPlaceOf l key place → IsPlaceOf l2 key place
 placed-still l l2 key place same goes = subst (λ (counts : List ℕ). (topic : ℕ) × (topic < length counts) × (place_in_topic counts topic key ≡ place)) (sym same) goes
 
--- the partitions of records, with their keys
 pub places-are : (l : PartitionLogs) (places : List ℕ) (records : List Keyed) (keys : List Key) → places ≡ map (place_in l) records → keys ≡ map (λ keyed. keyed.1) records → zip places keys ≡ placed l records
 places-are l places records keys ps ks = ap (λ xs. zip xs keys) ps ∙ ap (zip (map (place_in l) records)) ks ∙ zipped-placed l records
 
--- records go to their partitions
 pub all-placed : (l : PartitionLogs) (records : List Keyed) → All (IsOfTopic l) records → All (λ (one : Placed). IsPlaceOf l one.1 one.0) (placed l records)
 all-placed l [] topics = λ i d lt. absurd (omega (arith, lt))
 all-placed l (keyed ∷ records) topics =
     All-cons (λ (one : Placed). IsPlaceOf l one.1 one.0) (place_in l keyed, keyed.1) (placed l records) (keyed.0, All-head (IsOfTopic l) keyed records topics, refl)
     (all-placed l records (All-tail (IsOfTopic l) keyed records topics))
 
--- a step of a list of partitions and keys
 pub zipped-goes : (l : PartitionLogs) (places : List ℕ) (keys : List (Bor Key)) (i : ℕ) (d : Bor Key) → ArePlaced l places (lent keys) → i < length keys → IsPlaceOf l (get_or keys i d).now (get_or places i 0)
 zipped-goes l places keys i d h lt =
     let as_many : length places ≡ length keys = h.as_many ∙ lent-long keys in
     subst (λ (one : Placed). IsPlaceOf l one.1 one.0) (zipped-at places keys i 0 d as_many lt) (h.goes i (0, []) (omega (arith, lt, zipped-long places keys as_many)))
 
--- the partitions of keys in the first topic
 pub first-placed : (l : PartitionLogs) (keys : List (Bor Key)) → map (λ key. place_in l (of_first key.now)) keys ≡ map (place_in l) (in_first (lent keys))
 first-placed l [] = refl
 first-placed l (key ∷ keys) = ap (λ ps. place_in l (of_first key.now) ∷ ps) (first-placed l keys)
@@ -127,7 +116,6 @@ pub first-topics : (l : PartitionLogs) (keys : List Key) → IsValidLogs l → A
 first-topics l [] a = λ i d lt. absurd (omega (arith, lt))
 first-topics l (key ∷ keys) a = All-cons (IsOfTopic l) (of_first key) (in_first keys) (omega (arith, a.counted.some)) (first-topics l keys a)
 
--- the partitions of keys in their topics
 pub topics-placed : (l : PartitionLogs) (topics : List ℕ) (keys : List (Bor Key)) → map (λ (keyed : ℕ × Bor Key). place_in l (keyed.0, keyed.1.now)) (zip topics keys) ≡ map (place_in l) (zip topics (lent keys))
 topics-placed l [] keys = refl
 topics-placed l (t ∷ topics) [] = refl
@@ -139,7 +127,6 @@ all-topics l (t ∷ topics) [] h = λ i d lt. absurd (omega (arith, lt))
 all-topics l (t ∷ topics) (key ∷ keys) h =
     All-cons (IsOfTopic l) (t, key) (zip topics keys) (All-head (λ x. x < length l.counts) t topics h) (all-topics l topics keys (All-tail (λ x. x < length l.counts) t topics h))
 
--- records with these partitions go there
 pub records-placed : (l : PartitionLogs) (places : List ℕ) (records : List Keyed) (keys : List Key) → All (IsOfTopic l) records → places ≡ map (place_in l) records → keys ≡ map (λ keyed. keyed.1) records → ArePlaced l places keys
 records-placed l places records keys topics ps ks = record {
   as_many = ap length ps ∙ length-map records (place_in l) ∙ sym (length-map records (λ (keyed : Keyed). keyed.1)) ∙ ap length (sym ks);

@@ -12,7 +12,6 @@ use Rattle.partition_log.specs.Logs.{AreLogsOf, IsOfTopic, IsValidLogs, Partitio
 use Rattle.key_numbers.proofs.Growth.{grows}
 use Rattle.partition_log.proofs.Valid.{is_place, log-other, log-same, place-below}
 
--- two functions that agree at each element
 map-agree : {X Y : Type 0} (f g : X → Y) (d : X) (xs : List X) → ((i : ℕ) → i < length xs → f (get_or xs i d) ≡ g (get_or xs i d)) → map f xs ≡ map g xs
 map-agree f g d [] h = refl
 map-agree f g d (x ∷ xs) h =
@@ -66,7 +65,6 @@ records-of l keyed appended a h lt p p_in =
           ∙ ap shown (sym (filter-append goes appended (keyed ∷ []) ∙ ap (λ ks. filter goes appended ++ ks) one))
     ]
 
--- one more record, appended
 pub history : (l : PartitionLogs) (keyed : Keyed) (appended : List Keyed) → IsValidLogs l → AreLogsOf appended l → IsOfTopic l keyed → AreLogsOf (appended ++ keyed ∷ []) (with_record l keyed)
 unfolding distinct
 history l keyed appended a h topic =
@@ -76,6 +74,5 @@ history l keyed appended a h topic =
       records = records-of l keyed appended a h (rw a.a_log_each below);
     }
 
--- the same, for a key in a topic
 pub history-at : (l : PartitionLogs) (at topic : ℕ) (key : Key) (appended : List Keyed) → IsValidLogs l → AreLogsOf appended l → IsOfTopic l (topic, key) → place_in l (topic, key) ≡ at → AreLogsOf (appended ++ (topic, key) ∷ []) (with_record_at l at key)
 history-at l at topic key appended a h is_of goes = subst (λ p. AreLogsOf (appended ++ (topic, key) ∷ []) (with_record_at l p key)) goes (history l (topic, key) appended a h is_of)

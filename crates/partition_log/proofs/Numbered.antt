@@ -41,7 +41,6 @@ by_number keys (id ∷ ids) x apart below =
     ∙ ap (λ n. cond (id_of keys x == id) 1 0 + n) (by_number keys ids x apart (λ i lt. below (suc i) (omega (arith, lt))))
     ∙ sym (sum_by-cons (λ y. cond (id_of keys x == y) 1 0) id ids)
 
--- the number of the key with this number
 pub number-back : (keys : List Key) (id : ℕ) → IsWithoutRepeats keys → id < length keys → id_of keys (key_at keys id) ≡ id
 number-back keys id apart lt =
     let there = known keys (key_at keys id) (among keys (key_at keys id) id lt refl) in

@@ -9,12 +9,10 @@ use Rattle.partition_log.specs.Keys.{Key, Keyed, keys_in, plain}
 use Rattle.partition_log.specs.Logs.{IsValidLogs, AreLogsOf, PartitionLogs, keys_of_log, place_in, sum_below}
 use Rattle.partition_log.proofs.Valid.{place-below}
 
--- sums of functions that agree
 pub sum-same : (n : ℕ) (f g : ℕ → ℕ) → ((p : ℕ) → p < n → f p ≡ g p) → sum_below n f ≡ sum_below n g
 sum-same zero f g h = refl
 sum-same (suc n) f g h = omega (arith, sum-same n f g (λ p lt. h p (omega (arith, lt))), h n (omega arith))
 
--- a sum of which each term is two
 pub sum-plus : (n : ℕ) (f g : ℕ → ℕ) → sum_below n (λ p. f p + g p) ≡ sum_below n f + sum_below n g
 sum-plus zero f g = refl
 sum-plus (suc n) f g = omega (arith, sum-plus n f g)

@@ -38,7 +38,6 @@ filled-one : (b : Bool) (old new rest : List ℕ) (n : ℕ) → (b ≡ true → 
 filled-one true old new rest n same other = ap (λ xs. xs ++ rest) (same refl) ∙ append_assoc old (n ∷ []) rest
 filled-one false old new rest n same other = ap (λ xs. xs ++ rest) (other refl)
 
--- a log has its records behind those that it had
 pub filled-at : (logs : List (List ℕ)) (places ids : List ℕ) (p : ℕ) → p < length logs → get_or (filled logs places ids) p [] ≡ get_or logs p [] ++ at_place p places ids
 filled-at logs [] ids p lt = sym (append-nil (get_or logs p []))
 filled-at logs (x ∷ xs) [] p lt = sym (append-nil (get_or logs p []))
@@ -103,7 +102,6 @@ merged-filled partitions shares logs so =
     so.each p within ∙ merged-place partitions p shares within
     ∙ sym (filled-at none places numbers p (omega (arith, within, none-long partitions)) ∙ ap (λ log. log ++ at_place p places numbers) (get_or-replicate partitions p [] [] within)))
 
--- what was found for each index, where nothing was refused
 pub found-each : {T : Type 0} (P : ℕ → T → Type 0) (found : List (Result T Memory)) (all : List T) (n : ℕ) → found ≡ map Ok all → length found ≡ n
     → ((i : ℕ) (d : Result T Memory) → i < n → IfOk (get_or found i d) (P i)) → (i : ℕ) (d : T) → i < n → P i (get_or all i d)
 found-each P found all n is long h i d lt =
@@ -123,14 +121,12 @@ coded-at (part ∷ parts) [] i d lt so = absurd so
 coded-at (part ∷ parts) (c ∷ coded) zero d lt so = so.0
 coded-at (part ∷ parts) (c ∷ coded) (suc i) d lt so = coded-at parts coded i d (omega (arith, lt)) so.1
 
--- coded lists have the records of the lists
 pub coded-records : (parts : List (List Key)) (coded : List CodedPart) → AreCoded parts coded → map records_of coded ≡ parts
 coded-records [] [] so = refl
 coded-records [] (c ∷ coded) so = absurd so
 coded-records (part ∷ parts) [] so = absurd so
 coded-records (part ∷ parts) (c ∷ coded) so = ap₂ (λ p ps. p ∷ ps) so.0.same_records (coded-records parts coded so.1)
 
--- what a function gives of all records
 pub read-all : (f : Key → ℕ) (parts : List (List Key)) (coded : List CodedPart) → AreCoded parts coded → read_by (map f (joined (map keys_in coded))) coded ≡ map f (joined parts)
 read-all f [] [] so = refl
 read-all f [] (c ∷ coded) so = absurd so
@@ -146,7 +142,6 @@ read-all f (part ∷ parts) (c ∷ coded) so =
     ∙ ap₂ (λ xs ys. xs ++ ys) (read-codes f part (keys_in c) (codes_in c) so.0) (read-all f parts coded so.1)
     ∙ sym (map-append f part (joined parts))
 
--- the keys of the records are short where those of the lists are
 one-short : (keys : List Key) (codes : List ℕ) → All (λ code. code < length keys) codes → AreShort keys → AreShort (map (key_at keys) codes)
 one-short keys [] within short = λ i d lt. absurd (omega (arith, lt))
 one-short keys (code ∷ codes) within short =
@@ -168,7 +163,6 @@ records-short (part ∷ parts) (c ∷ coded) so short =
     All-append (λ (key : Key). length key ≤ LONGEST_KEY) part (joined parts)
     (subst AreShort so.0.same_records (one-short (keys_in c) (codes_in c) so.0.within both.0)) (records-short parts coded so.1 both.1)
 
--- the keys of coded lists are short where the longest of each list is
 pub lists-short : (coded : List CodedPart) → All TellsLongest coded → All (λ (one : CodedPart). one.longest ≤ LONGEST_KEY) coded → AreShort (joined (map keys_in coded))
 lists-short [] tells short = λ i d lt. absurd (omega (arith, lt))
 lists-short (one ∷ coded) tells short =
@@ -177,7 +171,6 @@ lists-short (one ∷ coded) tells short =
     (all-up-to LONGEST_KEY (keys_in one) (omega (arith, tells_own, All-head (λ (one : CodedPart). one.longest ≤ LONGEST_KEY) one coded short)))
     (lists-short coded (All-tail TellsLongest one coded tells) (All-tail (λ (one : CodedPart). one.longest ≤ LONGEST_KEY) one coded short))
 
--- and only there
 pub longest-short : (coded : List CodedPart) → All TellsLongest coded → AreShort (joined (map keys_in coded)) → All (λ (one : CodedPart). one.longest ≤ LONGEST_KEY) coded
 longest-short [] tells short = λ i d lt. absurd (omega (arith, lt))
 longest-short (one ∷ coded) tells short =
@@ -204,7 +197,6 @@ joined-front (c ∷ coded) (suc i) =
     let rest = joined-front coded i in
     omega (arith, rest, length-append (keys_in c) (joined (map keys_in (take i coded))), length-append (keys_in c) (joined (map keys_in coded)))
 
--- the end of the next list's keys is within those of all
 pub joined-within : (coded : List CodedPart) (i from : ℕ) (d : CodedPart) → i < length coded → from ≡ length (joined (map keys_in (take i coded)))
     → from + length (keys_in (get_or coded i d)) ≤ length (joined (map keys_in coded))
 joined-within coded i from d lt is = let next = joined-next coded i from d lt is in let front = joined-front coded (i + 1) in omega (arith, next, front)
@@ -212,7 +204,6 @@ joined-within coded i from d lt is = let next = joined-next coded i from d lt is
 in_row-more : (lists : List (List ℕ)) (xs : List ℕ) → in_row (lists ++ xs ∷ []) ≡ in_row lists ++ xs
 in_row-more lists xs = flat_map-append (λ (ys : List ℕ). ys) lists (xs ∷ []) ∙ ap (λ ys. in_row lists ++ ys) (append-nil xs)
 
--- what the next list's records have, before the others'
 pub read-more : (of : Share → List ℕ) (shares : List Share) (share : Share) (all whole : List ℕ) (coded : List CodedPart) (i from to : ℕ) (d : CodedPart) → i < length coded
     → to ≡ from + length (keys_in (get_or coded i d)) → of share ≡ by_codes (slice_range all from to) (codes_in (get_or coded i d))
     → in_row (map of shares) ++ read_by (drop from all) (drop i coded) ≡ whole
@@ -229,12 +220,10 @@ read-more of shares share all whole coded i from to d lt end own so =
     ap (λ xs. xs ++ read_by (drop to all) (drop (i + 1) coded)) (ap in_row (map-append of shares (share ∷ [])) ∙ in_row-more (map of shares) (of share))
     ∙ append_assoc (in_row (map of shares)) (of share) (read_by (drop to all) (drop (i + 1) coded)) ∙ ap (λ xs. in_row (map of shares) ++ xs) (sym next) ∙ so
 
--- a part of the numbers below a bound
 pub part-below : (bound from to : ℕ) (xs : List ℕ) → All (λ p. p < bound) xs → All (λ p. p < bound) (slice_range xs from to)
 part-below bound from to xs h = All-take (λ p. p < bound) (to - from) (drop from xs) (All-drop (λ p. p < bound) from xs h)
 
 -- ---- what threads found
--- the parts are the logs of the shares
 pub filled-parts : {A Z : Type 0} (partitions : ℕ) (shares : List Share) (found : List (Result (Vec (Vec ℕ Z) A) Memory)) (parts : List (Vec (Vec ℕ Z) A)) → found ≡ map Ok parts → length found ≡ length shares
     → ((i : ℕ) (d : Result (Vec (Vec ℕ Z) A) Memory) (e : Share) → i < length shares → IfOk (get_or found i d) (λ part. map vec_items part.items ≡ filled_share partitions (get_or shares i e)))
     → map (λ (part : Vec (Vec ℕ Z) A). map vec_items part.items) parts ≡ map (filled_share partitions) shares
@@ -263,7 +252,6 @@ merged-one partitions parts found (log ∷ logs) is long h p lt =
     get_or-map vec_items (log ∷ logs) p log [] (omega (arith, many, lt)) ∙ own
     ∙ ap in_row (sym (map-twice (λ part. map vec_items part.items) (λ part. get_or part p []) parts))
 
--- the logs are merged of the parts
 pub merged-parts : {A B Z : Type 0} (partitions : ℕ) (parts : List (Vec (Vec ℕ Z) B)) (found : List (Result (Vec ℕ A) Memory)) (logs : List (Vec ℕ A)) → found ≡ map Ok logs → length found ≡ partitions
     → ((p : ℕ) (d : Result (Vec ℕ A) Memory) → p < partitions → IfOk (get_or found p d) (λ log. log.items ≡ in_row (map (λ (part : Vec (Vec ℕ Z) B). get_or (map vec_items part.items) p []) parts)))
     → AreMerged partitions (map (λ (part : Vec (Vec ℕ Z) B). map vec_items part.items) parts) (map vec_items logs)
@@ -272,7 +260,6 @@ merged-parts partitions parts found logs is long h = record {
   each = merged-one partitions parts found logs is long h;
 }
 
--- each part has a log for each partition
 pub parts-long : {A Z : Type 0} (partitions : ℕ) (shares : List Share) (parts : List (Vec (Vec ℕ Z) A)) → map (λ (part : Vec (Vec ℕ Z) A). map vec_items part.items) parts ≡ map (filled_share partitions) shares
     → All (λ (part : Vec (Vec ℕ Z) A). length part.items ≡ partitions) parts
 parts-long partitions shares [] is = λ i d lt. absurd (omega (arith, lt))
@@ -285,12 +272,10 @@ parts-long partitions (share ∷ shares) (part ∷ parts) is =
     (parts-long partitions shares parts rest)
 
 -- ---- appends
--- where there are no keys, nothing is appended
 pub nothing-appended : (l : PartitionLogs) (keys : List Key) → length keys ≡ 0 → AreAppended l (placed l (in_first keys)) l
 nothing-appended l [] none = none_appended l
 nothing-appended l (key ∷ keys) none = absurd (omega (arith, none))
 
--- one share more that can be filled
 pub pushed-fillable : (partitions i from to : ℕ) (coded : List CodedPart) (d : CodedPart) (places numbers : List ℕ) (shares : List Share) (share : Share) → i < length coded → AreCoded (map records_of coded) coded
     → All (λ p. p < partitions) places → to ≡ from + length (keys_in (get_or coded i d)) → to ≤ length places → to ≤ length numbers
     → share.codes.now ≡ codes_in (get_or coded i d) → share.places.now ≡ slice_range places from to → share.numbers.now ≡ slice_range numbers from to
@@ -310,7 +295,6 @@ pushed-fillable partitions i from to coded d places numbers shares share lt so b
     part-long xs from to le = length-take-le (to - from) (drop from xs) (omega (arith, le, length-drop from xs))
 
 -- ---- records by lists
--- where keys of lists go
 first-places : (l : PartitionLogs) (keys : List Key) → map (λ key. place_in l (of_first key)) keys ≡ map (place_in l) (in_first keys)
 first-places l [] = refl
 first-places l (key ∷ keys) = ap (λ ps. place_in l (of_first key) ∷ ps) (first-places l keys)
@@ -337,7 +321,6 @@ by-lists old l coded all places numbers count logs seen a so can counted valid p
     let made = side-by-side old l records all (read_by places coded) (read_by numbers coded) count logs seen a can counted goes.as_many goes.goes ids_are (is ∙ same) filled_are in
     (subst (λ rs. AreAppended old rs (record { counts = l.counts; partitions = l.partitions; keys = all; logs = logs })) (places-are old (read_by places coded) (in_first records) records at (sym (first-keys records))) made.0, made.1)
 
--- an item that is there, whatever is taken where it is not
 pub get_or-any : {X : Type 0} (xs : List X) (i : ℕ) (d e : X) → i < length xs → get_or xs i d ≡ get_or xs i e
 get_or-any [] i d e lt = absurd (omega (arith, lt))
 get_or-any (x ∷ xs) zero d e lt = refl

@@ -21,7 +21,6 @@ key_of one = one.1
 abbrev pub place_at : Placed → ℕ
 place_at one = one.0
 
--- the keys of logs to which more were appended
 pub with_records-keys : (l : PartitionLogs) (records : List Placed) → (with_records l records).keys ≡ fold with_key l.keys (map key_of records)
 unfolding with_records
 with_records-keys l [] = refl
@@ -66,7 +65,6 @@ is_short l x records h = All-head (λ (one : Placed). length one.1 ≤ LONGEST_K
 is_placed : (l : PartitionLogs) (x : Placed) (records : List Placed) → HasRoomFor l (x ∷ records) → IsPlaceOf l x.1 x.0
 is_placed l x records h = All-head (λ (one : Placed). IsPlaceOf l one.1 one.0) x records h.placed
 
--- after the first record there is capacity for the others
 room-next : (l : PartitionLogs) (x : Placed) (records : List Placed) → HasRoomFor l (x ∷ records) → HasRoomFor (with_record_at l x.0 x.1) records
 room-next l x records h =
     let goes = is_placed l x records h in
@@ -86,7 +84,6 @@ room-next l x records h =
       short = All-tail (λ (one : Placed). length one.1 ≤ LONGEST_KEY) x records h.short;
     }
 
--- an answer that is not a refusal
 accepted-one : (a b : Bool) (v : ℕ × ℕ) → a ≡ false → b ≡ false → IsOk (if a then Err r.KeyTooLong else if b then Err r.LogFull else Ok v)
 accepted-one true b v e f = absurd (cc e)
 accepted-one false true v e f = absurd (cc f)
@@ -104,7 +101,6 @@ unfolding with_records
 all-valid l [] h = h.valid
 all-valid l (x ∷ records) h = all-valid (with_record_at l x.0 x.1) records (room-next l x records h)
 
--- logs without keys have no record
 pub no-record : (l : PartitionLogs) (p : ℕ) → IsValidLogs l → length l.keys ≡ 0 → length (log_at l p) ≡ 0
 no-record l p a none =
     elim (cases_lt 0 (length (log_at l p))) [
@@ -125,7 +121,6 @@ all-empty (log ∷ logs) h =
 pub no-records : (l : PartitionLogs) → IsValidLogs l → length l.keys ≡ 0 → l.logs ≡ replicate l.partitions []
 no-records l a none = all-empty l.logs (λ p. no-record l p a none) ∙ ap (λ n. replicate n []) a.a_log_each
 
--- logs without keys have capacity
 pub has_room : (l : PartitionLogs) (records : List Placed) → IsValidLogs l → length l.keys ≡ 0 → length records ≤ MOST_RECORDS → All (λ (one : Placed). length one.1 ≤ LONGEST_KEY) records
     → All (λ (one : Placed). IsPlaceOf l one.1 one.0) records → HasRoomFor l records
 has_room l records a none few short placed = record {
@@ -136,12 +131,10 @@ has_room l records a none few short placed = record {
   short = short;
 }
 
--- logs whose fields are those of these
 same-parts : (w : PartitionLogs) (counts : List ℕ) (partitions : ℕ) (keys : List Key) (logs : List (List ℕ)) → counts ≡ w.counts → partitions ≡ w.partitions → keys ≡ w.keys → logs ≡ w.logs
     → (let new : PartitionLogs = record { counts = counts; partitions = partitions; keys = keys; logs = logs } in new ≡ w)
 same-parts w counts partitions keys logs c p ks ls = rw (c, p, ks, ls) refl
 
--- logs whose fields are those with the records appended
 pub appended-whole : (l : PartitionLogs) (records : List Placed) (all : List Key) (logs : List (List ℕ)) → IsValidLogs l → l.keys ≡ [] → all ≡ distinct (map key_of records)
     → logs ≡ filled (replicate l.partitions []) (map place_at records) (map (id_of all) (map key_of records))
     → (let new : PartitionLogs = record { counts = l.counts; partitions = l.partitions; keys = all; logs = logs } in new ≡ with_records l records)
@@ -157,7 +150,6 @@ no-key : (keys : List Key) → length keys ≡ 0 → keys ≡ []
 no-key [] e = refl
 no-key (k ∷ keys) e = absurd (omega (arith, e))
 
--- partitions paired with keys, separated
 unzip-places : (places : List ℕ) (keys : List Key) → length places ≡ length keys → map place_at (zip places keys) ≡ places
 unzip-places [] [] e = refl
 unzip-places [] (k ∷ keys) e = absurd (omega (arith, e))
@@ -200,7 +192,6 @@ side-by-side old l keys all places ids count logs seen a can counted as_many goe
       subst IsValidLogs (sym whole) (all-valid l records room),
     )
 
--- records go to partitions
 pub all-below : (l : PartitionLogs) (places : List ℕ) (keys : List Key) → IsValidLogs l → length places ≡ length keys → All (λ (one : Placed). IsPlaceOf l one.1 one.0) (zip places keys) → All (λ p. p < l.partitions) places
 all-below l [] keys a e h = λ i d lt. absurd (omega (arith, lt))
 all-below l (p ∷ places) [] a e h = absurd (omega (arith, e))

@@ -47,6 +47,5 @@ stored l new keyed place offset a topic e h =
       numbered = ap (λ (xs : List ℕ). get_or xs offset 0) log ∙ ap (λ n. get_or (old ++ id_of l.keys key ∷ []) n 0) (sym end) ∙ get_or-append_seam old (id_of l.keys key) [] 0;
     }
 
--- a record of the first topic is of a topic
 pub first-topic : (l : PartitionLogs) (key : Key) → IsValidLogs l → IsOfTopic l (of_first key)
 first-topic l key a = omega (arith, a.counted.some)

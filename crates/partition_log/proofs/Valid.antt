@@ -18,16 +18,13 @@ use Rattle.partition_log.specs.Keys.{Key, Keyed, distinct, is_known, key_at, id_
 use Rattle.partition_log.specs.Logs.{AreCounts, AreLogsOf, IsEntryOf, IsOfTopic, IsPlaceOf, IsUsed, IsValidLogs, PartitionLogs, answer_at, finds_no_room, is_full_for, log_at, place_in, with_record_at}
 use Rattle.key_numbers.proofs.Growth.{grows, stays_apart}
 
--- the log of the key's partition has one more entry
 pub log-same : (l : PartitionLogs) (at : ℕ) (key : Key) → at < length l.logs
     → log_at (with_record_at l at key) (at) ≡ log_at l (at) ++ id_of l.keys key ∷ []
 log-same l at key lt = get_or-set_same l.logs (at) _ [] lt
 
--- the other logs are unchanged
 pub log-other : (l : PartitionLogs) (at : ℕ) (key : Key) (p : ℕ) → p ≢ at → log_at (with_record_at l at key) p ≡ log_at l p
 log-other l at key p ne = get_or-set_other l.logs (at) p _ [] ne
 
--- either the partition or another
 pub is_place : (p q : ℕ) → (p ≡ q) ⊎ (p ≢ q)
 is_place p q = cases_eq p q
 
@@ -47,7 +44,6 @@ below most n e =
       | inr le ↦ absurd (let t = le-leb most n le in cc (t, e))
     ]
 
--- the log that gets a record was not full
 pub has_room : (keys : List Key) (records : ℕ) (key : Key) → finds_no_room keys records key ≡ false → records < MOST_RECORDS
 has_room keys records key h = below MOST_RECORDS records (room-records _ _ h)
 
@@ -55,7 +51,6 @@ known_or_new : (b : Bool) → (b ≡ true) ⊎ (b ≡ false)
 known_or_new true = inl refl
 known_or_new false = inr refl
 
--- the keys stay within their limit
 keys_fit : (keys : List Key) (records : ℕ) (key : Key) → finds_no_room keys records key ≡ false → length keys ≤ MOST_RECORDS → length (with_key keys key) ≤ MOST_RECORDS
 keys_fit keys records key h few =
     let g = grows keys key in
@@ -140,7 +135,6 @@ short-more l key a short n n_in =
           rw stands short
     ]
 
--- logs with one more record are valid
 pub valid : (l : PartitionLogs) (at : ℕ) (key : Key) → IsValidLogs l → IsPlaceOf l key at → at < l.partitions → length key ≤ LONGEST_KEY → is_full_for l at key ≡ false → IsValidLogs (with_record_at l at key)
 valid l at key a goes within short room =
     let lt : at < length l.logs = rw a.a_log_each within in record {
@@ -157,13 +151,11 @@ valid l at key a goes within short room =
       few_records = records-more l at key a lt room;
     }
 
--- a record goes to a partition
 pub place-below : (l : PartitionLogs) (keyed : Keyed) → IsValidLogs l → IsOfTopic l keyed → place_in l keyed < l.partitions
 place-below l keyed a topic =
     let within = place_in_topic-below l.counts keyed.0 keyed.1 a.counted topic in
     omega (arith, within, a.in_all)
 
--- a key goes to a partition in some topic
 pub goes-below : (l : PartitionLogs) (key : Key) (at : ℕ) → IsValidLogs l → IsPlaceOf l key at → at < l.partitions
 goes-below l key at a goes = subst (λ p. p < l.partitions) goes.2 (place-below l (goes.0, key) a goes.1)
 
@@ -172,7 +164,6 @@ room-of true n offset (inl e) = absurd (cc e)
 room-of true n offset (inr e) = absurd (cc e)
 room-of false n offset answer = refl
 
--- logs whose fields are those with one more record
 pub grown : (l : PartitionLogs) (key : Key) (at offset : ℕ) (keys : List Key) (logs : List (List ℕ)) → IsValidLogs l → IsPlaceOf l key at → length key ≤ LONGEST_KEY
     → keys ≡ with_key l.keys key → logs ≡ slice_set l.logs at (get_or l.logs at [] ++ id_of l.keys key ∷ [])
     → Answers {T = ℕ} (if finds_no_room l.keys (length (get_or l.logs at [])) key then Err r.LogFull else Ok (length (get_or l.logs at []))) (Ok offset)
@@ -190,7 +181,6 @@ fits false false v ok = (refl, refl)
 short_enough : (most n : ℕ) → nat_lt most n ≡ false → n ≤ most
 short_enough most n e = grind (arith, nat_tests)
 
--- an accepted record is short and fits its log
 pub accepted-parts : (l : PartitionLogs) (at : ℕ) (key : Key) → IsOk (answer_at l at key) → (length key ≤ LONGEST_KEY) × (is_full_for l at key ≡ false)
 accepted-parts l at key ok =
     let fit = fits (nat_lt LONGEST_KEY (length key)) (is_full_for l at key) (at, length (log_at l at)) ok in
@@ -205,7 +195,6 @@ many-logs : (n : ℕ) → length (replicate {A = List ℕ} n []) ≡ n
 many-logs zero = refl
 many-logs (suc n) = ap suc (many-logs n)
 
--- logs with no record
 pub empty-valid : (counts : List ℕ) → AreCounts counts → (let new : PartitionLogs = record { counts = counts; partitions = sum counts; keys = []; logs = replicate (sum counts) [] } in IsValidLogs new × AreLogsOf [] new)
 unfolding distinct
 empty-valid counts a = (
@@ -229,7 +218,6 @@ empty-valid counts a = (
   },
 )
 
--- logs whose fields are those of empty ones
 pub opened : (counts : List ℕ) (count : ℕ) (keys : List Key) (logs : List (List ℕ)) → AreCounts counts → count ≡ sum counts → keys ≡ [] → logs ≡ replicate count []
     → (let new : PartitionLogs = record { counts = counts; partitions = sum counts; keys = keys; logs = logs } in IsValidLogs new × AreLogsOf [] new)
 opened counts count keys logs a is ks ls = rw (ks, ls, is) (empty-valid counts a)

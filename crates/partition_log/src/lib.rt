@@ -1,23 +1,10 @@
 //! Append-only logs of keyed records, one for each partition.
 //!
 //! It promises:
-//! - `Logs::append` returns the partition and the offset of the record, or the first refusal that
-//!   applies, in a fixed order. The record is then the last of its log, and nothing else has
-//!   changed. After a refusal nothing has changed. A key that is already interned is accepted even
-//!   if the keys are at their limit.
-//! - `append_in` is the same for a given topic, and `append_at` for a partition that the caller has
-//!   computed. `append` is for the first topic.
-//! - If the logs were those of a list of records, they are then those of the list with this record
-//!   at its end.
-//! - `append_all` and `append_all_in` append records one after another, up to the first that is
-//!   refused, and report how many were appended before it and why it was refused. Many keys
-//!   appended to empty logs are interned in parallel, and then all of them are appended or none.
-//! - `append_lists` has the contract of `append_all`, for lists of keys. Where it can, it looks up
-//!   key numbers and partitions once for each key of a list's dictionary, and fills the logs list
-//!   by list, in parallel.
-//! - The invariant: distinct keys, none too long; each entry is the number of a key, in a log that
-//!   some topic assigns the key to; each key has an entry; the limits hold.
-//! - `seal` and `copy` change neither logs nor key numbers.
+//! - An append adds the record at the end of its log and changes nothing else, or returns the first
+//!   refusal that applies, in a fixed order, and changes nothing.
+//! - `append_all`, `append_all_in` and `append_lists` append records up to the first refused one.
+//!   Many keys for empty logs are interned in parallel; then all are appended, or none.
 //! - A law: over all logs of a list of records, each key occurs as often as in the list.
 //!
 //! Tests: `log_tests`.
@@ -184,8 +171,7 @@ impl Logs {
         self.partitions.topics()
     }
 
-    /// The partition of a key in the first topic, whether or not the key has a record here. It
-    /// allocates nothing.
+    /// The partition of a key, appended or not, in the first topic. It allocates nothing.
     pub fn place_of(&self, key: &[u8]) -> u32
         ensures place { result ≡ place_in self.now (of_first key.now) }
         ensures goes { IsPlaceOf self.now key.now result }
@@ -210,8 +196,7 @@ impl Logs {
     ///
     /// Refused, with nothing changed: a key longer than 65,535 bytes (`KeyTooLong`); a full log, or
     /// a new key when the keys are at their limit (`LogFull`); out of memory (`Memory`). A key that
-    /// is already interned takes four bytes of its log, and is accepted even if the keys are at
-    /// their limit.
+    /// is already interned takes four bytes of its log.
     pub fn append(&mut self, key: &[u8]) -> Result<(u32, u32), Refusal>
         ensures answer { Answers (append_answer self.old (of_first key.now)) result }
         ensures ok { OnOk result (self.new ≡ with_record self.old (of_first key.now)) }
@@ -316,8 +301,7 @@ fn same_logs(logs: &[Vec<u32>], others: &[Vec<u32>]) -> bool
     logs == others
 }
 
-/// Appends the number of a key to the log of this index, and returns its offset there. A new key is
-/// interned first.
+/// Appends the number of a key, interned if new, to the log of this index. Returns its offset.
 fn append_id(
     keys: &mut KeyIds,
     logs: &mut Vec<Vec<u32>>,

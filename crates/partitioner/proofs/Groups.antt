@@ -5,14 +5,12 @@ use Rattle.murmur_lanes.specs.Murmur.{AreOfOneLength, hash_of}
 use Rattle.partitioner.specs.Place.{positive_hash}
 use Rattle.partitioner.specs.Private.Groups.{AreKnown, AreOfLength, AreUnhashed, AreWaitingFrom, IsOfLength, IsWaiting, joined_row, no_key}
 
--- no hash is computed yet
 pub known_unhashed : (keys : List (Bor (List ℕ))) (hashes : List ℕ) → AreUnhashed hashes → AreKnown keys hashes
 unfolding AreKnown
 known_unhashed [] hashes none = tt
 known_unhashed (key ∷ keys) [] none = tt
 known_unhashed (key ∷ keys) (p ∷ hashes) none = ((λ missing. absurd (missing (none 0 (omega arith)))), known_unhashed keys hashes (λ k lt. none (suc k) (omega arith)))
 
--- one more hash
 pub known_set : (keys : List (Bor (List ℕ))) (hashes : List ℕ) (i hash : ℕ) → AreKnown keys hashes → hash ≡ positive_hash (get_or keys i no_key).now → AreKnown keys (slice_set hashes i hash)
 unfolding AreKnown
 known_set [] hashes i hash known e = tt
@@ -55,14 +53,12 @@ hashed_all i (key ∷ keys) [] e le hashed = absurd (omega arith)
 hashed_all zero (key ∷ keys) (p ∷ hashes) e le hashed = absurd (omega arith)
 hashed_all (suc i) (key ∷ keys) (p ∷ hashes) e le hashed = rw (hashed.0, hashed_all i keys hashes (omega arith) (omega arith) hashed.1) refl
 
--- a lane's index
 pub lane_of_length : (keys : List (Bor (List ℕ))) (len : ℕ) (row : List ℕ) (lane : ℕ) → AreOfLength keys len row → lane < length row → IsOfLength keys len (get_or row lane 0)
 unfolding AreOfLength
 lane_of_length keys len [] lane all lt = absurd (omega arith)
 lane_of_length keys len (i ∷ row) zero all lt = all.0
 lane_of_length keys len (i ∷ row) (suc lane) all lt = lane_of_length keys len row lane all.1 (omega arith)
 
--- an index of a group is that of a key
 pub lane_within : (keys : List (Bor (List ℕ))) (len : ℕ) (row : List ℕ) (lane : ℕ) → AreOfLength keys len row → lane < length row → get_or row lane 0 < length keys
 lane_within keys len row lane all lt = (lane_of_length keys len row lane all lt).0
 
@@ -84,7 +80,6 @@ waiting_from keys from i len (row ∷ rows) [] waiting e below_rows below_counts
 waiting_from keys from zero len (row ∷ rows) (count ∷ counts) waiting e below_rows below_counts = let same : len ≡ from = omega arith in rw same waiting.0
 waiting_from keys from (suc i) len (row ∷ rows) (count ∷ counts) waiting e below_rows below_counts = waiting_from keys (suc from) i len rows counts waiting.1 (omega arith) (omega arith) (omega arith)
 
--- the group of one length
 pub waiting_at : (keys : List (Bor (List ℕ))) (len : ℕ) (rows : List (List ℕ)) (counts : List ℕ) → AreWaitingFrom keys 0 rows counts → len < length rows → len < length counts → IsWaiting keys len (get_or rows len []) (get_or counts len 0)
 waiting_at keys len rows counts waiting below_rows below_counts = waiting_from keys 0 len len rows counts waiting (omega arith) below_rows below_counts
 
@@ -130,7 +125,6 @@ lane_hash keys row (suc (suc (suc (suc (suc (suc zero)))))) lt = refl
 lane_hash keys row (suc (suc (suc (suc (suc (suc (suc zero))))))) lt = refl
 lane_hash keys row (suc (suc (suc (suc (suc (suc (suc (suc k)))))))) lt = absurd (omega arith)
 
--- the hash of a lane's key
 pub lane_positive : (keys : List (Bor (List ℕ))) (row hashes : List ℕ) (lane hash : ℕ) → lane < 8 → hashes ≡ map (λ key. hash_of key.now) (row_keys keys row) → hash ≡ get_or hashes lane 0 % 2 ^ 31 → hash ≡ positive_hash (get_or keys (get_or row lane 0) no_key).now
 unfolding positive_hash
 lane_positive keys row hashes lane hash lt e is = is ∙ ap (λ h. h % 2 ^ 31) (ap (λ hs. get_or hs lane 0) e ∙ lane_hash keys row lane lt)
@@ -140,7 +134,6 @@ read_row [] i row lt = absurd (omega arith)
 read_row (r ∷ rows) zero row lt = refl
 read_row (r ∷ rows) (suc i) row lt = read_row rows i row (omega arith)
 
--- a group with one more index
 pub joined_long : (keys : List (Bor (List ℕ))) (len : ℕ) (row : List ℕ) (count i : ℕ) → IsWaiting keys len row count → length (joined_row row count i) ≡ 8
 joined_long keys len row zero i waiting = refl
 joined_long keys len row (suc count) i waiting = length-set {A = ℕ} row (suc count) i ∙ waiting.0

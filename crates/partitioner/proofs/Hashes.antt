@@ -34,7 +34,6 @@ one_placed counts topic n hashes places place lt p is =
 pub all_placed : (counts : List ℕ) (topic : ℕ → ℕ) (n : ℕ) (hashes places : List ℕ) → length hashes ≤ n → ArePlacedBelow counts topic n hashes places → ArePlaces counts topic hashes places
 all_placed counts topic n hashes places le p = record { as_many = p.as_many; each = λ i lt. p.each i (omega (arith, lt, le)) }
 
--- the partitions of keys, from the replaced hashes
 places_of_keys : (counts : List ℕ) (topic : ℕ → ℕ) (keys : List (Bor (List ℕ))) (hashes places : List ℕ) → hashes ≡ map (λ key. positive_hash key.now) keys → ArePlaces counts topic hashes places
     → (k : ℕ) (d : Bor (List ℕ)) → k < length keys → get_or places k 0 ≡ place_in_topic counts (topic k) (get_or keys k d).now
 unfolding place_of
@@ -42,7 +41,6 @@ places_of_keys counts topic keys hashes places is p k d lt =
     p.each k (omega (arith, lt, ap length is, length-map keys (λ (key : Bor (List ℕ)). positive_hash key.now)))
     ∙ ap (place_of_hash counts (topic k)) (ap (λ hs. get_or hs k 0) is ∙ get_or-map (λ (key : Bor (List ℕ)). positive_hash key.now) keys k d 0 lt)
 
--- the same for a batch of the keys
 pub piece_placed : (counts : List ℕ) (topic local : ℕ → ℕ) (keys : List (Bor (List ℕ))) (from n : ℕ) (hashes places : List ℕ) → from + n ≤ length keys
     → hashes ≡ map (λ key. positive_hash key.now) (take (from + n - from) (drop from keys)) → ArePlaces counts local hashes places → ((k : ℕ) → k < n → local k ≡ topic (from + k))
     → ArePlacedFrom counts topic keys from n places
@@ -53,11 +51,9 @@ piece_placed counts topic local keys from n hashes places fits is p told k d lt 
     ∙ ap (λ t. place_in_topic counts t (get_or piece k d).now) (told k lt)
     ∙ ap (λ (key : Bor (List ℕ)). place_in_topic counts (topic (from + k)) key.now) (get_or-take (from + n - from) (drop from keys) k d (omega (arith, lt)) ∙ get_or-drop from keys k d)
 
--- the topics of a batch
 pub piece_topic : (topics : List ℕ) (from n k : ℕ) → k < n → get_or (take (from + n - from) (drop from topics)) k 0 ≡ get_or topics (from + k) 0
 piece_topic topics from n k lt = get_or-take (from + n - from) (drop from topics) k 0 (omega (arith, lt)) ∙ get_or-drop from topics k 0
 
--- numbers that a function gives, index by index
 pub by_index : {X : Type 0} (f : X → ℕ) (xs : List X) (d : X) (ys : List ℕ) → length ys ≡ length xs → ((i : ℕ) → i < length xs → get_or ys i 0 ≡ f (get_or xs i d)) → ys ≡ map f xs
 by_index f [] d [] e each = refl
 by_index f [] d (y ∷ ys) e each = absurd (omega arith)

@@ -1,7 +1,5 @@
--- Where a keyed record goes: Kafka's partitioner for keyed records takes the key's murmur2 hash
--- without its highest bit, modulo the number of partitions of the record's topic
--- (BuiltInPartitioner.partitionForKey, Utils.toPositive). Partitions are numbered over all topics:
--- those of a topic follow those of the topics before it.
+-- Where Kafka puts a keyed record (BuiltInPartitioner.partitionForKey, Utils.toPositive).
+-- Partitions are numbered over all topics: those of a topic follow those of the topics before it.
 use Rattle.std.specs.Prelude.{ℕ, ◌≡◌, ◌+◌, ◌<◌, ◌≤◌, ◌^◌, ◌%◌, All, List, length, slice_index_or, take}
 use Rattle.std.specs.List.{sum}
 use Rattle.lane_words.specs.declared.limits.TheConstants.{MOST_PARTITIONS, MOST_TOPICS}

@@ -12,8 +12,7 @@ use murmur_lanes::{murmur2, murmur2_x8};
 /// How many keys are hashed at once.
 const LANES: usize = 8;
 
-/// Keys shorter than this are grouped by length and hashed eight at a time. A longer key is hashed
-/// alone.
+/// Keys shorter than this are grouped by length and hashed eight at a time, others alone.
 const GROUPED: usize = 65;
 
 /// Stands for a hash that is not computed yet. No hash without its highest bit has this value.

@@ -2,11 +2,10 @@
 //!
 //! It promises:
 //! - `Partitions::place_in` is the key's murmur2 hash without its highest bit, modulo the number of
-//!   the topic's partitions, plus the number of partitions of the topics before it. It is below the
-//!   total number of partitions. `place` is the same in the first topic.
-//! - `place_all` and `place_all_in` return the partitions of a list of keys, in order. Lists of
-//!   more than `parallel::LEAST_KEYS` keys are hashed on several threads, and on each of them eight
-//!   keys of the same length at once.
+//!   the topic's partitions, plus the number of partitions of the topics before it. `place` is the
+//!   same in the first topic.
+//! - `place_all` and `place_all_in` return the partitions of a list of keys, in order. Long lists
+//!   are hashed on several threads, and on each of them eight keys of the same length at once.
 //!
 //! Tests: `log_tests`.
 #![tactic(auto)]
@@ -123,9 +122,7 @@ impl Partitions {
         before
     }
 
-    /// The partition of a key of any length and any bytes: its murmur2 hash without the highest
-    /// bit, modulo the number of partitions. With several topics it is the key's partition in the
-    /// first. It allocates nothing.
+    /// The partition of a key in the first topic, as by `place_in`. It allocates nothing.
     pub fn place(&self, key: &[u8]) -> u32
         ensures place { result ≡ place_in_topic self.now 0 key.now }
         ensures within { result < sum self.now }
@@ -135,9 +132,9 @@ impl Partitions {
         self.place_in(0, key)
     }
 
-    /// The partition of a key in the topic with this index, numbered over all topics: its murmur2
-    /// hash without the highest bit, modulo the number of the topic's partitions, plus the number
-    /// of partitions of the topics before it. It allocates nothing.
+    /// The partition of a key of any bytes in the topic with this index, numbered over all topics:
+    /// its murmur2 hash without the highest bit, modulo the number of the topic's partitions, plus
+    /// the number of partitions of the topics before it. It allocates nothing.
     pub fn place_in(&self, topic: u8, key: &[u8]) -> u32
         requires { topic < length self.now }
         ensures place { result ≡ place_in_topic self.now topic key.now }
@@ -156,8 +153,7 @@ impl Partitions {
         self.before(topic) + hash % counts[topic]
     }
 
-    /// The partition of each of some keys, in order; with several topics, their partitions in the
-    /// first. Fails only if memory runs out.
+    /// The partition of each key in the first topic, in order. Fails only if memory runs out.
     ///
     /// Keys are processed in batches of 4,096 in parallel, on at most two threads a processor. A
     /// single batch starts no thread, and where no thread can be started the calling thread does
@@ -176,8 +172,7 @@ impl Partitions {
         Ok(places)
     }
 
-    /// The partition of each of some keys in its topic, in order: as `place_all`, with a topic for
-    /// each key.
+    /// As `place_all`, with a topic for each key.
     pub fn place_all_in<R: Threads + Sync>(
         &self,
         rt: &R,
@@ -263,8 +258,7 @@ impl Partitions {
         );
     }
 
-    /// Finds the partitions of the keys from this index on in their topics, one for each element of
-    /// `places`.
+    /// Finds the partitions of the keys from this index on in their topics, one for each place.
     fn place_piece_in(&self, topics: &[u8], keys: &[&[u8]], from: usize, places: &mut [u32])
         requires range { from + length places.old ≤ length keys.now }
         requires topics { AreTopics (length self.now) (length keys.now) topics.now }

@@ -1,5 +1,4 @@
-//! The same calls one word at a time, as their definitions say. They handle the words that do not
-//! fill a vector.
+//! The same calls one word at a time, for the words that do not fill a vector.
 
 ghost use Rattle.std.specs.Prelude.{◌≡◌, ◌↔◌, ◌+◌, ◌<◌, ◌^◌, ℕ, IsTrue, length, not, bit_and, bit_or, slice_index_or};
 ghost use Rattle.std.specs.Simd.Lanes.{zip2};

@@ -1,5 +1,4 @@
--- Keys grouped by length until they can be hashed eight at a time, and the hashes computed so far.
--- Hashes are without their highest bit, so 2 ^ 32 - 1 is no hash.
+-- Keys grouped by length, and hashes without their highest bit, so that 2 ^ 32 - 1 is no hash.
 use Rattle.std.specs.Prelude.{ℕ, zero, suc, ◌≡◌, ◌≢◌, ◌<◌, ◌+◌, ◌^◌, ◌-◌, List, [], length, ◌∷◌, replicate}
 use Rattle.std.specs.Prelude.{slice_index, slice_set, slice_index_or as get_or}
 use Rattle.std.specs.Simd.Lanes.{Each1, Each2}

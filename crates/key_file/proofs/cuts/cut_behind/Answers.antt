@@ -8,7 +8,6 @@ use Rattle.key_file.specs.declared.stand.Stand.TheVariants as k
 use Rattle.key_file.proofs.Cutting.{stand-behind, strip-drop}
 use Rattle.key_file.proofs.cuts.cut_behind.Goals as goal
 
--- a cut, from where a reader stands behind the first bytes
 from-start : (found : Option ℕ) (s : Stand) (before next : List ℕ) → 3 ≤ length before → s ≡ stand_after k.Record (strip_bom before)
     → IfSome found (λ cut. (slice_index next cut ≡ 10) × (in_quotes (stand_after s (take cut next)) ≡ false))
     → IfSome found (λ cut. (slice_index next cut ≡ 10) × (in_quotes (stand_after k.Record (strip_bom (before ++ take cut next))) ≡ false))

@@ -4,7 +4,6 @@ use Rattle.key_file.specs.Private.Pieces.{bytes_of}
 use Rattle.key_file.proofs.Parts.{alone, pieces-bytes}
 use Rattle.key_file.proofs.blocks.Blocks.with_block.Goals as goal
 
--- no piece
 empty : (pieces : List (List ℕ)) → length pieces ≡ 0 → pieces ≡ []
 empty [] e = refl
 empty (piece ∷ pieces) e = absurd (omega (arith, e))
