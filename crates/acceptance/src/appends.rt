@@ -79,7 +79,6 @@ fn numbers(alloc: Global) -> Result<Vec<String>> {
     Ok(texts)
 }
 
-/// Keys of these texts.
 fn keys_of<'a>(alloc: Global, texts: &'a [String]) -> Result<Vec<&'a [u8]>> {
     let mut keys = Vec::with_capacity(alloc, texts.len())?;
     for text in texts {

@@ -12,7 +12,6 @@ use std::io::Write;
 use std::random::RandomSource;
 use world::Reply;
 
-/// The number of partitions.
 const PARTITIONS: u32 = 4;
 
 /// A call on a cluster. Its reply is the one of a world.

@@ -1,12 +1,10 @@
 //! Makes calls that take memory, one at a time, so that each allocation of each call can be made to
-//! fail from outside (fault injection).
+//! fail from outside (fault injection). The argument names a story, which is a list of calls.
 //!
-//! The argument names a story, which is a list of calls. For each call the program prints a line
-//! that begins with `>`, makes the call, and prints `<`: an allocation between these two lines is
-//! the call's. Then it prints the answer. If that is `Memory`, it prints `refused` instead, and
-//! makes the call again. At the end of the story it prints the state.
-//!
-//! It promises nothing itself. The lines of each story are compared with a model of the rules.
+//! For each call the program prints a line that begins with `>`, makes the call, and prints `<`: an
+//! allocation between these two lines is the call's. Then it prints the answer, or, if that is
+//! `Memory`, `refused`, and makes the call again. At the end it prints the state. The lines of each
+//! story are compared with a model of the rules.
 #![tactic(auto)]
 
 mod appends;

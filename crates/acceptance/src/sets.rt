@@ -18,7 +18,6 @@ use std::fmt;
 use std::io::Write;
 use sticky_assignor::assign;
 
-/// The number of partitions.
 const PARTITIONS: u32 = 5;
 
 /// Rows, printed as members and elements.

@@ -68,14 +68,12 @@ impl<W: Write> Stage<W> {
         }
     }
 
-    /// Writes a line.
     fn write<D: Display + Drop>(&mut self, line: D) -> Result<()> {
         let text = format!(in self.alloc; "{line}\n")?;
         self.out.write_all(text.as_bytes())?;
         Ok(())
     }
 
-    /// Writes the mark after a call.
     fn write_end(&mut self) -> Result<()> {
         self.out.write_all(b"<\n")?;
         Ok(())

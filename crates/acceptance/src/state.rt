@@ -163,7 +163,6 @@ fn tell_consumer<W: Write>(stage: &mut Stage<W>, member: u32, consumer: &Consume
     stage.tell(format_args!("consumer {member} {now:?} {generation}{holdings}"));
 }
 
-/// Prints a commit.
 fn tell_commit<W: Write>(stage: &mut Stage<W>, commit: &Commit) {
     let terms = Terms(commit);
     stage.tell(format_args!("commit {terms}"));

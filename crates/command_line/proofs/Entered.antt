@@ -56,14 +56,12 @@ pub described : (c0 c1 c2 : Command) (x y : _) → out-Command c1 ≡ record (ou
     → out-Command c2 ≡ record (out-Command c0) { about = x; after_help = y }
 described c0 c1 c2 x y h k = k ∙ ap (λ (f : Command-F Command). record f { after_help = y }) h
 
--- a command with one more argument, which is not global
 pub added : (old new : Command) (a : Arg) (app : App) (rule : Rule) → AddsArg old a new → IsCommand app old → rule_of a ≡ rule → a.global ≡ false → IsCommand (with_rule app rule) new
 added old new a app rule adds is rule_is local = record {
   read_as = adds.shape local ∙ ap₂ with_rule is.read_as rule_is;
   local = adds.globals ∙ ap₂ (λ x y. x || y) is.local local;
 }
 
--- the settings of the top command
 pub top_settings : (c0 c1 c2 c3 : Command) (version : _) → app_of c0 ≡ new_app (codes "keycount")
     → out-Command c1 ≡ record (out-Command c0) { no_binary_name = true }
     → out-Command c2 ≡ record (out-Command c1) { subcommand_required = true }
@@ -76,12 +74,10 @@ top_settings c0 c1 c2 c3 version h k l m =
 
 -- ---- what the getters return
 
--- a flag, from what its getter returns
 pub flag_is : (o : Option Text) (given : Bool) → (o ≡ None → given ≡ false) → (o ≡ Some (codes "true") → given ≡ true) → (o ≡ Some (codes "false") → given ≡ false) → IsFlag o given
 flag_is None given n y z = n refl
 flag_is (Some t) given n y z = (λ e. y (ap Some e), λ e. z (ap Some e))
 
--- a text that clap's number parser accepts is an optional plus and the digits of a number in range
 pub unsigned_of : (most : ℕ) (t : Text) → IsSignedIn (pos 1) (pos most) t
     → IsNumeral 10 (without_leading_plus t) × (1 ≤ digits_value 10 (without_leading_plus t)) × (digits_value 10 (without_leading_plus t) ≤ most)
 unsigned_of most t passed = go (starts_with_minus t) refl
@@ -96,7 +92,6 @@ unsigned_of most t passed = go (starts_with_minus t) refl
         let high_ok = rw minus at passed.3 in
         (numeral, omega (arith, ints), omega (arith, ints))
 
--- a number that clap has checked is in range, as the default is
 pub number_in : (o : Option Text) (default most n : ℕ) → (1 ≤ default) × (default ≤ most) → ReadsNumber o most → IsNumber o default n → (1 ≤ n) × (n ≤ most)
 number_in None default most n fits reads is = rw is fits
 number_in (Some t) default most n fits reads is =
@@ -163,7 +158,6 @@ set_use P a v vs rows e row all =
     passed k true e = refl
     passed k false e = absurd (some_kind _ _ e)
 
--- the steps of a level that clap accepts: the walk, the subcommand below it, and the last check
 level_parts : (s : Shape) (names : Names) (words : List Text) (has : Bool) (below : Kinds) → level_fault s names nothing_held words has below ≡ []
     → (walk_fault s names (walk_from nothing_held) words ≡ []) × (below ≡ []) × (check_fault s (rows_after s.rules names words) has ≡ [])
 level_parts s names words has below e =
@@ -327,7 +321,6 @@ module _ (P : Row → Type 0) (s : Shape) where
         let parts = none_of _ _ e in
         walk_keeps names rest (walked s.rules names w word) parts.1 (turn_keeps names w.stopped w word parts.0 r)
 
-    -- the rows at the end of a level that clap does not refuse
     level_keeps : (words : List Text) (has : Bool) (below : Kinds) → Each KeepsDefault s.rules → level_fault s [] nothing_held words has below ≡ [] → Each P (rows_after s.rules [] words)
     level_keeps words has below defaults e =
         let walk_ok = none_of _ _ e in
@@ -339,7 +332,6 @@ module _ (P : Row → Type 0) (s : Shape) where
 -- ---- where the walk of the program stops
 
 module _ (s : Shape) (names : Names) (helps : not s.disable_help_subcommand ≡ true) where
-  -- the walk did not stop at `help`
   abbrev NotHelp : Option (Text × List Text) → Type 0
   NotHelp None = ⊤
   NotHelp (Some p) = bytes_eq p.0 (codes "help") ≡ false
@@ -417,7 +409,6 @@ module _ (s : Shape) (names : Names) (helps : not s.disable_help_subcommand ≡ 
 abbrev keycount_built : App
 keycount_built = built keycount_app
 
--- the shape of a subcommand, as clap builds it
 abbrev shape_at : ℕ → Shape
 shape_at k = unwrap_or (slice_get keycount_built.subs k) keycount_top.top
 
@@ -450,7 +441,6 @@ replay_rule k = unwrap_or (slice_get replay_shape.rules k) (path (codes "file"))
 other : {A : Type 0} → false ≡ true → A
 other e = absurd (true≢false (sym e))
 
--- a use of a rule adds only rows that pass
 abbrev KeepsRows : Rule → Type 0
 KeepsRows = Keeps RowPasses count_shape
 
@@ -493,7 +483,6 @@ batch_keeps (v ∷ vs) rows e r =
 help_keeps : KeepsRows (count_rule 6)
 help_keeps values rows e r = absurd (some_kind _ _ (none_of _ _ e).1)
 
--- a default adds only rows that pass
 abbrev DefaultKeepsRows : Rule → Type 0
 DefaultKeepsRows = KeepsDefault RowPasses count_shape
 
@@ -520,7 +509,6 @@ count_defaults = ((λ rows r. no_default (has_row (codes "file") rows) rows r), 
 replay_defaults : Each (KeepsDefault RowPasses replay_shape) replay_shape.rules
 replay_defaults = ((λ rows r. no_default (has_row (codes "file") rows) rows r), ((λ rows r. no_default (has_row (codes "script") rows) rows r), ((λ rows r. no_default (has_row (codes "partitions") rows) rows r), ((λ rows r. no_default (has_row (codes "column") rows) rows r), (header_default, ((λ rows r. no_default (has_row (codes "topics") rows) rows r), ((λ rows r. no_default (has_row (codes "topic-column") rows) rows r), ((λ rows r. no_default (has_row (codes "batch") rows) rows r), ((λ rows r. no_default (has_row (codes "help") rows) rows r), tt)))))))))
 
--- the first value of an id
 first_passes : (name : Text) (rows : List Row) → Each RowPasses rows → IsSome (find (λ r. bytes_eq r.id name) rows) → IsSome (first_of name rows)
 first_passes name rows all some = go (find (λ r. bytes_eq r.id name) rows) (λ r e. found_is RowPasses _ rows r all e) some
   where
@@ -535,7 +523,6 @@ number_passes name most rows all pick = go (find (λ r. bytes_eq r.id name) rows
     go None at = tt
     go (Some r) at = pick r (at r refl).0 (at r refl).1
 
--- an argument that was given has a row
 given_some : (name : Text) (rows : List Row) → is_given name rows ≡ true → IsSome (find (λ r. bytes_eq r.id name) rows)
 given_some name rows e = go (find (λ r. bytes_eq r.id name) rows) e
   where
@@ -543,7 +530,6 @@ given_some name rows e = go (find (λ r. bytes_eq r.id name) rows) e
     go None e = absurd (true≢false (sym e))
     go (Some r) e = refl
 
--- the last check of the level asks for each path
 file_given : (rows : List Row) → check_fault count_shape rows false ≡ [] → is_given (codes "file") rows ≡ true
 file_given rows e = go (is_given (codes "file") rows) e
   where
@@ -579,7 +565,6 @@ count_taken words e =
       options = options_pass rows all;
     }
 
--- of a subcommand whose arguments are those of `replay`
 script_taken : (s : Shape) → Each (Keeps RowPasses s) s.rules → Each (KeepsDefault RowPasses s) s.rules
     → ((rows : List Row) → check_fault s rows false ≡ [] → (is_given (codes "file") rows ≡ true) × (is_given (codes "script") rows ≡ true))
     → (words : List Text) → level_fault s [] nothing_held words false [] ≡ [] → TakesScript (rows_after s.rules [] words)
@@ -619,7 +604,6 @@ not_named_help t e = go (bytes_eq (codes "help") t) refl
         let is : codes "help" ≡ t = (bytes_eq-Decides (codes "help") t).0 same in
         absurd (true≢false (ap (λ u. bytes_eq u (codes "help")) is ∙ e))
 
--- an accepted walk that stopped at a subcommand other than `help` stopped at that of a job
 job_entered : (stop : Option (Text × List Text)) → StopsElsewhere stop → is_some (entered keycount_built stop) ≡ true → entered_fault keycount_built stop ≡ []
     → (name : Text) × (rows : List Row) × (entered keycount_built stop ≡ Some (name, rows)) × Takes name rows
 job_entered None help some e = absurd (true≢false (sym some))
@@ -638,7 +622,6 @@ job_entered (Some p) help some e =
     go false false false true other_no given e = absurd (true≢false other_no)
     go false false false false other_no given e = absurd (true≢false (sym given))
 
--- the last check of the program asks for a subcommand
 subcommand_given : (rows : List Row) (has : Bool) → check_fault keycount_built.top rows has ≡ [] → has ≡ true
 subcommand_given rows true e = refl
 subcommand_given rows false e = absurd (some_kind _ _ e)
@@ -651,7 +634,6 @@ taken_job words e =
     let elsewhere = walk_stop keycount_built.top (names_of keycount_built) refl words (walk_from nothing_held) parts.0 tt in
     job_entered stop elsewhere (subcommand_given (matches_of keycount_app words) _ parts.2) parts.1
 
--- what an error of clap becomes
 pub told : (words : List Text) (usage : Usage) (e : Error) (kinds : Kinds) → kinds ≡ fault_of keycount_app words → Tells usage (kind_of e) → HasKind kinds e → IsRefusal words usage
 told words (Help text) e kinds same tells (inl memory) =
     elim tells [
@@ -667,13 +649,11 @@ told words (Bad text) e kinds same tells (inl memory) = absurd (tells.2 memory)
 told words (Bad text) e kinds same tells (inr among) = inl (kind_of e, subst (λ ks. IsAmong (kind_of e) ks) same among, tells.0, tells.1)
 told words Memory e kinds same tells has = tt
 
--- the error for a list of topics that is not valid
 pub bad_told : (rows : List Row) (usage : Usage) → IsBadList (first_of (codes "topics") rows) → IsBadListTold usage → TellsBadList rows usage
 bad_told rows (Help text) bad tells = tells
 bad_told rows (Bad text) bad tells = (bad, tells)
 bad_told rows Memory bad tells = tt
 
--- the same, where clap accepted the words
 pub list_told : (words : List Text) (name : Text) (rows : List Row) (usage : Usage) → fault_of keycount_app words ≡ []
     → subcommand_of keycount_app words ≡ Some (name, rows) → TellsBadList rows usage → IsRefusal words usage
 list_told words name rows (Help text) taken found tells = absurd tells
@@ -681,13 +661,11 @@ list_told words name rows (Bad text) taken found tells =
     inr (record { name = name; rows = rows; taken = taken; subcommand = found; list = tells.0 }, tells.1)
 list_told words name rows Memory taken found tells = tt
 
--- the topics of a job are those of its words
 topics_of_job : (rows : List Row) (job : Job) → HasJob rows job → (topics : List Topic) × AreTopicsOf (first_of (codes "topics") rows) topics
 topics_of_job rows (Count file options) has = (options.topics.items, has.1.topics)
 topics_of_job rows (Replay file script options) has = (options.topics.items, has.options_are.topics)
 topics_of_job rows (Run file script options) has = (options.topics.items, has.options_are.topics)
 
--- words with a bad list give no job and no other error
 pub bad_list_told : (words : List Text) (answer : Result Job Usage) → IfOk answer (IsJobOf words) → IfErr answer (IsRefusal words)
     → HaveBadList words → IsErrAnd answer IsBadListTold
 bad_list_told words (Ok job) is refusal bad =
@@ -722,7 +700,6 @@ matches_are command words m app found faults =
       tested = job.3;
     }
 
--- the name and the rows that two getters return are those of the matches
 pub told_rows : {Z : Type 0} (o : Option (Box SubCommand Z)) (wanted name : Text) (rows told_by : List Row) → subcommand_rows o ≡ Some (wanted, rows)
     → Some name ≡ option_map (λ b. (out-SubCommand (box_value b)).name.now) o → Some told_by ≡ option_map (λ p. p.1) (subcommand_rows o)
     → (wanted ≡ name) × (rows ≡ told_by)

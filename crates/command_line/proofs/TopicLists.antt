@@ -19,7 +19,6 @@ use Rattle.command_line.specs.Topics.{AreTopicsOf, IsBadList, is_colon, is_comma
 digits_model : IsNumeralModel (λ word. list_all is_ascii_digit word ≡ true) (digits_value 10)
 digits_model = numerals_by_value _ (search rules)
 
--- no topics are valid together
 pub no_topics : MayBeTopics []
 no_topics = record {
   few = omega arith;
@@ -29,7 +28,6 @@ no_topics = record {
   within = omega arith;
 }
 
--- valid topics and one that may follow them are valid together
 pub more_known : (topics : List Topic) (topic : Topic) → MayBeTopics topics → MayFollow topics topic
     → is_name topic.name ≡ true → 1 ≤ topic.partitions → MayBeTopics (topics ++ topic ∷ [])
 more_known topics topic known follows named some = record {
@@ -40,7 +38,6 @@ more_known topics topic known follows named some = record {
   within = rw (sum_by_push (λ (t : Topic). t.partitions) topics topic) follows.within;
 }
 
--- in a valid list each topic may follow those before it
 pub has_followed : (before : List Topic) (topic : Topic) (more : List Topic) → MayBeTopics (before ++ topic ∷ more)
     → MayFollow before topic
 has_followed before topic more known =
@@ -59,7 +56,6 @@ has_followed before topic more known =
           omega (arith, sums, rest, all);
     }
 
--- where all items parse, the item after the first ones parses to what follows theirs
 pub said_next : {A B : Type 0} (f : A → Option B) (items : List A) (item : A) (rest : List A) (said all : List B)
     → map f items ≡ map Some said → map f (items ++ item ∷ rest) ≡ map Some all
     → (next : B) × (more : List B) × (f item ≡ Some next) × (all ≡ said ++ next ∷ more)
@@ -78,7 +74,6 @@ said_next f (a ∷ others) item rest (s ∷ ss) (b ∷ bs) e h =
     let more : bs ≡ ss ++ next.0 ∷ next.1 = next.3 in
     (next.0, next.1, next.2, cc)
 
--- a list split at one of its elements
 pub split_there : {X : Type 0} (all before : List X) (n : ℕ) (item : X) → before ≡ take n all
     → (n < length all) × (item ≡ get_or all n item) → all ≡ before ++ item ∷ drop (n + 1) all
 split_there all before n item so_far turn =
@@ -107,7 +102,6 @@ no_room_in list before item rest said topic there so_far is never topics says =
     let same : next.0 ≡ topic = cc in
     never (subst (λ t. MayFollow said t) same (has_followed said next.0 next.1 (subst MayBeTopics next.3 says.rules.known)))
 
--- a list has an item, and so a topic
 pub some_said : (list : List ℕ) (topics : List Topic) → map topic_of (slice_split is_comma list) ≡ map Some topics
     → 1 ≤ length topics
 some_said list topics says =
@@ -124,7 +118,6 @@ no_name_or_count : (b : Bool) (topic : Topic) → cond (b && false) (Some topic)
 no_name_or_count true topic = refl
 no_name_or_count false topic = refl
 
--- a parsed topic has a valid name and number of partitions
 pub topic_said : (item : List ℕ) (topic : Topic) → topic_of item ≡ Some topic
     → (is_name topic.name ≡ true) × (1 ≤ topic.partitions) × (topic.partitions ≤ 4096)
 unfolding topic_of
@@ -143,14 +136,12 @@ topic_said item topic e =
     at true false named counts e = let no : ⊥ = cc in absurd no
     at false counted named counts e = let no : ⊥ = cc in absurd no
 
--- an item without a colon does not parse
 pub nothing_said : (item : List ℕ) → position_or_len is_colon item ≡ length item → topic_of item ≡ None
 unfolding topic_of
 nothing_said item e =
     let none : after_first is_colon item ≡ [] = drop_all (position_or_len is_colon item + 1) item (omega (arith, e)) in
     rw none (no_name_or_count (is_name (before_first is_colon item)) _)
 
--- the topics of the words are valid together
 pub may_be_topics : (list : Option (List ℕ)) (topics : List Topic) → AreTopicsOf list topics → MayBeTopics topics
 may_be_topics None topics none = rw none no_topics
 may_be_topics (Some list) topics says = says.rules.known
@@ -159,7 +150,6 @@ refused : (b : Bool) (n : ℕ) → (b ≡ true → ⊥) → cond b (Some n) None
 refused true n never = absurd (never refl)
 refused false n never = refl
 
--- digits that do not fit in 32 bits are not a number of partitions
 pub no_count : {E : Type 0} (digits : List ℕ) (e : E) → ParsesUnsigned 32 10 digits (Err e)
     → list_all is_ascii_digit digits ≡ true → count_of digits ≡ None
 no_count {E} digits e parses all =

@@ -1,12 +1,8 @@
-//! What `--help` prints below the options: script lines, rows, faults, exit statuses and examples.
-//!
-//! Each sentence stands here once. `release/generate` makes the tables of the man page from what
-//! the program prints: the name of an entry begins in column 3, and its text in column 28.
+//! What `--help` prints below the options. `release/generate` makes the tables of the man page from
+//! it: the name of an entry begins in column 3, and its text in column 28.
 
-/// These literals and parts, concatenated. A part is what several commands have in common.
-///
-/// `concat!` takes literals alone, so the macro replaces the parts one by one, and collects the
-/// literals in brackets.
+/// Literals and parts that several commands share, concatenated. `concat!` takes literals alone, so
+/// the macro replaces the parts one by one, and collects the literals in brackets.
 macro_rules! text {
     ([$($done:literal)*]) => {
         concat!($($done),*)

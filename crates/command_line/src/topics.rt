@@ -55,7 +55,6 @@ fn count_of(digits: &str) -> Option<u32>
     (1..=MOST_PARTITIONS).contains(&number).then_some(number)
 }
 
-/// Whether each byte is a decimal digit.
 fn has_digits_alone(text: &str) -> bool
     ensures { result ≡ list_all is_ascii_digit text.now }
 {
@@ -74,14 +73,12 @@ fn may_follow(topics: &[Topic], topic: &Topic) -> bool
         && partitions_in(topics) + topic.partitions <= MOST_PARTITIONS
 }
 
-/// Whether no topic has this name.
 fn is_new(topics: &[Topic], name: &Name) -> bool
     ensures { IsTrue result ↔ IsNew topics.now name.now }
 {
     topics.iter().all(|topic| topic.name.text() != name.text())
 }
 
-/// The number of partitions of all topics.
 fn partitions_in(topics: &[Topic]) -> u32
     requires { MayBeTopics topics.now }
     ensures { result ≡ partitions_in topics.now }

@@ -54,23 +54,17 @@ pub enum Usage {
 /// The version, and the line that `rt version` prints for the kit that proved it.
 const VERSION: &str = "0.1.0, proved with rattle-kit-13f logic dac8208d650f15bf";
 
-/// The help of `--partitions`.
 const PARTITIONS_HELP: &str = "Number of partitions, 1 to 4096 [default: 4]";
 
-/// The help of `--column`.
 const COLUMN_HELP: &str = "Column of the key, 1 to 65535 [default: 1]";
 
-/// The help of `--topics`.
 const TOPICS_HELP: &str =
     "1 to 8 topics as NAME:N,NAME:N with N partitions each, at most 4096 in all";
 
-/// The help of `--topic-column`.
 const TOPIC_COLUMN_HELP: &str = "Column of the topic, 1 to 65535; used with --topics [default: 2]";
 
-/// The error for a list of topics that is not valid.
 const BAD_TOPICS: &str = "bad topics\n";
 
-/// The help of `--batch`.
 const BATCH_HELP: &str = "Maximum number of records per poll, 1 to 1000000 [default: 500]";
 
 /// A required path.
@@ -85,7 +79,6 @@ fn path<'a>(alloc: Global, name: &'a str, shown: &'a str, help: &'a str) -> Arg<
         .action(ArgAction::Set)
 }
 
-/// The path of the CSV file.
 fn file_path<'a>(alloc: Global) -> Arg<'a>
     ensures rule { rule_of result ≡ path (codes "file") }
     ensures local { result.global ≡ false }
@@ -111,7 +104,6 @@ fn number_option<'a>(alloc: Global, name: &'a str, help: &'a str, most: u32) -> 
         .action(ArgAction::Set)
 }
 
-/// The option `--topics`.
 fn topics_option<'a>(alloc: Global) -> Arg<'a>
     ensures rule { rule_of result ≡ text_option (codes "topics") }
     ensures local { result.global ≡ false }
@@ -123,7 +115,6 @@ fn topics_option<'a>(alloc: Global) -> Arg<'a>
         .action(ArgAction::Set)
 }
 
-/// The flag `--header`.
 fn header_flag<'a>(alloc: Global) -> Arg<'a>
     ensures rule { rule_of result ≡ flag (codes "header") }
     ensures local { result.global ≡ false }
@@ -134,10 +125,8 @@ fn header_flag<'a>(alloc: Global) -> Arg<'a>
         .action(ArgAction::SetTrue)
 }
 
-/// Adds an argument to a command, if there was memory for the command.
-///
-/// Commands are passed on as results: each `?` where a command is owned is one more way to drop it,
-/// which the proofs pay for. Here is the only one for arguments.
+/// Adds an argument to a command. Commands are passed on as results: each `?` where a command is
+/// owned is one more way to drop it, which the proofs pay for. Here is the only one for arguments.
 fn with_arg<'a>(
     command: Result<Command<'a>, AllocError>,
     arg: Arg<'a>,
@@ -149,7 +138,6 @@ fn with_arg<'a>(
     command?.arg(arg)
 }
 
-/// Adds a subcommand, if there was memory for both.
 fn with_subcommand<'a>(
     command: Result<Command<'a>, AllocError>,
     added: Result<Command<'a>, AllocError>,
@@ -179,7 +167,6 @@ fn with_options<'a>(
     with_arg(command, topic_column)
 }
 
-/// The subcommand `count`.
 fn count_command<'a>(alloc: Global) -> Result<Command<'a>, AllocError>
     ensures { IfOk result (IsCommand count_app) }
 {
@@ -208,7 +195,6 @@ fn with_script<'a>(
     )
 }
 
-/// The subcommand `replay`.
 fn replay_command<'a>(alloc: Global) -> Result<Command<'a>, AllocError>
     ensures { IfOk result (IsCommand replay_app) }
 {
@@ -218,7 +204,6 @@ fn replay_command<'a>(alloc: Global) -> Result<Command<'a>, AllocError>
     with_script(alloc, command, "Script to replay; - is standard input")
 }
 
-/// The subcommand `run`.
 fn run_command<'a>(alloc: Global) -> Result<Command<'a>, AllocError>
     ensures { IfOk result (IsCommand run_app) }
 {
@@ -279,7 +264,6 @@ fn number_of(given: &ArgMatches, id: &str, default: u32) -> u32
     number
 }
 
-/// The usage error for a list of topics that is not valid.
 fn bad_list(alloc: Global) -> Usage
     ensures { IsBadListTold result }
 {
@@ -324,7 +308,6 @@ fn options_of(alloc: Global, given: &ArgMatches, batch: u32) -> Result<Options, 
     })
 }
 
-/// The job of `count`, from what clap found.
 fn count_job<'a>(alloc: Global, given: &ArgMatches<'a>) -> Result<Job<'a>, Usage>
     requires { TakesCount (rows_of (found_of given.now)) }
     ensures job { IfOk result (IsJobOfRows (codes "count") (rows_of (found_of given.now))) }
@@ -349,7 +332,6 @@ fn scripted<'a>(alloc: Global, given: &ArgMatches<'a>) -> Result<(&'a str, &'a s
     Ok((file, script, options))
 }
 
-/// The job of `replay`, from what clap found.
 fn replay_job<'a>(alloc: Global, given: &ArgMatches<'a>) -> Result<Job<'a>, Usage>
     requires { TakesScript (rows_of (found_of given.now)) }
     ensures job { IfOk result (IsJobOfRows (codes "replay") (rows_of (found_of given.now))) }
@@ -363,7 +345,6 @@ fn replay_job<'a>(alloc: Global, given: &ArgMatches<'a>) -> Result<Job<'a>, Usag
     })
 }
 
-/// The job of `run`, from what clap found.
 fn run_job<'a>(alloc: Global, given: &ArgMatches<'a>) -> Result<Job<'a>, Usage>
     requires { TakesScript (rows_of (found_of given.now)) }
     ensures job { IfOk result (IsJobOfRows (codes "run") (rows_of (found_of given.now))) }

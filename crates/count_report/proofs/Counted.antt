@@ -15,14 +15,12 @@ use Rattle.partition_log.proofs.Parted.{sum-same}
 use Rattle.report_rows.specs.CountRows.{AreCountsByNumber}
 use Rattle.count_report.specs.Private.Counted.{AreCountsBelow, so_far}
 
--- the most records that the logs below p can have
 most-so-far : (l : PartitionLogs) (p n : ℕ) → IsValidLogs l → so_far l p n ≤ p * (2 ^ 32 - 1)
 most-so-far l zero n a = omega arith
 most-so-far l (suc p) n a =
     let step : suc p * (2 ^ 32 - 1) ≡ p * (2 ^ 32 - 1) + (2 ^ 32 - 1) = suc-mul p (2 ^ 32 - 1) in
     omega (arith, step, most-so-far l p n a, a.few_records p, count_by-le-length (λ y. n == y) (log_at l p))
 
--- each number in a log has a counter
 pub in-counters : (l : PartitionLogs) (p : ℕ) (counts : List ℕ) → IsValidLogs l → AreCountsBelow l p counts → table.HaveCounters counts (log_at l p)
 in-counters l p counts a h x more =
     let there = stands-somewhere (log_at l p) x more in
@@ -38,7 +36,6 @@ in-range l p counts a h lt x =
       | inr past ↦ omega (arith, get_or_past counts x 0 (omega (arith, h.one_each, past)), some, a.few_records p)
     ]
 
--- one more log
 pub next-log : (l : PartitionLogs) (p : ℕ) (counts : List ℕ) → AreCountsBelow l p counts → AreCountsBelow l (p + 1) (table.raised counts (log_at l p))
 unfolding table.raised
 next-log l p counts h = record {
@@ -49,14 +46,12 @@ next-log l p counts h = record {
       counter-raised 0 counts (log_at l p) n (omega (arith, lt, h.one_each)) ∙ ap (λ m. get_or counts n 0 + table.plain (log_at l p) m) from ∙ ap (λ m. m + table.plain (log_at l p) n) (h.counted n lt) ∙ ap (λ q. so_far l q n) (sym next);
 }
 
--- the list of one of several partial counts is its log
 pub counted-log : {E : Type 0} (l : PartitionLogs) (p i : ℕ) (made read : List (Result (List ℕ) E)) (answer : Result (List ℕ) E) (partial : List ℕ) → IfOk (get_or made i answer) (λ ids. ids ≡ log_at l p)
     → read ≡ made → answer ≡ get_or read i answer → answer ≡ Ok partial → partial ≡ log_at l p
 counted-log l p i made read answer partial h same is ok =
     let found : get_or made i answer ≡ Ok partial = ap (λ answers. get_or answers i answer) (sym same) ∙ sym is ∙ ok in
     rw found at h
 
--- all logs
 pub all-logs : (l : PartitionLogs) (p : ℕ) (counts : List ℕ) → IsValidLogs l → p ≡ l.partitions → AreCountsBelow l p counts → AreCountsByNumber l counts
 all-logs l p counts a e h = record {
   one_each = h.one_each;

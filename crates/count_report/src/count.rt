@@ -68,16 +68,13 @@ fn file_report<R: Threads + Sync + RandomSource, S: Source>(
 /// The whole file is read and the whole text is made before the first write. So after `WriteFailed`
 /// a prefix of the text is written, and after any other refusal nothing.
 ///
-/// # Errors
-///
-/// In this order:
+/// Errors, in this order:
 /// - `ReadFailed`: a read failed.
 /// - The first bad record: `BadCsv` if it has another number of fields than the first record,
 ///   `NoSuchColumn` if it lacks a column, `NoSuchTopic` if its topic is none of those given.
 /// - The first record that can't be appended: `KeyTooLong`, `LogFull`.
 /// - `WriteFailed`: a write failed.
-///
-/// `Memory`, at any point: an allocation failed, or the system had no random bytes.
+/// - `Memory`, at any point: an allocation failed, or the system had no random bytes.
 pub fn count_text<R: Threads + Sync + RandomSource, S: Source, K: Sink>(
     rt: &R,
     alloc: Global,

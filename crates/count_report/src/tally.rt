@@ -149,7 +149,6 @@ fn add_group<R: Threads + Sync, L: LogRead + Sync>(
     merge_group(logs, from, to, &group, table)
 }
 
-/// Adds the counts of the logs from `from` on, below `to`, to those of the logs before.
 fn merge_group<L: LogRead>(
     logs: &L,
     from: u32,
@@ -196,7 +195,6 @@ fn group_counts<R: Threads + Sync, L: LogRead + Sync>(
     Ok(group)
 }
 
-/// How often each key occurs in one log.
 fn log_counts<L: LogRead>(alloc: Global, logs: &L, p: u32) -> Result<Partial, Memory>
     requires { p < (L.contents logs.now).partitions }
     ensures { IfOk result (λ partial. partial ≡ log_at (L.contents logs.now) p) }
@@ -204,7 +202,6 @@ fn log_counts<L: LogRead>(alloc: Global, logs: &L, p: u32) -> Result<Partial, Me
     Partial::of(alloc, Vec::from_slice(alloc, all_ids(logs, p))?)
 }
 
-/// The key numbers of one log.
 fn all_ids<L: LogRead>(logs: &L, p: u32) -> &[u32]
     requires { p < (L.contents logs.now).partitions }
     ensures { result.now ≡ log_at (L.contents logs.now) p }

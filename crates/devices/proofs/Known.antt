@@ -7,26 +7,22 @@ use Rattle.devices.specs.Devices.{AppendsBeginning}
 use Rattle.std.proofs.lemmas.List.{append-nil, length-drop, length-take-le, take-append-le, take_all}
 use borrow.Rule.Slice.PartMut.{post_of, put_mid}
 
--- the bytes consumed by two consecutive reads
 pub consumes_more : (a b c : Option (List ℕ)) (xs ys : List ℕ) → Consumes a b xs → Consumes b c ys → Consumes a c (xs ++ ys)
 consumes_more None b c xs ys h k = tt
 consumes_more (Some a) (Some b) (Some c) xs ys h k = h ∙ ap (λ z. xs ++ z) k ∙ sym (append_assoc xs ys c)
 consumes_more (Some a) (Some b) None xs ys h k = absurd k
 consumes_more (Some a) None c xs ys h k = absurd h
 
--- bytes read up to the end are all that were left
 pub whole_read : (a b c : Option (List ℕ)) (xs : List ℕ) → Consumes a b xs → Consumes b c [] → IsAtEnd c → IfSome a (λ bytes. xs ≡ bytes)
 whole_read None b c xs h k end = tt
 whole_read (Some a) (Some b) (Some c) xs h k end = sym (h ∙ ap (λ z. xs ++ z) (k ∙ end) ∙ append-nil xs)
 whole_read (Some a) (Some b) None xs h k end = absurd k
 whole_read (Some a) None c xs h k end = absurd h
 
--- bytes that were accepted are at the end
 pub grown : (taken : Bool) (all more new : List ℕ) → taken ≡ true → new ≡ (if taken then all ++ more else all) → new ≡ all ++ more
 grown true all more new e is = is
 grown false all more new e is = absurd (cc)
 
--- the bytes appended by two consecutive writes of a slice
 pub appends_more : (a b c : Option (List ℕ)) (bytes : List ℕ) (n m : ℕ) → Appends a b (take n bytes) → Appends b c (take m (drop n bytes))
     → Appends a c (take (n + m) bytes)
 appends_more None b c bytes n m h k = tt
@@ -35,14 +31,12 @@ appends_more (Some a) (Some b) (Some c) bytes n m h k =
 appends_more (Some a) (Some b) None bytes n m h k = absurd k
 appends_more (Some a) None c bytes n m h k = absurd h
 
--- the bytes appended by writes of two texts
 appends_both : (a b c : Option (List ℕ)) (xs ys : List ℕ) → Appends a b xs → Appends b c ys → Appends a c (xs ++ ys)
 appends_both None b c xs ys h k = tt
 appends_both (Some a) (Some b) (Some c) xs ys h k = k ∙ ap (λ z. z ++ ys) h ∙ append_assoc a xs ys
 appends_both (Some a) (Some b) None xs ys h k = absurd k
 appends_both (Some a) None c xs ys h k = absurd h
 
--- the texts before one, it, and those after it
 parted : {X : Type 0} (f : X → List ℕ) (texts : List X) (i : ℕ) (x : X) → i < length texts → x ≡ get_or texts i x
     → (more : List ℕ) × (flat_map f texts ≡ flat_map f (take i texts) ++ (f x ++ more))
 parted f [] i x lt e = absurd (omega (arith, lt))
@@ -62,16 +56,13 @@ texts_begun f texts i x a b c lt at before begun =
     let within : length front + begun.0 ≤ length (flat_map f texts) = omega (arith, begun.1, ap length parts.1, length-append front (f x ++ parts.0), length-append (f x) parts.0) in
     (length front + begun.0, within, rw cut (appends_both a b c front (take begun.0 (f x)) before begun.2))
 
--- a fact holds after a refusal too
 pub on_err : {T E P : Type 0} (result : Result T E) → P → OnErr result P
 on_err (Ok v) p = tt
 on_err (Err e) p = p
 
--- a slice to the end is the list without its first items
 pub slice_end : (s : ℕ) (xs : List ℕ) → take (length xs - s) (drop s xs) ≡ drop s xs
 slice_end s xs = take_all (length xs - s) (drop s xs) (omega (arith, length-drop s xs))
 
--- a buffer that was read into from an index on
 pub room-filled : (filled n k : ℕ) (room buf : List ℕ) → filled ≤ length room → n ≤ length buf → take (filled + n) (put_mid filled k room buf) ≡ take filled room ++ take n buf
 room-filled filled n k room buf h within =
     let front : length (take filled room) ≡ filled = length-take-le filled room h in

@@ -60,11 +60,9 @@ pub trait Sink {
 /// A source over any reader of std. Every error of the reader counts as a failed read.
 #[derive(Drop)]
 pub struct FromRead<R> {
-    /// The reader.
     reader: R,
     /// The estimate of its length in bytes.
     expected: usize,
-    /// The number of failed reads.
     failures: u64,
 }
 
@@ -114,9 +112,7 @@ impl<R: Read> Source for FromRead<R> {
 /// write that takes none of the bytes.
 #[derive(Drop)]
 pub struct FromWrite<W> {
-    /// The writer.
     writer: W,
-    /// The number of failed writes.
     failures: u64,
 }
 
@@ -180,11 +176,8 @@ fn read_through<S: Source>(
     unreachable!()
 }
 
-/// Reads a source to its end.
-///
-/// # Errors
-///
-/// `ReadFailed` if a read failed, `Memory` if an allocation failed.
+/// Reads a source to its end. Fails with `ReadFailed` if a read failed, and with `Memory` if an
+/// allocation failed.
 pub fn read_all<S: Source>(alloc: Global, source: &mut S) -> Result<Vec<u8>, Refusal>
     requires { CanStillFail (S.failures source.old) }
     ensures whole { IfOk result (λ all. IfSome (S.left source.old) (λ bytes. all.items ≡ bytes)) }
@@ -273,11 +266,8 @@ fn read_rooms<S: Source>(
 }
 
 /// Reads a source to its end into consecutive blocks. If `count` is more than 1, the first `count`
-/// blocks share the length that the source expects, and one more block takes the rest.
-///
-/// # Errors
-///
-/// As for `read_all`.
+/// blocks share the length that the source expects, and one more block takes the rest. Fails like
+/// `read_all`.
 pub fn read_blocks<R: Threads + Sync, S: Source>(
     rt: &R,
     alloc: Global,
@@ -305,11 +295,8 @@ pub fn read_blocks<R: Threads + Sync, S: Source>(
     Ok(blocks)
 }
 
-/// Writes all bytes, in as many writes as the sink takes.
-///
-/// # Errors
-///
-/// `WriteFailed` if a write failed; a prefix of the bytes is then written.
+/// Writes all bytes, in as many writes as the sink takes. If a write failed, the error is
+/// `WriteFailed`, and a prefix of the bytes is written.
 pub fn write_all<K: Sink>(sink: &mut K, bytes: &[u8]) -> Result<(), Refusal>
     requires { CanStillFail (K.failures sink.old) }
     ensures all { OnOk result (Appends (K.written sink.old) (K.written sink.new) bytes.now) }
@@ -329,11 +316,8 @@ pub fn write_all<K: Sink>(sink: &mut K, bytes: &[u8]) -> Result<(), Refusal>
     Ok(())
 }
 
-/// Writes texts one after another, so that the caller need not concatenate them.
-///
-/// # Errors
-///
-/// `WriteFailed` if a write failed; a prefix of the concatenation is then written.
+/// Writes texts one after another, so that the caller need not concatenate them. If a write failed,
+/// the error is `WriteFailed`, and a prefix of the concatenation is written.
 pub fn write_texts<K: Sink>(sink: &mut K, texts: &[Vec<u8>]) -> Result<(), Refusal>
     requires { CanStillFail (K.failures sink.old) }
     ensures all { OnOk result

@@ -1,6 +1,4 @@
-//! Byte sources and sinks: the boundary between the reports and the system.
-//!
-//! Promises:
+//! Byte sources and sinks: the boundary between the reports and the system. Promises:
 //! - `read_all` returns every byte that the source has left, `read_blocks` the same bytes in
 //!   consecutive blocks, and `write_all` and `write_texts` append exactly the bytes given.
 //! - An error names the device call that failed. `ReadFailed` and `WriteFailed` come only if the

@@ -16,11 +16,9 @@ use Rattle.ingest.specs.Private.Appending.{EndsAppends}
 use Rattle.ingest.specs.Records.{AreOfTopics, place_of_record}
 use Rattle.ingest.proofs.Faulted.{first_fault-later, first_fault-nil, first_fault-now, record_fault-kind, refused, refused_as_told, taken}
 
--- a record with its partition
 abbrev at_place : PartitionLogs → Keyed → Placed
 at_place l keyed = (place_in l keyed, keyed.1)
 
--- logs stay valid after an append
 valid_with : (l : PartitionLogs) (keyed : Keyed) → IsValidLogs l → IsOfTopic l keyed → IsOk (append_answer l keyed) → IsValidLogs (with_record l keyed)
 valid_with l keyed v topic ok =
     let place = place_in l keyed in
@@ -69,11 +67,9 @@ all_grown counts before l (keyed ∷ records) v h same topics all =
 grown : (counts : List ℕ) (l l2 : PartitionLogs) (records : List Keyed) → IsValidLogs l → AreLogsOf [] l → l.counts ≡ counts → All (IsOfTopic l) records → AreAppended l (map (at_place l) records) l2 → AreGrown counts [] records l2
 grown counts l l2 records v h same topics done = subst (AreGrown counts [] records) (sym done.1) (all_grown counts [] l records v h same topics done.0)
 
--- records of these topics are of the topics of logs with the same numbers of partitions
 pub of-topics : (counts : List ℕ) (l : PartitionLogs) (records : List Keyed) → l.counts ≡ counts → AreOfTopics counts records → All (IsOfTopic l) records
 of-topics counts l records same h = subst (λ cs. AreOfTopics cs records) (sym same) h
 
--- all records were appended to empty logs
 pub all_appended : (counts : List ℕ) (l l2 : PartitionLogs) (records : List Keyed) → IsValidLogs l → AreLogsOf [] l → l.counts ≡ counts → AreOfTopics counts records → AreAppended l (placed l records) l2
     → AreLogsOf records l2 × (l2.counts ≡ counts) × (first_fault counts [] records ≡ None)
 all_appended counts l l2 records v h same topics done =
@@ -83,7 +79,6 @@ all_appended counts l l2 records v h same topics done =
       ap (first_fault counts []) (sym (append-nil records)) ∙ known.faults [] ∙ first_fault-nil counts records,
     )
 
--- a record was refused
 appends_stopped : (counts : List ℕ) (l l2 : PartitionLogs) (records : List Keyed) (i : ℕ) (why : Refusal) → IsValidLogs l → AreLogsOf [] l → l.counts ≡ counts → All (IsOfTopic l) records → AreStoppedAfter i why l (map (at_place l) records) l2
     → IsKeyFault why × ((why ≡ r.Memory) ⊎ (first_fault counts [] records ≡ Some why))
 appends_stopped counts l l2 records i why v h same topics stop = (record_fault-kind l2 keyed why told, go told)
@@ -115,7 +110,6 @@ appends_stopped counts l l2 records i why v h same topics stop = (record_fault-k
         let now : record_fault counts (take i records) keyed ≡ Some why = refused counts l2 (take i records) keyed why known.valid known.logs known.counts_are topic e in
         inr (ap (first_fault counts []) (sym (take-append-drop i records)) ∙ known.faults (drop i records) ∙ ap (first_fault counts (take i records)) left ∙ first_fault-now counts (take i records) keyed (drop (suc i) records) why now)
 
--- the appends to empty logs ended before the last record
 pub appends_ended : (counts : List ℕ) (l l2 : PartitionLogs) (records : List Keyed) (why : Refusal) → IsValidLogs l → AreLogsOf [] l → l.counts ≡ counts → AreOfTopics counts records → EndsAppends l records l2 why
     → IsKeyFault why × ((why ≡ r.Memory) ⊎ (first_fault counts [] records ≡ Some why))
 appends_ended counts l l2 records why v h same topics (inl m) = (subst IsKeyFault (sym m) tt, inl m)

@@ -12,7 +12,6 @@ use Rattle.ingest.specs.RecordFaults.{fault_or, first_fault, record_fault, recor
 use Rattle.ingest.specs.Records.{place_of_record}
 use Rattle.ingest.proofs.Placed.{log-long, place-is}
 
--- the fault in an answer
 abbrev pub fault_in : {T : Type 0} → Result T Refusal → Option Refusal
 fault_in (Ok v) = None
 fault_in (Err fault) = Some fault
@@ -34,18 +33,15 @@ record_fault-is counts l before keyed a h same topic =
     ∙ ap (λ m. if nat_lt LONGEST_KEY (length key) then Some r.KeyTooLong else if finds_no_room l.keys m key then Some r.LogFull else None) records
     ∙ ap (λ keys. if nat_lt LONGEST_KEY (length key) then Some r.KeyTooLong else if finds_no_room keys (records_beside counts before keyed) key then Some r.LogFull else None) h.numbers
 
--- no record is left
 pub first_fault-nil : (counts : List ℕ) (before : List Keyed) → first_fault counts before [] ≡ None
 unfolding first_fault
 first_fault-nil counts before = refl
 
--- the next record can be appended
 pub first_fault-later : (counts : List ℕ) (before : List Keyed) (keyed : Keyed) (records : List Keyed) → record_fault counts before keyed ≡ None
     → first_fault counts before (keyed ∷ records) ≡ first_fault counts (before ++ keyed ∷ []) records
 unfolding first_fault
 first_fault-later counts before keyed records h = rw h refl
 
--- the next record can't be appended
 pub first_fault-now : (counts : List ℕ) (before : List Keyed) (keyed : Keyed) (records : List Keyed) (fault : Refusal) → record_fault counts before keyed ≡ Some fault
     → first_fault counts before (keyed ∷ records) ≡ Some fault
 unfolding first_fault
@@ -55,11 +51,9 @@ none_in : {T : Type 0} (answer : Result T Refusal) → IsOk answer → fault_in 
 none_in (Ok v) h = refl
 none_in (Err fault) h = absurd (cc h)
 
--- a record that the logs accept has no fault
 pub taken : (counts : List ℕ) (l : PartitionLogs) (before : List Keyed) (keyed : Keyed) → IsValidLogs l → AreLogsOf before l → l.counts ≡ counts → IsOfTopic l keyed → IsOk (append_answer l keyed) → record_fault counts before keyed ≡ None
 taken counts l before keyed a h same topic ok = sym (record_fault-is counts l before keyed a h same topic) ∙ none_in (append_answer l keyed) ok
 
--- a record that the logs refuse has that fault
 pub refused : (counts : List ℕ) (l : PartitionLogs) (before : List Keyed) (keyed : Keyed) (fault : Refusal) → IsValidLogs l → AreLogsOf before l → l.counts ≡ counts → IsOfTopic l keyed → append_answer l keyed ≡ Err fault
     → record_fault counts before keyed ≡ Some fault
 refused counts l before keyed fault a h same topic e = sym (record_fault-is counts l before keyed a h same topic) ∙ ap fault_in e
@@ -69,17 +63,14 @@ kind-at true b v fault e = let is : r.KeyTooLong ≡ fault = cc e in subst IsKey
 kind-at false true v fault e = let is : r.LogFull ≡ fault = cc e in subst IsKeyFault is tt
 kind-at false false v fault e = absurd (cc e)
 
--- the refusals of an append
 pub record_fault-kind : (l : PartitionLogs) (keyed : Keyed) (fault : Refusal) → (fault ≡ r.Memory) ⊎ (append_answer l keyed ≡ Err fault) → IsKeyFault fault
 record_fault-kind l keyed fault (inl e) = subst IsKeyFault (sym e) tt
 record_fault-kind l keyed fault (inr e) = kind-at (nat_lt LONGEST_KEY (length keyed.1)) (is_full_for l (place_in l keyed) keyed.1) _ fault e
 
--- a refusal is the expected one, or an allocation failed
 pub refused_as_told : {T : Type 0} (expected : Result T Refusal) (fault : Refusal) → Answers expected (Err fault) → (fault ≡ r.Memory) ⊎ (expected ≡ Err fault)
 refused_as_told expected fault (inl e) = inr (sym e)
 refused_as_told expected fault (inr e) = inl (cc e)
 
--- a record that can't be appended ends a report
 pub fault_told : (fault : Option Refusal) (text : List ℕ) (e : Refusal) → (e ≡ r.Memory) ⊎ (fault ≡ Some e) → (e ≡ r.Memory) ⊎ (fault_or fault text ≡ Err e)
 fault_told fault text e (inl m) = inl m
 fault_told fault text e (inr h) = inr (ap (λ f. fault_or f text) h)

@@ -14,15 +14,12 @@ use Rattle.command_line.specs.Options.{AreInRange}
 use Rattle.command_line.specs.declared.options.Options.{Options}
 use Rattle.ingest.specs.Records.{counts_among, partition_counts, place_of_record}
 
--- the partitions of logs are those of all topics
 pub partitions-are : (l : PartitionLogs) (counts : List ℕ) → IsValidLogs l → l.counts ≡ counts → l.partitions ≡ sum counts
 partitions-are l counts a same = a.in_all ∙ ap sum same
 
--- a record's partition in the logs is the one that its topic defines
 pub place-is : (l : PartitionLogs) (counts : List ℕ) (keyed : Keyed) → l.counts ≡ counts → place_in l keyed ≡ place_of_record counts keyed
 place-is l counts keyed same = ap (λ cs. place_of_record cs keyed) same
 
--- the length of a log is the number of its records
 pub log-long : (l : PartitionLogs) (counts : List ℕ) (records : List Keyed) (p : ℕ) → l.counts ≡ counts → AreLogsOf records l → p < l.partitions
     → length (log_at l p) ≡ length (filter (λ keyed. place_of_record counts keyed == p) records)
 log-long l counts records p same h lt =
@@ -49,7 +46,6 @@ named-counts topic topics may =
       within = omega (arith, total, may.within);
     }
 
--- the numbers of partitions in options
 pub counts-valid : (options : Options) → AreInRange options → AreCounts (partition_counts options)
 counts-valid options h = go options.topics.items h.topics
   where

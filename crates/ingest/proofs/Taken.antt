@@ -64,7 +64,6 @@ module _ (P : List ℕ → Type 0) (wanted : Taking) (each : (fields : Record) (
   taken-of false (first ∷ rows) all e = taken-from (length first) 1 (first ∷ rows) all e
   taken-of true (first ∷ rows) all e = taken-from (length first) 2 rows all e
 
--- records read with topics are of these topics
 pub topics-among : (column topic_column : ℕ) (header : Bool) (partitions : ℕ) (topics : List Topic) (bytes : List ℕ) (names keys : List (List ℕ)) → (length topics == 0) ≡ false → names ≡ map (λ (t : Topic). t.name) topics
     → topic_keys_of column topic_column names header bytes ≡ Ok keys → AreOfTopics (counts_among partitions topics) (map record_of keys)
 topics-among column topic_column header partitions [] bytes names keys some is e = absurd (cc some)
@@ -80,7 +79,6 @@ firsts : (n : ℕ) → 1 ≤ n → (keys : List Key) → All (λ (k : Keyed). k.
 firsts n some [] = All-nil (λ (k : Keyed). k.0 < n)
 firsts n some (key ∷ keys) = All-cons (λ (k : Keyed). k.0 < n) (of_first key) (in_first keys) some (firsts n some keys)
 
--- records of the first topic are of some topic
 pub first-among : (partitions : ℕ) (topics : List Topic) (keys : List Key) → AreOfTopics (counts_among partitions topics) (in_first keys)
 first-among partitions topics keys = firsts (length (counts_among partitions topics)) (go topics) keys
   where
@@ -95,13 +93,11 @@ topic-records options bytes [] names some is = absurd (cc some)
 topic-records options bytes (topic ∷ topics) names some is =
     ap (λ ns. result_map_both (map record_of) (λ fault. fault) (topic_keys_of options.column options.topic_column ns options.header bytes)) (sym is)
 
--- a refusal of the keys is one of the records
 pub records-refused : {A B : Type 0} (f : A → B) (taken : Result A Refusal) (all : Result B Refusal) (e : Refusal) → all ≡ result_map_both f (λ fault. fault) taken → (e ≡ r.Memory) ⊎ (taken ≡ Err e) → (e ≡ r.Memory) ⊎ (all ≡ Err e)
 records-refused f taken all e is (inl m) = inl m
 records-refused f taken all e is (inr h) = inr (is ∙ ap (result_map_both f (λ fault. fault)) h)
 
 -- ---- records as pairs
--- the topics and the keys of records, zipped
 zipped-records : (keys : List (List ℕ)) → zip (map topic_of keys) (map key_behind keys) ≡ map record_of keys
 zipped-records [] = refl
 zipped-records (key ∷ keys) = ap (λ (records : List Keyed). record_of key ∷ records) (zipped-records keys)
@@ -116,7 +112,6 @@ topics-below n [] h = All-nil (λ t. t < n)
 topics-below n (key ∷ keys) h =
     All-cons (λ t. t < n) (topic_of key) (map topic_of keys) (All-head (λ (k : Keyed). k.0 < n) (record_of key) (map record_of keys) h) (topics-below n keys (All-tail (λ (k : Keyed). k.0 < n) (record_of key) (map record_of keys) h))
 
--- the topics of records are the logs'
 pub topics-are : (n : ℕ) (keys : List (List ℕ)) (topics topic_items : List ℕ) (slices items : List (Bor Key)) → All (λ (k : Keyed). k.0 < n) (map record_of keys) → topics ≡ topic_items → topic_items ≡ map topic_of keys → slices ≡ items
     → map (λ key. key.now) items ≡ map key_behind keys → AreTopics n (length slices) topics
 topics-are n keys topics topic_items slices items h ts these ss those = record {

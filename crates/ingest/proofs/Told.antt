@@ -6,7 +6,6 @@ use Rattle.lane_words.specs.declared.Refusal.{Refusal}
 use Rattle.lane_words.specs.declared.Refusal.TheVariants as r
 use Rattle.ingest.specs.Reports.{IsFaultOf, IsNoDeviceFault, IsNoStop, IsNoWrite, failed_reads}
 
--- a refusal, as an answer
 pub as_answer : {T : Type 0} (expected : Result T Refusal) (e : Refusal) → (e ≡ r.Memory) ⊎ (expected ≡ Err e) → Answers expected (Err e)
 as_answer expected e (inl m) = inr (ap Err m)
 as_answer expected e (inr h) = inl (sym h)
@@ -28,7 +27,6 @@ no_read T e k = refl
 
 -- ---- the answer of a parser of scripts
 
--- a fault of a line
 abbrev pub IsLineFault : Refusal → Type 0
 IsLineFault (r.BadLine line) = ⊤
 IsLineFault (r.NobodyLeft line) = ⊤
@@ -44,7 +42,6 @@ line_stop (r.BadLine line) k = tt
 line_stop (r.NobodyLeft line) k = tt
 line_stop e k = absurd k
 
--- all faults of this parser are faults of lines
 abbrev pub TellsLines : {T : Type 0} → (List ℕ → Result T Refusal) → Type 0
 TellsLines answer = (bytes : List ℕ) (e : Refusal) → answer bytes ≡ Err e → IsLineFault e
 

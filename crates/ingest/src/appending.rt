@@ -17,11 +17,8 @@ use std::alloc::Global;
 use std::random::RandomSource;
 use std::thread::Threads;
 
-/// The logs of a file's records, appended in the order of the file.
-///
-/// # Errors
-///
-/// The fault of the first record that can't be appended (`KeyTooLong`, `LogFull`); `Memory` if an
+/// The logs of a file's records, appended in the order of the file. Fails with the fault of the
+/// first record that can't be appended (`KeyTooLong`, `LogFull`), and with `Memory` if an
 /// allocation failed or the system had no random bytes.
 pub fn logs_of<R: Threads + Sync + RandomSource>(
     rt: &R,
@@ -42,7 +39,6 @@ pub fn logs_of<R: Threads + Sync + RandomSource>(
     Ok(logs)
 }
 
-/// Appends the records in order.
 fn append_records<R: Threads + Sync>(
     rt: &R,
     alloc: Global,

@@ -1,6 +1,4 @@
-//! From a file to its logs: what every report begins with.
-//!
-//! Promises:
+//! From a file to its logs: what every report begins with. Promises:
 //! - `file_records` returns the records that the file's bytes define, or the fault of the first bad
 //!   one. It reports a failed read only if the source failed during the call.
 //! - `logs_of` returns logs of exactly these records, in order, or the fault of the first record
@@ -8,7 +6,6 @@
 //! - `partition_counts` returns the number of partitions of each topic that the options name.
 //!
 //! `specs/Reports.antt` has what all three reports say of the bytes that they read and write.
-//!
 //! Tests: `report_tests`.
 #![tactic(auto)]
 

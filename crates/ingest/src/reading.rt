@@ -63,7 +63,6 @@ pub fn partition_counts(alloc: Global, options: &Options) -> Result<Vec<u32>, Me
     }
 }
 
-/// The names of these topics.
 fn names_of<'a>(alloc: Global, topics: &'a [Topic]) -> Result<Vec<&'a [u8]>, Memory>
     ensures { IfOk result (λ names. map (λ name. name.now) names.items
         ≡ map (λ topic. topic.name) topics.now) }
@@ -101,12 +100,9 @@ fn read_records<R: Threads + Sync + RandomSource>(
     Ok(FileRecords::InTopics(keys))
 }
 
-/// Reads a file to its end and returns its records. A long file is parsed in parallel.
-///
-/// # Errors
-///
-/// `ReadFailed` if a read failed; the fault of the first bad record (`BadCsv`, `NoSuchColumn`,
-/// `NoSuchTopic`); `Memory` if an allocation failed or the system had no random bytes.
+/// Reads a file to its end and returns its records. A long file is parsed in parallel. Fails with
+/// `ReadFailed` if a read failed, with the fault of the first bad record (`BadCsv`, `NoSuchColumn`,
+/// `NoSuchTopic`), and with `Memory` if an allocation failed or the system had no random bytes.
 pub fn file_records<R: Threads + Sync + RandomSource, S: Source>(
     rt: &R,
     alloc: Global,

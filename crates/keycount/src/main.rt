@@ -1,11 +1,9 @@
 //! `keycount`: counts the keys of a CSV file, replays a script over them, or runs a plan over them
-//! with a thread for each member.
+//! with a thread for each member. The program opens the files, lends the runtime's devices and
+//! threads to a call of `report_cli`, and prints the line of a fault. All that it reads and writes
+//! is a promise of `report_cli`.
 //!
-//! The program opens the files, lends the runtime's devices and threads to a call of `report_cli`,
-//! and prints the line of a fault. All that it reads and writes is a promise of `report_cli`.
-//!
-//! Tests: the example in `data`, `stdin` and `stdout`, `report_tests` for the calls, and the
-//! black-box tests for the program.
+//! Tests: the example in `data`, `stdin` and `stdout`, `report_tests`, and the black-box tests.
 #![tactic(auto)]
 
 ghost use Rattle.report_cli.specs.Reports.{AreInRange};
@@ -28,7 +26,6 @@ use workers::{Gate, GateAnswer};
 /// The error if FILE and SCRIPT are both `-`.
 const TWICE: &str = "error: only one of FILE and SCRIPT can be standard input\n";
 
-/// Opens the file at this path.
 fn opened(rt: &HostRuntime, path: &str) -> Result<File, Refusal> {
     let Ok(file) = File::open(rt, path) else {
         return Err(Refusal::ReadFailed);
@@ -39,7 +36,6 @@ fn opened(rt: &HostRuntime, path: &str) -> Result<File, Refusal> {
 /// What FILE is read from.
 #[derive(Drop)]
 struct Input<F> {
-    /// The reader.
     reader: F,
     /// An estimate of its length in bytes, or 0 if there is none.
     expected: usize,
@@ -63,7 +59,6 @@ fn stream<F: Read + Drop>(reader: F) -> Input<F> {
     }
 }
 
-/// Counts the keys of a file and prints the rows.
 fn count<R: Threads + Sync + RandomSource, F: Read + Drop>(
     rt: &HostRuntime,
     threads: &R,
@@ -92,7 +87,6 @@ fn count_file<R: Threads + Sync + RandomSource>(
     }
 }
 
-/// Replays a script over the keys of a file and prints the rows.
 fn replay<R: Threads + Sync + RandomSource, F: Read + Drop, S: Read + Drop>(
     rt: &HostRuntime,
     threads: &R,
@@ -154,7 +148,6 @@ impl Gate for OpenGate {
     }
 }
 
-/// Runs a plan over the keys of a file and prints the rows.
 fn run<R: Threads + Wait + RandomSource + Sync, F: Read + Drop, S: Read + Drop>(
     rt: &HostRuntime,
     threads: &R,

@@ -1,5 +1,4 @@
-//! The events of schedules, as tables have them: a constant cannot borrow a `Name`, as the events
-//! of a world do.
+//! The events of schedules, as tables have them: a constant cannot borrow a `Name`.
 
 use group_machine::Name;
 use lane_words::Memory;

@@ -1,5 +1,4 @@
-//! Tests of the cluster: worked rows, each call once with ample memory, and the largest numbers of
-//! members and partitions.
+//! Tests of the cluster: worked rows, each call once, and the most members and partitions.
 
 ghost use Rattle.std.specs.Prelude.{◌≤◌};
 
@@ -168,7 +167,6 @@ fn is_told_of_counts(cluster: &Cluster, step: &Step<'_>) -> bool {
     }
 }
 
-/// Whether a member has this name.
 fn is_called(cluster: &Cluster, member: u32, text: &[u8]) -> bool {
     match cluster.name(member) {
         Some(name) => name.text() == text,
@@ -176,7 +174,6 @@ fn is_called(cluster: &Cluster, member: u32, text: &[u8]) -> bool {
     }
 }
 
-/// Whether a log has this many records.
 fn has_records(logs: &Logs, p: u32, records: u32) -> bool {
     p < logs.partitions() && logs.len(p) == records
 }
@@ -251,7 +248,6 @@ fn name(rt: &impl Abort, text: &[u8]) -> Name {
     Name::new(text).expect(rt, "a name")
 }
 
-/// The last digit of a number.
 fn digit(n: u32) -> u8 {
     b'0'.wrapping_add((n % 10) as u8)
 }
@@ -347,7 +343,6 @@ const MOVES_ONCE_REVOKED: &[Step<'static>] = &[
     Step::Owned(3, Some(2)),
 ];
 
-/// The steps of `MOVES_ONCE_REVOKED`.
 fn moves_once_revoked() -> &'static [Step<'static>] {
     MOVES_ONCE_REVOKED
 }
@@ -385,7 +380,6 @@ const FENCED_COMMITS: &[Step<'static>] = &[
     Step::Records(4, 0, 2),
 ];
 
-/// The steps of `FENCED_COMMITS`.
 fn fenced_commits() -> &'static [Step<'static>] {
     FENCED_COMMITS
 }
@@ -414,7 +408,6 @@ const ONE_IS_LOST: &[Step<'static>] = &[
     Step::Called(1, b"A"),
 ];
 
-/// The steps of `ONE_IS_LOST`.
 fn one_is_lost() -> &'static [Step<'static>] {
     ONE_IS_LOST
 }
@@ -483,7 +476,6 @@ const WHERE_FULL: &[Step<'static>] = &[
     Step::Named(b"001", Some(1)),
 ];
 
-/// The steps of `WHERE_FULL`.
 fn where_full() -> &'static [Step<'static>] {
     WHERE_FULL
 }
@@ -516,7 +508,6 @@ const NUMBERS_ARE_OVER: &[Step<'static>] = &[
     Step::Lease(512, 1, &[0, 1, 2, 3]),
 ];
 
-/// The steps of `NUMBERS_ARE_OVER`.
 fn numbers_are_over() -> &'static [Step<'static>] {
     NUMBERS_ARE_OVER
 }
@@ -547,7 +538,6 @@ const AT_ITS_LIMITS: &[Step<'static>] = &[
     Step::Is(512, false, false, false),
 ];
 
-/// The steps of `AT_ITS_LIMITS`.
 fn at_its_limits() -> &'static [Step<'static>] {
     AT_ITS_LIMITS
 }
@@ -613,7 +603,6 @@ const THREE_OF_FIVE: &[Step<'static>] = &[
     Step::Counts(&[2, 0, 1, 0]),
 ];
 
-/// The steps of `THREE_OF_FIVE`.
 fn three_of_five() -> &'static [Step<'static>] {
     THREE_OF_FIVE
 }
@@ -698,7 +687,6 @@ const NAMED: &[Step<'static>] = &[
     Step::Named(b"AB", None),
 ];
 
-/// The steps of `NAMED`.
 fn named() -> &'static [Step<'static>] {
     NAMED
 }
@@ -751,7 +739,6 @@ const RETURNS: &[Step<'static>] = &[
     Step::LastMoves(&[(3, 3, Some(4), 2), (3, 2, Some(4), 2)]),
 ];
 
-/// The steps of `RETURNS`.
 fn returns() -> &'static [Step<'static>] {
     RETURNS
 }

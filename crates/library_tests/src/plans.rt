@@ -88,7 +88,6 @@ fn is_plan_read(plan: &Plan, read: &Read<'_>) -> bool {
     }
 }
 
-/// Whether a refusal is the expected one.
 fn is_refusal(why: Refusal, read: &Read<'_>) -> bool {
     match (why, read) {
         (Refusal::BadLine { line } | Refusal::NobodyLeft { line }, Read::Refused(code, number)) =>
@@ -143,7 +142,6 @@ fn are_all(plan: &Plan, joins: usize, leaves: usize) -> bool {
     joins <= lines.len() && lines.len() - joins == leaves
 }
 
-/// The last digit of a number.
 fn digit(n: usize) -> u8 {
     b'0'.wrapping_add((n % 10) as u8)
 }

@@ -510,7 +510,6 @@ fn each_line_in_its_turn(rt: HostRuntime) {
     assert_eq!(rt; first_other_of_two(&rt, rt.alloc(), &EACH_LINE), Ok(None));
 }
 
-/// The last digit of a number.
 fn digit(n: u32) -> u8 {
     b'0'.wrapping_add((n % 10) as u8)
 }

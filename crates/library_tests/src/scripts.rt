@@ -127,7 +127,6 @@ fn are_lines_read(lines: &[Line], read: &Read<'_>) -> bool {
     }
 }
 
-/// Whether a refusal is the expected one.
 fn is_refusal(why: Refusal, read: &Read<'_>) -> bool {
     match (why, read) {
         (Refusal::BadLine { line }, Read::Bad(number)) => line == *number,
@@ -204,7 +203,6 @@ const ENDS: &[Row<'static>] = &[
     ),
 ];
 
-/// The rows of `ENDS`.
 fn ends() -> &'static [Row<'static>] {
     ENDS
 }
@@ -230,7 +228,6 @@ const NUMBERS: &[Row<'static>] = &[
     (b"deliver", Read::Bad(1)),
 ];
 
-/// The rows of `NUMBERS`.
 fn numbers() -> &'static [Row<'static>] {
     NUMBERS
 }
@@ -270,7 +267,6 @@ const BAD: &[Row<'static>] = &[
     (b"join A\n\n\nx", Read::Bad(4)),
 ];
 
-/// The rows of `BAD`.
 fn bad() -> &'static [Row<'static>] {
     BAD
 }
@@ -317,7 +313,6 @@ const APPENDS: &[Row<'static>] = &[
     ),
 ];
 
-/// The rows of `APPENDS`.
 fn appends() -> &'static [Row<'static>] {
     APPENDS
 }
@@ -349,7 +344,6 @@ const POLLS: &[Row<'static>] = &[
     (b"poll A. b 0 5", Read::Bad(1)),
 ];
 
-/// The rows of `POLLS`.
 fn polls() -> &'static [Row<'static>] {
     POLLS
 }
@@ -385,7 +379,6 @@ const SENDS: &[Row<'static>] = &[
     ),
 ];
 
-/// The rows of `SENDS`.
 fn sends() -> &'static [Row<'static>] {
     SENDS
 }
@@ -439,7 +432,6 @@ const LONG_AMONG: &[LongerRow<'static>] = &[
     ),
 ];
 
-/// The rows of `LONG_AMONG`.
 fn long_among() -> &'static [LongerRow<'static>] {
     LONG_AMONG
 }
@@ -477,7 +469,6 @@ const LONG_NAMES: &[LongerRow<'static>] = &[
     (b"join ", b'x', 33, Read::Bad(1)),
 ];
 
-/// The rows of `LONG_NAMES`.
 fn long_names() -> &'static [LongerRow<'static>] {
     LONG_NAMES
 }
@@ -510,7 +501,6 @@ const LONG_LINES: &[LongerRow<'static>] = &[
     (b"#", b'#', 256, Read::Bad(1)),
 ];
 
-/// The rows of `LONG_LINES`.
 fn long_lines() -> &'static [LongerRow<'static>] {
     LONG_LINES
 }

@@ -311,7 +311,6 @@ const TWICE: &[(Act<'static>, Reply)] = &[
     (Act::Deliver(2), Reply::Refused(Refusal::NoSuchCommit)),
 ];
 
-/// The events of `TWICE`.
 fn twice() -> &'static [(Act<'static>, Reply)] {
     TWICE
 }
@@ -339,7 +338,6 @@ const LOST: &[(Act<'static>, Reply)] = &[
     (POLL_ONE, Reply::Refused(Refusal::OutOfGroup)),
 ];
 
-/// The events of `LOST`.
 fn lost() -> &'static [(Act<'static>, Reply)] {
     LOST
 }
@@ -362,7 +360,6 @@ const UNANSWERED: &[(Act<'static>, Reply)] = &[
     (SEND, Reply::Refused(Refusal::EmptyCommit)),
 ];
 
-/// The events of `UNANSWERED`.
 fn unanswered() -> &'static [(Act<'static>, Reply)] {
     UNANSWERED
 }
@@ -387,7 +384,6 @@ const TWO_SENT: &[(Act<'static>, Reply)] = &[
     (Act::Deliver(3), Reply::Committed(2)),
 ];
 
-/// The events of `TWO_SENT`.
 fn two_sent() -> &'static [(Act<'static>, Reply)] {
     TWO_SENT
 }
@@ -448,7 +444,6 @@ const RETURNS: &[(Act<'static>, Reply)] = &[
     (Act::JoinKept(0), Reply::Refused(Refusal::NameUsed)),
 ];
 
-/// The events of `RETURNS`.
 fn returns() -> &'static [(Act<'static>, Reply)] {
     RETURNS
 }
@@ -473,7 +468,6 @@ const SETTLES_TWICE: &[Step<'static>] = &[
     Step::Drained,
 ];
 
-/// The steps of `SETTLES_TWICE`.
 fn settles_twice() -> &'static [Step<'static>] {
     SETTLES_TWICE
 }
@@ -515,7 +509,6 @@ const JOINED: &[(Act<'static>, Reply)] = &[
     (Act::Sync(1), Reply::Leased(1)),
 ];
 
-/// The events of `JOINED`.
 fn joined() -> &'static [(Act<'static>, Reply)] {
     JOINED
 }
@@ -546,7 +539,6 @@ fn reads_and_sends_at_real_sizes(rt: HostRuntime) {
 /// A run of 70,000 records of one key follows the five records.
 const RUNS_MANY: &[Step<'static>] = &[LOAD, Step::RunMany(70_000), Step::Keys(4)];
 
-/// The steps of `RUNS_MANY`.
 fn runs_many() -> &'static [Step<'static>] {
     RUNS_MANY
 }
@@ -607,7 +599,6 @@ const TOLD: &[(Act<'static>, Reply)] = &[
     (Act::Sync(3), Reply::Refused(Refusal::UnknownMember)),
 ];
 
-/// The events of `TOLD`.
 fn told() -> &'static [(Act<'static>, Reply)] {
     TOLD
 }
@@ -635,7 +626,6 @@ const DRAINS: &[Step<'static>] = &[
     Step::Drained,
 ];
 
-/// The steps of `DRAINS`.
 fn drains() -> &'static [Step<'static>] {
     DRAINS
 }
@@ -674,7 +664,6 @@ const DRAINS_PENDING: &[Step<'static>] = &[
     Step::Drained,
 ];
 
-/// The steps of `DRAINS_PENDING`.
 fn drains_pending() -> &'static [Step<'static>] {
     DRAINS_PENDING
 }
@@ -700,7 +689,6 @@ const OF_TOPICS: &[(Act<'static>, Reply)] = &[
     (Act::Append(b"21"), Reply::Appended(0, 1)),
 ];
 
-/// The events of `OF_TOPICS`.
 fn of_topics() -> &'static [(Act<'static>, Reply)] {
     OF_TOPICS
 }
@@ -719,7 +707,6 @@ const AFTER_A_LOAD: &[(Act<'static>, Reply)] = &[
     (Act::Append(b"21"), Reply::Appended(0, 1)),
 ];
 
-/// The events of `AFTER_A_LOAD`.
 fn after_a_load() -> &'static [(Act<'static>, Reply)] {
     AFTER_A_LOAD
 }

@@ -88,7 +88,6 @@ fn have_same_records(logs: &Logs, other: &Logs) -> bool {
     logs.partitions() == other.partitions()
 }
 
-/// Whether both are the same.
 fn are_same(logs: &Logs, other: &Logs) -> bool {
     have_same_keys(logs, other) && have_same_records(logs, other)
 }

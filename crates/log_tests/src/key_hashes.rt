@@ -1,6 +1,5 @@
-//! The hash of keys. Contracts prove what it is for given seeds, and that a hasher draws the seeds.
-//! These tests check that the seeds differ each time, and that every byte of a key counts: two
-//! different keys have the same hash once in 2^33 draws.
+//! The hash of keys: its seeds differ each time, and every byte of a key counts. Two different keys
+//! have the same hash once in 2^33 draws.
 
 ghost use Rattle.std.specs.Prelude.{◌≤◌, ◌+◌};
 

@@ -1,6 +1,5 @@
-//! Tests of the layers GROUND, INGEST and LOG: `lane_words`, `parallel`, `murmur_lanes`,
-//! `partitioner`, `key_numbers`, `key_lists`, `key_file` and `partition_log`. They have a crate of
-//! their own because a crate with tests is proved twice, once without them.
+//! Tests of the layers GROUND, INGEST and LOG. They have a crate of their own because a crate with
+//! tests is proved twice, once without them.
 #![tactic(auto)]
 
 ghost use Rattle.std.specs.Prelude.{◌≡◌, ◌+◌, ◌≤◌, length, slice_range};

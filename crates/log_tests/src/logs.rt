@@ -16,7 +16,6 @@ fn append(logs: &mut Logs, key: &[u8]) -> Result<(u32, u32), Refusal> {
     logs.append(key)
 }
 
-/// Appends records of these keys.
 fn append_each(logs: &mut Logs, keys: &[&[u8]]) -> Result<(), Refusal> {
     for key in keys {
         append(logs, key)?;
@@ -31,17 +30,14 @@ fn sealed_of(rt: &impl RandomSource, alloc: Global, keys: &[&[u8]]) -> Result<Se
     Ok(logs.seal())
 }
 
-/// Whether a key has this number.
 fn is_key<L: LogRead>(logs: &L, number: u32, key: &[u8]) -> bool {
     number < logs.keys() && logs.key(number) == key
 }
 
-/// Whether a log has this many records.
 fn is_length<L: LogRead>(logs: &L, p: u32, records: u32) -> bool {
     p < logs.partitions() && logs.len(p) == records
 }
 
-/// Whether a log has records of these key numbers.
 fn are_ids<L: LogRead>(logs: &L, p: u32, ids: &[u32]) -> bool {
     p < logs.partitions() && logs.ids(p, 0, logs.len(p)) == ids
 }

@@ -1,5 +1,4 @@
-//! Partitions from an outside source, a table computed from the rules by another program; and
-//! parallel placement compared with its reference implementation.
+//! Partitions from a table of another program, and parallel placement against its reference.
 
 ghost use Rattle.std.specs.Prelude.{◌<◌, IfOk};
 ghost use Rattle.partitioner.specs.Place.{AreTopics};

@@ -13,7 +13,6 @@ use std::random::RandomSource;
 /// A dictionary of keys.
 #[derive(Drop)]
 pub struct PlainKeys {
-    /// The allocator of the keys.
     alloc: Global,
     /// The keys, each at the index of its number.
     set: IndexSet<Vec<u8>, RandomState>,

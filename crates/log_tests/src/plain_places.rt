@@ -1,5 +1,4 @@
-//! The reference implementation of placement: the partitions of keys one by one, as the definition
-//! says, and in sequential batches.
+//! The reference implementation of placement: keys one by one, and in sequential batches.
 
 ghost use Rattle.std.specs.Prelude.{length};
 ghost use Rattle.partitioner.specs.Place.{AreTopics};

@@ -1,5 +1,4 @@
-//! Logs of several topics: partitions and offsets from an outside source, and bulk appends compared
-//! with one at a time.
+//! Logs of several topics, against an outside source and against appends one at a time.
 
 ghost use Rattle.std.specs.Prelude.{IfOk, length};
 ghost use Rattle.partitioner.specs.Place.{AreTopics};

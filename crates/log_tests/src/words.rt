@@ -1,5 +1,4 @@
-//! The kernels over eight words at a time compared with their word-by-word definitions, for lengths
-//! around one vector and for many, where only the last word differs.
+//! The kernels over eight words at a time against their word-by-word definitions.
 
 ghost use Rattle.std.specs.Prelude.{◌≡◌, ◌+◌, ◌<◌, ◌^◌, ℕ, IsTrue, length, slice_index_or};
 

@@ -21,7 +21,6 @@ pub lines_tell : (topics : List Topic) → TellsLines (read_answer_in topics)
 unfolding answer_of
 lines_tell topics bytes e h = bad_line (find (λ line. is_bad topics line.1) (lines_from 1 bytes)) (filter_map (said topics) (lines_from 1 bytes)) e h
 
--- what holds of the lines read holds of the answer
 pub lines_err : (P : Refusal → Type 0) (result : Result (Vec Line Global) Refusal) → IfErr (lines_seen result) P → IfErr result P
 lines_err P (Ok lines) h = tt
 lines_err P (Err e) h = h

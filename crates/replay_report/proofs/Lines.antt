@@ -16,18 +16,15 @@ goes_on : (answer : Result (Unit {0}) Refusal) (text : Result (List ℕ) Refusal
 goes_on (Err r.GenerationsOver) text h = absurd (h refl)
 goes_on answer text h = refl
 
--- no line is left
 pub text_of_lines-nil : (topics : List Topic) (batch : ℕ) (w : WorldState) → text_of_lines topics batch w [] ≡ Ok (closing_rows topics w.cluster)
 unfolding text_of_lines
 text_of_lines-nil topics batch w = refl
 
--- a line that does not end the replay
 pub text_of_lines-next : (topics : List Topic) (batch : ℕ) (w : WorldState) (line : Line) (lines : List Line) → (outcome_of_line batch w line.action).answer ≢ Err r.GenerationsOver
     → text_of_lines topics batch w (line ∷ lines) ≡ text_before (rows_of_line topics line.number w (outcome_of_line batch w line.action)) (text_of_lines topics batch (outcome_of_line batch w line.action).after lines)
 unfolding text_of_lines
 text_of_lines-next topics batch w line lines h = goes_on _ _ h
 
--- a line that ends the replay
 pub text_of_lines-over : (topics : List Topic) (batch : ℕ) (w : WorldState) (line : Line) (lines : List Line) → (outcome_of_line batch w line.action).answer ≡ Err r.GenerationsOver → text_of_lines topics batch w (line ∷ lines) ≡ Err r.GenerationsOver
 unfolding text_of_lines
 text_of_lines-over topics batch w line lines h = rw h refl
@@ -39,13 +36,11 @@ text_before-both a b (Err fault) = refl
 pub fault_before : (a : List ℕ) (text : Result (List ℕ) Refusal) (fault : Refusal) → text ≡ Err fault → text_before a text ≡ Err fault
 fault_before a text fault h = rw h refl
 
--- a whole text that was written
 pub written : (Written : List ℕ → Type 0) (text now more : List ℕ) (expected : Result (List ℕ) Refusal) → text_before now (Ok more) ≡ text_before text expected → Written (now ++ more) → WritesText expected text Written
 written Written text now more (Ok rest) e h = let same : now ++ more ≡ text ++ rest = cc e in (rest, refl, subst Written same h)
 written Written text now more (Err fault) e h = absurd (cc e)
 
 -- ---- one line
--- the moves and the refusal written are the rows of the line
 pub rows_written : (topics : List Topic) (Written : List ℕ → Type 0) (text rows : List ℕ) (line from : ℕ) (w w2 : WorldState) (s : ClusterState) (outcome : LineOutcome) (answer : Result (Unit {0}) Refusal) → GoesOn outcome answer w2 → s ≡ w2.cluster
     → from ≡ length w.cluster.group.moves → rows ≡ rows_of_answer line answer → Written ((text ++ move_rows topics s.group (drop from s.group.moves)) ++ rows) → Written (text ++ rows_of_line topics line w outcome)
 unfolding rows_of_line
@@ -61,7 +56,6 @@ rows_written topics Written text rows line from w w2 s outcome answer goes s_is 
 next_line : (lines : List Line) (i : ℕ) (line : Line) → i < length lines → line ≡ get_or lines i line → drop i lines ≡ line ∷ drop (i + 1) lines
 next_line lines i line lt is = drop-cons lines i line lt ∙ ap (λ x. x ∷ drop (suc i) lines) (sym is) ∙ rw add-one refl
 
--- the rows of the next line come before the text of the rest
 pub lines_step : (topics : List Topic) (batch : ℕ) (w w2 : WorldState) (lines : List Line) (i : ℕ) (line : Line) → i < length lines → line ≡ get_or lines i line → (outcome_of_line batch w line.action).answer ≢ Err r.GenerationsOver
     → w2 ≡ (outcome_of_line batch w line.action).after
     → text_of_lines topics batch w (drop i lines) ≡ text_before (rows_of_line topics line.number w (outcome_of_line batch w line.action)) (text_of_lines topics batch w2 (drop (i + 1) lines))
@@ -69,18 +63,15 @@ lines_step topics batch w w2 lines i line lt is goes after =
     ap (text_of_lines topics batch w) (next_line lines i line lt is) ∙ text_of_lines-next topics batch w line (drop (i + 1) lines) goes
     ∙ ap (λ x. text_before (rows_of_line topics line.number w (outcome_of_line batch w line.action)) (text_of_lines topics batch x (drop (i + 1) lines))) (sym after)
 
--- the text so far with the text of the lines that are left, after one more line
 pub text_step : (now rows : List ℕ) (left before after : Result (List ℕ) Refusal) → before ≡ text_before rows after → text_before now before ≡ left → text_before (now ++ rows) after ≡ left
 text_step now rows left before after step h = sym (text_before-both now rows after) ∙ ap (text_before now) (sym step) ∙ h
 
--- the fault of the next line is that of all lines
 pub lines_fault : (topics : List Topic) (batch : ℕ) (w : WorldState) (lines : List Line) (i : ℕ) (line : Line) (whole : Result (List ℕ) Refusal) (e : Refusal) → i < length lines → line ≡ get_or lines i line
     → ((x : Refusal) → text_of_lines topics batch w (drop i lines) ≡ Err x → whole ≡ Err x) → (e ≡ r.Memory) ⊎ IsOver e (outcome_of_line batch w line.action).answer → (e ≡ r.Memory) ⊎ (whole ≡ Err e)
 lines_fault topics batch w lines i line whole e lt is told (inl m) = inl m
 lines_fault topics batch w lines i line whole e lt is told (inr over) =
     inr (told e (ap (text_of_lines topics batch w) (next_line lines i line lt is) ∙ text_of_lines-over topics batch w line (drop (i + 1) lines) over.1 ∙ ap Err (sym over.0)))
 
--- no line is left
 pub lines_end : (topics : List Topic) (batch : ℕ) (w : WorldState) (s : ClusterState) (lines : List Line) (i : ℕ) (now text : List ℕ) (whole : Result (List ℕ) Refusal) (Written : List ℕ → Type 0) → length lines ≤ i → s ≡ w.cluster
     → text_before now (text_of_lines topics batch w (drop i lines)) ≡ text_before text whole → Written (now ++ closing_rows topics s) → WritesText whole text Written
 lines_end topics batch w s lines i now text whole Written h s_is e done =

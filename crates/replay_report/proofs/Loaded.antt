@@ -27,17 +27,14 @@ use Rattle.replay_report.specs.ReplayReport.{loaded}
 use Rattle.ingest.proofs.Faulted.{first_fault-later, first_fault-nil, first_fault-now, record_fault-kind, refused, taken}
 
 -- ---- one record
--- the facts of a step that appended a record
 record IsAppended (w : WorldState) (keyed : Keyed) (w2 : WorldState) : Type 0 where
   pub accepted : IsOk (append_answer w.cluster.logs keyed)
   pub after : w2 ≡ (append_event w keyed).after
   pub counts : w2.cluster.logs.counts ≡ w.cluster.logs.counts
 
--- an append to an existing topic
 in_topic : (w : WorldState) (keyed : Keyed) → IsOfTopic w.cluster.logs keyed → append_in_event w keyed ≡ append_event w keyed
 in_topic w keyed topic = rw (lt-ltb keyed.0 (length w.cluster.logs.counts) topic) refl
 
--- a step of an event that appends a record is an append of it
 append_step : (w : WorldState) (e : Event) (keyed : Keyed) (told : Reply) (w2 : WorldState) → IsAppendOf e keyed → IsOfTopic w.cluster.logs keyed → Step w e told w2 → MayCome w (append_event w keyed) told w2
 append_step w (event.Append key) keyed told w2 is topic step = subst (λ k. MayCome w (append_event w k) told w2) (sym is) step
 append_step w (event.AppendIn t key) keyed told w2 is topic step =
@@ -56,7 +53,6 @@ appended_step w keyed p offset w2 (inl comes) = go (append_answer w.cluster.logs
       counts = ap (λ (x : WorldState). x.cluster.logs.counts) c.1;
     }
 
--- a refused append has the record's fault, or an allocation failed
 refused_step : (w : WorldState) (keyed : Keyed) (why : Refusal) → MayCome w (append_event w keyed) (reply.Refused why) w → (why ≡ r.Memory) ⊎ (append_answer w.cluster.logs keyed ≡ Err why)
 refused_step w keyed why (inr comes) = inl (cc comes.0)
 refused_step w keyed why (inl comes) = go (append_answer w.cluster.logs keyed) refl comes
@@ -65,7 +61,6 @@ refused_step w keyed why (inl comes) = go (append_answer w.cluster.logs keyed) r
     go (Err told) is c = inr (is ∙ (let same : told ≡ why = cc c.0 in ap Err same))
     go (Ok at) is c = absurd (cc c.0)
 
--- it appends that record
 appends-one : (e : Event) (keyed : Keyed) (p offset : ℕ) → IsAppendOf e keyed → appended_by e (reply.Appended p offset) ≡ keyed ∷ []
 appends-one (event.Append key) keyed p offset is = ap (λ (k : Keyed). k ∷ []) (sym is)
 appends-one (event.AppendIn t key) keyed p offset is = ap (λ (k : Keyed). k ∷ []) (sym is)
@@ -89,7 +84,6 @@ loaded-cons : (w : WorldState) (keyed : Keyed) (records : List Keyed) → loaded
 unfolding loaded
 loaded-cons w keyed records = refl
 
--- a record of one of these topics is of a topic of the world
 of-topic : (counts : List ℕ) (w : WorldState) (keyed : Keyed) → w.cluster.logs.counts ≡ counts → keyed.0 < length counts → IsOfTopic w.cluster.logs keyed
 of-topic counts w keyed same lt = subst (λ (cs : List ℕ). keyed.0 < length cs) (sym same) lt
 
@@ -124,7 +118,6 @@ runs_loaded counts before w (e ∷ events) (keyed ∷ records) (reply.Appended p
     }
 runs_loaded counts before w (e ∷ events) (keyed ∷ records) (told ∷ replies) w2 v h same are topics run all = absurd all
 
--- a record was refused
 next_refused : (counts : List ℕ) (before : List Keyed) (w : WorldState) (events : List Event) (records : List Keyed) (why : Refusal) → IsValidWorld w → AreLogsOf before w.cluster.logs → w.cluster.logs.counts ≡ counts
     → AreAppendsOf events records → AreOfTopics counts records → IsRefusedNext w events why → IsKeyFault why × ((why ≡ r.Memory) ⊎ (first_fault counts before records ≡ Some why))
 next_refused counts before w [] records why v h same are topics stop = absurd stop
@@ -155,7 +148,6 @@ drop_appends (suc n) [] (keyed ∷ records) h = absurd h
 drop_appends (suc n) (e ∷ events) [] h = absurd h
 drop_appends (suc n) (e ∷ events) (keyed ∷ records) h = drop_appends n events records h.1
 
--- all records were appended
 pub load_done : (counts : List ℕ) (w : WorldState) (records : List Keyed) (w2 : WorldState) → IsValidWorld w → AreLogsOf [] w.cluster.logs → w.cluster.logs.counts ≡ counts → AreOfTopics counts records
     → LoadsRecords w records (Ok tt) w2 → (w2 ≡ loaded w records) × (first_fault counts [] records ≡ None)
 load_done counts w records w2 v h same topics done =
@@ -177,7 +169,6 @@ load_stopped-at counts w events records n why w2 v h same are topics done (inl s
     go whole faults (inl e) = inl e
     go whole faults (inr e) = inr (ap (first_fault counts []) (sym whole) ∙ faults ∙ e)
 
--- a record was refused, or an allocation failed
 pub load_stopped : (counts : List ℕ) (w : WorldState) (records : List Keyed) (why : Refusal) (w2 : WorldState) → IsValidWorld w → AreLogsOf [] w.cluster.logs → w.cluster.logs.counts ≡ counts → AreOfTopics counts records
     → LoadsRecords w records (Err why) w2 → IsKeyFault why × ((why ≡ r.Memory) ⊎ (first_fault counts [] records ≡ Some why))
 load_stopped counts w records why w2 v h same topics (inl m) = (subst IsKeyFault (sym m) tt, inl m)

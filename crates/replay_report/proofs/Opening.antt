@@ -14,7 +14,6 @@ use Rattle.world.specs.Valid.{IsValidWorld}
 use Rattle.world.specs.World.{WorldState}
 use Rattle.replay_report.specs.ReplayReport.{opening_world}
 
--- a list of equal items
 all_alike : {X : Type 0} (xs : List X) (n : ℕ) (x d : X) → length xs ≡ n → ((i : ℕ) → i < n → slice_index_or xs i d ≡ x) → xs ≡ replicate n x
 all_alike xs n x d long each =
     same_lists xs (replicate n x) (long ∙ sym (length-replicate n x)) (λ i e lt.
@@ -69,7 +68,6 @@ opening_is counts w o same offsets v room =
     ∙ ap (λ cs. let r : WorldState = record { cluster = (opening_world counts).cluster; consumers = cs; mail = w.mail } in r) o.consumers
     ∙ ap (λ m. let r : WorldState = record { cluster = (opening_world counts).cluster; consumers = []; mail = m } in r) o.mail
 
--- its logs have no record
 pub opening_logs : (counts : List ℕ) → AreLogsOf [] (opening_world counts).cluster.logs
 unfolding opening_world distinct
 opening_logs counts = record {

@@ -1,6 +1,4 @@
-//! The report of a replay, from the bytes of a file and of a script to the bytes of its rows.
-//!
-//! Promises:
+//! The report of a replay, from the bytes of a file and of a script to those of its rows. Promises:
 //! - `replay_text` appends to the sink the report that the bytes of both files and the options
 //!   define: all of it, a prefix of it after `WriteFailed`, and nothing after any other refusal. A
 //!   fault is the first one by that definition, which is the world's own, line by line.

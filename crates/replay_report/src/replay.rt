@@ -35,7 +35,6 @@ fn read_lines(alloc: Global, topics: &[Topic], bytes: &[u8]) -> Result<Vec<Line>
     }
 }
 
-/// Reads a script to its end and returns its lines.
 fn script_lines<S: Source>(
     alloc: Global,
     topics: &[Topic],
@@ -106,9 +105,7 @@ fn devices_report<R: Threads + Sync + RandomSource, S: Source, T: Source>(
 /// first write. So after `WriteFailed` a prefix of the text is written, and after any other refusal
 /// nothing.
 ///
-/// # Errors
-///
-/// In this order:
+/// Errors, in this order:
 /// - `ReadFailed`: a read failed.
 /// - The first bad record: `BadCsv` if it has another number of fields than the first record,
 ///   `NoSuchColumn` if it lacks a column, `NoSuchTopic` if its topic is none of those given. The
@@ -117,8 +114,7 @@ fn devices_report<R: Threads + Sync + RandomSource, S: Source, T: Source>(
 /// - The first record that can't be appended: `KeyTooLong`, `LogFull`.
 /// - `GenerationsOver`: a line would pass the last generation.
 /// - `WriteFailed`: a write failed.
-///
-/// `Memory`, at any point: an allocation failed, or the system had no random bytes.
+/// - `Memory`, at any point: an allocation failed, or the system had no random bytes.
 pub fn replay_text<R: Threads + Sync + RandomSource, S: Source, T: Source, K: Sink>(
     rt: &R,
     alloc: Global,

@@ -65,11 +65,8 @@ fn put_fault(line: &mut [u8; ROOM], fault: &Refusal) -> usize
 }
 
 /// Writes the line of a fault: `fault` and its code, then ` at record` or ` at line` and a number
-/// if the fault has a location in a file, and a line feed. Does not allocate.
-///
-/// # Errors
-///
-/// `WriteFailed` if a write failed; a prefix of the line is then written.
+/// if the fault has a location in a file, and a line feed. Does not allocate. If a write failed,
+/// the error is `WriteFailed`, and a prefix of the line is written.
 pub fn fault_line<K: Sink>(fault: &Refusal, out: &mut K) -> Result<(), Refusal>
     requires { CanStillFail (K.failures out.old) }
     ensures all { OnOk result
@@ -85,8 +82,7 @@ pub fn fault_line<K: Sink>(fault: &Refusal, out: &mut K) -> Result<(), Refusal>
     write_all(out, &line[start..])
 }
 
-/// The exit status of a program that ends with a fault: 1 if the fault is in its input, 3
-/// otherwise.
+/// The exit status of a program that ends with a fault: 1 if it is in the input, 3 otherwise.
 pub fn status(fault: &Refusal) -> u8
     ensures { result ≡ status_of fault.now }
 {

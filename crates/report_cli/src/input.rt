@@ -12,8 +12,7 @@ fn is_standard_input(path: &str) -> bool
     path == "-"
 }
 
-/// Whether a job would read standard input twice, for its file and for its script. It can be read
-/// only once.
+/// Whether both files of a job are standard input, which can be read only once.
 pub fn reads_input_twice(job: &Job) -> bool
     ensures { IsTrue result ↔ ReadsInputTwice job.now }
 {

@@ -1,5 +1,4 @@
 //! The facade of `keycount`: from arguments to a job, from files to rows, and from faults to lines.
-//!
 //! Promises:
 //! - `fault_line` writes the line of a fault and `status` returns its exit status; neither
 //!   allocates.

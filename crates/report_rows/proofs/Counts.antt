@@ -6,7 +6,6 @@ use Rattle.partition_log.specs.Logs.{IsValidLogs, AreLogsOf, PartitionLogs}
 use Rattle.partition_log.proofs.Parted.{in_one_log}
 use Rattle.report_rows.specs.CountRows.{AreCountsByNumber, counts_of}
 
--- the counts of the logs of these records are those of their keys
 pub counts-are : (records : List Keyed) (l : PartitionLogs) (counts : List ℕ) → IsValidLogs l → AreLogsOf records l → AreCountsByNumber l counts → counts ≡ counts_of (keys_in records)
 unfolding counts_of
 counts-are records l counts a h c =

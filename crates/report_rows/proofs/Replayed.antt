@@ -23,16 +23,13 @@ fields-first topics i p topic h is =
     rw (add-one, drop-cons topics i topic)
     (ap (λ (t : Topic). cond (ltb p t.partitions) (t.name ∷ decimal p ∷ []) (partition_fields (drop (suc i) topics) (p - t.partitions))) (sym is))
 
--- the next topic has it
 pub fields_here : (topics : List Topic) (i p : ℕ) (topic : Topic) → i < length topics → topic ≡ get_or topics i topic → p < topic.partitions → partition_fields (drop i topics) p ≡ topic.name ∷ decimal p ∷ []
 fields_here topics i p topic h is lt = fields-first topics i p topic h is ∙ rw (lt-ltb p topic.partitions lt) refl
 
--- the next topic does not have it
 pub fields_later : (topics : List Topic) (i p : ℕ) (topic : Topic) → i < length topics → topic ≡ get_or topics i topic → topic.partitions ≤ p
     → partition_fields (drop i topics) p ≡ partition_fields (drop (i + 1) topics) (p - topic.partitions)
 fields_later topics i p topic h is le = fields-first topics i p topic h is ∙ rw (le-ltb p topic.partitions le) refl
 
--- no topic is left
 pub fields_end : (topics : List Topic) (i p : ℕ) → length topics ≤ i → partition_fields (drop i topics) p ≡ decimal p ∷ []
 unfolding partition_fields
 fields_end topics i p h = ap (λ ts. partition_fields ts p) (drop_all i topics h)
@@ -59,13 +56,11 @@ moves-first : (topics : List Topic) (g : GroupState) (moves : List Move) (i : �
 unfolding move_rows
 moves-first topics g moves i d h = rw (add-one, drop-cons moves i d) refl
 
--- the text so far with the rows that are left, after the row of one more move
 pub moves_step : (text : List ℕ) (topics : List Topic) (g : GroupState) (moves : List Move) (i : ℕ) (d : Move) (all : List ℕ) → i < length moves
     → text ++ move_rows topics g (drop i moves) ≡ all
     → (text ++ move_row topics g (get_or moves i d)) ++ move_rows topics g (drop (i + 1) moves) ≡ all
 moves_step text topics g moves i d all h e = append_assoc text _ _ ∙ ap (λ t. text ++ t) (sym (moves-first topics g moves i d h)) ∙ e
 
--- no move is left
 pub moves_end : (text : List ℕ) (topics : List Topic) (g : GroupState) (moves : List Move) (i : ℕ) (all : List ℕ) → length moves ≤ i → text ++ move_rows topics g (drop i moves) ≡ all → text ≡ all
 unfolding move_rows
 moves_end text topics g moves i all h e = sym (append-nil text) ∙ rw (drop_all i moves h) at e
@@ -76,28 +71,23 @@ counted-first : (ks : List (List ℕ)) (ns : List ℕ) (i : ℕ) → i < length 
 unfolding committed_count_rows
 counted-first ks ns i h k = rw (add-one, drop-cons ks i [], drop-cons ns i 0) refl
 
--- the row of a key with a count above 0
 pub counted_is : (key : List ℕ) (n : ℕ) → (n ≡ 0 → ⊥) → counted_row key n ≡ count_row key n
 counted_is key n some = rw (ne_eqb n 0 some) refl
 
--- the text so far with the rows that are left, after the row of one more key
 pub counted_step : (text : List ℕ) (ks : List (List ℕ)) (ns : List ℕ) (i : ℕ) (all : List ℕ) → i < length ks → i < length ns
     → text ++ committed_count_rows (drop i ks) (drop i ns) ≡ all
     → (text ++ counted_row (get_or ks i []) (get_or ns i 0)) ++ committed_count_rows (drop (i + 1) ks) (drop (i + 1) ns) ≡ all
 counted_step text ks ns i all h k e = append_assoc text _ _ ∙ ap (λ t. text ++ t) (sym (counted-first ks ns i h k)) ∙ e
 
--- no key is left
 pub counted_end : (text : List ℕ) (ks : List (List ℕ)) (ns : List ℕ) (i : ℕ) (all : List ℕ) → length ks ≤ i → text ++ committed_count_rows (drop i ks) (drop i ns) ≡ all → text ≡ all
 unfolding committed_count_rows
 counted_end text ks ns i all h e = sym (append-nil text) ∙ rw (drop_all i ks h) at e
 
 -- ---- partitions
 
--- the row of one more number
 pub row_more : (text : List ℕ) (n : ℕ) (row : ℕ → List ℕ) → (text ++ rows_below n row) ++ row n ≡ text ++ rows_below (n + 1) row
 row_more text n row = append_assoc text _ _ ∙ ap (λ k. text ++ rows_below k row) (sym (add-one n))
 
--- a sum of offsets does not overflow
 sum-most : (n most : ℕ) (f : ℕ → ℕ) → ((k : ℕ) → f k ≤ most) → sum_below n f ≤ n * most
 sum-most zero most f few = omega arith
 sum-most (suc n) most f few =

@@ -5,14 +5,12 @@ use Rattle.std.proofs.Math.Seq.{take-add}
 use Rattle.std.proofs.lemmas.List.{append-nil, drop-drop, drop_more, length-drop, length-take}
 use Rattle.report_rows.specs.CountRows.{count_row, count_rows, rows_between}
 
--- a part of a list, split in two
 range_parted : {X : Type 0} (xs : List X) (a m b : ℕ) → a ≤ m → m ≤ b → slice_range xs a b ≡ slice_range xs a m ++ slice_range xs m b
 range_parted xs a m b le le2 =
     let long : b - a ≡ (m - a) + (b - m) = omega (arith, le, le2) in
     let whole : a + (m - a) ≡ m = omega (arith, le) in
     ap (λ n. take n (drop a xs)) long ∙ take-add (m - a) (b - m) (drop a xs) ∙ ap (λ l. slice_range xs a m ++ take (b - m) l) (drop-drop (m - a) a xs ∙ ap (λ k. drop k xs) whole)
 
--- a part with one item
 range_one : {X : Type 0} (xs : List X) (i : ℕ) (d : X) → i < length xs → slice_range xs i (i + 1) ≡ get_or xs i d ∷ []
 range_one xs i d lt =
     let one : (i + 1) - i ≡ 1 = omega arith in
@@ -21,7 +19,6 @@ range_one xs i d lt =
 range_long : {X : Type 0} (xs : List X) (a b : ℕ) → a ≤ b → b ≤ length xs → length (slice_range xs a b) ≡ b - a
 range_long xs a b le le2 = omega (arith, length-take (b - a) (drop a xs), length-drop a xs, le, le2)
 
--- the rows of some keys and of those after them
 rows-append : (ks more : List (List ℕ)) (ns others : List ℕ) → length ks ≡ length ns → count_rows (ks ++ more) (ns ++ others) ≡ count_rows ks ns ++ count_rows more others
 unfolding count_rows
 rows-append [] more [] others e = refl
@@ -30,7 +27,6 @@ rows-append (k ∷ ks) more [] others e = absurd (omega (arith, e))
 rows-append (k ∷ ks) more (n ∷ ns) others e =
     ap (λ t. count_row k n ++ t) (rows-append ks more ns others (omega (arith, e))) ∙ sym (append_assoc (count_row k n) (count_rows ks ns) (count_rows more others))
 
--- rows made in two parts
 pub rows_parted : (ks : List (List ℕ)) (ns : List ℕ) (a m b : ℕ) → a ≤ m → m ≤ b → b ≤ length ns → length ks ≡ length ns → rows_between ks ns a b ≡ rows_between ks ns a m ++ rows_between ks ns m b
 rows_parted ks ns a m b le le2 le3 e =
     let keys = range_long ks a m le (omega (arith, le2, le3, e)) in
@@ -38,14 +34,12 @@ rows_parted ks ns a m b le le2 le3 e =
     ap₂ count_rows (range_parted ks a m b le le2) (range_parted ns a m b le le2)
     ∙ rows-append (slice_range ks a m) (slice_range ks m b) (slice_range ns a m) (slice_range ns m b) (keys ∙ sym counts)
 
--- one more row
 pub rows_more : (ks : List (List ℕ)) (ns : List ℕ) (a i : ℕ) → a ≤ i → i < length ns → length ks ≡ length ns → rows_between ks ns a (i + 1) ≡ rows_between ks ns a i ++ count_row (get_or ks i []) (get_or ns i 0)
 unfolding count_rows
 rows_more ks ns a i le lt e =
     let one : rows_between ks ns i (i + 1) ≡ count_row (get_or ks i []) (get_or ns i 0) ++ [] = ap₂ count_rows (range_one ks i [] (omega (arith, lt, e))) (range_one ns i 0 lt) in
     rows_parted ks ns a i (i + 1) le (omega arith) (omega (arith, lt)) e ∙ ap (λ t. rows_between ks ns a i ++ t) (one ∙ append-nil (count_row (get_or ks i []) (get_or ns i 0)))
 
--- no row
 pub rows_none : (ks : List (List ℕ)) (ns : List ℕ) (a : ℕ) → rows_between ks ns a a ≡ []
 unfolding count_rows
 rows_none ks ns a =

@@ -88,11 +88,8 @@ fn put_behind(front: Vec<Vec<u8>>, back: Vec<Vec<u8>>) -> Result<Vec<Vec<u8>>, M
 /// them on a thread.
 #[derive(Clone, Copy)]
 struct Span {
-    /// The first key.
     from: u32,
-    /// The key after the last one.
     to: u32,
-    /// The most rows that one thread makes.
     most: u32,
 }
 
@@ -160,7 +157,6 @@ fn rows_apart<R: Threads + Sync, L: LogRead + Sync>(
     put_behind(front?, back?)
 }
 
-/// The row of the totals as a text.
 fn total_text(alloc: Global, committed: u64, appended: u64) -> Result<Vec<u8>, Memory>
     ensures { IfOk result (λ text. text.items ≡ total_row committed appended) }
 {

@@ -44,7 +44,6 @@ fn place_among(topics: &[Topic], partition: u32) -> (Option<&[u8]>, u32)
     (None, number)
 }
 
-/// Writes the row of a move.
 fn write_move(
     writer: &mut Writer<Vec<u8>>,
     topics: &[Topic],
@@ -107,7 +106,6 @@ pub fn write_refused(
     )
 }
 
-/// Writes the row of a partition and its owner.
 fn write_owner(
     writer: &mut Writer<Vec<u8>>,
     topics: &[Topic],
@@ -127,7 +125,6 @@ fn write_owner(
     }
 }
 
-/// Writes the row of each partition and its owner.
 fn write_owners(
     writer: &mut Writer<Vec<u8>>,
     topics: &[Topic],
@@ -142,7 +139,6 @@ fn write_owners(
     Ok(())
 }
 
-/// Writes the row of a partition, its committed offset and its end offset.
 fn write_offset(
     writer: &mut Writer<Vec<u8>>,
     topics: &[Topic],
@@ -204,7 +200,6 @@ fn write_committed_counts<L: LogRead>(
     Ok(())
 }
 
-/// The number of records committed.
 fn committed_total(cluster: &Cluster) -> u64
     ensures { result ≡ committed_total cluster.now }
 {
@@ -216,7 +211,6 @@ fn committed_total(cluster: &Cluster) -> u64
     total
 }
 
-/// The number of records appended.
 fn appended_total(cluster: &Cluster) -> u64
     ensures { result ≡ appended_total cluster.now }
 {

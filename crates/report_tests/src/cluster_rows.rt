@@ -75,7 +75,6 @@ fn first_other(
     Ok(None)
 }
 
-/// Whether a writer has written this text.
 fn has_text(writer: Writer<Vec<u8>>, wanted: &[u8]) -> Result<bool, Memory> {
     let text = rows::text_of(writer)?;
     Ok(text.as_slice() == wanted)

@@ -1,7 +1,5 @@
-//! Tests of the reports, of their rows, and of what they read and write, by public calls:
-//! `devices`, `command_line`, `report_rows`, `ingest`, the three reports and `report_cli`.
-//!
-//! They have a crate of their own, since a crate with tests is proved twice.
+//! Tests of the reports, of their rows, and of what they read and write, by public calls. They have
+//! a crate of their own, since a crate with tests is proved twice.
 #![tactic(auto)]
 
 ghost use Rattle.std.specs.Prelude.{◌≡◌, ◌≤◌};

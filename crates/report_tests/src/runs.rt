@@ -58,7 +58,6 @@ fn ran_into<R: Threads + Wait + RandomSource + Sync, G: Gate + Sync>(
     run_text(rt, alloc, &mut file, &mut plan, options, gate, &mut sink)
 }
 
-/// Options with four partitions and this batch.
 fn options_of_batch(alloc: Global, batch: u32) -> Options
     requires { (1 ≤ batch) × (batch ≤ MOST_BATCH) }
     ensures { AreInRange result }

@@ -200,7 +200,6 @@ fn a_run_has_two_paths_and_a_batch(rt: HostRuntime) {
 /// The topics of a list, each with its number of partitions.
 type Topics<'a> = &'a [(&'a str, u32)];
 
-/// Whether a topic has this name and this many partitions.
 fn is_topic(topic: &Topic, wanted: (&str, u32)) -> bool {
     topic.name.text() == wanted.0.as_bytes() && topic.partitions == wanted.1
 }

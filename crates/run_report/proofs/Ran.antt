@@ -195,7 +195,6 @@ known_there seen (x ∷ keys) k h = go (known_there (with_key seen x) keys k h)
     go (inl e) = first (one_more seen x k e)
     go (inr e) = inr (or_right (bytes_eq k x) (is_known keys k) e)
 
--- a key that occurs is counted
 counted_there : (keys : List Key) (k : Key) → is_known keys k ≡ true → plain keys k ≡ 0 → ⊥
 counted_there [] k h e = absurd (cc h)
 counted_there (x ∷ keys) k h e = go (bytes_eq k x) (counted_there keys k) h (sym (sum_by-cons (λ y. cond (bytes_eq k y) 1 0) x keys) ∙ e)
@@ -211,7 +210,6 @@ distinct_counted keys k h = elim (known_there [] keys k h) [
   | inr e ↦ counted_there keys k e
 ]
 
--- if all keys were counted, each has a row
 counted_rows : (keys some : List Key) → ((k : Key) → is_known some k ≡ true → plain keys k ≡ 0 → ⊥) → committed_count_rows some (map (plain keys) some) ≡ count_rows some (map (plain keys) some)
 unfolding committed_count_rows count_rows
 counted_rows keys [] h = refl
@@ -260,13 +258,11 @@ text_is topics counts records plan s h =
     ∙ ap (λ c. (group_rows topics (settled n plan) ++ ended_rows topics counts records) ++ (c ++ total_row (committed_total s) (appended_total s))) (counts_are counts records plan s h)
     ∙ ap₂ (λ c t. (group_rows topics (settled n plan) ++ ended_rows topics counts records) ++ (count_rows (distinct keys) (counts_of keys) ++ total_row c t)) (totals.0 ∙ long) (totals.1 ∙ long)
 
--- all records can be appended
 pub text_told : (options : Options) (records : List Keyed) (plan : List Change) (text : List ℕ) → first_fault (partition_counts options) [] records ≡ None
     → text ≡ text_of_run options.topics.items (partition_counts options) records plan → report_of_plan options records plan ≡ Ok text
 unfolding report_of_plan
 text_told options records plan text none is = ap (λ fault. fault_or fault (text_of_run options.topics.items (partition_counts options) records plan)) none ∙ ap Ok (sym is)
 
--- a record can't be appended
 fault_told : (options : Options) (records : List Keyed) (plan : List Change) (fault : Refusal) → first_fault (partition_counts options) [] records ≡ Some fault → report_of_plan options records plan ≡ Err fault
 unfolding report_of_plan
 fault_told options records plan fault some = ap (λ o. fault_or o (text_of_run options.topics.items (partition_counts options) records plan)) some
@@ -282,12 +278,10 @@ key_ends report r.KeyTooLong k (inl m) = absurd (cc m)
 key_ends report r.LogFull k (inl m) = absurd (cc m)
 key_ends report e k h = absurd k
 
--- a record that can't be appended ends a run
 pub key_ends_run : (options : Options) (records : List Keyed) (plan : List Change) (e : Refusal) → IsKeyFault e → (e ≡ r.Memory) ⊎ (first_fault (partition_counts options) [] records ≡ Some e) → EndsRun (report_of_plan options records plan) e
 key_ends_run options records plan e k (inl m) = key_ends (report_of_plan options records plan) e k (inl m)
 key_ends_run options records plan e k (inr h) = key_ends (report_of_plan options records plan) e k (inr (fault_told options records plan e h))
 
--- so does a refusal of the run
 pub refusal_ends_run : (options : Options) (records : List Keyed) (plan : List Change) (e : Refusal) → first_fault (partition_counts options) [] records ≡ None → IsRunRefusal e → EndsRun (report_of_plan options records plan) e
 refusal_ends_run options records plan e none h = go h
   where

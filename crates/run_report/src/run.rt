@@ -26,7 +26,6 @@ use std::sync::Wait;
 use std::thread::Threads;
 use workers::{Gate, Outcome, run_cluster};
 
-/// Reads a script to its end and returns the plan in it.
 fn script_plan<S: Source>(alloc: Global, script: &mut S) -> Result<Plan, Refusal>
     requires { CanStillFail (S.failures script.old) }
     ensures plan { IfOk result (λ plan. IfSome (S.left script.old)
@@ -149,9 +148,7 @@ fn devices_report<R: Threads + Wait + RandomSource + Sync, S: Source, T: Source,
 /// nothing. Whether a run ends is up to its threads and to its gate, which is asked before each
 /// commit.
 ///
-/// # Errors
-///
-/// In this order:
+/// Errors, in this order:
 /// - `ReadFailed`: a read failed.
 /// - The first bad record: `BadCsv` if it has another number of fields than the first record,
 ///   `NoSuchColumn` if it lacks a column, `NoSuchTopic` if its topic is none of those given. The
@@ -161,9 +158,8 @@ fn devices_report<R: Threads + Wait + RandomSource + Sync, S: Source, T: Source,
 /// - The first record that can't be appended: `KeyTooLong`, `LogFull`.
 /// - `GateLimit`: the gate stopped the run. `Differs`: the run differed from what it was given.
 /// - `WriteFailed`: a write failed.
-///
-/// `Memory`, at any point: an allocation failed, a thread could not be started, or the system had
-/// no random bytes.
+/// - `Memory`, at any point: an allocation failed, a thread could not be started, or the system had
+///   no random bytes.
 pub fn run_text<
     R: Threads + Wait + RandomSource + Sync,
     S: Source,

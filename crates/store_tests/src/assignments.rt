@@ -1,6 +1,4 @@
-//! The sticky assignor: worked examples, a comparison with a search over all assignments, and the
-//! most members and partitions. An assignment is written as the list of its partitions' owners, 0
-//! for a partition that nobody owns.
+//! The sticky assignor. An assignment is a list of owners, 0 for a partition that nobody owns.
 
 ghost use Rattle.std.specs.Prelude.{◌≡◌, ◌<◌, ◌≤◌, length, IfOk, IsTrue};
 ghost use Rattle.bit_planes.specs.PartitionSet.{partitions_of};

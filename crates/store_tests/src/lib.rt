@@ -1,9 +1,6 @@
-//! Tests of the cluster's crates below the group: `bit_planes`, `sticky_assignor`,
-//! `coop_rebalance`, `keyed_table`, `commit_store` and `consumer`.
-//!
-//! They use public calls alone. They have a crate of their own because a crate with tests is proved
-//! twice. The modules `reference_*` are reference implementations: slower, and obviously right. The
-//! tests compare the fast ones with them.
+//! Tests of the cluster's crates below the group, by public calls alone. They have a crate of their
+//! own because a crate with tests is proved twice. The modules `reference_*` are reference
+//! implementations: slower, and obviously right. The tests compare the fast ones with them.
 #![tactic(auto)]
 
 ghost use Rattle.std.specs.Prelude.{◌≡◌, ◌<◌, ◌-◌, IfOk, length, slice_set};

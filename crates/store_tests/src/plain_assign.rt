@@ -1,5 +1,4 @@
-//! Reference implementation of the assignor: it makes a new set in each step and counts elements
-//! anew each time.
+//! Reference implementation of the assignor: each step makes new sets and counts anew.
 
 ghost use Rattle.std.specs.Prelude.{◌≡◌, ◌<◌, ◌≤◌, length, IfOk, IsSome};
 ghost use Rattle.bit_planes.specs.PartitionSet.{partitions_of};

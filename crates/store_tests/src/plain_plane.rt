@@ -14,7 +14,6 @@ const MOST: usize = MOST_PARTITIONS as usize;
 /// A set of partitions, of which there are 1 to 4096.
 #[derive(Drop)]
 pub struct PlainPlane {
-    /// The number of partitions.
     partitions: u32,
     /// Whether each number is in the set; false from `partitions` on.
     flags: [bool; MOST],

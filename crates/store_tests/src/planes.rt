@@ -1,5 +1,4 @@
-//! Sets of partitions and tables of them: each call once on its happy path, with one partition, a
-//! few, one more than a multiple of 64, and the most.
+//! Sets of partitions and tables of them: each call once, from one partition to the most.
 
 ghost use Rattle.std.specs.Prelude.{◌≡◌, ◌<◌, ◌≤◌, IfOk};
 ghost use Rattle.bit_planes.specs.PartitionSet.{partitions_of};

@@ -1,5 +1,4 @@
-//! Cooperative rebalancing: partitions that move from member 1 to member 2, step by step, each call
-//! once, and the most members and partitions.
+//! Cooperative rebalancing: partitions that move to another member, and the largest groups.
 
 ghost use Rattle.std.specs.Prelude.{◌≡◌, ◌≤◌, ◌∷◌, [], length, IfOk};
 ghost use Rattle.bit_planes.specs.PartitionSet.{partitions_of};

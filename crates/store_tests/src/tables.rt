@@ -1,5 +1,4 @@
-//! Counts of key numbers, and tables of counters: each call once with ample memory, lists in every
-//! order, and comparisons with the reference implementation.
+//! Counts of key numbers and tables of counters, alone and against the reference implementation.
 
 ghost use Rattle.std.specs.Prelude.{◌≡◌, ◌+◌, ◌<◌, ◌^◌, ℕ, IfOk, IsTrue, length, slice_index_or};
 ghost use Rattle.keyed_table.specs.Counts.{HaveCounters, SumsFit};
@@ -199,7 +198,6 @@ fn can_take(counts: &[u64], ids: &[u32]) -> bool
     are_below(ids, counts.len()) && leave_room(counts, ids.len())
 }
 
-/// Adds a list to a table.
 fn merge(rt: &impl Abort, table: &mut Table, partial: &Partial) {
     assert!(rt; can_take(table.counts(), partial.ids()));
     table.merge(partial);

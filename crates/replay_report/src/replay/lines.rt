@@ -70,7 +70,6 @@ fn event_of<'a>(world: &World, action: &'a Action) -> Event<'a>
     }
 }
 
-/// Applies a line.
 #[tactic(auto, unfolding(crate::specs::ReplayReport::outcome_of_line))]
 fn act(world: &mut World, action: &Action, batch: u32) -> Result<(), Refusal>
     requires { 1 ≤ batch }
@@ -86,12 +85,8 @@ fn act(world: &mut World, action: &Action, batch: u32) -> Result<(), Refusal>
     }
 }
 
-/// Applies a line and returns its answer.
-///
-/// # Errors
-///
-/// What ends the whole replay: `Memory` if an allocation failed, and `GenerationsOver` if the line
-/// would pass the last generation.
+/// Applies a line and returns its answer. The errors are those that end the whole replay: `Memory`
+/// if an allocation failed, and `GenerationsOver` if the line would pass the last generation.
 fn perform(world: &mut World, action: &Action, batch: u32) -> Result<Result<(), Refusal>, Refusal>
     requires { 1 ≤ batch }
     ensures performed { IfOk result

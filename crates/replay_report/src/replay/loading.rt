@@ -31,12 +31,8 @@ fn opened(rt: &impl RandomSource, alloc: Global, options: &Options) -> Result<Wo
 }
 
 /// A new world with the records of a file appended in order. The records are dropped, since the
-/// logs have a copy of each key.
-///
-/// # Errors
-///
-/// The fault of the first record that can't be appended; `Memory` if an allocation failed or the
-/// system had no random bytes.
+/// logs have a copy of each key. Fails with the fault of the first record that can't be appended,
+/// and with `Memory` if an allocation failed or the system had no random bytes.
 pub fn world_of<R: Threads + Sync + RandomSource>(
     rt: &R,
     alloc: Global,
@@ -72,7 +68,6 @@ fn loaded<R: Threads + Sync + RandomSource>(
     Ok(world)
 }
 
-/// Appends the records in order.
 fn load_records<R: Threads + Sync>(
     rt: &R,
     alloc: Global,

@@ -27,7 +27,6 @@ total (e ∷ es) x = cond (x == e.0) e.1 0 + total es x
 abbrev pub with_entry : List ℕ → ℕ × ℕ → List ℕ
 with_entry counts e = set counts e.0 (get_or counts e.0 0 + e.1)
 
--- the counters, raised by one entry after the other
 abbrev pub with_entries : List ℕ → List (ℕ × ℕ) → List ℕ
 with_entries counts [] = counts
 with_entries counts (e ∷ es) = with_entries (with_entry counts e) es
@@ -37,7 +36,6 @@ abbrev pub CanTake : List ℕ → List (ℕ × ℕ) → Type 0
 CanTake counts [] = Unit {0}
 CanTake counts (e ∷ es) = (e.0 < length counts) × (get_or counts e.0 0 + e.1 < 2 ^ 64) × CanTake (with_entry counts e) es
 
--- no entry says nothing
 abbrev pub AllSome : List (ℕ × ℕ) → Type 0
 AllSome [] = Unit {0}
 AllSome (e ∷ es) = (0 < e.1) × AllSome es
@@ -91,7 +89,6 @@ less_is_other x y h = grind (arith, nat_tests)
 equal_test : (x y : ℕ) → is_eq (nat_cmp x y) ≡ (x == y)
 equal_test x y = grind (arith, nat_tests)
 
--- no entry says anything of a number below all keys
 none-below : (es : List (ℕ × ℕ)) (x : ℕ) → AllByRecursion (λ y. nat_cmp x y ≡ Less) (keys_of es) → total es x ≡ 0
 none-below [] x h = refl
 none-below (e ∷ es) x h = let other = less_is_other x e.0 h.0 in rw other (omega (arith, none-below es x h.1))
@@ -104,7 +101,6 @@ looked-up true e es x same sorted rest =
     rw none (omega arith)
 looked-up false e es x other sorted rest = rw rest (omega arith)
 
--- what entries of different keys say of a number is what is found there
 pub total-is : (es : List (ℕ × ℕ)) (x : ℕ) → IsStrictlySortedBy nat_cmp (keys_of es) → total es x ≡ unwrap_or (lookup (λ k. is_eq (nat_cmp x k)) es) 0
 total-is [] x sorted = refl
 total-is (e ∷ es) x sorted =
@@ -115,7 +111,6 @@ all-some : (es : List (ℕ × ℕ)) → ((i x n : ℕ) → slice_get es i ≡ So
 all-some [] h = tt
 all-some (e ∷ es) h = (h 0 e.0 e.1 refl, all-some es (λ i x n s. h (suc i) x n s))
 
--- the entries of a map that has the counts of a list say what the list says
 pub says-counts : (m : BTreeMap ℕ ℕ) (ids : List ℕ) (x : ℕ) → IsOrdered nat_cmp m → HasCountsOf ids m → total m.entries x ≡ plain ids x
 says-counts m ids x sorted has = total-is m.entries x sorted ∙ ap (λ o. unwrap_or o 0) (has x) ∙ count-of-counted (plain ids x)
 
@@ -123,7 +118,6 @@ some-counted : (n m : ℕ) → Some m ≡ counted n → 0 < m
 some-counted zero m e = absurd (cc e)
 some-counted (suc n) m e = let same = of-counted (suc n) m e in omega (arith, same)
 
--- the counters can take them
 pub takes-counts : (m : BTreeMap ℕ ℕ) (counts ids : List ℕ) → IsOrdered nat_cmp m → HasCountsOf ids m → HaveCounters counts ids → SumsFit counts ids → CanTake counts m.entries
 takes-counts m counts ids sorted has within fit =
     can-take counts m.entries

@@ -37,14 +37,12 @@ pub record AreListed (runs : List (ℕ × ℕ)) (ids : List ℕ) (start at : ℕ
   pub below : at < length ids → (j : ℕ) → j < start → get_or ids j 0 < get_or ids at 0
   pub ended : at ≡ length ids → start ≡ at
 
--- a pair more
 value-push : (runs : List (ℕ × ℕ)) (v n x : ℕ) → value_in (runs ++ (v, n) ∷ []) x ≡ cond (eq_by_cmp nat_cmp v x) (Some n) (value_in runs x)
 value-push runs v n x = ap (λ (f : ℕ → Option ℕ). f x) (fold-append (λ (g : ℕ → Option ℕ) (p : ℕ × ℕ). update (eq_by_cmp nat_cmp) g p.0 (Some p.1)) (λ y. None) runs ((v, n) ∷ []))
 
 same_test : (v x : ℕ) → eq_by_cmp nat_cmp v x ≡ (v == x)
 same_test v x = grind (arith, nat_tests)
 
--- a run that ends is listed
 pub run-listed : (runs : List (ℕ × ℕ)) (ids : List ℕ) (start at : ℕ) → IsNonDecreasing ids → at < length ids → AreListed runs ids start at
     → (at + 1 < length ids → get_or ids (at + 1) 0 ≢ get_or ids at 0)
     → AreListed (runs ++ (get_or ids at 0, at + 1 - start) ∷ []) ids (at + 1) (at + 1)
@@ -75,7 +73,6 @@ run-listed runs ids start at rising lt h ends =
       ended = λ e. refl;
     }
 
--- a run goes on
 pub run-grows : (runs : List (ℕ × ℕ)) (ids : List ℕ) (start at : ℕ) → AreListed runs ids start at → at + 1 < length ids → get_or ids (at + 1) 0 ≡ get_or ids at 0 → AreListed runs ids start (at + 1)
 run-grows runs ids start at h lt same = record {
   so_far = h.so_far;
@@ -85,6 +82,5 @@ run-grows runs ids start at h lt same = record {
   ended = λ e. absurd (omega (arith, e, lt));
 }
 
--- in the end all is listed
 pub all-listed : (runs : List (ℕ × ℕ)) (ids : List ℕ) (start at : ℕ) → AreListed runs ids start at → at ≡ length ids → (x : ℕ) → value_in runs x ≡ counted (plain ids x)
 all-listed runs ids start at h e x = h.so_far x ∙ ap (λ ys. counted (plain ys x)) (take_all start ids (omega (arith, e, h.ended e)))

@@ -7,7 +7,6 @@ use Rattle.std.proofs.lemmas.List.{get_or-take, length-take-le, get_or-set_other
 use Rattle.bit_planes.specs.PartitionSet.{PartitionSet, partitions_of, is_in, set_where, rank, union, minus, lowest, full_set, empty_set, with_one, without_one}
 use Rattle.bit_planes.proofs.Sets.{partitions_where, in_where, rank_is, rank_in, rank_out, in_without, partitions_without, same_set}
 
--- the flags below p
 abbrev pub seen : ℕ → List Bool → PartitionSet
 seen p flags = record { flags = take p flags }
 
@@ -19,14 +18,12 @@ pub seen_flag : (p : ℕ) (flags : List Bool) (q : ℕ) → q < p → is_in (see
 unfolding is_in
 seen_flag p flags q lt = get_or-take p flags q false lt
 
--- how many partitions there are, and the flags of what is seen
 pub below_is : (p : ℕ) (flags : List Bool) (s : PartitionSet) → p ≤ 4096 → length flags ≡ 4096 → seen p flags ≡ s → partitions_of s ≡ p
 below_is p flags s few len e = sym (ap partitions_of e) ∙ seen_below p flags (omega arith)
 
 pub flag_is : (p : ℕ) (flags : List Bool) (s : PartitionSet) (q : ℕ) → q < p → seen p flags ≡ s → get_or flags q false ≡ is_in s q
 flag_is p flags s q lt e = sym (seen_flag p flags q lt) ∙ ap (λ t. is_in t q) e
 
--- flags that are marked as a test says below p are seen as the set of it
 pub seen_where : (p : ℕ) (flags : List Bool) (f : ℕ → Bool) → p ≤ 4096 → length flags ≡ 4096 → ((q : ℕ) → q < p → get_or flags q false ≡ f q) → seen p flags ≡ set_where p f
 seen_where p flags f few len marked =
     let e = seen_below p flags (omega arith) in
@@ -53,7 +50,6 @@ marked_one old f n flags x lt e m =
       left = λ q le. let other : q ≢ n = omega arith in get_or-set_other flags n q x false other ∙ m.left q (omega arith);
     }
 
--- a flag that is as the test says already
 pub marked_kept : (old : List Bool) (f : ℕ → Bool) (n : ℕ) (flags : List Bool) → get_or flags n false ≡ f n → AreMarked old f n flags → AreMarked old f (n + 1) flags
 marked_kept old f n flags e m = record {
   len = m.len;
@@ -67,7 +63,6 @@ marked_kept old f n flags e m = record {
 pub marked_all : (old : List Bool) (f : ℕ → Bool) (p n : ℕ) (flags : List Bool) → p ≤ 4096 → p ≤ n → AreMarked old f n flags → seen p flags ≡ set_where p f
 marked_all old f p n flags few le m = seen_where p flags f few m.len (λ q lt. m.done q (omega arith))
 
--- no flag
 pub none_at : (q : ℕ) → q < 4096 → get_or (replicate 4096 false) q false ≡ false
 none_at q lt = get_or-replicate 4096 q false false lt
 
@@ -114,7 +109,6 @@ and_other : (x y : Bool) → y ≡ false → x ≡ (x && not y)
 and_other true y e = rw e refl
 and_other false y e = refl
 
--- one flag set, or cleared
 pub seen_with : (p : ℕ) (flags : List Bool) (s : PartitionSet) (n : ℕ) → p ≤ 4096 → length flags ≡ 4096 → seen p flags ≡ s → n < p → seen p (slice_set flags n true) ≡ with_one s n
 unfolding with_one
 seen_with p flags s n few len e lt =
@@ -135,7 +129,6 @@ seen_without p flags s n few len e lt =
       | inr other ↦ get_or-set_other flags n q false false other ∙ flag_is p flags s q within e ∙ and_other (is_in s q) (q == n) (elsewhere q n other)
     ]) ∙ ap (λ k. set_where k f) (sym below)
 
--- a number that is not in the set is taken out of it
 pub without_past : (s : PartitionSet) (n : ℕ) → partitions_of s ≤ n → s ≡ without_one s n
 without_past s n le = same_set s (without_one s n) (sym (partitions_without s n)) (λ q lt. let other : q ≢ n = omega arith in and_other (is_in s q) (q == n) (elsewhere q n other) ∙ sym (in_without s n q))
 
@@ -187,7 +180,6 @@ failed_more R s t n a b x mine theirs fails told before q below = elim (cases_lt
   | inr late ↦ let same : q ≡ n = omega arith in rw same (tested_at R a b x (is_in s n) (is_in t n) false mine theirs fails told)
 ]
 
--- whether a test has passed below n
 abbrev pub HasPassed : (Bool → Bool → Bool → Type 0) → PartitionSet → PartitionSet → ℕ → Bool → Type 0
 HasPassed R s t n passed = MatchBool passed ((q : ℕ) × (q < n) × R (is_in s q) (is_in t q) true) ((q : ℕ) → q < n → R (is_in s q) (is_in t q) false)
 

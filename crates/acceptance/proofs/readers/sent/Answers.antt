@@ -4,7 +4,6 @@ use Rattle.group_machine.specs.Cluster.{ClusterState}
 use Rattle.consumer.specs.Consumer.{position_of}
 use Rattle.acceptance.proofs.readers.sent.Goals as goal
 
--- the logs are those of the world's cluster
 same_logs : (c : goal.After-logs) → c.logs.result.now ≡ c.args.world.now.cluster.logs
 same_logs c = c.logs.ensures.logs ∙ ap (λ (s : ClusterState). s.logs) c.cluster.ensures.cluster
 

@@ -8,7 +8,6 @@ use Rattle.ingest.proofs.Told.{as_answer}
 use Rattle.replay_report.specs.ReplayReport.{report_of_lines}
 use Rattle.replay_report.proofs.replay.report_of_lines.Goals as goal
 
--- a record that can't be appended ends a replay
 ended : (fault : Option Refusal) (text : Result (List ℕ) Refusal) (e : Refusal) → (e ≡ r.Memory) ⊎ (fault ≡ Some e) → (e ≡ r.Memory) ⊎ (option_map_or Err fault text ≡ Err e)
 ended fault text e (inl m) = inl m
 ended fault text e (inr h) = inr (ap (λ f. option_map_or Err f text) h)

@@ -5,11 +5,9 @@ use Rattle.std.proofs.lemmas.List.{drop-set, drop_all}
 use Rattle.report_cli.specs.Faults.{fault_text, location_text}
 use Rattle.report_cli.proofs.faults.put_fault.Goals as goal
 
--- the last byte of a line
 last_set : (xs : List ℕ) (n v : ℕ) → length xs ≡ n + 1 → drop n (slice_set xs n v) ≡ v ∷ []
 last_set xs n v h = drop-set xs n v (omega arith) ∙ ap (λ t. v ∷ t) (drop_all (n + 1) xs (omega arith))
 
--- the parts of a line, from its end
 joined : (a b c d end number place all : List ℕ) → end ≡ d → place ≡ c ++ end → number ≡ b ++ place → all ≡ a ++ number → all ≡ a ++ b ++ c ++ d
 joined a b c d end number place all h i j k = rw (k, j, i, h) (simp append_assoc)
 

@@ -3,7 +3,6 @@ use Rattle.keyed_table.specs.Counts.{plain}
 use Rattle.keyed_table.proofs.Elements.{stands-somewhere}
 use Rattle.store_tests.proofs.tables.can_take.Goals as goal
 
--- each number of a list is below a bound
 have-below : (ids : List ℕ) (bound : ℕ) → ((i : ℕ) → i < length ids → get_or ids i 0 < bound) → (x : ℕ) → 0 < plain ids x → x < bound
 have-below ids bound below x more =
     let found = stands-somewhere ids x more in

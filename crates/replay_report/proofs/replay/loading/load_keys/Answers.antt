@@ -6,7 +6,6 @@ use Rattle.replay_report.specs.Private.Loading.{AreAppendsOf}
 use Rattle.replay_report.proofs.Loaded.{first_appends}
 use Rattle.replay_report.proofs.replay.loading.load_keys.Goals as goal
 
--- the events of the keys that are lent append records of these keys
 events_are : (slices items : List (Bor Key)) (keys : List Key) → slices ≡ items → map (λ key. key.now) items ≡ keys → AreAppendsOf (appends_of slices) (in_first keys)
 events_are slices items keys e h = subst (λ ks. AreAppendsOf (appends_of slices) (in_first ks)) (ap lent e ∙ h) (first_appends slices)
 

@@ -8,7 +8,6 @@ use Rattle.replay_report.specs.Private.Loading.{AreAppendsOf}
 use Rattle.replay_report.proofs.Loaded.{topic_appends}
 use Rattle.replay_report.proofs.replay.loading.load_topic_keys.Goals as goal
 
--- the events of the topics and the keys that are lent append these records
 events_are : (keys : List (List ℕ)) (topics topic_items : List ℕ) (slices items : List (Bor Key)) → topics ≡ topic_items → topic_items ≡ map topic_of keys → slices ≡ items → map (λ key. key.now) items ≡ map key_behind keys
     → AreAppendsOf (appends_in topics slices) (map record_of keys)
 events_are keys topics topic_items slices items ts these ss those =

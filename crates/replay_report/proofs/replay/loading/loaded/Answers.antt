@@ -8,7 +8,6 @@ use Rattle.replay_report.proofs.Opening.{opening_counts, opening_logs}
 use Rattle.world.specs.World.{WorldState}
 use Rattle.replay_report.proofs.replay.loading.loaded.Goals as goal
 
--- the logs of a world in which nothing has happened
 logs_are : (counts : List ℕ) (w : WorldState) → w ≡ opening_world counts → AreLogsOf [] w.cluster.logs
 logs_are counts w e = subst (λ (x : WorldState). AreLogsOf [] x.cluster.logs) (sym e) (opening_logs counts)
 

@@ -2,12 +2,10 @@ use Rattle.std.proofs.Common.{rules, arith, ℕ, List, [], ◌∷◌, ◌++◌, 
 use Rattle.std.specs.Prelude.{slice_set, suc}
 use Rattle.report_tests.proofs.slow.DripSource.read.Goals as goal
 
--- the first of some bytes, after a write to it
 first_set : (xs : List ℕ) (v : ℕ) → 0 < length xs → take 1 (slice_set xs 0 v) ≡ v ∷ []
 first_set [] v h = absurd (omega arith)
 first_set (x ∷ xs) v h = refl
 
--- the next byte, and those after it
 next : (xs : List ℕ) (i v : ℕ) → i < length xs → v ≡ get_or xs i v → drop i xs ≡ v ∷ drop (i + 1) xs
 next xs i v h e = rw add-one (drop-cons xs i v h ∙ ap (λ x. x ∷ drop (suc i) xs) (sym e))
 
