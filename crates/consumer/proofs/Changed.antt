@@ -62,7 +62,6 @@ with_keeps c p old h held = record {
   ];
 }
 
--- a bound on bases, and one on positions
 pub with_base : (c : ConsumerState) (p : ℕ) (old h : Held) → held_at c p ≡ Some old → (b : ℕ → ℕ) → h.base ≤ b p → ((q : ℕ) → base_of c q ≤ b q) → (q : ℕ) → base_of (with_held c p h) q ≤ b q
 with_base c p old h held b this others q =
     elim (slot_with c p old h held q) [
@@ -91,7 +90,6 @@ none_held n p =
       | inr le ↦ get_or_past (replicate n (let none : Option Held = None in none)) p None (omega (arith, length-replicate n (let none : Option Held = None in none)))
     ]
 
--- whoever holds something is in
 pub with_valid : (c : ConsumerState) (p : ℕ) (old h : Held) → held_at c p ≡ Some old → h.base ≤ h.position → IsValidConsumer c → IsValidConsumer (with_held c p h)
 with_valid c p old h held this valid = record {
   some_partitions = valid.some_partitions;
@@ -111,7 +109,6 @@ held_if c p None is ok = absurd (go (is_none c.member) (rw is at ok))
     go true e = cc
     go false e = cc
 
--- a partition that can be polled is held
 pub held_if_polled : (c : ConsumerState) (l : PartitionLogs) (p n count : ℕ) → poll_answer c l p n ≡ Ok count → (h : Held) × (held_at c p ≡ Some h)
 held_if_polled c l p n count e = held_if c p (held_at c p) refl (go (hold_answer c p) refl e)
   where
@@ -119,7 +116,6 @@ held_if_polled c l p n count e = held_if c p (held_at c p) refl (go (hold_answer
     go (Ok u) is h = is
     go (Err why) is h = absurd (cc h)
 
--- what a poll leaves
 pub record PollLeaves (c new : ConsumerState) (l : PartitionLogs) : Type 0 where
   pub valid : IsValidConsumer new
   pub hold : KeepsHold c new
@@ -138,7 +134,6 @@ poll_leaves c l p n count valid within answer =
     }
 
 -- ---- answers
--- what a known committed offset leaves
 pub record RealignLeaves (c new : ConsumerState) (p committed : ℕ) : Type 0 where
   pub valid : IsValidConsumer new
   pub hold : KeepsHold c new
@@ -176,7 +171,6 @@ realign_leaves c p k valid = go (held_at c p) refl
     }
 
 -- ---- out, and joined
--- nothing is held out of a group
 pub nothing_held : (n p : ℕ) → is_held (out_of_group n) p ≡ false
 nothing_held n p = ap is_some (none_held n p)
 

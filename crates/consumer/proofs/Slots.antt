@@ -42,7 +42,6 @@ later false b e = e
 neither : (k p : ℕ) (b : Bool) → k ≢ p → b ≡ false → ((k == p) || b) ≡ false
 neither k p b ne e = grind (arith, nat_tests, e)
 
--- the next one is in the set
 pub next_in : (f : ℕ → Option Held) (s : PartitionSet) (n : ℕ) (held : List (Option Held)) (left : List ℕ) (p : ℕ) (next : List ℕ) → left ≡ p ∷ next → AreWritten f s n held left → is_in s p ≡ true
 next_in f s n held left p next steps w = w.within p (ap (is_listed p) steps ∙ this p (is_listed p next))
 
@@ -62,7 +61,6 @@ all_written f s n held left over w = fill_by_all f held n None w.long (λ k lt. 
 pub slot_written : (f : ℕ → Option Held) (s : PartitionSet) (n : ℕ) (held : List (Option Held)) (left : List ℕ) → left ≡ [] → AreWritten f s n held left → (k : ℕ) → slice_index_or held k None ≡ f k
 slot_written f s n held left over w k = w.done k (ap (is_listed k) over)
 
--- ---- what is leased and not held
 none_held : (o : Option Held) → is_some o ≡ false → o ≡ None
 none_held (Some h) e = absurd (cc e)
 none_held None e = refl
@@ -102,7 +100,6 @@ lease_holding lease holding new held held_new holds one_each long e slots = reco
     go k None false true e is = rw is refl
     go k None false false e is = rw is refl
 
--- ---- what is held and not assigned
 pub given_up_keeps : (assigned holding : PartitionSet) (held : List (Option Held)) → IsHolding holding held → (k : ℕ) → is_in (minus holding assigned) k ≡ false → slice_index_or held k None ≡ (if is_in assigned k then slice_index_or held k None else None)
 given_up_keeps assigned holding held holds k out = go (slice_index_or held k None) (is_in holding k) (is_in assigned k) (holds.elements k) (sym (in_minus holding assigned k) ∙ out)
   where

@@ -11,7 +11,6 @@ use Rattle.group_machine.specs.Cluster.{LeaseTerms, start_of}
 use Rattle.consumer.specs.declared.held.Held.{Held}
 use Rattle.consumer.specs.Consumer.{ConsumerState, IsValidConsumer, base_of, given_up, held_at, leased, leased_slot, out_of_group, position_of}
 
--- the base and the position of a slot
 abbrev pub slot_base : Option Held → ℕ
 slot_base o = option_map_or (λ h. h.base) o 0
 
@@ -21,14 +20,12 @@ slot_position o = option_map_or (λ h. h.position) o 0
 abbrev slots_by : (ℕ → Option Held) → ℕ → List (Option Held)
 slots_by f n = map f (range_with_len 0 n)
 
--- a slot that a function gives, or none past the last
 pub slot_by : (f : ℕ → Option Held) (n p : ℕ) → p < n → slice_index_or (slots_by f n) p None ≡ f p
 slot_by f n p lt = get_or-map-range_with_len f 0 n p p None lt (omega arith)
 
 pub slot_past : (f : ℕ → Option Held) (n p : ℕ) → n ≤ p → slice_index_or (slots_by f n) p None ≡ None
 slot_past f n p le = get_or_past (slots_by f n) p None (omega (arith, length-map-range_with_len f 0 n))
 
--- slots in order, each by what its function gives
 ordered_by : (f : ℕ → Option Held) (n : ℕ) → ((p : ℕ) → p < n → slot_base (f p) ≤ slot_position (f p)) → (p : ℕ) → slot_base (slice_index_or (slots_by f n) p None) ≤ slot_position (slice_index_or (slots_by f n) p None)
 ordered_by f n each p =
     elim (cases_lt p n) [

@@ -67,8 +67,7 @@ leased_slot lease p None =
     then Some (record { base = start_of lease p; position = start_of lease p })
     else None
 
--- the consumer with a lease: it gives nothing up yet (KIP-429: retained partitions are read during
--- a rebalance)
+-- the consumer with a lease: it gives nothing up yet (KIP-429: it reads on during a rebalance)
 abbrev pub leased : ConsumerState → LeaseTerms → ConsumerState
 leased c lease = record c {
   generation = lease.generation;

@@ -1,6 +1,5 @@
 //! One consumer of a group: it reads the partitions that it holds and sends commits.
 //!
-//! What it promises:
 //! - Each call is exactly the step that `specs/Consumer.antt` defines: what it returns and the
 //!   state after it. A refusal is the first that applies, in order, and changes nothing.
 //! - The invariant of `Consumer`: no base is past its position, and a consumer that is out of the

@@ -9,12 +9,10 @@ use Rattle.bit_planes.proofs.RowLaws.{same_rows}
 use Rattle.bit_planes.proofs.Walks.{stands_at}
 use Rattle.coop_rebalance.specs.Private.Final.{HasRowsOf}
 
--- a row of the others is not here
 pub tells_lack : (r s : SetRows) (m : ℕ) (row : PartitionSet) → row_of s m ≡ Some row → (row_of r m ≡ Some row → ⊥)
     → IsTrue false ↔ HasRowsOf r s
 tells_lack r s m row there lacks = (λ no. absurd (cc no), λ has. absurd (lacks (has m row there)))
 
--- each row of the others was found here
 pub tells_all : (r s : SetRows)
     → ((i : ℕ) (d : ℕ × PartitionSet) → i < length s.rows → row_of r (get_or s.rows i d).0 ≡ Some (get_or s.rows i d).1)
     → IsTrue true ↔ HasRowsOf r s
@@ -26,7 +24,6 @@ tells_all r s all = (
   λ has. refl,
 )
 
--- one row more was found
 pub one_more : (r s : SetRows) (k : ℕ) (item : ℕ × PartitionSet) → k < length s.rows → item ≡ get_or s.rows k item → row_of r item.0 ≡ Some item.1
     → ((i : ℕ) (d : ℕ × PartitionSet) → i < k → row_of r (get_or s.rows i d).0 ≡ Some (get_or s.rows i d).1)
     → (i : ℕ) (d : ℕ × PartitionSet) → i < k + 1 → row_of r (get_or s.rows i d).0 ≡ Some (get_or s.rows i d).1
@@ -38,7 +35,6 @@ one_more r s k item lt at here before i d less = elim (cases_lt i k) [
       ap (λ (x : ℕ × PartitionSet). row_of r x.0) (sym there) ∙ here ∙ ap (λ (x : ℕ × PartitionSet). Some x.1) there
 ]
 
--- where each has the rows of the other, a look-up gives the same in both
 same_found : (a b : Option PartitionSet) → ((s : PartitionSet) → a ≡ Some s → b ≡ Some s) → ((s : PartitionSet) → b ≡ Some s → a ≡ Some s) → a ≡ b
 same_found None None there back = refl
 same_found None (Some s) there back = back s refl
@@ -47,7 +43,6 @@ same_found (Some s) b there back = sym (there s refl)
 same_of : (r s : SetRows) → HasRowsOf r s → HasRowsOf s r → HaveSameRows r s
 same_of r s here there m = same_found (row_of r m) (row_of s m) (there m) (here m)
 
--- what the second of two answers implies for rows, where the first was yes
 pub tells_equal : (r s : SetRows) (b : Bool) → IsValidRows r → IsValidRows s → r.partitions ≡ s.partitions
     → HasRowsOf r s → IsTrue b ↔ HasRowsOf s r → IsTrue b ↔ (r ≡ s)
 tells_equal r s b valid valid' below here there = (

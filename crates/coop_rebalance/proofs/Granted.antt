@@ -22,7 +22,6 @@ eq_other m n ne = grind (arith, nat_tests)
 eq_says : (m n : ℕ) → (m == n) ≡ true → m ≡ n
 eq_says m n e = grind (arith, nat_tests)
 
--- ---- how many others are granted a partition
 times_to_others : Rows → ℕ → ℕ → ℕ
 times_to_others [] m q = 0
 times_to_others (row ∷ rows) m q = one (not (row.0 == m) && is_in row.1 q) + times_to_others rows m q
@@ -38,7 +37,6 @@ to_other-counts (row ∷ rows) m q =
     let mine : Bool = not (row.0 == m) && is_in row.1 q in
     ap (λ b. mine || b) (to_other-counts rows m q) ∙ some_time mine (times_to_others rows m q)
 
--- where all members are above, all are others
 above_are_others : (rows : Rows) (m q : ℕ) → ((i : ℕ) → i < length (map (λ row. row.0) rows) → m < get_or (map (λ row. row.0) rows) i 0) → times_to_others rows m q ≡ times_granted rows q
 unfolding times_to_others
 above_are_others [] m q above = refl
@@ -64,21 +62,18 @@ tells_others : (o : ℕ) (x : Bool) → ((nat_lt 0 (o + one x) && not x) || nat_
 tells_others o true = grind (arith, nat_tests)
 tells_others o false = grind (arith, nat_tests)
 
--- with a row of its own
 pub others_beside : (some several own : PartitionSet) (r : SetRows) (m q : ℕ) → IsValidRows r → AreGrants some several r → find_row r.rows m ≡ Some own → ((is_in some q && not (is_in own q)) || is_in several q) ≡ granted_to_other r.rows m q
 others_beside some several own r m q valid grants found =
     let own_is : one (is_in (set_or_empty r.partitions (find_row r.rows m)) q) ≡ one (is_in own q) = ap (λ o. one (is_in (set_or_empty r.partitions o) q)) found in
     let times : times_granted r.rows q ≡ times_to_others r.rows m q + one (is_in own q) = own_or_not r.rows r.partitions m q valid.rising ∙ ap (λ n. times_to_others r.rows m q + n) own_is in
     rw (grants.to_several q, grants.to_some q, times, to_other-counts r.rows m q) (tells_others (times_to_others r.rows m q) (is_in own q))
 
--- without one
 pub others_alone : (some several : PartitionSet) (r : SetRows) (m q : ℕ) → IsValidRows r → AreGrants some several r → find_row r.rows m ≡ None → is_in some q ≡ granted_to_other r.rows m q
 others_alone some several r m q valid grants found =
     let own_is : one (is_in (set_or_empty r.partitions (find_row r.rows m)) q) ≡ 0 = ap (λ o. one (is_in (set_or_empty r.partitions o) q)) found ∙ ap one (in_empty r.partitions q) in
     let times : times_granted r.rows q ≡ times_to_others r.rows m q = omega (arith, own_or_not r.rows r.partitions m q valid.rising, own_is) in
     rw (grants.to_some q, times, to_other-counts r.rows m q) refl
 
--- ---- collecting
 times-last : (rows : Rows) (row : ℕ × PartitionSet) (q : ℕ) → times_granted (rows ++ row ∷ []) q ≡ times_granted rows q + one (is_in row.1 q)
 times-last [] row q = omega arith
 times-last (r ∷ rows) row q = omega (arith, times-last rows row q)
@@ -91,7 +86,6 @@ more_several : (t : ℕ) (x : Bool) → (nat_lt 1 t || (x && not (x && not (nat_
 more_several t true = grind (arith, nat_tests)
 more_several t false = grind (arith, nat_tests)
 
--- one row more
 pub grants_more : (p : ℕ) (rows : Rows) (row : ℕ × PartitionSet) (some several : PartitionSet) → partitions_of row.1 ≡ p → AreGrants some several (record { partitions = p; rows = rows })
     → AreGrants (union some (minus row.1 some)) (union several (minus row.1 (minus row.1 some))) (record { partitions = p; rows = rows ++ row ∷ [] })
 grants_more p rows row some several below g =
@@ -113,7 +107,6 @@ fresh_several : (t : ℕ) (x : Bool) → (x && nat_lt 0 t) ≡ false → nat_lt 
 fresh_several t true e = grind (arith, nat_tests)
 fresh_several t false e = grind (arith, nat_tests)
 
--- a row that meets what some are granted, and one that does not
 pub grants_again : (p : ℕ) (rows : Rows) (row : ℕ × PartitionSet) (some several : PartitionSet) → partitions_of row.1 ≡ p → AreGrants some several (record { partitions = p; rows = rows })
     → AreGrants (union some row.1) (union several (minus row.1 (minus row.1 some))) (record { partitions = p; rows = rows ++ row ∷ [] })
 grants_again p rows row some several below g =
@@ -135,6 +128,5 @@ grants_fresh p rows row some several below apart g = record {
   to_several = λ q. g.to_several q ∙ (fresh_several (times_granted rows q) (is_in row.1 q) (ap (λ b. is_in row.1 q && b) (sym (g.to_some q)) ∙ apart q) ∙ ap (λ n. nat_lt 1 n) (sym (times-last rows row q)));
 }
 
--- all rows
 pub grants_all : (r : SetRows) (some several : PartitionSet) (i : ℕ) → i ≡ length r.rows → AreGrants some several (record { partitions = r.partitions; rows = take i r.rows }) → AreGrants some several r
 grants_all r some several i e g = subst (λ (rows : Rows). AreGrants some several (record { partitions = r.partitions; rows = rows })) (take_all i r.rows (omega arith)) g

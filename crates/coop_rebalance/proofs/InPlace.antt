@@ -11,7 +11,6 @@ use Rattle.coop_rebalance.specs.Withheld.{granted_to_other, withheld_row, withhe
 abbrev Rows : Type 0
 Rows = List (ℕ × PartitionSet)
 
--- whether a member has one of these rows
 abbrev pub has_row : Rows → ℕ → Bool
 has_row [] m = false
 has_row (row ∷ rows) m = (row.0 == m) || has_row rows m
@@ -53,7 +52,6 @@ has_at [] i lt = absurd (omega arith)
 has_at (row ∷ rows) zero lt = ap (λ b. b || has_row rows row.0) (eq_self row.0)
 has_at (row ∷ rows) (suc i) lt = ap (λ b. (row.0 == get_or (map (λ row. row.0) rows) i 0) || b) (has_at rows i (omega arith)) ∙ or_true (row.0 == get_or (map (λ row. row.0) rows) i 0)
 
--- ---- one turn
 off_twice : (x y : Bool) → ((x && not y) && not y) ≡ (x && not y)
 off_twice true true = refl
 off_twice true false = refl
@@ -97,7 +95,6 @@ pub withheld_one : (target granted rows new : SetRows) (done : Rows) (row : ℕ 
 withheld_one target granted rows new done row others known so_far is =
     is ∙ (ap (λ (r : SetRows). with_less r row.0 others) so_far ∙ ap (λ (rs : Rows). record target { rows = rs }) (all_turned granted.rows done target.rows row.0 row.1 others known))
 
--- ---- before the first turn, and after the last
 none_turned : (granted rows : Rows) → rows ≡ map (turned granted []) rows
 none_turned granted [] = refl
 none_turned granted (row ∷ rows) = ap (λ rs. row ∷ rs) (none_turned granted rows)

@@ -51,7 +51,6 @@ granted_least (n ∷ ms) (row ∷ rows) m q few =
     let ih : others ms rows m q ≤ one rest = granted_least ms rows m q (omega arith) in
     omega (arith, le_or_left mine rest, le_or_right mine rest)
 
--- a number below all members is no member
 all_others : (ms : List ℕ) (rows : List PartitionSet) (m q : ℕ) → length rows ≡ length ms → ((i : ℕ) → i < length ms → m < get_or ms i 0) → others ms rows m q ≡ holders rows q
 all_others [] [] m q len below = refl
 all_others [] (row ∷ rows) m q len below = absurd (omega arith)
@@ -60,7 +59,6 @@ all_others (n ∷ ms) (row ∷ rows) m q len below =
     let lt : m < n = below 0 (omega arith) in
     rw (not_eq_back m n lt) (omega (arith, all_others ms rows m q (omega arith) (λ i l. below (suc i) (omega arith))))
 
--- a member's row, and those of the others
 mine_and_others : (ms : List ℕ) (rows : List PartitionSet) (i q : ℕ) → length rows ≡ length ms → IsRising ms → i < length ms → one (is_in (row_at rows i) q) + others ms rows (get_or ms i 0) q ≡ holders rows q
 mine_and_others [] rows i q len rising lt = absurd (omega arith)
 mine_and_others (m ∷ ms) [] i q len rising lt = absurd (omega arith)
@@ -101,7 +99,6 @@ not_first : (x y : Bool) → x ≡ false → x ≡ (x && y)
 not_first true y e = cc
 not_first false y e = refl
 
--- membership of a row without what others are granted
 in_off : (granted : List (ℕ × PartitionSet)) (m : ℕ) (row : PartitionSet) (q : ℕ) → is_in (withheld_row granted (m, row)).1 q ≡ (is_in row q && not (granted_to_other granted m q))
 in_off granted m row q = elim (cases_lt q (partitions_of row)) [
   | inl lt ↦ in_where (partitions_of row) _ q lt
@@ -233,7 +230,6 @@ length_members : (rows : List (ℕ × PartitionSet)) → length (map (λ row. ro
 length_members [] = refl
 length_members (row ∷ rows) = ap (λ n. suc n) (length_members rows)
 
--- The next round keeps what this one assigned, and withholds nothing
 pub settles : (g : SetRows) → IsValidRows g → 0 < length g.rows → AreApart (sets_of g (members g)) → Settles (next_rows g)
 settles g valid some apart =
     let ms : List ℕ = members g in
@@ -271,7 +267,6 @@ next_within_paired p ms gs lo hi len rising some over apart =
     } in
     subst (LiesInTarget g) (sym (next_paired p ms gs len rising)) lies
 
--- What is next lies within balanced rows
 pub next_within : (g : SetRows) → IsValidRows g → 0 < length g.rows → AreApart (sets_of g (members g)) → LiesInTarget g (next_rows g)
 next_within g valid some apart =
     let ms : List ℕ = members g in
@@ -367,7 +362,6 @@ given_apart_paired p ms gs len rising some over apart =
     ∙ ap (λ rows. unions gs rows) (sets_paired p ms ws n.long rising) in
     subst (λ r. AreApart (together g r)) (sym (next_paired p ms gs len rising)) (subst AreApart (sym same) (given_apart_lists p ms gs ts len n.target_long rising over n.target_over apart ta))
 
--- What is granted and what is assigned stay disjoint
 pub given_apart : (g : SetRows) → IsValidRows g → 0 < length g.rows → AreApart (sets_of g (members g)) → AreApart (together g (next_rows g))
 given_apart g valid some apart =
     let ms : List ℕ = members g in

@@ -13,7 +13,6 @@ use Rattle.coop_rebalance.specs.Withheld.{granted_to_other, withheld_row, withhe
 abbrev Rows : Type 0
 Rows = List (ℕ × PartitionSet)
 
--- ---- one row
 not_first : (x y : Bool) → x ≡ false → (x && y) ≡ false
 not_first true y h = absurd (cc h)
 not_first false y h = refl
@@ -33,7 +32,6 @@ withheld_set granted row others known =
     (λ q lt. in_minus row.1 others q ∙ ap (λ b. is_in row.1 q && not b) (known q) ∙ sym (in_withheld_row granted row q)) in
     ap (λ s. (row.0, s)) same
 
--- ---- all rows
 numbers_withheld : (granted rows : Rows) → map (λ row. row.0) (map (withheld_row granted) rows) ≡ map (λ row. row.0) rows
 numbers_withheld granted [] = refl
 numbers_withheld granted (row ∷ rows) = ap (λ ms. row.0 ∷ ms) (numbers_withheld granted rows)
@@ -57,8 +55,6 @@ pub set_withheld : (target granted : SetRows) (m q : ℕ) → is_in (set_of (wit
 unfolding withheld
 set_withheld target granted m q = found_withheld target.partitions granted.rows target.rows m q
 
--- ---- the rows that a loop has made
--- the first rows of a target, withheld
 abbrev pub withheld_first : SetRows → SetRows → Rows → ℕ → SetRows
 withheld_first target granted items i = record target { rows = map (withheld_row granted.rows) (take i items) }
 

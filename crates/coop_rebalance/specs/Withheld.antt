@@ -1,5 +1,4 @@
--- What is withheld from a member for now. By KIP-429 the old owner of a partition revokes it before
--- it is assigned to the new one.
+-- What is withheld for now: by KIP-429 a partition is revoked before it is assigned to another.
 use Rattle.std.specs.Prelude.{◌≡◌, ℕ, ◌==◌, Bool, false, ◌&&◌, ◌||◌, not, List, [], ◌∷◌, map}
 use Rattle.bit_planes.specs.PartitionSet.{PartitionSet, partitions_of, is_in, set_where}
 use Rattle.bit_planes.specs.SetRows.{SetRows, set_of}
@@ -27,7 +26,6 @@ AreWithoutOthers rows target granted = (m q : ℕ)
     → is_in (set_of rows m) q
     ≡ (is_in (set_of target m) q && not (granted_to_other granted.rows m q))
 
--- what a round of a rebalance assigns: the sticky target of what is granted, without what others
--- are granted
+-- what a round assigns: the sticky target of what is granted, without what others are granted
 abbrev pub next_rows : SetRows → SetRows
 next_rows granted = withheld (target_rows granted) granted

@@ -1,7 +1,5 @@
-//! Cooperative rebalancing: the old owner of a partition revokes it before the new owner gets it
-//! (KIP-429).
+//! Cooperative rebalancing (KIP-429): the old owner revokes a partition before the new one gets it.
 //!
-//! What it promises:
 //! - [`withhold`] returns each member's target row without what any other member is granted.
 //!   [`withhold_in_place`] does the same to the given rows. [`to_give`] and [`added`] are the
 //!   differences between granted and assigned sets, and [`is_final`] their equality.

@@ -12,10 +12,8 @@ use lane_words::Memory;
 use std::alloc::Global;
 
 /// Each member's target row without what any other member is granted. Both are over the same number
-/// of partitions. So nobody gets a partition that changes its owner until the present owner has
-/// revoked it, which is the rule of KIP-429.
-///
-/// The cost is linear in members times partitions. It fails only when out of memory.
+/// of partitions. So nobody gets a partition before its present owner has revoked it (KIP-429). The
+/// cost is linear in members times partitions. It fails only when out of memory.
 pub fn withhold(alloc: Global, target: &PlaneRows, granted: &PlaneRows) -> Result<PlaneRows, Memory>
     requires { target.now.partitions ≡ granted.now.partitions }
     ensures value { IfOk result (λ rows. rows ≡ withheld target.now granted.now) }

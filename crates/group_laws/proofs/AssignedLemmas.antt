@@ -27,7 +27,6 @@ assigned_found p (Some x) = refl
 pub set_assigned : (g : GroupState) (m : ℕ) → set_of (assigned_rows g) m ≡ assigned_of g m
 set_assigned g m = ap (λ o. set_or_empty g.partitions o) (find_present (λ x. x.assigned) g.slots m) ∙ assigned_found g.partitions (member_of g m)
 
--- a group has 1 to the most partitions
 abbrev pub HasPartitions : GroupState → Type 0
 HasPartitions g = (1 ≤ g.partitions) × (g.partitions ≤ MOST_PARTITIONS)
 
@@ -42,7 +41,6 @@ assigned_kept g has fit = record {
   over = over_from g.partitions (λ x. x.assigned) 1 g.slots (λ k x is. (fit (suc k) x is).assigned_below);
 }
 
--- ---- a member's sets
 granted_within : (p : ℕ) (o : Option Seat) → ((x : Seat) → o ≡ Some x → IsFit p x) → (q : ℕ) → is_in (seat_assigned p o) q ≡ true → is_in (seat_granted p o) q ≡ true
 granted_within p None fit q e = e
 granted_within p (Some x) fit q e = within_says x.assigned x.granted ((fit x refl).within) q e
@@ -58,7 +56,6 @@ assigned_owned g has fit apart any = record {
       apart m n q (assigned_in_granted g fit m q (ap (λ s. is_in s q) (sym (set_assigned g m)) ∙ e)) (assigned_in_granted g fit n q (ap (λ s. is_in s q) (sym (set_assigned g n)) ∙ h)));
 }
 
--- ---- the second round keeps everything and withholds nothing
 second : (r : SetRows) → AreGranted r → Settles (next_rows r)
 second r owned = settles r owned.valid owned.some owned.apart
 

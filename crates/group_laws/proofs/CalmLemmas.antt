@@ -1,6 +1,5 @@
--- Four passes settle and sync a group: after the first it is one round away from a settled group, after
--- the second it is settled or its last round is prepared, after the third it is settled, and in the
--- fourth all sync.
+-- Four passes settle and sync a group. The first leaves it one round away from a settled group, the
+-- second settled or in its last round, the third settled, and in the fourth all sync.
 use Rattle.std.proofs.Common.{ℕ, ◌≡◌, ◌∙◌, ◌==◌, Bool, true, false, ◌&&◌, ◌||◌, ◌⊎◌, inl, inr, not, List, [], ◌∷◌, Option, Some, None, is_some, refl, ap, sym, subst, cond}
 use Rattle.std.proofs.lemmas.Bool.{false≢true}
 use Rattle.std.specs.List.{list_all}
@@ -29,7 +28,6 @@ use Rattle.group_laws.proofs.FinishLemmas.{two_rounds, complete_round, synced_ro
 use Rattle.group_laws.proofs.NearLemmas.{stable_round}
 
 -- ---- what the rejoin of a turn comes to
--- nothing, a rejoin without a completion, or a round
 due_by : (holds : GroupState → Type 0) (g : GroupState) (member : ℕ) → IsValidGroup g → (has_to_rejoin g member ≡ false → holds g) → (has_to_rejoin g member ≡ true → holds (rejoining g member)) → (has_to_rejoin g member ≡ true → holds (round g)) → holds (rejoined_if_due g member)
 unfolding rejoined_if_due
 due_by holds g member valid none some all = go (has_to_rejoin g member) refl
@@ -69,7 +67,6 @@ due_settled g member valid settled holds now =
 new_settled : (g : GroupState) (member : ℕ) → is_settled (synced_if_new g member) ≡ is_settled g
 new_settled g member = new_same is_settled g member (settled_synced g member)
 
--- the turns of a settled group are syncs
 settled_turn : (g : GroupState) (member : ℕ) → IsValidGroup g → is_settled g ≡ true → (holds : GroupState → Type 0) → holds (synced_if_new g member) → holds (turned g member)
 settled_turn g member valid settled holds now = due_settled (synced_if_new g member) member (new_valid g member valid) (new_settled g member ∙ settled) holds now
 
@@ -95,7 +92,6 @@ due_joined true stable same s e = refl
 due_joined false true same s e = absurd (false≢true (sym s))
 due_joined false false same s e = absurd (false≢true (sym e))
 
--- a list that a number is in without its first
 listed_behind : (f : ℕ → Bool) (b c : Bool) (n m : ℕ) (ms : List ℕ) → f n ≡ b → f m ≡ c → (b ≡ c → ⊥) → Listed n (m ∷ ms) → Listed n ms
 listed_behind f b c n m ms at first ne (inl is) = absurd (ne (sym at ∙ ap f is ∙ first))
 listed_behind f b c n m ms at first ne (inr listed) = listed
@@ -109,7 +105,6 @@ rejoining_waits g member rest here waits = record {
       listed_behind (is_joined (rejoining g member)) false true n member rest e now false≢true (waits.listed n (sym (rejoining_present g member n) ∙ p) before);
 }
 
--- a turn leaves one member less to wait for, or it brings the round
 due_waits : (holds : GroupState → Type 0) (g : GroupState) (member : ℕ) (rest : List ℕ) → IsValidGroup g → is_present g member ≡ true → IsWaiting g (member ∷ rest) → holds (round g) → holds (rejoined_if_due g member) ⊎ IsWaiting (rejoined_if_due g member) rest
 due_waits holds g member rest valid here waits after = due_by (λ s. holds s ⊎ IsWaiting s rest) g member valid (λ e. inr (still e)) (λ e. inr (rejoining_waits g member rest here waits)) (λ e. inl after)
   where
@@ -127,7 +122,6 @@ new_waits g member rest waits = record {
 turned_waits : (holds : GroupState → Type 0) (g : GroupState) (member : ℕ) (rest : List ℕ) → IsValidGroup g → is_present g member ≡ true → IsWaiting g (member ∷ rest) → holds (round g) → holds (turned g member) ⊎ IsWaiting (turned g member) rest
 turned_waits holds g member rest valid here waits after = due_waits holds (synced_if_new g member) member rest (new_valid g member valid) (new_present g member member ∙ here) (new_waits g member (member ∷ rest) waits) (subst holds (sym (new_round g member)) after)
 
--- somebody is waited for
 waits_none : (g : GroupState) → IsValidGroup g → IsWaiting g [] → ⊥
 waits_none g valid waits = let n = valid.preparing waits.phase in waits.listed n.0 n.1 n.2
 

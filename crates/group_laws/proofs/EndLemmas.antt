@@ -32,7 +32,6 @@ finish_bare g =
     let base : bare (bare g) ≡ bare g = ap (λ s. with_slots g s) (each_two (λ m. bare_seat) (λ m. bare_seat) g.slots) in
     end_same (is_anybody g) (is_anybody (bare g)) (is_settled g) (is_settled (bare g)) (is_settled (round g)) (is_settled (round (bare g))) (bare g) (bare (bare g)) (round g) (round (bare g)) (round (round g)) (round (round (bare g))) (any_each (λ m. bare_seat) g.slots) (settled_bare g) (ap is_settled same) base same (ap round same)
 
--- groups that differ in flags alone have the same result
 one_end : (g h : GroupState) → bare g ≡ bare h → finish g ≡ finish h
 one_end g h e = sym (finish_bare g) ∙ ap finish e ∙ finish_bare h
 

@@ -50,7 +50,6 @@ granted_yielded g = ap (λ xs. record { partitions = g.partitions; rows = xs }) 
 pub granted_bare : (g : GroupState) → granted_rows (bare g) ≡ granted_rows g
 granted_bare g = ap (λ xs. record { partitions = g.partitions; rows = xs }) (rows_each (λ x. x.granted) (λ m. bare_seat) (λ m x. x.granted) (λ m x. refl) g.slots)
 
--- rows are their members with their sets
 abbrev sets_by : (ℕ → PartitionSet) → List ℕ → List (ℕ × PartitionSet)
 sets_by f ms = map (λ m. (m, f m)) ms
 
@@ -65,7 +64,6 @@ number_map f (x ∷ xs) = ap (λ rs. (x.0, f x.0) ∷ rs) (number_map f xs)
 rows_by_members : (w : SetRows) → IsValidRows w → w ≡ record { partitions = w.partitions; rows = sets_by (set_of w) (rows.members w) }
 rows_by_members w valid = paired w valid.rising ∙ ap (λ rs. record { partitions = w.partitions; rows = rs }) (pair_map (set_of w) (rows.members w))
 
--- what a round assigns is what members are assigned after it
 pub round_assigned : (g : GroupState) → AreGranted (assigned_rows g) → rows.members (assigned_rows g) ≡ members g → assigned_rows (round g) ≡ next_rows (assigned_rows g)
 round_assigned g owned same =
     let w : SetRows = next_rows (assigned_rows g) in
@@ -140,7 +138,6 @@ complete_bare g =
 pub complete_round : (g : GroupState) → AllFit g → all_joined g ≡ true → complete g ≡ round g
 complete_round g fit joined = sym (ap (λ s. complete (with_slots g s)) (yields_nothing g fit joined) ∙ complete_bare g)
 
--- after a round nobody's flags are set
 pub bare_round : (g : GroupState) → bare (round g) ≡ round g
 bare_round g = ap (λ s. with_slots (round g) s) (each_two (λ m. bare_seat) (completed_seat (next_rows (granted_rows (yielded g)))) (yielded g).slots)
 
@@ -155,7 +152,6 @@ later : (a0 a1 s0 s1 s2 : Bool) (b0 b1 r1 r2 r3 : GroupState) → a0 ≡ true �
 later a0 a1 s0 true s2 b0 b1 r1 r2 r3 x0 x1 y0 y2 e = rw (x0, x1, y0) e
 later a0 a1 s0 false s2 b0 b1 r1 r2 r3 x0 x1 y0 y2 e = rw (x0, x1, y0, y2) refl
 
--- a completion does not change the result of a rebalance
 pub completed_finish : (g : GroupState) → HasPartitions g → AllFit g → IsApart g → is_settled g ≡ false → finish (completed g) ≡ finish g
 completed_finish g has fit apart unsettled = go (is_ready g) refl
   where
@@ -170,7 +166,6 @@ completed_finish g has fit apart unsettled = go (is_ready g) refl
 pub end_same : (a0 a1 s0 s0' s1 s1' : Bool) (b0 b0' r1 r1' r2 r2' : GroupState) → a1 ≡ a0 → s0' ≡ s0 → s1' ≡ s1 → b0' ≡ b0 → r1' ≡ r1 → r2' ≡ r2 → end_of a1 s0' s1' b0' r1' r2' ≡ end_of a0 s0 s1 b0 r1 r2
 end_same a0 a1 s0 s0' s1 s1' b0 b0' r1 r1' r2 r2' a b c d e f = cc
 
--- what forgets a member's change
 forgets : (f : Seat → Seat) (h : Seat → Seat) → ((x : Seat) → f (h x) ≡ f x) → (slots : List Slot) (member : ℕ) → each_changed (λ m. f) (one_changed h slots member) ≡ each_changed (λ m. f) slots
 forgets f h same slots member =
     ap (λ s. each_changed (λ m. f) s) (one_is_each h slots member)
@@ -202,7 +197,6 @@ accepted_none : (o : Option Refusal) (answer : Result (Unit {0}) Refusal) → op
 accepted_none None answer e = refl
 accepted_none (Some why) answer e = cc
 
--- an accepted rejoin is of a present member that has something to give up, if the group is stable
 pub accepted : (g : GroupState) (member generation : ℕ) (claim : PartitionSet) → rejoin_answer g member generation claim ≡ Ok tt → (x : Seat) × (member_of g member ≡ Some x) × ((is_stable g.phase && agrees x) ≡ false)
 accepted g member generation claim ok = accepted_seat g generation claim (member_of g member) (accepted_none (rejoin_refusal g generation claim (member_of g member)) (unless_over (rejoining g member) tt) ok)
 
@@ -220,7 +214,6 @@ same_end a0 a1 s0 s1 s1' b0 b0' r1 r1' r2 r2' t a b c d e = rw (a, t, b, c, d, e
 pub rejoining_round : (g : GroupState) (member : ℕ) → round (rejoining g member) ≡ round g
 rejoining_round g member = ap (λ s. complete (with_slots g s)) (forgets yielded_seat rejoined_seat (λ x. refl) g.slots member)
 
--- before its completion a rejoin does not change the result of the rebalance
 pub rejoining_finish : (g : GroupState) (member : ℕ) → is_anybody g ≡ true → is_settled g ≡ false → finish (rejoining g member) ≡ finish g
 rejoining_finish g member any un =
     let same : round (rejoining g member) ≡ round g = rejoining_round g member in

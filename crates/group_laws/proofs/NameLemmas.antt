@@ -16,7 +16,6 @@ name_list slots = map (λ s. s.name) slots
 some_same : (xs ys : List ℕ) → Some xs ≡ Some ys → xs ≡ ys
 some_same xs ys e = cc
 
--- no slot has this name from this index on
 abbrev HasNoneFrom : List Slot → List ℕ → ℕ → Type 0
 HasNoneFrom slots name from = (k : ℕ) → from ≤ k → slice_get (name_list slots) k ≡ Some name → ⊥
 
@@ -83,7 +82,6 @@ name_has_number g name i e = elim (find_named 1 g.slots name) [
   | inr r ↦ absurd (r.none i (omega arith) e)
 ]
 
--- names stand for the same numbers after any change of seats
 pub number_reseated : (m n : ℕ) (f : ℕ → Option Seat → Option Seat) (slots : List Slot) (name : List ℕ) → number_from m (reseated_from n f slots) name ≡ number_from m slots name
 number_reseated m n f [] name = refl
 number_reseated m n f (s ∷ slots) name = ap (λ o. option_or o (cond (bytes_eq s.name name) (Some m) None)) (number_reseated (suc m) (suc n) f slots name)

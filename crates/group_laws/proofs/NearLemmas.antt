@@ -93,7 +93,6 @@ settled_round g owned keeps =
     let next : SetRows = next_rows (granted_rows (yielded g)) in
     all_of agrees (round g).slots (λ m x is. settled_by next (ap next_rows (granted_yielded g)) m x (sym (seat_each (completed_seat next) (yielded g).slots m) ∙ is))
 
--- where what members are assigned lies in balanced rows, the group is settled after one round
 pub lying_round : (g : GroupState) → IsValidGroup g → is_anybody g ≡ true → (f : ℕ → PartitionSet) → LieInBalanced g f → is_settled (round g) ≡ true
 lying_round g valid any f lie =
     let r : SetRows = assigned_rows g in
@@ -106,7 +105,6 @@ pub stable_round : (g : GroupState) → IsValidGroup g → g.phase ≡ Stable �
 stable_round g valid stable any = let near = valid.near stable in lying_round g valid any near.0 near.1
 
 -- ---- and where it is settled after one round, it lies in the target's rows
--- what a settled member is assigned is in its next row
 agrees_keeps : (p : ℕ) (next : SetRows) (m : ℕ) (o : Option Seat) → ((x : Seat) → o ≡ Some x → partitions_of x.assigned ≡ partitions_of (set_of next m)) → ((y : Seat) → option_map (completed_seat next m) (option_map yielded_seat o) ≡ Some y → agrees y ≡ true) → (q : ℕ) → is_in (seat_assigned p o) q ≡ true → is_in (set_of next m) q ≡ true
 agrees_keeps p next m None over agree q e = absurd (false≢true (sym (in_empty p q) ∙ e))
 agrees_keeps p next m (Some x) over agree q e =

@@ -90,7 +90,6 @@ leaves_before old during new n generation partitions seat l = record {
   either = same_either old during new n generation partitions seat l.either;
 }
 
--- a step changes one member's seat, and completes
 step_leaves : (old during : GroupState) (about : ℕ) → IsChanged during → during.generation ≡ old.generation → during.partitions ≡ old.partitions → ((n : ℕ) → (n ≡ about → ⊥) → member_of during n ≡ member_of old n) → LeavesOthers old (completed during) about
 step_leaves old during about c generation partitions seats = record {
   partitions = completed_partitions during ∙ partitions;

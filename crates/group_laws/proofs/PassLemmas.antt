@@ -58,7 +58,6 @@ pub rejoined_any : (g : GroupState) (member : ℕ) → is_anybody (rejoined_by g
 rejoined_any g member = completed_any (rejoining g member) ∙ any_rejoining g member
 
 -- ---- the sync of a turn, for one that is new
--- what each sync leaves as it was is as it was
 pub new_same : {X : Type 0} (h : GroupState → X) (g : GroupState) (member : ℕ) → h (synced_by g member) ≡ h g → h (synced_if_new g member) ≡ h g
 unfolding synced_if_new
 new_same h g member same = go (is_joined g member || is_synced g member)
@@ -92,7 +91,6 @@ due_valid g member valid here = go (has_to_rejoin g member)
     go true = rejoin_good g member valid here
     go false = valid
 
--- in a settled group each member has the same granted as assigned
 seat_same : (p : ℕ) (o : Option Seat) → ((x : Seat) → o ≡ Some x → agrees x ≡ true) → is_same (seat_granted p o) (seat_assigned p o) ≡ true
 seat_same p None agree = same_self (empty_set p)
 seat_same p (Some x) agree = agree x refl
@@ -106,7 +104,6 @@ not_due : (joined stable same : Bool) → stable ≡ true → same ≡ true → 
 not_due true stable same s e = refl
 not_due false stable same s e = rw (s, e) refl
 
--- in a settled group nobody has to rejoin
 pub settled_not_due : (g : GroupState) (member : ℕ) → is_settled g ≡ true → has_to_rejoin g member ≡ false
 settled_not_due g member settled = not_due (is_joined g member) (is_stable g.phase) (is_same (granted_of g member) (assigned_of g member)) (both_true (is_stable g.phase) (all_agree g) settled).0 (settled_same g member settled)
 
@@ -150,18 +147,15 @@ turned_finish g member valid here =
     ∙ new_same finish g member (sync_finish g member)
 
 -- ---- a pass
--- those of a list are present
 abbrev pub ArePresent : GroupState → List ℕ → Type 0
 ArePresent g ms = (n : ℕ) → Listed n ms → is_present g n ≡ true
 
 members_present : (g : GroupState) → ArePresent g (members g)
 members_present g n listed = let x = listed_present g.slots n listed in ap is_some x.1
 
--- those behind a member are present after its turn
 present_behind : (g : GroupState) (member : ℕ) (rest : List ℕ) → ArePresent g (member ∷ rest) → ArePresent (turned g member) rest
 present_behind g member rest here n listed = turned_present g member n ∙ here n (inr listed)
 
--- what each turn leaves as it was is as it was
 each_same : {X : Type 0} (h : GroupState → X) → ((g : GroupState) (member : ℕ) → h (turned g member) ≡ h g) → (g : GroupState) (ms : List ℕ) → h (turned_each g ms) ≡ h g
 each_same h same g [] = refl
 each_same h same g (m ∷ ms) = each_same h same (turned g m) ms ∙ same g m

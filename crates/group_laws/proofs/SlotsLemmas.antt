@@ -6,12 +6,10 @@ use Rattle.group_machine.specs.declared.group.Seat.{Seat}
 use Rattle.group_machine.specs.Slots.{seat_in, seat_of, reseated_from, each_changed}
 use Rattle.group_machine.proofs.SlotsLemmas.{slot_with, reseated_same}
 
--- ---- changes one after the other
 pub reseated_two : (m : ℕ) (f g : ℕ → Option Seat → Option Seat) (slots : List Slot) → reseated_from m f (reseated_from m g slots) ≡ reseated_from m (λ n o. f n (g n o)) slots
 reseated_two m f g [] = refl
 reseated_two m f g (s ∷ slots) = ap (λ r. slot_with s.name (f m (g m s.seat)) ∷ r) (reseated_two (suc m) f g slots)
 
--- changes that agree at each present member are one
 on_seat_same : (f g : Seat → Seat) (o : Option Seat) → ((x : Seat) → o ≡ Some x → f x ≡ g x) → option_map f o ≡ option_map g o
 on_seat_same f g None same = refl
 on_seat_same f g (Some x) same = ap (λ y. Some y) (same x refl)

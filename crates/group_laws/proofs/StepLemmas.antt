@@ -11,7 +11,6 @@ use Rattle.group_machine.specs.Steps.{joining, joined_by, rejoining, rejoined_by
 use Rattle.group_machine.proofs.CompletionLemmas.{next_good, complete_good}
 use Rattle.group_machine.proofs.StepLemmas.{joining_changed, rejoining_changed, leaving_changed, flag_same, any_flag, members_flag, settled_flag, sync_flag}
 
--- a completion, where there is one, leaves a valid group
 pub completed_good : (g : GroupState) → IsChanged g → IsValidGroup (completed g)
 completed_good g n = go (is_ready g) refl
   where

@@ -94,7 +94,6 @@ take_over_hands g name m n kept ok =
     subst (λ (h : GroupState). IsHandedOn g h m n) (sym (taken_over_is g name m kept))
     (subst (λ (k : ℕ). IsHandedOn g (handing_on g name m) m k) (sym a.1) (handed_on g name m kept))
 
--- who is neither of the two is left
 pub handed_leaves : (old new : GroupState) (m n : ℕ) → IsHandedOn old new m n → (k : ℕ) → (k ≡ m → ⊥) → (k ≡ n → ⊥) → LeavesMember old new k
 handed_leaves old new m n on k not_m not_n =
     let at = on.others k not_m not_n in

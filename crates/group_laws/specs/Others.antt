@@ -19,8 +19,7 @@ pub record IsInNextGeneration (old new : GroupState) (n : ℕ) : Type 0 where
   pub joined : is_joined new n ≡ false
   pub synced : is_synced new n ≡ false
 
--- a member is present if it was, is granted at least what it was granted, and is unchanged or in
--- the next generation
+-- a member is present if it was, keeps its granted set, and is unchanged or in the next generation
 pub record LeavesMember (old new : GroupState) (n : ℕ) : Type 0 where
   pub present : is_present new n ≡ is_present old n
   pub granted : (q : ℕ) → is_in (granted_of old n) q ≡ true → is_in (granted_of new n) q ≡ true
@@ -49,8 +48,7 @@ pub record HasPlaceOf (old new : GroupState) (m n : ℕ) : Type 0 where
   pub granted : granted_of new n ≡ granted_of old m
   pub assigned : assigned_of new n ≡ assigned_of old m
 
--- the seat of m was handed on to n, which is new, and all other members are unchanged, in the same
--- generation
+-- the seat of m was handed on to n, which is new; all others and the generation are unchanged
 pub record IsHandedOn (old new : GroupState) (m n : ℕ) : Type 0 where
   pub partitions : new.partitions ≡ old.partitions
   pub generation : new.generation ≡ old.generation

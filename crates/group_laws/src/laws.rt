@@ -42,8 +42,7 @@ pub fn four_passes_settle()
         → is_calm (passed (passed (passed (passed g)))) ≡ true }
 {}
 
-/// A completion moves no partition to two members: whoever takes one is the member that the moves
-/// name.
+/// A completion moves no partition to two members: its taker is the member that the moves name.
 pub fn one_member_takes_a_partition()
     ensures { (g : GroupState) → IsSound g → (q member : ℕ)
         → takes g (next_rows_of g) q member ≡ true → taker g (next_rows_of g) q ≡ Some member }

@@ -1,19 +1,12 @@
-//! Laws of the consumer group: theorems about any sequence of its steps, for the crates above.
+//! Laws of the consumer group: theorems about any sequence of its steps, for the crates above. Each
+//! is a function without a body, whose contract is the law. `driver_tests` runs such sequences.
 //!
-//! `group_machine` proves each step against its definition, and that a valid group stays valid.
-//! This crate states what follows from those definitions. No law has code: each is a function
-//! without a body, whose contract is the law.
-//!
-//! What the laws promise:
 //! - The end of a rebalance does not depend on the order of syncs and rejoins, nor on the flags of
-//!   the members when one joins or leaves.
-//! - Four passes over the members settle any valid group that has a member, and all members have
-//!   synced then. Two rounds are enough where each member revokes at once.
-//! - A rebalance adds at most two generations, and no partition goes to two members.
+//!   the members when one joins or leaves. A rebalance adds at most two generations.
+//! - Four passes over the members settle any valid group that has one, and all have synced then.
+//! - No partition goes to two members.
 //! - A step about one member leaves all others as they were, or in the next generation.
 //! - A take-over starts no rebalance: the new member number has the seat of the old one.
-//!
-//! The laws have no tests of their own. `driver_tests` runs schedules that they speak of.
 #![tactic(auto)]
 
 mod laws;

@@ -39,11 +39,9 @@ next_below r owned = (next_lies r owned).below
 pub next_kept : (r : SetRows) → AreGranted r → IsValidRows (next_rows r)
 next_kept r owned = (next_lies r owned).valid
 
--- ---- a row without what others are granted
 pub next_in : (r : SetRows) (m q : ℕ) → is_in (set_of (next_rows r) m) q ≡ (is_in (set_of (target_rows r) m) q && not (granted_to_other r.rows m q))
 next_in r m q = set_withheld (target_rows r) r m q
 
--- ---- what others are granted
 listed_above : (m : ℕ) (ms : List ℕ) (n : ℕ) → RisesFrom m ms → Listed n ms → m ≤ n
 listed_above m [] n up at = absurd at
 listed_above m (x ∷ xs) n up (inl is) = omega (arith, up.0, is)
@@ -87,7 +85,6 @@ found_other p (row ∷ rows) m n q ne e = go (λ h. found_other p rows m n q ne 
 pub other_of : (r : SetRows) (m n q : ℕ) → (m ≡ n → ⊥) → is_in (set_of r n) q ≡ true → granted_to_other r.rows m q ≡ true
 other_of r m n q ne e = found_other r.partitions r.rows m n q ne e
 
--- ---- by look-up
 pub next_in_target : (r : SetRows) → (m q : ℕ) → is_in (set_of (next_rows r) m) q ≡ true → is_in (set_of (target_rows r) m) q ≡ true
 next_in_target r m q e = (both_true (is_in (set_of (target_rows r) m) q) (not (granted_to_other r.rows m q)) (sym (next_in r m q) ∙ e)).0
 
@@ -95,7 +92,6 @@ true_not : (b : Bool) → not b ≡ true → b ≡ false
 true_not true e = absurd (false≢true e)
 true_not false e = refl
 
--- nothing that another member is granted is given
 pub next_not_other : (r : SetRows) → (m n q : ℕ) → is_in (set_of (next_rows r) m) q ≡ true → is_in (set_of r n) q ≡ true → m ≡ n
 next_not_other r m n q e h = go (m == n) refl
   where
@@ -116,7 +112,6 @@ target_apart r owned m n q e h =
 pub next_apart : (r : SetRows) → AreGranted r → (m n q : ℕ) → is_in (set_of (next_rows r) m) q ≡ true → is_in (set_of (next_rows r) n) q ≡ true → m ≡ n
 next_apart r owned m n q e h = target_apart r owned m n q (next_in_target r m q e) (next_in_target r n q h)
 
--- where nothing that is granted is taken from its member, nothing is withheld
 pub next_is_target : (r : SetRows) → AreGranted r → ((m q : ℕ) → is_in (set_of r m) q ≡ true → is_in (set_of (next_rows r) m) q ≡ true) → (m : ℕ) → set_of (next_rows r) m ≡ set_of (target_rows r) m
 next_is_target r owned stays m =
     same_set (set_of (next_rows r) m) (set_of (target_rows r) m) (set_over (next_rows r) m (next_kept r owned) ∙ next_below r owned ∙ sym (set_over (target_rows r) m (target_kept r owned.valid) ∙ target_below r)) (λ q lt.

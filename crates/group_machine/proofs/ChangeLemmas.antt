@@ -36,7 +36,6 @@ get_of [] k s e = cc
 get_of (t ∷ slots) zero s e = let same : t ≡ s = cc in sym same
 get_of (t ∷ slots) (suc k) s e = get_of slots k s e
 
--- the slot at an index after the change
 abbrev pub slot_after : Change → ℕ → Slot → Slot
 slot_after change i s = slot_with s.name (seat_after change (i + 1) s.seat)
 
@@ -65,7 +64,6 @@ no_seat : (o : Option Seat) → option_map (λ x. x.joined) o ≡ None → o ≡
 no_seat None e = refl
 no_seat (Some x) e = cc
 
--- one index more: of one that has joined, of one that is not present, and of one that has not joined
 pub any_more : (change : Change) (slots : List Slot) (i : ℕ) (s : Slot) (before : Bool) → i < length slots → s ≡ get_or slots i s → option_map (λ x. x.joined) (seat_after change (i + 1) s.seat) ≡ Some true
     → (before || is_anybody_in (drop i (mid change slots))) ≡ (true || is_anybody_in (drop (i + 1) (mid change slots)))
 any_more change slots i s before lt e is =
@@ -107,7 +105,6 @@ or_none : (b : Bool) → (b || false) ≡ b
 or_none true = refl
 or_none false = refl
 
--- the slots after a change are as ready as those that were there before, and the newcomer besides
 pub ready_is : (p : ℕ) (name : List ℕ) (change : Change) (slots : List Slot) → ((starts change || is_anybody_in (mid change slots)) && each_joined (mid change slots)) ≡ is_ready_in (slots_after p name change slots)
 ready_is p name Joins slots =
     let after : List Slot = slots ++ newcomer p name ∷ [] in
@@ -179,7 +176,6 @@ length_more (t ∷ slots) s = omega (arith, length_more slots s)
 mid_all : (change : Change) (slots : List Slot) (i : ℕ) → length slots ≤ i → take i (mid change slots) ≡ mid change slots
 mid_all change slots i le = take_all (mid change slots) i (omega (arith, length_reseated (seat_after change) slots))
 
--- all rows: with that of the newcomer, or none
 pub rows_newcomer : (p : ℕ) (name : List ℕ) (slots : List Slot) (i : ℕ) → length slots ≤ i → with_row (granted_in p (take i (mid Joins slots))) (length slots + 1) (empty_set p) ≡ granted_in p (slots ++ newcomer p name ∷ [])
 rows_newcomer p name slots i le =
     let all : List Slot = slots ++ newcomer p name ∷ [] in
@@ -200,7 +196,6 @@ rows_all p name Joins slots i not le = absurd (not refl)
 rows_all p name (Rejoins member) slots i not le = ap (granted_in p) (mid_all (Rejoins member) slots i le)
 rows_all p name (Leaves member) slots i not le = ap (granted_in p) (mid_all (Leaves member) slots i le)
 
--- the seat of the one that rejoins
 pub rejoined_here : (change : Change) (changed member : ℕ) (o : Option Seat) (x : Seat) → change ≡ Rejoins changed → changed ≡ member → o ≡ Some x → seat_after change member o ≡ Some (rejoined_seat x)
 rejoined_here change changed member o x is same at =
     ap (λ ch. seat_after ch member o) is ∙ ap (λ n. only_of n (option_map rejoined_seat) member o) same ∙ ap (only_of member (option_map rejoined_seat) member) at

@@ -19,7 +19,6 @@ use Rattle.group_machine.specs.Cluster.{IsValidLogs, AreLogsOf, ClusterState, Co
 use Rattle.group_machine.proofs.GroupLemmas.{granted_over}
 use Rattle.group_machine.proofs.StepLemmas.{length_replicate, opening_good}
 
--- ---- steps of the group
 either : (b : Bool) (g h : GroupState) (p : ℕ) → g.partitions ≡ p → h.partitions ≡ p → (if b then g else h).partitions ≡ p
 either true g h p same other = same
 either false g h p same other = other
@@ -31,7 +30,6 @@ pub stepped_partitions : {A : Type 0} (old new before : GroupState) (answer : Re
 stepped_partitions old new before (Ok v) ok err same = ap (λ g. g.partitions) ok ∙ completed_partitions before ∙ same
 stepped_partitions old new before (Err why) ok err same = ap (λ g. g.partitions) err
 
--- another valid group with the same number of partitions
 pub regrouped : (s : ClusterState) (g : GroupState) → IsValidCluster s → IsValidGroup g → g.partitions ≡ s.group.partitions → IsValidCluster (with_group s g)
 regrouped s g c good same = record {
   good = good;
@@ -42,7 +40,6 @@ regrouped s g c good same = record {
   a_counter_each = c.a_counter_each;
 }
 
--- ---- appends
 counters-at : (b : Bool) (l : PartitionLogs) (key : Key) (store : Commits) → is_known l.keys key ≡ b → length store.counts ≡ length l.keys
     → length (if b then store else (record store { counts = store.counts ++ 0 ∷ [] })).counts ≡ length (if b then l.keys else l.keys ++ key ∷ [])
 counters-at true l key store e same = same
@@ -70,14 +67,12 @@ known-at : (b : Bool) (l : PartitionLogs) (key : Key) → length (if b then l.ke
 known-at true l key few = refl
 known-at false l key few = absurd (omega (arith, length-append l.keys (key ∷ []), few))
 
--- no key came to the logs, so no counter is wanted
 pub known-appended : (s : ClusterState) (at : ℕ) (key : Key) (logs : PartitionLogs) (store : Commits) → logs ≡ with_record_at s.logs at key → store ≡ s.store → length (with_key s.logs.keys key) ≤ length s.logs.keys
     → ◌≡◌ {A = ClusterState} (record { group = s.group; logs = logs; store = store }) (appended_at s at key)
 known-appended s at key logs store ls ss few =
     let known : is_known s.logs.keys key ≡ true = known-at (is_known s.logs.keys key) s.logs key few in
     rw (ls, ss, known) refl
 
--- ---- commits
 passes : (present current granted : Bool)
     → ◌≡◌ {A = Result (Unit {0}) Refusal} (if not present then Err r.UnknownMember else if not current then Err r.StaleGeneration else if not granted then Err r.NotOwner else Ok tt) (Ok tt)
     → (present ≡ true) × (current ≡ true) × (granted ≡ true)
@@ -93,13 +88,11 @@ is_current m n e =
       | inr f ↦ absurd (cc (f.0, e))
     ]
 
--- what a commit that is let through is
 pub let_through : (g : GroupState) (c : CommitTerms) → fence g c ≡ Ok tt → (is_present g c.member ≡ true) × (c.generation ≡ g.generation) × (is_in (granted_of g c.member) c.partition ≡ true)
 let_through g c e =
     let tests = passes (is_present g c.member) (c.generation == g.generation) (is_in (granted_of g c.member) c.partition) e in
     (tests.0, is_current c.generation g.generation tests.1, tests.2)
 
--- its partition is one of the cluster's
 pub partition-below : (s : ClusterState) (c : CommitTerms) → IsValidCluster s → fence s.group c ≡ Ok tt → (c.partition < length s.store.offsets) × (c.partition < s.logs.partitions)
 partition-below s c k e =
     let below = in_below (granted_of s.group c.member) c.partition (let_through s.group c e).2 in
@@ -112,7 +105,6 @@ unfolding raised
 store-lengths old new p ids (Ok v) ok err = (ap (λ s. length s.offsets) ok ∙ length-set old.offsets p _, ap (λ s. length s.counts) ok ∙ length-raised 0 old.counts ids)
 store-lengths old new p ids (Err why) ok err = (ap (λ s. length s.offsets) err, ap (λ s. length s.counts) err)
 
--- what the store answers leaves a cluster consistent
 pub commit-kept : {A : Type 0} (g : GroupState) (l : PartitionLogs) (old new : Commits) (p : ℕ) (ids : List ℕ) (answer : Result A Refusal)
     → IsValidCluster (record { group = g; logs = l; store = without_room old }) → OnOk answer (new ≡ with_commit old p ids) → OnErr answer (new ≡ old) → (IsExact old l → IsExact new l)
     → IsValidCluster (record { group = g; logs = l; store = without_room new })
@@ -128,8 +120,6 @@ commit-kept g l old new p ids answer k ok err exact =
       a_counter_each = same.1 ∙ k.a_counter_each;
     }
 
--- ---- leases
--- what a member is assigned is a set of the group's partitions
 pub assigned_over : (g : GroupState) → AllFit g → (m : ℕ) → partitions_of (assigned_of g m) ≡ g.partitions
 assigned_over g fit m = go (member_of g m) (λ x is. fit m x is)
   where
@@ -137,7 +127,6 @@ assigned_over g fit m = go (member_of g m) (λ x is. fit m x is)
     go None f = partitions_empty g.partitions
     go (Some x) f = (f x refl).assigned_below
 
--- ---- the beginning
 pub over-consistent : (g : GroupState) (l : PartitionLogs) (store : Commits) → g ≡ opening l.partitions → IsValidLogs l → length store.offsets ≡ l.partitions → store.counts ≡ replicate (length l.keys) 0 → IsExact store l
     → IsValidCluster (record { group = g; logs = l; store = without_room store })
 over-consistent g l store group logs offsets counts exact =
@@ -151,7 +140,6 @@ over-consistent g l store group logs offsets counts exact =
       a_counter_each = ap length counts ∙ length_replicate (length l.keys) 0;
     }
 
--- logs of nothing have no keys
 pub no_counters : (l : PartitionLogs) → AreLogsOf [] l → replicate {A = ℕ} (length l.keys) 0 ≡ []
 unfolding distinct
 no_counters l none = ap (λ (ks : List Key). replicate {A = ℕ} (length ks) 0) none.numbers

@@ -64,12 +64,10 @@ next_good g n e = record {
   counted = λ a. n.counted a (not_all (is_anybody g) (all_joined g) e a);
 }
 
--- ---- a completion
 pub or_left : (a b : Bool) → a ≡ true → (a || b) ≡ true
 or_left true b e = refl
 or_left false b e = absurd (false≢true e)
 
--- what a member is granted after a completion it was granted before, or it is given it
 completed_in : (p : ℕ) (next : SetRows) (m q : ℕ) (o : Option Seat) → ((x : Seat) → o ≡ Some x → IsFit p x) → partitions_of (set_of next m) ≡ p → is_in (seat_granted p (option_map (completed_seat next m) o)) q ≡ true → (is_in (seat_granted p o) q ≡ true) ⊎ (is_in (set_of next m) q ≡ true)
 completed_in p next m q None fit over e = inl e
 completed_in p next m q (Some x) fit over e = or_either (is_in x.granted q) (is_in (set_of next m) q) (sym (in_union x.granted (set_of next m) q ((fit x refl).granted_below ∙ sym over)) ∙ e)
@@ -82,7 +80,6 @@ fit_completed p next m x fit over = record {
   equal = λ e. absurd (false≢true e);
 }
 
--- the one seat behind a changed one
 pub seat_behind : (f : Seat → Seat) (o : Option Seat) (y : Seat) → option_map f o ≡ Some y → (x : Seat) × (o ≡ Some x) × (y ≡ f x)
 seat_behind f None y e = cc
 seat_behind f (Some x) y e = (x, refl, let same : f x ≡ y = cc in sym same)

@@ -15,7 +15,6 @@ use Rattle.group_machine.specs.Good.{IsSized, IsFit, AllFit, IsApart}
 use Rattle.group_machine.proofs.PresentLemmas.{RisesFrom, rising, present_rises, find_present, any_count}
 use Rattle.group_machine.proofs.Rows.{apart_of}
 
--- ---- rows of the present members
 pub numbers_of : (h : Seat → PartitionSet) (xs : List (ℕ × Seat)) → map {A = ℕ × PartitionSet} (λ row. row.0) (map (λ r. (r.0, h r.1)) xs) ≡ map (λ r. r.0) xs
 numbers_of h [] = refl
 numbers_of h (x ∷ xs) = ap (λ r. x.0 ∷ r) (numbers_of h xs)

@@ -62,7 +62,6 @@ balanced_moved p xs ys x b = record {
       omega (arith, here, there, b.even k.0 l.0 k.1 l.1);
 }
 
--- one member's row goes to another, which is the last
 rows_renamed : (f h : ℕ → PartitionSet) (xs ys : List ℕ) (m n : ℕ) → ((k : ℕ) → Listed k (xs ++ ys) → h k ≡ f k) → h n ≡ f m → map h ((xs ++ ys) ++ n ∷ []) ≡ (map f xs ++ map f ys) ++ f m ∷ []
 rows_renamed f h xs ys m n same is =
     map-append h (xs ++ ys) (n ∷ [])
@@ -156,7 +155,6 @@ handed_same h none some (Some x) = some x
 pub handed_has : {X : Type 0} (h : Option Seat → X) → ((x : Seat) → h (Some (handed_seat x)) ≡ h (Some x)) → (g : GroupState) (name : List ℕ) (m : ℕ) → h (member_of (handing_on g name m) (suc (length g.slots))) ≡ h (member_of g m)
 handed_has h same g name m = ap h (handed_new g name m) ∙ handed_same h refl same (member_of g m)
 
--- what a member is granted after it, it was granted before, or it was the other
 handed_granted : (g : GroupState) (name : List ℕ) (m n q : ℕ) → is_present g m ≡ true → is_in (granted_of (handing_on g name m) n) q ≡ true
     → ((n ≡ suc (length g.slots)) × (is_in (granted_of g m) q ≡ true)) ⊎ ((n ≡ m → ⊥) × (is_in (granted_of g n) q ≡ true))
 handed_granted g name m n q here e = elim (cases_eq n (suc (length g.slots))) [
@@ -191,7 +189,6 @@ all_moved t xs ys a b same =
     ∙ ap (λ c. list_all t xs && (c && list_all t ys)) same
     ∙ sym (list_all-append t xs (a ∷ ys))
 
--- a seat that is handed on leaves whether the group is settled
 pub handed_settled : (g : GroupState) (name : List ℕ) (m : ℕ) → is_present g m ≡ true → is_settled (handing_on g name m) ≡ is_settled g
 handed_settled g name m here =
     let x = some_of (member_of g m) here in

@@ -14,8 +14,6 @@ use Rattle.group_machine.specs.Completion.{is_ready, completed_seat, next_rows_o
 use Rattle.group_machine.proofs.SlotsLemmas.{seat_each}
 use Rattle.group_machine.proofs.PresentLemmas.{some_on}
 
--- ---- a completion
--- ---- joining
 pub seat_before : (slots : List Slot) (s : Slot) (k : ℕ) → (k ≡ length slots → ⊥) → seat_in (slice_get (slots ++ s ∷ []) k) ≡ seat_in (slice_get slots k)
 seat_before [] s zero ne = absurd (ne refl)
 seat_before [] s (suc k) ne = refl
@@ -38,11 +36,9 @@ joined_number false slots n full e = go (nat_le MOST_MEMBERS slots) refl e
         last true k = cc
         last false k = cc
 
--- an accepted join is of the next number, and there is room for it
 pub accepted_join : (g : GroupState) (name : List ℕ) (n : ℕ) → join_answer g name ≡ Ok n → (length g.slots < MOST_MEMBERS) × (n ≡ length g.slots + 1)
 accepted_join g name n ok = joined_number (is_name_used g name) (length g.slots) n _ ok
 
--- ---- one member's step leaves who is present
 pub completed_present : (g : GroupState) (n : ℕ) → is_present (completed g) n ≡ is_present g n
 completed_present g n = go (is_ready g)
   where

@@ -13,7 +13,6 @@ use Rattle.group_machine.specs.declared.group.Move.{Move}
 use Rattle.group_machine.specs.Slots.{and_member, present_from, present}
 use Rattle.coop_rebalance.proofs.Items.{items_more}
 
--- ---- one number more
 range_suc : (a n : ℕ) → range_with_len a (suc n) ≡ range_with_len a n ++ (a + n) ∷ []
 range_suc a zero = let e : a ≡ a + 0 = omega arith in ap (λ k. k ∷ []) e
 range_suc a (suc n) = ap (λ r. a ∷ r) (range_suc (a + 1) n ∙ ap (λ k. range_with_len (a + 1) n ++ k ∷ []) e)
@@ -39,14 +38,12 @@ pub append_none : {A : Type 0} (xs : List A) → xs ++ [] ≡ xs
 append_none [] = refl
 append_none (x ∷ xs) = ap (λ r. x ∷ r) (append_none xs)
 
--- a move more, and none
 pub moves_more : (f : ℕ → Option Move) (moves : List Move) (at : ℕ) (m : Move) → moves ≡ filter_map f (range_with_len 0 at) → f at ≡ Some m → moves ++ m ∷ [] ≡ filter_map f (range_with_len 0 (at + 1))
 moves_more f moves at m so_far e = ap (λ ms. ms ++ m ∷ []) so_far ∙ sym (ap (filter_map f) (range_more at) ∙ mapped_append f (range_with_len 0 at) (at ∷ []) ∙ ap (λ o. filter_map f (range_with_len 0 at) ++ cons_option o []) e)
 
 pub moves_same : (f : ℕ → Option Move) (moves : List Move) (at : ℕ) → moves ≡ filter_map f (range_with_len 0 at) → f at ≡ None → moves ≡ filter_map f (range_with_len 0 (at + 1))
 moves_same f moves at so_far e = so_far ∙ sym (ap (filter_map f) (range_more at) ∙ mapped_append f (range_with_len 0 at) (at ∷ []) ∙ ap (λ o. filter_map f (range_with_len 0 at) ++ cons_option o []) e ∙ append_none (filter_map f (range_with_len 0 at)))
 
--- ---- one slot more
 and_more : (m : ℕ) (o : Option Seat) (xs ys : List (ℕ × Seat)) → and_member m o (xs ++ ys) ≡ and_member m o xs ++ ys
 and_more m None xs ys = refl
 and_more m (Some x) xs ys = refl
@@ -66,11 +63,9 @@ present_take slots i s lt e =
     let k : 1 + i ≡ suc i = omega arith in
     rw n (present_more 1 slots i s lt e ∙ ap (λ j. present (take i slots) ++ and_member j s.seat []) k)
 
--- ---- one row more
 abbrev Rows : Type 0
 Rows = List (ℕ × PartitionSet)
 
--- whether a member takes a partition of its next row
 abbrev takes_row : SetRows → ℕ → (ℕ × PartitionSet) → Bool
 takes_row next q row = is_in (set_of next row.0) q && not (is_in row.1 q)
 
@@ -85,7 +80,6 @@ or_none : {A : Type 0} (o : Option A) → o ≡ option_or o None
 or_none None = refl
 or_none (Some x) = refl
 
--- a taker has the partition in its row
 found_taker : (next : SetRows) (q : ℕ) (rows : Rows) (n : ℕ) → taker_in rows next q ≡ Some n → is_in (set_of next n) q ≡ true
 found_taker next q [] n e = cc
 found_taker next q (row ∷ rows) n e = go (λ h. found_taker next q rows n h) (takes_row next q row) refl e
@@ -96,7 +90,6 @@ found_taker next q (row ∷ rows) n e = go (λ h. found_taker next q rows n h) (
         ap (λ k. is_in (set_of next k) q) (sym same) ∙ (both_true (is_in (set_of next row.0) q) (not (is_in row.1 q)) is).0
     go later false is h = later h
 
--- what a member takes, nobody else takes
 taker_row : (rows : Rows) (row : ℕ × PartitionSet) (next : SetRows) (q : ℕ) → ((m n : ℕ) → is_in (set_of next m) q ≡ true → is_in (set_of next n) q ≡ true → m ≡ n)
     → cond (takes_row next q row) (Some row.0) (taker_in rows next q) ≡ taker_in (rows ++ row ∷ []) next q
 taker_row rows row next q apart = go (takes_row next q row) refl (taker_in rows next q) refl ∙ sym (taker_more rows row next q)
@@ -109,7 +102,6 @@ taker_row rows row next q apart = go (takes_row next q row) refl (taker_in rows 
         let same : row.0 ≡ n = apart row.0 n own (found_taker next q rows n was) in
         rw (t, was) (ap (λ k. Some k) same)
 
--- a member with its next row, and one without
 pub taker_given : (items : Rows) (i : ℕ) (row : ℕ × PartitionSet) (next : SetRows) (q : ℕ) (given added : PartitionSet) (old new : Option ℕ) → i < length items → row ≡ get_or items i row
     → ((m n : ℕ) → is_in (set_of next m) q ≡ true → is_in (set_of next n) q ≡ true → m ≡ n)
     → row_of next row.0 ≡ Some given → is_in added q ≡ (is_in given q && not (is_in row.1 q)) → old ≡ taker_in (take i items) next q → new ≡ cond (is_in added q) (Some row.0) old

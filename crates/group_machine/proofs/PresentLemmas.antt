@@ -113,7 +113,6 @@ all_of_from p m (s ∷ slots) each = all_of_and p m s.seat (present_from (suc m)
 pub all_of : (p : Seat → Bool) (slots : List Slot) → ((member : ℕ) (x : Seat) → seat_of slots member ≡ Some x → p x ≡ true) → list_all (λ r. p r.1) (present slots) ≡ true
 all_of p slots each = all_of_from p 1 slots (λ k x is. each (suc k) x is)
 
--- some member does not pass
 not_and : (p : Seat → Bool) (m : ℕ) (o : Option Seat) (rows : List (ℕ × Seat)) → list_all (λ r. p r.1) (and_member m o rows) ≡ false → ((x : Seat) × (o ≡ Some x) × (p x ≡ false)) ⊎ (list_all (λ r. p r.1) rows ≡ false)
 not_and p m None rows e = inr e
 not_and p m (Some y) rows e = go (p y) refl e
@@ -154,7 +153,6 @@ any_count_from m (s ∷ slots) e = any_count_and m s.seat (list_any (λ t. is_so
 pub any_count : (slots : List Slot) → list_any (λ s. is_some s.seat) slots ≡ true → 0 < length (present slots)
 any_count slots e = any_count_from 1 slots e
 
--- nobody more and nobody less after a change of each
 pub some_on : (f : Seat → Seat) (o : Option Seat) → is_some (option_map f o) ≡ is_some o
 some_on f None = refl
 some_on f (Some x) = refl

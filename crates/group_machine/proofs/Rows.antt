@@ -13,7 +13,6 @@ pub map_same : (f g : ℕ → PartitionSet) (ms : List ℕ) → ((m : ℕ) → L
 map_same f g [] same = refl
 map_same f g (m ∷ ms) same = rw (same m (inl refl)) (ap (λ ss. g m ∷ ss) (map_same f g ms (λ n at. same n (inr at))))
 
--- ---- no partition in two rows
 holders_above : (f : ℕ → PartitionSet) (x : ℕ) (ms : List ℕ) (q : ℕ) → RisesFrom (suc x) ms → ((n : ℕ) → x < n → is_in (f n) q ≡ false) → holders (map f ms) q ≡ 0
 holders_above f x [] q up none = refl
 holders_above f x (n ∷ ms) q up none = let z : one (is_in (f n) q) ≡ 0 = ap one (none n (omega (arith, up.0))) in omega (arith, z, holders_above f n ms q up.1 (λ k lt. none k (omega (arith, up.0))))
@@ -61,7 +60,6 @@ held_past p (row ∷ rows) q over le = let z : one (is_in row q) ≡ 0 = ap one 
 pub balanced_apart : (p : ℕ) (rows : List PartitionSet) → AreBelow p rows → IsBalanced p rows → AreApart rows
 balanced_apart p rows over balanced q = elim (cases_lt q p) [ inl lt ↦ omega (arith, balanced.once q lt) | inr le ↦ omega (arith, held_past p rows q over le) ]
 
--- ---- look-ups
 found_listed : (p : ℕ) (rows : List (ℕ × PartitionSet)) (m q : ℕ) → is_in (set_or_empty p (find_row rows m)) q ≡ true → Listed m (map (λ row. row.0) rows)
 found_listed p [] m q e = absurd (false≢true (sym (in_empty p q) ∙ e))
 found_listed p (row ∷ rows) m q e = go (λ h. found_listed p rows m q h) (row.0 == m) refl e
@@ -70,7 +68,6 @@ found_listed p (row ∷ rows) m q e = go (λ h. found_listed p rows m q h) (row.
     go later true is h = inl (sym (number_is row.0 m is))
     go later false is h = inr (later h)
 
--- a member that has something has a row
 pub member_listed : (r : SetRows) (m q : ℕ) → is_in (set_of r m) q ≡ true → Listed m (members r)
 member_listed r m q e = found_listed r.partitions r.rows m q e
 

@@ -20,7 +20,6 @@ other_id m n ne = grind (arith, nat_tests)
 pub number_is : (m n : ℕ) → (m == n) ≡ true → m ≡ n
 number_is m n e = grind (arith, nat_tests)
 
--- ---- a change at each number
 pub reseated_at : (m : ℕ) (f : ℕ → Option Seat → Option Seat) → ((n : ℕ) → f n None ≡ None) → (slots : List Slot) (k : ℕ) → seat_in (slice_get (reseated_from m f slots) k) ≡ f (m + k) (seat_in (slice_get slots k))
 reseated_at m f none [] k = sym (none (m + k))
 reseated_at m f none (s ∷ slots) zero = let e : m ≡ m + 0 = omega arith in ap (λ n. f n s.seat) e
@@ -67,7 +66,6 @@ only_is false f (Some x) = refl
 pub one_is_each : (f : Seat → Seat) (slots : List Slot) (member : ℕ) → one_changed f slots member ≡ each_changed (at_only member f) slots
 one_is_each f slots member = reseated_same 1 (only_of member (option_map f)) (λ m. option_map (at_only member f m)) slots (λ k lt. only_is ((1 + k) == member) f (seat_in (slice_get slots k)))
 
--- ---- a write to one slot
 set_at : (m : ℕ) (slots : List Slot) (k : ℕ) (s : Slot) (f : Option Seat → Option Seat) → k < length slots → s ≡ get_or slots k s → set slots k (slot_with s.name (f s.seat)) ≡ reseated_from m (only_of (m + k) f) slots
 set_at m [] k s f lt e = absurd (omega arith)
 set_at m (x ∷ slots) zero s f lt e =
@@ -98,7 +96,6 @@ pub seat_at : (slots : List Slot) (member : ℕ) (d : Slot) → 0 < member → m
 seat_at slots zero d some few = absurd (omega arith)
 seat_at slots (suc k) d some few = let n : suc k - 1 ≡ k = omega arith in rw n (seat_at_index slots k d (omega arith))
 
--- a seat that is put, and one that is changed
 pub seat_put : (slots : List Slot) (member : ℕ) (d : Slot) (f : Option Seat → Option Seat) → 0 < member → member ≤ length slots → set slots (member - 1) (slot_with (get_or slots (member - 1) d).name (f (get_or slots (member - 1) d).seat)) ≡ reseated_from 1 (only_of member f) slots
 seat_put slots member d f some few = set_one slots member (member - 1) (get_or slots (member - 1) d) f (omega arith) (omega arith) (other_default slots (member - 1) d (get_or slots (member - 1) d) (omega arith))
 
@@ -107,7 +104,6 @@ some_at [] k e = absurd (false≢true e)
 some_at (s ∷ slots) zero e = omega arith
 some_at (s ∷ slots) (suc k) e = omega (arith, some_at slots k e)
 
--- a present member's number was given
 pub number_given : (slots : List Slot) (member : ℕ) → is_some (seat_of slots member) ≡ true → (0 < member) × (member ≤ length slots)
 number_given slots zero e = absurd (false≢true e)
 number_given slots (suc k) e = (omega arith, omega (arith, some_at slots k e))
@@ -122,6 +118,5 @@ present_at slots member d e =
     let x = some_is (seat_of slots member) e in
     (x.0, seat_at slots member d given.0 given.1 ∙ x.1)
 
--- the seat at an index is that of the next number
 pub seat_of_index : (slots : List Slot) (i : ℕ) (s : Slot) (x : Seat) → i < length slots → s ≡ get_or slots i s → s.seat ≡ Some x → seat_of slots (suc i) ≡ Some x
 seat_of_index slots i s x lt e is = sym (seat_at_index slots i s lt) ∙ ap (λ t. t.seat) (sym e) ∙ is

@@ -95,7 +95,6 @@ any_more (t ∷ slots) s e = rw (any_more slots s e) (or_true (is_some t.seat))
     or_true true = refl
     or_true false = refl
 
--- the newcomer alone has joined
 alone_joined : (g : GroupState) (name : List ℕ) → is_anybody g ≡ false → all_joined (joining g name) ≡ true
 alone_joined g name none = all_of (λ x. x.joined) (joining g name).slots (λ m x is. go m x (member_more g.slots (newcomer g.partitions name) m x is))
   where
@@ -233,7 +232,6 @@ pub record IsFlag (f : Seat → Seat) : Type 0 where
 abbrev pub flagged : GroupState → (Seat → Seat) → ℕ → GroupState
 flagged g f member = with_slots g (one_changed f g.slots member)
 
--- what does not look at what is changed is as it was
 pub flag_same : {X : Type 0} (f : Seat → Seat) (h : Option Seat → X) → ((x : Seat) → h (Some (f x)) ≡ h (Some x)) → (g : GroupState) (member m : ℕ) → h (member_of (flagged g f member) m) ≡ h (member_of g m)
 flag_same f h same g member m =
     ap (λ slots. h (seat_of slots m)) (one_is_each f g.slots member)

@@ -28,7 +28,6 @@ use Rattle.group_machine.specs.Private.Walks.{AreSeatsOver}
 use Rattle.group_machine.proofs.GroupLemmas.{granted_owned}
 use Rattle.group_machine.proofs.Below.{next_below, next_apart}
 
--- ---- tests
 pub not_same : (s t : PartitionSet) (a b : ℕ) → a ≡ partitions_of s → b ≡ partitions_of t → (a ≡ b → ⊥) → nat_eq a b ≡ is_same s t
 not_same s t a b pa pb ne = other (nat_eq a b) refl ∙ sym (go (is_same s t) refl)
   where
@@ -51,7 +50,6 @@ all_from test m (s ∷ slots) = ap (λ b. option_map_or test s.seat true && b) (
 pub all_present : (test : Seat → Bool) (slots : List Slot) → list_all (λ s. option_map_or test s.seat true) slots ≡ list_all {X = ℕ × Seat} (λ r. test r.1) (present slots)
 all_present test slots = all_from test 1 slots
 
--- ---- a completion
 pub seats_over : (g : GroupState) → AllFit g → AreSeatsOver g.partitions g.slots
 seats_over g fit m x is = record { granted = (fit m x is).granted_below; assigned = (fit m x is).assigned_below }
 
@@ -64,11 +62,9 @@ rows_below g next changed any is = ap (λ n. n.partitions) is ∙ next_below (gr
 pub rows_apart : (g : GroupState) (next : SetRows) → IsChanged g → is_anybody g ≡ true → next ≡ next_rows (granted_rows g) → (m n q : ℕ) → is_in (set_of next m) q ≡ true → is_in (set_of next n) q ≡ true → m ≡ n
 rows_apart g next changed any is m n q e h = next_apart (granted_rows g) (owned_rows g changed any) m n q (ap (λ k. is_in (set_of k m) q) (sym is) ∙ e) (ap (λ k. is_in (set_of k n) q) (sym is) ∙ h)
 
--- ---- the next group
 abbrev parts : ℕ → ℕ → List Slot → List (Option ℕ) → List Move → GroupState
 parts generation p slots last moves = record { generation = generation; phase = Stable; partitions = p; slots = slots; last = last; moves = moves }
 
--- the parts of a completed group
 pub complete_is : (g : GroupState) (next : SetRows) (slots : List Slot) (last : List (Option ℕ)) (moves : List Move) → next ≡ next_rows (granted_rows g) → slots ≡ each_changed (completed_seat next) g.slots → last ≡ last_after g next → moves ≡ g.moves ++ moves_to g next → record { generation = g.generation + 1; phase = Stable; partitions = g.partitions; slots = slots; last = last; moves = moves } ≡ complete g
 complete_is g next slots last moves is_next is_slots is_last is_moves =
     ap (λ s. parts (g.generation + 1) g.partitions s last moves) is_slots
@@ -76,7 +72,6 @@ complete_is g next slots last moves is_next is_slots is_last is_moves =
     ∙ ap (λ m. parts (g.generation + 1) g.partitions (each_changed (completed_seat next) g.slots) (last_after g next) m) is_moves
     ∙ ap (completed_with g) is_next
 
--- ---- the answer of a step, by what was prepared for it
 pub refused_answer : {A : Type 0} (g : GroupState) (x : A) (why : Refusal) → IsRefused g why → Answers (unless_over g x) (Err why)
 refused_answer g x why (inl h) = inl (rw (h.0, h.1) refl)
 refused_answer g x why (inr h) = inr (ap (λ w. Err w) h)
@@ -96,7 +91,6 @@ planned_answer g x (Some a) e = go (g.generation == LAST_GENERATION) refl
         go2 true = refl
         go2 false = refl
 
--- ---- joining
 pub used_answer : (g : GroupState) (name : List ℕ) → is_name_used g name ≡ true → Err r.NameUsed ≡ join_answer g name
 used_answer g name e = rw e refl
 
@@ -112,11 +106,9 @@ many_answer g name e le = rw (e, le_is MOST_MEMBERS (length g.slots) le) refl
 pub join_go : (g : GroupState) (name : List ℕ) → is_name_used g name ≡ false → length g.slots < MOST_MEMBERS → join_answer g name ≡ unless_over (joining g name) (length g.slots + 1)
 join_go g name e lt = rw (e, gt_is MOST_MEMBERS (length g.slots) lt) refl
 
--- ---- a group with other slots and another phase
 abbrev pub with_phase : GroupState → Phase → List Slot → GroupState
 with_phase g phase slots = record g { slots = slots; phase = phase }
 
--- ---- rejoining and leaving
 pub rejoin_go : (g : GroupState) (member generation : ℕ) (claim : PartitionSet) → rejoin_refusal g generation claim (member_of g member) ≡ None → rejoin_answer g member generation claim ≡ unless_over (rejoining g member) tt
 rejoin_go g member generation claim e = ap (λ o. option_map_or Err o (unless_over (rejoining g member) tt)) e
 

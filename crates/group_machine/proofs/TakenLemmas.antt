@@ -9,8 +9,7 @@ use Rattle.bit_planes.specs.PartitionSet.{PartitionSet, elements, is_in}
 use Rattle.bit_planes.proofs.Listed.{elements_tell, is_listed}
 use Rattle.group_machine.specs.Private.Walks.{taken_by}
 
--- each partition that is not left is taken by the member where it is in the set, and else as it
--- was; those that are left are in the set, and as they were
+-- partitions that are left are in the set and as they were; all others are as after the loop
 pub record AreTaken (member : ℕ) (added : PartitionSet) (old takers : List (Option ℕ)) (left : List ℕ) : Type 0 where
   pub long : length takers ≡ length old
   pub done : (q : ℕ) → is_listed q left ≡ false → slice_index_or takers q None ≡ taken_by member added old q
@@ -40,7 +39,6 @@ later false b e = e
 neither : (k p : ℕ) (b : Bool) → k ≢ p → b ≡ false → ((k == p) || b) ≡ false
 neither k p b ne e = grind (arith, nat_tests, e)
 
--- the next one is in the set
 pub next_taken : (member : ℕ) (added : PartitionSet) (old takers : List (Option ℕ)) (left : List ℕ) (p : ℕ) (next : List ℕ) → left ≡ p ∷ next → AreTaken member added old takers left → is_in added p ≡ true
 next_taken member added old takers left p next steps was = was.within p (ap (is_listed p) steps ∙ this p (is_listed p next))
 

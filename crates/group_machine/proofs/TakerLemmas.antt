@@ -57,14 +57,12 @@ taker_rows next q (x ∷ xs) = go (is_in (set_of next x.0) q && not (is_in x.1.g
     go true later = refl
     go false later = later
 
--- who takes a partition, by the rows of what is granted
 pub taker_is : (g : GroupState) (next : SetRows) (q : ℕ) → taker g next q ≡ find (takes g next q) (members g)
 taker_is g next q = taker_rows next q (present g.slots) ∙ find_from (λ m. is_in (set_of next m.0) q && not (is_in m.1.granted q)) (takes g next q) 1 g.slots (λ k x is.
     let e : 1 + k ≡ suc k = omega arith in
     let own : granted_of g (1 + k) ≡ x.granted = ap (granted_of g) e ∙ ap (seat_granted g.partitions) is in
     ap (λ s. is_in (set_of next (1 + k)) q && not (is_in s q)) (sym own))
 
--- where no two rows share a partition, the member that takes one is its taker
 pub one_taker : (g : GroupState) (next : SetRows) → ((m n q : ℕ) → is_in (set_of next m) q ≡ true → is_in (set_of next n) q ≡ true → m ≡ n) → ((m q : ℕ) → is_in (set_of next m) q ≡ true → Listed m (members g)) → (q m : ℕ) → takes g next q m ≡ true → taker g next q ≡ Some m
 one_taker g next apart listed q m e =
     let row : is_in (set_of next m) q ≡ true = (both_true (is_in (set_of next m) q) (not (is_in (granted_of g m) q)) e).0 in
@@ -77,7 +75,6 @@ holder_after g next q long lt =
     get_or-map-range_with_len (λ k. option_or (slice_index_or (takers g next) k None) (last_holder g k)) 0 (length g.last) q q None (omega (arith, long, lt)) (omega arith)
     ∙ ap (λ o. option_or o (last_holder g q)) (get_or-map-range_with_len (taker g next) 0 g.partitions q q None lt (omega arith))
 
--- a member that is granted a partition after a completion is its last holder
 pub held_after : (g : GroupState) (next : SetRows) → ((m n q : ℕ) → is_in (set_of next m) q ≡ true → is_in (set_of next n) q ≡ true → m ≡ n) → ((m q : ℕ) → is_in (set_of next m) q ≡ true → Listed m (members g))
     → ((m n q : ℕ) → is_in (set_of next m) q ≡ true → is_in (granted_of g n) q ≡ true → m ≡ n)
     → length g.last ≡ g.partitions → (m q : ℕ) → q < g.partitions → (is_in (granted_of g m) q ≡ true → last_holder g q ≡ Some m) → (is_in (granted_of g m) q ≡ true) ⊎ (is_in (set_of next m) q ≡ true) → slice_index_or (last_after g next) q None ≡ Some m

@@ -94,7 +94,6 @@ lt_is a b lt = grind (arith, nat_tests)
 ge_is : (a b : ℕ) → b ≤ a → nat_lt a b ≡ false
 ge_is a b le = grind (arith, nat_tests)
 
--- one index more, where the slot there is the changed one and the others are as they were
 given_more : (f : ℕ → Option Seat → Option Seat) (before now after : List Slot) (index : ℕ) → AreGiven f before now index → ((k : ℕ) → (k ≡ index → ⊥) → slice_get after k ≡ slice_get now k) → slice_get after index ≡ slice_get (reseated_from 1 f before) index → AreGiven f before after (index + 1)
 given_more f before now after index given others here k = elim (cases_lt k index) [
   | inl lt ↦ others k (λ e. omega (arith, e)) ∙ given k ∙ ap (λ b. cond b (slice_get (reseated_from 1 f before) k) (slice_get before k)) (lt_is k index lt ∙ sym (lt_is k (index + 1) (omega arith)))
@@ -134,7 +133,6 @@ past_slots [] k le = refl
 past_slots (s ∷ slots) zero le = absurd (omega arith)
 past_slots (s ∷ slots) (suc k) le = past_slots slots k (omega arith)
 
--- all indices
 pub given_all : (f : ℕ → Option Seat → Option Seat) (before now : List Slot) (index : ℕ) → AreGiven f before now index → length before ≤ index → now ≡ reseated_from 1 f before
 given_all f before now index given le = same_slots now (reseated_from 1 f before) (λ k. elim (cases_lt k index) [
   | inl lt ↦ given k ∙ ap (λ b. cond b (slice_get (reseated_from 1 f before) k) (slice_get before k)) (lt_is k index lt)
@@ -150,7 +148,6 @@ some_found (row ∷ rows) (suc k) d lt = go (row.0 == get_or (map (λ r. r.0) ro
     go true later = refl
     go false later = later
 
--- each member of rows has one
 pub have_rows : (r : SetRows) → HaveRows r (members r)
 have_rows r k d lt = some_found r.rows k d lt
 
@@ -162,7 +159,6 @@ no_seat : (o : Option Seat) → is_some o ≡ false → o ≡ None
 no_seat None e = refl
 no_seat (Some x) e = absurd (false≢true (sym e))
 
--- the same, by the slot at the index
 pub given_set_at : (f : ℕ → Option Seat → Option Seat) (before now : List Slot) (index : ℕ) (d : Slot) (new : Option Seat) → AreGiven f before now index → index < length now → new ≡ f (index + 1) (get_or now index d).seat → AreGiven f before (set now index (slot_with (get_or now index d).name new)) (index + 1)
 given_set_at f before now index d new given lt e = rw e (given_set f before now index (get_or now index d) given lt (other_default now index d (get_or now index d) lt))
 

@@ -32,8 +32,7 @@ pub record LeaseTerms : Type 0 where
 abbrev pub start_of : LeaseTerms → ℕ → ℕ
 start_of lease p = slice_index_or lease.starts p 0
 
--- the group, the logs and the store. The store's reserved capacity is not part of the state: here
--- it is always 0
+-- the group, the logs and the store, whose reserved capacity is no part of the state: always 0 here
 pub record ClusterState : Type 0 where
   pub group : GroupState
   pub logs : PartitionLogs

@@ -8,8 +8,7 @@ use Rattle.group_machine.specs.declared.group.Phase.TheVariants.{Empty, Preparin
 use Rattle.group_machine.specs.State.{GroupState, member_of, members, is_present, is_joined, granted_of, assigned_of, is_anybody, last_holder}
 use Rattle.group_machine.specs.Settled.{is_settled}
 
--- within the limits of partitions and of member numbers, with a last holder or none for each
--- partition
+-- within the limits of partitions and member numbers, with a last holder or none for each partition
 pub record IsSized (g : GroupState) : Type 0 where
   pub some_partitions : 1 ≤ g.partitions
   pub few_partitions : g.partitions ≤ MOST_PARTITIONS

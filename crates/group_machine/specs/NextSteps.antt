@@ -6,8 +6,7 @@ use Rattle.group_machine.specs.State.{GroupState, assigned_of, granted_of, is_jo
 use Rattle.group_machine.specs.declared.cluster.next_step.NextStep.{NextStep}
 use Rattle.group_machine.specs.declared.cluster.next_step.NextStep.TheVariants.{Read, Rejoin, Sync}
 
--- a member has to rejoin if it has not joined, and has something to revoke or a rebalance is
--- pending
+-- a member has to rejoin: it has not joined, and has something to revoke or a rebalance is pending
 abbrev pub has_to_rejoin : GroupState → ℕ → Bool
 has_to_rejoin g member =
     not (is_joined g member)

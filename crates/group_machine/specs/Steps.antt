@@ -1,5 +1,4 @@
--- The steps of a group. Each step has a definition of its answer, by cases in the order of its
--- refusals, and one of the state after it. A refused step changes nothing.
+-- The steps of a group: each one's answer, with its refusals in order, and the state after it.
 use Rattle.std.specs.Prelude.{ℕ, ◌+◌, Bool, true, false, not, ◌&&◌, ◌==◌, List, [], ◌∷◌, ◌++◌, Option, Some, None, Result, Ok, Err, is_some, length, nat_le, if◌then◌else◌}
 use Rattle.std.specs.List.{list_any}
 use Rattle.std.specs.Option.{option_map, option_map_or}

@@ -23,8 +23,7 @@ use std::alloc::Global;
 use std::marker::Model;
 use std::random::RandomSource;
 
-/// One consumer group over partitioned logs: which member reads which partition, and what is
-/// committed.
+/// One consumer group over partitioned logs: who reads which partition, and what is committed.
 ///
 /// The group rebalances cooperatively (KIP-429), with the balance of Kafka's sticky assignor. After
 /// each call no partition is granted to two present members, and the counter of each key is the
@@ -146,8 +145,7 @@ impl Cluster {
         self.group.take_over(name)
     }
 
-    /// A member revokes what it is not assigned and rejoins, claiming the partitions that it
-    /// retains.
+    /// A member revokes what it is not assigned and rejoins, claiming what it retains.
     ///
     /// Errors, which change nothing, in this order: the member is not present (`UnknownMember`);
     /// the generation is not the group's (`StaleGeneration`); the member has rejoined already
@@ -191,8 +189,7 @@ impl Cluster {
         self.group.leave(self.alloc, member)
     }
 
-    /// A member is lost. The group treats it as if it had left, whatever it still does. It fails as
-    /// `leave` does.
+    /// A member is lost: the group treats it as if it had left. It fails as `leave` does.
     pub fn lose(&mut self, member: u32) -> Result<(), Refusal>
         ensures answer { Answers (leave_answer self.old.group member) result }
         ensures ok { OnOk result (self.new ≡ with_group self.old (left_by self.old.group member)) }
@@ -201,8 +198,7 @@ impl Cluster {
         self.leave(member)
     }
 
-    /// Applies a commit as a whole. Returns the new committed offset of its partition. It allocates
-    /// nothing.
+    /// Applies a commit as a whole, and returns the new committed offset. It allocates nothing.
     ///
     /// Errors, which change nothing, in this order: the member is not present (`UnknownMember`);
     /// the commit is of another generation (`StaleGeneration`); the partition is not granted to the

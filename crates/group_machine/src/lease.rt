@@ -7,8 +7,7 @@ ghost use Rattle.group_machine.specs.Cluster.{LeaseTerms, start_of};
 use bit_planes::Plane;
 use std::marker::Model;
 
-/// The partitions that a member is assigned in a generation, and the offset from which to read each
-/// of them.
+/// The partitions that a member is assigned in a generation, and the offset to read each from.
 #[derive(Debug, Drop)]
 pub struct Lease {
     pub(crate) member: u32,

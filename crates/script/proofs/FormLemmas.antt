@@ -22,7 +22,6 @@ none_then : {A B : Type 0} (f : A → Option B) (o : Option A)
 none_then f None none = refl
 none_then f (Some x) none = none x
 
--- a line parses to the action of its command and the text after it
 by_command : (topics : List Topic) (command text line : List ℕ) (action : Action)
     → list_all (λ b. not (is_space b)) command ≡ true → line ≡ command ⎵ text
     → command_action topics command text ≡ Some action → action_of topics line ≡ Some action

@@ -9,7 +9,6 @@ use Rattle.script.specs.Grammar.{is_line_feed, is_space, split_lines, split_word
 use native.Mathlib.Numerals.{unary_clauses}
 use borrow.Author.Tests.{eqb-true, lt-ltb, ltb-true, ltb-false}
 
--- the position of the first byte that passes
 pub first_at : (p : ℕ → Bool) (xs : List ℕ) (i : ℕ)
     → position p xs ≡ Some i → (position_or_len p xs ≡ i) × (position_or_len p xs < length xs)
 first_at p xs i e = at (ltb (position_or_len p xs) (length xs)) refl e
@@ -20,7 +19,6 @@ first_at p xs i e = at (ltb (position_or_len p xs) (length xs)) refl e
     at true t e = (cc, ltb-true _ _ t)
     at false t e = absurd cc
 
--- no byte passes
 pub none_at : (p : ℕ → Bool) (xs : List ℕ) → position p xs ≡ None → length xs ≤ position_or_len p xs
 none_at p xs e = at (ltb (position_or_len p xs) (length xs)) refl e
   where
@@ -29,14 +27,12 @@ none_at p xs e = at (ltb (position_or_len p xs) (length xs)) refl e
     at true t e = absurd cc
     at false t e = ltb-false _ _ t
 
--- if no byte passes, the bytes are one part
 no_cut : (x : ℕ) (xs : List ℕ) (parts : List (List ℕ)) (n : ℕ) (b : Bool)
     → (length xs ≤ n → parts ≡ xs ∷ []) → length (x ∷ xs) ≤ cond (not b) (1 + n) 0
     → cond b ([] ∷ parts) (onto_first x parts) ≡ (x ∷ xs) ∷ []
 no_cut x xs parts n true rest h = absurd (omega arith)
 no_cut x xs parts n false rest h = ap (onto_first x) (rest (omega arith))
 
--- the lines of bytes with a line feed
 cut : (x : ℕ) (xs : List ℕ) (n : ℕ) (b : Bool)
     → (n < length xs → split_lines xs ≡ take n xs ∷ split_lines (drop (n + 1) xs))
     → cond (not b) (1 + n) 0 < length (x ∷ xs)
@@ -62,7 +58,6 @@ lines-found xs i e =
     let first = lines_first xs at.1 in
     rw (take_rest xs (i + 1)) (rw (at.0) at first)
 
--- bytes without a line feed are one line
 lines_none : (x : ℕ) (xs : List ℕ)
     → length (x ∷ xs) ≤ position_or_len is_line_feed (x ∷ xs) → split_lines (x ∷ xs) ≡ (x ∷ xs) ∷ []
 lines_none x [] h = no_line_feed x (is_line_feed x) h
@@ -79,9 +74,6 @@ pub lines-none : (xs : List ℕ)
 lines-none [] some e = absurd (omega arith)
 lines-none (x ∷ xs) some e = lines_none x xs (none_at is_line_feed (x ∷ xs) e)
 
--- ---- the word before the first space
-
--- what is split there is concatenated again
 split_at : (text : List ℕ) (i : ℕ) → position is_space text ≡ Some i
     → text ≡ take i text ++ 32 ∷ drop (i + 1) text
 split_at text i e =
@@ -103,7 +95,6 @@ split-parts text parts e = go (position is_space text) refl e
         let is : (take i text, drop (i + 1) text) ≡ parts = cc in
         subst (λ parts. text ≡ parts.0 ++ 32 ∷ parts.1) is (split_at text i at)
 
--- a word, a space and a text are split at the space
 pub split-there : (word text : List ℕ) → All (λ b. is_space b ≡ false) word
     → split_word (word ++ 32 ∷ text) ≡ Some (word, text)
 unfolding split_word

@@ -60,7 +60,6 @@ unread_by n false true action e h = absurd cc
 unread_by n false false None e h = cc
 unread_by n false false (Some a) e h = absurd cc
 
--- a line that parses to this action, if any
 pub said-read : (n : ℕ) (line : List ℕ) (x : Option Action)
     → Answers (line_answer [] (n, line)) (Ok x) → said_answer (n, line) ≡ read_as n x
 unfolding action_said change_said is_bad is_no_plan_line line_answer said_answer
@@ -68,7 +67,6 @@ said-read n line x (inl e) =
     read_by n (ltb LONGEST_LINE (length line)) (is_silent line) (action_of [] line) x (sym e)
 said-read n line x (inr e) = absurd cc
 
--- a line that was refused
 pub said-refused : (n : ℕ) (line : List ℕ) (e : Refusal)
     → Answers (line_answer [] (n, line)) (Err e) → Answers (said_answer (n, line)) (Err e)
 unfolding action_said change_said is_bad is_no_plan_line line_answer said_answer
@@ -146,7 +144,6 @@ is_said : {x y : Result (Option Change) Refusal} {s : Option Change}
 is_said e (inl h) = sym h ∙ e
 is_said e (inr h) = absurd cc
 
--- a silent line before the rest of the bytes
 pub plan-silent : (before : List Change) (whole : Result (List Change) Refusal) (n : ℕ)
     (bytes line rest : List ℕ)
     → lines_from n bytes ≡ (n, line) ∷ lines_from (n + 1) rest
@@ -161,7 +158,6 @@ plan-silent before whole n bytes line rest first answer said =
     (is_said refl said))
     ∙ answer
 
--- a line that is refused
 pub plan-refused : (before : List Change) (whole : Result (List Change) Refusal) (n : ℕ)
     (bytes line rest : List ℕ) (e : Refusal)
     → lines_from n bytes ≡ (n, line) ∷ lines_from (n + 1) rest
@@ -177,7 +173,6 @@ plan-refused before whole n bytes line rest e first answer (inl h) =
     ∙ answer)
 plan-refused before whole n bytes line rest e first answer (inr h) = inr cc
 
--- a change with this fault, if any
 plan_with : (before : List Change) (whole : Result (List Change) Refusal) (n : ℕ)
     (bytes line rest : List ℕ) (c : Change) (fault : Option Refusal)
     → lines_from n bytes ≡ (n, line) ∷ lines_from (n + 1) rest
@@ -193,7 +188,6 @@ plan_with before whole n bytes line rest c fault first answer said is =
     (is_said refl said) is)
     ∙ answer
 
--- a change that is accepted
 pub plan-taken : (before : List Change) (whole : Result (List Change) Refusal) (n : ℕ)
     (bytes line rest : List ℕ) (c : Change)
     → lines_from n bytes ≡ (n, line) ∷ lines_from (n + 1) rest
@@ -204,7 +198,6 @@ pub plan-taken : (before : List Change) (whole : Result (List Change) Refusal) (
 plan-taken before whole n bytes line rest c first answer said h =
     plan_with before whole n bytes line rest c None first answer said (not_refused n before c h)
 
--- a change that is refused
 pub plan-fault : (before : List Change) (whole : Result (List Change) Refusal) (n : ℕ)
     (bytes line rest : List ℕ) (c : Change) (e : Refusal)
     → lines_from n bytes ≡ (n, line) ∷ lines_from (n + 1) rest
@@ -218,7 +211,6 @@ plan-fault before whole n bytes line rest c e first answer said h =
     (λ memory. inr (ap Err memory))
     (some_fault (change_fault n (roster_of before) c) e h)
 
--- no bytes have no lines
 pub plan-all : (before : List Change) (whole : Result (List Change) Refusal) (n : ℕ)
     (bytes : List ℕ)
     → plan_after before (lines_from n bytes) ≡ whole → length bytes ≡ 0

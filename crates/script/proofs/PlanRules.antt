@@ -27,7 +27,6 @@ none-allowed = record {
   left = λ i below. absurd (omega arith);
 }
 
--- a change without a fault
 without_fault : (n : ℕ) (allowed left : Bool)
     → cond (not allowed) (Some (r.BadLine n)) (cond (not left) (Some (r.NobodyLeft n)) None) ≡ None
     → (allowed ≡ true) × (left ≡ true)
@@ -41,7 +40,6 @@ unfolding change_fault
 no-fault n before c e =
     without_fault n (is_allowed before c) (is_anybody_left (entered before c)) e
 
--- an index of a list with one more item
 last_or_before : (n i : ℕ) → i < n + 1 → (i < n) ⊎ (i ≡ n)
 last_or_before n i below = grind arith
 
@@ -78,7 +76,6 @@ pushed_left lines c i h new (inr last) =
     ∙ ap is_anybody_left (fold_push entered nobody_yet lines c)
     ∙ new
 
--- one more line, without a fault
 pub push-allowed : (n : ℕ) (lines : List Change) (c : Change)
     → AreAllowed lines → change_fault n (roster_of lines) c ≡ None
     → AreAllowed (lines ++ c ∷ [])
@@ -96,7 +93,6 @@ push-allowed n lines c h none =
 
 -- ---- the number of lines
 
--- each line is a name that joined or one that is gone
 sizes : (before : Roster) (lines : List Change)
     → length (fold entered before lines).joined + length (fold entered before lines).gone
     ≡ length before.joined + length before.gone + length lines
@@ -114,7 +110,6 @@ sizes before (Lose name ∷ lines) =
     let rest = sizes (entered before (Lose name)) lines in
     omega arith
 
--- the number of joins, after one more line
 one_joins : (before : Roster) (n : ℕ) (c : Change) → length before.joined ≡ n
     → length (entered before c).joined ≡ n + cond (is_join c) 1 0
 one_joins before n (Join name) is = let more = length_push before.joined name in omega arith
@@ -127,7 +122,6 @@ joined-counted lines =
     fold_along entered (λ n c. n + cond (is_join c) 1 0) (λ before n. length before.joined ≡ n)
     one_joins nobody_yet 0 lines refl
 
--- a change that is allowed does not exceed the number of members
 room : (fresh : Bool) (n : ℕ) → (fresh && ltb n MOST_MEMBERS) ≡ true → n + 1 ≤ MOST_MEMBERS
 room true n e = let below = ltb-true n MOST_MEMBERS e in omega arith
 room false n e = absurd cc
@@ -167,7 +161,6 @@ members-few lines plan =
     (take_all (length lines) lines (omega arith))
     (few_after lines (allowed-of lines plan) (length lines) (omega arith))
 
--- somebody is present at the end
 end-left : (lines : List Change) → IsPlan lines
     → length (roster_of lines).gone < length (roster_of lines).joined
 end-left lines plan =

@@ -23,7 +23,6 @@ pub after-after : (front more : List Line) (answer : Result (List Line) Refusal)
 after-after front more (Ok lines) = ap Ok (sym (append_assoc front more lines))
 after-after front more (Err e) = refl
 
--- the first line without its end, before those of the rest
 pub lines_from-first : (n : ℕ) (bytes text line rest : List ℕ)
     → split_lines bytes ≡ text ∷ split_lines rest → line ≡ strip_carriage_return text
     → lines_from n bytes ≡ (n, line) ∷ lines_from (n + 1) rest
@@ -67,7 +66,6 @@ refused_first : (bad : Bool) (line : ℕ × List ℕ) (action : Option Action) (
 refused_first true line action first found more e h = cc
 refused_first false line action first found more e h = absurd cc
 
--- a line that parses adds its action
 pub answer_of-read : (topics : List Topic) (n : ℕ) (text : List ℕ) (rest : List (ℕ × List ℕ))
     (x : Option Action)
     → Answers (line_answer topics (n, text)) (Ok x)
@@ -78,7 +76,6 @@ answer_of-read topics n text rest x (inl e) =
     read_first (is_bad topics text) (n, text) (action_said topics text) _ _ x (sym e)
 answer_of-read topics n text rest x (inr e) = absurd cc
 
--- a line that is refused is the result, unless memory runs out
 pub answer_of-refused : (topics : List Topic) (n : ℕ) (text : List ℕ)
     (rest : List (ℕ × List ℕ)) (e : Refusal)
     → Answers (line_answer topics (n, text)) (Err e)
@@ -90,7 +87,6 @@ answer_of-refused topics n text rest e (inl h) =
     (said topics (n, text)) _ _ e (sym h))
 answer_of-refused topics n text rest e (inr h) = inr cc
 
--- a line before the rest of the bytes
 pub read-more : (topics : List Topic) (lines : List Line) (whole : Result (List Line) Refusal) (n : ℕ)
     (bytes line rest : List ℕ) (x : Option Action)
     → lines_from n bytes ≡ (n, line) ∷ lines_from (n + 1) rest
@@ -115,7 +111,6 @@ read-refused topics lines whole n bytes line rest e first before refused =
     (λ memory. inr (ap Err memory))
     (answer_of-refused topics n line (lines_from (n + 1) rest) e refused)
 
--- no bytes have no lines
 pub read-all : (topics : List Topic) (lines : List Line) (whole : Result (List Line) Refusal)
     (n : ℕ) (bytes : List ℕ)
     → after lines (answer_of topics (lines_from n bytes)) ≡ whole → length bytes ≡ 0 → Ok lines ≡ whole

@@ -36,7 +36,6 @@ module _ {A : Type 0} (P : A → Type 0) where
   unfolding name_of
   then_name f word next = then_named f word (is_name word) refl next
 
--- a text that equals this word by test is this word
 same : (word text : List ℕ) → bytes_eq word text ≡ true → word ≡ text
 same word text e = (bytes_eq-Decides word text).0 e
 
@@ -86,7 +85,6 @@ single_said topics command word line e =
     (then_name (λ action. IsWritten topics action line) (member_action command) word (λ h. member_said topics command word line h e))
     (then_some (λ action. IsWritten topics action line) (mail_action command) (number_of word) (λ n h. mail_said topics command word n line h e))
 
--- the text after a command
 append_said : (topics : List Topic) (text line : List ℕ) → line ≡ codes "append" ⎵ text
     → IfSome (append_action topics text) (λ action. IsWritten topics action line)
 unfolding append_action

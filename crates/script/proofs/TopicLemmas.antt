@@ -19,7 +19,6 @@ use borrow.Author.Tests.{eqb-true, lt-ltb}
 no_topic : Topic
 no_topic = record { name = []; partitions = 0 }
 
--- the topic of the index of a name has this name
 pub named-topic : (topics : List Topic) (name : List ℕ) (i : ℕ) → topic_named topics name ≡ Some i
     → (topic : Topic) × (slice_get topics i ≡ Some topic) × (topic.name ≡ name)
 unfolding topic_named
@@ -32,7 +31,6 @@ untrue : (b : Bool) → (b ≡ true → ⊥) → b ≡ false
 untrue true h = absurd (h refl)
 untrue false h = refl
 
--- the name of a topic finds it, since no other has the name
 pub topic-named : (topics : List Topic) (i : ℕ) (topic : Topic) → MayBeTopics topics
     → slice_get topics i ≡ Some topic → topic_named topics topic.name ≡ Some i
 unfolding topic_named
@@ -50,7 +48,6 @@ topic-named topics i topic known e =
     (bytes_eq-Decides (get_or topics i no_topic).name topic.name).1 (ap (λ t. t.name) is)) in
     rw (at, lt-ltb _ _ within) refl
 
--- with topics, one is named
 named-before : (first : Topic) (more : List Topic) (text : List ℕ)
     → topic_said (first ∷ more) text ≡ topic_before (first ∷ more) text
 unfolding topic_said
@@ -62,7 +59,6 @@ named-before first more text = at (length (first ∷ more) == 0) refl
     at true e = let none = eqb-true (length (first ∷ more)) 0 e in absurd (omega arith)
     at false e = refl
 
--- the text after the name of a topic is the text in this topic
 before-in : (topics : List Topic) (i : ℕ) (said text : List ℕ) → MayBeTopics topics
     → IsInTopic topics i said text → topic_before topics text ≡ Some (Some i, said)
 unfolding topic_before
@@ -84,7 +80,6 @@ said-in [] (Some i) said text known h = absurd (cc h.at)
 said-in (first ∷ more) (Some i) said text known h =
     named-before first more text ∙ before-in (first ∷ more) i said text known h
 
--- and a text in a topic is the text after its name
 in-before : (topics : List Topic) (text : List ℕ) (o : Option ℕ × List ℕ)
     → topic_before topics text ≡ Some o → IsSaidIn topics o.0 o.1 text
 unfolding topic_before

@@ -9,7 +9,6 @@ use Rattle.partitioner.specs.Name.{is_name, is_name_byte}
 use Rattle.script.specs.Grammar.{is_space, number_of}
 use borrow.Author.Tests.{eqb-true}
 
--- a byte that passes a test that a space fails is no space
 no_space : (p : ℕ → Bool)
     → p 32 ≡ false → (b : ℕ) (t : Bool) → eqb b 32 ≡ t → p b ≡ true → t ≡ false
 no_space p fails b true e passes =

@@ -16,8 +16,7 @@ pub fn forms_are_read()
         → IsWritten topics action line → action_of topics line ≡ Some action }
 {}
 
-/// A line that parses to an action has one of its forms: the grammar has no other lines, with
-/// topics and without.
+/// A line that parses to an action has one of its forms, with topics and without.
 pub fn no_others_are_read()
     ensures { (topics : List Topic) (line : List ℕ)
         → IfSome (action_of topics line) (λ action. IsWritten topics action line) }

@@ -1,17 +1,13 @@
 //! Parses scripts: the commands of a replay, and the plan of a run.
 //!
-//! What the contracts promise, for all bytes:
-//!
 //! - `read_replay`, and `read_replay_topics` with topics, returns the commands of all lines with
-//!   their line numbers, or the number of the first line that is not valid. Two laws say that the
-//!   grammar is the table of forms: each line in a form of an action parses to that action, and
-//!   each line that parses has one of these forms.
-//! - `read_plan` returns the changes of all lines, or the fault of the first line that has one.
+//!   their line numbers, or the number of the first line that is not valid. By two laws, exactly
+//!   the lines in a form of an action parse, and they parse to that action.
+//! - `read_plan` returns the changes of all lines, or the fault of the first line that has one. In
+//!   a `Plan` each line may follow those before it, and after each line somebody is present.
 //! - Either may instead fail with `Memory`.
-//! - Invariant of `Plan`: it has a line, each line may follow those before it, and after each line
-//!   somebody is present. So a plan has fewer than two lines for each possible member.
 //!
-//! The tests are in `driver_tests`, modules `scripts` and `plans`.
+//! Tests: `driver_tests`, modules `scripts` and `plans`.
 #![tactic(auto)]
 
 mod action;

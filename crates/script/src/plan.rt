@@ -124,9 +124,7 @@ impl Plan {
 /// Parses a plan. Its lines are `join NAME`, `leave NAME` and `lose NAME`; empty lines and comments
 /// are skipped.
 ///
-/// # Errors
-///
-/// The first line with a fault is reported. `BadLine`: the line is too long or of another form, its
+/// The first line with a fault is refused. `BadLine`: the line is too long or of another form, its
 /// join uses a name again or is the 513th, or the member that it takes out is not present.
 /// `NobodyLeft`: nobody is present after the line; with line 0, no line is a change. `Memory`:
 /// out of memory.

@@ -16,7 +16,6 @@ use Rattle.sticky_assignor.proofs.Steps.{quotas_by_is}
 use Rattle.sticky_assignor.specs.Assigned.{pair_up, assigned, target_rows}
 use Rattle.sticky_assignor.proofs.SecondRound.{target_over, length_target}
 
--- ---- members and sets of paired rows
 pub members_paired : (ms : List ℕ) (rows : List PartitionSet) → length rows ≡ length ms → map (λ row. row.0) (pair_up ms rows) ≡ ms
 members_paired [] rows len = refl
 members_paired (m ∷ ms) [] len = absurd (omega arith)
@@ -41,7 +40,6 @@ over_paired p [] rows over = tt
 over_paired p (m ∷ ms) [] over = tt
 over_paired p (m ∷ ms) (row ∷ rows) over = (over.0, over_paired p ms rows over.1)
 
--- ---- sets of rows
 partitions_found : (p : ℕ) (rows : List (ℕ × PartitionSet)) (m : ℕ) → AreOver p rows → partitions_of (set_or_empty p (find_row rows m)) ≡ p
 partitions_found p [] m over = partitions_empty p
 partitions_found p (row ∷ rows) m over =
@@ -58,7 +56,6 @@ pub length_sets : (r : SetRows) (ms : List ℕ) → length (sets_of r ms) ≡ le
 length_sets r [] = refl
 length_sets r (m ∷ ms) = ap (λ n. suc n) (length_sets r ms)
 
--- ---- what is assigned
 pub below_assigned : (p : ℕ) (ms : List ℕ) (owned : SetRows) → (assigned p ms owned).partitions ≡ p
 unfolding assigned
 below_assigned p ms owned = refl
@@ -85,7 +82,6 @@ assigned_kept ms owned kept rising = record {
   over = over_paired owned.partitions ms (target owned.partitions (sets_of owned ms)) (target_over owned.partitions (sets_of owned ms) (sets_over owned ms kept));
 }
 
--- ---- rows as pairs of members and sets
 pairs_are : (rows : List (ℕ × PartitionSet)) → rows ≡ pair_up (map (λ row. row.0) rows) (map (λ row. row.1) rows)
 pairs_are [] = refl
 pairs_are (row ∷ rows) = ap (λ rs. row ∷ rs) (pairs_are rows)
@@ -94,26 +90,22 @@ length_seconds : (rows : List (ℕ × PartitionSet)) → length (map (λ row. ro
 length_seconds [] = refl
 length_seconds (row ∷ rows) = ap (λ n. suc n) (length_seconds rows)
 
--- the sets of all members are the rows' own
 pub sets_all : (r : SetRows) → IsRising (members r) → sets_of r (members r) ≡ map (λ row. row.1) r.rows
 sets_all r rising =
     let seconds : List PartitionSet = map (λ row. row.1) r.rows in
     ap (λ rows. map (λ m. set_or_empty r.partitions (find_row rows m)) (members r)) (pairs_are r.rows)
     ∙ sets_paired r.partitions (members r) seconds (length_seconds r.rows) rising
 
--- rows are their members with their sets
 pub paired : (r : SetRows) → IsRising (members r) → r ≡ record { partitions = r.partitions; rows = pair_up (members r) (sets_of r (members r)) }
 paired r rising =
     ap (λ rows. record { partitions = r.partitions; rows = rows }) (pairs_are r.rows ∙ ap (λ sets. pair_up (members r) sets) (sym (sets_all r rising)))
 
--- the target of paired rows
 pub target_paired : (p : ℕ) (ms : List ℕ) (rows : List PartitionSet) → length rows ≡ length ms → IsRising ms → target_rows (record { partitions = p; rows = pair_up ms rows }) ≡ record { partitions = p; rows = pair_up ms (target p rows) }
 unfolding assigned
 target_paired p ms rows len rising =
     ap (λ ns. assigned p ns (record { partitions = p; rows = pair_up ms rows })) (members_paired ms rows len)
     ∙ ap (λ sets. record { partitions = p; rows = pair_up ms (target p sets) }) (sets_paired p ms rows len rising)
 
--- ---- the assignment by the parts that the code makes
 pub quotas_are : (p : ℕ) (ms : List ℕ) (owned : SetRows) (ns ds qs : List ℕ) → owned.partitions ≡ p → ns ≡ sizes (sets_of owned ms) → ds ≡ ns → qs ≡ quotas_by p ds → qs ≡ quotas owned.partitions (sets_of owned ms)
 quotas_are p ms owned ns ds qs below en ed e =
     e ∙ (ap (quotas_by p) (ed ∙ en) ∙ (quotas_by_is p (sets_of owned ms) ∙ ap (λ n. quotas n (sets_of owned ms)) (sym below)))

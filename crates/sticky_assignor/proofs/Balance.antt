@@ -17,7 +17,6 @@ abbrev pub sizes : List PartitionSet → ℕ
 sizes [] = 0
 sizes (row ∷ rows) = size row + sizes rows
 
--- each row has its size
 abbrev pub Sized : List ℕ → List PartitionSet → Type 0
 Sized [] [] = Unit {0}
 Sized [] (row ∷ rows) = ⊥
@@ -192,7 +191,6 @@ length_gaps [] (k ∷ ks) fits = absurd fits
 length_gaps (q ∷ qs) [] fits = absurd fits
 length_gaps (q ∷ qs) (k ∷ ks) fits = ap (λ n. suc n) (length_gaps qs ks fits.1)
 
--- rows filled up to quotas that come to p
 filled_up_balanced : (p share : ℕ) (qs : List ℕ) (kept : List PartitionSet) → Within share qs → total qs ≡ p → Fits qs kept → AreBelow p kept → AreApart kept → IsBalanced p (filled_up p qs kept)
 filled_up_balanced p share qs kept within sum_is fits over apart =
     let free : PartitionSet = free_of p kept in

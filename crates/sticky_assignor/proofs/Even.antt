@@ -16,7 +16,6 @@ balanced_apart p rows over balanced q =
       | inr ge ↦ omega (arith, none_past p rows q over ge)
     ]
 
--- the sizes of the rows, one by one
 abbrev pub sizes_of : List PartitionSet → List ℕ
 sizes_of [] = []
 sizes_of (row ∷ rows) = size row ∷ sizes_of rows
@@ -29,11 +28,9 @@ pub total_sizes : (rows : List PartitionSet) → total (sizes_of rows) ≡ sizes
 total_sizes [] = refl
 total_sizes (row ∷ rows) = omega (arith, total_sizes rows)
 
--- ---- the sizes come to p
 pub empty_size : (s : PartitionSet) → ((q : ℕ) → one (is_in s q) ≡ 0) → size s ≡ 0
 empty_size s empty = size_is s ∙ how_many-none (partitions_of s) (is_in s) (λ q lt. is_false (is_in s q) (empty q))
 
--- balanced rows leave nothing free
 pub nothing_free : (p : ℕ) (rows : List PartitionSet) → AreBelow p rows → IsBalanced p rows → size (free_of p rows) ≡ 0
 nothing_free p rows over balanced =
     let inside : InAll p rows = in_all p rows over (balanced_apart p rows over balanced) in
@@ -46,7 +43,6 @@ pub sizes_sum : (p : ℕ) (rows : List PartitionSet) → AreBelow p rows → IsB
 sizes_sum p rows over balanced =
     omega (arith, nothing_free p rows over balanced, size_free p rows over (in_all p rows over (balanced_apart p rows over balanced)))
 
--- ---- each size is the share or one more
 most : (m : ℕ) (rows : List PartitionSet) → ((i : ℕ) → i < length rows → size_at rows i ≤ m) → sizes rows ≤ length rows * m
 most m [] h = omega arith
 most m (row ∷ rows) h =
@@ -101,7 +97,6 @@ within_each share [] low high = tt
 within_each share (row ∷ rows) low high =
     (low 0 (omega arith), high 0 (omega arith), within_each share rows (λ i lt. low (suc i) (omega arith)) (λ i lt. high (suc i) (omega arith)))
 
--- balanced rows have the share or one more
 pub balanced_within : (p : ℕ) (rows : List PartitionSet) → 0 < length rows → AreBelow p rows → IsBalanced p rows → Within (p / length rows) (sizes_of rows)
 balanced_within p rows some over balanced =
     let sum : sizes rows ≡ p = sizes_sum p rows over balanced in

@@ -45,7 +45,6 @@ heavies_overs share (q ∷ qs) (row ∷ rows) fits =
     let e : heavies share (row ∷ rows) ≡ cond (is_heavy share row) 1 0 + heavies share rows = heavies_cons share row rows in
     grind (arith, nat_tests)
 
--- with enough for the heavy ones, rows that fit in some shares fit in theirs
 fits_shares : (share h o : ℕ) (qs : List ℕ) (rows : List PartitionSet) → Within share qs → Fits qs rows → heavies share rows ≤ h → Fits (shares share h o rows) rows
 fits_shares share h o [] [] within fits le = tt
 fits_shares share h o [] (row ∷ rows) within fits le = absurd fits
@@ -63,7 +62,6 @@ fits_shares share h o (q ∷ qs) (row ∷ rows) within fits le =
     one_more zero lt le = absurd (omega arith)
     one_more (suc h) lt le = le
 
--- rows that fit in balanced quotas fit in their own
 pub fits_quotas : (p : ℕ) (qs : List ℕ) (rows : List PartitionSet) → 0 < length rows → length qs ≡ length rows → Within (p / length rows) qs → total qs ≡ p → Fits qs rows → Fits (quotas p rows) rows
 fits_quotas p qs rows some len within sum_is fits =
     let n : ℕ = length rows in

@@ -140,7 +140,6 @@ some_keep_most p owned rows some len mine over balanced =
     let e : reach qs owned ≤ kept owned (filling p owned) = reach_filled p (free_of p (keeping qs owned)) (gaps qs (keeping qs owned)) qs owned (partitions_free p (keeping qs owned)) mine lg lq in
     omega arith
 
--- No balanced rows keep more
 pub filling_keeps_most : (p : ℕ) (owned rows : List PartitionSet) → length rows ≡ length owned → AreBelow p owned → AreBelow p rows → IsBalanced p rows → kept owned rows ≤ kept owned (filling p owned)
 filling_keeps_most p [] rows len mine over balanced = omega arith
 filling_keeps_most p (own ∷ owned) rows len mine over balanced = some_keep_most p (own ∷ owned) rows (omega arith) len mine over balanced

@@ -198,7 +198,6 @@ length_filled free [] (k ∷ ks) len = absurd (omega arith)
 length_filled free (g ∷ gs) [] len = absurd (omega arith)
 length_filled free (g ∷ gs) (k ∷ ks) len = ap (λ n. suc n) (length_filled (minus free (lowest g free)) gs ks (omega arith))
 
--- The filling, member by member and number by number
 pub filling_is_target : (p : ℕ) (owned : List PartitionSet) → filling p owned ≡ target p owned
 unfolding target
 filling_is_target p owned =

@@ -5,7 +5,6 @@ use Rattle.bit_planes.specs.PartitionSet.{PartitionSet, partitions_of, is_in, on
 use Rattle.bit_planes.proofs.Sets.{past, none_of_no_size, lowest_within, partitions_lowest, size_minus}
 use Rattle.sticky_assignor.specs.Balanced.{holders, AreBelow}
 
--- a number that is not in a set counts as nothing
 pub one_past : (s : PartitionSet) (q : ℕ) → partitions_of s ≤ q → one (is_in s q) ≡ 0
 one_past s q le = ap one (past s q le)
 
@@ -16,11 +15,9 @@ pub is_false : (x : Bool) → one x ≡ 0 → x ≡ false
 is_false true e = absurd (omega arith)
 is_false false e = refl
 
--- the lowest, and what is beyond them
 pub size_beyond : (n : ℕ) (s : PartitionSet) → size (minus s (lowest n s)) + size (lowest n s) ≡ size s
 size_beyond n s = size_minus s (lowest n s) (sym (partitions_lowest n s)) (lowest_within n s)
 
--- no row has a number from p on
 pub none_past : (p : ℕ) (rows : List PartitionSet) (q : ℕ) → AreBelow p rows → p ≤ q → holders rows q ≡ 0
 none_past p [] q over le = refl
 none_past p (row ∷ rows) q over le = let l = over.0 in omega (arith, one_past row q (omega arith), none_past p rows q over.1 le)
@@ -29,7 +26,6 @@ pub how_many-most : (n : ℕ) (f g : ℕ → Bool) → ((q : ℕ) → one (f q) 
 how_many-most zero f g le = omega arith
 how_many-most (suc n) f g le = omega (arith, le n, how_many-most n f g le)
 
--- ---- tests of equality
 pub eq_self : (n : ℕ) → (n == n) ≡ true
 eq_self n = grind (arith, nat_tests)
 

@@ -38,7 +38,6 @@ le_or true y = omega arith
 le_or false true = omega arith
 le_or false false = omega arith
 
--- what is kept is in what is filled up
 lies_filled : (p : ℕ) (free : PartitionSet) (gs : List ℕ) (ks : List PartitionSet) → length gs ≡ length ks → partitions_of free ≡ p → AreBelow p ks → Lies ks (filled free gs ks)
 lies_filled p free [] [] len long over = tt
 lies_filled p free [] (k ∷ ks) len long over = absurd (omega arith)
@@ -57,7 +56,6 @@ fits_lies p [] (b ∷ bs) over ob lies = absurd lies
 fits_lies p (r ∷ rows) [] over ob lies = absurd lies
 fits_lies p (r ∷ rows) (b ∷ bs) over ob lies = (size_le r b (over.0 ∙ sym ob.0) lies.0, fits_lies p rows bs over.1 ob.1 lies.1)
 
--- Where rows lie in balanced ones, their target keeps all of them
 pub kept_whole : (p : ℕ) (rows bs : List PartitionSet) → 0 < length rows → AreBelow p rows → AreBelow p bs → IsBalanced p bs → Lies rows bs → Lies rows (target p rows)
 kept_whole p rows bs some over ob balanced lies =
     let len : length bs ≡ length rows = sym (lies_length rows bs lies) in
@@ -68,7 +66,6 @@ kept_whole p rows bs some over ob balanced lies =
     let is : filled (free_of p rows) (gaps (quotas p rows) rows) rows ≡ target p rows = sym (ap (λ ks. filled (free_of p ks) (gaps (quotas p rows) ks) ks) whole) ∙ filling_is_target p rows in
     subst (Lies rows) is (lies_filled p (free_of p rows) (gaps (quotas p rows) rows) rows (length_gaps (quotas p rows) rows fits) (partitions_free p rows) over)
 
--- ---- the rows of the target
 over_filled : (p : ℕ) (free : PartitionSet) (gs : List ℕ) (ks : List PartitionSet) → AreBelow p ks → AreBelow p (filled free gs ks)
 over_filled p free [] ks over = tt
 over_filled p free (g ∷ gs) [] over = tt

@@ -31,7 +31,6 @@ fits_sizes : (rows : List PartitionSet) → Fits (sizes_of rows) rows
 fits_sizes [] = tt
 fits_sizes (row ∷ rows) = (omega arith, fits_sizes rows)
 
--- balanced rows are their own target
 pub filling_stays : (p : ℕ) (rows : List PartitionSet) → AreBelow p rows → IsBalanced p rows → filling p rows ≡ rows
 filling_stays p [] over balanced = refl
 filling_stays p (row ∷ rest) over balanced =

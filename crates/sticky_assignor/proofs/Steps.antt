@@ -13,11 +13,9 @@ use Rattle.sticky_assignor.specs.Private.Filling.{one_of, shares, quotas, sizes,
 use Rattle.sticky_assignor.specs.Target.{is_heavy, heavies}
 use Rattle.sticky_assignor.proofs.Balance.{heavies_cons}
 
--- one more element of a list, of those that are still to come
 pub pushed_on : (xs more : List ℕ) (x : ℕ) (rest left whole : List ℕ) → more ≡ xs ++ x ∷ [] → left ≡ x ∷ rest → xs ++ left ≡ whole → more ++ rest ≡ whole
 pushed_on xs more x rest left whole pushed next e = ap (λ l. l ++ rest) pushed ∙ append_assoc xs (x ∷ []) rest ∙ ap (λ l. xs ++ l) (sym next) ∙ e
 
--- the sets from index i on
 pub sets_next : (owned : SetRows) (ms : List ℕ) (i m : ℕ) → i < length ms → m ≡ get_or ms i m → sets_of owned (drop i ms) ≡ set_of owned m ∷ sets_of owned (drop (i + 1) ms)
 sets_next owned [] i m lt e = absurd (omega arith)
 sets_next owned (x ∷ ms) zero m lt e = rw e refl
@@ -60,7 +58,6 @@ heavy_by share h o ns i n lt e heavy = rw (size_next ns i n lt e, lt-ltb share n
 pub light_by : (share h o : ℕ) (ns : List ℕ) (i n : ℕ) → i < length ns → n ≡ get_or ns i n → n ≤ share → shares_by share h o (drop i ns) ≡ (share + one_of o) ∷ shares_by share h (o - 1) (drop (i + 1) ns)
 light_by share h o ns i n lt e light = rw (size_next ns i n lt e, le-ltb share n light) refl
 
--- the size of a row
 pub size_at : (owned : SetRows) (ns ms : List ℕ) (i : ℕ) → ns ≡ sizes (sets_of owned ms) → i < length ms → get_or ns i 0 ≡ size (set_of owned (get_or ms i 0))
 size_at owned ns ms i e lt = ap (λ xs. get_or xs i 0) e ∙ at ms i lt
   where
@@ -94,7 +91,6 @@ minus_none s t none = same_set s (minus s t) (sym (partitions_minus s t)) (λ q 
 pub kept_whole : (row : PartitionSet) (quota : ℕ) → size row ≤ quota → row ≡ lowest quota row
 kept_whole row quota le = lowest_all quota row le
 
--- nothing is given to a row that has its quota
 pub row_alone : (row kept free : PartitionSet) (quota : ℕ) → partitions_of free ≡ partitions_of row → quota ≤ size row → kept ≡ lowest quota row → kept ≡ union (lowest quota row) (given_of quota row free)
 row_alone row kept free quota below le e =
     let full : quota - size (lowest quota row) ≡ 0 = let s = size_lowest quota row in omega arith in
@@ -216,7 +212,6 @@ any_default [] i m d lt e = absurd (omega arith)
 any_default (x ∷ ms) zero m d lt e = e
 any_default (x ∷ ms) (suc i) m d lt e = any_default ms i m d (omega arith) e
 
--- the rows after a turn
 pub fill_step : (owned rows new : SetRows) (ms qs : List ℕ) (i m n count gap : ℕ) (free own kept given row next : PartitionSet) → IsRising ms → i < length ms → i < length qs → m ≡ get_or ms i m → n ≡ get_or qs i n
     → own ≡ set_of owned m → kept ≡ lowest n own → count ≡ size kept → gap ≡ n - count → given ≡ lowest gap free → row ≡ union kept given → next ≡ minus free given → new ≡ with_row rows m row → members rows ≡ take i ms
     → (new.partitions ≡ rows.partitions) × (members new ≡ take (i + 1) ms) × (new.rows ++ filled_from owned next ms qs (i + 1) ≡ rows.rows ++ filled_from owned free ms qs i)
@@ -245,7 +240,6 @@ append_none : (rows : List (ℕ × PartitionSet)) → rows ++ [] ≡ rows
 append_none [] = refl
 append_none (row ∷ rows) = ap (λ rs. row ∷ rs) (append_none rows)
 
--- the rows after the last turn
 pub fill_end : (owned rows : SetRows) (ms qs : List ℕ) (i : ℕ) (free all : PartitionSet) → length ms ≤ i → rows.partitions ≡ owned.partitions → rows.rows ++ filled_from owned free ms qs i ≡ filled_from owned all ms qs 0
     → rows ≡ record { partitions = owned.partitions; rows = filled_from owned all ms qs 0 }
 fill_end owned rows ms qs i free all le below so_far =

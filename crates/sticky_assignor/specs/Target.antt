@@ -1,5 +1,4 @@
--- The sticky target: the balanced rows that leave the most partitions with their owners. Members go
--- by their indices, in rising order of their numbers.
+-- The sticky target. Members go by their indices, in rising order of their numbers.
 use Rattle.std.specs.Prelude.{ℕ, zero, suc, ◌+◌, ◌-◌, ◌/◌, ◌%◌, Bool, ◌&&◌, not, count_by, nat_lt, nat_le, List, [], ◌∷◌, length, take, min, if◌then◌else◌}
 pub use Rattle.lane_words.specs.Sums.{sum_below}
 use Rattle.bit_planes.specs.PartitionSet.{PartitionSet, is_in, set_where, one, any_below, rank, size, union, lowest}

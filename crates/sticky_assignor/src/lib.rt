@@ -1,11 +1,9 @@
 //! The sticky assignment: which member gets which partition, so that the sizes are even and as many
 //! partitions as possible stay with their owners, as Kafka's StickyAssignor documents it.
 //!
-//! What it promises: [`assign`] returns exactly the target that `specs/Target.antt` defines. The
-//! target is balanced, no balanced assignment over the same members leaves more partitions with
-//! their owners, and an assignment that is balanced already does not change.
-//!
-//! Tests: `cluster_tests`.
+//! [`assign`] returns exactly the target that `specs/Target.antt` defines. It is balanced, no
+//! balanced assignment over the same members leaves more partitions with their owners, and an
+//! assignment that is balanced already does not change. Tests: `cluster_tests`.
 #![tactic(auto)]
 
 ghost use Rattle.std.specs.Prelude.{◌≡◌, ◌<◌, ◌≤◌, length, IfOk, IsSome};
@@ -23,8 +21,7 @@ use lane_words::{MOST_PARTITIONS, Memory};
 pub use laws::{balanced_stays, target_is_balanced, target_keeps_most};
 use std::alloc::Global;
 
-/// The target assignment: balanced, and of all balanced assignments one that leaves the most
-/// partitions with their owners.
+/// The target: of all balanced assignments, one that leaves the most partitions with their owners.
 ///
 /// There is at least one member and the member numbers rise. `owned`, over the same number of
 /// partitions, has a row for each member, and these rows are disjoint; rows of other members are
@@ -143,8 +140,7 @@ fn free_beside(counts: &[u32], quotas: &[u32], members: &[u32], owned: &PlaneRow
     free
 }
 
-/// Removes what a member retains of its row, which has `count` elements: the lowest, up to its
-/// quota.
+/// Removes what a member retains of its row of `count` elements: the lowest, up to its quota.
 fn remove_kept(free: &mut Plane, row: &Plane, count: u32, quota: u32)
     requires below { partitions_of free.old ≡ partitions_of row.now }
     requires sized { count ≡ size row.now }

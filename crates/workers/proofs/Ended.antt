@@ -15,7 +15,6 @@ use Rattle.workers.specs.Progress.{IsValidProgress, Progress, is_at_rest, is_emp
 use Rattle.workers.specs.Runs.{AreAllCounted, IsRunOf}
 use Rattle.workers.proofs.PlanLemmas.{rest_is_end}
 
--- if each log is committed to its end, each key is counted as often as it is in the logs
 all_counted : (s : Commits) (l : PartitionLogs) → IsExact s l → AreEndsCommitted s l → AreAllCounted s l
 all_counted s l exact ends x =
     exact.counted x

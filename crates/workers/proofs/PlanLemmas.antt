@@ -44,11 +44,9 @@ empty_rest : (a b : Bool) → b ≡ false → (a || b) ≡ true → a ≡ true
 empty_rest true b none e = refl
 empty_rest false b none e = absurd (false≢true (sym none ∙ e))
 
--- a group at rest that is not settled is empty
 nobody_at_rest : (g : GroupState) → IsValidGroup g → is_at_rest g ≡ true → is_settled g ≡ false → is_anybody g ≡ false
 nobody_at_rest g valid rest unsettled = valid.empty.0 (empty_phase g.phase (empty_rest (is_empty g.phase) (is_settled g) unsettled rest))
 
--- a group at rest is the end of its rebalance, but for flags
 pub rest_is_end : (g : GroupState) → IsValidGroup g → is_at_rest g ≡ true → finish g ≡ bare g
 rest_is_end g valid rest = go (is_anybody g) (is_settled g) refl refl
   where
@@ -67,7 +65,6 @@ changed_bare g (Join name) valid = join_bare g name valid
 changed_bare g (Leave name) valid = leave_bare g (number_of g name) valid ∙ ap (λ n. finish (left_by (bare g) n)) (sym (number_bare g name))
 changed_bare g (Lose name) valid = leave_bare g (number_of g name) valid ∙ ap (λ n. finish (left_by (bare g) n)) (sym (number_bare g name))
 
--- a line that is applied while no rebalance is under way leads to the result that the plan has
 pub applied_end : (g : GroupState) (p : ℕ) (plan : List Change) (i : ℕ) (line : Change) → IsValidGroup g → is_at_rest g ≡ true → slice_get plan i ≡ Some line → finish g ≡ settled p (take i plan) → finish (changed_by g line) ≡ settled p (take (suc i) plan)
 applied_end g p plan i line valid rest at end =
     changed_bare g line valid
@@ -148,7 +145,6 @@ length_take zero xs = omega arith
 length_take (suc n) [] = omega arith
 length_take (suc n) (x ∷ xs) = omega (arith, length_take n xs)
 
--- a line of a plan is accepted by each group whose rebalance ends in the result of the lines before
 pub line_taken : (g : GroupState) (p : ℕ) (plan : List Change) (i : ℕ) (line : Change) → IsPlan plan → length plan < 2 * MOST_MEMBERS → i ≤ length plan → slice_get plan i ≡ Some line → finish g ≡ settled p (take i plan) → change_answer g line ≡ Ok tt
 line_taken g p plan i line is short le at end =
     taken_by_roster g (roster_of (take i plan)) line (progress_roster g p plan i is le end) (is.allowed i line at)

@@ -23,7 +23,6 @@ use Rattle.workers.proofs.PlanLemmas.{applied_end, changed_partitions, changed_v
 abbrev progress_of : ClusterState → List Change → ℕ → Progress
 progress_of cluster plan applied = record { cluster = cluster; plan = plan; applied = applied }
 
--- a step of the group that keeps it valid, and the end of its rebalance
 regrouped_progress : (s : Progress) (g : GroupState) (cluster : ClusterState) → IsValidProgress s → cluster.group ≡ g → IsValidGroup g → g.partitions ≡ s.cluster.group.partitions → finish g ≡ finish s.cluster.group → IsValidProgress (progress_of cluster s.plan s.applied)
 regrouped_progress s g cluster was is valid same end = record {
   valid = subst (λ h. IsValidGroup h) (sym is) valid;
@@ -55,7 +54,6 @@ rejoined_progress s member generation claim new was answer is =
     let here : is_present g member ≡ true = ap is_some (end.accepted g member generation claim ok).1 in
     regrouped_progress s (rejoined_by g member) new was (ap (λ x. x.group) is) (rejoin_good g member was.valid here) (same_partitions (rejoining g member)) (end.rejoin_finish g member generation claim was.valid ok)
 
--- ---- the next line
 pub due_taken : (s : Progress) (line : Change) → IsValidProgress s → slice_get s.plan s.applied ≡ Some line → change_answer s.cluster.group line ≡ Ok tt
 due_taken s line was at = line_taken s.cluster.group s.cluster.group.partitions s.plan s.applied line was.plan (plan_is_short s.plan was.plan) was.within at was.end
 
@@ -87,7 +85,6 @@ advanced_by s line new at rest is =
     ap (λ x. progress_of x s.plan (s.applied + 1)) is
     ∙ sym (ap (λ b. cond b (applied_to s (slice_get s.plan s.applied)) s) (is_due_by s line at rest) ∙ ap (applied_to s) at)
 
--- a line that is due fails only if memory runs out
 pub due_refused : (s : Progress) (line : Change) (why : Refusal) → IsValidProgress s → slice_get s.plan s.applied ≡ Some line → Answers (change_answer s.cluster.group line) (Err why) → why ≡ r.Memory
 due_refused s line why was at answer = only_memory (change_answer s.cluster.group line) (due_taken s line was at) answer
   where
@@ -95,11 +92,9 @@ due_refused s line why was at answer = only_memory (change_answer s.cluster.grou
     only_memory expected ok (inl same) = absurd (let wrong = same ∙ ok in cc)
     only_memory expected ok (inr memory) = cc
 
--- the number of applied lines fits a u32
 pub applied_fits : (s : Progress) → IsValidProgress s → s.applied < 4294967296
 applied_fits s was = omega (arith, was.within, plan_is_short s.plan was.plan)
 
--- ---- a line that was looked up
 at_is : (plan : List Change) (i : ℕ) (line : Change) → i < length plan → line ≡ get_or plan i line → slice_get plan i ≡ Some line
 at_is [] i line lt e = absurd (omega arith)
 at_is (x ∷ plan) zero line lt e = ap (λ y. Some y) (sym e)

@@ -135,7 +135,6 @@ answered_within c l p (Err (r.NobodyLeft line)) was told = was
 answered_within c l p (Err (r.NoSuchTopic nth)) was told = was
 answered_within c l p (Err r.NotKept) was told = was
 
--- a reply leaves the number of partitions
 pub answered_partitions : (c : ConsumerState) (p : ℕ) (reply : Result ℕ Refusal) → (answered_by c p reply).partitions ≡ c.partitions
 answered_partitions c p (Ok k) = realigned_partitions c p k
 answered_partitions c p (Err (r.OffsetMismatch k)) = realigned_partitions c p k

@@ -114,7 +114,6 @@ joined_roster g r name has = record {
       ];
 }
 
--- a name that is there has a number
 pub number_there : (g : GroupState) (r : Roster) (name : List ℕ) → HasRoster g r → is_there r name ≡ true → HasNumber g name
 number_there g r name has e =
     let both = first_of (is_among r.joined name) (not (is_among r.gone name)) e in
@@ -128,7 +127,6 @@ number_there g r name has e =
 pub number_is : (g : GroupState) (name : List ℕ) (has : HasNumber g name) → number_of g name ≡ has.index + 1
 number_is g name has = ap (λ o. unwrap_or o 0) has.number
 
--- a name that is there is present
 pub present_there : (g : GroupState) (r : Roster) (name : List ℕ) → HasRoster g r → is_there r name ≡ true → is_present g (number_of g name) ≡ true
 present_there g r name has e =
     let n = number_there g r name has e in
@@ -176,7 +174,6 @@ before_end g r has = record {
   there = λ i name at gone. sym (present_finish g (i + 1)) ∙ has.there i name at gone;
 }
 
--- the result of the first lines of a plan agrees with their roster
 settled_roster : (p : ℕ) (plan : List Change) → IsPlan plan → (i : ℕ) → i ≤ length plan → HasRoster (settled p (take i plan)) (roster_of (take i plan))
 settled_roster p plan is zero le = opening_roster p
 settled_roster p plan is (suc i) le =
@@ -187,7 +184,6 @@ settled_roster p plan is (suc i) le =
     subst (λ r. HasRoster (settled p (take (suc i) plan)) r) (sym (next_roster plan i at.0 at.1))
     (subst (λ g. HasRoster g (entered (roster_of (take i plan)) at.0)) (sym (next_settled p plan i at.0 at.1)) after)
 
--- so does a group whose rebalance ends in the result of the first lines of a plan
 pub progress_roster : (g : GroupState) (p : ℕ) (plan : List Change) (i : ℕ) → IsPlan plan → i ≤ length plan → finish g ≡ settled p (take i plan) → HasRoster g (roster_of (take i plan))
 progress_roster g p plan i is le end =
     before_end g (roster_of (take i plan)) (subst (λ h. HasRoster h (roster_of (take i plan))) (sym end) (settled_roster p plan is i le))

@@ -1,5 +1,4 @@
--- The result of a plan: its lines are applied one after the other, each after the rebalance of the
--- one before has ended.
+-- The result of a plan: each line is applied after the rebalance of the one before has ended.
 use Rattle.std.specs.Prelude.{ℕ, List, [], ◌∷◌}
 use Rattle.std.specs.Option.{unwrap_or}
 use Rattle.group_machine.specs.State.{GroupState, member_named, opening}

@@ -221,8 +221,7 @@ impl Planned {
         Ok(is_heard)
     }
 
-    /// What a worker does that found nothing to do at `seen` changes. It ends a run that is
-    /// finished.
+    /// What a worker does that found nothing to do at `seen` changes. It ends a finished run.
     pub(crate) fn idle_step(&mut self, seen: u64) -> Rest
         ensures same { self.new ≡ self.old }
     {

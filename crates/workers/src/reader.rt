@@ -129,8 +129,7 @@ fn begins_within(logs: &SealedLogs, lease: &Lease) -> bool
     true
 }
 
-/// Whether the committed offset in a reply, if it has one, is at most the end of the partition's
-/// log.
+/// Whether the committed offset in a reply, if any, is at most the end of the partition's log.
 fn tells_within(logs: &SealedLogs, p: u32, reply: &Result<u32, Refusal>) -> bool
     ensures { IsTrue result → TellsWithin p reply.now logs.now }
 {

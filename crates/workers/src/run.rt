@@ -87,10 +87,8 @@ struct Desk<'a, G> {
 /// commits the records of several polls together, and asks `gate` before each commit. Owners,
 /// moves, generation and counts do not depend on how the threads are scheduled.
 ///
-/// # Errors
-///
-/// `Memory` if memory or a thread cannot be had, `GateLimit` if the gate answers `Stop`, and
-/// `Differs` if the logs or the plan under the lock are found to differ from `logs` and `plan`.
+/// It fails with `Memory` if memory or a thread cannot be had, `GateLimit` if the gate answers
+/// `Stop`, and `Differs` if the logs or the plan under the lock differ from `logs` and `plan`.
 pub fn run_cluster<R: Threads + Wait + RandomSource + Sync, G: Gate + Sync>(
     rt: &R,
     alloc: Global,

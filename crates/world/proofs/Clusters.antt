@@ -53,7 +53,6 @@ pub synced_valid : (s : ClusterState) (m : ℕ) → IsValidCluster s → IsValid
 synced_valid s m v = regrouped s (synced_by s.group m) v (sync_good s.group m v.good) refl
 
 -- ---- appends
--- an append that is accepted has a key that is not too long, and its log is not full
 accepted_append : (long full : Bool) (a b : ℕ × ℕ) → ◌≡◌ {A = Result (ℕ × ℕ) Refusal} (if long then Err r.KeyTooLong else if full then Err r.LogFull else Ok a) (Ok b) → (long ≡ false) × (full ≡ false)
 accepted_append true full a b e = absurd (cc e)
 accepted_append false true a b e = absurd (cc e)
@@ -136,7 +135,6 @@ is_it m n =
       | inr f ↦ inr (λ e. f.1 e)
     ]
 
--- a seat that is handed on: its former member is gone
 pub leaves_handed_on : (s : ClusterState) (g : GroupState) (m n : ℕ) → IsValidCluster (with_group s g) → IsHandedOn s.group g m n → Leaves s (with_group s g) n
 leaves_handed_on s g m n valid on = record {
   valid = valid;

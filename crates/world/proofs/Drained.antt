@@ -56,7 +56,6 @@ get_within [] i lt = absurd (omega arith)
 get_within (x ∷ xs) zero lt = (x, refl)
 get_within (x ∷ xs) (suc i) lt = get_within xs i (omega arith)
 
--- the consumer of a member that was changed
 changed_known : (w : WorldState) (m : ℕ) (c : ConsumerState) (f : ConsumerState → ConsumerState) → consumer_of w m ≡ Some c → consumer_of (on_consumer w m f) m ≡ Some (f c)
 changed_known w zero c f e = absurd (cc e)
 changed_known w (suc i) c f e = ap (λ o. consumer_of (changed w (suc i) f o) (suc i)) e ∙ get_set_same w.consumers i (f c) c e
@@ -76,14 +75,12 @@ held_there : (c : ConsumerState) (p : ℕ) (old h : Held) → held_at c p ≡ So
 held_there c p old h held = get_or-set_same c.held p (Some h) None (below_held c p old held)
 
 -- ---- who reads a partition
--- a member is present, synced, and assigned this partition
 record IsReader (g : GroupState) (m p : ℕ) : Type 0 where
   pub present : is_present g m ≡ true
   pub synced : is_synced g m ≡ true
   pub assigned : is_in (assigned_of g m) p ≡ true
   pub below : p < g.partitions
 
--- its consumer is in the group, and holds the partition at these offsets
 record HoldsAt (w : WorldState) (m p : ℕ) (h : Held) : Type 0 where
   pub c : ConsumerState
   pub known : consumer_of w m ≡ Some c
@@ -114,7 +111,6 @@ reader_holds w m p v reads =
     let held = some_held (held_at known.0 p) (step.held reads.synced p reads.assigned) in
     (held.0, record { c = known.0; known = known.1; member = step.member; held = held.1 })
 
--- the base of a member's consumer
 abbrev base_in : WorldState → ℕ → ℕ → ℕ
 base_in w m p = option_map_or (λ c. base_of c p) (consumer_of w m) 0
 
@@ -137,7 +133,6 @@ poll_accepted w m p n h at =
     let ok = hold_ok at.c m p h at.member at.held in
     ap (λ o. (poll_known w m p n o).after) at.known ∙ ap (λ a. (poll_outcome w m p n at.c (result_and a (Ok (polled_count at.c w.cluster.logs p n)))).after) ok
 
--- the offsets after a poll
 abbrev polled_held : WorldState → ℕ → ℕ → Held → Held
 polled_held w p n h = record { base = h.base; position = h.position + min n (length (log_at w.cluster.logs p) - h.position) }
 
@@ -154,7 +149,6 @@ poll_moves w m p n h at =
     }
 
 -- ---- a commit of what is pending
--- one event and then a course
 chain_event : (e : Event) (w : WorldState) (next : WorldState → Course) (o : Outcome) → outcome_of w e ≡ o → chain (happens e w) next ≡ goes_on (record { events = e ∷ []; answer = answer_in o.reply; after = o.after }) (next o.after) (answer_in o.reply)
 unfolding chain happens
 chain_event e w next o is = ap (λ (x : Outcome). goes_on (record { events = e ∷ []; answer = answer_in x.reply; after = x.after }) (next x.after) (answer_in x.reply)) is
@@ -196,11 +190,9 @@ last_sent w c p =
     let long : length (w.mail ++ t ∷ []) ≡ suc (length w.mail) = omega (arith, length-append w.mail (t ∷ [])) in
     ap (commit_at (sent_by w c p)) long ∙ get_last w.mail t
 
--- the base after a reply
 realigned_base : (c : ConsumerState) (p k : ℕ) (h : Held) → held_at c p ≡ Some h → base_of (answered_by c p (Ok k)) p ≡ k
 realigned_base c p k h held = ap (λ o. base_of (realigned_slot c p k o) p) held ∙ ap slot_base (held_there c p h (realigned_held h k) held)
 
--- a delivery raises the base
 answer_raises : (w : WorldState) (m p : ℕ) (h : Held) (at : HoldsAt w m p h) → IsValidWorld w → (a : Result ℕ Refusal) → cluster_commit_answer w.cluster (commit_of at.c w.cluster.logs p) ≡ a
     → unless_mismatch (answer_in (told a)) ≡ Ok tt → h.base < base_of (answered_by at.c p a) p
 answer_raises w m p h at v (Ok end) is ok =
@@ -268,7 +260,6 @@ holds_within w m p h v at =
     let was = v.consumers m at.c at.known in
     (omega (arith, was.valid.ordered p, ap slot_base at.held, ap slot_position at.held), omega (arith, was.within p, ap slot_position at.held))
 
--- a poll and the commit of what is pending raise the base, unless it is at the log's end
 read_on_raises : (batch m p : ℕ) (w : WorldState) → 1 ≤ batch → IsValidWorld w → IsReader w.cluster.group m p → is_read_up w m p ≡ false → (read_on batch m p w).answer ≡ Ok tt
     → base_in w m p < base_in (read_on batch m p w).after m p
 unfolding read_on
@@ -286,7 +277,6 @@ read_on_raises batch m p w some v reads not_yet ok =
     let raised = commit_raises w1 m p (polled_held w p batch h) v1 (poll_moves w m p batch h at) more d.next_ok in
     omega (arith, base_held w m p h at, raised, ap (λ (x : WorldState). base_in x m p) d.after_is)
 
--- a log is committed to its end
 abbrev IsDrained : WorldState → ℕ → Type 0
 IsDrained w p = length (log_at w.cluster.logs p) ≤ committed_at w.cluster.store p
 
@@ -327,7 +317,6 @@ log_drains batch m p w some v reads ok = read_up_drains (length (log_at w.cluste
 drained_stays : (w w2 : WorldState) (p : ℕ) → LeavesGroup w w2 → IsFurther w w2 → IsDrained w p → IsDrained w2 p
 drained_stays w w2 p left further drained = omega (arith, drained, further.committed p, ap (λ l. length (log_at l p)) left.logs)
 
--- if the course of one of the numbers drains a log, so do the courses of all
 each_drains : (course : ℕ → WorldState → Course) (made : (n : ℕ) (w : WorldState) → IsCourse w (course n w)) (reading : (n : ℕ) (w : WorldState) → AreAll IsReading (course n w).events) (m p k : ℕ)
     → ((w : WorldState) → IsValidWorld w → IsReader w.cluster.group m p → (course k w).answer ≡ Ok tt → IsDrained (course k w).after p)
     → (ns : List ℕ) → Listed k ns → (w : WorldState) → IsValidWorld w → IsReader w.cluster.group m p → (for_each ns course w).answer ≡ Ok tt → IsDrained (for_each ns course w).after p
@@ -397,7 +386,6 @@ abbrev rows_with : List PartitionSet → ℕ → ℕ
 rows_with [] q = 0
 rows_with (row ∷ rows) q = one (is_in row q) + rows_with rows q
 
--- if some row has it, it is found
 some_row : (f : ℕ → PartitionSet) (q : ℕ) (ms : List ℕ) → 0 < rows_with (map f ms) q → (m : ℕ) × Listed m ms × (is_in (f m) q ≡ true)
 some_row f q [] some = absurd (omega arith)
 some_row f q (m ∷ ms) some = go (some_row f q ms) (is_in (f m) q) refl

@@ -44,7 +44,6 @@ use Rattle.world.proofs.Refusals.{commit_mismatch, commit_never_faults, commit_u
 use Rattle.world.proofs.Slots.{joined_kept_slots, joined_slots, left_slots, rejoined_slots, synced_slots, taken_over_slots}
 use Rattle.world.proofs.Stays.{IsFine, both_stay, consumer_stays, out_fine, stays}
 
--- a step of the cluster that no consumer learns of
 alone_stays : (w : WorldState) (new : ClusterState) (m : ℕ) → IsValidWorld w → Leaves w.cluster new m → length new.group.slots ≡ length w.cluster.group.slots
     → ((c : ConsumerState) → consumer_of w m ≡ Some c → IsFine new m c) → IsValidWorld (with_cluster w new)
 alone_stays w new m v leaves slots fine =
@@ -57,7 +56,6 @@ alone_stays w new m v leaves slots fine =
     same_lookup zero c e = e
     same_lookup (suc i) c e = e
 
--- what held of a consumer before
 fine_before : (w : WorldState) (m : ℕ) (c : ConsumerState) → IsValidWorld w → consumer_of w m ≡ Some c → IsFine w.cluster m c
 fine_before w m c v e = record { known = v.consumers m c e; step = λ here. v.present m c here e }
 
@@ -83,7 +81,6 @@ append_in_stays w keyed v = go (nat_lt keyed.0 (length w.cluster.logs.counts)) r
     go false is = v
 
 -- ---- joins
--- the number of a consumer that was there is at most their number
 number_within : (w : WorldState) (n : ℕ) (c : ConsumerState) → consumer_of w n ≡ Some c → n ≤ length w.consumers
 number_within w zero c e = omega arith
 number_within w (suc i) c e = omega (arith, slice_get_within w.consumers i c e)
@@ -129,7 +126,6 @@ join_kept_stays w name v = go (join_answer w.cluster.group name) refl
     go (Err why) is = v
 
 -- ---- take-overs
--- a static member has the seat that is taken over
 keeper_of : (g : GroupState) (name : List ℕ) (n : ℕ) → take_over_answer g name ≡ Ok n → (m : ℕ) × (kept_member g name ≡ Some m)
 keeper_of g name n ok = go (kept_member g name) refl ok
   where
@@ -165,13 +161,11 @@ lose_stays w m v = go (leave_answer w.cluster.group m) refl
     go (Err why) is = v
 
 -- ---- requests of a consumer
--- refused by the cluster
 refused_stays : (w : WorldState) (m : ℕ) (why : Refusal) → IsValidWorld w → (why ≡ r.UnknownMember → is_present w.cluster.group m ≡ false) → IsValidWorld (refused_by_cluster w m why).after
 refused_stays w m r.UnknownMember v gone =
     both_stay w w.cluster m dropped v (nothing_leaves w.cluster m v.cluster) refl (λ c e. out_fine w.cluster m c (v.consumers m c e) (gone refl))
 refused_stays w m why v gone = v
 
--- a request of a consumer that is in the group
 asked_stays : (w : WorldState) (m : ℕ) (f : ConsumerState → Outcome) → IsValidWorld w → ((c : ConsumerState) → consumer_of w m ≡ Some c → IsValidWorld (f c).after) → IsValidWorld (asked w (consumer_of w m) f).after
 asked_stays w m f v each = go (consumer_of w m) refl
   where
@@ -251,7 +245,6 @@ poll_stays w m p n v = go (consumer_of w m) refl
     go (Some c) is = polls c is (poll_answer c w.cluster.logs p n) refl
 
 -- ---- sends
--- what can be sent is not empty, and the mail is not full
 sendable : (a : Result (Unit {0}) Refusal) (full : Bool) → result_and a (let x : Result (Unit {0}) Refusal = if full then Err r.MailFull else Ok tt in x) ≡ Ok tt → (a ≡ Ok tt) × (full ≡ false)
 sendable (Ok u) true e = absurd (cc e)
 sendable (Ok u) false e = (refl, refl)
@@ -414,7 +407,6 @@ never_faults w (event.Send m p) v = tt
 never_faults w (event.Deliver k) v = λ c known. commit_never_faults w.cluster c (commit_sent w k c v known)
 never_faults w (event.DeliverUnanswered k) v = λ c known. commit_never_faults w.cluster c (commit_sent w k c v known)
 
--- an append that is accepted, by its answer
 pub appended_world : (w : WorldState) (keyed : Keyed) (at : ℕ × ℕ) (s : ClusterState) → IsValidWorld w → IsOfTopic w.cluster.logs keyed → Answers (append_answer w.cluster.logs keyed) (Ok at) → s ≡ appended_to w.cluster keyed → IsValidWorld (with_cluster w s)
 appended_world w keyed at s v topic (inr wrong) is = absurd (cc wrong)
 appended_world w keyed at s v topic (inl answer) is =

@@ -23,7 +23,6 @@ use Rattle.world.proofs.Refusals.{IsRejoining, rejoin_accepted}
 use Rattle.world.proofs.Stays.{IsFine}
 
 -- ---- leases
--- a slot of a consumer with a lease
 abbrev IsLeasedSlot : ConsumerState → LeaseTerms → ℕ → Type 0
 IsLeasedSlot c lease p = (held_at (leased c lease) p ≡ leased_slot lease p (held_at c p)) ⊎ (held_at (leased c lease) p ≡ None)
 
@@ -50,7 +49,6 @@ leased_position lease p most None old new = go (is_in lease.assigned p)
     go true = new
     go false = omega arith
 
--- what is held with a lease was held before, or is leased
 leased_from : (lease : LeaseTerms) (p : ℕ) (o : Option Held) → is_some (leased_slot lease p o) ≡ true → (is_some o ≡ true) ⊎ (is_in lease.assigned p ≡ true)
 leased_from lease p (Some h) e = inl refl
 leased_from lease p None e = inr (go (is_in lease.assigned p) e)
@@ -125,7 +123,6 @@ kept_if : (b : Bool) (o : Option Held) → is_some (if b then o else None) ≡ t
 kept_if true o e = refl
 kept_if false o e = absurd (cc e)
 
--- what is held after giving up is assigned
 held_assigned : (c : ConsumerState) (p : ℕ) → is_held (given_up c) p ≡ true → is_in c.assigned p ≡ true
 held_assigned c p h =
     elim (kept_at c p) [
@@ -133,7 +130,6 @@ held_assigned c p h =
       | inr none ↦ absurd (let wrong = sym (ap is_some none) ∙ h in cc)
     ]
 
--- what was held and is assigned stays held
 held_on : (c : ConsumerState) (p : ℕ) → p < length c.held → is_in c.assigned p ≡ true → is_held c p ≡ true → is_held (given_up c) p ≡ true
 held_on c p lt mine held = ap is_some (slot_by (kept_slot c) (length c.held) p lt) ∙ rw mine held
 

@@ -7,7 +7,6 @@ use Rattle.consumer.specs.Consumer.{ConsumerState, is_held}
 use Rattle.consumer.proofs.Changed.{KeepsHold}
 use Rattle.world.specs.Valid.{IsInStep}
 
--- a consumer that holds the same as before
 pub in_step_same : (g : GroupState) (m : ℕ) (c new : ConsumerState) → KeepsHold c new → IsInStep g m c → IsInStep g m new
 in_step_same g m c new same was = record {
   member = same.member ∙ was.member;
@@ -28,7 +27,6 @@ as_before old new n c granted was b = record {
   held = λ s p h. was.held (sym b.synced ∙ s) p (ap (λ x. is_in x p) (sym b.assigned) ∙ h);
 }
 
--- in the next generation nobody is synced, and every lease is of an earlier one
 pub behind : (old new : GroupState) (n : ℕ) (c : ConsumerState) → c.member ≡ Some n → ((q : ℕ) → is_held c q ≡ true → is_in (granted_of new n) q ≡ true) → c.generation ≤ old.generation
     → new.generation ≡ old.generation + 1 → is_synced new n ≡ false → IsInStep new n c
 behind old new n c member granted not_ahead next unsynced = record {
@@ -40,7 +38,6 @@ behind old new n c member granted not_ahead next unsynced = record {
   held = λ s p h. absurd (cc (s, unsynced));
 }
 
--- what a step leaves of the other members suffices for their consumers
 pub in_step_left : (old new : GroupState) (n : ℕ) (c : ConsumerState) → LeavesMember old new n → IsInStep old n c → IsInStep new n c
 in_step_left old new n c left was =
     elim left.either [

@@ -218,7 +218,6 @@ keeps_group = record {
   step = reading_leaves;
 }
 
--- draining the members leaves them as they are
 pub drained_leaves : (batch : ℕ) (w w2 : WorldState) (result : Result (Unit {0}) Refusal) → Follows w (drain_members batch w) result w2 → LeavesGroup w w2
 drained_leaves batch w w2 result follows =
     kept_following IsReading LeavesGroup keeps_group w w2 (drain_members batch w) result (drain_members_course batch w) (drain_members_events IsReading reading_open batch w) follows

@@ -36,11 +36,9 @@ appended_last [] p offset h = tt
 appended_last (reply.Appended q o ∷ replies) p offset h = appended_last replies p offset h
 appended_last (told ∷ replies) p offset h = absurd h
 
--- ---- one record
 topic_is : (topic count : ℕ) → topic < count → nat_lt topic count ≡ true
 topic_is topic count lt = grind (arith, nat_tests)
 
--- an event that appends a record of a topic of the logs
 append_step : (w : WorldState) (e : Event) (keyed : Keyed) (told : Reply) (w2 : WorldState) → IsAppendOf e keyed → IsOfTopic w.cluster.logs keyed → MayCome w (append_event w keyed) told w2 → Step w e told w2
 append_step w (event.Append key) keyed told w2 is topic comes = subst (λ (k : Keyed). MayCome w (append_event w k) told w2) is comes
 append_step w (event.AppendIn t key) keyed told w2 is topic comes =
@@ -49,7 +47,6 @@ append_step w (event.AppendIn t key) keyed told w2 is topic comes =
     subst (λ (k : Keyed). MayCome w (append_in_event w k) told w2) is goes
 append_step w e keyed told w2 is topic comes = absurd is
 
--- one more record is appended
 pub append_more : (w w2 : WorldState) (events : List Event) (i : ℕ) (keyed : Keyed) (s : ClusterState) (at : ℕ × ℕ) → Appends w (take i events) w2 → i < length events → IsAppendOf (event_at events i) keyed → IsOfTopic w2.cluster.logs keyed
     → Answers (append_answer w2.cluster.logs keyed) (Ok at) → s ≡ appended_to w2.cluster keyed → Appends w (take (i + 1) events) (with_cluster w2 s)
 append_more w w2 events i keyed s at before lt of topic (inr wrong) is = absurd (cc wrong)
@@ -63,7 +60,6 @@ append_more w w2 events i keyed s at before lt of topic (inl answer) is =
       appended_last before.0 at.0 at.1 before.2,
     )
 
--- the append of the next record is refused
 pub append_stops : (w : WorldState) (events : List Event) (i : ℕ) (keyed : Keyed) (why : Refusal) → i < length events → IsAppendOf (event_at events i) keyed → IsOfTopic w.cluster.logs keyed → Answers (append_answer w.cluster.logs keyed) (Err why)
     → StopsLoad w (drop i events) i why
 append_stops w events i keyed why lt of topic answer =
@@ -76,12 +72,10 @@ append_stops w events i keyed why lt of topic answer =
         inl (ap (λ (o : Outcome). o.reply) (sym comes), ap (λ (o : Outcome). o.after) (sym comes))
     go (inr same) = inr (let e : why ≡ r.Memory = cc in ap (λ x. reply.Refused x) e, refl)
 
--- logs over the same number of partitions place a record alike
 pub append_still : (l l2 : PartitionLogs) (e : Event) (place : ℕ) (key : Key) → l2.counts ≡ l.counts → IsAppendAt l e place key → IsAppendAt l2 e place key
 append_still l l2 e place key same goes =
     subst (λ (counts : List ℕ). (topic : ℕ) × IsAppendOf e (topic, key) × (topic < length counts) × (place_in_topic counts topic key ≡ place)) (sym same) goes
 
--- ---- the records of events
 -- the records that these events append if none is refused
 abbrev pub records_of : List Event → List Keyed
 records_of [] = []
@@ -102,7 +96,6 @@ run_history (e ∷ events) (reply.Appended p offset ∷ replies) w w2 v run all 
     appends_both (appended_by e (reply.Appended 0 0)) (records_of events) w run.0 w2 first (run_history events replies run.0 w2 (valid_after w e told run.0 v run.1) run.2 all)
 run_history (e ∷ events) (told ∷ replies) w w2 v run all = absurd all
 
--- what appends add to the logs
 appends_history : (w : WorldState) (events : List Event) (records : List Keyed) (w2 : WorldState) → records_of events ≡ records → IsValidWorld w → Appends w events w2 → AppendsRecords records w w2
 appends_history w events records w2 is v done = subst (λ ks. AppendsRecords ks w w2) is (run_history events done.0 w w2 v done.1 done.2)
 
@@ -115,17 +108,14 @@ records_in [] keys = refl
 records_in (t ∷ topics) [] = refl
 records_in (t ∷ topics) (key ∷ keys) = ap (λ (ks : List Keyed). (t, key.now) ∷ ks) (records_in topics keys)
 
--- a load of these records
 pub load_history : (w : WorldState) (events : List Event) (records : List Keyed) (result : Result (Unit {0}) (ℕ × Refusal)) (w2 : WorldState) → records_of events ≡ records → IsValidWorld w → Loads w events result w2
     → OnOk result (AppendsRecords records w w2)
 load_history w events records (Ok u) w2 is v done = appends_history w events records w2 is v done
 load_history w events records (Err stop) w2 is v done = tt
 
--- memory for the partitions of the keys runs out
 pub load_stops_first : (w : WorldState) (events : List Event) → Loads w events (Err (0, r.Memory)) w
 load_stops_first w events = (omega arith, no_appends w, inr (refl, refl))
 
--- ---- events of keys whose partitions are computed beforehand
 pub first_placed : (l : PartitionLogs) (places : List ℕ) (keys : List (Bor Key)) → IsValidLogs l → places ≡ map (λ key. place_in l (of_first key.now)) keys → AreAppendsAt l (appends_of keys) places keys
 first_placed l places keys v is = record {
   events_each = length-map keys (λ (key : Bor Key). event.Append key);

@@ -13,7 +13,6 @@ use Rattle.world.specs.Settling.{sync_if_new}
 use Rattle.world.specs.World.{WorldState}
 use Rattle.world.proofs.Settled.{new_group}
 
--- a member that syncs next has neither joined nor synced
 pub syncs_next : (g : GroupState) (m : ℕ) → next_step g m ≡ Sync → (is_joined g m || is_synced g m) ≡ false
 syncs_next g m e = go (is_joined g m || is_synced g m) (has_to_rejoin g m) e
   where
@@ -22,7 +21,6 @@ syncs_next g m e = go (is_joined g m || is_synced g m) (has_to_rejoin g m) e
     go true false e = absurd (cc e)
     go false due e = refl
 
--- a member that rejoins or reads next has joined or synced
 pub syncs_no_more : (g : GroupState) (m : ℕ) (step : NextStep) → step ≡ next_step g m → (step ≡ Rejoin) ⊎ (step ≡ Read) → (is_joined g m || is_synced g m) ≡ true
 syncs_no_more g m step e is = go (is_joined g m || is_synced g m) (has_to_rejoin g m) e is
   where
@@ -31,7 +29,6 @@ syncs_no_more g m step e is = go (is_joined g m || is_synced g m) (has_to_rejoin
     go false due e (inl rejoin) = absurd (cc (e, rejoin))
     go false due e (inr read) = absurd (cc (e, read))
 
--- so has a present member after the sync of its turn
 either : (a b : Bool) → b ≡ true → (a || b) ≡ true
 either true b e = refl
 either false b e = e

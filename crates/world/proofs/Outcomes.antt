@@ -26,20 +26,16 @@ put w i c = record w { consumers = slice_set w.consumers i c }
 pub consumer_there : (w : WorldState) (i : ℕ) (c : ConsumerState) → i < length w.consumers → c ≡ slice_index_or w.consumers i c → slice_get w.consumers i ≡ Some c
 consumer_there w i c lt at = slice_get-get_or w.consumers i c lt ∙ ap (λ x. Some x) (sym at)
 
--- the consumer at an index is that of the next number
 pub consumer_at : (w : WorldState) (m i : ℕ) (c : ConsumerState) → m ≡ suc i → i < length w.consumers → c ≡ slice_index_or w.consumers i c → consumer_of w m ≡ Some c
 consumer_at w m i c number lt at = rw number (consumer_there w i c lt at)
 
--- the changed consumer is at its index
 pub changed_at : (w : WorldState) (m i : ℕ) (f : ConsumerState → ConsumerState) (c : ConsumerState) → m ≡ suc i → consumer_of w m ≡ Some c → on_consumer w m f ≡ put w i (f c)
 changed_at w m i f c number known = rw known (rw number refl)
 
--- an unchanged consumer leaves the world unchanged
 pub put_same : (w : WorldState) (i : ℕ) (c : ConsumerState) → c ≡ slice_index_or w.consumers i c → put w i c ≡ w
 put_same w i c at =
     ap (λ (x : ConsumerState). put w i x) at ∙ ap (λ (cs : List ConsumerState). record w { consumers = cs }) (set-get_or w.consumers i c)
 
--- ---- polls
 pub poll_ok : (w : WorldState) (m i p n count : ℕ) (c new : ConsumerState) → m ≡ suc i → consumer_of w m ≡ Some c
     → Ok count ≡ poll_answer c w.cluster.logs p n → new ≡ polled c w.cluster.logs p n → Comes (poll_event w m p n) (reply.Polled count) (put w i new)
 poll_ok w m i p n count c new number known answer is =
@@ -53,20 +49,16 @@ poll_err w m i p n why c new known at answer is =
     let event : poll_event w m p n ≡ poll_outcome w m p n c (Err why) = ap (poll_known w m p n) known ∙ ap (poll_outcome w m p n c) (sym answer) in
     (ap (λ (o : Outcome). o.reply) (sym event), ap (put w i) is ∙ put_same w i c at ∙ ap (λ (o : Outcome). o.after) (sym event))
 
--- ---- requests of a consumer
--- a request of a consumer that is in the group
 pub asks : (w : WorldState) (m i : ℕ) (c : ConsumerState) (f : ConsumerState → Outcome) → IsAsking w m i → slice_get w.consumers i ≡ Some c → asked w (consumer_of w m) f ≡ f c
 asks w m i c f asking there =
     let known : consumer_of w m ≡ Some c = rw asking.number there in
     ap (λ o. asked w o f) known ∙ ap (λ b. if b then refused w r.OutOfGroup else f c) (asking.present c there)
 
--- refused as by the cluster, or because memory ran out
 pub refused_ok : (w w2 : WorldState) (m i : ℕ) (event : Outcome) (why : Refusal) (told : Reply) → m ≡ suc i → (event ≡ refused_by_cluster w m why) ⊎ (why ≡ r.Memory)
     → Comes (refused_by_cluster w (suc i) why) told w2 → MayCome w event told w2
 refused_ok w w2 m i event why told number (inl is) comes = inl (rw is (rw number comes))
 refused_ok w w2 m i event why told number (inr is) comes = inr (subst (λ (x : Refusal). Comes (refused_by_cluster w (suc i) x) told w2) is comes)
 
--- ---- syncs
 pub sync_ok : (w : WorldState) (m i : ℕ) (c new : ConsumerState) (s : ClusterState) (lease : LeaseTerms) (generation : ℕ) → IsAsking w m i → slice_get w.consumers i ≡ Some c
     → Answers (cluster_sync_answer w.cluster m) (Ok lease) → s ≡ with_group w.cluster (synced_by w.cluster.group m) → new ≡ leased c lease → generation ≡ lease.generation
     → MayCome w (sync_event w m) (reply.Leased generation) (put (with_cluster w s) i new)
@@ -79,7 +71,6 @@ sync_ok w m i c new s lease generation asking there (inl answer) stepped is same
     ∙ sym (changed_at (with_cluster w (with_group w.cluster (synced_by w.cluster.group m))) m i (λ x. leased x lease) c asking.number known) in
     inl (ap (λ n. reply.Leased n) same ∙ ap (λ (o : Outcome). o.reply) (sym event), after ∙ ap (λ (o : Outcome). o.after) (sym event))
 
--- the refusal of the cluster, or memory
 refused_is : {A : Type 0} (expected : Result A Refusal) (why : Refusal) (f : Result A Refusal → Outcome) (event g : Outcome) → Answers expected (Err why) → event ≡ f expected → f (Err why) ≡ g → (event ≡ g) ⊎ (why ≡ r.Memory)
 refused_is expected why f event g (inl same) is e = inl (is ∙ ap f (sym same) ∙ e)
 refused_is expected why f event g (inr same) is e = inr cc
@@ -96,7 +87,6 @@ rejoin_refused w m i c why asking there answer =
     refused_is (rejoin_answer w.cluster.group m c.generation c.assigned) why (rejoin_outcome w m) (rejoin_event w m) (refused_by_cluster w m why) answer
     (asks w m i c (λ x. rejoin_outcome w m (rejoin_answer w.cluster.group m x.generation x.assigned)) asking there) refl
 
--- ---- sends
 pub no_more : (most n : ℕ) → n < most → nat_le most n ≡ false
 no_more most n lt = grind (arith, nat_tests)
 
@@ -114,8 +104,6 @@ send_ok w m p sent c commit mail known some room (inl answer) count grown =
     ap (λ (x : List CommitTerms). record w { mail = x }) grown ∙ ap (λ x. record w { mail = w.mail ++ x ∷ [] }) is in
     inl (ap (λ n. reply.Sent n) count ∙ ap (λ (o : Outcome). o.reply) (sym event), after ∙ ap (λ (o : Outcome). o.after) (sym event))
 
--- ---- leases
--- the lease of an accepted sync is the member's
 pub leased_to : (s : ClusterState) (m : ℕ) (lease : LeaseTerms) → Answers (cluster_sync_answer s m) (Ok lease) → lease ≡ lease_of s m
 leased_to s m lease (inr wrong) = absurd (cc wrong)
 leased_to s m lease (inl same) = go (sync_answer s.group m) same
@@ -124,12 +112,10 @@ leased_to s m lease (inl same) = go (sync_answer s.group m) same
     go (Ok u) e = cc
     go (Err why) e = absurd (cc e)
 
--- a consumer that is in the group is its member's
 pub is_in_as : (member : Option ℕ) (m : ℕ) → is_none member ≡ false → ((n : ℕ) → member ≡ Some n → n ≡ m) → member ≡ Some m
 is_in_as None m some number = absurd (cc some)
 is_in_as (Some n) m some number = ap (λ k. Some k) (number n refl)
 
--- ---- members that join
 pub entered : (told : ℕ → Reply) (group : GroupState) (w : WorldState) (answer : Result ℕ Refusal) (member : ℕ) (s : ClusterState) (consumers : List ConsumerState) → Answers answer (Ok member)
     → s ≡ with_group w.cluster group → consumers ≡ w.consumers ++ joined_as (out_of_group w.cluster.group.partitions) member ∷ []
     → MayCome w (entry_outcome told group w answer) (told member) (record { cluster = s; consumers = consumers; mail = w.mail })

@@ -32,7 +32,6 @@ unknown_sync (Some seat) lease e = absurd (go seat.joined e)
 pub sync_unknown : (s : ClusterState) (m : ℕ) → cluster_sync_answer s m ≡ Err r.UnknownMember → is_present s.group m ≡ false
 sync_unknown s m e = unknown_sync (member_of s.group m) (lease_of s m) e
 
--- a member that syncs is present
 known_sync : (o : Option Seat) (lease got : LeaseTerms) → result_and (sync_seat_answer o) (Ok lease) ≡ Ok got → is_some o ≡ true
 known_sync None lease got e = absurd (cc e)
 known_sync (Some seat) lease got e = refl
@@ -97,7 +96,6 @@ not_back : (b : Bool) → not b ≡ false → b ≡ true
 not_back true e = refl
 not_back false e = absurd (cc e)
 
--- a member that rejoins is present, synced, and in the group's generation
 pub record IsRejoining (g : GroupState) (m generation : ℕ) : Type 0 where
   pub present : is_present g m ≡ true
   pub current : generation ≡ g.generation
@@ -125,7 +123,6 @@ no_fault_by false false false false true over synced same = absurd (let wrong = 
 no_fault_by false false false false false true synced same = tt
 no_fault_by false false false false false false synced same = tt
 
--- a rejoin that claims a lease of this generation is never refused for the claim, nor for a sync
 pub rejoin_never_faults : (g : GroupState) (m generation : ℕ) (claim : PartitionSet)
     → (is_present g m ≡ true → generation ≡ g.generation → is_synced g m ≡ true) → (is_present g m ≡ true → generation ≡ g.generation → claim ≡ assigned_of g m)
     → IsNoRejoinFault (rejoin_answer g m generation claim)
@@ -186,7 +183,6 @@ mismatch_by false true other b k e = absurd (cc e)
 mismatch_by false false true b k e = absurd (cc e)
 mismatch_by false false false b k e = e
 
--- a mismatch has the committed offset
 pub commit_mismatch : (s : ClusterState) (c : CommitTerms) (k : ℕ) → cluster_commit_answer s c ≡ Err (r.OffsetMismatch k) → k ≡ committed_at s.store c.partition
 commit_mismatch s c k e =
     mismatch_offset (committed_at s.store c.partition) (c.from + length c.ids) k (length c.ids == 0) (not (c.from == committed_at s.store c.partition))
@@ -203,7 +199,6 @@ mismatch_elsewhere committed end k false false false false e = absurd (cc e)
 not_equal : (a b : ℕ) → not (a == b) ≡ true → a ≡ b → ⊥
 not_equal a b e same = absurd (grind (arith, nat_tests, e, same))
 
--- and it is answered if the commit is from another offset
 pub commit_elsewhere : (s : ClusterState) (c : CommitTerms) (k : ℕ) → cluster_commit_answer s c ≡ Err (r.OffsetMismatch k) → c.from ≡ committed_at s.store c.partition → ⊥
 commit_elsewhere s c k e =
     not_equal c.from (committed_at s.store c.partition)
@@ -233,7 +228,6 @@ not_past m n le = grind (arith, nat_tests)
 same_records : (xs ys : List ℕ) → xs ≡ ys → bytes_eq xs ys ≡ true
 same_records xs ys e = (bytes_eq-Decides xs ys).1 e
 
--- a sent commit is never refused for its records
 pub commit_never_faults : (s : ClusterState) (c : CommitTerms) → IsSent s.logs c → IsNoCommitFault (cluster_commit_answer s c)
 commit_never_faults s c sent =
     fine_by (not (is_present s.group c.member)) _ _ (commit_answer s.store s.logs c.partition c.from c.ids)

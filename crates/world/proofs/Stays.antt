@@ -14,7 +14,6 @@ use Rattle.world.proofs.Clusters.{Leaves}
 use Rattle.world.proofs.Groups.{in_step_left}
 use Rattle.world.proofs.Lookups.{consumer_put}
 
--- ---- logs that grow at the end
 range_grown : (xs more : List ℕ) (a b : ℕ) → a ≤ b → b ≤ length xs → slice_range (xs ++ more) a b ≡ slice_range xs a b
 range_grown xs more a b le within =
     ap (take (b - a)) (drop-append-le a xs more (omega arith)) ∙ take-append-le (b - a) (drop a xs) more (omega (arith, length-drop a xs))
@@ -29,7 +28,6 @@ sent_stays s new about c leaves sent =
           ∙ range_grown (log_at s.logs c.partition) more.0 c.from (c.from + length c.ids) (omega arith) sent.within ∙ sent.same;
     }
 
--- ---- consumers
 pub consumer_stays : (s new : ClusterState) (about n : ℕ) (c : ConsumerState) → Leaves s new about → IsConsumerOf s n c → IsConsumerOf new n c
 consumer_stays s new about n c leaves was = record {
   valid = was.valid;
@@ -67,7 +65,6 @@ stays w w2 m v leaves mail each from = record {
   few_commits = omega (arith, v.few_commits, ap length mail);
 }
 
--- the consumers, with that of one member changed
 on_lookup : (w : WorldState) (m n : ℕ) (f : ConsumerState → ConsumerState) (o : Option ConsumerState) → consumer_of w m ≡ o → (c : ConsumerState) → consumer_of (changed w m f o) n ≡ Some c
     → ((n ≡ m) × (old : ConsumerState) × (consumer_of w m ≡ Some old) × (c ≡ f old)) ⊎ ((n ≡ m → ⊥) × (consumer_of w n ≡ Some c))
 on_lookup w m n f None known c e = inr ((λ same. let none = ap (consumer_of w) same ∙ known in cc), e)
@@ -93,7 +90,6 @@ on_cluster w m f None = refl
 on_cluster w zero f (Some c) = refl
 on_cluster w (suc i) f (Some c) = refl
 
--- a step of the cluster for a member, whose consumer changes
 pub both_stay : (w : WorldState) (new : ClusterState) (m : ℕ) (f : ConsumerState → ConsumerState) → IsValidWorld w → Leaves w.cluster new m → length new.group.slots ≡ length w.cluster.group.slots
     → ((c : ConsumerState) → consumer_of w m ≡ Some c → IsFine new m (f c)) → IsValidWorld (on_consumer (with_cluster w new) m f)
 both_stay w new m f v leaves slots fine =
@@ -111,7 +107,6 @@ both_stay w new m f v leaves slots fine =
     same_lookup zero c e = e
     same_lookup (suc i) c e = e
 
--- a consumer that is out is valid if its member is not present
 pub out_fine : (s : ClusterState) (m : ℕ) (c : ConsumerState) → IsConsumerOf s m c → is_present s.group m ≡ false → IsFine s m (out_of_group c.partitions)
 out_fine s m c was gone = record {
   known = record {

@@ -40,7 +40,6 @@ numbers_gone slots i lt gone =
 pub numbers_past : (slots : List Slot) (i : ℕ) → length slots ≤ i → numbers_left slots i ≡ []
 numbers_past slots i le = numbers_drop_past slots (i + 1) i le
 
--- ---- numbers below a bound
 abbrev pub AreBelow : ℕ → List ℕ → Type 0
 AreBelow n [] = Unit {0}
 AreBelow n (x ∷ xs) = (x < n) × AreBelow n xs
@@ -65,7 +64,6 @@ pub elements_below : (s : PartitionSet) → AreBelow (partitions_of s) (elements
 unfolding elements
 elements_below s = where_below (partitions_of s) (is_in s)
 
--- ---- the partitions that a consumer holds
 pub holds_none : (w : WorldState) (m : ℕ) → consumer_of w m ≡ None → held_by w m ≡ empty_set w.cluster.group.partitions
 unfolding held_by
 holds_none w m e = ap (λ o. option_map_or (λ c. set_where w.cluster.group.partitions (is_held c)) o (empty_set w.cluster.group.partitions)) e

@@ -1,5 +1,4 @@
--- Courses of events: a call chooses each event by the world that the one before it left, and ends
--- at the first refusal.
+-- Courses: each event depends on the world that the one before it left; the first refusal ends it.
 use Rattle.std.specs.Prelude.{◌≡◌, ◌⊎◌, ℕ, List, [], ◌∷◌, ◌++◌, Result, Ok, Err}
 use Rattle.lane_words.specs.declared.Refusal.{Refusal}
 use Rattle.lane_words.specs.declared.Refusal.TheVariants as r

@@ -1,5 +1,4 @@
--- Settling a world: each member is brought to the end of the rebalance, and commits what is pending
--- of the partitions that it gives up.
+-- Settling a world: each member is brought to the end of the rebalance.
 use Rattle.std.specs.Prelude.{ℕ, zero, suc, Bool, false, ◌||◌, length, is_ok, Result, Ok, Err, if◌then◌else◌}
 use Rattle.std.specs.Option.{option_map_or}
 use Rattle.lane_words.specs.declared.Refusal.{Refusal}

@@ -321,8 +321,7 @@ impl Parts {
         Reply::Unanswered
     }
 
-    /// The index of a member's consumer, if it can make requests: the member ever joined, and its
-    /// consumer is in the group.
+    /// The index of a member's consumer, if there is one and it is in the group.
     fn asking(&self, member: u32) -> Result<usize, Refusal>
         ensures asking { IfOk result (IsAsking (world_view self.now) member) }
         ensures refused { IfErr result (IsNotAsking (world_view self.now) member) }

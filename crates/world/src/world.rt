@@ -106,9 +106,8 @@ impl World {
         self.parts.step(self.alloc, event)
     }
 
-    /// Makes all events in order, and returns the replies. An event that is refused has its reply,
-    /// and the run goes on. Fails only if there is no memory for the replies; then nothing has
-    /// changed.
+    /// Makes all events in order, even after refusals, and returns the replies. Fails only if there
+    /// is no memory for the replies; then nothing has changed.
     pub fn run(&mut self, events: &[Event<'_>]) -> Result<Vec<Reply>, Memory>
         ensures run { IfOk result (λ replies. Run self.old events.now replies.items self.new) }
         ensures history { IfOk result (λ replies. AppendsRecords

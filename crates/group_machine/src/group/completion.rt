@@ -26,8 +26,7 @@ pub struct Completion {
     pub moves: Vec<Move>,
 }
 
-/// The rows to assign: the sticky target of what each member is granted, without what any other
-/// member is granted.
+/// The rows to assign: each member's part of the sticky target that no other member is granted.
 pub fn next_rows(alloc: Global, granted: &PlaneRows) -> Result<PlaneRows, Memory>
     requires { AreGranted granted.now }
     ensures { IfOk result (λ rows. rows ≡ next_rows granted.now) }

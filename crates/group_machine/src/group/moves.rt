@@ -13,8 +13,7 @@ use coop_rebalance::added;
 use lane_words::Memory;
 use std::alloc::Global;
 
-/// The member that takes each partition: the one that has it in its next row and is not granted it
-/// yet.
+/// The member that takes each partition, which is in its next row and not granted to it yet.
 pub fn takers_of(
     alloc: Global,
     granted: &PlaneRows,

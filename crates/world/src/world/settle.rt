@@ -23,11 +23,10 @@ use lane_words::Refusal;
 const MOST_PASSES: usize = 4;
 
 impl World {
-    /// Brings the group to the end of its rebalance. In each pass every present member, in rising
-    /// order of numbers, takes its next step: it syncs if it is new to the generation, and rejoins
-    /// if it has partitions to give up or a generation is being prepared. Before it rejoins, it
-    /// commits what is pending of the partitions that it gives up. Passes are made until the group
-    /// is settled and each member has synced, which takes at most four.
+    /// Brings the group to the end of its rebalance, in at most four passes. In each, every present
+    /// member, in rising order of numbers, takes its next step: it syncs if it is new to the
+    /// generation, and rejoins if it has partitions to give up or a generation is being prepared.
+    /// Before it rejoins, it commits what is pending of the partitions that it gives up.
     ///
     /// Fails with `NobodyPresent`, and then nothing has changed; or with the first event that is
     /// refused (`MailFull`, `GenerationsOver` or `Memory`), where earlier events stand.
@@ -162,8 +161,7 @@ impl World {
         Ok(())
     }
 
-    /// Commits what is pending of a partition. If the committed offset was another one, commits
-    /// once more what is left after that.
+    /// Commits what is pending of a partition, and after a mismatch once more what is left.
     fn flush(&mut self, member: u32, p: u32) -> Result<(), Refusal>
         ensures { Follows self.old (flush member p self.old) result self.new }
     {
