@@ -2,7 +2,6 @@
 use Rattle.std.specs.Prelude.{◌≡◌, ◌≢◌, ℕ, ◌≤◌, true, List, length, Option}
 use Rattle.std.specs.List.{All, AllPairs, position, slice_get, sum_by}
 use Rattle.std.specs.Option.{option_map_or}
-use Rattle.std.specs.Str.{bytes_eq}
 use Rattle.lane_words.specs.declared.limits.TheConstants.{MOST_PARTITIONS, MOST_TOPICS}
 use Rattle.partitioner.specs.Name.{is_name}
 use Rattle.partitioner.specs.declared.topic.Topic.{Topic}
@@ -24,10 +23,6 @@ pub record MayBeTopics (topics : List Topic) : Type 0 where
 pub record AreTopics (topics : List Topic) : Type 0 where
   pub some : 1 ≤ length topics
   pub known : MayBeTopics topics
-
--- the index of the topic of this name
-unfoldable pub topic_named : List Topic → List ℕ → Option ℕ
-topic_named topics name = position (λ topic. bytes_eq topic.name name) topics
 
 -- the number of partitions of the topic of this index
 abbrev pub partitions_at : List Topic → ℕ → ℕ

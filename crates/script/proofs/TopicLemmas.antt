@@ -12,7 +12,8 @@ use Rattle.script.proofs.Parts.{split-parts, split-there}
 use Rattle.script.proofs.WordLemmas.{name-word}
 use Rattle.script.specs.Forms.{IsInTopic, IsSaidIn}
 use Rattle.script.specs.Grammar.{split_word, topic_before, topic_said}
-use Rattle.partitioner.specs.Topic.{MayBeTopics, topic_named}
+use Rattle.partitioner.specs.Topic.{MayBeTopics}
+use Rattle.script.specs.Topics.{topic_named}
 use Rattle.partitioner.specs.declared.topic.Topic.{Topic}
 use borrow.Author.Tests.{eqb-true, lt-ltb}
 

@@ -9,8 +9,7 @@ use Rattle.std.specs.Str.Parse.{digits_value}
 use Rattle.partitioner.specs.Name.{is_name}
 use Rattle.script.specs.declared.action.Action.{Action}
 use Rattle.script.specs.declared.action.Action.TheVariants.{Append, AppendIn, Join, Keep, Return, Rejoin, Sync, Leave, Lose, Poll, Send, Deliver, Unanswered, Settle, Drain}
-use Rattle.partitioner.specs.Topic.{topic_named}
-use Rattle.script.specs.Topics.{partition_at}
+use Rattle.script.specs.Topics.{partition_at, topic_named}
 use Rattle.script.specs.declared.limits.TheConstants.{MOST_DIGITS}
 use Rattle.partitioner.specs.declared.topic.Topic.{Topic}
 

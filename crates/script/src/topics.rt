@@ -2,8 +2,8 @@
 
 ghost use Rattle.std.specs.Prelude.{◌≡◌, ◌≤◌, ℕ, length, take, IfSome, IfNone};
 ghost use Rattle.script.specs.Grammar.{topic_said};
-ghost use Rattle.partitioner.specs.Topic.{MayBeTopics, partitions_in, topic_named};
-ghost use Rattle.script.specs.Topics.{partition_at};
+ghost use Rattle.partitioner.specs.Topic.{MayBeTopics, partitions_in};
+ghost use Rattle.script.specs.Topics.{partition_at, topic_named};
 
 use crate::limits::NO_PARTITION;
 use crate::words;

@@ -1,5 +1,5 @@
 use Rattle.std.proofs.Common.{rules}
-use Rattle.partitioner.specs.Topic.{topic_named}
+use Rattle.script.specs.Topics.{topic_named}
 use Rattle.script.proofs.topics.index_named.Goals as goal
 
 pub returns-in-None : goal.returns-in-None
