@@ -1,6 +1,6 @@
 -- Topics, and their partitions, which are counted over all topics.
-use Rattle.std.specs.Prelude.{◌≡◌, ◌≢◌, ℕ, ◌≤◌, true, List, length, Option}
-use Rattle.std.specs.List.{All, AllPairs, position, slice_get, sum_by}
+use Rattle.std.specs.Prelude.{◌≡◌, ◌≢◌, ℕ, ◌≤◌, true, List, length}
+use Rattle.std.specs.List.{All, AllPairs, slice_get, sum_by}
 use Rattle.std.specs.Option.{option_map_or}
 use Rattle.lane_words.specs.declared.limits.TheConstants.{MOST_PARTITIONS, MOST_TOPICS}
 use Rattle.partitioner.specs.Name.{is_name}
