@@ -6,17 +6,17 @@ use Rattle.count_report.proofs.tally.counts_in_turn.Goals as goal
 
 pub add_list-requires-clause-numbers : goal.add_list-requires-clause-numbers
 add_list-requires-clause-numbers g c =
-    subst (λ (ids : List ℕ). HaveCounters c.loop-p.table.counts ids) (sym c.all_ids-ids.ensures)
+    subst (λ (ids : List ℕ). HaveCounters c.loop-p.table.counts ids) (sym c.all_ids.ensures)
     (in-counters (g.L.LogRead.contents c.args.logs.now) c.loop-p.p c.loop-p.table.counts c.requires c.loop-p.invariant)
 
 pub add_list-requires-clause-fit : goal.add_list-requires-clause-fit
 add_list-requires-clause-fit g c =
-    subst (λ (ids : List ℕ). SumsFit c.loop-p.table.counts ids) (sym c.all_ids-ids.ensures)
+    subst (λ (ids : List ℕ). SumsFit c.loop-p.table.counts ids) (sym c.all_ids.ensures)
     (in-range (g.L.LogRead.contents c.args.logs.now) c.loop-p.p c.loop-p.table.counts c.requires c.loop-p.invariant (omega arith))
 
 pub loop-p-preserved : goal.loop-p-preserved
 loop-p-preserved g c =
-    let merged = ap (λ t. t.counts) c.add_list.ensures ∙ ap (raised c.loop-p.table.counts) c.all_ids-ids.ensures in
+    let merged = ap (λ t. t.counts) c.add_list.ensures ∙ ap (raised c.loop-p.table.counts) c.all_ids.ensures in
     subst (λ (counts : List ℕ). AreCountsBelow (g.L.LogRead.contents c.args.logs.now) (c.loop-p.p + 1) counts) (sym merged) (next-log (g.L.LogRead.contents c.args.logs.now) c.loop-p.p c.loop-p.table.counts c.loop-p.invariant)
 
 pub returns : goal.returns
