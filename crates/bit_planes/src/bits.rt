@@ -12,8 +12,8 @@ pub const WORD_BITS: u32 = 64;
 /// The number of words that hold the bits of the numbers below `partitions`.
 pub fn words_for(partitions: u32) -> usize
     requires { partitions ≤ MOST_PARTITIONS }
-    ensures enough { partitions ≤ 64 * result }
-    ensures few { 64 * result < partitions + 64 }
+    ensures capacity { partitions ≤ 64 * result }
+    ensures bound { 64 * result < partitions + 64 }
 {
     partitions.div_ceil(WORD_BITS) as usize
 }
@@ -65,8 +65,8 @@ pub fn is_set(words: &[u64], q: u32) -> bool
 /// Sets bit `q`, which is within the words.
 pub fn set(words: &mut [u64], q: u32)
     requires { q < 64 * length words.old }
-    ensures marks { (n : ℕ) → bit_of words.new n ≡ (bit_of words.old n || (n == q)) }
-    ensures length { length words.new ≡ length words.old }
+    ensures bits { (n : ℕ) → bit_of words.new n ≡ (bit_of words.old n || (n == q)) }
+    ensures len { length words.new ≡ length words.old }
 {
     words[(q / WORD_BITS) as usize] |= 1 << (q % WORD_BITS);
 }
@@ -74,8 +74,8 @@ pub fn set(words: &mut [u64], q: u32)
 /// Clears bit `q`, which is within the words.
 pub fn clear(words: &mut [u64], q: u32)
     requires { q < 64 * length words.old }
-    ensures marks { (n : ℕ) → bit_of words.new n ≡ (bit_of words.old n && not (n == q)) }
-    ensures length { length words.new ≡ length words.old }
+    ensures bits { (n : ℕ) → bit_of words.new n ≡ (bit_of words.old n && not (n == q)) }
+    ensures len { length words.new ≡ length words.old }
 {
     words[(q / WORD_BITS) as usize] &= !(1 << (q % WORD_BITS));
 }
@@ -83,8 +83,8 @@ pub fn clear(words: &mut [u64], q: u32)
 /// Sets the bits below `n` and clears all others.
 pub fn fill_below(words: &mut [u64], n: u32)
     requires { length words.old ≤ 64 }
-    ensures marks { (q : ℕ) → q < 64 * length words.old → bit_of words.new q ≡ nat_lt q n }
-    ensures length { length words.new ≡ length words.old }
+    ensures bits { (q : ℕ) → q < 64 * length words.old → bit_of words.new q ≡ nat_lt q n }
+    ensures len { length words.new ≡ length words.old }
 {
     for i in 0..words.len() {
         words[i] = bits_below(n.saturating_sub(i as u32 * WORD_BITS));
@@ -92,10 +92,10 @@ pub fn fill_below(words: &mut [u64], n: u32)
 }
 
 /// Clears all but the `n` lowest set bits.
-pub fn keep_lowest(words: &mut [u64], n: u32)
-    ensures marks { (q : ℕ) → bit_of words.new q
+pub fn retain_lowest(words: &mut [u64], n: u32)
+    ensures bits { (q : ℕ) → bit_of words.new q
         ≡ (bit_of words.old q && nat_lt (how_many q (bit_of words.old)) n) }
-    ensures length { length words.new ≡ length words.old }
+    ensures len { length words.new ≡ length words.old }
 {
     let mut left = n;
     for i in 0..words.len() {
@@ -111,8 +111,8 @@ pub fn keep_lowest(words: &mut [u64], n: u32)
 /// Sets in `a` all bits that are set in `b`, which has the same length.
 pub fn or_into(a: &mut [u64], b: &[u64])
     requires { length a.old ≡ length b.now }
-    ensures marks { (q : ℕ) → bit_of a.new q ≡ (bit_of a.old q || bit_of b.now q) }
-    ensures length { length a.new ≡ length a.old }
+    ensures bits { (q : ℕ) → bit_of a.new q ≡ (bit_of a.old q || bit_of b.now q) }
+    ensures len { length a.new ≡ length a.old }
 {
     lane_words::or_into(a, b);
 }
@@ -120,8 +120,8 @@ pub fn or_into(a: &mut [u64], b: &[u64])
 /// Clears in `a` all bits that are set in `b`, which has the same length.
 pub fn and_not_into(a: &mut [u64], b: &[u64])
     requires { length a.old ≡ length b.now }
-    ensures marks { (q : ℕ) → bit_of a.new q ≡ (bit_of a.old q && not (bit_of b.now q)) }
-    ensures length { length a.new ≡ length a.old }
+    ensures bits { (q : ℕ) → bit_of a.new q ≡ (bit_of a.old q && not (bit_of b.now q)) }
+    ensures len { length a.new ≡ length a.old }
 {
     lane_words::and_not_into(a, b);
 }

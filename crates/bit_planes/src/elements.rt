@@ -31,7 +31,7 @@ impl<'a> Elements<'a> {
     /// Starts at the lowest element.
     pub(crate) fn new(plane: &'a Plane) -> Elements<'a>
         ensures value { result ≡ elements plane.now }
-        ensures few { length result ≤ MOST_PARTITIONS }
+        ensures bound { length result ≤ MOST_PARTITIONS }
     {
         prove!(plane.partitions() <= MOST_PARTITIONS);
         Elements { plane, from: 0 }

@@ -5,13 +5,13 @@ ghost use Rattle.bit_planes.specs.PartitionSet.{PartitionSet, partitions_of, is_
 ghost use Rattle.bit_planes.specs.SetRows.{SetRows, HaveSameRows, IsValidRows};
 
 /// Two sets over the same number of partitions with the same elements are equal.
-pub fn equal_by_members()
+pub fn sets_equal_by_elements()
     ensures { (s t : PartitionSet) → partitions_of s ≡ partitions_of t
         → ((q : ℕ) → is_in s q ≡ is_in t q) → s ≡ t }
 {}
 
 /// Two tables of rows over the same number of partitions are equal where every look-up agrees.
-pub fn equal_by_look_up()
+pub fn rows_equal_by_look_up()
     ensures { (r s : SetRows) → IsValidRows r → IsValidRows s
         → r.partitions ≡ s.partitions → HaveSameRows r s → r ≡ s }
 {}

@@ -16,6 +16,6 @@ mod plane;
 mod rows;
 
 pub use elements::Elements;
-pub use laws::{equal_by_look_up, equal_by_members};
+pub use laws::{rows_equal_by_look_up, sets_equal_by_elements};
 pub use plane::Plane;
 pub use rows::{Members, PlaneRows, Rows};

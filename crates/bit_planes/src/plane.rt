@@ -62,8 +62,8 @@ impl Plane {
 
     /// The set of these elements, over this many partitions, 1 to 4096.
     pub fn of(partitions: u32, elements: &[u32]) -> Plane
-        requires some { (1 ≤ partitions) × (partitions ≤ MOST_PARTITIONS) }
-        requires below { All (λ q. q < partitions) elements.now }
+        requires partitions { (1 ≤ partitions) × (partitions ≤ MOST_PARTITIONS) }
+        requires bound { All (λ q. q < partitions) elements.now }
         ensures elements { (q : ℕ)
             → is_in result q ≡ list_any (λ element. q == element) elements.now }
         ensures partitions { partitions_of result ≡ partitions }
@@ -88,7 +88,7 @@ impl Plane {
     /// The number of partitions. All elements are below it.
     pub fn partitions(&self) -> u32
         ensures value { result ≡ partitions_of self.now }
-        ensures bounds { (1 ≤ result) × (result ≤ MOST_PARTITIONS) }
+        ensures bound { (1 ≤ result) × (result ≤ MOST_PARTITIONS) }
     {
         self.partitions
     }
@@ -117,7 +117,7 @@ impl Plane {
     /// Whether a number is in the set. No number at or above the number of partitions is.
     pub fn contains(&self, q: u32) -> bool
         ensures value { result ≡ is_in self.now q }
-        ensures below { IsTrue result → q < partitions_of self.now }
+        ensures bound { IsTrue result → q < partitions_of self.now }
     {
         q < self.partitions && bits::is_set(&self.words, q)
     }
@@ -179,7 +179,7 @@ impl Plane {
         ensures size { size result ≡ min n (size self.now) }
     {
         let mut words = self.words;
-        bits::keep_lowest(&mut words[..bits::words_for(self.partitions)], n);
+        bits::retain_lowest(&mut words[..bits::words_for(self.partitions)], n);
         Plane {
             partitions: self.partitions,
             words,
@@ -212,7 +212,7 @@ impl Plane {
     pub fn same(&self, other: &Plane) -> bool
         requires { partitions_of self.now ≡ partitions_of other.now }
         ensures value { result ≡ is_same self.now other.now }
-        ensures equal { IsTrue result ↔ (self.now ≡ other.now) }
+        ensures iff { IsTrue result ↔ (self.now ≡ other.now) }
     {
         let used = bits::words_for(self.partitions);
         bits::are_equal(&self.words[..used], &other.words[..used])
@@ -221,7 +221,7 @@ impl Plane {
     /// The number of elements.
     pub fn count(&self) -> u32
         ensures value { result ≡ size self.now }
-        ensures most { result ≤ partitions_of self.now }
+        ensures bound { result ≤ partitions_of self.now }
     {
         bits::count(&self.words[..bits::words_for(self.partitions)])
     }
@@ -229,7 +229,7 @@ impl Plane {
     /// The elements, in rising order.
     pub fn iter(&self) -> Elements<'_>
         ensures value { result ≡ elements self.now }
-        ensures few { length result ≤ MOST_PARTITIONS }
+        ensures bound { length result ≤ MOST_PARTITIONS }
     {
         Elements::new(self)
     }
@@ -239,7 +239,7 @@ impl Plane {
         ensures value { MatchOption result
             ((q : ℕ) → from ≤ q → is_in self.now q ≡ false)
             (IsLowestElement self.now from) }
-        ensures below { IfSome result (λ q. q < MOST_PARTITIONS) }
+        ensures bound { IfSome result (λ q. q < MOST_PARTITIONS) }
     {
         bits::lowest_from(&self.words[..bits::words_for(self.partitions)], from)
     }

@@ -47,7 +47,11 @@ impl PlaneRows {
     }
 
     /// As `new`, with capacity for this many rows. Fails only if memory runs out.
-    pub fn with_room(alloc: Global, partitions: u32, rows: usize) -> Result<PlaneRows, Memory>
+    pub fn with_row_capacity(
+        alloc: Global,
+        partitions: u32,
+        rows: usize,
+    ) -> Result<PlaneRows, Memory>
         requires { (1 ≤ partitions) × (partitions ≤ MOST_PARTITIONS) }
         ensures value { IfOk result (λ r. r ≡ no_rows partitions) }
         ensures valid { IfOk result IsValidRows }
@@ -71,7 +75,7 @@ impl PlaneRows {
     pub fn put(&mut self, member: u32, plane: Plane) -> Result<(), Memory>
         requires { partitions_of plane ≡ self.old.partitions }
         ensures value { OnOk result (self.new ≡ with_row self.old member plane) }
-        ensures this { OnOk result (row_of self.new member ≡ Some plane) }
+        ensures row { OnOk result (row_of self.new member ≡ Some plane) }
         ensures others { OnOk result ((m : ℕ)
             → m ≢ member → row_of self.new m ≡ row_of self.old m) }
         ensures err { OnErr result (self.new ≡ self.old) }
@@ -95,7 +99,7 @@ impl PlaneRows {
     pub fn remove_from(&mut self, member: u32, plane: &Plane)
         requires { partitions_of plane.now ≡ self.old.partitions }
         ensures value { self.new ≡ with_less self.old member plane.now }
-        ensures this { row_of self.new member
+        ensures row { row_of self.new member
             ≡ option_map (λ row. minus row plane.now) (row_of self.old member) }
         ensures others { (m : ℕ) → m ≢ member → row_of self.new m ≡ row_of self.old m }
         ensures partitions { self.new.partitions ≡ self.old.partitions }

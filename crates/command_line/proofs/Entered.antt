@@ -32,8 +32,8 @@ use Rattle.clap.specs.declared.error.kind.ErrorKind.TheVariants as kind
 use Rattle.clap.specs.declared.parser.matches.SubCommand.{SubCommand}
 use Rattle.clap.specs.declared.parser.matches.ArgMatches.TheViews.{out-SubCommand}
 use Rattle.clap.specs.declared.parser.matches.ValueSource.TheVariants.{CommandLine, DefaultValue}
-use Rattle.command_line.specs.CommandLine.{HasJob, HaveBadList, IsBadListTold, IsFlag, IsJobOf, IsNumber, IsRefusal, keycount_app, keycount_top, path}
-use Rattle.command_line.specs.Private.CommandLine.{IsCommand, ReadsNumber, TakesCount, TakesOptions, TakesScript, Tells, TellsBadList}
+use Rattle.command_line.specs.CommandLine.{HasJob, HaveBadList, IsBadListReport, IsFlag, IsJobOf, IsNumber, IsRefusal, keycount_app, keycount_top, path}
+use Rattle.command_line.specs.Private.CommandLine.{IsCommand, IsOptionalNumber, AreCountRows, AreOptionRows, AreScriptRows, IsUsageOf, ReportsBadList}
 use Rattle.command_line.specs.Topics.{AreTopicsOf, IsBadList}
 use Rattle.partitioner.specs.declared.topic.Topic.{Topic}
 use Rattle.command_line.specs.declared.words.Job.{Job}
@@ -92,7 +92,7 @@ unsigned_of most t passed = go (starts_with_minus t) refl
         let high_ok = rw minus at passed.3 in
         (numeral, omega (arith, ints), omega (arith, ints))
 
-pub number_in : (o : Option Text) (default most n : ℕ) → (1 ≤ default) × (default ≤ most) → ReadsNumber o most → IsNumber o default n → (1 ≤ n) × (n ≤ most)
+pub number_in : (o : Option Text) (default most n : ℕ) → (1 ≤ default) × (default ≤ most) → IsOptionalNumber o most → IsNumber o default n → (1 ≤ n) × (n ≤ most)
 number_in None default most n fits reads is = rw is fits
 number_in (Some t) default most n fits reads is =
     let number = unsigned_of most t reads in
@@ -425,7 +425,7 @@ abbrev help_shape : Shape
 help_shape = shape_at 3
 
 abbrev Named : Text → ℕ → Row → Type 0
-Named name most r = bytes_eq r.id name ≡ true → ReadsNumber (slice_get r.values 0) most
+Named name most r = bytes_eq r.id name ≡ true → IsOptionalNumber (slice_get r.values 0) most
 
 -- the row has a value; that of a numeric option is a number in range
 abbrev RowPasses : Row → Type 0
@@ -516,10 +516,10 @@ first_passes name rows all some = go (find (λ r. bytes_eq r.id name) rows) (λ 
     go None at e = absurd (true≢false (sym e))
     go (Some r) at e = (at r refl).0.0
 
-number_passes : (name : Text) (most : ℕ) (rows : List Row) → Each RowPasses rows → ((r : Row) → RowPasses r → Named name most r) → ReadsNumber (first_of name rows) most
+number_passes : (name : Text) (most : ℕ) (rows : List Row) → Each RowPasses rows → ((r : Row) → RowPasses r → Named name most r) → IsOptionalNumber (first_of name rows) most
 number_passes name most rows all pick = go (find (λ r. bytes_eq r.id name) rows) (λ r e. found_is RowPasses _ rows r all e)
   where
-    go : (o : Option Row) → ((r : Row) → o ≡ Some r → RowPasses r × (bytes_eq r.id name ≡ true)) → ReadsNumber (option_and_then (λ r. slice_get r.values 0) o) most
+    go : (o : Option Row) → ((r : Row) → o ≡ Some r → RowPasses r × (bytes_eq r.id name ≡ true)) → IsOptionalNumber (option_and_then (λ r. slice_get r.values 0) o) most
     go None at = tt
     go (Some r) at = pick r (at r refl).0 (at r refl).1
 
@@ -548,14 +548,14 @@ paths_given rows e = go (is_given (codes "file") rows) (is_given (codes "script"
 path_passes : (name : Text) (rows : List Row) → Each RowPasses rows → is_given name rows ≡ true → IsSome (first_of name rows)
 path_passes name rows all given = first_passes name rows all (given_some name rows given)
 
-options_pass : (rows : List Row) → Each RowPasses rows → TakesOptions rows
+options_pass : (rows : List Row) → Each RowPasses rows → AreOptionRows rows
 options_pass rows all = record {
   partitions = number_passes (codes "partitions") 4096 rows all (λ r passes. passes.1);
   column = number_passes (codes "column") 65535 rows all (λ r passes. passes.2);
   topic_column = number_passes (codes "topic-column") 65535 rows all (λ r passes. passes.4);
 }
 
-count_taken : (words : List Text) → level_fault count_shape [] nothing_held words false [] ≡ [] → TakesCount (rows_after count_shape.rules [] words)
+count_taken : (words : List Text) → level_fault count_shape [] nothing_held words false [] ≡ [] → AreCountRows (rows_after count_shape.rules [] words)
 count_taken words e =
     let parts = level_parts count_shape [] words false [] e in
     let rows = rows_after count_shape.rules [] words in
@@ -567,7 +567,7 @@ count_taken words e =
 
 script_taken : (s : Shape) → Each (Keeps RowPasses s) s.rules → Each (KeepsDefault RowPasses s) s.rules
     → ((rows : List Row) → check_fault s rows false ≡ [] → (is_given (codes "file") rows ≡ true) × (is_given (codes "script") rows ≡ true))
-    → (words : List Text) → level_fault s [] nothing_held words false [] ≡ [] → TakesScript (rows_after s.rules [] words)
+    → (words : List Text) → level_fault s [] nothing_held words false [] ≡ [] → AreScriptRows (rows_after s.rules [] words)
 script_taken s keeps defaults paths words e =
     let parts = level_parts s [] words false [] e in
     let rows = rows_after s.rules [] words in
@@ -580,15 +580,15 @@ script_taken s keeps defaults paths words e =
       batch = number_passes (codes "batch") 1000000 rows all (λ r passes. passes.3);
     }
 
-replay_taken : (words : List Text) → level_fault replay_shape [] nothing_held words false [] ≡ [] → TakesScript (rows_after replay_shape.rules [] words)
+replay_taken : (words : List Text) → level_fault replay_shape [] nothing_held words false [] ≡ [] → AreScriptRows (rows_after replay_shape.rules [] words)
 replay_taken = script_taken replay_shape replay_keeps replay_defaults paths_given
 
-run_taken : (words : List Text) → level_fault run_shape [] nothing_held words false [] ≡ [] → TakesScript (rows_after run_shape.rules [] words)
+run_taken : (words : List Text) → level_fault run_shape [] nothing_held words false [] ≡ [] → AreScriptRows (rows_after run_shape.rules [] words)
 run_taken = script_taken run_shape replay_keeps replay_defaults paths_given
 
 -- what clap has checked of the words after the subcommand of this name
 abbrev Takes : Text → List Row → Type 0
-Takes name rows = ((name ≡ codes "count") × TakesCount rows) ⊎ (((name ≡ codes "replay") × TakesScript rows) ⊎ ((name ≡ codes "run") × TakesScript rows))
+Takes name rows = ((name ≡ codes "count") × AreCountRows rows) ⊎ (((name ≡ codes "replay") × AreScriptRows rows) ⊎ ((name ≡ codes "run") × AreScriptRows rows))
 
 -- ---- the program
 
@@ -634,9 +634,9 @@ taken_job words e =
     let elsewhere = walk_stop keycount_built.top (names_of keycount_built) refl words (walk_from nothing_held) parts.0 tt in
     job_entered stop elsewhere (subcommand_given (matches_of keycount_app words) _ parts.2) parts.1
 
-pub told : (words : List Text) (usage : Usage) (e : Error) (kinds : Kinds) → kinds ≡ fault_of keycount_app words → Tells usage (kind_of e) → HasKind kinds e → IsRefusal words usage
-told words (Help text) e kinds same tells (inl memory) =
-    elim tells [
+pub reported : (words : List Text) (usage : Usage) (e : Error) (kinds : Kinds) → kinds ≡ fault_of keycount_app words → IsUsageOf usage (kind_of e) → HasKind kinds e → IsRefusal words usage
+reported words (Help text) e kinds same reports (inl memory) =
+    elim reports [
       | inl help ↦
           let no : ⊥ = cc in
           absurd no
@@ -644,38 +644,38 @@ told words (Help text) e kinds same tells (inl memory) =
           let no : ⊥ = cc in
           absurd no
     ]
-told words (Help text) e kinds same tells (inr among) = (kind_of e, subst (λ ks. IsAmong (kind_of e) ks) same among, tells)
-told words (Bad text) e kinds same tells (inl memory) = absurd (tells.2 memory)
-told words (Bad text) e kinds same tells (inr among) = inl (kind_of e, subst (λ ks. IsAmong (kind_of e) ks) same among, tells.0, tells.1)
-told words Memory e kinds same tells has = tt
+reported words (Help text) e kinds same reports (inr among) = (kind_of e, subst (λ ks. IsAmong (kind_of e) ks) same among, reports)
+reported words (Bad text) e kinds same reports (inl memory) = absurd (reports.2 memory)
+reported words (Bad text) e kinds same reports (inr among) = inl (kind_of e, subst (λ ks. IsAmong (kind_of e) ks) same among, reports.0, reports.1)
+reported words Memory e kinds same reports has = tt
 
-pub bad_told : (rows : List Row) (usage : Usage) → IsBadList (first_of (codes "topics") rows) → IsBadListTold usage → TellsBadList rows usage
-bad_told rows (Help text) bad tells = tells
-bad_told rows (Bad text) bad tells = (bad, tells)
-bad_told rows Memory bad tells = tt
+pub reports_bad_list : (rows : List Row) (usage : Usage) → IsBadList (first_of (codes "topics") rows) → IsBadListReport usage → ReportsBadList rows usage
+reports_bad_list rows (Help text) bad reports = reports
+reports_bad_list rows (Bad text) bad reports = (bad, reports)
+reports_bad_list rows Memory bad reports = tt
 
-pub list_told : (words : List Text) (name : Text) (rows : List Row) (usage : Usage) → fault_of keycount_app words ≡ []
-    → subcommand_of keycount_app words ≡ Some (name, rows) → TellsBadList rows usage → IsRefusal words usage
-list_told words name rows (Help text) taken found tells = absurd tells
-list_told words name rows (Bad text) taken found tells =
-    inr (record { name = name; rows = rows; taken = taken; subcommand = found; list = tells.0 }, tells.1)
-list_told words name rows Memory taken found tells = tt
+pub bad_list_is_refusal : (words : List Text) (name : Text) (rows : List Row) (usage : Usage) → fault_of keycount_app words ≡ []
+    → subcommand_of keycount_app words ≡ Some (name, rows) → ReportsBadList rows usage → IsRefusal words usage
+bad_list_is_refusal words name rows (Help text) taken found reports = absurd reports
+bad_list_is_refusal words name rows (Bad text) taken found reports =
+    inr (record { name = name; rows = rows; taken = taken; subcommand = found; list = reports.0 }, reports.1)
+bad_list_is_refusal words name rows Memory taken found reports = tt
 
 topics_of_job : (rows : List Row) (job : Job) → HasJob rows job → (topics : List Topic) × AreTopicsOf (first_of (codes "topics") rows) topics
 topics_of_job rows (Count file options) has = (options.topics.items, has.1.topics)
 topics_of_job rows (Replay file script options) has = (options.topics.items, has.options_are.topics)
 topics_of_job rows (Run file script options) has = (options.topics.items, has.options_are.topics)
 
-pub bad_list_told : (words : List Text) (answer : Result Job Usage) → IfOk answer (IsJobOf words) → IfErr answer (IsRefusal words)
-    → HaveBadList words → IsErrAnd answer IsBadListTold
-bad_list_told words (Ok job) is refusal bad =
+pub bad_list_reported : (words : List Text) (answer : Result Job Usage) → IfOk answer (IsJobOf words) → IfErr answer (IsRefusal words)
+    → HaveBadList words → IsErrAnd answer IsBadListReport
+bad_list_reported words (Ok job) is refusal bad =
     let topics = topics_of_job is.rows job is.found in
     let rows : is.rows ≡ bad.rows = ap (λ (o : Option (Text × List Row)). option_map_or (λ p. p.1) o []) (sym is.subcommand ∙ bad.subcommand) in
     bad.list topics.0 (subst (λ rows. AreTopicsOf (first_of (codes "topics") rows) topics.0) rows topics.1)
-bad_list_told words (Err (Help text)) is refusal bad = subst (λ kinds. IsAmong refusal.0 kinds) bad.taken refusal.1
-bad_list_told words (Err (Bad text)) is (inl fault) bad = absurd (subst (λ kinds. IsAmong fault.0 kinds) bad.taken fault.1)
-bad_list_told words (Err (Bad text)) is (inr list) bad = list.1
-bad_list_told words (Err Memory) is refusal bad = tt
+bad_list_reported words (Err (Help text)) is refusal bad = subst (λ kinds. IsAmong refusal.0 kinds) bad.taken refusal.1
+bad_list_reported words (Err (Bad text)) is (inl fault) bad = absurd (subst (λ kinds. IsAmong fault.0 kinds) bad.taken fault.1)
+bad_list_reported words (Err (Bad text)) is (inr list) bad = list.1
+bad_list_reported words (Err Memory) is refusal bad = tt
 
 -- the matches of words that clap accepts: the subcommand of a job, with its arguments
 pub record MatchesJob (words : List Text) (m : ArgMatches) : Type 0 where
@@ -700,19 +700,19 @@ matches_are command words m app found faults =
       tested = job.3;
     }
 
-pub told_rows : {Z : Type 0} (o : Option (Box SubCommand Z)) (wanted name : Text) (rows told_by : List Row) → subcommand_rows o ≡ Some (wanted, rows)
-    → Some name ≡ option_map (λ b. (out-SubCommand (box_value b)).name.now) o → Some told_by ≡ option_map (λ p. p.1) (subcommand_rows o)
-    → (wanted ≡ name) × (rows ≡ told_by)
-told_rows None wanted name rows told_by e h k = let no : ⊥ = cc in absurd no
-told_rows (Some b) wanted name rows told_by e h k =
+pub entered_rows : {Z : Type 0} (o : Option (Box SubCommand Z)) (wanted name : Text) (rows rows_found : List Row) → subcommand_rows o ≡ Some (wanted, rows)
+    → Some name ≡ option_map (λ b. (out-SubCommand (box_value b)).name.now) o → Some rows_found ≡ option_map (λ p. p.1) (subcommand_rows o)
+    → (wanted ≡ name) × (rows ≡ rows_found)
+entered_rows None wanted name rows rows_found e h k = let no : ⊥ = cc in absurd no
+entered_rows (Some b) wanted name rows rows_found e h k =
     let pair : ◌≡◌ {A = Text × List Row} ((out-SubCommand (box_value b)).name.now, rows_of (found_of (out-SubCommand (box_value b)).matches)) (wanted, rows) = cc in
     let named = ap (λ (p : Text × List Row). p.0) pair in
     let held = ap (λ (p : Text × List Row). p.1) pair in
     (cc, cc)
 
-pub none_told : {Z : Type 0} (o : Option (Box SubCommand Z)) (wanted : Text) (rows : List Row) → subcommand_rows o ≡ Some (wanted, rows) → None ≡ option_map (λ p. p.1) (subcommand_rows o) → ⊥
-none_told None wanted rows e h = cc
-none_told (Some b) wanted rows e h = cc
+pub none_entered : {Z : Type 0} (o : Option (Box SubCommand Z)) (wanted : Text) (rows : List Row) → subcommand_rows o ≡ Some (wanted, rows) → None ≡ option_map (λ p. p.1) (subcommand_rows o) → ⊥
+none_entered None wanted rows e h = cc
+none_entered (Some b) wanted rows e h = cc
 
 -- ---- which job was named
 
@@ -722,17 +722,17 @@ count_is_no_replay e = true≢false (ap (λ t. bytes_eq t (codes "count")) e)
 count_is_no_run : codes "count" ≡ codes "run" → ⊥
 count_is_no_run e = true≢false (ap (λ t. bytes_eq t (codes "count")) e)
 
-pub takes_count : (name : Text) (rows : List Row) → Takes name rows → name ≡ codes "count" → TakesCount rows
+pub takes_count : (name : Text) (rows : List Row) → Takes name rows → name ≡ codes "count" → AreCountRows rows
 takes_count name rows (inl takes) is = takes.1
 takes_count name rows (inr (inl takes)) is = absurd (count_is_no_replay (sym is ∙ takes.0))
 takes_count name rows (inr (inr takes)) is = absurd (count_is_no_run (sym is ∙ takes.0))
 
-pub takes_replay : (name : Text) (rows : List Row) → Takes name rows → name ≡ codes "replay" → TakesScript rows
+pub takes_replay : (name : Text) (rows : List Row) → Takes name rows → name ≡ codes "replay" → AreScriptRows rows
 takes_replay name rows (inl takes) is = absurd (count_is_no_replay (sym takes.0 ∙ is))
 takes_replay name rows (inr (inl takes)) is = takes.1
 takes_replay name rows (inr (inr takes)) is = takes.1
 
-pub takes_run : (name : Text) (rows : List Row) → Takes name rows → name ≡ codes "run" → TakesScript rows
+pub takes_run : (name : Text) (rows : List Row) → Takes name rows → name ≡ codes "run" → AreScriptRows rows
 takes_run name rows (inl takes) is = absurd (count_is_no_run (sym takes.0 ∙ is))
 takes_run name rows (inr (inl takes)) is = takes.1
 takes_run name rows (inr (inr takes)) is = takes.1

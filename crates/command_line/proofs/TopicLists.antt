@@ -28,10 +28,10 @@ no_topics = record {
   within = omega arith;
 }
 
-pub more_known : (topics : List Topic) (topic : Topic) → MayBeTopics topics → MayFollow topics topic
+pub valid_with_next : (topics : List Topic) (topic : Topic) → MayBeTopics topics → MayFollow topics topic
     → is_name topic.name ≡ true → 1 ≤ topic.partitions → MayBeTopics (topics ++ topic ∷ [])
-more_known topics topic known follows named some = record {
-  few = let e = length_push topics topic in let room = follows.room in omega (arith, e, room);
+valid_with_next topics topic known follows named some = record {
+  few = let e = length_push topics topic in let capacity = follows.capacity in omega (arith, e, capacity);
   named = All-push (λ (t : Topic). is_name t.name ≡ true) topics topic known.named named;
   distinct = all_pairs_push (λ (t u : Topic). t.name ≢ u.name) topics topic known.distinct (λ k d below. follows.named k d below);
   each = All-push (λ (t : Topic). 1 ≤ t.partitions) topics topic known.each some;
@@ -43,7 +43,7 @@ pub has_followed : (before : List Topic) (topic : Topic) (more : List Topic) →
 has_followed before topic more known =
     let sizes = length-append before (topic ∷ more) in
     record {
-      room = let few = known.few in omega (arith, sizes, few);
+      capacity = let few = known.few in omega (arith, sizes, few);
       named = λ k d below same.
           let first : get_or (before ++ topic ∷ more) k d ≡ get_or before k d = get_or_append_left before (topic ∷ more) d k below in
           let second : get_or (before ++ topic ∷ more) (length before) d ≡ topic = get_or_at before topic more d (length before) refl in
@@ -56,20 +56,20 @@ has_followed before topic more known =
           omega (arith, sums, rest, all);
     }
 
-pub said_next : {A B : Type 0} (f : A → Option B) (items : List A) (item : A) (rest : List A) (said all : List B)
-    → map f items ≡ map Some said → map f (items ++ item ∷ rest) ≡ map Some all
-    → (next : B) × (more : List B) × (f item ≡ Some next) × (all ≡ said ++ next ∷ more)
-said_next f [] item rest [] [] e h = let no : ⊥ = cc in absurd no
-said_next f [] item rest [] (b ∷ bs) e h =
-    let said : f item ≡ Some b = cc in
-    (b, bs, said, refl)
-said_next f [] item rest (s ∷ ss) all e h = let no : ⊥ = cc in absurd no
-said_next f (a ∷ others) item rest [] all e h = let no : ⊥ = cc in absurd no
-said_next f (a ∷ others) item rest (s ∷ ss) [] e h = let no : ⊥ = cc in absurd no
-said_next f (a ∷ others) item rest (s ∷ ss) (b ∷ bs) e h =
+pub next_parsed : {A B : Type 0} (f : A → Option B) (items : List A) (item : A) (rest : List A) (parsed all : List B)
+    → map f items ≡ map Some parsed → map f (items ++ item ∷ rest) ≡ map Some all
+    → (next : B) × (more : List B) × (f item ≡ Some next) × (all ≡ parsed ++ next ∷ more)
+next_parsed f [] item rest [] [] e h = let no : ⊥ = cc in absurd no
+next_parsed f [] item rest [] (b ∷ bs) e h =
+    let parsed : f item ≡ Some b = cc in
+    (b, bs, parsed, refl)
+next_parsed f [] item rest (s ∷ ss) all e h = let no : ⊥ = cc in absurd no
+next_parsed f (a ∷ others) item rest [] all e h = let no : ⊥ = cc in absurd no
+next_parsed f (a ∷ others) item rest (s ∷ ss) [] e h = let no : ⊥ = cc in absurd no
+next_parsed f (a ∷ others) item rest (s ∷ ss) (b ∷ bs) e h =
     let so_far : map f others ≡ map Some ss = cc in
     let in_all : map f (others ++ item ∷ rest) ≡ map Some bs = cc in
-    let next = said_next f others item rest ss bs so_far in_all in
+    let next = next_parsed f others item rest ss bs so_far in_all in
     let same : s ≡ b = cc in
     let more : bs ≡ ss ++ next.0 ∷ next.1 = next.3 in
     (next.0, next.1, next.2, cc)
@@ -83,34 +83,34 @@ split_there all before n item so_far turn =
     ∙ ap (λ x. before ++ x ∷ drop (n + 1) all) (sym turn.1)
 
 -- a list with an item that does not parse is not valid
-pub nothing_in : (list : List ℕ) (before : List (List ℕ)) (item : List ℕ) (rest : List (List ℕ)) (said : List Topic)
-    → slice_split is_comma list ≡ before ++ item ∷ rest → map topic_of before ≡ map Some said → topic_of item ≡ None
+pub invalid_item_rejects : (list : List ℕ) (before : List (List ℕ)) (item : List ℕ) (rest : List (List ℕ)) (parsed : List Topic)
+    → slice_split is_comma list ≡ before ++ item ∷ rest → map topic_of before ≡ map Some parsed → topic_of item ≡ None
     → IsBadList (Some list)
-nothing_in list before item rest said there so_far none topics says =
-    let next = said_next topic_of before item rest said topics so_far (ap (λ items. map topic_of items) (sym there) ∙ says.items) in
-    let said : topic_of item ≡ Some next.0 = next.2 in
+invalid_item_rejects list before item rest parsed there so_far none topics items_parse =
+    let next = next_parsed topic_of before item rest parsed topics so_far (ap (λ items. map topic_of items) (sym there) ∙ items_parse.items) in
+    let parsed : topic_of item ≡ Some next.0 = next.2 in
     let no : ⊥ = cc in
     no
 
 -- nor is one with an item whose topic may not follow those before it
-pub no_room_in : (list : List ℕ) (before : List (List ℕ)) (item : List ℕ) (rest : List (List ℕ)) (said : List Topic) (topic : Topic)
-    → slice_split is_comma list ≡ before ++ item ∷ rest → map topic_of before ≡ map Some said → topic_of item ≡ Some topic
-    → (MayFollow said topic → ⊥) → IsBadList (Some list)
-no_room_in list before item rest said topic there so_far is never topics says =
-    let next = said_next topic_of before item rest said topics so_far (ap (λ items. map topic_of items) (sym there) ∙ says.items) in
-    let said_it : topic_of item ≡ Some next.0 = next.2 in
+pub misfit_item_rejects : (list : List ℕ) (before : List (List ℕ)) (item : List ℕ) (rest : List (List ℕ)) (parsed : List Topic) (topic : Topic)
+    → slice_split is_comma list ≡ before ++ item ∷ rest → map topic_of before ≡ map Some parsed → topic_of item ≡ Some topic
+    → (MayFollow parsed topic → ⊥) → IsBadList (Some list)
+misfit_item_rejects list before item rest parsed topic there so_far is never topics items_parse =
+    let next = next_parsed topic_of before item rest parsed topics so_far (ap (λ items. map topic_of items) (sym there) ∙ items_parse.items) in
+    let parsed_item : topic_of item ≡ Some next.0 = next.2 in
     let same : next.0 ≡ topic = cc in
-    never (subst (λ t. MayFollow said t) same (has_followed said next.0 next.1 (subst MayBeTopics next.3 says.rules.known)))
+    never (subst (λ t. MayFollow parsed t) same (has_followed parsed next.0 next.1 (subst MayBeTopics next.3 items_parse.rules.known)))
 
-pub some_said : (list : List ℕ) (topics : List Topic) → map topic_of (slice_split is_comma list) ≡ map Some topics
+pub has_a_topic : (list : List ℕ) (topics : List Topic) → map topic_of (slice_split is_comma list) ≡ map Some topics
     → 1 ≤ length topics
-some_said list topics says =
+has_a_topic list topics items_parse =
     let items = slice_split is_comma list in
-    let sizes : length (map topic_of items) ≡ length (map Some topics) = ap length says in
-    let said = length-map items topic_of in
-    let told = length-map topics Some in
+    let sizes : length (map topic_of items) ≡ length (map Some topics) = ap length items_parse in
+    let parsed = length-map items topic_of in
+    let reported = length-map topics Some in
     let some = length-slice_split is_comma list in
-    omega (arith, sizes, said, told, some)
+    omega (arith, sizes, parsed, reported, some)
 
 -- ---- one item
 
@@ -118,10 +118,10 @@ no_name_or_count : (b : Bool) (topic : Topic) → cond (b && false) (Some topic)
 no_name_or_count true topic = refl
 no_name_or_count false topic = refl
 
-pub topic_said : (item : List ℕ) (topic : Topic) → topic_of item ≡ Some topic
+pub parsed_topic_fits : (item : List ℕ) (topic : Topic) → topic_of item ≡ Some topic
     → (is_name topic.name ≡ true) × (1 ≤ topic.partitions) × (topic.partitions ≤ 4096)
 unfolding topic_of
-topic_said item topic e =
+parsed_topic_fits item topic e =
     at (is_name (before_first is_colon item)) (is_count (after_first is_colon item)) refl refl e
   where
     at : (named counts : Bool) → is_name (before_first is_colon item) ≡ named → is_count (after_first is_colon item) ≡ counts
@@ -130,21 +130,21 @@ topic_said item topic e =
     at true true named counts e =
         let some : 1 ≤ digits_value 10 (after_first is_colon item) = grind (arith, nat_tests) in
         let few : digits_value 10 (after_first is_colon item) ≤ 4096 = grind (arith, nat_tests) in
-        let said : Topic = record { name = before_first is_colon item; partitions = digits_value 10 (after_first is_colon item) } in
-        let same : said ≡ topic = cc in
+        let parsed : Topic = record { name = before_first is_colon item; partitions = digits_value 10 (after_first is_colon item) } in
+        let same : parsed ≡ topic = cc in
         subst (λ (t : Topic). (is_name t.name ≡ true) × (1 ≤ t.partitions) × (t.partitions ≤ 4096)) same (named, some, few)
     at true false named counts e = let no : ⊥ = cc in absurd no
     at false counted named counts e = let no : ⊥ = cc in absurd no
 
-pub nothing_said : (item : List ℕ) → position_or_len is_colon item ≡ length item → topic_of item ≡ None
+pub no_colon_no_topic : (item : List ℕ) → position_or_len is_colon item ≡ length item → topic_of item ≡ None
 unfolding topic_of
-nothing_said item e =
+no_colon_no_topic item e =
     let none : after_first is_colon item ≡ [] = drop_all (position_or_len is_colon item + 1) item (omega (arith, e)) in
     rw none (no_name_or_count (is_name (before_first is_colon item)) _)
 
 pub may_be_topics : (list : Option (List ℕ)) (topics : List Topic) → AreTopicsOf list topics → MayBeTopics topics
 may_be_topics None topics none = rw none no_topics
-may_be_topics (Some list) topics says = says.rules.known
+may_be_topics (Some list) topics items_parse = items_parse.rules.known
 
 refused : (b : Bool) (n : ℕ) → (b ≡ true → ⊥) → cond b (Some n) None ≡ None
 refused true n never = absurd (never refl)

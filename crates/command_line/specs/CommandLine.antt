@@ -157,10 +157,10 @@ abbrev pub bad_topics : Text
 bad_topics = codes "bad topics\n"
 
 -- the list is reported as not valid, unless memory runs out
-abbrev pub IsBadListTold : Usage → Type 0
-IsBadListTold (Help text) = ⊥
-IsBadListTold (Bad text) = string_bytes text ≡ bad_topics
-IsBadListTold Memory = ⊤
+abbrev pub IsBadListReport : Usage → Type 0
+IsBadListReport (Help text) = ⊥
+IsBadListReport (Bad text) = string_bytes text ≡ bad_topics
+IsBadListReport Memory = ⊤
 
 -- Why there is no job: clap rejects the words (a request for help or the version becomes `Help`,
 -- any other error `Bad`), or it accepts them and the list of topics is not valid.

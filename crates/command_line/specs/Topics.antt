@@ -35,14 +35,14 @@ topic_of item =
     else None
 
 -- the list, split at its commas, is of these topics, and they are valid together
-pub record SaysTopics (list : List ℕ) (topics : List Topic) : Type 0 where
+pub record ListsTopics (list : List ℕ) (topics : List Topic) : Type 0 where
   pub items : map topic_of (slice_split is_comma list) ≡ map Some topics
   pub rules : AreTopics topics
 
 -- the topics of a list; none without a list
 abbrev pub AreTopicsOf : Option (List ℕ) → List Topic → Type 0
 AreTopicsOf None topics = topics ≡ []
-AreTopicsOf (Some list) topics = SaysTopics list topics
+AreTopicsOf (Some list) topics = ListsTopics list topics
 
 -- there is a list, and it is not one of topics
 abbrev pub IsBadList : Option (List ℕ) → Type 0

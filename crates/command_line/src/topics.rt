@@ -4,7 +4,7 @@ ghost use Rattle.std.specs.Prelude.{◌≡◌, ◌≤◌, ◌↔◌, IfOk, IsTru
 ghost use Rattle.std.specs.Char.{is_ascii_digit};
 ghost use Rattle.std.specs.List.{list_all};
 ghost use Rattle.partitioner.specs.Topic.{MayBeTopics, partitions_in};
-ghost use Rattle.command_line.specs.Private.Topics.{IsNew, MayFollow, TellsTopics, count_of};
+ghost use Rattle.command_line.specs.Private.Topics.{IsNew, MayFollow, AreParsedTopics, count_of};
 ghost use Rattle.command_line.specs.Topics.{topic_of};
 
 use lane_words::{MOST_PARTITIONS, MOST_TOPICS};
@@ -15,8 +15,8 @@ use std::alloc::{AllocError, Global};
 const MOST_DIGITS: usize = 4;
 
 /// Parses a list `NAME:N,NAME:N`; `None` where it is not valid.
-pub fn topics_said(alloc: Global, list: &str) -> Result<Option<Vec<Topic>>, AllocError>
-    ensures { IfOk result (TellsTopics list.now) }
+pub fn parse_topics(alloc: Global, list: &str) -> Result<Option<Vec<Topic>>, AllocError>
+    ensures { IfOk result (AreParsedTopics list.now) }
 {
     let mut topics = Vec::with_capacity(alloc, MOST_TOPICS)?;
     for item in list.split(',') {
@@ -46,7 +46,7 @@ fn topic_of(item: &str) -> Option<Topic>
 fn count_of(digits: &str) -> Option<u32>
     ensures { result ≡ count_of digits.now }
 {
-    if digits.len() > MOST_DIGITS || !has_digits_alone(digits) {
+    if digits.len() > MOST_DIGITS || !is_all_digits(digits) {
         return None;
     }
     let Ok(number) = digits.parse::<u32>() else {
@@ -55,7 +55,7 @@ fn count_of(digits: &str) -> Option<u32>
     (1..=MOST_PARTITIONS).contains(&number).then_some(number)
 }
 
-fn has_digits_alone(text: &str) -> bool
+fn is_all_digits(text: &str) -> bool
     ensures { result ≡ list_all is_ascii_digit text.now }
 {
     text.as_bytes().iter().all(|byte| byte.is_ascii_digit())
@@ -64,8 +64,8 @@ fn has_digits_alone(text: &str) -> bool
 /// Whether a topic may follow these: they are fewer than `MOST_TOPICS`, none has its name, and all
 /// together have at most `MOST_PARTITIONS` partitions.
 fn may_follow(topics: &[Topic], topic: &Topic) -> bool
-    requires known { MayBeTopics topics.now }
-    requires few { topic.now.partitions ≤ MOST_PARTITIONS }
+    requires topics { MayBeTopics topics.now }
+    requires bound { topic.now.partitions ≤ MOST_PARTITIONS }
     ensures { IsTrue result ↔ MayFollow topics.now topic.now }
 {
     topics.len() < MOST_TOPICS

@@ -4,9 +4,9 @@ ghost use Rattle.std.specs.Prelude.{◌≡◌, ◌≤◌, ◌-◌, ◌^◌, fals
 ghost use Rattle.clap.specs.Words.{app_of, fault_of, first_of, found_of, kind_of, rows_of, rule_of};
 ghost use Rattle.clap.specs.Simple.{App, with_rule, with_subcommand};
 ghost use Rattle.clap.specs.Walk.{Rule};
-ghost use Rattle.command_line.specs.CommandLine.{HasOptions, HasScript, HaveBadList, IsBadListTold, IsJobOf, IsNumber, IsRefusal};
+ghost use Rattle.command_line.specs.CommandLine.{HasOptions, HasScript, HaveBadList, IsBadListReport, IsJobOf, IsNumber, IsRefusal};
 ghost use Rattle.command_line.specs.Topics.{AreTopicsOf};
-ghost use Rattle.command_line.specs.Private.CommandLine.{IsCommand, IsJobOfRows, ReadsNumber, TakesCount, TakesOptions, TakesScript, Tells, TellsBadList};
+ghost use Rattle.command_line.specs.Private.CommandLine.{IsCommand, IsJobOfRows, IsOptionalNumber, AreCountRows, AreOptionRows, AreScriptRows, IsUsageOf, ReportsBadList};
 ghost use Rattle.command_line.specs.CommandLine.{count_app, flag, keycount_app, keycount_top, number_option, path, replay_app, run_app, text_option, with_options, with_script};
 
 use crate::help::{AFTER_COUNT, AFTER_KEYCOUNT, AFTER_REPLAY, AFTER_RUN};
@@ -252,7 +252,7 @@ fn text_of<'a>(given: &ArgMatches<'a>, id: &str) -> &'a str
 
 /// The number of an option, which clap has checked, or its default.
 fn number_of(given: &ArgMatches, id: &str, default: u32) -> u32
-    requires { ReadsNumber (first_of id.now (rows_of (found_of given.now))) (2 ^ 32 - 1) }
+    requires { IsOptionalNumber (first_of id.now (rows_of (found_of given.now))) (2 ^ 32 - 1) }
     ensures { IsNumber (first_of id.now (rows_of (found_of given.now))) default result }
 {
     let Some(text) = given.get_str(id) else {
@@ -264,8 +264,8 @@ fn number_of(given: &ArgMatches, id: &str, default: u32) -> u32
     number
 }
 
-fn bad_list(alloc: Global) -> Usage
-    ensures { IsBadListTold result }
+fn bad_topics_usage(alloc: Global) -> Usage
+    ensures { IsBadListReport result }
 {
     match String::from_str(alloc, BAD_TOPICS) {
         Ok(line) => Usage::Bad(line),
@@ -277,25 +277,25 @@ fn bad_list(alloc: Global) -> Usage
 fn topics_of(alloc: Global, given: &ArgMatches) -> Result<Vec<Topic>, Usage>
     ensures topics { let list = first_of (codes "topics") (rows_of (found_of given.now)) in
         IfOk result (λ topics. AreTopicsOf list topics.items) }
-    ensures bad { IfErr result (TellsBadList (rows_of (found_of given.now))) }
+    ensures fault { IfErr result (ReportsBadList (rows_of (found_of given.now))) }
 {
     let Some(list) = given.get_str("topics") else {
         return Ok(Vec::new(alloc));
     };
-    match topics::topics_said(alloc, list) {
+    match topics::parse_topics(alloc, list) {
         Ok(Some(topics)) => Ok(topics),
-        Ok(None) => Err(bad_list(alloc)),
+        Ok(None) => Err(bad_topics_usage(alloc)),
         Err(_) => Err(Usage::Memory),
     }
 }
 
 /// The options of a job, from what clap found, with this batch.
 fn options_of(alloc: Global, given: &ArgMatches, batch: u32) -> Result<Options, Usage>
-    requires tested { TakesOptions (rows_of (found_of given.now)) }
+    requires present { AreOptionRows (rows_of (found_of given.now)) }
     requires batch { (1 ≤ batch) × (batch ≤ MOST_BATCH) }
     ensures options { IfOk result
         (λ options. HasOptions (rows_of (found_of given.now)) options × (options.batch ≡ batch)) }
-    ensures bad { IfErr result (TellsBadList (rows_of (found_of given.now))) }
+    ensures fault { IfErr result (ReportsBadList (rows_of (found_of given.now))) }
 {
     let topics = topics_of(alloc, given)?;
     Ok(Options {
@@ -309,9 +309,9 @@ fn options_of(alloc: Global, given: &ArgMatches, batch: u32) -> Result<Options, 
 }
 
 fn count_job<'a>(alloc: Global, given: &ArgMatches<'a>) -> Result<Job<'a>, Usage>
-    requires { TakesCount (rows_of (found_of given.now)) }
+    requires { AreCountRows (rows_of (found_of given.now)) }
     ensures job { IfOk result (IsJobOfRows (codes "count") (rows_of (found_of given.now))) }
-    ensures bad { IfErr result (TellsBadList (rows_of (found_of given.now))) }
+    ensures fault { IfErr result (ReportsBadList (rows_of (found_of given.now))) }
 {
     let file = text_of(given, "file");
     let options = options_of(alloc, given, DEFAULT_BATCH)?;
@@ -319,11 +319,14 @@ fn count_job<'a>(alloc: Global, given: &ArgMatches<'a>) -> Result<Job<'a>, Usage
 }
 
 /// The paths and options of a job with a script, from what clap found.
-fn scripted<'a>(alloc: Global, given: &ArgMatches<'a>) -> Result<(&'a str, &'a str, Options), Usage>
-    requires { TakesScript (rows_of (found_of given.now)) }
+fn paths_and_options<'a>(
+    alloc: Global,
+    given: &ArgMatches<'a>,
+) -> Result<(&'a str, &'a str, Options), Usage>
+    requires { AreScriptRows (rows_of (found_of given.now)) }
     ensures script { IfOk result
         (λ parts. HasScript (rows_of (found_of given.now)) parts.0.now parts.1.now parts.2) }
-    ensures bad { IfErr result (TellsBadList (rows_of (found_of given.now))) }
+    ensures fault { IfErr result (ReportsBadList (rows_of (found_of given.now))) }
 {
     let file = text_of(given, "file");
     let script = text_of(given, "script");
@@ -333,11 +336,11 @@ fn scripted<'a>(alloc: Global, given: &ArgMatches<'a>) -> Result<(&'a str, &'a s
 }
 
 fn replay_job<'a>(alloc: Global, given: &ArgMatches<'a>) -> Result<Job<'a>, Usage>
-    requires { TakesScript (rows_of (found_of given.now)) }
+    requires { AreScriptRows (rows_of (found_of given.now)) }
     ensures job { IfOk result (IsJobOfRows (codes "replay") (rows_of (found_of given.now))) }
-    ensures bad { IfErr result (TellsBadList (rows_of (found_of given.now))) }
+    ensures fault { IfErr result (ReportsBadList (rows_of (found_of given.now))) }
 {
-    let (file, script, options) = scripted(alloc, given)?;
+    let (file, script, options) = paths_and_options(alloc, given)?;
     Ok(Job::Replay {
         file,
         script,
@@ -346,11 +349,11 @@ fn replay_job<'a>(alloc: Global, given: &ArgMatches<'a>) -> Result<Job<'a>, Usag
 }
 
 fn run_job<'a>(alloc: Global, given: &ArgMatches<'a>) -> Result<Job<'a>, Usage>
-    requires { TakesScript (rows_of (found_of given.now)) }
+    requires { AreScriptRows (rows_of (found_of given.now)) }
     ensures job { IfOk result (IsJobOfRows (codes "run") (rows_of (found_of given.now))) }
-    ensures bad { IfErr result (TellsBadList (rows_of (found_of given.now))) }
+    ensures fault { IfErr result (ReportsBadList (rows_of (found_of given.now))) }
 {
-    let (file, script, options) = scripted(alloc, given)?;
+    let (file, script, options) = paths_and_options(alloc, given)?;
     Ok(Job::Run {
         file,
         script,
@@ -360,7 +363,7 @@ fn run_job<'a>(alloc: Global, given: &ArgMatches<'a>) -> Result<Job<'a>, Usage>
 
 /// What an error of clap becomes.
 fn usage_of(alloc: Global, error: Error) -> Usage
-    ensures { Tells result (kind_of error) }
+    ensures { IsUsageOf result (kind_of error) }
 {
     let kind = error.kind();
     let Ok(text) = error.to_string(alloc) else {
@@ -381,7 +384,7 @@ fn usage_of(alloc: Global, error: Error) -> Usage
 pub fn read_words<'a>(alloc: Global, words: &'a [&'a str]) -> Result<Job<'a>, Usage>
     ensures job { IfOk result (IsJobOf (map (λ w. w.now) words.now)) }
     ensures usage { IfErr result (IsRefusal (map (λ w. w.now) words.now)) }
-    ensures list { HaveBadList (map (λ w. w.now) words.now) → IsErrAnd result IsBadListTold }
+    ensures topics { HaveBadList (map (λ w. w.now) words.now) → IsErrAnd result IsBadListReport }
 {
     let Ok(command) = keycount_command(alloc) else {
         return Err(Usage::Memory);

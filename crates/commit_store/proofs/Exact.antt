@@ -5,11 +5,11 @@ use Rattle.std.proofs.lemmas.Bool.{cases_eq, cases_lt}
 use Rattle.std.proofs.lemmas.List.{get_or_past, length-append, length-map, map-append, take-append-le, take-map, take_all}
 use Rattle.std.proofs.lemmas.List.Sums.{sum_by-cons}
 use Rattle.keyed_table.specs.Counts as counts
-use Rattle.keyed_table.proofs.Elements.{none-past, stands-somewhere}
+use Rattle.keyed_table.proofs.Elements.{none-past, occurs-somewhere}
 use Rattle.keyed_table.proofs.Raised.{counter-raised, length-raised}
-use Rattle.partition_log.specs.Keys.{IsWithoutRepeats, is_known, key_at, with_key}
+use Rattle.partition_log.specs.Keys.{IsWithoutRepeats, is_interned, key_at, with_key}
 use Rattle.partition_log.specs.Logs.{IsPlaceOf, with_record_at}
-use Rattle.key_numbers.proofs.Growth.{among, fresh, grows, known, stays_apart}
+use Rattle.key_index.proofs.Growth.{among, fresh, grows, known, stays_apart}
 use Rattle.partition_log.proofs.History.{names-same}
 use Rattle.partition_log.proofs.Valid.{goes-below, log-other, log-same}
 use Rattle.partition_log.proofs.Numbered.{by_number}
@@ -78,7 +78,7 @@ more_committed s l p from ids x a fits =
 
 pub have-counters : (s : Commits) (l : PartitionLogs) (p from : ℕ) (ids : List ℕ) → IsValidLogs l → Fits s l p from ids → length l.keys ≤ length s.counts → counts.HaveCounters s.counts ids
 have-counters s l p from ids a fits many x more =
-    let there = stands-somewhere ids x more in
+    let there = occurs-somewhere ids x more in
     omega (arith, there.2, numbers-below s l p from ids a fits there.0 there.1, many)
 
 -- a commit that fits keeps a store exact
@@ -119,14 +119,14 @@ one_at_0 [] (suc n) = refl
 one_at_0 (c ∷ cs) zero = refl
 one_at_0 (c ∷ cs) (suc n) = one_at_0 cs n
 
-pub counter-exact : (s : Commits) (room : ℕ) (l : PartitionLogs) → IsExact s l → IsExact (record s { counts = s.counts ++ 0 ∷ []; room = room }) l
-counter-exact s room l e = record {
+pub counter-exact : (s : Commits) (capacity : ℕ) (l : PartitionLogs) → IsExact s l → IsExact (record s { counts = s.counts ++ 0 ∷ []; capacity = capacity }) l
+counter-exact s capacity l e = record {
   within = e.within;
   counted = λ x. one_at_0 s.counts (id_of l.keys x) ∙ e.counted x;
   spare = λ n le. one_at_0 s.counts n ∙ e.spare n le;
 }
 
-same-number : (ks : List Key) (k x : Key) → IsWithoutRepeats ks → is_known ks x ≡ true → id_of (with_key ks k) x ≡ id_of ks x
+same-number : (ks : List Key) (k x : Key) → IsWithoutRepeats ks → is_interned ks x ≡ true → id_of (with_key ks k) x ≡ id_of ks x
 same-number ks k x apart h =
     let g = grows ks k in
     let old = known ks x h in
@@ -135,14 +135,14 @@ same-number ks k x apart h =
     let new = known (with_key ks k) x (among (with_key ks k) x (id_of ks x) within stands) in
     stays_apart ks k apart (id_of (with_key ks k) x) (id_of ks x) new.0 within (new.1 ∙ sym stands)
 
-later-number : (ks : List Key) (k x : Key) → is_known ks x ≡ false → length ks ≤ id_of (with_key ks k) x
+later-number : (ks : List Key) (k x : Key) → is_interned ks x ≡ false → length ks ≤ id_of (with_key ks k) x
 later-number ks k x h =
     elim (cases_lt (id_of (with_key ks k) x) (length ks)) [
       | inr le ↦ le
-      | inl lt ↦ absurd (at (is_known (with_key ks k) x) refl lt)
+      | inl lt ↦ absurd (at (is_interned (with_key ks k) x) refl lt)
     ]
   where
-    at : (b : Bool) → is_known (with_key ks k) x ≡ b → id_of (with_key ks k) x < length ks → ⊥
+    at : (b : Bool) → is_interned (with_key ks k) x ≡ b → id_of (with_key ks k) x < length ks → ⊥
     at true e lt =
         let g = grows ks k in
         let there = known (with_key ks k) x e in
@@ -177,11 +177,11 @@ longer-log l at key p a below =
 pub append-exact : (s : Commits) (l : PartitionLogs) (at : ℕ) (key : Key) → IsValidLogs l → IsPlaceOf l key at → IsExact s l → IsExact s (with_record_at l at key)
 append-exact s l at key a goes e = record {
   within = λ p. omega (arith, e.within p, longer-log l at key p a (goes-below l key at a goes));
-  counted = λ x. numbered (is_known l.keys x) x refl ∙ e.counted x ∙ sym (sum-same l.partitions (λ p. plain (take (committed_at s p) (keys_of_log (with_record_at l at key) p)) x) (λ p. plain (take (committed_at s p) (keys_of_log l p)) x) (λ p lt. ap (λ ks. plain ks x) (same-part s l at key p a (goes-below l key at a goes) e)));
+  counted = λ x. numbered (is_interned l.keys x) x refl ∙ e.counted x ∙ sym (sum-same l.partitions (λ p. plain (take (committed_at s p) (keys_of_log (with_record_at l at key) p)) x) (λ p. plain (take (committed_at s p) (keys_of_log l p)) x) (λ p lt. ap (λ ks. plain ks x) (same-part s l at key p a (goes-below l key at a goes) e)));
   spare = λ n le. e.spare n (omega (arith, le, (grows l.keys key).longer));
 }
   where
-    numbered : (b : Bool) (x : Key) → is_known l.keys x ≡ b → count_at s (id_of (with_key l.keys key) x) ≡ count_at s (id_of l.keys x)
+    numbered : (b : Bool) (x : Key) → is_interned l.keys x ≡ b → count_at s (id_of (with_key l.keys key) x) ≡ count_at s (id_of l.keys x)
     numbered true x h = ap (count_at s) (same-number l.keys key x a.without_repeats h)
     numbered false x h = e.spare (id_of (with_key l.keys key) x) (later-number l.keys key x h) ∙ sym (e.spare (id_of l.keys x) (omega (arith, fresh l.keys x h)))
 

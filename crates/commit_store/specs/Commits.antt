@@ -13,7 +13,7 @@ unfoldable pub use Rattle.keyed_table.specs.Counts.{raised}
 pub record Commits : Type 0 where
   pub offsets : List ℕ
   pub counts : List ℕ
-  pub room : ℕ
+  pub capacity : ℕ
 
 -- the committed offset of a partition
 abbrev pub committed_at : Commits → ℕ → ℕ

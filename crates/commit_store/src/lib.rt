@@ -13,5 +13,5 @@
 mod laws;
 mod store;
 
-pub use laws::{all_committed_is_the_plain_count, an_append_keeps_exact};
+pub use laws::{append_stays_exact, full_commit_counts_all_records};
 pub use store::Store;

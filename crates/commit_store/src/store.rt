@@ -60,18 +60,18 @@ impl Store {
 
     /// Reserves capacity for at least one more counter. Fails if memory runs out, changing nothing.
     pub fn reserve_key(&mut self) -> Result<(), Memory>
-        ensures same { self.new ≡ record self.old { room = self.new.room } }
-        ensures room { OnOk result (1 ≤ self.new.room) }
-        ensures room_stays { self.old.room ≤ self.new.room }
+        ensures same { self.new ≡ record self.old { capacity = self.new.capacity } }
+        ensures capacity { OnOk result (1 ≤ self.new.capacity) }
+        ensures bound { self.old.capacity ≤ self.new.capacity }
     {
         self.counts.reserve()
     }
 
     /// Adds a counter at 0 for the next key number, in reserved capacity. It allocates nothing.
     pub fn add_key(&mut self)
-        requires { 1 ≤ self.old.room }
-        ensures added { self.new ≡ record self.old
-            { counts = self.old.counts ++ 0 ∷ []; room = self.old.room - 1 } }
+        requires { 1 ≤ self.old.capacity }
+        ensures value { self.new ≡ record self.old
+            { counts = self.old.counts ++ 0 ∷ []; capacity = self.old.capacity - 1 } }
         ensures exact { (l : PartitionLogs) → IsExact self.old l → IsExact self.new l }
     {
         self.counts.add_key();

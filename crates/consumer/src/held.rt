@@ -39,8 +39,8 @@ impl Held {
 
 /// Holds what is leased and not held yet, from the committed offset on.
 pub fn lease(held: &mut [Option<Held>], holding: &mut Plane, lease: &Lease)
-    requires few { length held.old ≤ MOST_PARTITIONS }
-    requires one_each { length held.old ≡ partitions_of lease.now.assigned }
+    requires bound { length held.old ≤ MOST_PARTITIONS }
+    requires len { length held.old ≡ partitions_of lease.now.assigned }
     requires holding { IsHolding holding.old held.old }
     ensures slots { held.new ≡ map (λ p. leased_slot lease.now p (slice_index_or held.old p None))
         (range_with_len 0 (length held.old)) }
@@ -58,8 +58,8 @@ pub fn lease(held: &mut [Option<Held>], holding: &mut Plane, lease: &Lease)
 
 /// Drops what is not assigned.
 pub fn give_up(held: &mut [Option<Held>], holding: &mut Plane, assigned: &Plane)
-    requires few { length held.old ≤ MOST_PARTITIONS }
-    requires one_each { length held.old ≡ partitions_of assigned.now }
+    requires bound { length held.old ≤ MOST_PARTITIONS }
+    requires len { length held.old ≡ partitions_of assigned.now }
     requires holding { IsHolding holding.old held.old }
     ensures slots { held.new ≡ map
         (λ p. if is_in assigned.now p then slice_index_or held.old p None else None)

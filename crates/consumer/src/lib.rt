@@ -103,7 +103,7 @@ impl Consumer {
     /// partition, or the partition does not exist (`NotHeld`).
     pub fn poll<L: LogRead>(&mut self, logs: &L, p: u32, n: u32) -> Result<u32, Refusal>
         requires partitions { (L.contents logs.now).partitions ≡ self.old.partitions }
-        requires within { IsWithinLogs self.old (L.contents logs.now) }
+        requires bound { IsWithinLogs self.old (L.contents logs.now) }
         ensures answer { result ≡ poll_answer self.old (L.contents logs.now) p n }
         ensures ok { OnOk result (self.new ≡ polled self.old (L.contents logs.now) p n) }
         ensures err { OnErr result (self.new ≡ self.old) }
@@ -132,7 +132,7 @@ impl Consumer {
     /// lease. It fails as `sendable` does, and when out of memory.
     pub fn send<L: LogRead>(&self, logs: &L, p: u32) -> Result<Commit, Refusal>
         requires partitions { (L.contents logs.now).partitions ≡ self.now.partitions }
-        requires within { IsWithinLogs self.now (L.contents logs.now) }
+        requires bound { IsWithinLogs self.now (L.contents logs.now) }
         ensures { Answers (send_answer self.now (L.contents logs.now) p) result }
     {
         let (member, held) = self.pending(p)?;
@@ -238,8 +238,8 @@ impl Consumer {
 
     /// Its member number, and the offsets of a partition that it holds.
     fn hold(&self, p: u32) -> Result<(u32, Held), Refusal>
-        ensures held { IfOk result (IsHold self.now p) }
-        ensures refused { IfErr result (λ why. hold_answer self.now p ≡ Err why) }
+        ensures value { IfOk result (IsHold self.now p) }
+        ensures fault { IfErr result (λ why. hold_answer self.now p ≡ Err why) }
     {
         let Some(member) = self.member else {
             return Err(Refusal::OutOfGroup);
@@ -252,9 +252,9 @@ impl Consumer {
 
     /// The same, if the partition has pending records.
     fn pending(&self, p: u32) -> Result<(u32, Held), Refusal>
-        ensures held { IfOk result (IsHold self.now p) }
-        ensures some { IfOk result (λ h. sendable_answer self.now p ≡ Ok tt) }
-        ensures refused { IfErr result (λ why. sendable_answer self.now p ≡ Err why) }
+        ensures value { IfOk result (IsHold self.now p) }
+        ensures sendable { IfOk result (λ h. sendable_answer self.now p ≡ Ok tt) }
+        ensures fault { IfErr result (λ why. sendable_answer self.now p ≡ Err why) }
     {
         let (member, held) = self.hold(p)?;
         if held.base == held.position {

@@ -121,11 +121,11 @@ grants_again p rows row some several below g =
 
 pub grants_fresh : (p : ℕ) (rows : Rows) (row : ℕ × PartitionSet) (some several : PartitionSet) → partitions_of row.1 ≡ p → ((q : ℕ) → (is_in row.1 q && is_in some q) ≡ false) → AreGrants some several (record { partitions = p; rows = rows })
     → AreGrants (union some row.1) several (record { partitions = p; rows = rows ++ row ∷ [] })
-grants_fresh p rows row some several below apart g = record {
+grants_fresh p rows row some several below disjoint g = record {
   some_below = partitions_union some row.1 ∙ g.some_below;
   several_below = g.several_below;
   to_some = λ q. rw (in_union some row.1 q (g.some_below ∙ sym below), g.to_some q, times-last rows row q) (more_some_all (times_granted rows q) (is_in row.1 q));
-  to_several = λ q. g.to_several q ∙ (fresh_several (times_granted rows q) (is_in row.1 q) (ap (λ b. is_in row.1 q && b) (sym (g.to_some q)) ∙ apart q) ∙ ap (λ n. nat_lt 1 n) (sym (times-last rows row q)));
+  to_several = λ q. g.to_several q ∙ (fresh_several (times_granted rows q) (is_in row.1 q) (ap (λ b. is_in row.1 q && b) (sym (g.to_some q)) ∙ disjoint q) ∙ ap (λ n. nat_lt 1 n) (sym (times-last rows row q)));
 }
 
 pub grants_all : (r : SetRows) (some several : PartitionSet) (i : ℕ) → i ≡ length r.rows → AreGrants some several (record { partitions = r.partitions; rows = take i r.rows }) → AreGrants some several r

@@ -16,11 +16,11 @@ has_row [] m = false
 has_row (row ∷ rows) m = (row.0 == m) || has_row rows m
 
 -- a row after the members of some rows had their turns
-abbrev pub turned : Rows → Rows → (ℕ × PartitionSet) → (ℕ × PartitionSet)
-turned granted done row = cond (has_row done row.0) (withheld_row granted row) row
+abbrev pub after_turns : Rows → Rows → (ℕ × PartitionSet) → (ℕ × PartitionSet)
+after_turns granted done row = cond (has_row done row.0) (withheld_row granted row) row
 
 abbrev pub withheld_of : SetRows → SetRows → Rows → SetRows
-withheld_of target granted done = record target { rows = map (turned granted.rows done) target.rows }
+withheld_of target granted done = record target { rows = map (after_turns granted.rows done) target.rows }
 
 eq_says : (m n : ℕ) → (m == n) ≡ true → m ≡ n
 eq_says m n e = grind (arith, nat_tests)
@@ -28,8 +28,8 @@ eq_says m n e = grind (arith, nat_tests)
 eq_self : (n : ℕ) → (n == n) ≡ true
 eq_self n = grind (arith, nat_tests)
 
-eq_turned : (m n : ℕ) → (m == n) ≡ (n == m)
-eq_turned m n = grind (arith, nat_tests)
+eq_after_turns : (m n : ℕ) → (m == n) ≡ (n == m)
+eq_after_turns m n = grind (arith, nat_tests)
 
 or_none : (x : Bool) → (x || false) ≡ x
 or_none true = refl
@@ -62,17 +62,17 @@ withheld_again granted row others known =
     let w : PartitionSet = (withheld_row granted row).1 in
     ap (λ s. (row.0, s)) (same_set (minus w others) w (partitions_minus w others) (λ q lt. in_minus w others q ∙ rw (in_withheld_row granted row q, known q) (off_twice (is_in row.1 q) (granted_to_other granted row.0 q))))
 
-turned_same : (granted done : Rows) (row : ℕ × PartitionSet) → (turned granted done row).0 ≡ row.0
-turned_same granted done row = elim (has_row done row.0) as (λ b. (cond b (withheld_row granted row) row).0 ≡ row.0) [ true ↦ refl | false ↦ refl ]
+after_turns_same : (granted done : Rows) (row : ℕ × PartitionSet) → (after_turns granted done row).0 ≡ row.0
+after_turns_same granted done row = elim (has_row done row.0) as (λ b. (cond b (withheld_row granted row) row).0 ≡ row.0) [ true ↦ refl | false ↦ refl ]
 
-less_turned : (granted done : Rows) (m : ℕ) (own others : PartitionSet) (row : ℕ × PartitionSet) → ((q : ℕ) → is_in others q ≡ granted_to_other granted m q)
-    → less_row m others (turned granted done row) ≡ turned granted (done ++ (m, own) ∷ []) row
-less_turned granted done m own others row known =
-    let more : has_row (done ++ (m, own) ∷ []) row.0 ≡ (has_row done row.0 || (row.0 == m)) = has_more done (m, own) row.0 ∙ ap (λ b. has_row done row.0 || b) (eq_turned m row.0) in
-    let t : ℕ × PartitionSet = turned granted done row in
-    let number : (t.0 == m) ≡ (row.0 == m) = ap (λ n. n == m) (turned_same granted done row) in
+less_after_turns : (granted done : Rows) (m : ℕ) (own others : PartitionSet) (row : ℕ × PartitionSet) → ((q : ℕ) → is_in others q ≡ granted_to_other granted m q)
+    → less_row m others (after_turns granted done row) ≡ after_turns granted (done ++ (m, own) ∷ []) row
+less_after_turns granted done m own others row known =
+    let more : has_row (done ++ (m, own) ∷ []) row.0 ≡ (has_row done row.0 || (row.0 == m)) = has_more done (m, own) row.0 ∙ ap (λ b. has_row done row.0 || b) (eq_after_turns m row.0) in
+    let t : ℕ × PartitionSet = after_turns granted done row in
+    let number : (t.0 == m) ≡ (row.0 == m) = ap (λ n. n == m) (after_turns_same granted done row) in
     ap (λ b. cond b (t.0, minus t.1 others) t) number
-    ∙ (ap (λ n. cond (row.0 == m) (n, minus t.1 others) t) (turned_same granted done row)
+    ∙ (ap (λ n. cond (row.0 == m) (n, minus t.1 others) t) (after_turns_same granted done row)
     ∙ (elim (row.0 == m) as (λ x. (row.0 == m) ≡ x → cond x (row.0, minus t.1 others) t ≡ cond (has_row done row.0 || x) (withheld_row granted row) row) [
       | true ↦ λ e.
           let here : (q : ℕ) → is_in others q ≡ granted_to_other granted row.0 q = λ q. known q ∙ ap (λ n. granted_to_other granted n q) (sym (eq_says row.0 m e)) in
@@ -83,30 +83,30 @@ less_turned granted done m own others row known =
       | false ↦ λ e. ap (λ b. cond b (withheld_row granted row) row) (sym (or_none (has_row done row.0)))
     ] refl ∙ ap (λ b. cond b (withheld_row granted row) row) (sym more)))
 
-all_turned : (granted done rows : Rows) (m : ℕ) (own others : PartitionSet) → ((q : ℕ) → is_in others q ≡ granted_to_other granted m q)
-    → map (less_row m others) (map (turned granted done) rows) ≡ map (turned granted (done ++ (m, own) ∷ [])) rows
-all_turned granted done [] m own others known = refl
-all_turned granted done (row ∷ rows) m own others known =
-    ap (λ r. r ∷ map (less_row m others) (map (turned granted done) rows)) (less_turned granted done m own others row known)
-    ∙ ap (λ rs. turned granted (done ++ (m, own) ∷ []) row ∷ rs) (all_turned granted done rows m own others known)
+all_after_turns : (granted done rows : Rows) (m : ℕ) (own others : PartitionSet) → ((q : ℕ) → is_in others q ≡ granted_to_other granted m q)
+    → map (less_row m others) (map (after_turns granted done) rows) ≡ map (after_turns granted (done ++ (m, own) ∷ [])) rows
+all_after_turns granted done [] m own others known = refl
+all_after_turns granted done (row ∷ rows) m own others known =
+    ap (λ r. r ∷ map (less_row m others) (map (after_turns granted done) rows)) (less_after_turns granted done m own others row known)
+    ∙ ap (λ rs. after_turns granted (done ++ (m, own) ∷ []) row ∷ rs) (all_after_turns granted done rows m own others known)
 
 pub withheld_one : (target granted rows new : SetRows) (done : Rows) (row : ℕ × PartitionSet) (others : PartitionSet) → ((q : ℕ) → is_in others q ≡ granted_to_other granted.rows row.0 q)
     → rows ≡ withheld_of target granted done → new ≡ with_less rows row.0 others → new ≡ withheld_of target granted (done ++ row ∷ [])
 withheld_one target granted rows new done row others known so_far is =
-    is ∙ (ap (λ (r : SetRows). with_less r row.0 others) so_far ∙ ap (λ (rs : Rows). record target { rows = rs }) (all_turned granted.rows done target.rows row.0 row.1 others known))
+    is ∙ (ap (λ (r : SetRows). with_less r row.0 others) so_far ∙ ap (λ (rs : Rows). record target { rows = rs }) (all_after_turns granted.rows done target.rows row.0 row.1 others known))
 
-none_turned : (granted rows : Rows) → rows ≡ map (turned granted []) rows
-none_turned granted [] = refl
-none_turned granted (row ∷ rows) = ap (λ rs. row ∷ rs) (none_turned granted rows)
+none_after_turns : (granted rows : Rows) → rows ≡ map (after_turns granted []) rows
+none_after_turns granted [] = refl
+none_after_turns granted (row ∷ rows) = ap (λ rs. row ∷ rs) (none_after_turns granted rows)
 
 pub withheld_none : (target granted : SetRows) → target ≡ withheld_of target granted []
-withheld_none target granted = ap (λ (rs : Rows). record target { rows = rs }) (none_turned granted.rows target.rows)
+withheld_none target granted = ap (λ (rs : Rows). record target { rows = rs }) (none_after_turns granted.rows target.rows)
 
-each_turned : (granted done rows : Rows) → ((i : ℕ) → i < length rows → has_row done (get_or (map (λ row. row.0) rows) i 0) ≡ true) → map (turned granted done) rows ≡ map (withheld_row granted) rows
-each_turned granted done [] all = refl
-each_turned granted done (row ∷ rows) all =
-    ap (λ b. cond b (withheld_row granted row) row ∷ map (turned granted done) rows) (all 0 (omega arith))
-    ∙ ap (λ rs. withheld_row granted row ∷ rs) (each_turned granted done rows (λ i lt. all (suc i) (omega arith)))
+each_after_turns : (granted done rows : Rows) → ((i : ℕ) → i < length rows → has_row done (get_or (map (λ row. row.0) rows) i 0) ≡ true) → map (after_turns granted done) rows ≡ map (withheld_row granted) rows
+each_after_turns granted done [] all = refl
+each_after_turns granted done (row ∷ rows) all =
+    ap (λ b. cond b (withheld_row granted row) row ∷ map (after_turns granted done) rows) (all 0 (omega arith))
+    ∙ ap (λ rs. withheld_row granted row ∷ rs) (each_after_turns granted done rows (λ i lt. all (suc i) (omega arith)))
 
 pub withheld_each : (target granted : SetRows) (i : ℕ) → i ≡ length granted.rows → members target ≡ members granted → withheld_of target granted (take i granted.rows) ≡ withheld target granted
 unfolding withheld
@@ -115,4 +115,4 @@ withheld_each target granted i e same =
     let theirs = length-map granted.rows (λ (row : ℕ × PartitionSet). row.0) in
     let long = ap length same in
     ap (λ (rs : Rows). withheld_of target granted rs) (take_all i granted.rows (omega arith))
-    ∙ ap (λ (rs : Rows). record target { rows = rs }) (each_turned granted.rows granted.rows target.rows (λ j lt. ap (λ ns. has_row granted.rows (get_or ns j 0)) same ∙ has_at granted.rows j (omega (arith, mine, theirs, long, lt))))
+    ∙ ap (λ (rs : Rows). record target { rows = rs }) (each_after_turns granted.rows granted.rows target.rows (λ j lt. ap (λ ns. has_row granted.rows (get_or ns j 0)) same ∙ has_at granted.rows j (omega (arith, mine, theirs, long, lt))))

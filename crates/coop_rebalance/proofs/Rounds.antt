@@ -6,13 +6,13 @@ use Rattle.bit_planes.specs.PartitionSet.{PartitionSet, partitions_of, is_in, on
 use Rattle.bit_planes.specs.SetRows.{SetRows, members, find_row, set_or_empty, set_of, sets_of, IsRising, IsValidRows}
 use Rattle.bit_planes.proofs.Sets.{one_le, same_set, partitions_where, in_where, past_where, past, in_union, within_of}
 use Rattle.bit_planes.proofs.RowLaws.{rising_rest}
-use Rattle.sticky_assignor.specs.Balanced.{holders, IsBalanced, AreApart, AreBelow}
+use Rattle.sticky_assignor.specs.Balanced.{holders, IsBalanced, AreDisjoint, AreBelow}
 use Rattle.sticky_assignor.specs.Target.{row_at, target}
 use Rattle.sticky_assignor.specs.Assigned.{pair_up, target_rows}
 use Rattle.sticky_assignor.proofs.Rows.{eq_self, not_eq, not_eq_back}
 use Rattle.sticky_assignor.proofs.TargetLaws.{is_balanced}
-use Rattle.sticky_assignor.proofs.Even.{balanced_apart}
-use Rattle.sticky_assignor.proofs.SecondRound.{Lies, lies_apart, kept_whole, target_over, length_target}
+use Rattle.sticky_assignor.proofs.Even.{balanced_disjoint}
+use Rattle.sticky_assignor.proofs.SecondRound.{Lies, lies_disjoint, retained_whole, target_over, length_target}
 use Rattle.sticky_assignor.proofs.AssignedLaws.{members_paired, sets_paired, over_paired, sets_over, length_sets, paired, target_paired}
 use Rattle.coop_rebalance.specs.Withheld.{granted_to_other, withheld_row, withheld}
 use Rattle.coop_rebalance.specs.Rounds.{next_rows, RowsWithin, Settles, LiesInTarget, together}
@@ -109,10 +109,10 @@ and_most : (x y : Bool) → one (x && not y) ≤ one x
 and_most true y = one_le (not y)
 and_most false y = omega arith
 
-and_apart : (x y : Bool) → one (x && not y) + one y ≤ 1
-and_apart true true = omega arith
-and_apart true false = omega arith
-and_apart false y = omega (arith, one_le y)
+and_disjoint : (x y : Bool) → one (x && not y) + one y ≤ 1
+and_disjoint true true = omega arith
+and_disjoint true false = omega arith
+and_disjoint false y = omega (arith, one_le y)
 
 off_lies : (granted : List (ℕ × PartitionSet)) (ms : List ℕ) (rows : List PartitionSet) → length rows ≡ length ms → Lies (taken_off granted ms rows) rows
 off_lies granted [] [] len = tt
@@ -145,8 +145,8 @@ rows_equal [] (b ∷ bs) len same = absurd (omega arith)
 rows_equal (row ∷ rows) [] len same = absurd (omega arith)
 rows_equal (row ∷ rows) (b ∷ bs) len same = rw (same 0 (omega arith)) (ap (λ rs. b ∷ rs) (rows_equal rows bs (omega arith) (λ i lt. same (suc i) (omega arith))))
 
-nothing_off : (ms : List ℕ) (ts gs : List PartitionSet) → length ts ≡ length ms → length gs ≡ length ms → IsRising ms → Lies gs ts → AreApart ts → taken_off (pair_up ms gs) ms ts ≡ ts
-nothing_off ms ts gs lt lg rising lies apart =
+nothing_off : (ms : List ℕ) (ts gs : List PartitionSet) → length ts ≡ length ms → length gs ≡ length ms → IsRising ms → Lies gs ts → AreDisjoint ts → taken_off (pair_up ms gs) ms ts ≡ ts
+nothing_off ms ts gs lt lg rising lies disjoint =
     let granted : List (ℕ × PartitionSet) = pair_up ms gs in
     let lo : length (taken_off granted ms ts) ≡ length ms = length_off granted ms ts lt in
     rows_equal (taken_off granted ms ts) ts (lo ∙ sym lt) (λ i l.
@@ -156,7 +156,7 @@ nothing_off ms ts gs lt lg rising lies apart =
     let off : PartitionSet = (withheld_row granted (m, t)).1 in
     off_at granted ms ts i lt li
     ∙ same_set off t (partitions_where (partitions_of t) _) (λ q few.
-    let a = apart q in
+    let a = disjoint q in
     let clear : one (is_in t q) + one (granted_to_other granted m q) ≤ 1 = omega (arith, granted_most ms gs m q, lies_others ms gs ts m q lies, mine_and_others ms ts i q lt rising li) in
     in_off granted m t q ∙ and_not_none (is_in t q) (granted_to_other granted m q) clear))
 
@@ -193,8 +193,8 @@ pub record AreNext (p : ℕ) (ms : List ℕ) (gs ts ws : List PartitionSet) : Ty
   pub target_over : AreBelow p ts
   pub balanced : IsBalanced p ts
 
-are_next : (p : ℕ) (ms : List ℕ) (gs : List PartitionSet) → length gs ≡ length ms → 0 < length gs → AreBelow p gs → AreApart gs → AreNext p ms gs (target p gs) (taken_off (pair_up ms gs) ms (target p gs))
-are_next p ms gs len some over apart =
+are_next : (p : ℕ) (ms : List ℕ) (gs : List PartitionSet) → length gs ≡ length ms → 0 < length gs → AreBelow p gs → AreDisjoint gs → AreNext p ms gs (target p gs) (taken_off (pair_up ms gs) ms (target p gs))
+are_next p ms gs len some over disjoint =
     let ts : List PartitionSet = target p gs in
     let lt : length ts ≡ length ms = length_target p gs ∙ len in
     let ot : AreBelow p ts = target_over p gs over in record {
@@ -203,21 +203,21 @@ are_next p ms gs len some over apart =
       lies = off_lies (pair_up ms gs) ms ts lt;
       target_long = lt;
       target_over = ot;
-      balanced = is_balanced p gs some over apart;
+      balanced = is_balanced p gs some over disjoint;
     }
 
-settles_paired : (p : ℕ) (ms : List ℕ) (gs : List PartitionSet) → length gs ≡ length ms → IsRising ms → 0 < length gs → AreBelow p gs → AreApart gs → Settles (next_rows (record { partitions = p; rows = pair_up ms gs }))
-settles_paired p ms gs len rising some over apart =
+settles_paired : (p : ℕ) (ms : List ℕ) (gs : List PartitionSet) → length gs ≡ length ms → IsRising ms → 0 < length gs → AreBelow p gs → AreDisjoint gs → Settles (next_rows (record { partitions = p; rows = pair_up ms gs }))
+settles_paired p ms gs len rising some over disjoint =
     let ts : List PartitionSet = target p gs in
     let ws : List PartitionSet = taken_off (pair_up ms gs) ms ts in
     let us : List PartitionSet = target p ws in
-    let n : AreNext p ms gs ts ws = are_next p ms gs len some over apart in
+    let n : AreNext p ms gs ts ws = are_next p ms gs len some over disjoint in
     let lw : length ws ≡ length ms = n.long in
     let many : 0 < length ws = omega arith in
-    let ta : AreApart ts = balanced_apart p ts n.target_over n.balanced in
-    let wa : AreApart ws = lies_apart ws ts n.lies ta in
-    let whole : Lies ws us = kept_whole p ws ts many n.over n.target_over n.balanced n.lies in
-    let ua : AreApart us = balanced_apart p us (target_over p ws n.over) (is_balanced p ws many n.over wa) in
+    let ta : AreDisjoint ts = balanced_disjoint p ts n.target_over n.balanced in
+    let wa : AreDisjoint ws = lies_disjoint ws ts n.lies ta in
+    let whole : Lies ws us = retained_whole p ws ts many n.over n.target_over n.balanced n.lies in
+    let ua : AreDisjoint us = balanced_disjoint p us (target_over p ws n.over) (is_balanced p ws many n.over wa) in
     let goal : target_rows (record { partitions = p; rows = pair_up ms ws }) ≡ record { partitions = p; rows = pair_up ms us } = target_paired p ms ws n.long rising in
     let none : taken_off (pair_up ms ws) ms us ≡ us = nothing_off ms us ws (length_target p ws ∙ n.long) n.long rising whole ua in
     let settled : Settles (record { partitions = p; rows = pair_up ms ws }) = record {
@@ -230,12 +230,12 @@ length_members : (rows : List (ℕ × PartitionSet)) → length (map (λ row. ro
 length_members [] = refl
 length_members (row ∷ rows) = ap (λ n. suc n) (length_members rows)
 
-pub settles : (g : SetRows) → IsValidRows g → 0 < length g.rows → AreApart (sets_of g (members g)) → Settles (next_rows g)
-settles g valid some apart =
+pub settles : (g : SetRows) → IsValidRows g → 0 < length g.rows → AreDisjoint (sets_of g (members g)) → Settles (next_rows g)
+settles g valid some disjoint =
     let ms : List ℕ = members g in
     let gs : List PartitionSet = sets_of g ms in
     let len : length gs ≡ length ms = length_sets g ms in
-    subst (λ r. Settles (next_rows r)) (sym (paired g valid.rising)) (settles_paired g.partitions ms gs len valid.rising (omega (arith, length_members g.rows)) (sets_over g ms valid) apart)
+    subst (λ r. Settles (next_rows r)) (sym (paired g valid.rising)) (settles_paired g.partitions ms gs len valid.rising (omega (arith, length_members g.rows)) (sets_over g ms valid) disjoint)
 
 -- ---- where the next rows lie
 rows_paired : (p : ℕ) (ms : List ℕ) (rows : List PartitionSet) → 1 ≤ p → p ≤ 4096 → length rows ≡ length ms → IsRising ms → AreBelow p rows → IsValidRows (record { partitions = p; rows = pair_up ms rows })
@@ -246,12 +246,12 @@ rows_paired p ms rows some few len rising over = record {
   over = over_paired p ms rows over;
 }
 
-next_within_paired : (p : ℕ) (ms : List ℕ) (gs : List PartitionSet) → 1 ≤ p → p ≤ 4096 → length gs ≡ length ms → IsRising ms → 0 < length gs → AreBelow p gs → AreApart gs
+next_within_paired : (p : ℕ) (ms : List ℕ) (gs : List PartitionSet) → 1 ≤ p → p ≤ 4096 → length gs ≡ length ms → IsRising ms → 0 < length gs → AreBelow p gs → AreDisjoint gs
     → LiesInTarget (record { partitions = p; rows = pair_up ms gs }) (next_rows (record { partitions = p; rows = pair_up ms gs }))
-next_within_paired p ms gs lo hi len rising some over apart =
+next_within_paired p ms gs lo hi len rising some over disjoint =
     let ts : List PartitionSet = target p gs in
     let ws : List PartitionSet = taken_off (pair_up ms gs) ms ts in
-    let n : AreNext p ms gs ts ws = are_next p ms gs len some over apart in
+    let n : AreNext p ms gs ts ws = are_next p ms gs len some over disjoint in
     let g : SetRows = record { partitions = p; rows = pair_up ms gs } in
     let w : SetRows = record { partitions = p; rows = pair_up ms ws } in
     let is_target : target_rows g ≡ record { partitions = p; rows = pair_up ms ts } = target_paired p ms gs len rising in
@@ -261,18 +261,18 @@ next_within_paired p ms gs lo hi len rising some over apart =
       below = refl;
       same_members = members_paired ms ws n.long ∙ sym mine;
       valid = rows_paired p ms ws lo hi n.long rising n.over;
-      apart = subst AreApart (sym (ap (sets_of w) (members_paired ms ws n.long) ∙ sets_paired p ms ws n.long rising)) (lies_apart ws ts n.lies (balanced_apart p ts n.target_over n.balanced));
+      disjoint = subst AreDisjoint (sym (ap (sets_of w) (members_paired ms ws n.long) ∙ sets_paired p ms ws n.long rising)) (lies_disjoint ws ts n.lies (balanced_disjoint p ts n.target_over n.balanced));
       within = subst (RowsWithin w) (sym is_target) (within_paired p ms ws ts n.lies);
       balanced = subst (IsBalanced p) (sym (ap (λ r. sets_of r (members g)) is_target ∙ ap (λ ns. sets_of (record { partitions = p; rows = pair_up ms ts }) ns) mine ∙ sets)) n.balanced;
     } in
     subst (LiesInTarget g) (sym (next_paired p ms gs len rising)) lies
 
-pub next_within : (g : SetRows) → IsValidRows g → 0 < length g.rows → AreApart (sets_of g (members g)) → LiesInTarget g (next_rows g)
-next_within g valid some apart =
+pub next_within : (g : SetRows) → IsValidRows g → 0 < length g.rows → AreDisjoint (sets_of g (members g)) → LiesInTarget g (next_rows g)
+next_within g valid some disjoint =
     let ms : List ℕ = members g in
     let gs : List PartitionSet = sets_of g ms in
     let len : length gs ≡ length ms = length_sets g ms in
-    subst (λ r. LiesInTarget r (next_rows r)) (sym (paired g valid.rising)) (next_within_paired g.partitions ms gs valid.some valid.few len valid.rising (omega (arith, length_members g.rows)) (sets_over g ms valid) apart)
+    subst (λ r. LiesInTarget r (next_rows r)) (sym (paired g valid.rising)) (next_within_paired g.partitions ms gs valid.some valid.few len valid.rising (omega (arith, length_members g.rows)) (sets_over g ms valid) disjoint)
 
 -- ---- what is granted, with what is given
 abbrev unions : List PartitionSet → List PartitionSet → List PartitionSet
@@ -304,9 +304,9 @@ holders_le (row ∷ rows) (b ∷ bs) q len le =
     let first : one (is_in row q) ≤ one (is_in b q) = le 0 (omega arith) in
     omega (arith, holders_le rows bs q (omega arith) (λ i l. le (suc i) (omega arith)))
 
-given_apart_lists : (p : ℕ) (ms : List ℕ) (gs ts : List PartitionSet) → length gs ≡ length ms → length ts ≡ length ms → IsRising ms → AreBelow p gs → AreBelow p ts → AreApart gs → AreApart ts
-    → AreApart (unions gs (taken_off (pair_up ms gs) ms ts))
-given_apart_lists p ms gs ts lg lt rising og ot ga ta q =
+given_disjoint_lists : (p : ℕ) (ms : List ℕ) (gs ts : List PartitionSet) → length gs ≡ length ms → length ts ≡ length ms → IsRising ms → AreBelow p gs → AreBelow p ts → AreDisjoint gs → AreDisjoint ts
+    → AreDisjoint (unions gs (taken_off (pair_up ms gs) ms ts))
+given_disjoint_lists p ms gs ts lg lt rising og ot ga ta q =
     let granted : List (ℕ × PartitionSet) = pair_up ms gs in
     let ws : List PartitionSet = taken_off granted ms ts in
     let lw : length ws ≡ length ms = length_off granted ms ts lt in
@@ -318,7 +318,7 @@ given_apart_lists p ms gs ts lg lt rising og ot ga ta q =
     rw (union_at gs ws i (lw ∙ sym lg) l, in_union (row_at gs i) (row_at ws i) q (below_at p gs i og l ∙ sym (below_at p ws i ow (omega arith)))) (or_most (is_in (row_at gs i) q) (is_in (row_at ws i) q)) in
     let given : (i : ℕ) → i < length gs → (one (is_in (row_at ws i) q) + one (granted_to_other granted (get_or ms i 0) q) ≤ 1) × (one (is_in (row_at ws i) q) ≤ one (is_in (row_at ts i) q)) = λ i l.
     let e : is_in (row_at ws i) q ≡ (is_in (row_at ts i) q && not (granted_to_other granted (get_or ms i 0) q)) = ap (λ s. is_in s q) (off_at granted ms ts i lt (omega arith)) ∙ in_off granted (get_or ms i 0) (row_at ts i) q in
-    rw e (and_apart (is_in (row_at ts i) q) (granted_to_other granted (get_or ms i 0) q), and_most (is_in (row_at ts i) q) (granted_to_other granted (get_or ms i 0) q)) in
+    rw e (and_disjoint (is_in (row_at ts i) q) (granted_to_other granted (get_or ms i 0) q), and_most (is_in (row_at ts i) q) (granted_to_other granted (get_or ms i 0) q)) in
     elim (cases_lt 0 (holders gs q)) [
       | inl held ↦
           let le : holders (unions gs ws) q ≤ holders gs q = holders_le (unions gs ws) gs q lu (λ i l.
@@ -346,25 +346,25 @@ map_unions : (f g : ℕ → PartitionSet) (ms : List ℕ) → map (λ m. union (
 map_unions f g [] = refl
 map_unions f g (m ∷ ms) = ap (λ rows. union (f m) (g m) ∷ rows) (map_unions f g ms)
 
-given_apart_paired : (p : ℕ) (ms : List ℕ) (gs : List PartitionSet) → length gs ≡ length ms → IsRising ms → 0 < length gs → AreBelow p gs → AreApart gs
-    → AreApart (together (record { partitions = p; rows = pair_up ms gs }) (next_rows (record { partitions = p; rows = pair_up ms gs })))
-given_apart_paired p ms gs len rising some over apart =
+given_disjoint_paired : (p : ℕ) (ms : List ℕ) (gs : List PartitionSet) → length gs ≡ length ms → IsRising ms → 0 < length gs → AreBelow p gs → AreDisjoint gs
+    → AreDisjoint (together (record { partitions = p; rows = pair_up ms gs }) (next_rows (record { partitions = p; rows = pair_up ms gs })))
+given_disjoint_paired p ms gs len rising some over disjoint =
     let ts : List PartitionSet = target p gs in
     let ws : List PartitionSet = taken_off (pair_up ms gs) ms ts in
-    let n : AreNext p ms gs ts ws = are_next p ms gs len some over apart in
+    let n : AreNext p ms gs ts ws = are_next p ms gs len some over disjoint in
     let g : SetRows = record { partitions = p; rows = pair_up ms gs } in
     let w : SetRows = record { partitions = p; rows = pair_up ms ws } in
-    let ta : AreApart ts = balanced_apart p ts n.target_over n.balanced in
+    let ta : AreDisjoint ts = balanced_disjoint p ts n.target_over n.balanced in
     let same : together g w ≡ unions gs ws =
     ap (λ ns. map (λ m. union (set_of g m) (set_of w m)) ns) (members_paired ms gs len)
     ∙ map_unions (set_of g) (set_of w) ms
     ∙ ap (λ rows. unions rows (sets_of w ms)) (sets_paired p ms gs len rising)
     ∙ ap (λ rows. unions gs rows) (sets_paired p ms ws n.long rising) in
-    subst (λ r. AreApart (together g r)) (sym (next_paired p ms gs len rising)) (subst AreApart (sym same) (given_apart_lists p ms gs ts len n.target_long rising over n.target_over apart ta))
+    subst (λ r. AreDisjoint (together g r)) (sym (next_paired p ms gs len rising)) (subst AreDisjoint (sym same) (given_disjoint_lists p ms gs ts len n.target_long rising over n.target_over disjoint ta))
 
-pub given_apart : (g : SetRows) → IsValidRows g → 0 < length g.rows → AreApart (sets_of g (members g)) → AreApart (together g (next_rows g))
-given_apart g valid some apart =
+pub given_disjoint : (g : SetRows) → IsValidRows g → 0 < length g.rows → AreDisjoint (sets_of g (members g)) → AreDisjoint (together g (next_rows g))
+given_disjoint g valid some disjoint =
     let ms : List ℕ = members g in
     let gs : List PartitionSet = sets_of g ms in
     let len : length gs ≡ length ms = length_sets g ms in
-    subst (λ r. AreApart (together r (next_rows r))) (sym (paired g valid.rising)) (given_apart_paired g.partitions ms gs len valid.rising (omega (arith, length_members g.rows)) (sets_over g ms valid) apart)
+    subst (λ r. AreDisjoint (together r (next_rows r))) (sym (paired g valid.rising)) (given_disjoint_paired g.partitions ms gs len valid.rising (omega (arith, length_members g.rows)) (sets_over g ms valid) disjoint)

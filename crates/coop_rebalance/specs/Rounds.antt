@@ -2,14 +2,14 @@
 use Rattle.std.specs.Prelude.{◌≡◌, ◌<◌, ℕ, List, IsTrue, length, map}
 use Rattle.bit_planes.specs.PartitionSet.{PartitionSet, union, is_within}
 use Rattle.bit_planes.specs.SetRows.{SetRows, IsValidRows, members, set_of, sets_of}
-pub use Rattle.sticky_assignor.specs.Balanced.{AreApart, IsBalanced}
+pub use Rattle.sticky_assignor.specs.Balanced.{AreDisjoint, IsBalanced}
 pub use Rattle.coop_rebalance.specs.Withheld.{target_rows, next_rows}
 
 -- what members are granted: at least one row, and disjoint rows
 pub record AreGranted (granted : SetRows) : Type 0 where
   pub valid : IsValidRows granted
   pub some : 0 < length granted.rows
-  pub apart : AreApart (sets_of granted (members granted))
+  pub disjoint : AreDisjoint (sets_of granted (members granted))
 
 -- each member's row lies within its row in the other table
 abbrev pub RowsWithin : SetRows → SetRows → Type 0
@@ -26,7 +26,7 @@ pub record LiesInTarget (granted rows : SetRows) : Type 0 where
   pub below : rows.partitions ≡ granted.partitions
   pub same_members : members rows ≡ members granted
   pub valid : IsValidRows rows
-  pub apart : AreApart (sets_of rows (members rows))
+  pub disjoint : AreDisjoint (sets_of rows (members rows))
   pub within : RowsWithin rows (target_rows granted)
   pub balanced : IsBalanced granted.partitions (sets_of (target_rows granted) (members granted))
 

@@ -12,5 +12,5 @@
 mod laws;
 mod withholding;
 
-pub use laws::{given_stays_apart, next_lies_in_balanced, second_round_settles};
+pub use laws::{assigned_stays_disjoint, round_lies_in_balanced, second_round_settles};
 pub use withholding::{added, is_final, to_give, withhold, withhold_in_place};

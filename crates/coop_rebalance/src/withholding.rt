@@ -23,7 +23,7 @@ pub fn withhold(alloc: Global, target: &PlaneRows, granted: &PlaneRows) -> Resul
     ensures valid { IfOk result IsValidRows }
 {
     let grants = Grants::of(granted);
-    let mut rows = PlaneRows::with_room(alloc, target.partitions(), target.len())?;
+    let mut rows = PlaneRows::with_row_capacity(alloc, target.partitions(), target.len())?;
     for (member, row) in target.iter() {
         let mut given = row.copy();
         given.remove_all(&grants.of_others(granted, member));
@@ -44,7 +44,7 @@ pub fn withhold_in_place(rows: &mut PlaneRows, granted: &PlaneRows)
 {
     let grants = Grants::of(granted);
     for (member, own) in granted.iter() {
-        rows.remove_from(member, &grants.beside(own));
+        rows.remove_from(member, &grants.to_others(own));
     }
 }
 
@@ -78,7 +78,7 @@ pub fn added(assigned: &Plane, granted: &Plane) -> Plane
 pub fn is_final(granted: &PlaneRows, assigned: &PlaneRows) -> bool
     requires { granted.now.partitions ≡ assigned.now.partitions }
     ensures rows { IsTrue result ↔ HaveSameRows granted.now assigned.now }
-    ensures equal { IsTrue result ↔ (granted.now ≡ assigned.now) }
+    ensures iff { IsTrue result ↔ (granted.now ≡ assigned.now) }
 {
     has_rows_of(granted, assigned) && has_rows_of(assigned, granted)
 }
@@ -133,14 +133,14 @@ impl Grants {
         ensures partitions { partitions_of result ≡ granted.now.partitions }
     {
         match granted.get(member) {
-            Some(own) => self.beside(own),
+            Some(own) => self.to_others(own),
             None => self.some.copy(),
         }
     }
 
     /// What all members other than the one with this row are granted.
-    fn beside(&self, own: &Plane) -> Plane
-        requires some { partitions_of self.now.some ≡ partitions_of own.now }
+    fn to_others(&self, own: &Plane) -> Plane
+        requires nonempty { partitions_of self.now.some ≡ partitions_of own.now }
         requires several { partitions_of self.now.several ≡ partitions_of own.now }
         ensures elements { (q : ℕ) → is_in result q
             ≡ ((is_in self.now.some q && not (is_in own.now q)) || is_in self.now.several q) }

@@ -6,7 +6,7 @@ use Rattle.std.proofs.lemmas.List.{get_or_past}
 use Rattle.std.proofs.lemmas.List.Sums.{count_by-le-length}
 use Rattle.std.proofs.lemmas.Nat.{mul-le}
 use Rattle.keyed_table.specs.Counts as table
-use Rattle.keyed_table.proofs.Elements.{stands-somewhere}
+use Rattle.keyed_table.proofs.Elements.{occurs-somewhere}
 use Rattle.keyed_table.proofs.Raised.{counter-raised, length-raised}
 use Rattle.partition_log.specs.Keys.{key_at, plain}
 use Rattle.partition_log.specs.Logs.{IsValidLogs, PartitionLogs, keys_of_log, log_at}
@@ -23,7 +23,7 @@ most-so-far l (suc p) n a =
 
 pub in-counters : (l : PartitionLogs) (p : ℕ) (counts : List ℕ) → IsValidLogs l → AreCountsBelow l p counts → table.HaveCounters counts (log_at l p)
 in-counters l p counts a h x more =
-    let there = stands-somewhere (log_at l p) x more in
+    let there = occurs-somewhere (log_at l p) x more in
     omega (arith, there.2, (a.entries p there.0 there.1).numbered, h.one_each)
 
 pub in-range : (l : PartitionLogs) (p : ℕ) (counts : List ℕ) → IsValidLogs l → AreCountsBelow l p counts → p < l.partitions → table.SumsFit counts (log_at l p)

@@ -3,14 +3,14 @@
 ghost use Rattle.std.specs.Prelude.{◌≡◌, ◌<◌, ◌+◌, ◌-◌, Ok, IfOk, IfErr, IfSome, flat_map, vec_items};
 ghost use Rattle.lane_words.specs.Answers.{Answers};
 ghost use Rattle.count_report.specs.CountReport.{report_of_count, report_of_records, texts_seen};
-ghost use Rattle.devices.specs.Devices.{CanStillFail};
+ghost use Rattle.byte_io.specs.Devices.{CanStillFail};
 ghost use Rattle.ingest.specs.Records.{AreOfTopics, partition_counts, records_in};
 ghost use Rattle.ingest.specs.Reports.{AreInRange, IsFaultOf, IsNoWrite, WritesAtEndAlone, WritesReport, failed_reads, failed_writes};
 ghost use Rattle.ingest.specs.RecordFaults.{IsKeyFault};
 
 use crate::tally::counts_after;
+use byte_io::{Sink, Source, write_texts};
 use command_line::Options;
-use devices::{Sink, Source, write_texts};
 use ingest::{FileRecords, file_records, logs_of};
 use lane_words::Refusal;
 use parallel::drop_each;
@@ -38,7 +38,7 @@ fn plain_report<R: Threads + Sync + RandomSource>(
     // The records can go: the logs have a copy of each key.
     let counts = counts_after(rt, alloc, records, &logs)?;
     let texts = count_rows_texts(rt, alloc, &logs, counts.counts(), total, total)?;
-    logs.let_go(rt);
+    logs.drop_parallel(rt);
     Ok(texts)
 }
 
@@ -51,9 +51,9 @@ fn file_report<R: Threads + Sync + RandomSource, S: Source>(
 ) -> Result<Vec<Vec<u8>>, Refusal>
     requires source { CanStillFail (S.failures file.old) }
     requires options { AreInRange options.now }
-    ensures text { IfOk result (λ texts. IfSome (S.left file.old)
+    ensures report { IfOk result (λ texts. IfSome (S.left file.old)
         (λ bytes. report_of_count options.now bytes ≡ Ok (flat_map vec_items texts.items))) }
-    ensures refused { IfErr result (λ e. IfSome (S.left file.old)
+    ensures fault { IfErr result (λ e. IfSome (S.left file.old)
         (λ bytes. IsFaultOf (report_of_count options.now bytes) e)) }
     ensures kind { IfErr result IsNoWrite }
     ensures reads { S.failures file.new ≡ S.failures file.old + failed_reads result }
@@ -88,7 +88,7 @@ pub fn count_text<R: Threads + Sync + RandomSource, S: Source, K: Sink>(
     ensures report { IfSome (S.left file.old) (λ bytes.
         WritesReport (report_of_count options.now bytes)
         (K.written out.old) (K.written out.new) result) }
-    ensures nothing_before { WritesAtEndAlone (K.written out.old) (K.written out.new) result }
+    ensures end { WritesAtEndAlone (K.written out.old) (K.written out.new) result }
     ensures reads { S.failures file.new ≡ S.failures file.old + failed_reads result }
     ensures writes { K.failures out.new ≡ K.failures out.old + failed_writes result }
 {

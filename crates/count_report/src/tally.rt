@@ -15,10 +15,10 @@ use std::thread;
 use std::thread::Threads;
 
 /// The fewest records that are worth several threads.
-const LEAST_RECORDS: u64 = 4096;
+const MIN_PARALLEL_RECORDS: u64 = 4096;
 
 /// The number of logs counted at a time if the number of processors is unknown.
-const GROUP: u32 = 8;
+const DEFAULT_GROUP_SIZE: u32 = 8;
 
 /// How often each key occurs in all logs together, by key number. Drops the records, and for long
 /// logs counts in parallel with that.
@@ -33,7 +33,7 @@ pub fn counts_after<R: Threads + Sync>(
 {
     if are_few(logs) {
         drop(records);
-        return counts_in_turn(alloc, logs);
+        return counts_sequential(alloc, logs);
     }
     let (_, counts) = thread::join(
         rt,
@@ -41,7 +41,7 @@ pub fn counts_after<R: Threads + Sync>(
         || -> Result<Table, Memory>
             requires { IsSync R.row × IsValidLogs logs.now }
             ensures { IfOk result (λ table. AreCountsByNumber logs.entry.now table.counts) }
-        { counts_in_groups(rt, alloc, logs) },
+        { counts_parallel(rt, alloc, logs) },
     );
     counts
 }
@@ -52,11 +52,11 @@ fn are_few<L: LogRead>(logs: &L) -> bool {
     for p in 0..logs.partitions() {
         records = records.saturating_add(u64::from(logs.len(p)));
     }
-    logs.partitions() == 1 || records < LEAST_RECORDS
+    logs.partitions() == 1 || records < MIN_PARALLEL_RECORDS
 }
 
 /// The counts of all logs, made on this thread.
-pub fn counts_in_turn<L: LogRead>(alloc: Global, logs: &L) -> Result<Table, Memory>
+pub fn counts_sequential<L: LogRead>(alloc: Global, logs: &L) -> Result<Table, Memory>
     requires { IsValidLogs (L.contents logs.now) }
     ensures { IfOk result (λ table. AreCountsByNumber (L.contents logs.now) table.counts) }
 {
@@ -68,7 +68,7 @@ pub fn counts_in_turn<L: LogRead>(alloc: Global, logs: &L) -> Result<Table, Memo
 }
 
 /// The counts of all logs, made in parallel, a group of logs at a time.
-pub fn counts_in_groups<R: Threads + Sync, L: LogRead + Sync>(
+pub fn counts_parallel<R: Threads + Sync, L: LogRead + Sync>(
     rt: &R,
     alloc: Global,
     logs: &L,
@@ -127,7 +127,7 @@ fn group_size(rt: &impl Threads) -> u32
 {
     match thread::available_parallelism(rt) {
         Ok(count) => (count.get().min(MOST_PARTITIONS as usize) * 2) as u32,
-        Err(_) => GROUP,
+        Err(_) => DEFAULT_GROUP_SIZE,
     }
 }
 
@@ -142,7 +142,7 @@ fn add_group<R: Threads + Sync, L: LogRead + Sync>(
 ) -> Result<(), Memory>
     requires valid { IsValidLogs (L.contents logs.now) }
     requires range { (from ≤ to) × (to ≤ (L.contents logs.now).partitions) }
-    requires before { AreCountsBelow (L.contents logs.now) from table.old.counts }
+    requires table { AreCountsBelow (L.contents logs.now) from table.old.counts }
     ensures { OnOk result (AreCountsBelow (L.contents logs.now) to table.new.counts) }
 {
     let group = group_counts(rt, alloc, logs, from, to)?;
@@ -158,7 +158,7 @@ fn merge_group<L: LogRead>(
 ) -> Result<(), Memory>
     requires valid { IsValidLogs (L.contents logs.now) }
     requires range { (from ≤ to) × (to ≤ (L.contents logs.now).partitions) }
-    requires before { AreCountsBelow (L.contents logs.now) from table.old.counts }
+    requires table { AreCountsBelow (L.contents logs.now) from table.old.counts }
     requires len { length group.now ≡ to - from }
     requires counts { AreCountsFrom (L.contents logs.now) from (to - from) group.now }
     ensures { OnOk result (AreCountsBelow (L.contents logs.now) to table.new.counts) }

@@ -12,9 +12,9 @@ use Rattle.coop_rebalance.proofs.Rounds.{settles}
 use Rattle.group_machine.specs.declared.group.Seat.{Seat}
 use Rattle.group_machine.specs.Slots.{present}
 use Rattle.group_machine.specs.State.{GroupState, member_of, members, is_anybody, seat_granted, seat_assigned, granted_of, assigned_of}
-use Rattle.group_machine.specs.Good.{IsSized, IsFit, AllFit, IsApart}
+use Rattle.group_machine.specs.Valid.{IsSized, IsConsistentSeat, AreConsistentSeats, IsDisjoint}
 use Rattle.group_machine.proofs.PresentLemmas.{RisesFrom, rising, find_present, any_count}
-use Rattle.group_machine.proofs.GroupLemmas.{numbers_of, members_rise, over_from, length_map, rows_apart}
+use Rattle.group_machine.proofs.GroupLemmas.{numbers_of, members_rise, over_from, length_map, rows_disjoint}
 use Rattle.group_laws.specs.Rounds.{assigned_rows}
 
 pub members_assigned : (g : GroupState) → rows.members (assigned_rows g) ≡ members g
@@ -33,31 +33,31 @@ HasPartitions g = (1 ≤ g.partitions) × (g.partitions ≤ MOST_PARTITIONS)
 pub has_partitions : (g : GroupState) → IsSized g → HasPartitions g
 has_partitions g sized = (sized.some_partitions, sized.few_partitions)
 
-assigned_kept : (g : GroupState) → HasPartitions g → AllFit g → IsValidRows (assigned_rows g)
-assigned_kept g has fit = record {
+assigned_kept : (g : GroupState) → HasPartitions g → AreConsistentSeats g → IsValidRows (assigned_rows g)
+assigned_kept g has consistent = record {
   some = has.0;
   few = has.1;
   rising = rising 1 (rows.members (assigned_rows g)) (subst (RisesFrom 1) (sym (members_assigned g)) (members_rise g));
-  over = over_from g.partitions (λ x. x.assigned) 1 g.slots (λ k x is. (fit (suc k) x is).assigned_below);
+  over = over_from g.partitions (λ x. x.assigned) 1 g.slots (λ k x is. (consistent (suc k) x is).assigned_below);
 }
 
-granted_within : (p : ℕ) (o : Option Seat) → ((x : Seat) → o ≡ Some x → IsFit p x) → (q : ℕ) → is_in (seat_assigned p o) q ≡ true → is_in (seat_granted p o) q ≡ true
-granted_within p None fit q e = e
-granted_within p (Some x) fit q e = within_says x.assigned x.granted ((fit x refl).within) q e
+granted_within : (p : ℕ) (o : Option Seat) → ((x : Seat) → o ≡ Some x → IsConsistentSeat p x) → (q : ℕ) → is_in (seat_assigned p o) q ≡ true → is_in (seat_granted p o) q ≡ true
+granted_within p None consistent q e = e
+granted_within p (Some x) consistent q e = within_says x.assigned x.granted ((consistent x refl).within) q e
 
-pub assigned_in_granted : (g : GroupState) → AllFit g → (m q : ℕ) → is_in (assigned_of g m) q ≡ true → is_in (granted_of g m) q ≡ true
-assigned_in_granted g fit m q e = granted_within g.partitions (member_of g m) (λ x is. fit m x is) q e
+pub assigned_in_granted : (g : GroupState) → AreConsistentSeats g → (m q : ℕ) → is_in (assigned_of g m) q ≡ true → is_in (granted_of g m) q ≡ true
+assigned_in_granted g consistent m q e = granted_within g.partitions (member_of g m) (λ x is. consistent m x is) q e
 
-pub assigned_owned : (g : GroupState) → HasPartitions g → AllFit g → IsApart g → is_anybody g ≡ true → AreGranted (assigned_rows g)
-assigned_owned g has fit apart any = record {
-  valid = assigned_kept g has fit;
+pub assigned_owned : (g : GroupState) → HasPartitions g → AreConsistentSeats g → IsDisjoint g → is_anybody g ≡ true → AreGranted (assigned_rows g)
+assigned_owned g has consistent disjoint any = record {
+  valid = assigned_kept g has consistent;
   some = omega (arith, any_count g.slots any, length_map {B = ℕ × PartitionSet} (λ (m : ℕ × Seat). (m.0, m.1.assigned)) (present g.slots));
-  apart = rows_apart (assigned_rows g) (subst (RisesFrom 1) (sym (members_assigned g)) (members_rise g)) (λ m n q e h.
-      apart m n q (assigned_in_granted g fit m q (ap (λ s. is_in s q) (sym (set_assigned g m)) ∙ e)) (assigned_in_granted g fit n q (ap (λ s. is_in s q) (sym (set_assigned g n)) ∙ h)));
+  disjoint = rows_disjoint (assigned_rows g) (subst (RisesFrom 1) (sym (members_assigned g)) (members_rise g)) (λ m n q e h.
+      disjoint m n q (assigned_in_granted g consistent m q (ap (λ s. is_in s q) (sym (set_assigned g m)) ∙ e)) (assigned_in_granted g consistent n q (ap (λ s. is_in s q) (sym (set_assigned g n)) ∙ h)));
 }
 
 second : (r : SetRows) → AreGranted r → Settles (next_rows r)
-second r owned = settles r owned.valid owned.some owned.apart
+second r owned = settles r owned.valid owned.some owned.disjoint
 
 pub second_all : (r : SetRows) → AreGranted r → next_rows (next_rows r) ≡ target_rows (next_rows r)
 second_all r owned = (second r owned).all

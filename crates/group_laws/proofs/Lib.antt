@@ -1,10 +1,10 @@
 pub mod AssignedLemmas
-pub mod CalmLemmas
-pub mod EndLemmas
-pub mod FinishLemmas
-pub mod HandedEnd
+pub mod FourPasses
+pub mod ResultFacts
+pub mod ResultLemmas
+pub mod TakeOverResult
 pub mod NameLemmas
-pub mod NearLemmas
+pub mod WithinBalancedLemmas
 pub mod OtherLemmas
 pub mod PassLemmas
 pub mod SlotsLemmas

@@ -13,7 +13,7 @@ use Rattle.group_machine.specs.Slots.{seat_in, seat_of}
 use Rattle.group_machine.specs.State.{GroupState, member_of, is_present, is_anybody, seat_joined, seat_synced, seat_granted, seat_assigned, granted_rows}
 use Rattle.group_machine.specs.Completion.{all_joined, is_ready, completed_seat, complete, completed}
 use Rattle.group_machine.specs.Steps.{newcomer, joining, join_answer, joined_by, rejoined_seat, rejoining, rejoined_by, rejoin_answer, synced_seat, synced_by, leaving, leave_answer, left_by}
-use Rattle.group_machine.specs.Good.{IsFit, IsValidGroup}
+use Rattle.group_machine.specs.Valid.{IsConsistentSeat, IsValidGroup}
 use Rattle.group_machine.specs.Private.Changes.{IsChanged}
 use Rattle.group_machine.proofs.SlotsLemmas.{same_id, other_id, seat_each, seat_without, one_is_each, at_only}
 use Rattle.group_machine.proofs.Rows.{set_over}
@@ -24,27 +24,27 @@ use Rattle.group_machine.proofs.PresentLemmas.{some_on}
 use Rattle.group_machine.proofs.JoinLemmas.{seat_before, seat_last, accepted_join}
 use Rattle.group_laws.specs.Others.{IsAsBefore, IsInNextGeneration, LeavesMember, LeavesOthers, IsNewcomer, HasRejoined, LeavesRejoined, LeavesSynced}
 use Rattle.group_laws.proofs.StepLemmas.{synced_same}
-use Rattle.group_laws.proofs.FinishLemmas.{accepted}
+use Rattle.group_laws.proofs.ResultLemmas.{accepted}
 
 no_flags : (next : SetRows) (n : ℕ) (o : Option Seat) → (seat_joined (option_map (completed_seat next n) o) ≡ false) × (seat_synced (option_map (completed_seat next n) o) ≡ false)
 no_flags next n None = (refl, refl)
 no_flags next n (Some x) = (refl, refl)
 
-more_granted : (p : ℕ) (next : SetRows) (n q : ℕ) (o : Option Seat) → ((x : Seat) → o ≡ Some x → IsFit p x) → partitions_of (set_of next n) ≡ p → is_in (seat_granted p o) q ≡ true → is_in (seat_granted p (option_map (completed_seat next n) o)) q ≡ true
-more_granted p next n q None fit over e = e
-more_granted p next n q (Some x) fit over e = in_union x.granted (set_of next n) q ((fit x refl).granted_below ∙ sym over) ∙ rw e refl
+more_granted : (p : ℕ) (next : SetRows) (n q : ℕ) (o : Option Seat) → ((x : Seat) → o ≡ Some x → IsConsistentSeat p x) → partitions_of (set_of next n) ≡ p → is_in (seat_granted p o) q ≡ true → is_in (seat_granted p (option_map (completed_seat next n) o)) q ≡ true
+more_granted p next n q None consistent over e = e
+more_granted p next n q (Some x) consistent over e = in_union x.granted (set_of next n) q ((consistent x refl).granted_below ∙ sym over) ∙ rw e refl
 
 completion_leaves : (g : GroupState) → IsChanged g → is_ready g ≡ true → (n : ℕ) → LeavesMember g (complete g) n
 completion_leaves g c ready n =
     let any : is_anybody g ≡ true = (both_true (is_anybody g) (all_joined g) ready).0 in
     let next : SetRows = next_rows (granted_rows g) in
-    let owned : AreGranted (granted_rows g) = granted_owned g c.sized c.fit c.apart any in
+    let owned : AreGranted (granted_rows g) = granted_owned g c.sized c.consistent c.disjoint any in
     let over : partitions_of (set_of next n) ≡ g.partitions = set_over next n (next_kept (granted_rows g) owned) ∙ next_below (granted_rows g) owned in
     let at : member_of (complete g) n ≡ option_map (completed_seat next n) (member_of g n) = seat_each (completed_seat next) g.slots n in
     let flags = no_flags next n (member_of g n) in
     record {
       present = ap is_some at ∙ some_on (completed_seat next n) (member_of g n);
-      granted = λ q e. ap (λ o. is_in (seat_granted g.partitions o) q) at ∙ more_granted g.partitions next n q (member_of g n) (λ x is. c.fit n x is) over e;
+      granted = λ q e. ap (λ o. is_in (seat_granted g.partitions o) q) at ∙ more_granted g.partitions next n q (member_of g n) (λ x is. c.consistent n x is) over e;
       either = inr (record { generation = refl; joined = ap seat_joined at ∙ flags.0; synced = ap seat_synced at ∙ flags.1 });
     }
 

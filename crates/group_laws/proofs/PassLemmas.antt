@@ -10,18 +10,18 @@ use Rattle.group_machine.specs.State.{GroupState, member_of, members, is_present
 use Rattle.group_machine.specs.Completion.{is_ready, completed_seat, next_rows_of, complete, completed}
 use Rattle.group_machine.specs.Settled.{is_stable, agrees, all_agree, is_settled}
 use Rattle.group_machine.specs.Steps.{rejoined_seat, rejoining, rejoined_by, synced_by}
-use Rattle.group_machine.specs.Good.{IsValidGroup}
+use Rattle.group_machine.specs.Valid.{IsValidGroup}
 use Rattle.group_machine.proofs.PresentLemmas.{Listed, listed_present, numbers_each, any_each, all_says, some_on}
 use Rattle.group_machine.proofs.SlotsLemmas.{one_is_each, at_only}
-use Rattle.group_machine.proofs.StepLemmas.{any_rejoining, any_of_present, sync_good, rejoining_fit, rejoining_apart}
+use Rattle.group_machine.proofs.StepLemmas.{any_rejoining, any_of_present, sync_valid, rejoining_consistent, rejoining_disjoint}
 use Rattle.group_machine.proofs.JoinLemmas.{completed_present}
-use Rattle.group_laws.specs.Rounds.{finish}
+use Rattle.group_laws.specs.Rounds.{rebalance_result}
 use Rattle.group_machine.specs.NextSteps.{has_to_rejoin}
-use Rattle.group_laws.specs.Passes.{synced_if_new, rejoined_if_due, turned, turned_each, passed}
+use Rattle.group_laws.specs.Passes.{synced_if_new, rejoined_if_due, after_turn, after_turns, after_pass}
 use Rattle.group_laws.proofs.AssignedLemmas.{has_partitions}
-use Rattle.group_laws.proofs.StepLemmas.{any_synced, synced_same, rejoin_good}
+use Rattle.group_laws.proofs.StepLemmas.{any_synced, synced_same, rejoin_valid}
 use Rattle.group_laws.proofs.OtherLemmas.{rejoining_at}
-use Rattle.group_laws.proofs.FinishLemmas.{completed_finish, sync_finish, rejoining_finish}
+use Rattle.group_laws.proofs.ResultLemmas.{completed_result, sync_result, rejoining_result}
 
 and_listed : (n m : ℕ) (o : Option Seat) (rows : List (ℕ × Seat)) → ((n ≡ m) × (x : Seat) × (o ≡ Some x)) ⊎ Listed n (map (λ r. r.0) rows) → Listed n (map (λ r. r.0) (and_member m o rows))
 and_listed n m None rows (inl h) = let none = h.2 in cc
@@ -72,7 +72,7 @@ new_valid g member valid = go (is_joined g member || is_synced g member)
   where
     go : (b : Bool) → IsValidGroup (cond b g (synced_by g member))
     go true = valid
-    go false = sync_good g member valid
+    go false = sync_valid g member valid
 
 -- ---- the rejoin of a turn, for one that has to
 due_same : {X : Type 0} (h : GroupState → X) (g : GroupState) (member : ℕ) → h (rejoined_by g member) ≡ h g → h (rejoined_if_due g member) ≡ h g
@@ -88,7 +88,7 @@ unfolding rejoined_if_due
 due_valid g member valid here = go (has_to_rejoin g member)
   where
     go : (b : Bool) → IsValidGroup (cond b (rejoined_by g member) g)
-    go true = rejoin_good g member valid here
+    go true = rejoin_valid g member valid here
     go false = valid
 
 seat_same : (p : ℕ) (o : Option Seat) → ((x : Seat) → o ≡ Some x → agrees x ≡ true) → is_same (seat_granted p o) (seat_assigned p o) ≡ true
@@ -114,37 +114,37 @@ due_unsettled g member due = go (is_settled g) refl
     go true e = absurd (false≢true (sym (settled_not_due g member e) ∙ due))
     go false e = e
 
-due_finish : (g : GroupState) (member : ℕ) → IsValidGroup g → is_present g member ≡ true → finish (rejoined_if_due g member) ≡ finish g
+due_result : (g : GroupState) (member : ℕ) → IsValidGroup g → is_present g member ≡ true → rebalance_result (rejoined_if_due g member) ≡ rebalance_result g
 unfolding rejoined_if_due
-due_finish g member valid here = go (has_to_rejoin g member) refl
+due_result g member valid here = go (has_to_rejoin g member) refl
   where
-    go : (b : Bool) → has_to_rejoin g member ≡ b → finish (cond b (rejoined_by g member) g) ≡ finish g
+    go : (b : Bool) → has_to_rejoin g member ≡ b → rebalance_result (cond b (rejoined_by g member) g) ≡ rebalance_result g
     go true e =
-        completed_finish (rejoining g member) (has_partitions g valid.sized) (rejoining_fit g member valid.fit) (rejoining_apart g member valid.fit valid.apart) refl
-        ∙ rejoining_finish g member (any_of_present g member here) (due_unsettled g member e)
+        completed_result (rejoining g member) (has_partitions g valid.sized) (rejoining_consistent g member valid.consistent) (rejoining_disjoint g member valid.consistent valid.disjoint) refl
+        ∙ rejoining_result g member (any_of_present g member here) (due_unsettled g member e)
     go false e = refl
 
 -- ---- a turn
 pub new_present : (g : GroupState) (member n : ℕ) → is_present (synced_if_new g member) n ≡ is_present g n
 new_present g member n = new_same (λ s. is_present s n) g member (synced_present g member n)
 
-pub turned_valid : (g : GroupState) (member : ℕ) → IsValidGroup g → is_present g member ≡ true → IsValidGroup (turned g member)
-turned_valid g member valid here = due_valid (synced_if_new g member) member (new_valid g member valid) (new_present g member member ∙ here)
+pub after_turn_valid : (g : GroupState) (member : ℕ) → IsValidGroup g → is_present g member ≡ true → IsValidGroup (after_turn g member)
+after_turn_valid g member valid here = due_valid (synced_if_new g member) member (new_valid g member valid) (new_present g member member ∙ here)
 
-pub turned_present : (g : GroupState) (member n : ℕ) → is_present (turned g member) n ≡ is_present g n
-turned_present g member n =
+pub after_turn_present : (g : GroupState) (member n : ℕ) → is_present (after_turn g member) n ≡ is_present g n
+after_turn_present g member n =
     due_same (λ s. is_present s n) (synced_if_new g member) member (rejoined_present (synced_if_new g member) member n)
     ∙ new_present g member n
 
-pub turned_any : (g : GroupState) (member : ℕ) → is_anybody (turned g member) ≡ is_anybody g
-turned_any g member =
+pub after_turn_any : (g : GroupState) (member : ℕ) → is_anybody (after_turn g member) ≡ is_anybody g
+after_turn_any g member =
     due_same is_anybody (synced_if_new g member) member (rejoined_any (synced_if_new g member) member)
     ∙ new_same is_anybody g member (any_synced g member)
 
-pub turned_finish : (g : GroupState) (member : ℕ) → IsValidGroup g → is_present g member ≡ true → finish (turned g member) ≡ finish g
-turned_finish g member valid here =
-    due_finish (synced_if_new g member) member (new_valid g member valid) (new_present g member member ∙ here)
-    ∙ new_same finish g member (sync_finish g member)
+pub after_turn_result : (g : GroupState) (member : ℕ) → IsValidGroup g → is_present g member ≡ true → rebalance_result (after_turn g member) ≡ rebalance_result g
+after_turn_result g member valid here =
+    due_result (synced_if_new g member) member (new_valid g member valid) (new_present g member member ∙ here)
+    ∙ new_same rebalance_result g member (sync_result g member)
 
 -- ---- a pass
 abbrev pub ArePresent : GroupState → List ℕ → Type 0
@@ -153,36 +153,36 @@ ArePresent g ms = (n : ℕ) → Listed n ms → is_present g n ≡ true
 members_present : (g : GroupState) → ArePresent g (members g)
 members_present g n listed = let x = listed_present g.slots n listed in ap is_some x.1
 
-present_behind : (g : GroupState) (member : ℕ) (rest : List ℕ) → ArePresent g (member ∷ rest) → ArePresent (turned g member) rest
-present_behind g member rest here n listed = turned_present g member n ∙ here n (inr listed)
+present_behind : (g : GroupState) (member : ℕ) (rest : List ℕ) → ArePresent g (member ∷ rest) → ArePresent (after_turn g member) rest
+present_behind g member rest here n listed = after_turn_present g member n ∙ here n (inr listed)
 
-each_same : {X : Type 0} (h : GroupState → X) → ((g : GroupState) (member : ℕ) → h (turned g member) ≡ h g) → (g : GroupState) (ms : List ℕ) → h (turned_each g ms) ≡ h g
+each_same : {X : Type 0} (h : GroupState → X) → ((g : GroupState) (member : ℕ) → h (after_turn g member) ≡ h g) → (g : GroupState) (ms : List ℕ) → h (after_turns g ms) ≡ h g
 each_same h same g [] = refl
-each_same h same g (m ∷ ms) = each_same h same (turned g m) ms ∙ same g m
+each_same h same g (m ∷ ms) = each_same h same (after_turn g m) ms ∙ same g m
 
-passed_same : {X : Type 0} (h : GroupState → X) → ((g : GroupState) (member : ℕ) → h (turned g member) ≡ h g) → (g : GroupState) → h (passed g) ≡ h g
-unfolding passed
-passed_same h same g = each_same h same g (members g)
+after_pass_same : {X : Type 0} (h : GroupState → X) → ((g : GroupState) (member : ℕ) → h (after_turn g member) ≡ h g) → (g : GroupState) → h (after_pass g) ≡ h g
+unfolding after_pass
+after_pass_same h same g = each_same h same g (members g)
 
-pub passed_any : (g : GroupState) → is_anybody (passed g) ≡ is_anybody g
-passed_any g = passed_same is_anybody turned_any g
+pub after_pass_any : (g : GroupState) → is_anybody (after_pass g) ≡ is_anybody g
+after_pass_any g = after_pass_same is_anybody after_turn_any g
 
 -- what each turn keeps, by the members that are left, a pass keeps
 abbrev pub IsKept : (GroupState → List ℕ → Type 0) → Type 0
-IsKept holds = (g : GroupState) (member : ℕ) (rest : List ℕ) → IsValidGroup g → is_present g member ≡ true → holds g (member ∷ rest) → holds (turned g member) rest
+IsKept holds = (g : GroupState) (member : ℕ) (rest : List ℕ) → IsValidGroup g → is_present g member ≡ true → holds g (member ∷ rest) → holds (after_turn g member) rest
 
-each_keeps : (holds : GroupState → List ℕ → Type 0) → IsKept holds → (g : GroupState) (ms : List ℕ) → IsValidGroup g → ArePresent g ms → holds g ms → holds (turned_each g ms) []
-each_keeps holds kept g [] valid here first = first
-each_keeps holds kept g (m ∷ ms) valid here first =
+each_keeps : (holds : GroupState → List ℕ → Type 0) → IsKept holds → (g : GroupState) (ms : List ℕ) → IsValidGroup g → ArePresent g ms → holds g ms → holds (after_turns g ms) []
+each_keeps holds is_static g [] valid here first = first
+each_keeps holds is_static g (m ∷ ms) valid here first =
     let at : is_present g m ≡ true = here m (inl refl) in
-    each_keeps holds kept (turned g m) ms (turned_valid g m valid at) (present_behind g m ms here) (kept g m ms valid at first)
+    each_keeps holds is_static (after_turn g m) ms (after_turn_valid g m valid at) (present_behind g m ms here) (is_static g m ms valid at first)
 
-pub passed_keeps : (holds : GroupState → List ℕ → Type 0) → IsKept holds → (g : GroupState) → IsValidGroup g → holds g (members g) → holds (passed g) []
-unfolding passed
-passed_keeps holds kept g valid first = each_keeps holds kept g (members g) valid (members_present g) first
+pub after_pass_keeps : (holds : GroupState → List ℕ → Type 0) → IsKept holds → (g : GroupState) → IsValidGroup g → holds g (members g) → holds (after_pass g) []
+unfolding after_pass
+after_pass_keeps holds is_static g valid first = each_keeps holds is_static g (members g) valid (members_present g) first
 
-pub passed_valid : (g : GroupState) → IsValidGroup g → IsValidGroup (passed g)
-passed_valid g valid = passed_keeps (λ s rest. IsValidGroup s) (λ s m rest v here held. turned_valid s m v here) g valid valid
+pub after_pass_valid : (g : GroupState) → IsValidGroup g → IsValidGroup (after_pass g)
+after_pass_valid g valid = after_pass_keeps (λ s rest. IsValidGroup s) (λ s m rest v here held. after_turn_valid s m v here) g valid valid
 
-pub passed_finish : (g : GroupState) → IsValidGroup g → finish (passed g) ≡ finish g
-passed_finish g valid = passed_keeps (λ s rest. finish s ≡ finish g) (λ s m rest v here same. turned_finish s m v here ∙ same) g valid refl
+pub after_pass_result : (g : GroupState) → IsValidGroup g → rebalance_result (after_pass g) ≡ rebalance_result g
+after_pass_result g valid = after_pass_keeps (λ s rest. rebalance_result s ≡ rebalance_result g) (λ s m rest v here same. after_turn_result s m v here ∙ same) g valid refl

@@ -4,28 +4,28 @@ use Rattle.lane_words.specs.declared.limits.TheConstants.{MOST_MEMBERS}
 use Rattle.group_machine.specs.declared.group.Seat.{Seat}
 use Rattle.group_machine.specs.State.{GroupState, member_of, members, is_present, is_anybody}
 use Rattle.group_machine.specs.Completion.{is_ready, complete, completed}
-use Rattle.group_machine.specs.Good.{IsValidGroup}
+use Rattle.group_machine.specs.Valid.{IsValidGroup}
 use Rattle.group_machine.specs.Private.Changes.{IsChanged}
 use Rattle.group_machine.specs.Settled.{is_settled}
 use Rattle.group_machine.specs.Steps.{joining, joined_by, rejoining, rejoined_by, synced_seat, synced_by, leaving, left_by}
-use Rattle.group_machine.proofs.CompletionLemmas.{next_good, complete_good}
+use Rattle.group_machine.proofs.CompletionLemmas.{next_valid, complete_valid}
 use Rattle.group_machine.proofs.StepLemmas.{joining_changed, rejoining_changed, leaving_changed, flag_same, any_flag, members_flag, settled_flag, sync_flag}
 
-pub completed_good : (g : GroupState) → IsChanged g → IsValidGroup (completed g)
-completed_good g n = go (is_ready g) refl
+pub completed_valid : (g : GroupState) → IsChanged g → IsValidGroup (completed g)
+completed_valid g n = go (is_ready g) refl
   where
     go : (b : Bool) → is_ready g ≡ b → IsValidGroup (cond b (complete g) g)
-    go true e = complete_good g n e
-    go false e = next_good g n e
+    go true e = complete_valid g n e
+    go false e = next_valid g n e
 
-pub join_good : (g : GroupState) (name : List ℕ) → IsValidGroup g → length g.slots < MOST_MEMBERS → IsValidGroup (joined_by g name)
-join_good g name good room = completed_good (joining g name) (joining_changed g name good room)
+pub join_valid : (g : GroupState) (name : List ℕ) → IsValidGroup g → length g.slots < MOST_MEMBERS → IsValidGroup (joined_by g name)
+join_valid g name good capacity = completed_valid (joining g name) (joining_changed g name good capacity)
 
-pub rejoin_good : (g : GroupState) (member : ℕ) → IsValidGroup g → is_present g member ≡ true → IsValidGroup (rejoined_by g member)
-rejoin_good g member good here = completed_good (rejoining g member) (rejoining_changed g member good here)
+pub rejoin_valid : (g : GroupState) (member : ℕ) → IsValidGroup g → is_present g member ≡ true → IsValidGroup (rejoined_by g member)
+rejoin_valid g member good here = completed_valid (rejoining g member) (rejoining_changed g member good here)
 
-pub leave_good : (g : GroupState) (member : ℕ) → IsValidGroup g → is_present g member ≡ true → IsValidGroup (left_by g member)
-leave_good g member good here = completed_good (leaving g member) (leaving_changed g member good here)
+pub leave_valid : (g : GroupState) (member : ℕ) → IsValidGroup g → is_present g member ≡ true → IsValidGroup (left_by g member)
+leave_valid g member good here = completed_valid (leaving g member) (leaving_changed g member good here)
 
 pub synced_same : {X : Type 0} (h : Option Seat → X) → ((x : Seat) → h (Some (synced_seat x)) ≡ h (Some x)) → (g : GroupState) (member m : ℕ) → h (member_of (synced_by g member) m) ≡ h (member_of g m)
 synced_same h same g member m = flag_same synced_seat h same g member m

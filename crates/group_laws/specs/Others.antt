@@ -1,8 +1,8 @@
 -- What a step preserves of the members that it is not about.
 use Rattle.std.specs.Prelude.{◌≡◌, ℕ, ◌+◌, ◌≤◌, ◌⊎◌, List, Some, true, false, Ok}
 use Rattle.bit_planes.specs.PartitionSet.{PartitionSet, is_in}
-use Rattle.group_machine.specs.State.{GroupState, member_of, is_present, is_joined, is_synced, is_kept, granted_of, assigned_of, name_of, kept_member}
-use Rattle.group_machine.specs.Good.{IsValidGroup}
+use Rattle.group_machine.specs.State.{GroupState, member_of, is_present, is_joined, is_synced, is_kept, granted_of, assigned_of, name_of, static_member}
+use Rattle.group_machine.specs.Valid.{IsValidGroup}
 use Rattle.group_machine.specs.Steps.{join_answer, rejoin_answer, take_over_answer}
 
 -- a member is unchanged, in the same generation
@@ -39,21 +39,21 @@ pub record IsNewcomer (old new : GroupState) (n : ℕ) : Type 0 where
 
 -- the static member n has the seat of m, which is gone, under the same name: it has joined if m
 -- had, and is granted and assigned what m was
-pub record HasPlaceOf (old new : GroupState) (m n : ℕ) : Type 0 where
+pub record HasSeatOf (old new : GroupState) (m n : ℕ) : Type 0 where
   pub was_present : is_present old m ≡ true
   pub gone : is_present new m ≡ false
   pub named : name_of new n ≡ name_of old m
-  pub kept : is_kept new n ≡ true
+  pub is_static : is_kept new n ≡ true
   pub joined : is_joined new n ≡ is_joined old m
   pub granted : granted_of new n ≡ granted_of old m
   pub assigned : assigned_of new n ≡ assigned_of old m
 
 -- the seat of m was handed on to n, which is new; all others and the generation are unchanged
-pub record IsHandedOn (old new : GroupState) (m n : ℕ) : Type 0 where
+pub record IsTakenOver (old new : GroupState) (m n : ℕ) : Type 0 where
   pub partitions : new.partitions ≡ old.partitions
   pub generation : new.generation ≡ old.generation
   pub newcomer : IsNewcomer old new n
-  pub seat : HasPlaceOf old new m n
+  pub seat : HasSeatOf old new m n
   pub others : (k : ℕ) → (k ≡ m → ⊥) → (k ≡ n → ⊥) → member_of new k ≡ member_of old k
 
 -- a join that is accepted, in a valid group, with the new number
@@ -74,7 +74,7 @@ pub record IsAcceptedTakeOver (g : GroupState) (name : List ℕ) : Type 0 where
   pub member : ℕ
   pub number : ℕ
   pub valid : IsValidGroup g
-  pub from : kept_member g name ≡ Some member
+  pub from : static_member g name ≡ Some member
   pub accepted : take_over_answer g name ≡ Ok number
 
 -- a member has rejoined in the same generation, and is granted exactly what it was assigned

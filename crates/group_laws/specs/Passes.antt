@@ -7,8 +7,8 @@ use Rattle.group_machine.specs.Settled.{is_settled}
 use Rattle.group_machine.specs.Steps.{rejoined_by, synced_by}
 
 -- the group is settled, and all members have synced
-abbrev pub is_calm : GroupState → Bool
-is_calm g = is_settled g && list_all (is_synced g) (members g)
+abbrev pub is_settled_and_synced : GroupState → Bool
+is_settled_and_synced g = is_settled g && list_all (is_synced g) (members g)
 
 -- a member syncs if it has neither joined nor synced
 unfoldable pub synced_if_new : GroupState → ℕ → GroupState
@@ -20,14 +20,14 @@ unfoldable pub rejoined_if_due : GroupState → ℕ → GroupState
 rejoined_if_due g member = if has_to_rejoin g member then rejoined_by g member else g
 
 -- a member's turn: it syncs if it is new, and rejoins if it then has to
-abbrev pub turned : GroupState → ℕ → GroupState
-turned g member = rejoined_if_due (synced_if_new g member) member
+abbrev pub after_turn : GroupState → ℕ → GroupState
+after_turn g member = rejoined_if_due (synced_if_new g member) member
 
 -- the turns of these members, one after the other
-abbrev pub turned_each : GroupState → List ℕ → GroupState
-turned_each g [] = g
-turned_each g (member ∷ rest) = turned_each (turned g member) rest
+abbrev pub after_turns : GroupState → List ℕ → GroupState
+after_turns g [] = g
+after_turns g (member ∷ rest) = after_turns (after_turn g member) rest
 
 -- one pass: the turns of all present members, in rising order
-unfoldable pub passed : GroupState → GroupState
-passed g = turned_each g (members g)
+unfoldable pub after_pass : GroupState → GroupState
+after_pass g = after_turns g (members g)

@@ -5,12 +5,12 @@ ghost use Rattle.group_machine.specs.State.{GroupState, is_anybody, is_kept, is_
 ghost use Rattle.group_machine.specs.Completion.{next_rows_of};
 ghost use Rattle.group_machine.specs.Moves.{takes, taker};
 ghost use Rattle.group_machine.specs.Settled.{is_settled};
-ghost use Rattle.group_machine.specs.Steps.{joined_by, joined_kept_by, leave_answer, left_by, rejoined_by, synced_by, taken_over_by};
-ghost use Rattle.group_machine.specs.Good.{IsValidGroup};
+ghost use Rattle.group_machine.specs.Steps.{joined_by, joined_static_by, leave_answer, left_by, rejoined_by, synced_by, taken_over_by};
+ghost use Rattle.group_machine.specs.Valid.{IsValidGroup};
 ghost use Rattle.group_laws.specs.Names.{HasNumber, names};
-ghost use Rattle.group_laws.specs.Rounds.{bare, round, finish, IsSound};
-ghost use Rattle.group_laws.specs.Passes.{turned, passed, is_calm};
-ghost use Rattle.group_laws.specs.Others.{IsAcceptedJoin, IsAcceptedRejoin, IsAcceptedTakeOver, IsHandedOn, IsNewcomer, LeavesOthers, LeavesRejoined, LeavesSynced};
+ghost use Rattle.group_laws.specs.Rounds.{without_flags, round, rebalance_result, IsSound};
+ghost use Rattle.group_laws.specs.Passes.{after_turn, after_pass, is_settled_and_synced};
+ghost use Rattle.group_laws.specs.Others.{IsAcceptedJoin, IsAcceptedRejoin, IsAcceptedTakeOver, IsTakenOver, IsNewcomer, LeavesOthers, LeavesRejoined, LeavesSynced};
 
 /// Two rounds settle a group with a member, if no partition is granted to two members and each
 /// member's seat is consistent.
@@ -19,145 +19,145 @@ pub fn two_rounds_settle()
 {}
 
 /// A sync does not change the end of a rebalance, including moves and last holders.
-pub fn sync_keeps_the_end()
+pub fn sync_preserves_result()
     ensures { (g : GroupState) (member : ℕ)
-        → finish (synced_by g member) ≡ finish g }
+        → rebalance_result (synced_by g member) ≡ rebalance_result g }
 {}
 
 /// An accepted rejoin does not change the end of a rebalance, including moves and last holders.
-pub fn rejoin_keeps_the_end()
+pub fn rejoin_preserves_result()
     ensures { (g : GroupState) (member : ℕ) → IsAcceptedRejoin g member
-        → finish (rejoined_by g member) ≡ finish g }
+        → rebalance_result (rejoined_by g member) ≡ rebalance_result g }
 {}
 
 /// A member's turn does not change the end of a rebalance, including moves and last holders.
-pub fn a_turn_keeps_the_end()
+pub fn turn_preserves_result()
     ensures { (g : GroupState) (member : ℕ) → IsValidGroup g → is_present g member ≡ true
-        → finish (turned g member) ≡ finish g }
+        → rebalance_result (after_turn g member) ≡ rebalance_result g }
 {}
 
 /// Four passes settle any valid group with a member, and all members have synced then.
 pub fn four_passes_settle()
     ensures { (g : GroupState) → IsValidGroup g → is_anybody g ≡ true
-        → is_calm (passed (passed (passed (passed g)))) ≡ true }
+        → is_settled_and_synced (after_pass (after_pass (after_pass (after_pass g)))) ≡ true }
 {}
 
 /// A completion moves no partition to two members: its taker is the member that the moves name.
-pub fn one_member_takes_a_partition()
+pub fn each_partition_has_one_taker()
     ensures { (g : GroupState) → IsSound g → (q member : ℕ)
         → takes g (next_rows_of g) q member ≡ true → taker g (next_rows_of g) q ≡ Some member }
 {}
 
 /// A join leaves all other members.
-pub fn join_leaves_others()
+pub fn join_preserves_others()
     ensures { (g : GroupState) (name : List ℕ) (a : IsAcceptedJoin g name)
         → LeavesOthers g (joined_by g name) a.number }
 {}
 
 /// The member that joins is new and has not synced.
-pub fn join_brings_a_newcomer()
+pub fn join_adds_a_member()
     ensures { (g : GroupState) (name : List ℕ) (a : IsAcceptedJoin g name)
         → IsNewcomer g (joined_by g name) a.number }
 {}
 
 /// Both hold when a static member joins, and it is static then.
-pub fn a_kept_join_is_a_join()
+pub fn static_join_is_a_join()
     ensures others { (g : GroupState) (name : List ℕ) (a : IsAcceptedJoin g name)
-        → LeavesOthers g (joined_kept_by g name) a.number }
+        → LeavesOthers g (joined_static_by g name) a.number }
     ensures newcomer { (g : GroupState) (name : List ℕ) (a : IsAcceptedJoin g name)
-        → IsNewcomer g (joined_kept_by g name) a.number }
+        → IsNewcomer g (joined_static_by g name) a.number }
     ensures value { (g : GroupState) (name : List ℕ) (a : IsAcceptedJoin g name)
-        → is_kept (joined_kept_by g name) a.number ≡ true }
+        → is_kept (joined_static_by g name) a.number ≡ true }
 {}
 
 /// A take-over moves the seat of a static member to the next number.
-pub fn take_over_hands_on()
+pub fn take_over_moves_the_seat()
     ensures { (g : GroupState) (name : List ℕ) (a : IsAcceptedTakeOver g name)
-        → IsHandedOn g (taken_over_by g name) a.member a.number }
+        → IsTakenOver g (taken_over_by g name) a.member a.number }
 {}
 
 /// A take-over does not change whether the group is settled, and does not depend on the flags.
-pub fn take_over_starts_nothing()
+pub fn take_over_starts_no_rebalance()
     ensures settled { (g : GroupState) (name : List ℕ)
         → is_settled (taken_over_by g name) ≡ is_settled g }
     ensures flags { (g : GroupState) (name : List ℕ)
-        → bare (taken_over_by g name) ≡ taken_over_by (bare g) name }
+        → without_flags (taken_over_by g name) ≡ taken_over_by (without_flags g) name }
 {}
 
 /// The end of a rebalance after a take-over: for a settled group, the group with the seat taken
 /// over; for any other, its generation is the same. Free partitions may go to other members than
 /// without the take-over, since they go by the order of the numbers, and the new number is the
 /// last.
-pub fn take_over_keeps_the_end()
+pub fn take_over_preserves_result()
     ensures settled { (g : GroupState) (name : List ℕ) → is_settled g ≡ true
-        → finish (taken_over_by g name) ≡ taken_over_by (finish g) name }
+        → rebalance_result (taken_over_by g name) ≡ taken_over_by (rebalance_result g) name }
     ensures generation { (g : GroupState) (name : List ℕ) → IsAcceptedTakeOver g name
-        → (finish (taken_over_by g name)).generation ≡ (finish g).generation }
+        → (rebalance_result (taken_over_by g name)).generation ≡ (rebalance_result g).generation }
 {}
 
 /// An accepted rejoin leaves all other members.
-pub fn rejoin_leaves_others()
+pub fn rejoin_preserves_others()
     ensures { (g : GroupState) (member : ℕ) → IsAcceptedRejoin g member
         → LeavesOthers g (rejoined_by g member) member }
 {}
 
 /// A member that rejoins is granted what it was assigned.
-pub fn rejoin_leaves_what_is_kept()
+pub fn rejoin_grants_what_is_assigned()
     ensures { (g : GroupState) (member : ℕ) → IsAcceptedRejoin g member
         → LeavesRejoined g (rejoined_by g member) member }
 {}
 
 /// A leave leaves all other members.
-pub fn leave_leaves_others()
+pub fn leave_preserves_others()
     ensures { (g : GroupState) (member : ℕ) → IsValidGroup g → leave_answer g member ≡ Ok tt
         → LeavesOthers g (left_by g member) member }
 {}
 
 /// A member that has left is not present.
-pub fn leave_takes_its_member_out()
+pub fn leave_removes_the_member()
     ensures { (g : GroupState) (member : ℕ) → IsValidGroup g → leave_answer g member ≡ Ok tt
         → is_present (left_by g member) member ≡ false }
 {}
 
 /// A sync leaves all other members.
-pub fn sync_leaves_others()
+pub fn sync_preserves_others()
     ensures { (g : GroupState) (member : ℕ) → LeavesOthers g (synced_by g member) member }
 {}
 
 /// A present member that syncs has synced then. Nothing else of it changes.
-pub fn sync_marks_its_member()
+pub fn sync_sets_the_flag()
     ensures { (g : GroupState) (member : ℕ) → LeavesSynced g (synced_by g member) member }
 {}
 
 /// The end of a rebalance after a join does not depend on the flags before it.
-pub fn a_join_ends_where_it_ends_without_flags()
+pub fn join_result_ignores_flags()
     ensures { (g : GroupState) (name : List ℕ) → IsValidGroup g
-        → finish (joined_by g name)
-        ≡ finish (joined_by (bare g) name) }
+        → rebalance_result (joined_by g name)
+        ≡ rebalance_result (joined_by (without_flags g) name) }
 {}
 
 /// The end of a rebalance after a leave or a loss does not depend on the flags before it.
-pub fn a_leave_ends_where_it_ends_without_flags()
+pub fn leave_result_ignores_flags()
     ensures { (g : GroupState) (member : ℕ) → IsValidGroup g
-        → finish (left_by g member)
-        ≡ finish (left_by (bare g) member) }
+        → rebalance_result (left_by g member)
+        ≡ rebalance_result (left_by (without_flags g) member) }
 {}
 
 /// A rebalance never lowers the generation, and adds at most two.
-pub fn an_end_adds_at_most_two_generations()
-    ensures rises { (g : GroupState) → g.generation ≤ (finish g).generation }
-    ensures at_most { (g : GroupState) → (finish g).generation ≤ g.generation + 2 }
+pub fn rebalance_adds_at_most_two_generations()
+    ensures sorted { (g : GroupState) → g.generation ≤ (rebalance_result g).generation }
+    ensures bound { (g : GroupState) → (rebalance_result g).generation ≤ g.generation + 2 }
 {}
 
 /// A rebalance changes neither who is present nor any name.
-pub fn an_end_leaves_who_is_there()
-    ensures names { (g : GroupState) → names (finish g) ≡ names g }
+pub fn rebalance_preserves_membership()
+    ensures names { (g : GroupState) → names (rebalance_result g) ≡ names g }
     ensures present { (g : GroupState) (m : ℕ)
-        → is_present (finish g) m ≡ is_present g m }
+        → is_present (rebalance_result g) m ≡ is_present g m }
 {}
 
 /// A join appends its name. All members stay present, and so is the new one.
-pub fn a_join_adds_its_name()
+pub fn join_appends_its_name()
     ensures names { (g : GroupState) (name : List ℕ)
         → names (joined_by g name) ≡ names g ++ name ∷ [] }
     ensures present { (g : GroupState) (name : List ℕ) (m : ℕ) → is_present g m ≡ true
@@ -167,14 +167,14 @@ pub fn a_join_adds_its_name()
 {}
 
 /// A leave or a loss changes no name, and not whether another member is present.
-pub fn a_leave_takes_one_out()
+pub fn leave_changes_one_member()
     ensures names { (g : GroupState) (member : ℕ) → names (left_by g member) ≡ names g }
     ensures others { (g : GroupState) (member m : ℕ) → (m ≡ member → ⊥)
         → is_present (left_by g member) m ≡ is_present g m }
 {}
 
 /// Each name in use has a number: the last one with this name.
-pub fn a_name_has_its_number()
+pub fn name_has_its_last_number()
     ensures { (g : GroupState) (name : List ℕ) (i : ℕ) → slice_get (names g) i ≡ Some name
         → HasNumber g name }
 {}

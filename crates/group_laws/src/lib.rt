@@ -12,12 +12,12 @@
 mod laws;
 
 pub use laws::{
-    a_join_adds_its_name, a_join_ends_where_it_ends_without_flags, a_kept_join_is_a_join,
-    a_leave_ends_where_it_ends_without_flags, a_leave_takes_one_out, a_name_has_its_number,
-    a_turn_keeps_the_end, an_end_adds_at_most_two_generations, an_end_leaves_who_is_there,
-    four_passes_settle, join_brings_a_newcomer, join_leaves_others, leave_leaves_others,
-    leave_takes_its_member_out, one_member_takes_a_partition, rejoin_keeps_the_end,
-    rejoin_leaves_others, rejoin_leaves_what_is_kept, sync_keeps_the_end, sync_leaves_others,
-    sync_marks_its_member, take_over_hands_on, take_over_keeps_the_end, take_over_starts_nothing,
-    two_rounds_settle,
+    each_partition_has_one_taker, four_passes_settle, join_adds_a_member, join_appends_its_name,
+    join_preserves_others, join_result_ignores_flags, leave_changes_one_member,
+    leave_preserves_others, leave_removes_the_member, leave_result_ignores_flags,
+    name_has_its_last_number, rebalance_adds_at_most_two_generations,
+    rebalance_preserves_membership, rejoin_grants_what_is_assigned, rejoin_preserves_others,
+    rejoin_preserves_result, static_join_is_a_join, sync_preserves_others, sync_preserves_result,
+    sync_sets_the_flag, take_over_moves_the_seat, take_over_preserves_result,
+    take_over_starts_no_rebalance, turn_preserves_result, two_rounds_settle,
 };

@@ -6,26 +6,26 @@ use Rattle.bit_planes.specs.PartitionSet.{PartitionSet, is_in}
 use Rattle.bit_planes.specs.SetRows.{SetRows, IsValidRows, members, find_row, set_or_empty, set_of, sets_of}
 use Rattle.bit_planes.proofs.Sets.{both_true, same_set, in_empty}
 use Rattle.sticky_assignor.specs.Balanced.{AreBelow, IsBalanced}
-use Rattle.sticky_assignor.proofs.AssignedLaws.{members_assigned, assigned_kept, below_assigned}
+use Rattle.sticky_assignor.proofs.AssignedLaws.{members_assigned, assigned_retained, below_assigned}
 use Rattle.coop_rebalance.specs.Rounds.{AreGranted, target_rows, next_rows, LiesInTarget}
 use Rattle.coop_rebalance.specs.Withheld.{granted_to_other}
 use Rattle.coop_rebalance.proofs.WithheldRows.{set_withheld}
 use Rattle.coop_rebalance.proofs.Rounds.{next_within}
 use Rattle.group_machine.proofs.SlotsLemmas.{number_is, same_id, other_id}
 use Rattle.group_machine.proofs.PresentLemmas.{Listed, RisesFrom, rises}
-use Rattle.group_machine.proofs.Rows.{apart_says, balanced_apart, member_listed, set_over, sets_below}
+use Rattle.group_machine.proofs.Rows.{disjoint_says, balanced_disjoint, member_listed, set_over, sets_below}
 
 pub target_members : (r : SetRows) → members (target_rows r) ≡ members r
 target_members r = members_assigned r.partitions (members r) r
 
 pub target_kept : (r : SetRows) → IsValidRows r → IsValidRows (target_rows r)
-target_kept r valid = assigned_kept (members r) r valid valid.rising
+target_kept r valid = assigned_retained (members r) r valid valid.rising
 
 pub target_below : (r : SetRows) → (target_rows r).partitions ≡ r.partitions
 target_below r = below_assigned r.partitions (members r) r
 
 next_lies : (r : SetRows) → AreGranted r → LiesInTarget r (next_rows r)
-next_lies r owned = next_within r owned.valid owned.some owned.apart
+next_lies r owned = next_within r owned.valid owned.some owned.disjoint
 
 pub target_balanced : (r : SetRows) → AreGranted r → IsBalanced r.partitions (sets_of (target_rows r) (members r))
 target_balanced r owned = (next_lies r owned).balanced
@@ -102,15 +102,15 @@ next_not_other r m n q e h = go (m == n) refl
     go true is = number_is m n is
     go false is = absurd (false≢true (sym free ∙ other_of r m n q (λ same. false≢true (sym is ∙ ap (λ k. m == k) (sym same) ∙ same_id m)) h))
 
-pub target_apart : (r : SetRows) → AreGranted r → (m n q : ℕ) → is_in (set_of (target_rows r) m) q ≡ true → is_in (set_of (target_rows r) n) q ≡ true → m ≡ n
-target_apart r owned m n q e h =
+pub target_disjoint : (r : SetRows) → AreGranted r → (m n q : ℕ) → is_in (set_of (target_rows r) m) q ≡ true → is_in (set_of (target_rows r) n) q ≡ true → m ≡ n
+target_disjoint r owned m n q e h =
     let ms = members (target_rows r) in
     let same : ms ≡ members r = target_members r in
     let below : AreBelow r.partitions (sets_of (target_rows r) (members r)) = subst (λ (p : ℕ). AreBelow p (sets_of (target_rows r) (members r))) (target_below r) (sets_below (target_rows r) (members r) (target_kept r owned.valid)) in
-    apart_says (set_of (target_rows r)) (members r) (balanced_apart r.partitions (sets_of (target_rows r) (members r)) below (target_balanced r owned)) m n q (subst (Listed m) same (member_listed (target_rows r) m q e)) (subst (Listed n) same (member_listed (target_rows r) n q h)) e h
+    disjoint_says (set_of (target_rows r)) (members r) (balanced_disjoint r.partitions (sets_of (target_rows r) (members r)) below (target_balanced r owned)) m n q (subst (Listed m) same (member_listed (target_rows r) m q e)) (subst (Listed n) same (member_listed (target_rows r) n q h)) e h
 
-pub next_apart : (r : SetRows) → AreGranted r → (m n q : ℕ) → is_in (set_of (next_rows r) m) q ≡ true → is_in (set_of (next_rows r) n) q ≡ true → m ≡ n
-next_apart r owned m n q e h = target_apart r owned m n q (next_in_target r m q e) (next_in_target r n q h)
+pub next_disjoint : (r : SetRows) → AreGranted r → (m n q : ℕ) → is_in (set_of (next_rows r) m) q ≡ true → is_in (set_of (next_rows r) n) q ≡ true → m ≡ n
+next_disjoint r owned m n q e h = target_disjoint r owned m n q (next_in_target r m q e) (next_in_target r n q h)
 
 pub next_is_target : (r : SetRows) → AreGranted r → ((m q : ℕ) → is_in (set_of r m) q ≡ true → is_in (set_of (next_rows r) m) q ≡ true) → (m : ℕ) → set_of (next_rows r) m ≡ set_of (target_rows r) m
 next_is_target r owned stays m =
@@ -122,4 +122,4 @@ next_is_target r owned stays m =
     go q true e false h = rw (e, h) refl
     go q true e true h =
         let n = other_says r owned.valid m q h in
-        absurd (n.1 (target_apart r owned m n.0 q e (next_in_target r n.0 q (stays n.0 q n.2))))
+        absurd (n.1 (target_disjoint r owned m n.0 q e (next_in_target r n.0 q (stays n.0 q n.2))))

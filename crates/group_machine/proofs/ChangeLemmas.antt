@@ -179,7 +179,7 @@ mid_all change slots i le = take_all (mid change slots) i (omega (arith, length_
 pub rows_newcomer : (p : ℕ) (name : List ℕ) (slots : List Slot) (i : ℕ) → length slots ≤ i → with_row (granted_in p (take i (mid Joins slots))) (length slots + 1) (empty_set p) ≡ granted_in p (slots ++ newcomer p name ∷ [])
 rows_newcomer p name slots i le =
     let all : List Slot = slots ++ newcomer p name ∷ [] in
-    let new : Seat = record { joined = true; synced = false; kept = false; granted = empty_set p; assigned = empty_set p } in
+    let new : Seat = record { joined = true; synced = false; is_static = false; granted = empty_set p; assigned = empty_set p } in
     let front : take i (mid Joins slots) ≡ take (length slots) all = mid_all Joins slots i le ∙ reseated_not 1 slots ∙ sym (take_front slots (newcomer p name ∷ [])) in
     ap (λ r. with_row (granted_in p r) (length slots + 1) (empty_set p)) front
     ∙ granted_more p all (length slots) (newcomer p name) new (omega (arith, length_more slots (newcomer p name))) (last_at slots (newcomer p name)) refl

@@ -13,11 +13,11 @@ use Rattle.commit_store.specs.Commits.{raised}
 use Rattle.commit_store.proofs.Exact.{append-exact, counter-exact}
 use Rattle.group_machine.specs.declared.group.Seat.{Seat}
 use Rattle.group_machine.specs.State.{GroupState, assigned_of, granted_of, is_present, member_of, opening, seat_assigned}
-use Rattle.group_machine.specs.Good.{AllFit, IsFit, IsValidGroup}
+use Rattle.group_machine.specs.Valid.{AreConsistentSeats, IsConsistentSeat, IsValidGroup}
 use Rattle.group_machine.specs.Completion.{complete, completed, is_ready}
-use Rattle.group_machine.specs.Cluster.{IsValidLogs, AreLogsOf, ClusterState, CommitTerms, Commits, IsValidCluster, IsExact, IsPlaceOf, Key, PartitionLogs, appended_at, fence, is_known, with_commit, with_group, with_record_at, without_room}
+use Rattle.group_machine.specs.Cluster.{IsValidLogs, AreLogsOf, ClusterState, CommitTerms, Commits, IsValidCluster, IsExact, IsPlaceOf, Key, PartitionLogs, appended_at, fence, is_interned, with_commit, with_group, with_record_at, without_capacity}
 use Rattle.group_machine.proofs.GroupLemmas.{granted_over}
-use Rattle.group_machine.proofs.StepLemmas.{length_replicate, opening_good}
+use Rattle.group_machine.proofs.StepLemmas.{length_replicate, opening_valid}
 
 either : (b : Bool) (g h : GroupState) (p : ℕ) → g.partitions ≡ p → h.partitions ≡ p → (if b then g else h).partitions ≡ p
 either true g h p same other = same
@@ -40,27 +40,27 @@ regrouped s g c good same = record {
   a_counter_each = c.a_counter_each;
 }
 
-counters-at : (b : Bool) (l : PartitionLogs) (key : Key) (store : Commits) → is_known l.keys key ≡ b → length store.counts ≡ length l.keys
+counters-at : (b : Bool) (l : PartitionLogs) (key : Key) (store : Commits) → is_interned l.keys key ≡ b → length store.counts ≡ length l.keys
     → length (if b then store else (record store { counts = store.counts ++ 0 ∷ [] })).counts ≡ length (if b then l.keys else l.keys ++ key ∷ [])
 counters-at true l key store e same = same
 counters-at false l key store e same = length-append store.counts (0 ∷ []) ∙ ap (λ n. n + 1) same ∙ sym (length-append l.keys (key ∷ []))
 
 exact-at : (b : Bool) (l : PartitionLogs) (store : Commits) → IsExact store l → IsExact (if b then store else (record store { counts = store.counts ++ 0 ∷ [] })) l
 exact-at true l store e = e
-exact-at false l store e = counter-exact store store.room l e
+exact-at false l store e = counter-exact store store.capacity l e
 
 offsets-at : (b : Bool) (store : Commits) → length (if b then store else (record store { counts = store.counts ++ 0 ∷ [] })).offsets ≡ length store.offsets
 offsets-at true store = refl
 offsets-at false store = refl
 
-pub append-kept : (s : ClusterState) (at : ℕ) (key : Key) → IsValidCluster s → IsPlaceOf s.logs key at → IsValidLogs (with_record_at s.logs at key) → IsValidCluster (appended_at s at key)
-append-kept s at key c goes logs = record {
+pub append-valid : (s : ClusterState) (at : ℕ) (key : Key) → IsValidCluster s → IsPlaceOf s.logs key at → IsValidLogs (with_record_at s.logs at key) → IsValidCluster (appended_at s at key)
+append-valid s at key c goes logs = record {
   good = c.good;
   logs = logs;
-  exact = exact-at (is_known s.logs.keys key) (with_record_at s.logs at key) s.store (append-exact s.store s.logs at key c.logs goes c.exact);
+  exact = exact-at (is_interned s.logs.keys key) (with_record_at s.logs at key) s.store (append-exact s.store s.logs at key c.logs goes c.exact);
   logs_partitions = c.logs_partitions;
-  store_partitions = offsets-at (is_known s.logs.keys key) s.store ∙ c.store_partitions;
-  a_counter_each = counters-at (is_known s.logs.keys key) s.logs key s.store refl c.a_counter_each;
+  store_partitions = offsets-at (is_interned s.logs.keys key) s.store ∙ c.store_partitions;
+  a_counter_each = counters-at (is_interned s.logs.keys key) s.logs key s.store refl c.a_counter_each;
 }
 
 known-at : (b : Bool) (l : PartitionLogs) (key : Key) → length (if b then l.keys else l.keys ++ key ∷ []) ≤ length l.keys → b ≡ true
@@ -70,7 +70,7 @@ known-at false l key few = absurd (omega (arith, length-append l.keys (key ∷ [
 pub known-appended : (s : ClusterState) (at : ℕ) (key : Key) (logs : PartitionLogs) (store : Commits) → logs ≡ with_record_at s.logs at key → store ≡ s.store → length (with_key s.logs.keys key) ≤ length s.logs.keys
     → ◌≡◌ {A = ClusterState} (record { group = s.group; logs = logs; store = store }) (appended_at s at key)
 known-appended s at key logs store ls ss few =
-    let known : is_known s.logs.keys key ≡ true = known-at (is_known s.logs.keys key) s.logs key few in
+    let known : is_interned s.logs.keys key ≡ true = known-at (is_interned s.logs.keys key) s.logs key few in
     rw (ls, ss, known) refl
 
 passes : (present current granted : Bool)
@@ -96,7 +96,7 @@ let_through g c e =
 pub partition-below : (s : ClusterState) (c : CommitTerms) → IsValidCluster s → fence s.group c ≡ Ok tt → (c.partition < length s.store.offsets) × (c.partition < s.logs.partitions)
 partition-below s c k e =
     let below = in_below (granted_of s.group c.member) c.partition (let_through s.group c e).2 in
-    let over = granted_over s.group k.good.fit c.member in
+    let over = granted_over s.group k.good.consistent c.member in
     (omega (arith, below, over, k.store_partitions), omega (arith, below, over, k.logs_partitions))
 
 store-lengths : {A : Type 0} (old new : Commits) (p : ℕ) (ids : List ℕ) (answer : Result A Refusal) → OnOk answer (new ≡ with_commit old p ids) → OnErr answer (new ≡ old)
@@ -105,10 +105,10 @@ unfolding raised
 store-lengths old new p ids (Ok v) ok err = (ap (λ s. length s.offsets) ok ∙ length-set old.offsets p _, ap (λ s. length s.counts) ok ∙ length-raised 0 old.counts ids)
 store-lengths old new p ids (Err why) ok err = (ap (λ s. length s.offsets) err, ap (λ s. length s.counts) err)
 
-pub commit-kept : {A : Type 0} (g : GroupState) (l : PartitionLogs) (old new : Commits) (p : ℕ) (ids : List ℕ) (answer : Result A Refusal)
-    → IsValidCluster (record { group = g; logs = l; store = without_room old }) → OnOk answer (new ≡ with_commit old p ids) → OnErr answer (new ≡ old) → (IsExact old l → IsExact new l)
-    → IsValidCluster (record { group = g; logs = l; store = without_room new })
-commit-kept g l old new p ids answer k ok err exact =
+pub commit-valid : {A : Type 0} (g : GroupState) (l : PartitionLogs) (old new : Commits) (p : ℕ) (ids : List ℕ) (answer : Result A Refusal)
+    → IsValidCluster (record { group = g; logs = l; store = without_capacity old }) → OnOk answer (new ≡ with_commit old p ids) → OnErr answer (new ≡ old) → (IsExact old l → IsExact new l)
+    → IsValidCluster (record { group = g; logs = l; store = without_capacity new })
+commit-valid g l old new p ids answer k ok err exact =
     let same = store-lengths old new p ids answer ok err in
     let now = exact (record { within = k.exact.within; counted = k.exact.counted; spare = k.exact.spare }) in
     record {
@@ -120,19 +120,19 @@ commit-kept g l old new p ids answer k ok err exact =
       a_counter_each = same.1 ∙ k.a_counter_each;
     }
 
-pub assigned_over : (g : GroupState) → AllFit g → (m : ℕ) → partitions_of (assigned_of g m) ≡ g.partitions
-assigned_over g fit m = go (member_of g m) (λ x is. fit m x is)
+pub assigned_over : (g : GroupState) → AreConsistentSeats g → (m : ℕ) → partitions_of (assigned_of g m) ≡ g.partitions
+assigned_over g consistent m = go (member_of g m) (λ x is. consistent m x is)
   where
-    go : (seat : Option Seat) → ((x : Seat) → seat ≡ Some x → IsFit g.partitions x) → partitions_of (seat_assigned g.partitions seat) ≡ g.partitions
+    go : (seat : Option Seat) → ((x : Seat) → seat ≡ Some x → IsConsistentSeat g.partitions x) → partitions_of (seat_assigned g.partitions seat) ≡ g.partitions
     go None f = partitions_empty g.partitions
     go (Some x) f = (f x refl).assigned_below
 
 pub over-consistent : (g : GroupState) (l : PartitionLogs) (store : Commits) → g ≡ opening l.partitions → IsValidLogs l → length store.offsets ≡ l.partitions → store.counts ≡ replicate (length l.keys) 0 → IsExact store l
-    → IsValidCluster (record { group = g; logs = l; store = without_room store })
+    → IsValidCluster (record { group = g; logs = l; store = without_capacity store })
 over-consistent g l store group logs offsets counts exact =
     let same : g.partitions ≡ l.partitions = ap (λ h. h.partitions) group in
     record {
-      good = subst IsValidGroup (sym group) (opening_good l.partitions logs.some_partitions logs.few_partitions);
+      good = subst IsValidGroup (sym group) (opening_valid l.partitions logs.some_partitions logs.few_partitions);
       logs = logs;
       exact = record { within = exact.within; counted = exact.counted; spare = exact.spare };
       logs_partitions = sym same;

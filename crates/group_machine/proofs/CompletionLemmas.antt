@@ -14,12 +14,12 @@ use Rattle.group_machine.specs.State.{GroupState, member_of, members, is_anybody
 use Rattle.group_machine.specs.Moves.{takers}
 use Rattle.group_machine.specs.Completion.{all_joined, is_ready, completed_seat, complete}
 use Rattle.group_machine.specs.Settled.{is_stable, agrees, all_agree}
-use Rattle.group_machine.specs.Good.{IsFit, IsValidGroup}
+use Rattle.group_machine.specs.Valid.{IsConsistentSeat, IsValidGroup}
 use Rattle.group_machine.specs.Private.Changes.{IsChanged}
 use Rattle.group_machine.proofs.SlotsLemmas.{seat_each}
 use Rattle.group_machine.proofs.PresentLemmas.{Listed, listed_present, numbers_each, length_reseated, any_each, all_says, some_not}
 use Rattle.group_machine.proofs.Rows.{map_same, member_listed, set_over}
-use Rattle.group_machine.proofs.Below.{target_kept, target_below, target_balanced, next_members, next_kept, next_below, next_in_target, next_not_other, next_apart, next_is_target, or_second, or_either}
+use Rattle.group_machine.proofs.Below.{target_kept, target_below, target_balanced, next_members, next_kept, next_below, next_in_target, next_not_other, next_disjoint, next_is_target, or_second, or_either}
 use Rattle.group_machine.proofs.GroupLemmas.{members_granted, set_granted, granted_owned, granted_over}
 use Rattle.group_machine.proofs.TakerLemmas.{held_after}
 
@@ -48,15 +48,15 @@ not_all : (a b : Bool) → (a && b) ≡ false → a ≡ true → b ≡ false
 not_all true b e h = e
 not_all false b e h = absurd (false≢true h)
 
-pub next_good : (g : GroupState) → IsChanged g → is_ready g ≡ false → IsValidGroup g
-next_good g n e = record {
+pub next_valid : (g : GroupState) → IsChanged g → is_ready g ≡ false → IsValidGroup g
+next_valid g n e = record {
   sized = n.sized;
-  apart = n.apart;
-  fit = n.fit;
+  disjoint = n.disjoint;
+  consistent = n.consistent;
   held = n.held;
   balanced = λ s. absurd (false≢true (sym (unstable g n) ∙ (both_true (is_stable g.phase) (all_agree g) s).0));
   stable = λ s. absurd (false≢true (sym (unstable g n) ∙ ap is_stable s));
-  near = λ s. absurd (false≢true (sym (unstable g n) ∙ ap is_stable s));
+  within_balanced = λ s. absurd (false≢true (sym (unstable g n) ∙ ap is_stable s));
   preparing = λ s.
       let r = some_not (λ x. x.joined) g.slots (not_all (is_anybody g) (all_joined g) e (any_if_preparing g n s)) in
       (r.0, ap is_some r.2, ap seat_joined r.2 ∙ r.3);
@@ -68,15 +68,15 @@ pub or_left : (a b : Bool) → a ≡ true → (a || b) ≡ true
 or_left true b e = refl
 or_left false b e = absurd (false≢true e)
 
-completed_in : (p : ℕ) (next : SetRows) (m q : ℕ) (o : Option Seat) → ((x : Seat) → o ≡ Some x → IsFit p x) → partitions_of (set_of next m) ≡ p → is_in (seat_granted p (option_map (completed_seat next m) o)) q ≡ true → (is_in (seat_granted p o) q ≡ true) ⊎ (is_in (set_of next m) q ≡ true)
-completed_in p next m q None fit over e = inl e
-completed_in p next m q (Some x) fit over e = or_either (is_in x.granted q) (is_in (set_of next m) q) (sym (in_union x.granted (set_of next m) q ((fit x refl).granted_below ∙ sym over)) ∙ e)
+completed_in : (p : ℕ) (next : SetRows) (m q : ℕ) (o : Option Seat) → ((x : Seat) → o ≡ Some x → IsConsistentSeat p x) → partitions_of (set_of next m) ≡ p → is_in (seat_granted p (option_map (completed_seat next m) o)) q ≡ true → (is_in (seat_granted p o) q ≡ true) ⊎ (is_in (set_of next m) q ≡ true)
+completed_in p next m q None consistent over e = inl e
+completed_in p next m q (Some x) consistent over e = or_either (is_in x.granted q) (is_in (set_of next m) q) (sym (in_union x.granted (set_of next m) q ((consistent x refl).granted_below ∙ sym over)) ∙ e)
 
-fit_completed : (p : ℕ) (next : SetRows) (m : ℕ) (x : Seat) → IsFit p x → partitions_of (set_of next m) ≡ p → IsFit p (completed_seat next m x)
-fit_completed p next m x fit over = record {
-  granted_below = partitions_union x.granted (set_of next m) ∙ fit.granted_below;
+consistent_completed : (p : ℕ) (next : SetRows) (m : ℕ) (x : Seat) → IsConsistentSeat p x → partitions_of (set_of next m) ≡ p → IsConsistentSeat p (completed_seat next m x)
+consistent_completed p next m x consistent over = record {
+  granted_below = partitions_union x.granted (set_of next m) ∙ consistent.granted_below;
   assigned_below = over;
-  within = within_of (set_of next m) (union x.granted (set_of next m)) (λ q e. in_union x.granted (set_of next m) q (fit.granted_below ∙ sym over) ∙ or_second (is_in x.granted q) (is_in (set_of next m) q) e);
+  within = within_of (set_of next m) (union x.granted (set_of next m)) (λ q e. in_union x.granted (set_of next m) q (consistent.granted_below ∙ sym over) ∙ or_second (is_in x.granted q) (is_in (set_of next m) q) e);
   equal = λ e. absurd (false≢true e);
 }
 
@@ -84,11 +84,11 @@ pub seat_behind : (f : Seat → Seat) (o : Option Seat) (y : Seat) → option_ma
 seat_behind f None y e = cc
 seat_behind f (Some x) y e = (x, refl, let same : f x ≡ y = cc in sym same)
 
-seat_agrees : (p : ℕ) (next : SetRows) (m : ℕ) (o : Option Seat) → ((x : Seat) → o ≡ Some x → IsFit p x) → partitions_of (set_of next m) ≡ p → ((y : Seat) → option_map (completed_seat next m) o ≡ Some y → agrees y ≡ true) → (q : ℕ) → is_in (seat_granted p o) q ≡ true → o ≡ None ⊎ (is_in (set_of next m) q ≡ true)
-seat_agrees p next m None fit over agree q e = inl refl
-seat_agrees p next m (Some x) fit over agree q e =
+seat_agrees : (p : ℕ) (next : SetRows) (m : ℕ) (o : Option Seat) → ((x : Seat) → o ≡ Some x → IsConsistentSeat p x) → partitions_of (set_of next m) ≡ p → ((y : Seat) → option_map (completed_seat next m) o ≡ Some y → agrees y ≡ true) → (q : ℕ) → is_in (seat_granted p o) q ≡ true → o ≡ None ⊎ (is_in (set_of next m) q ≡ true)
+seat_agrees p next m None consistent over agree q e = inl refl
+seat_agrees p next m (Some x) consistent over agree q e =
     let same : union x.granted (set_of next m) ≡ set_of next m = same_says (union x.granted (set_of next m)) (set_of next m) (agree (completed_seat next m x) refl) in
-    inr (ap (λ s. is_in s q) (sym same) ∙ in_union x.granted (set_of next m) q ((fit x refl).granted_below ∙ sym over) ∙ or_left (is_in x.granted q) (is_in (set_of next m) q) e)
+    inr (ap (λ s. is_in s q) (sym same) ∙ in_union x.granted (set_of next m) q ((consistent x refl).granted_below ∙ sym over) ∙ or_left (is_in x.granted q) (is_in (set_of next m) q) e)
 
 none_granted : (p : ℕ) (o : Option Seat) (q : ℕ) → o ≡ None → is_in (seat_granted p o) q ≡ true → ⊥
 none_granted p o q none e = false≢true (sym (in_empty p q) ∙ ap (λ s. is_in s q) (sym (ap (seat_granted p) none)) ∙ e)
@@ -109,20 +109,20 @@ not_joined : (next : SetRows) (m : ℕ) (o : Option Seat) → seat_joined (optio
 not_joined next m None = refl
 not_joined next m (Some x) = refl
 
-pub complete_good : (g : GroupState) → IsChanged g → is_ready g ≡ true → IsValidGroup (complete g)
-complete_good g n e =
+pub complete_valid : (g : GroupState) → IsChanged g → is_ready g ≡ true → IsValidGroup (complete g)
+complete_valid g n e =
     let any : is_anybody g ≡ true = (both_true (is_anybody g) (all_joined g) e).0 in
     let p : ℕ = g.partitions in
     let r : SetRows = granted_rows g in
     let next : SetRows = next_rows r in
-    let owned : AreGranted r = granted_owned g n.sized n.fit n.apart any in
+    let owned : AreGranted r = granted_owned g n.sized n.consistent n.disjoint any in
     let valid : IsValidRows next = next_kept r owned in
     let over : (m : ℕ) → partitions_of (set_of next m) ≡ p = λ m. set_over next m valid ∙ next_below r owned in
     let at : (m : ℕ) → member_of (complete g) m ≡ option_map (completed_seat next m) (member_of g m) = λ m. seat_each (completed_seat next) g.slots m in
     let same : members (complete g) ≡ members g = numbers_each (completed_seat next) g.slots in
     let own : (m q : ℕ) → is_in (granted_of g m) q ≡ true → is_in (set_of r m) q ≡ true = λ m q h. ap (λ s. is_in s q) (set_granted g m) ∙ h in
     let after : (m q : ℕ) → is_in (granted_of (complete g) m) q ≡ true → (is_in (granted_of g m) q ≡ true) ⊎ (is_in (set_of next m) q ≡ true) =
-    λ m q h. completed_in p next m q (member_of g m) (λ x is. n.fit m x is) (over m) (ap (λ o. is_in (seat_granted p o) q) (sym (at m)) ∙ h) in
+    λ m q h. completed_in p next m q (member_of g m) (λ x is. n.consistent m x is) (over m) (ap (λ o. is_in (seat_granted p o) q) (sym (at m)) ∙ h) in
     let target : IsBalanced p (map (set_of (target_rows r)) (members g)) = subst (λ (ms : List ℕ). IsBalanced p (map (set_of (target_rows r)) ms)) (members_granted g) (target_balanced r owned) in
     record {
       sized = record {
@@ -131,28 +131,28 @@ complete_good g n e =
         few_members = omega (arith, length_reseated (λ m. option_map (completed_seat next m)) g.slots, n.sized.few_members);
         a_holder_each = length-map-range_with_len (λ q. option_or (slice_index_or (takers g next) q None) (last_holder g q)) 0 (length g.last) ∙ n.sized.a_holder_each;
       };
-      apart = λ a b q x y. elim (after a q x) [
+      disjoint = λ a b q x y. elim (after a q x) [
         | inl gx ↦ elim (after b q y) [
-          | inl gy ↦ n.apart a b q gx gy
+          | inl gy ↦ n.disjoint a b q gx gy
           | inr wy ↦ sym (next_not_other r b a q wy (own a q gx))
         ]
         | inr wx ↦ elim (after b q y) [
           | inl gy ↦ next_not_other r a b q wx (own b q gy)
-          | inr wy ↦ next_apart r owned a b q wx wy
+          | inr wy ↦ next_disjoint r owned a b q wx wy
         ]
       ];
-      fit = λ m y is.
+      consistent = λ m y is.
           let b = seat_behind (completed_seat next m) (member_of g m) y (sym (at m) ∙ is) in
-          subst (IsFit p) (sym b.2) (fit_completed p next m b.0 (n.fit m b.0 b.1) (over m));
-      held = λ m q h. held_after g next (next_apart r owned) (λ k j w. subst (Listed k) (next_members r owned ∙ members_granted g) (member_listed next k j w)) (λ a b j w y. next_not_other r a b j w (own b j y)) n.sized.a_holder_each m q (elim (after m q h) [
-        | inl gx ↦ omega (arith, in_below (granted_of g m) q gx, granted_over g n.fit m)
+          subst (IsConsistentSeat p) (sym b.2) (consistent_completed p next m b.0 (n.consistent m b.0 b.1) (over m));
+      held = λ m q h. held_after g next (next_disjoint r owned) (λ k j w. subst (Listed k) (next_members r owned ∙ members_granted g) (member_listed next k j w)) (λ a b j w y. next_not_other r a b j w (own b j y)) n.sized.a_holder_each m q (elim (after m q h) [
+        | inl gx ↦ omega (arith, in_below (granted_of g m) q gx, granted_over g n.consistent m)
         | inr wx ↦ omega (arith, in_below (set_of next m) q wx, over m)
       ]) (n.held m q) (after m q h);
       balanced = λ s.
           let agree : (m : ℕ) (y : Seat) → option_map (completed_seat next m) (member_of g m) ≡ Some y → agrees y ≡ true = λ m y is. all_says agrees (complete g).slots m y s (at m ∙ is) in
           let stays : (m q : ℕ) → is_in (set_of r m) q ≡ true → is_in (set_of next m) q ≡ true = λ m q h.
           let k : is_in (granted_of g m) q ≡ true = ap (λ t. is_in t q) (sym (set_granted g m)) ∙ h in
-          elim (seat_agrees p next m (member_of g m) (λ x is. n.fit m x is) (over m) (agree m) q k) [
+          elim (seat_agrees p next m (member_of g m) (λ x is. n.consistent m x is) (over m) (agree m) q k) [
             | inl none ↦ absurd (none_granted p (member_of g m) q none k)
             | inr w ↦ w
           ] in
@@ -162,7 +162,7 @@ complete_good g n e =
           let rows_same : map (set_of (target_rows r)) (members g) ≡ map (granted_of (complete g)) (members g) = map_same (set_of (target_rows r)) (granted_of (complete g)) (members g) each in
           subst (λ (ms : List ℕ). IsBalanced p (map (granted_of (complete g)) ms)) (sym same) (subst (IsBalanced p) rows_same target);
       stable = λ s m. ap seat_joined (at m) ∙ not_joined next m (member_of g m);
-      near = λ s. (
+      within_balanced = λ s. (
         set_of (target_rows r),
         record {
           below = λ m. set_over (target_rows r) m (target_kept r owned.valid) ∙ target_below r;

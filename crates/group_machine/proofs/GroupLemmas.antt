@@ -5,15 +5,15 @@ use Rattle.bit_planes.specs.SetRows as rows
 use Rattle.bit_planes.specs.PartitionSet.{PartitionSet, partitions_of, is_in}
 use Rattle.bit_planes.specs.SetRows.{SetRows, set_or_empty, set_of, sets_of, IsValidRows, AreOver}
 use Rattle.bit_planes.proofs.Sets.{partitions_empty}
-use Rattle.sticky_assignor.specs.Balanced.{AreApart}
+use Rattle.sticky_assignor.specs.Balanced.{AreDisjoint}
 use Rattle.coop_rebalance.specs.Rounds.{AreGranted}
 use Rattle.group_machine.specs.declared.group.Slot.{Slot}
 use Rattle.group_machine.specs.declared.group.Seat.{Seat}
 use Rattle.group_machine.specs.Slots.{seat_in, and_member, present_from, present}
 use Rattle.group_machine.specs.State.{GroupState, member_of, members, is_anybody, seat_granted, granted_of, granted_rows}
-use Rattle.group_machine.specs.Good.{IsSized, IsFit, AllFit, IsApart}
+use Rattle.group_machine.specs.Valid.{IsSized, IsConsistentSeat, AreConsistentSeats, IsDisjoint}
 use Rattle.group_machine.proofs.PresentLemmas.{RisesFrom, rising, present_rises, find_present, any_count}
-use Rattle.group_machine.proofs.Rows.{apart_of}
+use Rattle.group_machine.proofs.Rows.{disjoint_of}
 
 pub numbers_of : (h : Seat → PartitionSet) (xs : List (ℕ × Seat)) → map {A = ℕ × PartitionSet} (λ row. row.0) (map (λ r. (r.0, h r.1)) xs) ≡ map (λ r. r.0) xs
 numbers_of h [] = refl
@@ -40,32 +40,32 @@ pub over_from : (p : ℕ) (h : Seat → PartitionSet) (m : ℕ) (slots : List Sl
 over_from p h m [] each = tt
 over_from p h m (s ∷ slots) each = over_and p h m s.seat (present_from (suc m) slots) (λ x is. each 0 x is) (over_from p h (suc m) slots (λ k x is. each (suc k) x is))
 
-pub granted_kept : (g : GroupState) → IsSized g → AllFit g → IsValidRows (granted_rows g)
-granted_kept g sized fit = record {
+pub granted_kept : (g : GroupState) → IsSized g → AreConsistentSeats g → IsValidRows (granted_rows g)
+granted_kept g sized consistent = record {
   some = sized.some_partitions;
   few = sized.few_partitions;
   rising = rising 1 (rows.members (granted_rows g)) (subst (RisesFrom 1) (sym (members_granted g)) (members_rise g));
-  over = over_from g.partitions (λ x. x.granted) 1 g.slots (λ k x is. (fit (suc k) x is).granted_below);
+  over = over_from g.partitions (λ x. x.granted) 1 g.slots (λ k x is. (consistent (suc k) x is).granted_below);
 }
 
 pub length_map : {A B : Type 0} (f : A → B) (xs : List A) → length (map f xs) ≡ length xs
 length_map f [] = refl
 length_map f (x ∷ xs) = ap (λ n. suc n) (length_map f xs)
 
-pub rows_apart : (r : SetRows) → RisesFrom 1 (rows.members r) → ((m n q : ℕ) → is_in (set_of r m) q ≡ true → is_in (set_of r n) q ≡ true → m ≡ n) → AreApart (sets_of r (rows.members r))
-rows_apart r up alone = apart_of (set_of r) 1 (rows.members r) up alone
+pub rows_disjoint : (r : SetRows) → RisesFrom 1 (rows.members r) → ((m n q : ℕ) → is_in (set_of r m) q ≡ true → is_in (set_of r n) q ≡ true → m ≡ n) → AreDisjoint (sets_of r (rows.members r))
+rows_disjoint r up alone = disjoint_of (set_of r) 1 (rows.members r) up alone
 
-pub granted_owned : (g : GroupState) → IsSized g → AllFit g → IsApart g → is_anybody g ≡ true → AreGranted (granted_rows g)
-granted_owned g sized fit apart any = record {
-  valid = granted_kept g sized fit;
+pub granted_owned : (g : GroupState) → IsSized g → AreConsistentSeats g → IsDisjoint g → is_anybody g ≡ true → AreGranted (granted_rows g)
+granted_owned g sized consistent disjoint any = record {
+  valid = granted_kept g sized consistent;
   some = omega (arith, any_count g.slots any, length_map {B = ℕ × PartitionSet} (λ (m : ℕ × Seat). (m.0, m.1.granted)) (present g.slots));
-  apart = rows_apart (granted_rows g) (subst (RisesFrom 1) (sym (members_granted g)) (members_rise g)) (λ m n q e h.
-      apart m n q (ap (λ s. is_in s q) (sym (set_granted g m)) ∙ e) (ap (λ s. is_in s q) (sym (set_granted g n)) ∙ h));
+  disjoint = rows_disjoint (granted_rows g) (subst (RisesFrom 1) (sym (members_granted g)) (members_rise g)) (λ m n q e h.
+      disjoint m n q (ap (λ s. is_in s q) (sym (set_granted g m)) ∙ e) (ap (λ s. is_in s q) (sym (set_granted g n)) ∙ h));
 }
 
-pub granted_over : (g : GroupState) → AllFit g → (m : ℕ) → partitions_of (granted_of g m) ≡ g.partitions
-granted_over g fit m = go (member_of g m) (λ x is. fit m x is)
+pub granted_over : (g : GroupState) → AreConsistentSeats g → (m : ℕ) → partitions_of (granted_of g m) ≡ g.partitions
+granted_over g consistent m = go (member_of g m) (λ x is. consistent m x is)
   where
-    go : (o : Option Seat) → ((x : Seat) → o ≡ Some x → IsFit g.partitions x) → partitions_of (seat_granted g.partitions o) ≡ g.partitions
+    go : (o : Option Seat) → ((x : Seat) → o ≡ Some x → IsConsistentSeat g.partitions x) → partitions_of (seat_granted g.partitions o) ≡ g.partitions
     go None f = partitions_empty g.partitions
     go (Some x) f = (f x refl).granted_below

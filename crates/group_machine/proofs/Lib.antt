@@ -3,7 +3,7 @@ pub mod ChangeLemmas
 pub mod ClusterLemmas
 pub mod CompletionLemmas
 pub mod GroupLemmas
-pub mod HandedLemmas
+pub mod SeatMoves
 pub mod JoinLemmas
 pub mod MovesLemmas
 pub mod NameLemmas

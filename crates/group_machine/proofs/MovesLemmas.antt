@@ -92,31 +92,31 @@ found_taker next q (row ∷ rows) n e = go (λ h. found_taker next q rows n h) (
 
 taker_row : (rows : Rows) (row : ℕ × PartitionSet) (next : SetRows) (q : ℕ) → ((m n : ℕ) → is_in (set_of next m) q ≡ true → is_in (set_of next n) q ≡ true → m ≡ n)
     → cond (takes_row next q row) (Some row.0) (taker_in rows next q) ≡ taker_in (rows ++ row ∷ []) next q
-taker_row rows row next q apart = go (takes_row next q row) refl (taker_in rows next q) refl ∙ sym (taker_more rows row next q)
+taker_row rows row next q disjoint = go (takes_row next q row) refl (taker_in rows next q) refl ∙ sym (taker_more rows row next q)
   where
     go : (b : Bool) → takes_row next q row ≡ b → (old : Option ℕ) → taker_in rows next q ≡ old → cond (takes_row next q row) (Some row.0) (taker_in rows next q) ≡ option_or (taker_in rows next q) (option_map (λ (m : ℕ × PartitionSet). m.0) (cond (takes_row next q row) (Some row) None))
     go false t old was = rw t (or_none (taker_in rows next q))
     go true t None was = rw (t, was) refl
     go true t (Some n) was =
         let own : is_in (set_of next row.0) q ≡ true = (both_true (is_in (set_of next row.0) q) (not (is_in row.1 q)) t).0 in
-        let same : row.0 ≡ n = apart row.0 n own (found_taker next q rows n was) in
+        let same : row.0 ≡ n = disjoint row.0 n own (found_taker next q rows n was) in
         rw (t, was) (ap (λ k. Some k) same)
 
 pub taker_given : (items : Rows) (i : ℕ) (row : ℕ × PartitionSet) (next : SetRows) (q : ℕ) (given added : PartitionSet) (old new : Option ℕ) → i < length items → row ≡ get_or items i row
     → ((m n : ℕ) → is_in (set_of next m) q ≡ true → is_in (set_of next n) q ≡ true → m ≡ n)
     → row_of next row.0 ≡ Some given → is_in added q ≡ (is_in given q && not (is_in row.1 q)) → old ≡ taker_in (take i items) next q → new ≡ cond (is_in added q) (Some row.0) old
     → new ≡ taker_in (take (i + 1) items) next q
-taker_given items i row next q given added old new lt at apart found adds was now =
+taker_given items i row next q given added old new lt at disjoint found adds was now =
     let same : given ≡ set_of next row.0 = ap (set_or_empty next.partitions) (sym found) in
     let takes : is_in added q ≡ takes_row next q row = adds ∙ ap (λ t. is_in t q && not (is_in row.1 q)) same in
-    now ∙ ap (λ b. cond b (Some row.0) old) takes ∙ ap (λ o. cond (takes_row next q row) (Some row.0) o) was ∙ taker_row (take i items) row next q apart
+    now ∙ ap (λ b. cond b (Some row.0) old) takes ∙ ap (λ o. cond (takes_row next q row) (Some row.0) o) was ∙ taker_row (take i items) row next q disjoint
     ∙ ap (λ rows. taker_in rows next q) (sym (items_more items i row lt at))
 
 pub taker_rowless : (items : Rows) (i : ℕ) (row : ℕ × PartitionSet) (next : SetRows) (q : ℕ) (old : Option ℕ) → i < length items → row ≡ get_or items i row
     → ((m n : ℕ) → is_in (set_of next m) q ≡ true → is_in (set_of next n) q ≡ true → m ≡ n)
     → row_of next row.0 ≡ None → old ≡ taker_in (take i items) next q → old ≡ taker_in (take (i + 1) items) next q
-taker_rowless items i row next q old lt at apart none was =
+taker_rowless items i row next q old lt at disjoint none was =
     let out : is_in (set_of next row.0) q ≡ false = ap (λ o. is_in (set_or_empty next.partitions o) q) none ∙ in_empty next.partitions q in
     let takes : takes_row next q row ≡ false = ap (λ b. b && not (is_in row.1 q)) out in
-    was ∙ ap (λ b. cond b (Some row.0) (taker_in (take i items) next q)) (sym takes) ∙ taker_row (take i items) row next q apart
+    was ∙ ap (λ b. cond b (Some row.0) (taker_in (take i items) next q)) (sym takes) ∙ taker_row (take i items) row next q disjoint
     ∙ ap (λ rows. taker_in rows next q) (sym (items_more items i row lt at))

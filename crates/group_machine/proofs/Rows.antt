@@ -5,7 +5,7 @@ use Rattle.std.proofs.lemmas.Bool.{false≢true, cases_lt}
 use Rattle.bit_planes.specs.PartitionSet.{PartitionSet, partitions_of, is_in, one}
 use Rattle.bit_planes.specs.SetRows.{SetRows, members, find_row, set_or_empty, set_of, sets_of, IsValidRows, AreOver}
 use Rattle.bit_planes.proofs.Sets.{past, in_empty, partitions_empty}
-use Rattle.sticky_assignor.specs.Balanced.{holders, AreBelow, AreApart, IsBalanced}
+use Rattle.sticky_assignor.specs.Balanced.{holders, AreBelow, AreDisjoint, IsBalanced}
 use Rattle.group_machine.proofs.SlotsLemmas.{number_is}
 use Rattle.group_machine.proofs.PresentLemmas.{RisesFrom, Listed}
 
@@ -17,9 +17,9 @@ holders_above : (f : ℕ → PartitionSet) (x : ℕ) (ms : List ℕ) (q : ℕ) �
 holders_above f x [] q up none = refl
 holders_above f x (n ∷ ms) q up none = let z : one (is_in (f n) q) ≡ 0 = ap one (none n (omega (arith, up.0))) in omega (arith, z, holders_above f n ms q up.1 (λ k lt. none k (omega (arith, up.0))))
 
-pub apart_of : (f : ℕ → PartitionSet) (m : ℕ) (ms : List ℕ) → RisesFrom m ms → ((a b q : ℕ) → is_in (f a) q ≡ true → is_in (f b) q ≡ true → a ≡ b) → AreApart (map f ms)
-apart_of f m [] up alone q = omega arith
-apart_of f m (x ∷ xs) up alone q = go (apart_of f (suc x) xs up.1 alone q) (is_in (f x) q) refl
+pub disjoint_of : (f : ℕ → PartitionSet) (m : ℕ) (ms : List ℕ) → RisesFrom m ms → ((a b q : ℕ) → is_in (f a) q ≡ true → is_in (f b) q ≡ true → a ≡ b) → AreDisjoint (map f ms)
+disjoint_of f m [] up alone q = omega arith
+disjoint_of f m (x ∷ xs) up alone q = go (disjoint_of f (suc x) xs up.1 alone q) (is_in (f x) q) refl
   where
     other : is_in (f x) q ≡ true → (n : ℕ) → x < n → is_in (f n) q ≡ false
     other e n lt = not_so (is_in (f n) q) refl
@@ -50,15 +50,15 @@ two_held f (x ∷ ms) m n q (inr at) (inl js) e h few =
     absurd (omega (arith, two, one_held f ms m q at e))
 two_held f (x ∷ ms) m n q (inr at) (inr bt) e h few = two_held f ms m n q at bt e h (omega arith)
 
-pub apart_says : (f : ℕ → PartitionSet) (ms : List ℕ) → AreApart (map f ms) → (m n q : ℕ) → Listed m ms → Listed n ms → is_in (f m) q ≡ true → is_in (f n) q ≡ true → m ≡ n
-apart_says f ms apart m n q at bt e h = two_held f ms m n q at bt e h (apart q)
+pub disjoint_says : (f : ℕ → PartitionSet) (ms : List ℕ) → AreDisjoint (map f ms) → (m n q : ℕ) → Listed m ms → Listed n ms → is_in (f m) q ≡ true → is_in (f n) q ≡ true → m ≡ n
+disjoint_says f ms disjoint m n q at bt e h = two_held f ms m n q at bt e h (disjoint q)
 
 held_past : (p : ℕ) (rows : List PartitionSet) (q : ℕ) → AreBelow p rows → p ≤ q → holders rows q ≡ 0
 held_past p [] q over le = refl
 held_past p (row ∷ rows) q over le = let z : one (is_in row q) ≡ 0 = ap one (past row q (omega (arith, over.0))) in omega (arith, z, held_past p rows q over.1 le)
 
-pub balanced_apart : (p : ℕ) (rows : List PartitionSet) → AreBelow p rows → IsBalanced p rows → AreApart rows
-balanced_apart p rows over balanced q = elim (cases_lt q p) [ inl lt ↦ omega (arith, balanced.once q lt) | inr le ↦ omega (arith, held_past p rows q over le) ]
+pub balanced_disjoint : (p : ℕ) (rows : List PartitionSet) → AreBelow p rows → IsBalanced p rows → AreDisjoint rows
+balanced_disjoint p rows over balanced q = elim (cases_lt q p) [ inl lt ↦ omega (arith, balanced.once q lt) | inr le ↦ omega (arith, held_past p rows q over le) ]
 
 found_listed : (p : ℕ) (rows : List (ℕ × PartitionSet)) (m q : ℕ) → is_in (set_or_empty p (find_row rows m)) q ≡ true → Listed m (map (λ row. row.0) rows)
 found_listed p [] m q e = absurd (false≢true (sym (in_empty p q) ∙ e))

@@ -13,8 +13,8 @@ use Rattle.group_machine.specs.Slots.{seat_in, seat_of, each_changed, one_change
 use Rattle.group_machine.specs.State.{GroupState, opening, member_of, members, is_present, is_anybody, is_joined, seat_joined, seat_granted, seat_assigned, granted_of, assigned_of}
 use Rattle.group_machine.specs.Completion.{all_joined}
 use Rattle.group_machine.specs.Settled.{is_stable, agrees, is_settled}
-use Rattle.group_machine.specs.Steps.{new_seat, newcomer, joining, rejoined_seat, rejoining, synced_seat, synced_by, kept_seat, keeping, leaving}
-use Rattle.group_machine.specs.Good.{IsApart, IsFit, AllFit, IsValidGroup}
+use Rattle.group_machine.specs.Steps.{new_seat, newcomer, joining, rejoined_seat, rejoining, synced_seat, synced_by, static_seat, made_static, leaving}
+use Rattle.group_machine.specs.Valid.{IsDisjoint, IsConsistentSeat, AreConsistentSeats, IsValidGroup}
 use Rattle.group_machine.specs.Private.Changes.{IsChanged}
 use Rattle.group_machine.proofs.SlotsLemmas.{seat_each, seat_without, one_is_each, at_only}
 use Rattle.group_machine.proofs.PresentLemmas.{numbers_each, length_reseated, any_each, any_of, all_of, present_each}
@@ -25,29 +25,29 @@ use Rattle.group_machine.proofs.CompletionLemmas.{seat_behind, some_of}
 abbrev pub with_slots : GroupState → List Slot → GroupState
 with_slots g slots = record g { slots = slots }
 
-pub fit_each : (g : GroupState) (f : ℕ → Seat → Seat) → ((m : ℕ) (x : Seat) → IsFit g.partitions x → IsFit g.partitions (f m x)) → AllFit g → AllFit (with_slots g (each_changed f g.slots))
-fit_each g f keeps fit m y is =
+pub consistent_each : (g : GroupState) (f : ℕ → Seat → Seat) → ((m : ℕ) (x : Seat) → IsConsistentSeat g.partitions x → IsConsistentSeat g.partitions (f m x)) → AreConsistentSeats g → AreConsistentSeats (with_slots g (each_changed f g.slots))
+consistent_each g f keeps consistent m y is =
     let b = seat_behind (f m) (member_of g m) y (sym (seat_each f g.slots m) ∙ is) in
-    subst (IsFit g.partitions) (sym b.2) (keeps m b.0 (fit m b.0 b.1))
+    subst (IsConsistentSeat g.partitions) (sym b.2) (keeps m b.0 (consistent m b.0 b.1))
 
 less_seat : (p : ℕ) (f : Seat → Seat) (o : Option Seat) (q : ℕ) → ((x : Seat) → o ≡ Some x → is_in (f x).granted q ≡ true → is_in x.granted q ≡ true) → is_in (seat_granted p (option_map f o)) q ≡ true → is_in (seat_granted p o) q ≡ true
 less_seat p f None q less e = e
 less_seat p f (Some x) q less e = less x refl e
 
-pub granted_each : (g : GroupState) (f : ℕ → Seat → Seat) → ((m : ℕ) (x : Seat) → IsFit g.partitions x → (q : ℕ) → is_in (f m x).granted q ≡ true → is_in x.granted q ≡ true) → AllFit g → (m q : ℕ) → is_in (granted_of (with_slots g (each_changed f g.slots)) m) q ≡ true → is_in (granted_of g m) q ≡ true
-granted_each g f less fit m q e =
-    less_seat g.partitions (f m) (member_of g m) q (λ x is. less m x (fit m x is) q) (ap (λ o. is_in (seat_granted g.partitions o) q) (sym (seat_each f g.slots m)) ∙ e)
+pub granted_each : (g : GroupState) (f : ℕ → Seat → Seat) → ((m : ℕ) (x : Seat) → IsConsistentSeat g.partitions x → (q : ℕ) → is_in (f m x).granted q ≡ true → is_in x.granted q ≡ true) → AreConsistentSeats g → (m q : ℕ) → is_in (granted_of (with_slots g (each_changed f g.slots)) m) q ≡ true → is_in (granted_of g m) q ≡ true
+granted_each g f less consistent m q e =
+    less_seat g.partitions (f m) (member_of g m) q (λ x is. less m x (consistent m x is) q) (ap (λ o. is_in (seat_granted g.partitions o) q) (sym (seat_each f g.slots m)) ∙ e)
 
-pub apart_each : (g : GroupState) (f : ℕ → Seat → Seat) → ((m : ℕ) (x : Seat) → IsFit g.partitions x → (q : ℕ) → is_in (f m x).granted q ≡ true → is_in x.granted q ≡ true) → AllFit g → IsApart g → IsApart (with_slots g (each_changed f g.slots))
-apart_each g f less fit apart m n q e h = apart m n q (granted_each g f less fit m q e) (granted_each g f less fit n q h)
+pub disjoint_each : (g : GroupState) (f : ℕ → Seat → Seat) → ((m : ℕ) (x : Seat) → IsConsistentSeat g.partitions x → (q : ℕ) → is_in (f m x).granted q ≡ true → is_in x.granted q ≡ true) → AreConsistentSeats g → IsDisjoint g → IsDisjoint (with_slots g (each_changed f g.slots))
+disjoint_each g f less consistent disjoint m n q e h = disjoint m n q (granted_each g f less consistent m q e) (granted_each g f less consistent n q h)
 
 -- ---- one member's seat
-pub only_fit : (p : ℕ) (f : Seat → Seat) → ((x : Seat) → IsFit p x → IsFit p (f x)) → (member m : ℕ) (x : Seat) → IsFit p x → IsFit p (at_only member f m x)
-only_fit p f keeps member m x fit = go (m == member)
+pub only_consistent : (p : ℕ) (f : Seat → Seat) → ((x : Seat) → IsConsistentSeat p x → IsConsistentSeat p (f x)) → (member m : ℕ) (x : Seat) → IsConsistentSeat p x → IsConsistentSeat p (at_only member f m x)
+only_consistent p f keeps member m x consistent = go (m == member)
   where
-    go : (b : Bool) → IsFit p (cond b (f x) x)
-    go true = keeps x fit
-    go false = fit
+    go : (b : Bool) → IsConsistentSeat p (cond b (f x) x)
+    go true = keeps x consistent
+    go false = consistent
 
 pub only_less : (f : Seat → Seat) (x : Seat) (q : ℕ) (member m : ℕ) → (is_in (f x).granted q ≡ true → is_in x.granted q ≡ true) → is_in (at_only member f m x).granted q ≡ true → is_in x.granted q ≡ true
 only_less f x q member m less e = go (m == member) e
@@ -84,8 +84,8 @@ joined_granted : (g : GroupState) (name : List ℕ) (m q : ℕ) → is_in (grant
 joined_granted g name zero q e = e
 joined_granted g name (suc k) q e = granted_more g.partitions name g.slots k q e
 
-new_fit : (p : ℕ) → IsFit p (new_seat p)
-new_fit p = record { granted_below = partitions_empty p; assigned_below = partitions_empty p; within = within_of (empty_set p) (empty_set p) (λ q e. e); equal = λ e. refl }
+new_consistent : (p : ℕ) → IsConsistentSeat p (new_seat p)
+new_consistent p = record { granted_below = partitions_empty p; assigned_below = partitions_empty p; within = within_of (empty_set p) (empty_set p) (λ q e. e); equal = λ e. refl }
 
 any_more : (slots : List Slot) (s : Slot) → is_some s.seat ≡ true → list_any (λ t. is_some t.seat) (slots ++ s ∷ []) ≡ true
 any_more [] s e = rw e refl
@@ -102,28 +102,28 @@ alone_joined g name none = all_of (λ x. x.joined) (joining g name).slots (λ m 
     go m x (inl is) = absurd (false≢true (sym none ∙ any_of g.slots m x is))
     go m x (inr is) = let same : new_seat g.partitions ≡ x = cc in ap (λ y. y.joined) (sym same)
 
-pub joining_fit : (g : GroupState) (name : List ℕ) → AllFit g → AllFit (joining g name)
-joining_fit g name fit m x is = go (member_more g.slots (newcomer g.partitions name) m x is)
+pub joining_consistent : (g : GroupState) (name : List ℕ) → AreConsistentSeats g → AreConsistentSeats (joining g name)
+joining_consistent g name consistent m x is = go (member_more g.slots (newcomer g.partitions name) m x is)
   where
-    go : (seat_of g.slots m ≡ Some x) ⊎ (Some (new_seat g.partitions) ≡ Some x) → IsFit g.partitions x
-    go (inl was) = fit m x was
-    go (inr new) = let same : new_seat g.partitions ≡ x = cc in subst (IsFit g.partitions) same (new_fit g.partitions)
+    go : (seat_of g.slots m ≡ Some x) ⊎ (Some (new_seat g.partitions) ≡ Some x) → IsConsistentSeat g.partitions x
+    go (inl was) = consistent m x was
+    go (inr new) = let same : new_seat g.partitions ≡ x = cc in subst (IsConsistentSeat g.partitions) same (new_consistent g.partitions)
 
-pub joining_apart : (g : GroupState) (name : List ℕ) → IsApart g → IsApart (joining g name)
-joining_apart g name apart m n q e h = apart m n q (joined_granted g name m q e) (joined_granted g name n q h)
+pub joining_disjoint : (g : GroupState) (name : List ℕ) → IsDisjoint g → IsDisjoint (joining g name)
+joining_disjoint g name disjoint m n q e h = disjoint m n q (joined_granted g name m q e) (joined_granted g name n q h)
 
 pub joining_changed : (g : GroupState) (name : List ℕ) → IsValidGroup g → length g.slots < MOST_MEMBERS → IsChanged (joining g name)
-joining_changed g name good room =
+joining_changed g name good capacity =
     let any : is_anybody (joining g name) ≡ true = any_more g.slots (newcomer g.partitions name) refl in
     record {
       sized = record {
         some_partitions = good.sized.some_partitions;
         few_partitions = good.sized.few_partitions;
-        few_members = omega (arith, length-append g.slots (newcomer g.partitions name ∷ []), room);
+        few_members = omega (arith, length-append g.slots (newcomer g.partitions name ∷ []), capacity);
         a_holder_each = good.sized.a_holder_each;
       };
-      apart = joining_apart g name good.apart;
-      fit = joining_fit g name good.fit;
+      disjoint = joining_disjoint g name good.disjoint;
+      consistent = joining_consistent g name good.consistent;
       held = λ m q e. good.held m q (joined_granted g name m q e);
       some = λ e. refl;
       gone = λ e. absurd (false≢true (sym e ∙ any));
@@ -138,21 +138,21 @@ joining_changed g name good room =
 pub any_of_present : (g : GroupState) (member : ℕ) → is_present g member ≡ true → is_anybody g ≡ true
 any_of_present g member e = let x = some_of (member_of g member) e in any_of g.slots member x.0 x.1
 
-pub fit_rejoined : (p : ℕ) (x : Seat) → IsFit p x → IsFit p (rejoined_seat x)
-fit_rejoined p x fit = record { granted_below = fit.assigned_below; assigned_below = fit.assigned_below; within = within_of x.assigned x.assigned (λ q e. e); equal = λ e. refl }
+pub consistent_rejoined : (p : ℕ) (x : Seat) → IsConsistentSeat p x → IsConsistentSeat p (rejoined_seat x)
+consistent_rejoined p x consistent = record { granted_below = consistent.assigned_below; assigned_below = consistent.assigned_below; within = within_of x.assigned x.assigned (λ q e. e); equal = λ e. refl }
 
-rejoined_less : (p : ℕ) (member m : ℕ) (x : Seat) → IsFit p x → (q : ℕ) → is_in (at_only member rejoined_seat m x).granted q ≡ true → is_in x.granted q ≡ true
-rejoined_less p member m x fit q e = only_less rejoined_seat x q member m (within_says x.assigned x.granted fit.within q) e
+rejoined_less : (p : ℕ) (member m : ℕ) (x : Seat) → IsConsistentSeat p x → (q : ℕ) → is_in (at_only member rejoined_seat m x).granted q ≡ true → is_in x.granted q ≡ true
+rejoined_less p member m x consistent q e = only_less rejoined_seat x q member m (within_says x.assigned x.granted consistent.within q) e
 
-pub rejoining_fit : (g : GroupState) (member : ℕ) → AllFit g → AllFit (rejoining g member)
-rejoining_fit g member fit = subst (λ (slots : List Slot). AllFit (with_slots g slots)) (sym (one_is_each rejoined_seat g.slots member)) (fit_each g (at_only member rejoined_seat) (only_fit g.partitions rejoined_seat (fit_rejoined g.partitions) member) fit)
+pub rejoining_consistent : (g : GroupState) (member : ℕ) → AreConsistentSeats g → AreConsistentSeats (rejoining g member)
+rejoining_consistent g member consistent = subst (λ (slots : List Slot). AreConsistentSeats (with_slots g slots)) (sym (one_is_each rejoined_seat g.slots member)) (consistent_each g (at_only member rejoined_seat) (only_consistent g.partitions rejoined_seat (consistent_rejoined g.partitions) member) consistent)
 
-pub rejoining_apart : (g : GroupState) (member : ℕ) → AllFit g → IsApart g → IsApart (rejoining g member)
-rejoining_apart g member fit apart = subst (λ (slots : List Slot). IsApart (with_slots g slots)) (sym (one_is_each rejoined_seat g.slots member)) (apart_each g (at_only member rejoined_seat) (rejoined_less g.partitions member) fit apart)
+pub rejoining_disjoint : (g : GroupState) (member : ℕ) → AreConsistentSeats g → IsDisjoint g → IsDisjoint (rejoining g member)
+rejoining_disjoint g member consistent disjoint = subst (λ (slots : List Slot). IsDisjoint (with_slots g slots)) (sym (one_is_each rejoined_seat g.slots member)) (disjoint_each g (at_only member rejoined_seat) (rejoined_less g.partitions member) consistent disjoint)
 
-rejoining_granted : (g : GroupState) (member : ℕ) → AllFit g → (m q : ℕ) → is_in (granted_of (rejoining g member) m) q ≡ true → is_in (granted_of g m) q ≡ true
-rejoining_granted g member fit m q e =
-    granted_each g (at_only member rejoined_seat) (rejoined_less g.partitions member) fit m q (ap (λ slots. is_in (seat_granted g.partitions (seat_of slots m)) q) (sym (one_is_each rejoined_seat g.slots member)) ∙ e)
+rejoining_granted : (g : GroupState) (member : ℕ) → AreConsistentSeats g → (m q : ℕ) → is_in (granted_of (rejoining g member) m) q ≡ true → is_in (granted_of g m) q ≡ true
+rejoining_granted g member consistent m q e =
+    granted_each g (at_only member rejoined_seat) (rejoined_less g.partitions member) consistent m q (ap (λ slots. is_in (seat_granted g.partitions (seat_of slots m)) q) (sym (one_is_each rejoined_seat g.slots member)) ∙ e)
 
 pub any_rejoining : (g : GroupState) (member : ℕ) → is_anybody (rejoining g member) ≡ is_anybody g
 any_rejoining g member = ap (λ slots. list_any (λ s. is_some s.seat) slots) (one_is_each rejoined_seat g.slots member) ∙ any_each (at_only member rejoined_seat) g.slots
@@ -167,9 +167,9 @@ rejoining_changed g member good here =
         few_members = omega (arith, length_reseated (only_of member (option_map rejoined_seat)) g.slots, good.sized.few_members);
         a_holder_each = good.sized.a_holder_each;
       };
-      apart = rejoining_apart g member good.fit good.apart;
-      fit = rejoining_fit g member good.fit;
-      held = λ m q e. good.held m q (rejoining_granted g member good.fit m q e);
+      disjoint = rejoining_disjoint g member good.consistent good.disjoint;
+      consistent = rejoining_consistent g member good.consistent;
+      held = λ m q e. good.held m q (rejoining_granted g member good.consistent m q e);
       some = λ e. refl;
       gone = λ e. absurd (false≢true (sym e ∙ any_rejoining g member ∙ any));
       counted = λ e h. good.counted any;
@@ -187,11 +187,11 @@ left_granted p false o q e = e
 leaving_granted : (g : GroupState) (member m q : ℕ) → is_in (granted_of (leaving g member) m) q ≡ true → is_in (granted_of g m) q ≡ true
 leaving_granted g member m q e = left_granted g.partitions (m == member) (member_of g m) q (ap (λ o. is_in (seat_granted g.partitions o) q) (sym (seat_without g.slots member m)) ∙ e)
 
-pub leaving_fit : (g : GroupState) (member : ℕ) → AllFit g → AllFit (leaving g member)
-leaving_fit g member fit m x is = fit m x (left_seat (m == member) (member_of g m) x (sym (seat_without g.slots member m) ∙ is))
+pub leaving_consistent : (g : GroupState) (member : ℕ) → AreConsistentSeats g → AreConsistentSeats (leaving g member)
+leaving_consistent g member consistent m x is = consistent m x (left_seat (m == member) (member_of g m) x (sym (seat_without g.slots member m) ∙ is))
 
-pub leaving_apart : (g : GroupState) (member : ℕ) → IsApart g → IsApart (leaving g member)
-leaving_apart g member apart m n q e h = apart m n q (leaving_granted g member m q e) (leaving_granted g member n q h)
+pub leaving_disjoint : (g : GroupState) (member : ℕ) → IsDisjoint g → IsDisjoint (leaving g member)
+leaving_disjoint g member disjoint m n q e h = disjoint m n q (leaving_granted g member m q e) (leaving_granted g member n q h)
 
 pub leaving_changed : (g : GroupState) (member : ℕ) → IsValidGroup g → is_present g member ≡ true → IsChanged (leaving g member)
 leaving_changed g member good here =
@@ -203,8 +203,8 @@ leaving_changed g member good here =
         few_members = omega (arith, length_reseated (only_of member (λ before. None)) g.slots, good.sized.few_members);
         a_holder_each = good.sized.a_holder_each;
       };
-      apart = leaving_apart g member good.apart;
-      fit = leaving_fit g member good.fit;
+      disjoint = leaving_disjoint g member good.disjoint;
+      consistent = leaving_consistent g member good.consistent;
       held = λ m q e. good.held m q (leaving_granted g member m q e);
       some = λ e. rw e refl;
       gone = λ e. rw e refl;
@@ -253,16 +253,16 @@ settled_flag f flag g member =
     (ap (λ slots. list_all {X = ℕ × Seat} (λ r. agrees r.1) (present slots)) (one_is_each f g.slots member)
     ∙ all_each agrees (at_only member f) (λ m x. only_same agrees f (flag_agrees f flag) member m x) g.slots)
 
-pub fit_flag : (p : ℕ) (f : Seat → Seat) → IsFlag f → (x : Seat) → IsFit p x → IsFit p (f x)
-fit_flag p f flag x fit = record {
-  granted_below = ap partitions_of (flag.granted x) ∙ fit.granted_below;
-  assigned_below = ap partitions_of (flag.assigned x) ∙ fit.assigned_below;
-  within = ap (λ s. is_within s (f x).granted) (flag.assigned x) ∙ ap (is_within x.assigned) (flag.granted x) ∙ fit.within;
-  equal = λ e. flag.assigned x ∙ fit.equal (sym (flag.joined x) ∙ e) ∙ sym (flag.granted x);
+pub consistent_flag : (p : ℕ) (f : Seat → Seat) → IsFlag f → (x : Seat) → IsConsistentSeat p x → IsConsistentSeat p (f x)
+consistent_flag p f flag x consistent = record {
+  granted_below = ap partitions_of (flag.granted x) ∙ consistent.granted_below;
+  assigned_below = ap partitions_of (flag.assigned x) ∙ consistent.assigned_below;
+  within = ap (λ s. is_within s (f x).granted) (flag.assigned x) ∙ ap (is_within x.assigned) (flag.granted x) ∙ consistent.within;
+  equal = λ e. flag.assigned x ∙ consistent.equal (sym (flag.joined x) ∙ e) ∙ sym (flag.granted x);
 }
 
-pub flag_good : (f : Seat → Seat) → IsFlag f → (g : GroupState) (member : ℕ) → IsValidGroup g → IsValidGroup (flagged g f member)
-flag_good f flag g member good =
+pub flag_valid : (f : Seat → Seat) → IsFlag f → (g : GroupState) (member : ℕ) → IsValidGroup g → IsValidGroup (flagged g f member)
+flag_valid f flag g member good =
     let p : ℕ = g.partitions in
     let now : GroupState = flagged g f member in
     let granted : (m : ℕ) → granted_of now m ≡ granted_of g m = λ m. flag_same f (seat_granted p) (λ x. flag.granted x) g member m in
@@ -277,16 +277,16 @@ flag_good f flag g member good =
         few_members = omega (arith, length_reseated (only_of member (option_map f)) g.slots, good.sized.few_members);
         a_holder_each = good.sized.a_holder_each;
       };
-      apart = λ m n q e h. good.apart m n q (ap (λ s. is_in s q) (sym (granted m)) ∙ e) (ap (λ s. is_in s q) (sym (granted n)) ∙ h);
-      fit = subst (λ (slots : List Slot). AllFit (with_slots g slots)) (sym (one_is_each f g.slots member)) (fit_each g (at_only member f) (only_fit p f (fit_flag p f flag) member) good.fit);
+      disjoint = λ m n q e h. good.disjoint m n q (ap (λ s. is_in s q) (sym (granted m)) ∙ e) (ap (λ s. is_in s q) (sym (granted n)) ∙ h);
+      consistent = subst (λ (slots : List Slot). AreConsistentSeats (with_slots g slots)) (sym (one_is_each f g.slots member)) (consistent_each g (at_only member f) (only_consistent p f (consistent_flag p f flag) member) good.consistent);
       held = λ m q e. good.held m q (ap (λ s. is_in s q) (sym (granted m)) ∙ e);
       balanced = λ s.
           let was = good.balanced (sym (settled_flag f flag g member) ∙ s) in
           let rows : map (granted_of g) (members g) ≡ map (granted_of now) (members g) = map_same (granted_of g) (granted_of now) (members g) (λ m listed. sym (granted m)) in
           subst (λ (ms : List ℕ). IsBalanced p (map (granted_of now) ms)) (sym same) (subst (IsBalanced p) rows was);
       stable = λ s m. joined m ∙ good.stable s m;
-      near = λ s.
-          let was = good.near s in (
+      within_balanced = λ s.
+          let was = good.within_balanced s in (
             was.0,
             record {
               below = was.1.below;
@@ -303,15 +303,15 @@ flag_good f flag g member good =
 pub sync_flag : IsFlag synced_seat
 sync_flag = record { joined = λ x. refl; granted = λ x. refl; assigned = λ x. refl }
 
-pub sync_good : (g : GroupState) (member : ℕ) → IsValidGroup g → IsValidGroup (synced_by g member)
-sync_good g member good = flag_good synced_seat sync_flag g member good
+pub sync_valid : (g : GroupState) (member : ℕ) → IsValidGroup g → IsValidGroup (synced_by g member)
+sync_valid g member good = flag_valid synced_seat sync_flag g member good
 
 -- ---- becoming static
-keep_flag : IsFlag kept_seat
+keep_flag : IsFlag static_seat
 keep_flag = record { joined = λ x. refl; granted = λ x. refl; assigned = λ x. refl }
 
-pub keep_good : (g : GroupState) (member : ℕ) → IsValidGroup g → IsValidGroup (keeping g member)
-keep_good g member good = flag_good kept_seat keep_flag g member good
+pub keep_valid : (g : GroupState) (member : ℕ) → IsValidGroup g → IsValidGroup (made_static g member)
+keep_valid g member good = flag_valid static_seat keep_flag g member good
 
 -- ---- nobody
 nobody_at : (m : ℕ) → seat_of [] m ≡ None
@@ -322,15 +322,15 @@ pub length_replicate : {A : Type 0} (n : ℕ) (x : A) → length (replicate n x)
 length_replicate zero x = refl
 length_replicate (suc n) x = ap (λ k. suc k) (length_replicate n x)
 
-pub opening_good : (p : ℕ) → 1 ≤ p → p ≤ MOST_PARTITIONS → IsValidGroup (opening p)
-opening_good p some few = record {
+pub opening_valid : (p : ℕ) → 1 ≤ p → p ≤ MOST_PARTITIONS → IsValidGroup (opening p)
+opening_valid p some few = record {
   sized = record { some_partitions = some; few_partitions = few; few_members = omega arith; a_holder_each = length_replicate p None };
-  apart = λ m n q e h. absurd (false≢true (sym (in_empty p q) ∙ ap (λ o. is_in (seat_granted p o) q) (sym (nobody_at m)) ∙ e));
-  fit = λ m x is. let none : None ≡ Some x = sym (nobody_at m) ∙ is in cc;
+  disjoint = λ m n q e h. absurd (false≢true (sym (in_empty p q) ∙ ap (λ o. is_in (seat_granted p o) q) (sym (nobody_at m)) ∙ e));
+  consistent = λ m x is. let none : None ≡ Some x = sym (nobody_at m) ∙ is in cc;
   held = λ m q e. absurd (false≢true (sym (in_empty p q) ∙ ap (λ o. is_in (seat_granted p o) q) (sym (nobody_at m)) ∙ e));
   balanced = λ s. absurd (false≢true s);
   stable = λ s. cc;
-  near = λ s. cc;
+  within_balanced = λ s. cc;
   preparing = λ s. cc;
   empty = (λ s. refl, λ s. refl);
   counted = λ a. absurd (false≢true a);

@@ -21,12 +21,12 @@ use Rattle.group_machine.specs.State.{GroupState, member_of, is_present, is_anyb
 use Rattle.group_machine.specs.Moves.{moves_to, last_after}
 use Rattle.group_machine.specs.Completion.{completed_seat, completed_with, complete, is_ready}
 use Rattle.group_machine.specs.Steps.{unless_over, is_name_used, joining, join_answer, rejoin_refusal, rejoining, rejoin_answer, leaving, leave_answer}
-use Rattle.group_machine.specs.Good.{AllFit}
+use Rattle.group_machine.specs.Valid.{AreConsistentSeats}
 use Rattle.group_machine.specs.declared.group.completion.Completion.{Completion}
 use Rattle.group_machine.specs.Private.Changes.{IsChanged, IsPlanned, IsRefused}
 use Rattle.group_machine.specs.Private.Walks.{AreSeatsOver}
 use Rattle.group_machine.proofs.GroupLemmas.{granted_owned}
-use Rattle.group_machine.proofs.Below.{next_below, next_apart}
+use Rattle.group_machine.proofs.Below.{next_below, next_disjoint}
 
 pub not_same : (s t : PartitionSet) (a b : ℕ) → a ≡ partitions_of s → b ≡ partitions_of t → (a ≡ b → ⊥) → nat_eq a b ≡ is_same s t
 not_same s t a b pa pb ne = other (nat_eq a b) refl ∙ sym (go (is_same s t) refl)
@@ -50,17 +50,17 @@ all_from test m (s ∷ slots) = ap (λ b. option_map_or test s.seat true && b) (
 pub all_present : (test : Seat → Bool) (slots : List Slot) → list_all (λ s. option_map_or test s.seat true) slots ≡ list_all {X = ℕ × Seat} (λ r. test r.1) (present slots)
 all_present test slots = all_from test 1 slots
 
-pub seats_over : (g : GroupState) → AllFit g → AreSeatsOver g.partitions g.slots
-seats_over g fit m x is = record { granted = (fit m x is).granted_below; assigned = (fit m x is).assigned_below }
+pub seats_over : (g : GroupState) → AreConsistentSeats g → AreSeatsOver g.partitions g.slots
+seats_over g consistent m x is = record { granted = (consistent m x is).granted_below; assigned = (consistent m x is).assigned_below }
 
 pub owned_rows : (g : GroupState) → IsChanged g → is_anybody g ≡ true → AreGranted (granted_rows g)
-owned_rows g changed any = granted_owned g changed.sized changed.fit changed.apart any
+owned_rows g changed any = granted_owned g changed.sized changed.consistent changed.disjoint any
 
 pub rows_below : (g : GroupState) (next : SetRows) → IsChanged g → is_anybody g ≡ true → next ≡ next_rows (granted_rows g) → next.partitions ≡ g.partitions
 rows_below g next changed any is = ap (λ n. n.partitions) is ∙ next_below (granted_rows g) (owned_rows g changed any)
 
-pub rows_apart : (g : GroupState) (next : SetRows) → IsChanged g → is_anybody g ≡ true → next ≡ next_rows (granted_rows g) → (m n q : ℕ) → is_in (set_of next m) q ≡ true → is_in (set_of next n) q ≡ true → m ≡ n
-rows_apart g next changed any is m n q e h = next_apart (granted_rows g) (owned_rows g changed any) m n q (ap (λ k. is_in (set_of k m) q) (sym is) ∙ e) (ap (λ k. is_in (set_of k n) q) (sym is) ∙ h)
+pub rows_disjoint : (g : GroupState) (next : SetRows) → IsChanged g → is_anybody g ≡ true → next ≡ next_rows (granted_rows g) → (m n q : ℕ) → is_in (set_of next m) q ≡ true → is_in (set_of next n) q ≡ true → m ≡ n
+rows_disjoint g next changed any is m n q e h = next_disjoint (granted_rows g) (owned_rows g changed any) m n q (ap (λ k. is_in (set_of k m) q) (sym is) ∙ e) (ap (λ k. is_in (set_of k n) q) (sym is) ∙ h)
 
 abbrev parts : ℕ → ℕ → List Slot → List (Option ℕ) → List Move → GroupState
 parts generation p slots last moves = record { generation = generation; phase = Stable; partitions = p; slots = slots; last = last; moves = moves }

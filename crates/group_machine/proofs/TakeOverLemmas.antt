@@ -10,7 +10,7 @@ use Rattle.bit_planes.proofs.Sets.{both_true}
 use Rattle.group_machine.specs.declared.group.Slot.{Slot}
 use Rattle.group_machine.specs.declared.group.Seat.{Seat}
 use Rattle.group_machine.specs.Slots.{seat_in}
-use Rattle.group_machine.specs.State.{GroupState, member_of, is_present, seat_kept, name_of, is_kept_as, kept_member}
+use Rattle.group_machine.specs.State.{GroupState, member_of, is_present, seat_is_static, name_of, is_static_as, static_member}
 use Rattle.group_machine.proofs.SlotsLemmas.{slot_with}
 
 -- ---- static members
@@ -19,7 +19,7 @@ slot_got [] k d lt = absurd (omega arith)
 slot_got (s ∷ slots) zero d lt = refl
 slot_got (s ∷ slots) (suc k) d lt = slot_got slots k d (omega arith)
 
-kept_seat_of : (o : Option Seat) → seat_kept o ≡ true → (x : Seat) × (o ≡ Some x) × (x.kept ≡ true)
+kept_seat_of : (o : Option Seat) → seat_is_static o ≡ true → (x : Seat) × (o ≡ Some x) × (x.is_static ≡ true)
 kept_seat_of None e = absurd (false≢true e)
 kept_seat_of (Some x) e = (x, refl, e)
 
@@ -31,24 +31,24 @@ one_more (Some k) m e = let same : k + 1 ≡ m = cc in (k, refl, omega (arith, s
 pub record IsKeeper (g : GroupState) (name : List ℕ) (m : ℕ) : Type 0 where
   pub seat : Seat
   pub here : member_of g m ≡ Some seat
-  pub kept : seat.kept ≡ true
+  pub is_static : seat.is_static ≡ true
   pub named : name_of g m ≡ Some name
 
-pub keeper : (g : GroupState) (name : List ℕ) (m : ℕ) → kept_member g name ≡ Some m → IsKeeper g name m
+pub keeper : (g : GroupState) (name : List ℕ) (m : ℕ) → static_member g name ≡ Some m → IsKeeper g name m
 keeper g name m e =
     let d : Slot = slot_with name None in
-    let k = one_more (position (is_kept_as name) g.slots) m e in
-    let at = position-Some (is_kept_as name) g.slots k.0 d k.1 in
+    let k = one_more (position (is_static_as name) g.slots) m e in
+    let at = position-Some (is_static_as name) g.slots k.0 d k.1 in
     let s : Slot = get_or g.slots k.0 d in
-    let both = both_true (bytes_eq s.name name) (seat_kept s.seat) at.1 in
+    let both = both_true (bytes_eq s.name name) (seat_is_static s.seat) at.1 in
     let x = kept_seat_of s.seat both.1 in
     let got : slice_get g.slots k.0 ≡ Some s = slot_got g.slots k.0 d at.0 in
     record {
       seat = x.0;
       here = ap (member_of g) k.2 ∙ ap seat_in got ∙ x.1;
-      kept = x.2;
+      is_static = x.2;
       named = ap (name_of g) k.2 ∙ ap (option_map (λ (t : Slot). t.name)) got ∙ ap (λ n. Some n) ((bytes_eq-Decides s.name name).0 both.0);
     }
 
-pub keeper_present : (g : GroupState) (name : List ℕ) (m : ℕ) → kept_member g name ≡ Some m → is_present g m ≡ true
+pub keeper_present : (g : GroupState) (name : List ℕ) (m : ℕ) → static_member g name ≡ Some m → is_present g m ≡ true
 keeper_present g name m e = ap is_some (keeper g name m e).here

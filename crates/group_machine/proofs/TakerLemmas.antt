@@ -64,10 +64,10 @@ taker_is g next q = taker_rows next q (present g.slots) ∙ find_from (λ m. is_
     ap (λ s. is_in (set_of next (1 + k)) q && not (is_in s q)) (sym own))
 
 pub one_taker : (g : GroupState) (next : SetRows) → ((m n q : ℕ) → is_in (set_of next m) q ≡ true → is_in (set_of next n) q ≡ true → m ≡ n) → ((m q : ℕ) → is_in (set_of next m) q ≡ true → Listed m (members g)) → (q m : ℕ) → takes g next q m ≡ true → taker g next q ≡ Some m
-one_taker g next apart listed q m e =
+one_taker g next disjoint listed q m e =
     let row : is_in (set_of next m) q ≡ true = (both_true (is_in (set_of next m) q) (not (is_in (granted_of g m) q)) e).0 in
     let n = find_some (takes g next q) (members g) m (listed m q row) e in
-    let same : n.0 ≡ m = apart n.0 m q ((both_true (is_in (set_of next n.0) q) (not (is_in (granted_of g n.0) q)) n.2).0) row in
+    let same : n.0 ≡ m = disjoint n.0 m q ((both_true (is_in (set_of next n.0) q) (not (is_in (granted_of g n.0) q)) n.2).0) row in
     taker_is g next q ∙ n.1 ∙ ap (λ (k : ℕ). Some k) same
 
 pub holder_after : (g : GroupState) (next : SetRows) (q : ℕ) → length g.last ≡ g.partitions → q < g.partitions → slice_index_or (last_after g next) q None ≡ option_or (taker g next q) (last_holder g q)
@@ -78,11 +78,11 @@ holder_after g next q long lt =
 pub held_after : (g : GroupState) (next : SetRows) → ((m n q : ℕ) → is_in (set_of next m) q ≡ true → is_in (set_of next n) q ≡ true → m ≡ n) → ((m q : ℕ) → is_in (set_of next m) q ≡ true → Listed m (members g))
     → ((m n q : ℕ) → is_in (set_of next m) q ≡ true → is_in (granted_of g n) q ≡ true → m ≡ n)
     → length g.last ≡ g.partitions → (m q : ℕ) → q < g.partitions → (is_in (granted_of g m) q ≡ true → last_holder g q ≡ Some m) → (is_in (granted_of g m) q ≡ true) ⊎ (is_in (set_of next m) q ≡ true) → slice_index_or (last_after g next) q None ≡ Some m
-held_after g next apart listed others long m q lt held now = holder_after g next q long lt ∙ go (is_in (granted_of g m) q) refl
+held_after g next disjoint listed others long m q lt held now = holder_after g next q long lt ∙ go (is_in (granted_of g m) q) refl
   where
-    kept : is_in (granted_of g m) q ≡ true → (o : Option ℕ) → taker g next q ≡ o → option_or o (last_holder g q) ≡ Some m
-    kept own None e = held own
-    kept own (Some n) e =
+    is_static : is_in (granted_of g m) q ≡ true → (o : Option ℕ) → taker g next q ≡ o → option_or o (last_holder g q) ≡ Some m
+    is_static own None e = held own
+    is_static own (Some n) e =
         let t = both_true (is_in (set_of next n) q) (not (is_in (granted_of g n) q)) (find_says (takes g next q) (members g) n (sym (taker_is g next q) ∙ e)) in
         let same : m ≡ n = sym (others n m q t.0 own) in
         let mine : is_in (granted_of g n) q ≡ true = ap (λ k. is_in (granted_of g k) q) (sym same) ∙ own in
@@ -93,5 +93,5 @@ held_after g next apart listed others long m q lt held now = holder_after g next
     given out (inr row) = rw (row, out) refl
 
     go : (b : Bool) → is_in (granted_of g m) q ≡ b → option_or (taker g next q) (last_holder g q) ≡ Some m
-    go true own = kept own (taker g next q) refl
-    go false out = ap (λ o. option_or o (last_holder g q)) (one_taker g next apart listed q m (given out now))
+    go true own = is_static own (taker g next q) refl
+    go false out = ap (λ o. option_or o (last_holder g q)) (one_taker g next disjoint listed q m (given out now))

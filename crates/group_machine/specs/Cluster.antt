@@ -5,11 +5,11 @@ use Rattle.lane_words.specs.declared.Refusal.{Refusal}
 use Rattle.lane_words.specs.declared.Refusal.TheVariants as r
 use Rattle.bit_planes.specs.PartitionSet.{PartitionSet, is_in}
 pub use Rattle.partition_log.specs.Appends.{GrowByRecords, GrowsByKeyAt}
-pub use Rattle.partition_log.specs.Keys.{Key, Keyed, is_known, of_first}
+pub use Rattle.partition_log.specs.Keys.{Key, Keyed, is_interned, of_first}
 pub use Rattle.partition_log.specs.Logs.{AreCounts, IsOfTopic, IsPlaceOf, answer_at, place_in}
 pub use Rattle.commit_store.specs.Commits.{IsValidLogs, AreLogsOf, Commits, Fits, IsExact, PartitionLogs, append_answer, commit_answer, committed_at, with_commit, with_record_at}
 use Rattle.group_machine.specs.State.{GroupState, assigned_of, granted_of, is_present}
-use Rattle.group_machine.specs.Good.{IsValidGroup}
+use Rattle.group_machine.specs.Valid.{IsValidGroup}
 use Rattle.group_machine.specs.Steps.{sync_answer}
 
 -- a commit: its member, the generation in which it was sent, and its records, which are those of a
@@ -39,8 +39,8 @@ pub record ClusterState : Type 0 where
   pub store : Commits
 
 -- a store without its reserved capacity
-abbrev pub without_room : Commits → Commits
-without_room s = record s { room = 0 }
+abbrev pub without_capacity : Commits → Commits
+without_capacity s = record s { capacity = 0 }
 
 -- The invariant of a cluster: its group is valid, its store is exact over its logs, all three have
 -- the same number of partitions, and each key has a counter
@@ -84,7 +84,7 @@ committed_by s c = record s { store = with_commit s.store c.partition c.ids }
 -- the store with a counter at 0 for a new key
 abbrev pub with_counter_for : PartitionLogs → Key → Commits → Commits
 with_counter_for l key store =
-    if is_known l.keys key then store else (record store { counts = store.counts ++ 0 ∷ [] })
+    if is_interned l.keys key then store else (record store { counts = store.counts ++ 0 ∷ [] })
 
 -- one more record at the end of the log of this partition, and a counter at 0 for a new key
 abbrev pub appended_at : ClusterState → ℕ → Key → ClusterState

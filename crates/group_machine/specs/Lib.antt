@@ -1,6 +1,6 @@
 pub mod Cluster
 pub mod Completion
-pub mod Good
+pub mod Valid
 pub mod Moves
 pub mod NextSteps
 pub mod Private

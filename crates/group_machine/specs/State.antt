@@ -53,8 +53,8 @@ seat_joined seat = option_map_or (λ s. s.joined) seat false
 abbrev pub seat_synced : Option Seat → Bool
 seat_synced seat = option_map_or (λ s. s.synced) seat false
 
-abbrev pub seat_kept : Option Seat → Bool
-seat_kept seat = option_map_or (λ s. s.kept) seat false
+abbrev pub seat_is_static : Option Seat → Bool
+seat_is_static seat = option_map_or (λ s. s.is_static) seat false
 
 -- the flags of a member; false if it is not present
 abbrev pub is_joined : GroupState → ℕ → Bool
@@ -65,7 +65,7 @@ is_synced g member = seat_synced (member_of g member)
 
 -- whether a member is static
 abbrev pub is_kept : GroupState → ℕ → Bool
-is_kept g member = seat_kept (member_of g member)
+is_kept g member = seat_is_static (member_of g member)
 
 abbrev pub seat_granted : ℕ → Option Seat → PartitionSet
 seat_granted partitions seat = option_map_or (λ s. s.granted) seat (empty_set partitions)
@@ -115,12 +115,12 @@ abbrev pub member_named : GroupState → List ℕ → Option ℕ
 member_named g name = number_in g.slots name
 
 -- a slot is of a present static member of this name
-abbrev pub is_kept_as : List ℕ → Slot → Bool
-is_kept_as name slot = bytes_eq slot.name name && seat_kept slot.seat
+abbrev pub is_static_as : List ℕ → Slot → Bool
+is_static_as name slot = bytes_eq slot.name name && seat_is_static slot.seat
 
-abbrev pub kept_in : List Slot → List ℕ → Option ℕ
-kept_in slots name = option_map (λ k. k + 1) (position (is_kept_as name) slots)
+abbrev pub static_in : List Slot → List ℕ → Option ℕ
+static_in slots name = option_map (λ k. k + 1) (position (is_static_as name) slots)
 
 -- the present static member of a name
-abbrev pub kept_member : GroupState → List ℕ → Option ℕ
-kept_member g name = kept_in g.slots name
+abbrev pub static_member : GroupState → List ℕ → Option ℕ
+static_member g name = static_in g.slots name

@@ -12,7 +12,7 @@ use Rattle.group_machine.specs.declared.group.Slot.{Slot}
 use Rattle.group_machine.specs.declared.group.Phase.{Phase}
 use Rattle.group_machine.specs.declared.group.Phase.TheVariants.{Empty, Preparing}
 use Rattle.group_machine.specs.Slots.{is_anybody_in, one_changed, without_seat}
-use Rattle.group_machine.specs.State.{GroupState, member_of, granted_of, is_present, kept_member}
+use Rattle.group_machine.specs.State.{GroupState, member_of, granted_of, is_present, static_member}
 use Rattle.group_machine.specs.Moves.{held_by}
 use Rattle.group_machine.specs.Completion.{is_over, completed}
 use Rattle.group_machine.specs.Settled.{is_stable, agrees}
@@ -30,7 +30,7 @@ abbrev pub new_seat : ℕ → Seat
 new_seat partitions = record {
   joined = true;
   synced = false;
-  kept = false;
+  is_static = false;
   granted = empty_set partitions;
   assigned = empty_set partitions;
 }
@@ -56,16 +56,16 @@ abbrev pub joined_by : GroupState → List ℕ → GroupState
 joined_by g name = completed (joining g name)
 
 -- ---- join of a static member
-abbrev pub kept_seat : Seat → Seat
-kept_seat seat = record seat { kept = true }
+abbrev pub static_seat : Seat → Seat
+static_seat seat = record seat { is_static = true }
 
 -- the group with this member made static
-abbrev pub keeping : GroupState → ℕ → GroupState
-keeping g member = record g { slots = one_changed kept_seat g.slots member }
+abbrev pub made_static : GroupState → ℕ → GroupState
+made_static g member = record g { slots = one_changed static_seat g.slots member }
 
 -- a join, and the member that joined is static
-abbrev pub joined_kept_by : GroupState → List ℕ → GroupState
-joined_kept_by g name = keeping (joined_by g name) (length g.slots + 1)
+abbrev pub joined_static_by : GroupState → List ℕ → GroupState
+joined_static_by g name = made_static (joined_by g name) (length g.slots + 1)
 
 -- ---- rejoin
 -- it revokes what it is not assigned
@@ -153,9 +153,9 @@ handing_on g name member = record g {
 -- the number that takes the seat over, which is the next one
 abbrev pub take_over_answer : GroupState → List ℕ → Result ℕ Refusal
 take_over_answer g name =
-    if not (is_some (kept_member g name)) then Err r.NotKept
+    if not (is_some (static_member g name)) then Err r.NotKept
     else if nat_le MOST_MEMBERS (length g.slots) then Err r.TooManyMembers
     else Ok (length g.slots + 1)
 
 abbrev pub taken_over_by : GroupState → List ℕ → GroupState
-taken_over_by g name = option_map_or (handing_on g name) (kept_member g name) g
+taken_over_by g name = option_map_or (handing_on g name) (static_member g name) g

@@ -4,9 +4,9 @@ ghost use Rattle.std.specs.Prelude.{◌≡◌, ◌+◌, ◌≤◌, ◌∷◌, �
 ghost use Rattle.std.specs.List.{sum};
 ghost use Rattle.lane_words.specs.Answers.{Answers};
 ghost use Rattle.group_machine.specs.State.{assigned_of, granted_of, is_joined, is_kept, is_present, is_synced, member_named, member_of, members, name_of, opening, owner_of};
-ghost use Rattle.group_machine.specs.Steps.{join_answer, joined_by, joined_kept_by, leave_answer, left_by, rejoin_answer, rejoined_by, synced_by, take_over_answer, taken_over_by};
+ghost use Rattle.group_machine.specs.Steps.{join_answer, joined_by, joined_static_by, leave_answer, left_by, rejoin_answer, rejoined_by, synced_by, take_over_answer, taken_over_by};
 ghost use Rattle.group_machine.specs.Settled.{is_settled};
-ghost use Rattle.group_machine.specs.Cluster.{AreCounts, AreLogsOf, ClusterState, GrowByRecords, GrowsByKeyAt, IsDue, IsOfTopic, IsPlaceOf, IsValidCluster, answer_at, append_answer, appended_at, appended_to, cluster_commit_answer, cluster_sync_answer, committed_at, committed_by, fence, of_first, with_group, without_room};
+ghost use Rattle.group_machine.specs.Cluster.{AreCounts, AreLogsOf, ClusterState, GrowByRecords, GrowsByKeyAt, IsDue, IsOfTopic, IsPlaceOf, IsValidCluster, answer_at, append_answer, appended_at, appended_to, cluster_commit_answer, cluster_sync_answer, committed_at, committed_by, fence, of_first, with_group, without_capacity};
 
 mod next_step;
 
@@ -56,7 +56,7 @@ impl Cluster {
         ensures counts { IfOk result (λ cluster. cluster.logs.counts ≡ partitions ∷ []) }
         ensures logs { IfOk result (λ cluster. AreLogsOf [] cluster.logs) }
         ensures counters { IfOk result (λ cluster. cluster.store.counts ≡ []) }
-        ensures room { IfOk result (λ cluster. cluster.store.room ≡ 0) }
+        ensures capacity { IfOk result (λ cluster. cluster.store.capacity ≡ 0) }
         ensures offsets { IfOk result (λ cluster. (p : ℕ) → committed_at cluster.store p ≡ 0) }
         ensures valid { IfOk result IsValidCluster }
     {
@@ -75,7 +75,7 @@ impl Cluster {
         ensures counts { IfOk result (λ cluster. cluster.logs.counts ≡ counts.now) }
         ensures logs { IfOk result (λ cluster. AreLogsOf [] cluster.logs) }
         ensures counters { IfOk result (λ cluster. cluster.store.counts ≡ []) }
-        ensures room { IfOk result (λ cluster. cluster.store.room ≡ 0) }
+        ensures capacity { IfOk result (λ cluster. cluster.store.capacity ≡ 0) }
         ensures offsets { IfOk result (λ cluster. (p : ℕ) → committed_at cluster.store p ≡ 0) }
         ensures valid { IfOk result IsValidCluster }
     {
@@ -90,7 +90,7 @@ impl Cluster {
         ensures logs { IfOk result (λ cluster. cluster.logs ≡ logs) }
         ensures counters { IfOk result (λ cluster.
             cluster.store.counts ≡ replicate (length logs.keys) 0) }
-        ensures room { IfOk result (λ cluster. cluster.store.room ≡ 0) }
+        ensures capacity { IfOk result (λ cluster. cluster.store.capacity ≡ 0) }
         ensures offsets { IfOk result (λ cluster. (p : ℕ) → committed_at cluster.store p ≡ 0) }
         ensures valid { IfOk result IsValidCluster }
     {
@@ -123,7 +123,7 @@ impl Cluster {
     pub fn join_kept(&mut self, name: Name) -> Result<u32, Refusal>
         ensures answer { Answers (join_answer self.old.group name) result }
         ensures ok { OnOk result (self.new
-            ≡ with_group self.old (joined_kept_by self.old.group name)) }
+            ≡ with_group self.old (joined_static_by self.old.group name)) }
         ensures err { OnErr result (self.new ≡ self.old) }
     {
         self.group.join_kept(self.alloc, name)
@@ -326,7 +326,7 @@ impl Cluster {
     pub fn is_kept(&self, member: u32) -> bool
         ensures { result ≡ is_kept self.now.group member }
     {
-        self.seat(member).is_some_and(|seat| seat.kept)
+        self.seat(member).is_some_and(|seat| seat.is_static)
     }
 
     /// The partitions that a member may read and commit; nothing if it is not present.
@@ -400,7 +400,7 @@ impl Cluster {
 
     /// The committed offsets and the counts.
     pub fn store(&self) -> &Store
-        ensures store { without_room result.now ≡ self.now.store }
+        ensures store { without_capacity result.now ≡ self.now.store }
         ensures valid { IsValidCluster self.now }
     {
         &self.store

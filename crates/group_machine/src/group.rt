@@ -7,9 +7,9 @@ ghost use Rattle.bit_planes.specs.PartitionSet.{is_same};
 ghost use Rattle.group_machine.specs.State.{opening, is_present, member_of, is_anybody};
 ghost use Rattle.group_machine.specs.Completion.{complete, completed};
 ghost use Rattle.group_machine.specs.Settled.{is_settled, is_stable};
-ghost use Rattle.group_machine.specs.Steps.{newcomer, join_answer, joined_by, joined_kept_by, handing_on, take_over_answer, taken_over_by, rejoin_refusal, rejoin_answer, rejoined_by, sync_answer, synced_by, leave_answer, left_by};
-ghost use Rattle.group_machine.specs.Good.{IsValidGroup};
-ghost use Rattle.group_machine.specs.Private.Changes.{after, HasRoom, IsChanged, IsCompletion, IsLeasable, IsPlanned, IsRefused};
+ghost use Rattle.group_machine.specs.Steps.{newcomer, join_answer, joined_by, joined_static_by, handing_on, take_over_answer, taken_over_by, rejoin_refusal, rejoin_answer, rejoined_by, sync_answer, synced_by, leave_answer, left_by};
+ghost use Rattle.group_machine.specs.Valid.{IsValidGroup};
+ghost use Rattle.group_machine.specs.Private.Changes.{after, HasCapacity, IsChanged, IsCompletion, IsLeasable, IsPlanned, IsRefused};
 ghost use Rattle.group_machine.specs.Private.GroupView.{group_view};
 
 mod change;
@@ -58,7 +58,7 @@ pub struct Seat {
     /// Whether it has synced in this generation.
     pub synced: bool,
     /// Whether it is static: another member number can take its seat over by name.
-    pub kept: bool,
+    pub is_static: bool,
     /// The partitions that it may read and commit.
     pub granted: Plane,
     /// The partitions that the last completion assigned to it.
@@ -99,7 +99,7 @@ impl Group {
     /// A group without members. It fails only when out of memory.
     pub fn new(alloc: Global, partitions: u32) -> Result<Group, Memory>
         requires { (1 ≤ partitions) × (partitions ≤ MOST_PARTITIONS) }
-        ensures opening { IfOk result (λ g. group_view g ≡ opening partitions) }
+        ensures state { IfOk result (λ g. group_view g ≡ opening partitions) }
     {
         Ok(Group {
             generation: 0,
@@ -139,12 +139,12 @@ impl Group {
         requires { IsValidGroup (group_view self.old) }
         ensures answer { Answers (join_answer (group_view self.old) name) result }
         ensures ok { OnOk result
-            (group_view self.new ≡ joined_kept_by (group_view self.old) name) }
+            (group_view self.new ≡ joined_static_by (group_view self.old) name) }
         ensures err { OnErr result (group_view self.new ≡ group_view self.old) }
         ensures valid { IsValidGroup (group_view self.new) }
     {
         let number = self.join(alloc, name)?;
-        slots::keep(&mut self.slots, number);
+        slots::make_static(&mut self.slots, number);
         Ok(number)
     }
 
@@ -157,7 +157,7 @@ impl Group {
         ensures err { OnErr result (group_view self.new ≡ group_view self.old) }
         ensures valid { IsValidGroup (group_view self.new) }
     {
-        let Some(member) = members::kept_member(&self.slots, name) else {
+        let Some(member) = members::static_member(&self.slots, name) else {
             return Err(Refusal::NotKept);
         };
         if self.slots.len() >= MOST_MEMBERS {
@@ -196,9 +196,9 @@ impl Group {
 
     /// The partitions that a member is assigned, if it may sync.
     pub fn leasable(&self, member: u32) -> Result<&Plane, Refusal>
-        ensures may { IfOk result
+        ensures ok { IfOk result
             (λ assigned. IsLeasable (group_view self.now) member assigned.now) }
-        ensures refused { IfErr result (λ why. sync_answer (group_view self.now) member ≡ Err why) }
+        ensures fault { IfErr result (λ why. sync_answer (group_view self.now) member ≡ Err why) }
     {
         let Some(seat) = slots::seat_of(&self.slots, member) else {
             return Err(Refusal::UnknownMember);
@@ -211,9 +211,9 @@ impl Group {
 
     /// Marks a present member as synced.
     pub fn mark_synced(&mut self, member: u32)
-        requires here { is_present (group_view self.old) member ≡ true }
+        requires present { is_present (group_view self.old) member ≡ true }
         requires valid { IsValidGroup (group_view self.old) }
-        ensures synced { group_view self.new ≡ synced_by (group_view self.old) member }
+        ensures state { group_view self.new ≡ synced_by (group_view self.old) member }
         ensures valid { IsValidGroup (group_view self.new) }
     {
         slots::mark_synced(&mut self.slots, member);
@@ -248,9 +248,9 @@ impl Group {
     /// Moves the seat of a member to the next number, under this name. It allocates nothing.
     fn hand_on(&mut self, name: &Name, member: u32)
         requires valid { IsValidGroup (group_view self.old) }
-        requires here { is_present (group_view self.old) member ≡ true }
-        requires few { length self.old.slots.items < MOST_MEMBERS }
-        requires room { vec_len self.old.slots + 1 ≤ vec_capacity self.old.slots }
+        requires present { is_present (group_view self.old) member ≡ true }
+        requires bound { length self.old.slots.items < MOST_MEMBERS }
+        requires capacity { vec_len self.old.slots + 1 ≤ vec_capacity self.old.slots }
         ensures { group_view self.new ≡ handing_on (group_view self.old) name.now member }
     {
         let number = self.slots.len() as u32 + 1;
@@ -298,11 +298,11 @@ impl Group {
         change: Change,
     ) -> Result<Option<Completion>, Refusal>
         requires valid { IsValidGroup (group_view self.old) }
-        requires changed { (name : List ℕ) → IsChanged (after change name (group_view self.old)) }
+        requires state { (name : List ℕ) → IsChanged (after change name (group_view self.old)) }
         ensures ok { (name : List ℕ)
             → IfOk result (IsPlanned (after change name (group_view self.old))) }
-        ensures room { IfOk result (λ planned.
-            HasRoom planned (vec_len self.new.moves) (vec_capacity self.new.moves)) }
+        ensures capacity { IfOk result (λ planned.
+            HasCapacity planned (vec_len self.new.moves) (vec_capacity self.new.moves)) }
         ensures err { (name : List ℕ)
             → IfErr result (IsRefused (after change name (group_view self.old))) }
         ensures same { group_view self.new ≡ group_view self.old }
@@ -322,10 +322,10 @@ impl Group {
     /// The completion that a change leads to.
     fn completion_after(&self, alloc: Global, change: Change) -> Result<Completion, Memory>
         requires valid { IsValidGroup (group_view self.now) }
-        requires changed { (name : List ℕ) → IsChanged (after change name (group_view self.now)) }
-        requires some { (name : List ℕ) → is_anybody (after change name (group_view self.now))
+        requires state { (name : List ℕ) → IsChanged (after change name (group_view self.now)) }
+        requires nonempty { (name : List ℕ) → is_anybody (after change name (group_view self.now))
             ≡ true }
-        requires more { self.now.generation < LAST_GENERATION }
+        requires bound { self.now.generation < LAST_GENERATION }
         ensures { (name : List ℕ)
             → IfOk result (IsCompletion (after change name (group_view self.now))) }
     {
@@ -342,11 +342,11 @@ impl Group {
 
     /// Applies the planned completion, if there is one. It allocates nothing.
     fn complete(&mut self, planned: Option<Completion>)
-        requires changed { IsChanged (group_view self.old) }
+        requires state { IsChanged (group_view self.old) }
         requires planned { IsPlanned (group_view self.old) planned }
-        requires room { HasRoom planned
+        requires capacity { HasCapacity planned
             (vec_len self.old.moves) (vec_capacity self.old.moves) }
-        ensures completed { group_view self.new ≡ completed (group_view self.old) }
+        ensures state { group_view self.new ≡ completed (group_view self.old) }
         ensures valid { IsValidGroup (group_view self.new) }
     {
         if let Some(completion) = planned {
@@ -356,12 +356,12 @@ impl Group {
 
     /// Applies the planned completion. It allocates nothing.
     fn make(&mut self, completion: &Completion)
-        requires changed { IsChanged (group_view self.old) }
-        requires more { self.old.generation < LAST_GENERATION }
+        requires state { IsChanged (group_view self.old) }
+        requires bound { self.old.generation < LAST_GENERATION }
         requires completion { IsCompletion (group_view self.old) completion.now }
-        requires room { vec_len self.old.moves + length completion.now.moves.items
+        requires capacity { vec_len self.old.moves + length completion.now.moves.items
             ≤ vec_capacity self.old.moves }
-        requires some { is_anybody (group_view self.old) ≡ true }
+        requires nonempty { is_anybody (group_view self.old) ≡ true }
         ensures { group_view self.new ≡ complete (group_view self.old) }
     {
         moves::append(&mut self.moves, &completion.moves);
@@ -382,7 +382,7 @@ fn newcomer(partitions: u32, name: Name) -> Slot
         seat: Some(Seat {
             joined: true,
             synced: false,
-            kept: false,
+            is_static: false,
             granted: Plane::new(partitions),
             assigned: Plane::new(partitions),
         }),

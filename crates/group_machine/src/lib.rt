@@ -3,7 +3,7 @@
 //! `Cluster` is a deterministic state machine without timers: each event is a call, and each call
 //! that changes it is exactly the step that `specs/Steps.antt` and `specs/Cluster.antt` define. A
 //! refusal is the first that applies, in order, and changes nothing. Invariant
-//! (`specs/Good.antt`): no partition is granted to two present members; what a member is assigned
+//! (`specs/Valid.antt`): no partition is granted to two present members; what a member is assigned
 //! is granted to it; a settled assignment is balanced; the store is exact over the logs.
 //!
 //! `group_laws` states what follows for sequences of steps. Tests: `driver_tests`.

@@ -13,11 +13,11 @@ use Rattle.partition_log.proofs.History.{history}
 use Rattle.partition_log.proofs.Valid.{accepted-parts, place-below, valid}
 use Rattle.ingest.specs.RecordFaults.{first_fault, record_fault, IsKeyFault}
 use Rattle.ingest.specs.Private.Appending.{EndsAppends}
-use Rattle.ingest.specs.Records.{AreOfTopics, place_of_record}
-use Rattle.ingest.proofs.Faulted.{first_fault-later, first_fault-nil, first_fault-now, record_fault-kind, refused, refused_as_told, taken}
+use Rattle.ingest.specs.Records.{AreOfTopics, partition_of_record}
+use Rattle.ingest.proofs.Faulted.{first_fault-later, first_fault-nil, first_fault-now, record_fault-kind, refused, refused_as_expected, taken}
 
-abbrev at_place : PartitionLogs → Keyed → Placed
-at_place l keyed = (place_in l keyed, keyed.1)
+abbrev at_partition : PartitionLogs → Keyed → Placed
+at_partition l keyed = (place_in l keyed, keyed.1)
 
 valid_with : (l : PartitionLogs) (keyed : Keyed) → IsValidLogs l → IsOfTopic l keyed → IsOk (append_answer l keyed) → IsValidLogs (with_record l keyed)
 valid_with l keyed v topic ok =
@@ -43,8 +43,8 @@ with_records-cons : (l : PartitionLogs) (one : Placed) (records : List Placed) �
 unfolding with_records
 with_records-cons l one records = refl
 
-all_grown : (counts : List ℕ) (before : List Keyed) (l : PartitionLogs) (records : List Keyed) → IsValidLogs l → AreLogsOf before l → l.counts ≡ counts → All (IsOfTopic l) records → AreAccepted l (map (at_place l) records)
-    → AreGrown counts before records (with_records l (map (at_place l) records))
+all_grown : (counts : List ℕ) (before : List Keyed) (l : PartitionLogs) (records : List Keyed) → IsValidLogs l → AreLogsOf before l → l.counts ≡ counts → All (IsOfTopic l) records → AreAccepted l (map (at_partition l) records)
+    → AreGrown counts before records (with_records l (map (at_partition l) records))
 all_grown counts before l [] v h same topics all = rw (with_records-nil l) (record {
   valid = v;
   logs = rw append-nil h;
@@ -57,14 +57,14 @@ all_grown counts before l (keyed ∷ records) v h same topics all =
     let next = with_record l keyed in
     let rest = all_grown counts (before ++ keyed ∷ []) next records (valid_with l keyed v topic all.0) (history l keyed before v h topic) same (All-tail (IsOfTopic l) keyed records topics) all.1 in
     let joined : (before ++ keyed ∷ []) ++ records ≡ before ++ keyed ∷ records = append_assoc before (keyed ∷ []) records in
-    rw (with_records-cons l (at_place l keyed) (map (at_place l) records)) (record {
+    rw (with_records-cons l (at_partition l keyed) (map (at_partition l) records)) (record {
       valid = rest.valid;
-      logs = subst (λ ks. AreLogsOf ks (with_records next (map (at_place l) records))) joined rest.logs;
+      logs = subst (λ ks. AreLogsOf ks (with_records next (map (at_partition l) records))) joined rest.logs;
       counts_are = rest.counts_are;
       faults = λ more. first_fault-later counts before keyed (records ++ more) fine ∙ rest.faults more ∙ ap (λ b. first_fault counts b more) joined;
     })
 
-grown : (counts : List ℕ) (l l2 : PartitionLogs) (records : List Keyed) → IsValidLogs l → AreLogsOf [] l → l.counts ≡ counts → All (IsOfTopic l) records → AreAppended l (map (at_place l) records) l2 → AreGrown counts [] records l2
+grown : (counts : List ℕ) (l l2 : PartitionLogs) (records : List Keyed) → IsValidLogs l → AreLogsOf [] l → l.counts ≡ counts → All (IsOfTopic l) records → AreAppended l (map (at_partition l) records) l2 → AreGrown counts [] records l2
 grown counts l l2 records v h same topics done = subst (AreGrown counts [] records) (sym done.1) (all_grown counts [] l records v h same topics done.0)
 
 pub of-topics : (counts : List ℕ) (l : PartitionLogs) (records : List Keyed) → l.counts ≡ counts → AreOfTopics counts records → All (IsOfTopic l) records
@@ -79,7 +79,7 @@ all_appended counts l l2 records v h same topics done =
       ap (first_fault counts []) (sym (append-nil records)) ∙ known.faults [] ∙ first_fault-nil counts records,
     )
 
-appends_stopped : (counts : List ℕ) (l l2 : PartitionLogs) (records : List Keyed) (i : ℕ) (why : Refusal) → IsValidLogs l → AreLogsOf [] l → l.counts ≡ counts → All (IsOfTopic l) records → AreStoppedAfter i why l (map (at_place l) records) l2
+appends_stopped : (counts : List ℕ) (l l2 : PartitionLogs) (records : List Keyed) (i : ℕ) (why : Refusal) → IsValidLogs l → AreLogsOf [] l → l.counts ≡ counts → All (IsOfTopic l) records → AreStoppedAfter i why l (map (at_partition l) records) l2
     → IsKeyFault why × ((why ≡ r.Memory) ⊎ (first_fault counts [] records ≡ Some why))
 appends_stopped counts l l2 records i why v h same topics stop = (record_fault-kind l2 keyed why told, go told)
   where
@@ -87,19 +87,19 @@ appends_stopped counts l l2 records i why v h same topics stop = (record_fault-k
     keyed = get_or records i (0, [])
 
     among : i < length records
-    among = omega (arith, stop.among, length-map records (at_place l))
+    among = omega (arith, stop.among, length-map records (at_partition l))
 
     known : AreGrown counts [] (take i records) l2
-    known = grown counts l l2 (take i records) v h same (All-take (IsOfTopic l) i records topics) (subst (λ (rs : List Placed). AreAppended l rs l2) (take-map (at_place l) i records) stop.appended)
+    known = grown counts l l2 (take i records) v h same (All-take (IsOfTopic l) i records topics) (subst (λ (rs : List Placed). AreAppended l rs l2) (take-map (at_partition l) i records) stop.appended)
 
     topic : IsOfTopic l2 keyed
     topic = subst (λ (cs : List ℕ). keyed.0 < length cs) (same ∙ sym known.counts_are) (All-get_or (IsOfTopic l) records i (0, []) among topics)
 
-    one : get_or (map (at_place l) records) i (0, []) ≡ at_place l2 keyed
-    one = get_or-map (at_place l) records i (0, []) (0, []) among ∙ ap (λ cs. let pair : Placed = (place_of_record cs keyed, keyed.1) in pair) (same ∙ sym known.counts_are)
+    one : get_or (map (at_partition l) records) i (0, []) ≡ at_partition l2 keyed
+    one = get_or-map (at_partition l) records i (0, []) (0, []) among ∙ ap (λ cs. let pair : Placed = (partition_of_record cs keyed, keyed.1) in pair) (same ∙ sym known.counts_are)
 
     told : (why ≡ r.Memory) ⊎ (append_answer l2 keyed ≡ Err why)
-    told = refused_as_told (append_answer l2 keyed) why (subst (λ (x : Placed). Answers (answer_at l2 x.0 x.1) (Err why)) one stop.refused)
+    told = refused_as_expected (append_answer l2 keyed) why (subst (λ (x : Placed). Answers (answer_at l2 x.0 x.1) (Err why)) one stop.refused)
 
     left : drop i records ≡ keyed ∷ drop (suc i) records
     left = drop-cons records i (0, []) among

@@ -6,11 +6,11 @@ use Rattle.lane_words.specs.declared.limits.TheConstants.{LONGEST_KEY}
 use Rattle.lane_words.specs.declared.Refusal.{Refusal}
 use Rattle.lane_words.specs.declared.Refusal.TheVariants as r
 use Rattle.partition_log.specs.Keys.{Keyed}
-use Rattle.partition_log.specs.Logs.{AreLogsOf, IsOfTopic, IsValidLogs, PartitionLogs, append_answer, finds_no_room, is_full_for, log_at, place_in}
+use Rattle.partition_log.specs.Logs.{AreLogsOf, IsOfTopic, IsValidLogs, PartitionLogs, append_answer, exceeds_limits, is_full_for, log_at, place_in}
 use Rattle.partition_log.proofs.Valid.{place-below}
-use Rattle.ingest.specs.RecordFaults.{fault_or, first_fault, record_fault, records_beside, IsKeyFault}
-use Rattle.ingest.specs.Records.{place_of_record}
-use Rattle.ingest.proofs.Placed.{log-long, place-is}
+use Rattle.ingest.specs.RecordFaults.{fault_or, first_fault, record_fault, records_in_its_partition, IsKeyFault}
+use Rattle.ingest.specs.Records.{partition_of_record}
+use Rattle.ingest.proofs.Placed.{log-long, partition-is}
 
 abbrev pub fault_in : {T : Type 0} → Result T Refusal → Option Refusal
 fault_in (Ok v) = None
@@ -27,11 +27,11 @@ pub record_fault-is : (counts : List ℕ) (l : PartitionLogs) (before : List Key
 record_fault-is counts l before keyed a h same topic =
     let place = place_in l keyed in
     let key = keyed.1 in
-    let records : length (log_at l place) ≡ records_beside counts before keyed =
-    log-long l counts before place same h (place-below l keyed a topic) ∙ ap (λ p. length (filter (λ other. place_of_record counts other == p) before)) (place-is l counts keyed same) in
-    told (nat_lt LONGEST_KEY (length key)) (finds_no_room l.keys (length (log_at l place)) key) _
-    ∙ ap (λ m. if nat_lt LONGEST_KEY (length key) then Some r.KeyTooLong else if finds_no_room l.keys m key then Some r.LogFull else None) records
-    ∙ ap (λ keys. if nat_lt LONGEST_KEY (length key) then Some r.KeyTooLong else if finds_no_room keys (records_beside counts before keyed) key then Some r.LogFull else None) h.numbers
+    let records : length (log_at l place) ≡ records_in_its_partition counts before keyed =
+    log-long l counts before place same h (place-below l keyed a topic) ∙ ap (λ p. length (filter (λ other. partition_of_record counts other == p) before)) (partition-is l counts keyed same) in
+    told (nat_lt LONGEST_KEY (length key)) (exceeds_limits l.keys (length (log_at l place)) key) _
+    ∙ ap (λ m. if nat_lt LONGEST_KEY (length key) then Some r.KeyTooLong else if exceeds_limits l.keys m key then Some r.LogFull else None) records
+    ∙ ap (λ keys. if nat_lt LONGEST_KEY (length key) then Some r.KeyTooLong else if exceeds_limits keys (records_in_its_partition counts before keyed) key then Some r.LogFull else None) h.numbers
 
 pub first_fault-nil : (counts : List ℕ) (before : List Keyed) → first_fault counts before [] ≡ None
 unfolding first_fault
@@ -67,9 +67,9 @@ pub record_fault-kind : (l : PartitionLogs) (keyed : Keyed) (fault : Refusal) �
 record_fault-kind l keyed fault (inl e) = subst IsKeyFault (sym e) tt
 record_fault-kind l keyed fault (inr e) = kind-at (nat_lt LONGEST_KEY (length keyed.1)) (is_full_for l (place_in l keyed) keyed.1) _ fault e
 
-pub refused_as_told : {T : Type 0} (expected : Result T Refusal) (fault : Refusal) → Answers expected (Err fault) → (fault ≡ r.Memory) ⊎ (expected ≡ Err fault)
-refused_as_told expected fault (inl e) = inr (sym e)
-refused_as_told expected fault (inr e) = inl (cc e)
+pub refused_as_expected : {T : Type 0} (expected : Result T Refusal) (fault : Refusal) → Answers expected (Err fault) → (fault ≡ r.Memory) ⊎ (expected ≡ Err fault)
+refused_as_expected expected fault (inl e) = inr (sym e)
+refused_as_expected expected fault (inr e) = inl (cc e)
 
 pub fault_told : (fault : Option Refusal) (text : List ℕ) (e : Refusal) → (e ≡ r.Memory) ⊎ (fault ≡ Some e) → (e ≡ r.Memory) ⊎ (fault_or fault text ≡ Err e)
 fault_told fault text e (inl m) = inl m

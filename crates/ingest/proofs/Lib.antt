@@ -2,4 +2,4 @@ pub mod Appended
 pub mod Faulted
 pub mod Placed
 pub mod Taken
-pub mod Told
+pub mod ReadFaults

@@ -12,19 +12,19 @@ use Rattle.partitioner.specs.Topic.{MayBeTopics}
 use Rattle.partitioner.specs.declared.topic.Topic.{Topic}
 use Rattle.command_line.specs.Options.{AreInRange}
 use Rattle.command_line.specs.declared.options.Options.{Options}
-use Rattle.ingest.specs.Records.{counts_among, partition_counts, place_of_record}
+use Rattle.ingest.specs.Records.{counts_among, partition_counts, partition_of_record}
 
 pub partitions-are : (l : PartitionLogs) (counts : List ℕ) → IsValidLogs l → l.counts ≡ counts → l.partitions ≡ sum counts
 partitions-are l counts a same = a.in_all ∙ ap sum same
 
-pub place-is : (l : PartitionLogs) (counts : List ℕ) (keyed : Keyed) → l.counts ≡ counts → place_in l keyed ≡ place_of_record counts keyed
-place-is l counts keyed same = ap (λ cs. place_of_record cs keyed) same
+pub partition-is : (l : PartitionLogs) (counts : List ℕ) (keyed : Keyed) → l.counts ≡ counts → place_in l keyed ≡ partition_of_record counts keyed
+partition-is l counts keyed same = ap (λ cs. partition_of_record cs keyed) same
 
 pub log-long : (l : PartitionLogs) (counts : List ℕ) (records : List Keyed) (p : ℕ) → l.counts ≡ counts → AreLogsOf records l → p < l.partitions
-    → length (log_at l p) ≡ length (filter (λ keyed. place_of_record counts keyed == p) records)
+    → length (log_at l p) ≡ length (filter (λ keyed. partition_of_record counts keyed == p) records)
 log-long l counts records p same h lt =
     sym (length-map (log_at l p) (key_at l.keys)) ∙ ap length (h.records p lt) ∙ length-map (filter (λ (keyed : Keyed). place_in l keyed == p) records) (λ keyed. keyed.1)
-    ∙ ap (λ cs. length (filter (λ (keyed : Keyed). place_of_record cs keyed == p) records)) same
+    ∙ ap (λ cs. length (filter (λ (keyed : Keyed). partition_of_record cs keyed == p) records)) same
 
 -- ---- the numbers of partitions
 one-count : (partitions : ℕ) → 1 ≤ partitions → partitions ≤ MOST_PARTITIONS → AreCounts (partitions ∷ [])

@@ -11,8 +11,8 @@ use Rattle.lane_words.specs.declared.Refusal.{Refusal}
 use Rattle.lane_words.specs.declared.Refusal.TheVariants as r
 use Rattle.csv.specs.Reading.{default_config, records, strip_bom}
 use Rattle.csv.specs.Records.{field_at}
-use Rattle.key_file.specs.KeyFile.{Record, Taking, behind_index, behind_topic, key_before, key_behind, keyed, keys_from, keys_of_records, topic_key_in, topic_keys_of, topic_of}
-use Rattle.key_file.specs.declared.lack.Lack.{Lack}
+use Rattle.csv_ingest.specs.KeyFile.{Record, Taking, behind_index, behind_topic, key_before, key_behind, keyed, keys_from, keys_of_records, topic_key_in, topic_keys_of, topic_of}
+use Rattle.csv_ingest.specs.declared.lack.Lack.{Lack}
 use Rattle.partitioner.specs.Place.{AreTopics}
 use Rattle.partition_log.specs.Appends.{in_first, lent}
 use Rattle.partition_log.specs.Keys.{Key, Keyed, of_first}

@@ -5,8 +5,8 @@ use Rattle.lane_words.specs.declared.Refusal.{Refusal}
 use Rattle.lane_words.specs.declared.Refusal.TheVariants as r
 use Rattle.lane_words.specs.declared.limits.TheConstants.{LONGEST_KEY}
 use Rattle.partition_log.specs.Keys.{Keyed, distinct, keys_in}
-use Rattle.partition_log.specs.Logs.{finds_no_room}
-use Rattle.ingest.specs.Records.{place_of_record}
+use Rattle.partition_log.specs.Logs.{exceeds_limits}
+use Rattle.ingest.specs.Records.{partition_of_record}
 
 -- why an append was refused: for its key, or because an allocation failed
 abbrev pub IsKeyFault : Refusal → Type 0
@@ -17,16 +17,16 @@ IsKeyFault _ = ⊥
 
 -- the number of these records in the same partition as this one, among topics with these numbers of
 -- partitions
-abbrev pub records_beside : List ℕ → List Keyed → Keyed → ℕ
-records_beside counts records keyed =
-    length (filter (λ other. place_of_record counts other == place_of_record counts keyed) records)
+abbrev pub records_in_its_partition : List ℕ → List Keyed → Keyed → ℕ
+records_in_its_partition counts records keyed =
+    length (filter (λ other. partition_of_record counts other == partition_of_record counts keyed) records)
 
 -- why a record can't be appended after these, if it can't: its key is too long, or its log or the
 -- table of keys is full
 abbrev pub record_fault : List ℕ → List Keyed → Keyed → Option Refusal
 record_fault counts before keyed =
     if nat_lt LONGEST_KEY (length keyed.1) then Some r.KeyTooLong
-    else if finds_no_room (distinct (keys_in before)) (records_beside counts before keyed) keyed.1
+    else if exceeds_limits (distinct (keys_in before)) (records_in_its_partition counts before keyed) keyed.1
     then Some r.LogFull
     else None
 

@@ -7,7 +7,7 @@ use Rattle.partition_log.specs.Keys.{Keyed}
 use Rattle.partition_log.specs.Logs.{place_in_topic}
 use Rattle.partitioner.specs.declared.topic.Topic.{Topic}
 use Rattle.command_line.specs.declared.options.Options.{Options}
-use Rattle.key_file.specs.KeyFile.{key_behind, keys_of, topic_keys_of, topic_of}
+use Rattle.csv_ingest.specs.KeyFile.{key_behind, keys_of, topic_keys_of, topic_of}
 use Rattle.ingest.specs.declared.reading.FileRecords.{FileRecords}
 use Rattle.ingest.specs.declared.reading.FileRecords.TheVariants.{Keys, InTopics}
 
@@ -52,5 +52,5 @@ abbrev pub AreOfTopics : List ℕ → List Keyed → Type 0
 AreOfTopics counts records = All (λ keyed. keyed.0 < length counts) records
 
 -- the partition of a record among topics with these numbers of partitions
-abbrev pub place_of_record : List ℕ → Keyed → ℕ
-place_of_record counts keyed = place_in_topic counts keyed.0 keyed.1
+abbrev pub partition_of_record : List ℕ → Keyed → ℕ
+partition_of_record counts keyed = place_in_topic counts keyed.0 keyed.1

@@ -6,7 +6,7 @@ use Rattle.std.specs.Result.{result_map_both}
 use Rattle.lane_words.specs.declared.Refusal.{Refusal}
 use Rattle.lane_words.specs.declared.Refusal.TheVariants as r
 pub use Rattle.command_line.specs.Options.{AreInRange}
-use Rattle.devices.specs.Devices.{AppendsBeginning}
+use Rattle.byte_io.specs.Devices.{AppendsPrefix}
 
 -- the report of what was read, or the fault of the reading
 abbrev pub report_of_read : {T : Type 0} → (T → Result (List ℕ) Refusal) → Result T Refusal
@@ -22,7 +22,7 @@ abbrev pub WritesReport : Result (List ℕ) Refusal → Option (List ℕ) → Op
     → Result (Unit {0}) Refusal → Type 0
 WritesReport report old new (Ok _) = (text : List ℕ) × (report ≡ Ok text) × Appends old new text
 WritesReport report old new (Err r.WriteFailed) =
-    (text : List ℕ) × (report ≡ Ok text) × AppendsBeginning old new text
+    (text : List ℕ) × (report ≡ Ok text) × AppendsPrefix old new text
 WritesReport report old new (Err r.ReadFailed) = Keeps old new
 WritesReport report old new (Err r.Memory) = Keeps old new
 WritesReport report old new (Err fault) = (report ≡ Err fault) × Keeps old new

@@ -10,7 +10,7 @@ ghost use Rattle.ingest.specs.Reports.{AreInRange};
 
 use crate::reading::{FileRecords, partition_counts};
 use command_line::Options;
-use key_file::{FileKeys, TopicKeys};
+use csv_ingest::{FileKeys, TopicKeys};
 use lane_words::Refusal;
 use partition_log::Logs;
 use std::alloc::Global;

@@ -1,16 +1,16 @@
 //! The records of a file, read from a source.
 
 ghost use Rattle.std.specs.Prelude.{◌≡◌, ◌+◌, ◌<◌, ◌-◌, Ok, IfOk, IfErr, IfSome, length, map};
-ghost use Rattle.devices.specs.Devices.{CanStillFail};
-ghost use Rattle.key_file.specs.KeyFile.{IsFileFault};
+ghost use Rattle.byte_io.specs.Devices.{CanStillFail};
+ghost use Rattle.csv_ingest.specs.KeyFile.{IsFileFault};
 ghost use Rattle.lane_words.specs.Answers.{Answers};
 ghost use Rattle.partition_log.specs.Logs.{AreCounts};
 ghost use Rattle.ingest.specs.Records.{AreOfTopics, partition_counts, records_in, records_of, records_seen};
 ghost use Rattle.ingest.specs.Reports.{AreInRange, IsFaultOf, IsNoStop, IsNoWrite, failed_reads};
 
+use byte_io::{Source, read_blocks};
 use command_line::Options;
-use devices::{Source, read_blocks};
-use key_file::{Blocks, FileKeys, TopicKeys, pieces_for, read_keys_apart, read_topic_keys_apart};
+use csv_ingest::{Blocks, FileKeys, TopicKeys, pieces_for, read_keys_apart, read_topic_keys_apart};
 use lane_words::{Memory, Refusal};
 use partitioner::Topic;
 use std::alloc::Global;
@@ -115,7 +115,7 @@ pub fn file_records<R: Threads + Sync + RandomSource, S: Source>(
         (λ bytes. records_of options.now bytes ≡ Ok (records_in records))) }
     ensures topics { IfOk result
         (λ records. AreOfTopics (partition_counts options.now) (records_in records)) }
-    ensures refused { IfErr result (λ e. IfSome (S.left file.old)
+    ensures fault { IfErr result (λ e. IfSome (S.left file.old)
         (λ bytes. IsFaultOf (records_of options.now bytes) e)) }
     ensures kind { IfErr result IsNoWrite }
     ensures unstopped { IfErr result IsNoStop }
@@ -124,6 +124,6 @@ pub fn file_records<R: Threads + Sync + RandomSource, S: Source>(
     let count = pieces_for(rt, file.expected());
     let blocks = Blocks::of(alloc, read_blocks(rt, alloc, file, count)?)?;
     let records = read_records(rt, alloc, &blocks, options);
-    blocks.let_go(rt);
+    blocks.drop_parallel(rt);
     records
 }

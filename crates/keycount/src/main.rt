@@ -24,9 +24,9 @@ use std::thread::Threads;
 use workers::{Gate, GateAnswer};
 
 /// The error if FILE and SCRIPT are both `-`.
-const TWICE: &str = "error: only one of FILE and SCRIPT can be standard input\n";
+const TWO_STANDARD_INPUTS: &str = "error: only one of FILE and SCRIPT can be standard input\n";
 
-fn opened(rt: &HostRuntime, path: &str) -> Result<File, Refusal> {
+fn open_file(rt: &HostRuntime, path: &str) -> Result<File, Refusal> {
     let Ok(file) = File::open(rt, path) else {
         return Err(Refusal::ReadFailed);
     };
@@ -43,7 +43,7 @@ struct Input<F> {
 
 /// The file at this path, with its size as the estimate.
 fn input_at(rt: &HostRuntime, path: &str) -> Result<Input<File>, Refusal> {
-    let reader = opened(rt, path)?;
+    let reader = open_file(rt, path)?;
     let expected = match reader.metadata() {
         Ok(metadata) => metadata.len() as usize,
         Err(_) => 0,
@@ -52,7 +52,7 @@ fn input_at(rt: &HostRuntime, path: &str) -> Result<Input<File>, Refusal> {
 }
 
 /// An input of unknown size.
-fn stream<F: Read + Drop>(reader: F) -> Input<F> {
+fn unsized_input<F: Read + Drop>(reader: F) -> Input<F> {
     Input {
         reader,
         expected: 0,
@@ -82,7 +82,7 @@ fn count_file<R: Threads + Sync + RandomSource>(
     requires { AreInRange options.now }
 {
     match path {
-        "-" => count(rt, threads, stream(rt.stdin()), options),
+        "-" => count(rt, threads, unsized_input(rt.stdin()), options),
         _ => count(rt, threads, input_at(rt, path)?, options),
     }
 }
@@ -124,8 +124,8 @@ fn replay_files<R: Threads + Sync + RandomSource>(
         ("-", _) => replay(
             rt,
             threads,
-            stream(rt.stdin()),
-            opened(rt, script)?,
+            unsized_input(rt.stdin()),
+            open_file(rt, script)?,
             options,
         ),
         (_, "-") => replay(rt, threads, input_at(rt, file)?, rt.stdin(), options),
@@ -133,7 +133,7 @@ fn replay_files<R: Threads + Sync + RandomSource>(
             rt,
             threads,
             input_at(rt, file)?,
-            opened(rt, script)?,
+            open_file(rt, script)?,
             options,
         ),
     }
@@ -185,8 +185,8 @@ fn run_files<R: Threads + Wait + RandomSource + Sync>(
         ("-", _) => run(
             rt,
             threads,
-            stream(rt.stdin()),
-            opened(rt, script)?,
+            unsized_input(rt.stdin()),
+            open_file(rt, script)?,
             options,
         ),
         (_, "-") => run(rt, threads, input_at(rt, file)?, rt.stdin(), options),
@@ -194,69 +194,69 @@ fn run_files<R: Threads + Wait + RandomSource + Sync>(
             rt,
             threads,
             input_at(rt, file)?,
-            opened(rt, script)?,
+            open_file(rt, script)?,
             options,
         ),
     }
 }
 
 /// Prints the line of a fault on standard error and returns its exit status.
-fn told(rt: &HostRuntime, fault: &Refusal) -> ExitCode {
+fn report_fault(rt: &HostRuntime, fault: &Refusal) -> ExitCode {
     // If standard error fails too, there is still the status.
     let _ = fault_line(fault, &mut FromWrite::new(rt.stderr()));
     ExitCode::from(status(fault))
 }
 
 /// The exit status of a job. A fault is printed.
-fn ended(rt: &HostRuntime, answer: Result<(), Refusal>) -> ExitCode {
+fn exit_code(rt: &HostRuntime, answer: Result<(), Refusal>) -> ExitCode {
     match answer {
         Ok(()) => ExitCode::SUCCESS,
-        Err(fault) => told(rt, &fault),
+        Err(fault) => report_fault(rt, &fault),
     }
 }
 
 /// Prints on standard error what is wrong with the arguments.
-fn refused_words(rt: &HostRuntime, text: &str) -> ExitCode {
+fn usage_error(rt: &HostRuntime, text: &str) -> ExitCode {
     let _ = eprint!(rt; "{text}");
     ExitCode::from(2)
 }
 
 /// Does the job that the arguments ask for. The threads are the runtime's, which only `main` can
 /// lend.
-fn act<R: Threads + Wait + RandomSource + Sync>(
+fn run_job<R: Threads + Wait + RandomSource + Sync>(
     rt: &HostRuntime,
     threads: &R,
     words: &[&str],
 ) -> ExitCode {
     let answer = read_words(rt.alloc(), words);
     match &answer {
-        Ok(job) if reads_input_twice(job) => refused_words(rt, TWICE),
-        Ok(Job::Count { file, options }) => ended(rt, count_file(rt, threads, file, options)),
+        Ok(job) if reads_input_twice(job) => usage_error(rt, TWO_STANDARD_INPUTS),
+        Ok(Job::Count { file, options }) => exit_code(rt, count_file(rt, threads, file, options)),
         Ok(
             Job::Replay {
                 file,
                 script,
                 options,
             },
-        ) => ended(rt, replay_files(rt, threads, file, script, options)),
+        ) => exit_code(rt, replay_files(rt, threads, file, script, options)),
         Ok(
             Job::Run {
                 file,
                 script,
                 options,
             },
-        ) => ended(rt, run_files(rt, threads, file, script, options)),
+        ) => exit_code(rt, run_files(rt, threads, file, script, options)),
         Err(Usage::Help(text)) => {
             let _ = print!(rt; "{text}");
             ExitCode::SUCCESS
         }
-        Err(Usage::Bad(text)) => refused_words(rt, text.as_str()),
-        Err(Usage::Memory) => told(rt, &Refusal::Memory),
+        Err(Usage::Bad(text)) => usage_error(rt, text.as_str()),
+        Err(Usage::Memory) => report_fault(rt, &Refusal::Memory),
     }
 }
 
 /// The arguments as string slices.
-fn texts_of<'a>(rt: &HostRuntime, owned: &'a [String]) -> Result<Vec<&'a str>, AllocError> {
+fn as_slices<'a>(rt: &HostRuntime, owned: &'a [String]) -> Result<Vec<&'a str>, AllocError> {
     let mut words = Vec::with_capacity(rt.alloc(), owned.len())?;
     for word in owned {
         words.push(word.as_str())?;
@@ -267,16 +267,19 @@ fn texts_of<'a>(rt: &HostRuntime, owned: &'a [String]) -> Result<Vec<&'a str>, A
 fn main(rt: HostRuntime) -> ExitCode {
     let args = match env::args(&rt) {
         Ok(args) => args,
-        Err(error) if error.kind() == ErrorKind::OutOfMemory => return told(&rt, &Refusal::Memory),
+        Err(error) if error.kind() == ErrorKind::OutOfMemory => return report_fault(
+            &rt,
+            &Refusal::Memory,
+        ),
         Err(_) => {
-            return refused_words(&rt, "error: a word of the command line is not UTF-8 text\n");
+            return usage_error(&rt, "error: a word of the command line is not UTF-8 text\n");
         }
     };
     let Ok(owned): Result<Vec<String>, _> = args.skip(1).collect(rt.alloc()) else {
-        return told(&rt, &Refusal::Memory);
+        return report_fault(&rt, &Refusal::Memory);
     };
-    match texts_of(&rt, owned.as_slice()) {
-        Ok(words) => act(&rt, &rt, words.as_slice()),
-        Err(_) => told(&rt, &Refusal::Memory),
+    match as_slices(&rt, owned.as_slice()) {
+        Ok(words) => run_job(&rt, &rt, words.as_slice()),
+        Err(_) => report_fault(&rt, &Refusal::Memory),
     }
 }

@@ -6,7 +6,7 @@ use Rattle.std.proofs.lemmas.List.{ext_get_or, get_or-append_right, get_or_appen
 use Rattle.std.proofs.lemmas.Simd.{get_or-zip2, length-zip2}
 use borrow.Rule.Slice.PartMut.{put_mid}
 use Rattle.keyed_table.specs.Counts.{HaveCounters, SumsFit, plain, raised, raised_from}
-use Rattle.keyed_table.specs.Private.Blocks.{AreBlocksOf, AreNeighbours}
+use Rattle.keyed_table.specs.Private.Blocks.{AreBlocksOf, AreConsecutive}
 use Rattle.keyed_table.proofs.Raised.{counter-raised, length-raised}
 use Rattle.keyed_table.proofs.Touched.{below_later, count-in-block, not-falling}
 
@@ -20,7 +20,7 @@ pub record AreAdded (ids blocks old cells : List ℕ) (start : ℕ) : Type 0 whe
 pub added-none : (ids blocks counts old : List ℕ) → AreBlocksOf ids blocks counts → AreAdded ids blocks old old 0
 added-none ids blocks counts old h = record {
   same = refl;
-  before = λ x first. let none : plain ids x ≡ 0 = h.have.others x (λ j lt e. absurd (omega (arith, first (omega (arith, lt)), not-falling blocks h.have.rise 0 j (omega arith) lt, e))) in omega (arith, none);
+  before = λ x first. let none : plain ids x ≡ 0 = h.have.others x (λ j lt e. absurd (omega (arith, first (omega (arith, lt)), not-falling blocks h.have.increasing 0 j (omega arith) lt, e))) in omega (arith, none);
   rest = λ x lt le. refl;
 }
 
@@ -69,7 +69,7 @@ sum-at cells counts from at k i le le' lt =
     ∙ omega (arith, mine, theirs)
 
 -- the counters of consecutive blocks are the plain counts of consecutive numbers
-pub run-counts : (ids blocks counts : List ℕ) (start end from at i : ℕ) → AreBlocksOf ids blocks counts → AreNeighbours blocks start end → end ≤ length blocks → from ≡ 8 * get_or blocks start 0 → at ≡ 8 * start → i < 8 * (end - start) → get_or counts (at + i) 0 ≡ plain ids (from + i)
+pub run-counts : (ids blocks counts : List ℕ) (start end from at i : ℕ) → AreBlocksOf ids blocks counts → AreConsecutive blocks start end → end ≤ length blocks → from ≡ 8 * get_or blocks start 0 → at ≡ 8 * start → i < 8 * (end - start) → get_or counts (at + i) 0 ≡ plain ids (from + i)
 run-counts ids blocks counts start end from at i h near le from_is at_is lt =
     let x = from + i in
     let within : start + i / 8 < end = omega (arith, lt) in
@@ -78,7 +78,7 @@ run-counts ids blocks counts start end from at i h near le from_is at_is lt =
     ap (λ n. get_or counts n 0) place ∙ count-in-block ids blocks counts (start + i / 8) x h.have (omega (arith, within, le)) its
 
 -- consecutive blocks lie within the counters, which fill whole blocks and cover all numbers
-pub run-within : (ids blocks counts old : List ℕ) (start end : ℕ) → AreBlocksOf ids blocks counts → AreNeighbours blocks start end → start < end → end ≤ length blocks → HaveCounters old ids → length old % 8 ≡ 0 → 8 * get_or blocks start 0 + 8 * (end - start) ≤ length old
+pub run-within : (ids blocks counts old : List ℕ) (start end : ℕ) → AreBlocksOf ids blocks counts → AreConsecutive blocks start end → start < end → end ≤ length blocks → HaveCounters old ids → length old % 8 ≡ 0 → 8 * get_or blocks start 0 + 8 * (end - start) ≤ length old
 run-within ids blocks counts old start end h near some le have whole =
     let n = end - start - 1 in
     let last = near n (omega (arith, some)) in
@@ -86,7 +86,7 @@ run-within ids blocks counts old start end h near some le have whole =
     let lt : found.0 < length old = have found.0 found.1 in
     omega (arith, last, found.2, lt, whole, some)
 
-pub run-fits : (ids blocks counts old cells : List ℕ) (start end from at k m : ℕ) → AreBlocksOf ids blocks counts → AreAdded ids blocks old cells start → AreNeighbours blocks start end → start < end → end ≤ length blocks → SumsFit old ids
+pub run-fits : (ids blocks counts old cells : List ℕ) (start end from at k m : ℕ) → AreBlocksOf ids blocks counts → AreAdded ids blocks old cells start → AreConsecutive blocks start end → start < end → end ≤ length blocks → SumsFit old ids
     → from ≡ 8 * get_or blocks start 0 → at ≡ 8 * start → k ≡ 8 * (end - start) → m ≡ k
     → (i : ℕ) → get_or (take k (drop from cells)) i 0 + get_or (take m (drop at counts)) i 0 < 2 ^ 64
 run-fits ids blocks counts old cells start end from at k m h added near some le fit from_is at_is k_is m_is i =
@@ -103,7 +103,7 @@ run-fits ids blocks counts old cells start end from at k m h added near some le 
           omega (arith, none, none')
     ]
 
-pub added-run : (ids blocks counts old cells ys : List ℕ) (start end from at k m : ℕ) → AreBlocksOf ids blocks counts → AreAdded ids blocks old cells start → AreNeighbours blocks start end → start < end → end ≤ length blocks
+pub added-run : (ids blocks counts old cells ys : List ℕ) (start end from at k m : ℕ) → AreBlocksOf ids blocks counts → AreAdded ids blocks old cells start → AreConsecutive blocks start end → start < end → end ≤ length blocks
     → from + k ≤ length cells → from ≡ 8 * get_or blocks start 0 → at ≡ 8 * start → k ≡ 8 * (end - start) → m ≡ k
     → ys ≡ zip2 (λ x y. x + y) (take k (drop from cells)) (take m (drop at counts))
     → AreAdded ids blocks old (put_mid from k cells ys) end
@@ -133,7 +133,7 @@ added-run ids blocks counts old cells ys start end from at k m h added near some
           | inr above ↦
               let was = added.rest x start_in (omega (arith, lower, from_is)) in
               let none : plain ids x ≡ 0 = h.have.others x (λ j lt same. elim (cases_lt j start) [
-                | inl first ↦ absurd (omega (arith, below_later blocks h.have.rise j start first start_in, same, lower, from_is))
+                | inl first ↦ absurd (omega (arith, below_later blocks h.have.increasing j start first start_in, same, lower, from_is))
                 | inr past ↦ elim (cases_lt j end) [
                   | inl run ↦
                       let near_j = near (j - start) (omega (arith, past, run)) in
@@ -141,7 +141,7 @@ added-run ids blocks counts old cells ys start end from at k m h added near some
                       let its : get_or blocks j 0 ≡ b + (j - start) = rw e at near_j in
                       absurd (omega (arith, its, same, above, from_is, k_is, run, past))
                   | inr later ↦
-                      let step = not-falling blocks h.have.rise end j later lt in
+                      let step = not-falling blocks h.have.increasing end j later lt in
                       absurd (omega (arith, step, same, upto (omega (arith, later, lt))))
                 ]
               ]) in
@@ -150,7 +150,7 @@ added-run ids blocks counts old cells ys start end from at k m h added near some
       ];
       rest = λ x lt past.
           let last = near (end - start - 1) (omega (arith, some)) in
-          let step = below_later blocks h.have.rise (start + (end - start - 1)) end (omega (arith, some)) lt in
+          let step = below_later blocks h.have.increasing (start + (end - start - 1)) end (omega (arith, some)) lt in
           let above : from + k ≤ x = omega (arith, last, step, past, from_is, k_is, some) in
           above-part from k cells ys x (omega (arith, within)) size above ∙ added.rest x start_in (omega (arith, above, from_is));
     }

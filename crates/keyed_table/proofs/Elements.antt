@@ -9,13 +9,13 @@ use Rattle.std.proofs.lemmas.List.Sums.{sum_by-cons}
 use Rattle.std.specs.List.Sorted.{IsPermutation}
 use Rattle.keyed_table.specs.Counts.{plain}
 
-pub stands-somewhere : (ids : List ℕ) (x : ℕ) → 0 < plain ids x → (i : ℕ) × (i < length ids) × (get_or ids i 0 ≡ x)
-stands-somewhere [] x more = absurd (omega (arith, more))
-stands-somewhere (id ∷ ids) x more =
+pub occurs-somewhere : (ids : List ℕ) (x : ℕ) → 0 < plain ids x → (i : ℕ) × (i < length ids) × (get_or ids i 0 ≡ x)
+occurs-somewhere [] x more = absurd (omega (arith, more))
+occurs-somewhere (id ∷ ids) x more =
     elim (eqb_tells x id) [
       | inl t ↦ (0, omega arith, sym t.1)
       | inr f ↦
-          let rest = stands-somewhere ids x (omega (arith, more, sum_by-cons (λ y. cond (x == y) 1 0) id ids, ap (λ b. cond b 1 0 + plain ids x) f.0)) in
+          let rest = occurs-somewhere ids x (omega (arith, more, sum_by-cons (λ y. cond (x == y) 1 0) id ids, ap (λ b. cond b 1 0 + plain ids x) f.0)) in
           (suc rest.0, omega (arith, rest.1), rest.2)
     ]
 

@@ -5,7 +5,7 @@ use Rattle.std.proofs.lemmas.Bool.{cases_lt, cases_eq}
 use Rattle.std.proofs.lemmas.List.{ext_get_or, get_or-replicate, get_or_append_left, get_or_push, length-take, length_push, replicate_more, take_all, take_more}
 use Rattle.keyed_table.specs.Counts.{HaveCounters, plain, raised, raised_from}
 use Rattle.keyed_table.specs.Private.ByNumber.{AreCountsOf}
-use Rattle.keyed_table.proofs.Elements.{stands-somewhere}
+use Rattle.keyed_table.proofs.Elements.{occurs-somewhere}
 use Rattle.keyed_table.proofs.Raised.{counter-raised, length-raised}
 use Rattle.keyed_table.proofs.Runs.{all_equal, none-before, run-other, run-same}
 use Rattle.keyed_table.proofs.Touched.{below_later, increasing_from, not-falling}
@@ -28,15 +28,15 @@ run-counted ids numbers counts start n v end to le some equal below h =
     let its : plain (take end ids) v ≡ n = ap (λ m. plain (take m ids) v) (sym to) ∙ omega (arith, run, none) in
     let other : (x : ℕ) → x ≢ v → plain (take end ids) x ≡ plain (take start ids) x = λ x ne. ap (λ m. plain (take m ids) x) (sym to) ∙ run-other ids start n v x (omega (arith, le, to)) ne in_run in
     let less : (j : ℕ) → j < length numbers → get_or numbers j 0 < v = λ j lt.
-    let found = stands-somewhere (take start ids) (get_or numbers j 0) (h.there j lt) in
+    let found = occurs-somewhere (take start ids) (get_or numbers j 0) (h.there j lt) in
     let before : found.0 < start = omega (arith, found.1, length-take start ids) in
     let is : get_or ids found.0 0 ≡ get_or numbers j 0 = sym (get_or-take start ids found.0 0 before) ∙ found.2 in
     omega (arith, below found.0 before, is) in
     let as_before : (j : ℕ) → j < length numbers → plain (take end ids) (get_or numbers j 0) ≡ plain (take start ids) (get_or numbers j 0) = λ j lt. other (get_or numbers j 0) (λ e. omega (arith, less j lt, e)) in
     record {
       whole = omega (arith, size, length_push counts n, h.whole);
-      rise = increasing_from more (λ i j before lt. elim (cases_lt j (length numbers)) [
-        | inl within ↦ rw (old j within, old i (omega (arith, before, within))) (below_later numbers h.rise i j before within)
+      increasing = increasing_from more (λ i j before lt. elim (cases_lt j (length numbers)) [
+        | inl within ↦ rw (old j within, old i (omega (arith, before, within))) (below_later numbers h.increasing i j before within)
         | inr past ↦
             let within : i < length numbers = omega (arith, before, lt, size) in
             rw (own j lt past, old i within) (less i within)
@@ -65,14 +65,14 @@ pub record AreCountedRuns (ids numbers counts : List ℕ) (start at : ℕ) : Typ
 pub run-ends : (ids numbers counts : List ℕ) (start at : ℕ) → IsNonDecreasing ids → at < length ids → AreCountedRuns ids numbers counts start at
     → (at + 1 < length ids → get_or ids (at + 1) 0 ≢ get_or ids at 0)
     → AreCountedRuns ids (numbers ++ get_or ids at 0 ∷ []) (counts ++ (at + 1 - start) ∷ []) (at + 1) (at + 1)
-run-ends ids numbers counts start at rising lt h ends = record {
+run-ends ids numbers counts start at increasing lt h ends = record {
   so_far = run-counted ids numbers counts start (at + 1 - start) (get_or ids at 0) (at + 1) (omega (arith, h.order)) (omega (arith, lt)) (omega (arith, h.order))
       (λ j from before. all_equal ids start at j (h.run lt) from before) (h.below lt) h.so_far;
   order = omega arith;
   run = λ lt' j from before. absurd (omega (arith, from, before));
   below = λ lt' j before.
-      let step = rising j at 0 (omega (arith, before)) lt in
-      let next = rising at (at + 1) 0 (omega arith) lt' in
+      let step = increasing j at 0 (omega (arith, before)) lt in
+      let next = increasing at (at + 1) 0 (omega arith) lt' in
       elim (cases_lt (get_or ids at 0) (get_or ids (at + 1) 0)) [
         | inl less ↦ omega (arith, step, less)
         | inr le ↦ absurd (ends lt' (omega (arith, next, le)))
@@ -93,7 +93,7 @@ run-goes-on ids numbers counts start at h lt same = record {
 pub counts-in-any-order : (sorted ids numbers counts : List ℕ) → AreCountsOf sorted numbers counts → ((x : ℕ) → plain sorted x ≡ plain ids x) → AreCountsOf ids numbers counts
 counts-in-any-order sorted ids numbers counts h same = record {
   whole = h.whole;
-  rise = h.rise;
+  increasing = h.increasing;
   counted = λ j lt. h.counted j lt ∙ same _;
   there = λ j lt. omega (arith, h.there j lt, same (get_or numbers j 0));
   others = λ x none. sym (same x) ∙ h.others x none;
@@ -117,7 +117,7 @@ pub record AreAddedOnes (ids numbers old cells : List ℕ) (at : ℕ) : Type 0 w
 pub ones-none : (ids numbers counts old : List ℕ) → AreCountsOf ids numbers counts → AreAddedOnes ids numbers old old 0
 ones-none ids numbers counts old h = record {
   same = refl;
-  before = λ x first. let none : plain ids x ≡ 0 = h.others x (λ j lt e. absurd (omega (arith, first (omega (arith, lt)), not-falling numbers h.rise 0 j (omega arith) lt, e))) in omega (arith, none);
+  before = λ x first. let none : plain ids x ≡ 0 = h.others x (λ j lt e. absurd (omega (arith, first (omega (arith, lt)), not-falling numbers h.increasing 0 j (omega arith) lt, e))) in omega (arith, none);
   rest = λ x lt le. refl;
 }
 
@@ -138,14 +138,14 @@ one-more ids numbers counts old cells at h added lt have =
           | inl same ↦ rw same (get_or-set_same cells own sum 0 within ∙ omega (arith, added.rest own lt (omega arith), h.counted at lt))
           | inr differs ↦
               let none : plain ids x ≡ 0 = h.others x (λ j lt' e. elim (cases_lt j (at + 1)) [
-                | inl first ↦ absurd (omega (arith, not-falling numbers h.rise j at (omega (arith, first)) lt, e, from, differs))
-                | inr later ↦ absurd (omega (arith, not-falling numbers h.rise (at + 1) j later lt', e, upto (omega (arith, later, lt'))))
+                | inl first ↦ absurd (omega (arith, not-falling numbers h.increasing j at (omega (arith, first)) lt, e, from, differs))
+                | inr later ↦ absurd (omega (arith, not-falling numbers h.increasing (at + 1) j later lt', e, upto (omega (arith, later, lt'))))
               ]) in
               get_or-set_other cells own x sum 0 differs ∙ omega (arith, added.rest x lt from, none)
         ]
       ];
       rest = λ x lt' past.
-          let step = below_later numbers h.rise at (at + 1) (omega arith) lt' in
+          let step = below_later numbers h.increasing at (at + 1) (omega arith) lt' in
           get_or-set_other cells own x sum 0 (λ e. omega (arith, step, past, e)) ∙ added.rest x lt (omega (arith, step, past));
     }
 
@@ -162,23 +162,23 @@ ones-all ids numbers old cells at added le =
 counts-alike : (ids numbers same counts alike : List ℕ) → numbers ≡ same → counts ≡ alike → AreCountsOf ids numbers counts → AreCountsOf ids same alike
 counts-alike ids numbers same counts alike e f h = rw (← e, ← f) h
 
-rising-below : (ids : List ℕ) → IsStrictlyIncreasing ids → (n : ℕ) → n ≤ length ids → AreCountsOf (take n ids) (take n ids) (replicate n 1)
-rising-below ids rise zero le = record {
+increasing-below : (ids : List ℕ) → IsStrictlyIncreasing ids → (n : ℕ) → n ≤ length ids → AreCountsOf (take n ids) (take n ids) (replicate n 1)
+increasing-below ids increasing zero le = record {
   whole = refl;
-  rise = λ k lt. absurd (omega (arith, lt));
+  increasing = λ k lt. absurd (omega (arith, lt));
   counted = λ j lt. absurd (omega (arith, lt));
   there = λ j lt. absurd (omega (arith, lt));
   others = λ x absent. refl;
 }
-rising-below ids rise (suc n) le =
+increasing-below ids increasing (suc n) le =
     let lt : n < length ids = omega (arith, le) in
     let e : suc n ≡ n + 1 = omega arith in
     let last : (j : ℕ) → n ≤ j → j < n + 1 → get_or ids j 0 ≡ get_or ids n 0 = λ j from to. ap (λ i. get_or ids i 0) (omega (arith, from, to)) in
-    let more = run-counted ids (take n ids) (replicate n 1) n 1 (get_or ids n 0) (n + 1) refl (omega (arith, lt)) (omega arith) last (λ j before. below_later ids rise j n before lt) (rising-below ids rise n (omega (arith, le))) in
+    let more = run-counted ids (take n ids) (replicate n 1) n 1 (get_or ids n 0) (n + 1) refl (omega (arith, lt)) (omega arith) last (λ j before. below_later ids increasing j n before lt) (increasing-below ids increasing n (omega (arith, le))) in
     subst (λ m. AreCountsOf (take m ids) (take m ids) (replicate m 1)) (sym e) (counts-alike (take (n + 1) ids) (take n ids ++ get_or ids n 0 ∷ []) (take (n + 1) ids) (replicate n 1 ++ 1 ∷ []) (replicate (n + 1) 1) (sym (take_more ids n 0 lt)) (replicate_more n 1) more)
 
-pub rising-counts : (ids : List ℕ) → IsStrictlyIncreasing ids → AreCountsOf ids ids (replicate (length ids) 1)
-rising-counts ids rise = rw (take_all (length ids) ids (omega arith)) at (rising-below ids rise (length ids) (omega arith))
+pub increasing-counts : (ids : List ℕ) → IsStrictlyIncreasing ids → AreCountsOf ids ids (replicate (length ids) 1)
+increasing-counts ids increasing = rw (take_all (length ids) ids (omega arith)) at (increasing-below ids increasing (length ids) (omega arith))
 
-pub rising-once : (ids : List ℕ) (at : ℕ) → IsStrictlyIncreasing ids → at < length ids → plain ids (get_or ids at 0) ≡ 1
-rising-once ids at rise lt = sym ((rising-counts ids rise).counted at lt) ∙ get_or-replicate {A = ℕ} (length ids) at 1 0 lt
+pub increasing-once : (ids : List ℕ) (at : ℕ) → IsStrictlyIncreasing ids → at < length ids → plain ids (get_or ids at 0) ≡ 1
+increasing-once ids at increasing lt = sym ((increasing-counts ids increasing).counted at lt) ∙ get_or-replicate {A = ℕ} (length ids) at 1 0 lt

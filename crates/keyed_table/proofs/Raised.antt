@@ -55,9 +55,9 @@ take-raised start zero cells ids = refl
 take-raised start (suc keys) [] ids = refl
 take-raised start (suc keys) (n ∷ cells) ids = ap (λ rest. (n + plain ids start) ∷ rest) (take-raised (start + 1) keys cells ids)
 
-pub merged-view : (keys : ℕ) (cells now ids : List ℕ) → now ≡ raised cells ids → table_view keys now ≡ record { counts = raised (take keys cells) ids; room = length cells - keys }
+pub merged-view : (keys : ℕ) (cells now ids : List ℕ) → now ≡ raised cells ids → table_view keys now ≡ record { counts = raised (take keys cells) ids; capacity = length cells - keys }
 unfolding raised
 merged-view keys cells now ids is =
     let counts : take keys now ≡ raised_from 0 (take keys cells) ids = ap (take keys) is ∙ take-raised 0 keys cells ids in
-    let room : length now ≡ length cells = ap length is ∙ length-raised 0 cells ids in
-    rw (counts, room) refl
+    let capacity : length now ≡ length cells = ap length is ∙ length-raised 0 cells ids in
+    rw (counts, capacity) refl

@@ -18,7 +18,7 @@ tally-fits ids tallies at h =
 pub none-below : (ids : List ℕ) → AreBlocksBelow 0 ids [] []
 none-below ids = record {
   whole = refl;
-  rise = λ k lt. absurd (omega (arith, lt));
+  increasing = λ k lt. absurd (omega (arith, lt));
   below = λ j lt. absurd (omega (arith, lt));
   counted = λ j k lt small. absurd (omega (arith, lt));
   touched = λ j lt. absurd (omega (arith, lt));
@@ -29,7 +29,7 @@ pub all-below : (b : ℕ) (ids blocks counts : List ℕ) → AreWithin b ids →
 all-below b ids blocks counts within h = record {
   have = record {
     whole = h.whole;
-    rise = h.rise;
+    increasing = h.increasing;
     counted = h.counted;
     others = λ x none. elim (cases_lt (x / 8) b) [
       | inl below ↦ h.others x below none
@@ -57,7 +57,7 @@ pub passed-over : (b : ℕ) (ids tallies part blocks counts : List ℕ) → IsPa
     → AreBlocksBelow b ids blocks counts → AreBlocksBelow (b + 1) ids blocks counts
 passed-over b ids tallies part blocks counts is zeros all h = record {
   whole = h.whole;
-  rise = h.rise;
+  increasing = h.increasing;
   below = λ j lt. omega (arith, h.below j lt);
   counted = h.counted;
   touched = h.touched;
@@ -81,8 +81,8 @@ taken-over b i ids tallies part blocks counts is in_block some all h =
     let of_part = part-counts b ids tallies part all is in
     record {
       whole = omega (arith, size, length-append counts part, is.eight, h.whole);
-      rise = increasing_from more (λ i j before lt. elim (cases_lt j (length blocks)) [
-        | inl within ↦ rw (old j within, old i (omega (arith, before, within))) (below_later blocks h.rise i j before within)
+      increasing = increasing_from more (λ i j before lt. elim (cases_lt j (length blocks)) [
+        | inl within ↦ rw (old j within, old i (omega (arith, before, within))) (below_later blocks h.increasing i j before within)
         | inr past ↦
             let within : i < length blocks = omega (arith, before, lt, size) in
             rw (last j lt past, old i within) (h.below i within)

@@ -17,12 +17,12 @@ none-counted ids blocks counts i x h below above =
     ]))
 
 pub below_later : (numbers : List ℕ) → IsStrictlyIncreasing numbers → (i j : ℕ) → i < j → j < length numbers → get_or numbers i 0 < get_or numbers j 0
-below_later numbers rise i zero less lt = absurd (omega (arith, less))
-below_later numbers rise i (suc j) less lt =
+below_later numbers increasing i zero less lt = absurd (omega (arith, less))
+below_later numbers increasing i (suc j) less lt =
     let e : suc j ≡ j + 1 = omega arith in
-    let step : get_or numbers j 0 < get_or numbers (suc j) 0 = rw e (rise j (omega (arith, lt))) in
+    let step : get_or numbers j 0 < get_or numbers (suc j) 0 = rw e (increasing j (omega (arith, lt))) in
     elim (cases_lt i j) [
-      | inl more ↦ omega (arith, below_later numbers rise i j more (omega (arith, lt)), step)
+      | inl more ↦ omega (arith, below_later numbers increasing i j more (omega (arith, lt)), step)
       | inr past ↦ let same : i ≡ j = omega (arith, less, past) in rw same step
     ]
 
@@ -31,8 +31,8 @@ increasing_from numbers below k lt = below k (k + 1) (omega arith) lt
 
 -- numbers that increase, as a binary search asks for it
 pub not-falling : (numbers : List ℕ) → IsStrictlyIncreasing numbers → (i j : ℕ) → i ≤ j → j < length numbers → get_or numbers i 0 ≤ get_or numbers j 0
-not-falling numbers rise i j le lt =
+not-falling numbers increasing i j le lt =
     elim (cases_lt i j) [
-      | inl less ↦ omega (arith, below_later numbers rise i j less lt)
+      | inl less ↦ omega (arith, below_later numbers increasing i j less lt)
       | inr past ↦ let e : i ≡ j = omega (arith, le, past) in rw e (omega arith)
     ]

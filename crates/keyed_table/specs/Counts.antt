@@ -8,7 +8,7 @@ plain ids x = count_by (λ y. x == y) ids
 -- counters by key number, and the capacity for more
 pub record Counters : Type 0 where
   pub counts : List ℕ
-  pub room : ℕ
+  pub capacity : ℕ
 
 -- the counter of a key number; zero if there is none
 abbrev pub counter_of : List ℕ → ℕ → ℕ

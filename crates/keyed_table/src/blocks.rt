@@ -24,8 +24,8 @@ impl Blocks {
     /// The blocks of a list whose numbers lie in the first `bound` blocks. It allocates a counter
     /// for each number of these.
     pub fn of(alloc: Global, ids: &[u32], bound: usize) -> Result<Blocks, Memory>
-        requires within { AreWithin bound ids.now }
-        requires fit { 8 * bound ≤ 2 ^ 32 }
+        requires bound { AreWithin bound ids.now }
+        requires range { 8 * bound ≤ 2 ^ 32 }
         ensures { IfOk result (λ blocks.
             AreBlocksOf ids.now blocks.numbers.items blocks.counts.items) }
     {
@@ -42,8 +42,8 @@ impl Blocks {
 
     /// Adds a block with its counters, unless all of them are zero.
     fn take(&mut self, tallies: &[u64], block: usize) -> Result<(), Memory>
-        requires within { 8 * block + 8 ≤ length tallies.now }
-        requires number { block < 2 ^ 32 }
+        requires bound { 8 * block + 8 ≤ length tallies.now }
+        requires range { block < 2 ^ 32 }
         ensures { OnOk result ((ids : List ℕ)
             → AreTallies ids tallies.now
             → AreBlocksBelow block ids self.old.numbers.items self.old.counts.items
@@ -61,8 +61,8 @@ impl Blocks {
 
 /// The number of blocks up to that of the largest number of a list.
 pub fn bound_of(ids: &[u32]) -> usize
-    ensures within { AreWithin result ids.now }
-    ensures fit { 8 * result ≤ 2 ^ 32 }
+    ensures bound { AreWithin result ids.now }
+    ensures range { 8 * result ≤ 2 ^ 32 }
 {
     let mut bound = 0;
     for id in ids {
@@ -73,8 +73,8 @@ pub fn bound_of(ids: &[u32]) -> usize
 
 /// How often each number of the first `blocks` blocks is in a list that has no others.
 fn tallies_of(alloc: Global, ids: &[u32], blocks: usize) -> Result<Vec<u64>, Memory>
-    requires within { AreWithin blocks ids.now }
-    requires fit { 8 * blocks ≤ 2 ^ 32 }
+    requires bound { AreWithin blocks ids.now }
+    requires range { 8 * blocks ≤ 2 ^ 32 }
     ensures counts { IfOk result (λ tallies. AreTallies ids.now tallies.items) }
     ensures len { IfOk result (λ tallies. length tallies.items ≡ 8 * blocks) }
 {
@@ -87,8 +87,8 @@ fn tallies_of(alloc: Global, ids: &[u32], blocks: usize) -> Result<Vec<u64>, Mem
 
 /// Whether all these counters are zero.
 fn are_zeros(counts: &[u64]) -> bool
-    ensures yes { result ≡ true → (i : ℕ) → slice_index_or counts.now i 0 ≡ 0 }
-    ensures no { result ≡ false → (i : ℕ) × (i < length counts.now)
+    ensures if_true { result ≡ true → (i : ℕ) → slice_index_or counts.now i 0 ≡ 0 }
+    ensures if_false { result ≡ false → (i : ℕ) × (i < length counts.now)
         × (0 < slice_index_or counts.now i 0) }
 {
     for count in counts {

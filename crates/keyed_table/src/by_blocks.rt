@@ -3,7 +3,7 @@
 ghost use Rattle.std.specs.Prelude.{◌≡◌, ◌*◌, ◌<◌, ◌≤◌, ◌%◌, ◌^◌, IfOk, length};
 ghost use Rattle.std.specs.List.Sorted.{IsStrictlyIncreasing};
 ghost use Rattle.keyed_table.specs.Counts.{HaveCounters, SumsFit, plain, raised};
-ghost use Rattle.keyed_table.specs.Private.Blocks.{AreNeighbours, AreWithin};
+ghost use Rattle.keyed_table.specs.Private.Blocks.{AreConsecutive, AreWithin};
 
 use crate::blocks::{BLOCK, Blocks};
 use lane_words::{Memory, add_into};
@@ -34,8 +34,8 @@ impl Model for ByBlocks {
 impl ByBlocks {
     /// Counts a list whose numbers lie in the first `bound` blocks.
     pub fn of(alloc: Global, ids: Vec<u32>, bound: usize) -> Result<ByBlocks, Memory>
-        requires within { AreWithin bound ids.items }
-        requires fit { 8 * bound ≤ 2 ^ 32 }
+        requires bound { AreWithin bound ids.items }
+        requires range { 8 * bound ≤ 2 ^ 32 }
         ensures { IfOk result (λ counted. counted ≡ ids.items) }
     {
         let blocks = Blocks::of(alloc, ids.as_slice(), bound)?;
@@ -61,9 +61,9 @@ impl ByBlocks {
 
     /// Adds to each counter how often its number is in the list. The counters fill whole blocks.
     pub fn add_to(&self, cells: &mut [u64])
-        requires whole { length cells.old % 8 ≡ 0 }
+        requires len { length cells.old % 8 ≡ 0 }
         requires numbers { HaveCounters cells.old self.now }
-        requires fit { SumsFit cells.old self.now }
+        requires sums { SumsFit cells.old self.now }
         ensures { cells.new ≡ raised cells.old self.now }
     {
         let numbers = self.blocks.numbers.as_slice();
@@ -82,11 +82,11 @@ impl ByBlocks {
 /// The end of the run of consecutive blocks that begins at this index.
 #[tactic(auto, using(crate::proofs::Touched::below_later))]
 fn run_end(numbers: &[u32], start: usize) -> usize
-    requires rise { IsStrictlyIncreasing numbers.now }
+    requires increasing { IsStrictlyIncreasing numbers.now }
     requires start { start < length numbers.now }
-    ensures after { start < result }
-    ensures within { result ≤ length numbers.now }
-    ensures neighbours { AreNeighbours numbers.now start result }
+    ensures progress { start < result }
+    ensures bound { result ≤ length numbers.now }
+    ensures consecutive { AreConsecutive numbers.now start result }
 {
     for end in start + 1..numbers.len() {
         if (numbers[end] - numbers[start]) as usize != end - start {

@@ -66,7 +66,7 @@ impl ByNumber {
     /// Adds to each counter how often its number is in the list.
     pub fn add_to(&self, cells: &mut [u64])
         requires numbers { HaveCounters cells.old self.now }
-        requires fit { SumsFit cells.old self.now }
+        requires sums { SumsFit cells.old self.now }
         ensures { cells.new ≡ raised cells.old self.now }
     {
         let numbers = self.numbers.as_slice();
@@ -98,9 +98,9 @@ fn runs_of(alloc: Global, ids: &[u32]) -> Result<(Vec<u32>, Vec<u64>), Memory>
 /// Whether the next number is a different one, or there is none.
 fn ends_run(ids: &[u32], at: usize) -> bool
     requires { at < length ids.now }
-    ensures goes_on { result ≡ false → (at + 1 < length ids.now)
+    ensures if_false { result ≡ false → (at + 1 < length ids.now)
         × (slice_index ids.now (at + 1) ≡ slice_index ids.now at) }
-    ensures ends { result ≡ true → at + 1 < length ids.now
+    ensures if_true { result ≡ true → at + 1 < length ids.now
         → slice_index ids.now (at + 1) ≢ slice_index ids.now at }
 {
     at + 1 == ids.len() || ids[at + 1] != ids[at]

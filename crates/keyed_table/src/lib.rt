@@ -14,8 +14,8 @@ mod blocks;
 mod by_blocks;
 mod by_number;
 mod counting;
+mod increasing;
 mod partial;
-mod rising;
 mod table;
 
 pub use partial::Partial;

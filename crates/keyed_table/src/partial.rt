@@ -6,7 +6,7 @@ ghost use Rattle.keyed_table.specs.Counts.{HaveCounters, SumsFit, plain, raised}
 use crate::blocks::{BLOCK, bound_of};
 use crate::by_blocks::ByBlocks;
 use crate::by_number::ByNumber;
-use crate::rising::{Rising, do_rise};
+use crate::increasing::{Increasing, is_increasing};
 use lane_words::Memory;
 use std::alloc::Global;
 use std::marker::Model;
@@ -17,7 +17,7 @@ enum Counted {
     /// A list that is at least as long as its largest number plus one, rounded up to whole blocks.
     Blocks(ByBlocks),
     /// Any other list of increasing numbers.
-    Rising(Rising),
+    Increasing(Increasing),
     /// Any other list.
     Numbers(ByNumber),
 }
@@ -45,8 +45,8 @@ impl Partial {
         let bound = bound_of(ids.as_slice());
         let counted = if BLOCK * bound <= ids.len() {
             Counted::Blocks(ByBlocks::of(alloc, ids, bound)?)
-        } else if do_rise(ids.as_slice()) {
-            Counted::Rising(Rising::of(ids))
+        } else if is_increasing(ids.as_slice()) {
+            Counted::Increasing(Increasing::of(ids))
         } else {
             Counted::Numbers(ByNumber::of(alloc, ids)?)
         };
@@ -59,7 +59,7 @@ impl Partial {
     {
         match &self.counted {
             Counted::Blocks(counted) => counted.ids(),
-            Counted::Rising(counted) => counted.ids(),
+            Counted::Increasing(counted) => counted.ids(),
             Counted::Numbers(counted) => counted.ids(),
         }
     }
@@ -70,21 +70,21 @@ impl Partial {
     {
         match &self.counted {
             Counted::Blocks(counted) => counted.get(id),
-            Counted::Rising(counted) => counted.get(id),
+            Counted::Increasing(counted) => counted.get(id),
             Counted::Numbers(counted) => counted.get(id),
         }
     }
 
     /// Adds to each counter how often its number is in the list. The counters fill whole blocks.
     pub(crate) fn add_to(&self, cells: &mut [u64])
-        requires whole { length cells.old % 8 ≡ 0 }
+        requires len { length cells.old % 8 ≡ 0 }
         requires numbers { HaveCounters cells.old self.now }
-        requires fit { SumsFit cells.old self.now }
+        requires sums { SumsFit cells.old self.now }
         ensures { cells.new ≡ raised cells.old self.now }
     {
         match &self.counted {
             Counted::Blocks(counted) => counted.add_to(cells),
-            Counted::Rising(counted) => counted.add_to(cells),
+            Counted::Increasing(counted) => counted.add_to(cells),
             Counted::Numbers(counted) => counted.add_to(cells),
         }
     }

@@ -56,8 +56,8 @@ impl Table {
     /// Reserves capacity for at least one more counter. Fails if memory runs out, changing nothing.
     pub fn reserve(&mut self) -> Result<(), Memory>
         ensures counts { self.new.counts ≡ self.old.counts }
-        ensures room { OnOk result (1 ≤ self.new.room) }
-        ensures room_stays { self.old.room ≤ self.new.room }
+        ensures capacity { OnOk result (1 ≤ self.new.capacity) }
+        ensures bound { self.old.capacity ≤ self.new.capacity }
     {
         if self.keys == self.cells.len() {
             self.cells.extend_from_slice(&[0; BLOCK])?;
@@ -67,9 +67,9 @@ impl Table {
 
     /// Adds a counter at zero for the next key number, in reserved capacity. It allocates nothing.
     pub fn add_key(&mut self)
-        requires { 1 ≤ self.old.room }
+        requires { 1 ≤ self.old.capacity }
         ensures { self.new ≡ record
-            { counts = self.old.counts ++ 0 ∷ []; room = self.old.room - 1 } }
+            { counts = self.old.counts ++ 0 ∷ []; capacity = self.old.capacity - 1 } }
     {
         self.keys += 1;
     }
@@ -77,9 +77,9 @@ impl Table {
     /// Adds to each counter how often its number is in the counted list. It allocates nothing.
     pub fn merge(&mut self, partial: &Partial)
         requires numbers { HaveCounters self.old.counts partial.now }
-        requires fit { SumsFit self.old.counts partial.now }
+        requires sums { SumsFit self.old.counts partial.now }
         ensures { self.new ≡ record
-            { counts = raised self.old.counts partial.now; room = self.old.room } }
+            { counts = raised self.old.counts partial.now; capacity = self.old.capacity } }
     {
         partial.add_to(&mut self.cells);
     }
@@ -87,9 +87,9 @@ impl Table {
     /// Adds how often each number occurs in a list to its counter. It allocates nothing.
     pub fn add_list(&mut self, ids: &[u32])
         requires numbers { HaveCounters self.old.counts ids.now }
-        requires fit { SumsFit self.old.counts ids.now }
+        requires sums { SumsFit self.old.counts ids.now }
         ensures { self.new ≡ record
-            { counts = raised self.old.counts ids.now; room = self.old.room } }
+            { counts = raised self.old.counts ids.now; capacity = self.old.capacity } }
     {
         add_each(&mut self.cells, ids);
     }

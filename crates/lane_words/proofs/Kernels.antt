@@ -156,8 +156,8 @@ pub set_fold : (x : ℕ) (xs : List ℕ) → is_set (fold_l bit_or x xs) ≡ (is
 set_fold x [] = sym (or_none (is_set x))
 set_fold x (y ∷ xs) = set_fold (bit_or x y) xs ∙ rw (is_set-or x y) (or_swap (is_set x) (is_set y) (any_set xs))
 
-pub told_none : (x : ℕ) → (x == 0) ≡ not (is_set x)
-told_none x = twice (x == 0)
+pub none_set : (x : ℕ) → (x == 0) ≡ not (is_set x)
+none_set x = twice (x == 0)
   where
     twice : (b : Bool) → b ≡ not (not b)
     twice true = refl
@@ -219,9 +219,9 @@ equal_is a b true len e = (λ h. equal_by a b len (unset (any_set (zip2 bit_xor 
     unset false h = refl
 equal_is a b false len e = (λ h. absurd (cc h), λ h. let self : any_set (zip2 bit_xor a b) ≡ false = ap (λ ys. any_set (zip2 bit_xor a ys)) (sym h) ∙ equal_self a in cc (e, ap not self))
 
-pub equal_told : (a b : List ℕ) (x : Bool) → length a ≡ length b → IsTrue x ↔ (a ≡ b) → x ≡ not (any_set (zip2 bit_xor a b))
-equal_told a b true len h = let same : a ≡ b = h.0 refl in ap not (sym (equal_self a) ∙ ap (λ ys. any_set (zip2 bit_xor a ys)) same)
-equal_told a b false len h = ap not (sym (unlike (any_set (zip2 bit_xor a b)) (λ none. h.1 (equal_by a b len none))))
+pub equal_by_bits : (a b : List ℕ) (x : Bool) → length a ≡ length b → IsTrue x ↔ (a ≡ b) → x ≡ not (any_set (zip2 bit_xor a b))
+equal_by_bits a b true len h = let same : a ≡ b = h.0 refl in ap not (sym (equal_self a) ∙ ap (λ ys. any_set (zip2 bit_xor a ys)) same)
+equal_by_bits a b false len h = ap not (sym (unlike (any_set (zip2 bit_xor a b)) (λ none. h.1 (equal_by a b len none))))
 
 -- ---- sums that fit
 -- each pair adds up to a word

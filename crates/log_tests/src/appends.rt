@@ -3,9 +3,9 @@
 ghost use Rattle.std.specs.Prelude.{◌<◌, ◌≤◌};
 
 use crate::window;
-use key_lists::KeyList;
 use lane_words::{LONGEST_KEY, Memory, Refusal};
 use partition_log::{LogRead, Logs};
+use record_batch::RecordBatch;
 use std::alloc::Global;
 use std::hash::RandomState;
 use std::random::RandomSource;
@@ -26,7 +26,7 @@ fn one_by_one(logs: &mut Logs, keys: &[&[u8]]) -> Answer {
 }
 
 /// Adds these keys to a list.
-fn with_keys(list: KeyList, keys: &[&[u8]]) -> Result<KeyList, Refusal> {
+fn with_keys(list: RecordBatch, keys: &[&[u8]]) -> Result<RecordBatch, Refusal> {
     let mut list = list;
     for i in 0..keys.len() {
         list.push(keys[i])?;
@@ -35,11 +35,15 @@ fn with_keys(list: KeyList, keys: &[&[u8]]) -> Result<KeyList, Refusal> {
 }
 
 /// A list of these keys that looks keys up.
-fn looked_up(rt: &impl RandomSource, alloc: Global, keys: &[&[u8]]) -> Result<KeyList, Refusal> {
+fn looked_up(
+    rt: &impl RandomSource,
+    alloc: Global,
+    keys: &[&[u8]],
+) -> Result<RecordBatch, Refusal> {
     let Ok(hasher) = RandomState::new(rt) else {
         return Err(Refusal::Memory);
     };
-    with_keys(KeyList::looking_up(alloc, hasher), keys)
+    with_keys(RecordBatch::looking_up(alloc, hasher), keys)
 }
 
 /// Adds lists of these keys: an empty one, one of the first half that looks keys up, and one of the
@@ -47,13 +51,13 @@ fn looked_up(rt: &impl RandomSource, alloc: Global, keys: &[&[u8]]) -> Result<Ke
 fn add_lists(
     rt: &impl RandomSource,
     alloc: Global,
-    lists: &mut Vec<KeyList>,
+    lists: &mut Vec<RecordBatch>,
     keys: &[&[u8]],
 ) -> Result<(), Refusal> {
     let (first, others) = keys.split_at(keys.len() / 2);
-    lists.push(KeyList::new(alloc))?;
+    lists.push(RecordBatch::new(alloc))?;
     lists.push(looked_up(rt, alloc, first)?)?;
-    lists.push(with_keys(KeyList::new(alloc), others)?)?;
+    lists.push(with_keys(RecordBatch::new(alloc), others)?)?;
     Ok(())
 }
 
@@ -62,7 +66,7 @@ fn in_lists(
     rt: &impl RandomSource,
     alloc: Global,
     keys: &[&[u8]],
-) -> Result<Vec<KeyList>, Refusal> {
+) -> Result<Vec<RecordBatch>, Refusal> {
     let mut lists = Vec::new(alloc);
     add_lists(rt, alloc, &mut lists, keys)?;
     Ok(lists)
@@ -109,7 +113,7 @@ fn both_give<R: Threads + Sync>(
 fn lists_give<R: Threads + Sync>(
     rt: &R,
     logs: &mut Logs,
-    lists: &[KeyList],
+    lists: &[RecordBatch],
     answer: Answer,
     plain: &Logs,
 ) -> bool {
@@ -125,7 +129,7 @@ fn new_logs(rt: &impl RandomSource, alloc: Global) -> Result<Logs, Memory> {
 #[derive(Clone, Copy)]
 struct Case<'a> {
     keys: &'a [&'a [u8]],
-    lists: &'a [KeyList],
+    lists: &'a [RecordBatch],
     answer: Answer,
 }
 

@@ -2,7 +2,7 @@
 
 ghost use Rattle.std.specs.Prelude.{◌≤◌};
 
-use key_file::{Blocks, KeyList, TopicKeys, read_keys, read_topic_keys_apart};
+use csv_ingest::{Blocks, RecordBatch, TopicKeys, read_keys, read_topic_keys_apart};
 use lane_words::{Memory, Refusal};
 use std::alloc::Global;
 use std::test::Fail;
@@ -34,7 +34,7 @@ pub fn text_of_slices(alloc: Global, keys: &[&[u8]]) -> Result<Vec<u8>, Memory> 
 }
 
 /// The keys of a list in one text.
-fn text_of(alloc: Global, keys: &KeyList) -> Result<Vec<u8>, Memory> {
+fn text_of(alloc: Global, keys: &RecordBatch) -> Result<Vec<u8>, Memory> {
     let mut slices = Vec::new(alloc);
     keys.add_slices(&mut slices)?;
     text_of_slices(alloc, &slices)
@@ -91,7 +91,7 @@ fn fault_of(alloc: Global, file: &[u8], column: u32, header: bool) -> Option<Ref
 }
 
 #[test]
-fn the_first_record_at_fault_is_told(rt: HostRuntime) {
+fn the_first_invalid_record_is_reported(rt: HostRuntime) {
     for (file, column, header, fault) in FAULTS {
         assert_eq!(rt; fault_of(rt.alloc(), file, column, header), Some(fault));
     }

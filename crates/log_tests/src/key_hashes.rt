@@ -3,7 +3,7 @@
 
 ghost use Rattle.std.specs.Prelude.{◌≤◌, ◌+◌};
 
-use key_numbers::KeyHash;
+use key_index::KeyHash;
 use lane_words::Memory;
 use std::hash::RandomState;
 use std::random::RandomSource;

@@ -1,13 +1,17 @@
 //! The key dictionary compared with its reference implementation.
 
-use crate::plain_keys::PlainKeys;
-use key_numbers::KeyIds;
+use crate::reference_keys::ReferenceKeys;
+use key_index::KeyDictionary;
 use lane_words::Memory;
 use std::alloc::Global;
 use std::random::RandomSource;
 
 /// Whether a key has the same number in both, or is new to both and gets the same number.
-fn is_numbered_alike(keys: &mut KeyIds, plain: &mut PlainKeys, key: &[u8]) -> Result<bool, Memory> {
+fn is_interned_alike(
+    keys: &mut KeyDictionary,
+    plain: &mut ReferenceKeys,
+    key: &[u8],
+) -> Result<bool, Memory> {
     match (keys.find(key)?, plain.find(key)) {
         (None, None) if keys.count() < 1000 && plain.count() < 1000 => {
             Ok(keys.add(key)? == plain.add(key)?)
@@ -30,12 +34,12 @@ fn key_of(alloc: Global, turn: usize) -> Result<Vec<u8>, Memory> {
 /// The first step whose key is not numbered alike.
 fn first_other(
     alloc: Global,
-    keys: &mut KeyIds,
-    plain: &mut PlainKeys,
+    keys: &mut KeyDictionary,
+    plain: &mut ReferenceKeys,
 ) -> Result<Option<usize>, Memory> {
     for turn in 0..123 {
         let key = key_of(alloc, turn)?;
-        if !is_numbered_alike(keys, plain, key.as_slice())? {
+        if !is_interned_alike(keys, plain, key.as_slice())? {
             return Ok(Some(turn));
         }
     }
@@ -43,7 +47,7 @@ fn first_other(
 }
 
 /// Whether both have the same keys.
-fn are_keys_alike(keys: &KeyIds, plain: &PlainKeys) -> bool {
+fn are_keys_alike(keys: &KeyDictionary, plain: &ReferenceKeys) -> bool {
     for number in 0..keys.count().min(plain.count()) {
         if keys.key(number) != plain.key(number) {
             return false;
@@ -53,7 +57,11 @@ fn are_keys_alike(keys: &KeyIds, plain: &PlainKeys) -> bool {
 }
 
 /// Whether both number the keys of those steps alike, and then have the same keys.
-fn are_alike(alloc: Global, keys: &mut KeyIds, plain: &mut PlainKeys) -> Result<bool, Memory> {
+fn are_alike(
+    alloc: Global,
+    keys: &mut KeyDictionary,
+    plain: &mut ReferenceKeys,
+) -> Result<bool, Memory> {
     Ok(first_other(alloc, keys, plain)?.is_none() && are_keys_alike(keys, plain))
 }
 
@@ -61,19 +69,19 @@ fn are_alike(alloc: Global, keys: &mut KeyIds, plain: &mut PlainKeys) -> Result<
 fn is_alike_plain(
     rt: &impl RandomSource,
     alloc: Global,
-    keys: &mut KeyIds,
+    keys: &mut KeyDictionary,
 ) -> Result<bool, Memory> {
-    let mut plain = PlainKeys::new(rt, alloc)?;
+    let mut plain = ReferenceKeys::new(rt, alloc)?;
     are_alike(alloc, keys, &mut plain)
 }
 
 /// The same with two new dictionaries.
 fn are_new_alike(rt: &impl RandomSource, alloc: Global) -> Result<bool, Memory> {
-    let mut keys = KeyIds::new(rt, alloc)?;
+    let mut keys = KeyDictionary::new(rt, alloc)?;
     is_alike_plain(rt, alloc, &mut keys)
 }
 
 #[test]
-fn keys_are_numbered_as_by_the_plain_form(rt: HostRuntime) {
+fn keys_get_the_reference_numbers(rt: HostRuntime) {
     assert_eq!(rt; are_new_alike(&rt, rt.alloc()), Ok(true));
 }

@@ -25,9 +25,9 @@ mod pieces;
 #[cfg(test)]
 mod places;
 #[cfg(test)]
-mod plain_keys;
+mod reference_keys;
 #[cfg(test)]
-mod plain_places;
+mod reference_places;
 #[cfg(test)]
 mod refusals;
 #[cfg(test)]

@@ -2,8 +2,8 @@
 
 ghost use Rattle.std.specs.Prelude.{◌<◌};
 
-use key_lists::{KeyList, coded_parts};
 use lane_words::Memory;
+use record_batch::{RecordBatch, encode_batches};
 use std::alloc::Global;
 use std::hash::RandomState;
 use std::random::RandomSource;
@@ -12,7 +12,7 @@ use std::thread::Threads;
 
 /// Adds the keys of this many records: each key of a period occurs several times in a row, and
 /// every third is too long to be stored inline.
-fn push_keys(list: &mut KeyList, records: u32, each: u32, period: u32) -> Result<(), Memory>
+fn push_keys(list: &mut RecordBatch, records: u32, each: u32, period: u32) -> Result<(), Memory>
     requires each { 0 < each }
     requires period { 0 < period }
 {
@@ -27,7 +27,7 @@ fn push_keys(list: &mut KeyList, records: u32, each: u32, period: u32) -> Result
 }
 
 /// The first record for which two lists have different keys, if there is one.
-fn first_other(list: &KeyList, plain: &KeyList) -> Option<usize> {
+fn first_other(list: &RecordBatch, plain: &RecordBatch) -> Option<usize> {
     for i in 0..list.len().min(plain.len()) {
         if list.get(i) != plain.get(i) {
             return Some(i);
@@ -37,15 +37,15 @@ fn first_other(list: &KeyList, plain: &KeyList) -> Option<usize> {
 }
 
 /// An empty list that looks keys up.
-fn looking_up(rt: &impl RandomSource, alloc: Global) -> Result<KeyList, Memory> {
+fn looking_up(rt: &impl RandomSource, alloc: Global) -> Result<RecordBatch, Memory> {
     let Ok(hasher) = RandomState::new(rt) else {
         return Err(Memory);
     };
-    Ok(KeyList::looking_up(alloc, hasher))
+    Ok(RecordBatch::looking_up(alloc, hasher))
 }
 
 /// A list of the keys of this many records, as `push_keys` adds them.
-fn pushed(list: KeyList, records: u32, each: u32, period: u32) -> Result<KeyList, Memory>
+fn pushed(list: RecordBatch, records: u32, each: u32, period: u32) -> Result<RecordBatch, Memory>
     requires each { 0 < each }
     requires period { 0 < period }
 {
@@ -57,12 +57,16 @@ fn pushed(list: KeyList, records: u32, each: u32, period: u32) -> Result<KeyList
 }
 
 /// The number of keys in the dictionary of a list.
-fn count_of(list: &KeyList, alloc: Global) -> Result<usize, Memory> {
-    Ok(list.coded(alloc)?.keys.len())
+fn count_of(list: &RecordBatch, alloc: Global) -> Result<usize, Memory> {
+    Ok(list.encoded(alloc)?.keys.len())
 }
 
 /// The number of keys in the dictionary of a list, if it has the same records as a plain one.
-fn count_beside(list: &KeyList, plain: &KeyList, alloc: Global) -> Result<Option<usize>, Memory> {
+fn count_if_same(
+    list: &RecordBatch,
+    plain: &RecordBatch,
+    alloc: Global,
+) -> Result<Option<usize>, Memory> {
     if list.len() != plain.len() || first_other(list, plain).is_some() {
         return Ok(None);
     }
@@ -70,8 +74,8 @@ fn count_beside(list: &KeyList, plain: &KeyList, alloc: Global) -> Result<Option
 }
 
 /// The same for a list and a plain one of such records.
-fn count_beside_plain(
-    list: &KeyList,
+fn count_if_same_as_plain(
+    list: &RecordBatch,
     alloc: Global,
     records: u32,
     each: u32,
@@ -80,8 +84,8 @@ fn count_beside_plain(
     requires each { 0 < each }
     requires period { 0 < period }
 {
-    let plain = pushed(KeyList::new(alloc), records, each, period)?;
-    count_beside(list, &plain, alloc)
+    let plain = pushed(RecordBatch::new(alloc), records, each, period)?;
+    count_if_same(list, &plain, alloc)
 }
 
 /// The same for a list of such records that looks keys up.
@@ -96,11 +100,11 @@ fn keys_of(
     requires period { 0 < period }
 {
     let list = pushed(looking_up(rt, alloc)?, records, each, period)?;
-    count_beside_plain(&list, alloc, records, each, period)
+    count_if_same_as_plain(&list, alloc, records, each, period)
 }
 
 #[test]
-fn a_key_that_comes_again_stands_once(rt: HostRuntime) {
+fn a_repeated_key_is_stored_once(rt: HostRuntime) {
     assert_eq!(rt; keys_of(&rt, rt.alloc(), 1000, 1, 10), Ok(Some(10)));
     assert_eq!(rt;
         keys_of(&rt, rt.alloc(), 90_000, 3, 20_000),
@@ -109,7 +113,7 @@ fn a_key_that_comes_again_stands_once(rt: HostRuntime) {
 }
 
 #[test]
-fn keys_that_are_all_different_are_kept_as_they_come(rt: HostRuntime) {
+fn distinct_keys_are_stored_as_they_come(rt: HostRuntime) {
     assert_eq!(rt; keys_of(&rt, rt.alloc(), 0, 1, 1), Ok(Some(0)));
     assert_eq!(rt;
         keys_of(&rt, rt.alloc(), 20_000, 1, 20_000),
@@ -128,19 +132,19 @@ fn more_keys_than_are_looked_up(rt: HostRuntime) {
 }
 
 /// Adds one key in three ways.
-fn push_thrice(list: &mut KeyList) -> Result<(), Memory> {
+fn push_thrice(list: &mut RecordBatch) -> Result<(), Memory> {
     list.push(b"ab")?;
     list.push_two(b"a", b"b")?;
     list.push_two(b"", b"ab")
 }
 
 /// Whether a list has these codes.
-fn has_codes(list: &KeyList, alloc: Global, codes: &[usize]) -> Result<bool, Memory> {
-    Ok(list.coded(alloc)?.codes == codes)
+fn has_codes(list: &RecordBatch, alloc: Global, codes: &[usize]) -> Result<bool, Memory> {
+    Ok(list.encoded(alloc)?.codes == codes)
 }
 
 /// Whether all keys of a list are this one.
-fn are_all(list: &KeyList, key: &[u8]) -> bool {
+fn are_all(list: &RecordBatch, key: &[u8]) -> bool {
     for i in 0..list.len() {
         if list.get(i) != key {
             return false;
@@ -150,7 +154,7 @@ fn are_all(list: &KeyList, key: &[u8]) -> bool {
 }
 
 /// Whether a list accepts one key in three ways.
-fn takes_thrice(list: &mut KeyList, alloc: Global) -> Result<bool, Memory> {
+fn takes_thrice(list: &mut RecordBatch, alloc: Global) -> Result<bool, Memory> {
     push_thrice(list)?;
     // The one with a first text is not looked up.
     Ok(list.len() == 3 && are_all(list, b"ab") && has_codes(list, alloc, &[0, 1, 0])?)
@@ -164,10 +168,10 @@ fn two_texts_are_one_key(rt: HostRuntime) -> Result<(), Fail> {
 }
 
 /// Three lists, of which the second is empty.
-fn three_lists(rt: &impl RandomSource, alloc: Global) -> Result<[KeyList; 3], Memory> {
+fn three_lists(rt: &impl RandomSource, alloc: Global) -> Result<[RecordBatch; 3], Memory> {
     let first = pushed(looking_up(rt, alloc)?, 5, 1, 2)?;
-    let second = pushed(KeyList::new(alloc), 3, 1, 2)?;
-    Ok([first, KeyList::new(alloc), second])
+    let second = pushed(RecordBatch::new(alloc), 3, 1, 2)?;
+    Ok([first, RecordBatch::new(alloc), second])
 }
 
 /// The codes of those three lists.
@@ -177,21 +181,21 @@ const CODES: [&[usize]; 3] = [&[0, 1, 0, 1, 0], &[], &[0, 1, 2]];
 fn coded_as<R: Threads + Sync>(
     rt: &R,
     alloc: Global,
-    lists: &[KeyList],
+    lists: &[RecordBatch],
     codes: &[&[usize]],
 ) -> Result<(usize, usize, bool), Memory> {
-    let coded = coded_parts(rt, alloc, lists)?;
+    let encoded = encode_batches(rt, alloc, lists)?;
     let mut keys: usize = 0;
     let mut same = true;
-    for i in 0..coded.len().min(codes.len()) {
-        keys = keys.saturating_add(coded[i].keys.len());
-        same = same && coded[i].codes == codes[i];
+    for i in 0..encoded.len().min(codes.len()) {
+        keys = keys.saturating_add(encoded[i].keys.len());
+        same = same && encoded[i].codes == codes[i];
     }
-    Ok((coded.len(), keys, same))
+    Ok((encoded.len(), keys, same))
 }
 
 #[test]
-fn lists_side_by_side(rt: HostRuntime) -> Result<(), Fail> {
+fn lists_parallel(rt: HostRuntime) -> Result<(), Fail> {
     let lists = three_lists(&rt, rt.alloc())?;
     assert_eq!(rt; coded_as(&rt, rt.alloc(), &lists, &CODES), Ok((3, 5, true)));
     Ok(())

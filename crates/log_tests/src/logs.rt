@@ -179,7 +179,7 @@ const PAIRS: [(&[u8], &[u8], bool); 5] = [
 ];
 
 #[test]
-fn same_tells_logs_that_differ(rt: HostRuntime) {
+fn same_detects_differences(rt: HostRuntime) {
     for (keys, others, same) in &PAIRS {
         assert_eq!(rt;
             are_same(&rt, rt.alloc(), keys, 1, others),

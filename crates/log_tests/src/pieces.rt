@@ -4,8 +4,8 @@ ghost use Rattle.std.specs.Prelude.{◌≤◌};
 
 use crate::drawn::{Random, rows, scraps, topic_rows};
 use crate::files::{NAMES, add_both, file_in_blocks, text_of_slices, text_of_topics, text_whole};
-use key_file::{
-    FileKeys, KeyList, Reading, read_keys, read_keys_apart, read_keys_in_pieces,
+use csv_ingest::{
+    FileKeys, Reading, RecordBatch, read_keys, read_keys_apart, read_keys_in_pieces,
     read_topic_keys_apart, read_topic_keys_in_pieces,
 };
 use lane_words::{Memory, Refusal};
@@ -25,7 +25,7 @@ fn text_of_keys(alloc: Global, keys: &FileKeys) -> Result<Vec<u8>, Memory> {
 }
 
 /// The keys of a file that is read in chunks, in one text.
-fn text_in_pieces<R: Threads + Sync>(
+fn text_in_chunks<R: Threads + Sync>(
     rt: &R,
     alloc: Global,
     file: &[u8],
@@ -40,7 +40,7 @@ fn text_in_pieces<R: Threads + Sync>(
 }
 
 /// Whether a file has this text, or this fault, when read in several numbers of chunks.
-fn has_text_in_pieces<R: Threads + Sync>(
+fn has_text_in_chunks<R: Threads + Sync>(
     rt: &R,
     alloc: Global,
     file: &[u8],
@@ -53,7 +53,7 @@ fn has_text_in_pieces<R: Threads + Sync>(
 {
     for pieces in [0, 2, 5] {
         let reading = Reading { pieces, hasher };
-        if text_in_pieces(rt, alloc, file, column, header, reading) != *whole {
+        if text_in_chunks(rt, alloc, file, column, header, reading) != *whole {
             return false;
         }
     }
@@ -111,13 +111,13 @@ fn are_keys_same<R: Threads + Sync + RandomSource>(
 {
     let whole = text_whole(alloc, file, column, header);
     let hasher = RandomState::new(rt).ok();
-    has_text_in_pieces(rt, alloc, file, column, header, None, &whole)
-        && has_text_in_pieces(rt, alloc, file, column, header, hasher, &whole)
+    has_text_in_chunks(rt, alloc, file, column, header, None, &whole)
+        && has_text_in_chunks(rt, alloc, file, column, header, hasher, &whole)
         && has_text_in_blocks(rt, alloc, file, column, header, &whole)
 }
 
 #[test]
-fn any_bytes_are_read_the_same_in_pieces(rt: HostRuntime) -> Result<(), Fail> {
+fn any_bytes_are_read_alike_in_chunks(rt: HostRuntime) -> Result<(), Fail> {
     let mut random = Random { state: 1 };
     for _ in 0..60 {
         let file = scraps(rt.alloc(), &mut random)?;
@@ -129,7 +129,7 @@ fn any_bytes_are_read_the_same_in_pieces(rt: HostRuntime) -> Result<(), Fail> {
 }
 
 #[test]
-fn a_fault_in_any_piece_is_told_the_same(rt: HostRuntime) -> Result<(), Fail> {
+fn a_fault_in_any_chunk_is_reported_alike(rt: HostRuntime) -> Result<(), Fail> {
     let mut random = Random { state: 2 };
     for _ in 0..60 {
         let file = rows(rt.alloc(), &mut random)?;
@@ -160,7 +160,7 @@ fn long_keys(alloc: Global) -> Result<Vec<u8>, Memory> {
 }
 
 #[test]
-fn long_keys_are_read_the_same_in_pieces(rt: HostRuntime) -> Result<(), Fail> {
+fn long_keys_are_read_alike_in_chunks(rt: HostRuntime) -> Result<(), Fail> {
     let file = long_keys(rt.alloc())?;
     assert!(rt; are_keys_same(&rt, rt.alloc(), &file, 1, false));
     Ok(())
@@ -192,7 +192,7 @@ fn are_keys(alloc: Global, keys: &FileKeys, len: usize, whole: &Text) -> Result<
 
 /// Whether a file read in blocks of `size` bytes has this many keys in its second column below its
 /// header, and the same as when read as a whole.
-fn has_keys_apart<R: Threads + Sync + RandomSource>(
+fn has_keys_parallel<R: Threads + Sync + RandomSource>(
     rt: &R,
     alloc: Global,
     file: &[u8],
@@ -211,7 +211,7 @@ fn a_file_of_a_few_mebibytes_has_all_keys(rt: HostRuntime) -> Result<(), Fail> {
     assert!(rt; file.len() > 2 << 20);
     for size in [file.len(), 1 << 20] {
         assert_eq!(rt;
-            has_keys_apart(&rt, rt.alloc(), &file, size, 199_999),
+            has_keys_parallel(&rt, rt.alloc(), &file, size, 199_999),
             Ok(true)
         );
     }
@@ -219,7 +219,7 @@ fn a_file_of_a_few_mebibytes_has_all_keys(rt: HostRuntime) -> Result<(), Fail> {
 }
 
 /// The topics and keys of a file whose topics are in the second column, in one text.
-fn topics_in_pieces<R: Threads + Sync>(
+fn topics_in_chunks<R: Threads + Sync>(
     rt: &R,
     alloc: Global,
     file: &[u8],
@@ -271,8 +271,8 @@ fn has_topics_in_blocks<R: Threads + Sync>(
 /// Adds topics and keys that were read separately to a text.
 fn add_columns(
     text: &mut Vec<u8>,
-    topics: &KeyList,
-    keys: &KeyList,
+    topics: &RecordBatch,
+    keys: &RecordBatch,
     header: bool,
 ) -> Result<(), Refusal> {
     let mut nth = if header { 2_u64 } else { 1 };
@@ -291,8 +291,8 @@ fn add_columns(
 /// Those topics and keys in one text.
 fn text_of_columns(
     alloc: Global,
-    topics: &KeyList,
-    keys: &KeyList,
+    topics: &RecordBatch,
+    keys: &RecordBatch,
     header: bool,
 ) -> Result<Vec<u8>, Refusal> {
     let mut text = Vec::new(alloc);
@@ -325,9 +325,9 @@ fn are_topics_same<R: Threads + Sync>(
 ) -> bool
     requires { 1 ≤ column }
 {
-    let whole = topics_in_pieces(rt, alloc, file, column, header, 1);
+    let whole = topics_in_chunks(rt, alloc, file, column, header, 1);
     for pieces in [0, 2, 5] {
-        if topics_in_pieces(rt, alloc, file, column, header, pieces) != whole {
+        if topics_in_chunks(rt, alloc, file, column, header, pieces) != whole {
             return false;
         }
     }
@@ -336,7 +336,7 @@ fn are_topics_same<R: Threads + Sync>(
 }
 
 #[test]
-fn topics_are_read_the_same_in_pieces(rt: HostRuntime) -> Result<(), Fail> {
+fn topics_are_read_alike_in_chunks(rt: HostRuntime) -> Result<(), Fail> {
     let mut random = Random { state: 3 };
     for _ in 0..60 {
         let file = topic_rows(rt.alloc(), &mut random)?;

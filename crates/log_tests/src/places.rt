@@ -3,7 +3,7 @@
 ghost use Rattle.std.specs.Prelude.{◌<◌, IfOk};
 ghost use Rattle.partitioner.specs.Place.{AreTopics};
 
-use crate::plain_places;
+use crate::reference_places;
 use partitioner::Partitions;
 use std::alloc::Global;
 use std::test::Fail;
@@ -54,7 +54,7 @@ fn places_in_topics(rt: HostRuntime) -> Result<(), Fail> {
 }
 
 /// Topics assigned in rotation: each of the eight has every eighth key.
-fn topics_in_turn(alloc: Global, count: usize) -> Result<Vec<u8>, Fail>
+fn rotating_topics(alloc: Global, count: usize) -> Result<Vec<u8>, Fail>
     ensures { IfOk result (λ topics. AreTopics 8 count topics.items) }
 {
     let mut topics = Vec::with_capacity(alloc, count)?;
@@ -73,9 +73,9 @@ fn pieces_and_one_by_one_in_topics(rt: HostRuntime) -> Result<(), Fail> {
         for i in 0..count {
             keys.push(window(&bytes, i % 199, i / 3 % 70))?;
         }
-        let topics = topics_in_turn(rt.alloc(), keys.len())?;
+        let topics = rotating_topics(rt.alloc(), keys.len())?;
         let places = partitions.place_all_in(&rt, rt.alloc(), &topics, &keys)?;
-        let plain = plain_places::place_all_in(partitions, rt.alloc(), &topics, &keys)?;
+        let plain = reference_places::place_all_in(partitions, rt.alloc(), &topics, &keys)?;
         assert!(rt; places == plain, "{count} keys");
     }
     Ok(())
@@ -106,8 +106,8 @@ fn are_placed_alike<R: Threads + Sync>(
 ) -> Result<bool, Fail> {
     let partitions = Partitions::new(4096);
     let places = partitions.place_all(rt, alloc, keys)?;
-    let in_turn = plain_places::place_in_turn(partitions, rt, alloc, keys)?;
-    let plain = plain_places::place_all(partitions, alloc, keys)?;
+    let in_turn = reference_places::place_sequential(partitions, rt, alloc, keys)?;
+    let plain = reference_places::place_all(partitions, alloc, keys)?;
     Ok(places == plain && in_turn == plain)
 }
 

@@ -53,7 +53,7 @@ fn first_other(logs: &mut Logs) -> Option<usize> {
 }
 
 /// Whether logs have those three keys, with those numbers in each log.
-fn are_numbered(logs: &Logs) -> bool {
+fn are_interned(logs: &Logs) -> bool {
     for (p, numbers) in &NUMBERS {
         if ids(logs, *p) != *numbers {
             return false;
@@ -68,7 +68,7 @@ fn number_over_all(logs: &mut Logs) -> bool {
     logs.topics() == 2
         && logs.partitions() == 5
         && first_other(logs).is_none()
-        && are_numbered(logs)
+        && are_interned(logs)
         && logs.append(b"4") == Ok((1, 1))
 }
 
@@ -146,7 +146,7 @@ fn are_appended_alike<R: Threads + Sync + RandomSource>(
 }
 
 /// The topics in rotation.
-fn topics_in_turn(alloc: Global, count: usize) -> Result<Vec<u8>, Fail>
+fn rotating_topics(alloc: Global, count: usize) -> Result<Vec<u8>, Fail>
     ensures { IfOk result (λ topics. AreTopics 3 count topics.items) }
 {
     let mut topics = Vec::with_capacity(alloc, count)?;
@@ -171,7 +171,7 @@ fn are_keys_alike<R: Threads + Sync + RandomSource>(
     alloc: Global,
     keys: &[&[u8]],
 ) -> Result<bool, Fail> {
-    let topics = topics_in_turn(alloc, keys.len())?;
+    let topics = rotating_topics(alloc, keys.len())?;
     Ok(are_appended_alike(rt, alloc, &topics, keys)?)
 }
 
@@ -187,7 +187,7 @@ fn are_windows_alike<R: Threads + Sync + RandomSource>(
 }
 
 #[test]
-fn many_appends_beside_one_at_a_time(rt: HostRuntime) -> Result<(), Fail> {
+fn many_appends_equal_one_at_a_time(rt: HostRuntime) -> Result<(), Fail> {
     let bytes = bytes();
     for count in [0, 1, 7, 4095, 4096, 20_000] {
         let alike = are_windows_alike(&rt, rt.alloc(), &bytes, count)?;

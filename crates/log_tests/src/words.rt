@@ -63,7 +63,7 @@ fn are_cleared(words: &[u64], a: &[u64], b: &[u64]) -> bool {
 }
 
 /// Whether each word is that of `b` with the bits of that of `a`.
-fn are_joined(words: &[u64], a: &[u64], b: &[u64]) -> bool {
+fn are_bits_set(words: &[u64], a: &[u64], b: &[u64]) -> bool {
     if words.len() != a.len() || a.len() != b.len() {
         return false;
     }
@@ -79,10 +79,10 @@ fn are_joined(words: &[u64], a: &[u64], b: &[u64]) -> bool {
 fn are_changed_alike(alloc: Global, a: &[u64], b: &[u64]) -> Result<bool, AllocError>
     requires { length a.now ≡ length b.now }
 {
-    let (mut cleared, mut joined) = (b.to_vec(alloc)?, b.to_vec(alloc)?);
+    let (mut cleared, mut concatenated) = (b.to_vec(alloc)?, b.to_vec(alloc)?);
     and_not_into(&mut cleared, a);
-    or_into(&mut joined, a);
-    Ok(are_cleared(&cleared, a, b) && are_joined(&joined, a, b))
+    or_into(&mut concatenated, a);
+    Ok(are_cleared(&cleared, a, b) && are_bits_set(&concatenated, a, b))
 }
 
 /// Whether all calls on two lists of the same length, which differ by these bits of the last word,
@@ -98,7 +98,7 @@ fn are_alike(alloc: Global, a: &[u64], last: u64) -> Result<bool, AllocError> {
 }
 
 #[test]
-fn each_beside_its_words(rt: HostRuntime) -> Result<(), Fail> {
+fn each_kernel_equals_its_definition(rt: HostRuntime) -> Result<(), Fail> {
     for len in LENGTHS {
         let a = words(rt.alloc(), len)?;
         for last in LAST {
@@ -109,7 +109,7 @@ fn each_beside_its_words(rt: HostRuntime) -> Result<(), Fail> {
 }
 
 #[test]
-fn equal32_beside_its_words(rt: HostRuntime) -> Result<(), Fail> {
+fn equal32_equals_its_definition(rt: HostRuntime) -> Result<(), Fail> {
     for len in LENGTHS {
         let a = vec![in rt.alloc(); 0x9e37_79b9; len]?;
         for last in [0, 1, 1 << 31, u32::MAX] {
@@ -155,8 +155,8 @@ fn are_sums(sums: &[u64], a: &[u64], b: &[u64]) -> bool {
 
 /// Sums compared with those of each pair.
 fn check_sums(rt: &impl Abort, alloc: Global, a: &[u64], b: &[u64]) -> Result<(), AllocError>
-    requires length { length a.now ≡ length b.now }
-    requires fit { (i : ℕ) → slice_index_or a.now i 0 + slice_index_or b.now i 0 < 2 ^ 64 }
+    requires len { length a.now ≡ length b.now }
+    requires sums { (i : ℕ) → slice_index_or a.now i 0 + slice_index_or b.now i 0 < 2 ^ 64 }
 {
     let mut sums = a.to_vec(alloc)?;
     add_into(&mut sums, b);
@@ -165,7 +165,7 @@ fn check_sums(rt: &impl Abort, alloc: Global, a: &[u64], b: &[u64]) -> Result<()
 }
 
 #[test]
-fn add_into_beside_its_words(rt: HostRuntime) -> Result<(), Fail> {
+fn add_into_equals_its_definition(rt: HostRuntime) -> Result<(), Fail> {
     for len in LENGTHS {
         let mut a = words(rt.alloc(), len)?;
         for word in &mut a {

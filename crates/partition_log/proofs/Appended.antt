@@ -15,7 +15,7 @@ use Rattle.partition_log.specs.Logs.{AreLogsOf, IsOfTopic, IsPlaceOf, IsValidLog
 use Rattle.partition_log.specs.Appends.{AreAccepted, AreAppended, AreStoppedAfter, GrowByRecords, Placed, in_first, lent, placed, with_records}
 use Rattle.partition_log.specs.Private.Filled.{ArePlaced}
 use Rattle.partition_log.proofs.History.{history}
-use Rattle.key_numbers.proofs.ShardRecords.{lent-key, lent-long}
+use Rattle.key_index.proofs.ShardRecords.{lent-key, lent-long}
 use Rattle.partition_log.proofs.Valid.{accepted-parts, goes-below, valid}
 
 abbrev appended_one : PartitionLogs → Placed → PartitionLogs

@@ -9,7 +9,7 @@ use Rattle.std.proofs.lemmas.List.Elements.{All-push, filter-append}
 use Rattle.std.proofs.lemmas.List.Sums.{fold-append}
 use Rattle.partition_log.specs.Keys.{Key, Keyed, distinct, key_at, keys_in, id_of, with_key}
 use Rattle.partition_log.specs.Logs.{AreLogsOf, IsOfTopic, IsValidLogs, PartitionLogs, keys_of_log, log_at, place_in, with_record, with_record_at}
-use Rattle.key_numbers.proofs.Growth.{grows}
+use Rattle.key_index.proofs.Growth.{grows}
 use Rattle.partition_log.proofs.Valid.{is_place, log-other, log-same, place-below}
 
 map-agree : {X Y : Type 0} (f g : X → Y) (d : X) (xs : List X) → ((i : ℕ) → i < length xs → f (get_or xs i d) ≡ g (get_or xs i d)) → map f xs ≡ map g xs

@@ -4,6 +4,6 @@ pub mod History
 pub mod Numbered
 pub mod Parted
 pub mod Sharing
-pub mod SideBySide
+pub mod ParallelAppends
 pub mod Stored
 pub mod Valid

@@ -5,8 +5,8 @@ use Rattle.std.specs.Str.{bytes_eq}
 use Rattle.std.proofs.lemmas.Bool.Decides.{eqb_tells}
 use Rattle.std.proofs.lemmas.List.Sums.{sum_by-cons}
 use Rattle.std.proofs.lemmas.Slice.Eq.{bytes_eq-Decides}
-use Rattle.partition_log.specs.Keys.{IsWithoutRepeats, Key, is_known, key_at, id_of, plain}
-use Rattle.key_numbers.proofs.Growth.{among, fresh, known}
+use Rattle.partition_log.specs.Keys.{IsWithoutRepeats, Key, is_interned, key_at, id_of, plain}
+use Rattle.key_index.proofs.Growth.{among, fresh, known}
 
 not_so : (b : Bool) → (b ≡ true → ⊥) → b ≡ false
 not_so true f = absurd (f refl)
@@ -17,7 +17,7 @@ names : (keys : List Key) (x : Key) (id : ℕ) → IsWithoutRepeats keys → id 
 names keys x id apart lt =
     elim (eqb_tells (id_of keys x) id) [
       | inl t ↦
-          let stands : key_at keys id ≡ x = named_by (is_known keys x) keys x id refl lt t.1 in
+          let stands : key_at keys id ≡ x = named_by (is_interned keys x) keys x id refl lt t.1 in
           (bytes_eq-Decides x (key_at keys id)).1 (sym stands) ∙ sym t.0
       | inr f ↦
           not_so (bytes_eq x (key_at keys id)) (λ e.
@@ -27,7 +27,7 @@ names keys x id apart lt =
           ∙ sym f.0
     ]
   where
-    named_by : (b : Bool) (keys : List Key) (x : Key) (id : ℕ) → is_known keys x ≡ b → id < length keys → id_of keys x ≡ id → key_at keys id ≡ x
+    named_by : (b : Bool) (keys : List Key) (x : Key) (id : ℕ) → is_interned keys x ≡ b → id < length keys → id_of keys x ≡ id → key_at keys id ≡ x
     named_by true keys x id e lt is = ap (key_at keys) (sym is) ∙ (known keys x e).1
     named_by false keys x id e lt is = absurd (omega (arith, fresh keys x e, is, lt))
 

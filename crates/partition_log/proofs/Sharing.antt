@@ -6,19 +6,19 @@ use Rattle.std.proofs.lemmas.List.{append-nil, drop_at, drop_more, drop-drop, ex
 use Rattle.std.proofs.lemmas.List.Concat.{flat_map-append}
 use Rattle.std.proofs.lemmas.List.Elements.{All-append, All-cons, All-drop, All-head, All-push, All-tail, All-take}
 use Rattle.lane_words.specs.declared.Memory.{Memory}
-use Rattle.key_numbers.specs.Keys.{Key, key_at}
-use Rattle.key_lists.specs.Lists.{AreCoded, IsCoded, TellsLongest, codes_in, joined, keys_in}
-use Rattle.key_lists.specs.declared.coding.CodedPart.{CodedPart}
-use Rattle.key_lists.proofs.Coded.{distinct-parts, read-codes}
-use Rattle.key_lists.proofs.Longest.{all-up-to, longest-up-to}
-use Rattle.partition_log.specs.Private.Filled.{ArePlaced, AreShort, CanGoSideBySide, filled}
-use Rattle.partition_log.specs.Private.Shares.{AreMerged, IsFillable, by_codes, in_row, numbers_in, places_in, read_by, records_of}
+use Rattle.key_index.specs.Keys.{Key, key_at}
+use Rattle.record_batch.specs.Lists.{AreEncoded, IsEncoded, HasLongest, codes_in, concatenated, keys_in}
+use Rattle.record_batch.specs.declared.encoding.EncodedBatch.{EncodedBatch}
+use Rattle.record_batch.proofs.Encoded.{distinct-parts, read-codes}
+use Rattle.record_batch.proofs.Longest.{all-up-to, longest-up-to}
+use Rattle.partition_log.specs.Private.Filled.{ArePlaced, AreShort, CanAppendParallel, filled}
+use Rattle.partition_log.specs.Private.Shares.{AreMerged, IsFillable, by_codes, flattened, numbers_in, places_in, read_by, records_of}
 use Rattle.partition_log.specs.declared.shares.Share.{Share}
 use Rattle.partition_log.specs.Appends.{AreAppended, in_first, placed}
 use Rattle.partition_log.specs.Keys.{distinct, id_of, of_first}
 use Rattle.partition_log.specs.Logs.{IsValidLogs, PartitionLogs, place_in}
 use Rattle.partition_log.proofs.Appended.{first-keys, first-topics, none_appended, places-are, records-placed}
-use Rattle.partition_log.proofs.SideBySide.{side-by-side}
+use Rattle.partition_log.proofs.ParallelAppends.{parallel-appended}
 use Rattle.lane_words.specs.declared.limits.TheConstants.{LONGEST_KEY}
 
 -- ---- the records of one place
@@ -79,7 +79,7 @@ none-long : (partitions : ℕ) → length (replicate {A = List ℕ} partitions [
 none-long partitions = length-replicate partitions []
 
 pub merged-place : (partitions p : ℕ) (shares : List Share) → p < partitions
-    → in_row (map (λ part. get_or part p []) (map (filled_share partitions) shares)) ≡ at_place p (in_row (map places_in shares)) (in_row (map numbers_in shares))
+    → flattened (map (λ part. get_or part p []) (map (filled_share partitions) shares)) ≡ at_place p (flattened (map places_in shares)) (flattened (map numbers_in shares))
 merged-place partitions p [] lt = refl
 merged-place partitions p (share ∷ shares) lt =
     let none : List (List ℕ) = replicate partitions [] in
@@ -87,15 +87,15 @@ merged-place partitions p (share ∷ shares) lt =
     filled-at none (places_in share) (numbers_in share) p (omega (arith, lt, none-long partitions))
     ∙ ap (λ log. log ++ at_place p (places_in share) (numbers_in share)) (get_or-replicate partitions p [] [] lt) in
     ap₂ (λ a b. a ++ b) own (merged-place partitions p shares lt)
-    ∙ sym (place-append p (places_in share) (numbers_in share) (in_row (map places_in shares)) (in_row (map numbers_in shares)) (share-long share))
+    ∙ sym (place-append p (places_in share) (numbers_in share) (flattened (map places_in shares)) (flattened (map numbers_in shares)) (share-long share))
 
 -- merged, they are those that are filled by all records
 pub merged-filled : (partitions : ℕ) (shares : List Share) (logs : List (List ℕ)) → AreMerged partitions (map (filled_share partitions) shares) logs
-    → logs ≡ filled (replicate partitions []) (in_row (map places_in shares)) (in_row (map numbers_in shares))
+    → logs ≡ filled (replicate partitions []) (flattened (map places_in shares)) (flattened (map numbers_in shares))
 merged-filled partitions shares logs so =
     let none : List (List ℕ) = replicate partitions [] in
-    let places = in_row (map places_in shares) in
-    let numbers = in_row (map numbers_in shares) in
+    let places = flattened (map places_in shares) in
+    let numbers = flattened (map numbers_in shares) in
     let long : length (filled none places numbers) ≡ partitions = filled-long none places numbers ∙ none-long partitions in
     ext_get_or [] logs (filled none places numbers) (so.as_many ∙ sym long) (λ p lt.
     let within : p < partitions = omega (arith, lt, so.as_many) in
@@ -114,33 +114,33 @@ pub found-long : {T : Type 0} (found : List (Result T Memory)) (all : List T) (n
 found-long found all n is long = sym (ap length is ∙ length-map all Ok) ∙ long
 
 -- ---- records by codes
-pub coded-at : (parts : List (List Key)) (coded : List CodedPart) (i : ℕ) (d : CodedPart) → i < length coded → AreCoded parts coded → IsCoded (get_or parts i []) (get_or coded i d)
-coded-at [] [] i d lt so = absurd (omega (arith, lt))
-coded-at [] (c ∷ coded) i d lt so = absurd so
-coded-at (part ∷ parts) [] i d lt so = absurd so
-coded-at (part ∷ parts) (c ∷ coded) zero d lt so = so.0
-coded-at (part ∷ parts) (c ∷ coded) (suc i) d lt so = coded-at parts coded i d (omega (arith, lt)) so.1
+pub encoded-at : (parts : List (List Key)) (encoded : List EncodedBatch) (i : ℕ) (d : EncodedBatch) → i < length encoded → AreEncoded parts encoded → IsEncoded (get_or parts i []) (get_or encoded i d)
+encoded-at [] [] i d lt so = absurd (omega (arith, lt))
+encoded-at [] (c ∷ encoded) i d lt so = absurd so
+encoded-at (part ∷ parts) [] i d lt so = absurd so
+encoded-at (part ∷ parts) (c ∷ encoded) zero d lt so = so.0
+encoded-at (part ∷ parts) (c ∷ encoded) (suc i) d lt so = encoded-at parts encoded i d (omega (arith, lt)) so.1
 
-pub coded-records : (parts : List (List Key)) (coded : List CodedPart) → AreCoded parts coded → map records_of coded ≡ parts
-coded-records [] [] so = refl
-coded-records [] (c ∷ coded) so = absurd so
-coded-records (part ∷ parts) [] so = absurd so
-coded-records (part ∷ parts) (c ∷ coded) so = ap₂ (λ p ps. p ∷ ps) so.0.same_records (coded-records parts coded so.1)
+pub encoded-records : (parts : List (List Key)) (encoded : List EncodedBatch) → AreEncoded parts encoded → map records_of encoded ≡ parts
+encoded-records [] [] so = refl
+encoded-records [] (c ∷ encoded) so = absurd so
+encoded-records (part ∷ parts) [] so = absurd so
+encoded-records (part ∷ parts) (c ∷ encoded) so = ap₂ (λ p ps. p ∷ ps) so.0.same_records (encoded-records parts encoded so.1)
 
-pub read-all : (f : Key → ℕ) (parts : List (List Key)) (coded : List CodedPart) → AreCoded parts coded → read_by (map f (joined (map keys_in coded))) coded ≡ map f (joined parts)
+pub read-all : (f : Key → ℕ) (parts : List (List Key)) (encoded : List EncodedBatch) → AreEncoded parts encoded → read_by (map f (concatenated (map keys_in encoded))) encoded ≡ map f (concatenated parts)
 read-all f [] [] so = refl
-read-all f [] (c ∷ coded) so = absurd so
+read-all f [] (c ∷ encoded) so = absurd so
 read-all f (part ∷ parts) [] so = absurd so
-read-all f (part ∷ parts) (c ∷ coded) so =
+read-all f (part ∷ parts) (c ∷ encoded) so =
     let own = map f (keys_in c) in
-    let more = map f (joined (map keys_in coded)) in
+    let more = map f (concatenated (map keys_in encoded)) in
     let n = length (keys_in c) in
     let long : length own ≡ n = length-map (keys_in c) f in
-    let all : map f (joined (map keys_in (c ∷ coded))) ≡ own ++ more = map-append f (keys_in c) (joined (map keys_in coded)) in
-    ap (λ xs. by_codes (take n xs) (codes_in c) ++ read_by (drop n xs) coded) all
-    ∙ ap₂ (λ xs ys. by_codes xs (codes_in c) ++ read_by ys coded) (take_at own more n long) (drop_at own more n long)
-    ∙ ap₂ (λ xs ys. xs ++ ys) (read-codes f part (keys_in c) (codes_in c) so.0) (read-all f parts coded so.1)
-    ∙ sym (map-append f part (joined parts))
+    let all : map f (concatenated (map keys_in (c ∷ encoded))) ≡ own ++ more = map-append f (keys_in c) (concatenated (map keys_in encoded)) in
+    ap (λ xs. by_codes (take n xs) (codes_in c) ++ read_by (drop n xs) encoded) all
+    ∙ ap₂ (λ xs ys. by_codes xs (codes_in c) ++ read_by ys encoded) (take_at own more n long) (drop_at own more n long)
+    ∙ ap₂ (λ xs ys. xs ++ ys) (read-codes f part (keys_in c) (codes_in c) so.0) (read-all f parts encoded so.1)
+    ∙ sym (map-append f part (concatenated parts))
 
 one-short : (keys : List Key) (codes : List ℕ) → All (λ code. code < length keys) codes → AreShort keys → AreShort (map (key_at keys) codes)
 one-short keys [] within short = λ i d lt. absurd (omega (arith, lt))
@@ -154,71 +154,71 @@ left-short (x ∷ xs) ys h =
     let rest = left-short xs ys (All-tail (λ (key : Key). length key ≤ LONGEST_KEY) x (xs ++ ys) h) in
     (All-cons (λ (key : Key). length key ≤ LONGEST_KEY) x xs (All-head (λ (key : Key). length key ≤ LONGEST_KEY) x (xs ++ ys) h) rest.0, rest.1)
 
-pub records-short : (parts : List (List Key)) (coded : List CodedPart) → AreCoded parts coded → AreShort (joined (map keys_in coded)) → AreShort (joined parts)
+pub records-short : (parts : List (List Key)) (encoded : List EncodedBatch) → AreEncoded parts encoded → AreShort (concatenated (map keys_in encoded)) → AreShort (concatenated parts)
 records-short [] [] so short = short
-records-short [] (c ∷ coded) so short = absurd so
+records-short [] (c ∷ encoded) so short = absurd so
 records-short (part ∷ parts) [] so short = absurd so
-records-short (part ∷ parts) (c ∷ coded) so short =
-    let both = left-short (keys_in c) (joined (map keys_in coded)) short in
-    All-append (λ (key : Key). length key ≤ LONGEST_KEY) part (joined parts)
-    (subst AreShort so.0.same_records (one-short (keys_in c) (codes_in c) so.0.within both.0)) (records-short parts coded so.1 both.1)
+records-short (part ∷ parts) (c ∷ encoded) so short =
+    let both = left-short (keys_in c) (concatenated (map keys_in encoded)) short in
+    All-append (λ (key : Key). length key ≤ LONGEST_KEY) part (concatenated parts)
+    (subst AreShort so.0.same_records (one-short (keys_in c) (codes_in c) so.0.within both.0)) (records-short parts encoded so.1 both.1)
 
-pub lists-short : (coded : List CodedPart) → All TellsLongest coded → All (λ (one : CodedPart). one.longest ≤ LONGEST_KEY) coded → AreShort (joined (map keys_in coded))
+pub lists-short : (encoded : List EncodedBatch) → All HasLongest encoded → All (λ (one : EncodedBatch). one.longest ≤ LONGEST_KEY) encoded → AreShort (concatenated (map keys_in encoded))
 lists-short [] tells short = λ i d lt. absurd (omega (arith, lt))
-lists-short (one ∷ coded) tells short =
-    let tells_own : TellsLongest one = All-head TellsLongest one coded tells in
-    All-append (λ (key : Key). length key ≤ LONGEST_KEY) (keys_in one) (joined (map keys_in coded))
-    (all-up-to LONGEST_KEY (keys_in one) (omega (arith, tells_own, All-head (λ (one : CodedPart). one.longest ≤ LONGEST_KEY) one coded short)))
-    (lists-short coded (All-tail TellsLongest one coded tells) (All-tail (λ (one : CodedPart). one.longest ≤ LONGEST_KEY) one coded short))
+lists-short (one ∷ encoded) tells short =
+    let tells_own : HasLongest one = All-head HasLongest one encoded tells in
+    All-append (λ (key : Key). length key ≤ LONGEST_KEY) (keys_in one) (concatenated (map keys_in encoded))
+    (all-up-to LONGEST_KEY (keys_in one) (omega (arith, tells_own, All-head (λ (one : EncodedBatch). one.longest ≤ LONGEST_KEY) one encoded short)))
+    (lists-short encoded (All-tail HasLongest one encoded tells) (All-tail (λ (one : EncodedBatch). one.longest ≤ LONGEST_KEY) one encoded short))
 
-pub longest-short : (coded : List CodedPart) → All TellsLongest coded → AreShort (joined (map keys_in coded)) → All (λ (one : CodedPart). one.longest ≤ LONGEST_KEY) coded
+pub longest-short : (encoded : List EncodedBatch) → All HasLongest encoded → AreShort (concatenated (map keys_in encoded)) → All (λ (one : EncodedBatch). one.longest ≤ LONGEST_KEY) encoded
 longest-short [] tells short = λ i d lt. absurd (omega (arith, lt))
-longest-short (one ∷ coded) tells short =
-    let both = left-short (keys_in one) (joined (map keys_in coded)) short in
-    let tells_own : TellsLongest one = All-head TellsLongest one coded tells in
-    All-cons (λ (one : CodedPart). one.longest ≤ LONGEST_KEY) one coded (omega (arith, tells_own, longest-up-to LONGEST_KEY (keys_in one) both.0))
-    (longest-short coded (All-tail TellsLongest one coded tells) both.1)
+longest-short (one ∷ encoded) tells short =
+    let both = left-short (keys_in one) (concatenated (map keys_in encoded)) short in
+    let tells_own : HasLongest one = All-head HasLongest one encoded tells in
+    All-cons (λ (one : EncodedBatch). one.longest ≤ LONGEST_KEY) one encoded (omega (arith, tells_own, longest-up-to LONGEST_KEY (keys_in one) both.0))
+    (longest-short encoded (All-tail HasLongest one encoded tells) both.1)
 
 -- ---- one share more
-pub joined-next : (coded : List CodedPart) (i from : ℕ) (d : CodedPart) → i < length coded → from ≡ length (joined (map keys_in (take i coded)))
-    → from + length (keys_in (get_or coded i d)) ≡ length (joined (map keys_in (take (i + 1) coded)))
-joined-next coded i from d lt is =
-    let one = keys_in (get_or coded i d) in
-    let front : joined (map keys_in (take (i + 1) coded)) ≡ joined (map keys_in (take i coded)) ++ one =
-    ap (λ (cs : List CodedPart). joined (map keys_in cs)) (take_more coded i d lt) ∙ ap joined (map-append keys_in (take i coded) (get_or coded i d ∷ []))
-    ∙ flat_map-append (λ (ks : List Key). ks) (map keys_in (take i coded)) (one ∷ []) ∙ ap (λ ks. joined (map keys_in (take i coded)) ++ ks) (append-nil one) in
-    let long = ap length front ∙ length-append (joined (map keys_in (take i coded))) one in
+pub concatenated-next : (encoded : List EncodedBatch) (i from : ℕ) (d : EncodedBatch) → i < length encoded → from ≡ length (concatenated (map keys_in (take i encoded)))
+    → from + length (keys_in (get_or encoded i d)) ≡ length (concatenated (map keys_in (take (i + 1) encoded)))
+concatenated-next encoded i from d lt is =
+    let one = keys_in (get_or encoded i d) in
+    let front : concatenated (map keys_in (take (i + 1) encoded)) ≡ concatenated (map keys_in (take i encoded)) ++ one =
+    ap (λ (cs : List EncodedBatch). concatenated (map keys_in cs)) (take_more encoded i d lt) ∙ ap concatenated (map-append keys_in (take i encoded) (get_or encoded i d ∷ []))
+    ∙ flat_map-append (λ (ks : List Key). ks) (map keys_in (take i encoded)) (one ∷ []) ∙ ap (λ ks. concatenated (map keys_in (take i encoded)) ++ ks) (append-nil one) in
+    let long = ap length front ∙ length-append (concatenated (map keys_in (take i encoded))) one in
     omega (arith, long, is)
 
-pub joined-front : (coded : List CodedPart) (i : ℕ) → length (joined (map keys_in (take i coded))) ≤ length (joined (map keys_in coded))
-joined-front coded zero = omega arith
-joined-front [] (suc i) = omega arith
-joined-front (c ∷ coded) (suc i) =
-    let rest = joined-front coded i in
-    omega (arith, rest, length-append (keys_in c) (joined (map keys_in (take i coded))), length-append (keys_in c) (joined (map keys_in coded)))
+pub concatenated-front : (encoded : List EncodedBatch) (i : ℕ) → length (concatenated (map keys_in (take i encoded))) ≤ length (concatenated (map keys_in encoded))
+concatenated-front encoded zero = omega arith
+concatenated-front [] (suc i) = omega arith
+concatenated-front (c ∷ encoded) (suc i) =
+    let rest = concatenated-front encoded i in
+    omega (arith, rest, length-append (keys_in c) (concatenated (map keys_in (take i encoded))), length-append (keys_in c) (concatenated (map keys_in encoded)))
 
-pub joined-within : (coded : List CodedPart) (i from : ℕ) (d : CodedPart) → i < length coded → from ≡ length (joined (map keys_in (take i coded)))
-    → from + length (keys_in (get_or coded i d)) ≤ length (joined (map keys_in coded))
-joined-within coded i from d lt is = let next = joined-next coded i from d lt is in let front = joined-front coded (i + 1) in omega (arith, next, front)
+pub concatenated-within : (encoded : List EncodedBatch) (i from : ℕ) (d : EncodedBatch) → i < length encoded → from ≡ length (concatenated (map keys_in (take i encoded)))
+    → from + length (keys_in (get_or encoded i d)) ≤ length (concatenated (map keys_in encoded))
+concatenated-within encoded i from d lt is = let next = concatenated-next encoded i from d lt is in let front = concatenated-front encoded (i + 1) in omega (arith, next, front)
 
-in_row-more : (lists : List (List ℕ)) (xs : List ℕ) → in_row (lists ++ xs ∷ []) ≡ in_row lists ++ xs
-in_row-more lists xs = flat_map-append (λ (ys : List ℕ). ys) lists (xs ∷ []) ∙ ap (λ ys. in_row lists ++ ys) (append-nil xs)
+flattened-more : (lists : List (List ℕ)) (xs : List ℕ) → flattened (lists ++ xs ∷ []) ≡ flattened lists ++ xs
+flattened-more lists xs = flat_map-append (λ (ys : List ℕ). ys) lists (xs ∷ []) ∙ ap (λ ys. flattened lists ++ ys) (append-nil xs)
 
-pub read-more : (of : Share → List ℕ) (shares : List Share) (share : Share) (all whole : List ℕ) (coded : List CodedPart) (i from to : ℕ) (d : CodedPart) → i < length coded
-    → to ≡ from + length (keys_in (get_or coded i d)) → of share ≡ by_codes (slice_range all from to) (codes_in (get_or coded i d))
-    → in_row (map of shares) ++ read_by (drop from all) (drop i coded) ≡ whole
-    → in_row (map of (shares ++ share ∷ [])) ++ read_by (drop to all) (drop (i + 1) coded) ≡ whole
-read-more of shares share all whole coded i from to d lt end own so =
-    let one = get_or coded i d in
+pub read-more : (of : Share → List ℕ) (shares : List Share) (share : Share) (all whole : List ℕ) (encoded : List EncodedBatch) (i from to : ℕ) (d : EncodedBatch) → i < length encoded
+    → to ≡ from + length (keys_in (get_or encoded i d)) → of share ≡ by_codes (slice_range all from to) (codes_in (get_or encoded i d))
+    → flattened (map of shares) ++ read_by (drop from all) (drop i encoded) ≡ whole
+    → flattened (map of (shares ++ share ∷ [])) ++ read_by (drop to all) (drop (i + 1) encoded) ≡ whole
+read-more of shares share all whole encoded i from to d lt end own so =
+    let one = get_or encoded i d in
     let n = length (keys_in one) in
     let left : List ℕ = drop from all in
     let size : to - from ≡ n = omega (arith, end) in
     let here : of share ≡ by_codes (take n left) (codes_in one) = own ∙ ap (λ m. by_codes (take m left) (codes_in one)) size in
     let behind : drop to all ≡ drop n left = ap (λ m. drop m all) end ∙ sym (drop-drop n from all) in
-    let next : read_by left (drop i coded) ≡ of share ++ read_by (drop to all) (drop (i + 1) coded) =
-    ap (read_by left) (drop_more coded i d lt) ∙ sym (ap₂ (λ xs ys. xs ++ read_by ys (drop (i + 1) coded)) here behind) in
-    ap (λ xs. xs ++ read_by (drop to all) (drop (i + 1) coded)) (ap in_row (map-append of shares (share ∷ [])) ∙ in_row-more (map of shares) (of share))
-    ∙ append_assoc (in_row (map of shares)) (of share) (read_by (drop to all) (drop (i + 1) coded)) ∙ ap (λ xs. in_row (map of shares) ++ xs) (sym next) ∙ so
+    let next : read_by left (drop i encoded) ≡ of share ++ read_by (drop to all) (drop (i + 1) encoded) =
+    ap (read_by left) (drop_more encoded i d lt) ∙ sym (ap₂ (λ xs ys. xs ++ read_by ys (drop (i + 1) encoded)) here behind) in
+    ap (λ xs. xs ++ read_by (drop to all) (drop (i + 1) encoded)) (ap flattened (map-append of shares (share ∷ [])) ∙ flattened-more (map of shares) (of share))
+    ∙ append_assoc (flattened (map of shares)) (of share) (read_by (drop to all) (drop (i + 1) encoded)) ∙ ap (λ xs. flattened (map of shares) ++ xs) (sym next) ∙ so
 
 pub part-below : (bound from to : ℕ) (xs : List ℕ) → All (λ p. p < bound) xs → All (λ p. p < bound) (slice_range xs from to)
 part-below bound from to xs h = All-take (λ p. p < bound) (to - from) (drop from xs) (All-drop (λ p. p < bound) from xs h)
@@ -243,17 +243,17 @@ map-twice f g [] = refl
 map-twice f g (x ∷ xs) = ap (λ ys. g (f x) ∷ ys) (map-twice f g xs)
 
 merged-one : {A B Z : Type 0} (partitions : ℕ) (parts : List (Vec (Vec ℕ Z) B)) (found : List (Result (Vec ℕ A) Memory)) (logs : List (Vec ℕ A)) → found ≡ map Ok logs → length found ≡ partitions
-    → ((p : ℕ) (d : Result (Vec ℕ A) Memory) → p < partitions → IfOk (get_or found p d) (λ log. log.items ≡ in_row (map (λ (part : Vec (Vec ℕ Z) B). get_or (map vec_items part.items) p []) parts)))
-    → (p : ℕ) → p < partitions → get_or (map vec_items logs) p [] ≡ in_row (map (λ (part : List (List ℕ)). get_or part p []) (map (λ (part : Vec (Vec ℕ Z) B). map vec_items part.items) parts))
+    → ((p : ℕ) (d : Result (Vec ℕ A) Memory) → p < partitions → IfOk (get_or found p d) (λ log. log.items ≡ flattened (map (λ (part : Vec (Vec ℕ Z) B). get_or (map vec_items part.items) p []) parts)))
+    → (p : ℕ) → p < partitions → get_or (map vec_items logs) p [] ≡ flattened (map (λ (part : List (List ℕ)). get_or part p []) (map (λ (part : Vec (Vec ℕ Z) B). map vec_items part.items) parts))
 merged-one partitions parts found [] is long h p lt = absurd (let e = found-long found [] partitions is long in omega (arith, e, lt))
 merged-one partitions parts found (log ∷ logs) is long h p lt =
     let many = found-long found (log ∷ logs) partitions is long in
-    let own = found-each (λ i one. one.items ≡ in_row (map (λ part. get_or (map vec_items part.items) i []) parts)) found (log ∷ logs) partitions is long h p log lt in
+    let own = found-each (λ i one. one.items ≡ flattened (map (λ part. get_or (map vec_items part.items) i []) parts)) found (log ∷ logs) partitions is long h p log lt in
     get_or-map vec_items (log ∷ logs) p log [] (omega (arith, many, lt)) ∙ own
-    ∙ ap in_row (sym (map-twice (λ part. map vec_items part.items) (λ part. get_or part p []) parts))
+    ∙ ap flattened (sym (map-twice (λ part. map vec_items part.items) (λ part. get_or part p []) parts))
 
 pub merged-parts : {A B Z : Type 0} (partitions : ℕ) (parts : List (Vec (Vec ℕ Z) B)) (found : List (Result (Vec ℕ A) Memory)) (logs : List (Vec ℕ A)) → found ≡ map Ok logs → length found ≡ partitions
-    → ((p : ℕ) (d : Result (Vec ℕ A) Memory) → p < partitions → IfOk (get_or found p d) (λ log. log.items ≡ in_row (map (λ (part : Vec (Vec ℕ Z) B). get_or (map vec_items part.items) p []) parts)))
+    → ((p : ℕ) (d : Result (Vec ℕ A) Memory) → p < partitions → IfOk (get_or found p d) (λ log. log.items ≡ flattened (map (λ (part : Vec (Vec ℕ Z) B). get_or (map vec_items part.items) p []) parts)))
     → AreMerged partitions (map (λ (part : Vec (Vec ℕ Z) B). map vec_items part.items) parts) (map vec_items logs)
 merged-parts partitions parts found logs is long h = record {
   as_many = length-map logs vec_items ∙ found-long found logs partitions is long;
@@ -276,13 +276,13 @@ pub nothing-appended : (l : PartitionLogs) (keys : List Key) → length keys ≡
 nothing-appended l [] none = none_appended l
 nothing-appended l (key ∷ keys) none = absurd (omega (arith, none))
 
-pub pushed-fillable : (partitions i from to : ℕ) (coded : List CodedPart) (d : CodedPart) (places numbers : List ℕ) (shares : List Share) (share : Share) → i < length coded → AreCoded (map records_of coded) coded
-    → All (λ p. p < partitions) places → to ≡ from + length (keys_in (get_or coded i d)) → to ≤ length places → to ≤ length numbers
-    → share.codes.now ≡ codes_in (get_or coded i d) → share.places.now ≡ slice_range places from to → share.numbers.now ≡ slice_range numbers from to
+pub pushed-fillable : (partitions i from to : ℕ) (encoded : List EncodedBatch) (d : EncodedBatch) (places numbers : List ℕ) (shares : List Share) (share : Share) → i < length encoded → AreEncoded (map records_of encoded) encoded
+    → All (λ p. p < partitions) places → to ≡ from + length (keys_in (get_or encoded i d)) → to ≤ length places → to ≤ length numbers
+    → share.codes.now ≡ codes_in (get_or encoded i d) → share.places.now ≡ slice_range places from to → share.numbers.now ≡ slice_range numbers from to
     → All (IsFillable partitions) shares → All (IsFillable partitions) (shares ++ share ∷ [])
-pushed-fillable partitions i from to coded d places numbers shares share lt so below end within within_n codes_are places_are numbers_are h =
-    let own = coded-at (map records_of coded) coded i d lt so in
-    let n = length (keys_in (get_or coded i d)) in
+pushed-fillable partitions i from to encoded d places numbers shares share lt so below end within within_n codes_are places_are numbers_are h =
+    let own = encoded-at (map records_of encoded) encoded i d lt so in
+    let n = length (keys_in (get_or encoded i d)) in
     let long : length share.places.now ≡ n = ap length places_are ∙ part-long places from to within ∙ omega (arith, end) in
     let long_n : length share.numbers.now ≡ n = ap length numbers_are ∙ part-long numbers from to within_n ∙ omega (arith, end) in
     All-push (IsFillable partitions) shares share h (record {
@@ -303,23 +303,23 @@ pub lists-placed : (l : PartitionLogs) (places : List ℕ) (keys : List Key) →
 lists-placed l places keys a are = records-placed l places (in_first keys) keys (first-topics l keys a) (are ∙ first-places l keys) (sym (first-keys keys))
 
 -- what coded lists give whose records are appended by the places and the numbers of their keys
-pub by-lists : (old l : PartitionLogs) (coded : List CodedPart) (all : List Key) (places numbers : List ℕ) (count : ℕ) (logs : List (List ℕ)) → l ≡ old → IsValidLogs l
-    → AreCoded (map records_of coded) coded → CanGoSideBySide old (joined (map records_of coded)) → count ≡ l.partitions → IsValidLogs old
-    → (let firsts = joined (map keys_in coded) in places ≡ map (λ key. place_in old (of_first key)) firsts → numbers ≡ map (id_of (distinct firsts)) firsts → all ≡ distinct firsts
-    → logs ≡ filled (replicate count []) (read_by places coded) (read_by numbers coded)
-    → (let new : PartitionLogs = record { counts = l.counts; partitions = l.partitions; keys = all; logs = logs } in AreAppended old (placed old (in_first (joined (map records_of coded)))) new × IsValidLogs new))
-by-lists old l coded all places numbers count logs seen a so can counted valid placed_are numbered is filled_are =
-    let firsts = joined (map keys_in coded) in
-    let records = joined (map records_of coded) in
+pub by-lists : (old l : PartitionLogs) (encoded : List EncodedBatch) (all : List Key) (places numbers : List ℕ) (count : ℕ) (logs : List (List ℕ)) → l ≡ old → IsValidLogs l
+    → AreEncoded (map records_of encoded) encoded → CanAppendParallel old (concatenated (map records_of encoded)) → count ≡ l.partitions → IsValidLogs old
+    → (let firsts = concatenated (map keys_in encoded) in places ≡ map (λ key. place_in old (of_first key)) firsts → numbers ≡ map (id_of (distinct firsts)) firsts → all ≡ distinct firsts
+    → logs ≡ filled (replicate count []) (read_by places encoded) (read_by numbers encoded)
+    → (let new : PartitionLogs = record { counts = l.counts; partitions = l.partitions; keys = all; logs = logs } in AreAppended old (placed old (in_first (concatenated (map records_of encoded)))) new × IsValidLogs new))
+by-lists old l encoded all places numbers count logs seen a so can counted valid placed_are numbered is filled_are =
+    let firsts = concatenated (map keys_in encoded) in
+    let records = concatenated (map records_of encoded) in
     let place : Key → ℕ = λ key. place_in old (of_first key) in
-    let same : distinct firsts ≡ distinct records = distinct-parts (map records_of coded) coded so in
-    let of_records : read_by places coded ≡ map place records = ap (λ ps. read_by ps coded) placed_are ∙ read-all place (map records_of coded) coded so in
+    let same : distinct firsts ≡ distinct records = distinct-parts (map records_of encoded) encoded so in
+    let of_records : read_by places encoded ≡ map place records = ap (λ ps. read_by ps encoded) placed_are ∙ read-all place (map records_of encoded) encoded so in
     let ids_of_keys : numbers ≡ map (id_of (distinct records)) firsts = numbered ∙ ap (λ ks. map (id_of ks) firsts) same in
-    let ids_are : read_by numbers coded ≡ map (id_of (distinct records)) records = ap (λ ns. read_by ns coded) ids_of_keys ∙ read-all (id_of (distinct records)) (map records_of coded) coded so in
-    let at : read_by places coded ≡ map (place_in old) (in_first records) = of_records ∙ first-places old records in
-    let goes = records-placed old (read_by places coded) (in_first records) records (first-topics old records valid) at (sym (first-keys records)) in
-    let made = side-by-side old l records all (read_by places coded) (read_by numbers coded) count logs seen a can counted goes.as_many goes.goes ids_are (is ∙ same) filled_are in
-    (subst (λ rs. AreAppended old rs (record { counts = l.counts; partitions = l.partitions; keys = all; logs = logs })) (places-are old (read_by places coded) (in_first records) records at (sym (first-keys records))) made.0, made.1)
+    let ids_are : read_by numbers encoded ≡ map (id_of (distinct records)) records = ap (λ ns. read_by ns encoded) ids_of_keys ∙ read-all (id_of (distinct records)) (map records_of encoded) encoded so in
+    let at : read_by places encoded ≡ map (place_in old) (in_first records) = of_records ∙ first-places old records in
+    let goes = records-placed old (read_by places encoded) (in_first records) records (first-topics old records valid) at (sym (first-keys records)) in
+    let made = parallel-appended old l records all (read_by places encoded) (read_by numbers encoded) count logs seen a can counted goes.as_many goes.goes ids_are (is ∙ same) filled_are in
+    (subst (λ rs. AreAppended old rs (record { counts = l.counts; partitions = l.partitions; keys = all; logs = logs })) (places-are old (read_by places encoded) (in_first records) records at (sym (first-keys records))) made.0, made.1)
 
 pub get_or-any : {X : Type 0} (xs : List X) (i : ℕ) (d e : X) → i < length xs → get_or xs i d ≡ get_or xs i e
 get_or-any [] i d e lt = absurd (omega (arith, lt))

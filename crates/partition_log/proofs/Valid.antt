@@ -14,9 +14,9 @@ use Rattle.lane_words.specs.declared.limits.TheConstants.{LONGEST_KEY, MOST_RECO
 use Rattle.lane_words.specs.declared.Refusal.{Refusal}
 use Rattle.lane_words.specs.declared.Refusal.TheVariants as r
 use Rattle.partitioner.proofs.Counts.{place_in_topic-below, some_partitions}
-use Rattle.partition_log.specs.Keys.{Key, Keyed, distinct, is_known, key_at, id_of, with_key}
-use Rattle.partition_log.specs.Logs.{AreCounts, AreLogsOf, IsEntryOf, IsOfTopic, IsPlaceOf, IsUsed, IsValidLogs, PartitionLogs, answer_at, finds_no_room, is_full_for, log_at, place_in, with_record_at}
-use Rattle.key_numbers.proofs.Growth.{grows, stays_apart}
+use Rattle.partition_log.specs.Keys.{Key, Keyed, distinct, is_interned, key_at, id_of, with_key}
+use Rattle.partition_log.specs.Logs.{AreCounts, AreLogsOf, IsEntryOf, IsOfTopic, IsPlaceOf, IsUsed, IsValidLogs, PartitionLogs, answer_at, exceeds_limits, is_full_for, log_at, place_in, with_record_at}
+use Rattle.key_index.proofs.Growth.{grows, stays_apart}
 
 pub log-same : (l : PartitionLogs) (at : ℕ) (key : Key) → at < length l.logs
     → log_at (with_record_at l at key) (at) ≡ log_at l (at) ++ id_of l.keys key ∷ []
@@ -28,14 +28,14 @@ log-other l at key p ne = get_or-set_other l.logs (at) p _ [] ne
 pub is_place : (p q : ℕ) → (p ≡ q) ⊎ (p ≢ q)
 is_place p q = cases_eq p q
 
-room-records : (a b : Bool) → (a || b) ≡ false → a ≡ false
-room-records true b h = h
-room-records false b h = refl
+capacity-records : (a b : Bool) → (a || b) ≡ false → a ≡ false
+capacity-records true b h = h
+capacity-records false b h = refl
 
-room-keys : (a c d : Bool) → (a || (not c && d)) ≡ false → c ≡ false → d ≡ false
-room-keys true c d h e = absurd (cc h)
-room-keys false true d h e = absurd (cc e)
-room-keys false false d h e = h
+capacity-keys : (a c d : Bool) → (a || (not c && d)) ≡ false → c ≡ false → d ≡ false
+capacity-keys true c d h e = absurd (cc h)
+capacity-keys false true d h e = absurd (cc e)
+capacity-keys false false d h e = h
 
 below : (most n : ℕ) → nat_le most n ≡ false → n < most
 below most n e =
@@ -44,19 +44,19 @@ below most n e =
       | inr le ↦ absurd (let t = le-leb most n le in cc (t, e))
     ]
 
-pub has_room : (keys : List Key) (records : ℕ) (key : Key) → finds_no_room keys records key ≡ false → records < MOST_RECORDS
-has_room keys records key h = below MOST_RECORDS records (room-records _ _ h)
+pub has_capacity : (keys : List Key) (records : ℕ) (key : Key) → exceeds_limits keys records key ≡ false → records < MOST_RECORDS
+has_capacity keys records key h = below MOST_RECORDS records (capacity-records _ _ h)
 
-known_or_new : (b : Bool) → (b ≡ true) ⊎ (b ≡ false)
-known_or_new true = inl refl
-known_or_new false = inr refl
+interned_or_new : (b : Bool) → (b ≡ true) ⊎ (b ≡ false)
+interned_or_new true = inl refl
+interned_or_new false = inr refl
 
-keys_fit : (keys : List Key) (records : ℕ) (key : Key) → finds_no_room keys records key ≡ false → length keys ≤ MOST_RECORDS → length (with_key keys key) ≤ MOST_RECORDS
+keys_fit : (keys : List Key) (records : ℕ) (key : Key) → exceeds_limits keys records key ≡ false → length keys ≤ MOST_RECORDS → length (with_key keys key) ≤ MOST_RECORDS
 keys_fit keys records key h few =
     let g = grows keys key in
-    elim (known_or_new (is_known keys key)) [
+    elim (interned_or_new (is_interned keys key)) [
       | inl known ↦ let same = g.same_count known in rw same few
-      | inr new ↦ let room : length keys < MOST_RECORDS = below MOST_RECORDS (length keys) (room-keys (nat_le MOST_RECORDS records) (is_known keys key) (nat_le MOST_RECORDS (length keys)) h new) in omega (arith, g.by_one, room)
+      | inr new ↦ let capacity : length keys < MOST_RECORDS = below MOST_RECORDS (length keys) (capacity-keys (nat_le MOST_RECORDS records) (is_interned keys key) (nat_le MOST_RECORDS (length keys)) h new) in omega (arith, g.by_one, capacity)
     ]
 
 entry-more : (l : PartitionLogs) (at : ℕ) (key : Key) (p n : ℕ) → IsEntryOf l p n → IsEntryOf (with_record_at l at key) p n
@@ -115,14 +115,14 @@ used-more l at key a within n n_in =
     ]
 
 records-more : (l : PartitionLogs) (at : ℕ) (key : Key) → IsValidLogs l → at < length l.logs → is_full_for l at key ≡ false → (p : ℕ) → length (log_at (with_record_at l at key) p) ≤ MOST_RECORDS
-records-more l at key a lt room p =
+records-more l at key a lt capacity p =
     elim (is_place p (at)) [
       | inr ne ↦ rw (log-other l at key p ne) (a.few_records p)
       | inl is ↦
           let old = log_at l (at) in
           let long : length (log_at (with_record_at l at key) p) ≡ length old + 1 =
           ap (λ q. length (log_at (with_record_at l at key) q)) is ∙ ap length (log-same l at key lt) ∙ length-append old (id_of l.keys key ∷ []) in
-          omega (arith, long, has_room l.keys (length old) key room)
+          omega (arith, long, has_capacity l.keys (length old) key capacity)
     ]
 
 short-more : (l : PartitionLogs) (key : Key) → IsValidLogs l → length key ≤ LONGEST_KEY → (n : ℕ) → n < length (with_key l.keys key) → length (key_at (with_key l.keys key) n) ≤ LONGEST_KEY
@@ -136,7 +136,7 @@ short-more l key a short n n_in =
     ]
 
 pub valid : (l : PartitionLogs) (at : ℕ) (key : Key) → IsValidLogs l → IsPlaceOf l key at → at < l.partitions → length key ≤ LONGEST_KEY → is_full_for l at key ≡ false → IsValidLogs (with_record_at l at key)
-valid l at key a goes within short room =
+valid l at key a goes within short capacity =
     let lt : at < length l.logs = rw a.a_log_each within in record {
       counted = a.counted;
       in_all = a.in_all;
@@ -147,8 +147,8 @@ valid l at key a goes within short room =
       short = short-more l key a short;
       entries = entries-more l at key a goes lt;
       used = used-more l at key a within;
-      few_keys = keys_fit l.keys (length (log_at l at)) key room a.few_keys;
-      few_records = records-more l at key a lt room;
+      few_keys = keys_fit l.keys (length (log_at l at)) key capacity a.few_keys;
+      few_records = records-more l at key a lt capacity;
     }
 
 pub place-below : (l : PartitionLogs) (keyed : Keyed) → IsValidLogs l → IsOfTopic l keyed → place_in l keyed < l.partitions
@@ -159,19 +159,19 @@ place-below l keyed a topic =
 pub goes-below : (l : PartitionLogs) (key : Key) (at : ℕ) → IsValidLogs l → IsPlaceOf l key at → at < l.partitions
 goes-below l key at a goes = subst (λ p. p < l.partitions) goes.2 (place-below l (goes.0, key) a goes.1)
 
-room-of : (b : Bool) (n offset : ℕ) → Answers {T = ℕ} (if b then Err r.LogFull else Ok n) (Ok offset) → b ≡ false
-room-of true n offset (inl e) = absurd (cc e)
-room-of true n offset (inr e) = absurd (cc e)
-room-of false n offset answer = refl
+capacity-of : (b : Bool) (n offset : ℕ) → Answers {T = ℕ} (if b then Err r.LogFull else Ok n) (Ok offset) → b ≡ false
+capacity-of true n offset (inl e) = absurd (cc e)
+capacity-of true n offset (inr e) = absurd (cc e)
+capacity-of false n offset answer = refl
 
 pub grown : (l : PartitionLogs) (key : Key) (at offset : ℕ) (keys : List Key) (logs : List (List ℕ)) → IsValidLogs l → IsPlaceOf l key at → length key ≤ LONGEST_KEY
     → keys ≡ with_key l.keys key → logs ≡ slice_set l.logs at (get_or l.logs at [] ++ id_of l.keys key ∷ [])
-    → Answers {T = ℕ} (if finds_no_room l.keys (length (get_or l.logs at [])) key then Err r.LogFull else Ok (length (get_or l.logs at []))) (Ok offset)
+    → Answers {T = ℕ} (if exceeds_limits l.keys (length (get_or l.logs at [])) key then Err r.LogFull else Ok (length (get_or l.logs at []))) (Ok offset)
     → (let new : PartitionLogs = record { counts = l.counts; partitions = l.partitions; keys = keys; logs = logs } in (new ≡ with_record_at l at key) × IsValidLogs new)
 grown l key at offset keys logs a goes short ks ls answer =
     let same : (let new : PartitionLogs = record { counts = l.counts; partitions = l.partitions; keys = keys; logs = logs } in new) ≡ with_record_at l at key = rw (ks, ls) refl in
-    let room : is_full_for l at key ≡ false = room-of _ _ _ answer in
-    (same, subst IsValidLogs (sym same) (valid l at key a goes (goes-below l key at a goes) short room))
+    let capacity : is_full_for l at key ≡ false = capacity-of _ _ _ answer in
+    (same, subst IsValidLogs (sym same) (valid l at key a goes (goes-below l key at a goes) short capacity))
 
 fits : {T : Type 0} (a b : Bool) (v : T) → IsOk {E = Refusal} (if a then Err r.KeyTooLong else if b then Err r.LogFull else Ok v) → (a ≡ false) × (b ≡ false)
 fits true b v ok = absurd (cc ok)

@@ -2,7 +2,7 @@
 use Rattle.std.specs.Prelude.{◌≡◌, ◌<◌, ℕ, List, [], ◌∷◌, ◌++◌, Err, IsOk, length, fold, map, slice_index_or, take}
 use Rattle.lane_words.specs.Answers.{Answers}
 use Rattle.lane_words.specs.declared.Refusal.{Refusal}
-pub use Rattle.key_numbers.specs.Keys.{lent}
+pub use Rattle.key_index.specs.Keys.{lent}
 use Rattle.partition_log.specs.Keys.{Key, Keyed, of_first}
 use Rattle.partition_log.specs.Logs.{AreLogsOf, IsOfTopic, PartitionLogs, answer_at, place_in, with_record_at}
 

@@ -6,7 +6,7 @@ pub use Rattle.partitioner.specs.Place.{AreCounts, place_in_topic, place_of}
 use Rattle.lane_words.specs.declared.limits.TheConstants.{LONGEST_KEY, MOST_PARTITIONS, MOST_RECORDS}
 use Rattle.lane_words.specs.declared.Refusal.{Refusal}
 use Rattle.lane_words.specs.declared.Refusal.TheVariants as r
-use Rattle.partition_log.specs.Keys.{Key, Keyed, is_known, keys_in, with_key, id_of, key_at, distinct, plain, IsWithoutRepeats}
+use Rattle.partition_log.specs.Keys.{Key, Keyed, is_interned, keys_in, with_key, id_of, key_at, distinct, plain, IsWithoutRepeats}
 
 -- logs: the number of partitions of each topic and in total, the keys by number, and for each
 -- partition the key numbers of its records
@@ -43,13 +43,13 @@ IsPlaceOf l key place =
 
 -- whether a record of this key does not fit a log of this many records: the log is full, or the key
 -- is new and the keys are at their limit
-abbrev pub finds_no_room : List Key → ℕ → Key → Bool
-finds_no_room keys records key =
-    nat_le MOST_RECORDS records || (not (is_known keys key) && nat_le MOST_RECORDS (length keys))
+abbrev pub exceeds_limits : List Key → ℕ → Key → Bool
+exceeds_limits keys records key =
+    nat_le MOST_RECORDS records || (not (is_interned keys key) && nat_le MOST_RECORDS (length keys))
 
 -- the same, for the log of this partition
 abbrev pub is_full_for : PartitionLogs → ℕ → Key → Bool
-is_full_for l place key = finds_no_room l.keys (length (log_at l place)) key
+is_full_for l place key = exceeds_limits l.keys (length (log_at l place)) key
 
 -- the answer of an append of a record of this key to the log of this partition: the partition and
 -- the record's offset, or a refusal

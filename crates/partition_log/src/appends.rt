@@ -5,11 +5,11 @@ ghost use Rattle.partitioner.specs.Place.{AreTopics};
 ghost use Rattle.partition_log.specs.Appends.{AreAppended, AreStoppedAfter, GrowByRecords, in_first, lent, placed};
 ghost use Rattle.partition_log.specs.Keys.{of_first};
 ghost use Rattle.partition_log.specs.Logs.{IsValidLogs, place_in};
-ghost use Rattle.partition_log.specs.Private.Filled.{ArePlaced, AreShort, CanGoSideBySide};
+ghost use Rattle.partition_log.specs.Private.Filled.{ArePlaced, AreShort, CanAppendParallel};
 
 use crate::Logs;
 use crate::filling::filled_logs;
-use key_numbers::pieces_of;
+use key_index::split_keys;
 use lane_words::{LONGEST_KEY, MOST_RECORDS, Memory, Refusal};
 use parallel::LEAST_KEYS;
 use std::thread::Threads;
@@ -64,9 +64,9 @@ impl Logs {
     /// The partition in the first topic of each of some keys, in order, computed in parallel. Fails
     /// only if memory runs out, and not if there are no keys.
     pub fn places_of<R: Threads + Sync>(&self, rt: &R, keys: &[&[u8]]) -> Result<Vec<u32>, Memory>
-        ensures places { IfOk result (λ places. places.items
+        ensures partitions { IfOk result (λ places. places.items
             ≡ map (λ key. place_in self.now (of_first key.now)) keys.now) }
-        ensures refused { OnErr result (0 < length keys.now) }
+        ensures fault { OnErr result (0 < length keys.now) }
         ensures valid { IsValidLogs self.now }
     {
         let alloc = *self.logs.allocator();
@@ -84,9 +84,9 @@ impl Logs {
         keys: &[&[u8]],
     ) -> Result<Vec<u32>, Memory>
         requires { AreTopics (length self.now.counts) (length keys.now) topics.now }
-        ensures places { IfOk result (λ places. places.items
+        ensures partitions { IfOk result (λ places. places.items
             ≡ map (λ keyed. place_in self.now (keyed.0, keyed.1.now)) (zip topics.now keys.now)) }
-        ensures refused { OnErr result (0 < length keys.now) }
+        ensures fault { OnErr result (0 < length keys.now) }
         ensures valid { IsValidLogs self.now }
     {
         let alloc = *self.logs.allocator();
@@ -103,26 +103,26 @@ impl Logs {
         keys: &[&[u8]],
         places: &[u32],
     ) -> Result<(), (u64, Refusal)>
-        requires places { ArePlaced self.old places.now (lent keys.now) }
+        requires partitions { ArePlaced self.old places.now (lent keys.now) }
         ensures ok { IfOk result (λ _.
             AreAppended self.old (zip places.now (lent keys.now)) self.new) }
         ensures err { IfErr result (λ stop. AreStoppedAfter stop.0 stop.1 self.old
             (zip places.now (lent keys.now)) self.new) }
         ensures valid { IsValidLogs self.new }
     {
-        if self.goes_side_by_side(keys) {
-            let Ok(()) = self.append_side_by_side(rt, keys, places) else {
+        if self.goes_parallel(keys) {
+            let Ok(()) = self.append_parallel(rt, keys, places) else {
                 return Err((0, Refusal::Memory));
             };
             return Ok(());
         }
-        self.append_in_turn(keys, places)
+        self.append_sequential(keys, places)
     }
 
     /// Whether these keys are appended side by side: they are many, none is too long, and no limit
     /// is met, since there is no record yet.
-    fn goes_side_by_side(&self, keys: &[&[u8]]) -> bool
-        ensures fits { IsTrue result → CanGoSideBySide self.now (lent keys.now) }
+    fn goes_parallel(&self, keys: &[&[u8]]) -> bool
+        ensures fits { IsTrue result → CanAppendParallel self.now (lent keys.now) }
         ensures valid { IsValidLogs self.now }
     {
         self.keys.count() == 0
@@ -133,22 +133,22 @@ impl Logs {
 
     /// Appends records of these keys in order, all of them or none. If memory runs out nothing
     /// changes.
-    fn append_side_by_side<R: Threads + Sync>(
+    fn append_parallel<R: Threads + Sync>(
         &mut self,
         rt: &R,
         keys: &[&[u8]],
         places: &[u32],
     ) -> Result<(), Memory>
-        requires places { ArePlaced self.old places.now (lent keys.now) }
-        requires fits { CanGoSideBySide self.old (lent keys.now) }
+        requires partitions { ArePlaced self.old places.now (lent keys.now) }
+        requires fits { CanAppendParallel self.old (lent keys.now) }
         ensures ok { OnOk result
             (AreAppended self.old (zip places.now (lent keys.now)) self.new) }
         ensures err { OnErr result (self.new ≡ self.old) }
         ensures valid { IsValidLogs self.new }
     {
         let alloc = *self.logs.allocator();
-        let pieces = pieces_of(alloc, keys)?;
-        let (interned, ()) = self.keys.number_all(rt, &pieces, 0, || ())?;
+        let slices = split_keys(alloc, keys)?;
+        let (interned, ()) = self.keys.intern_all(rt, &slices, 0, || ())?;
         let logs = filled_logs(
             alloc,
             self.partitions.count() as usize,
@@ -161,8 +161,8 @@ impl Logs {
     }
 
     /// Appends records of these keys, whose places are known, one after the other.
-    fn append_in_turn(&mut self, keys: &[&[u8]], places: &[u32]) -> Result<(), (u64, Refusal)>
-        requires places { ArePlaced self.old places.now (lent keys.now) }
+    fn append_sequential(&mut self, keys: &[&[u8]], places: &[u32]) -> Result<(), (u64, Refusal)>
+        requires partitions { ArePlaced self.old places.now (lent keys.now) }
         requires valid { IsValidLogs self.old }
         ensures ok { IfOk result (λ _.
             AreAppended self.old (zip places.now (lent keys.now)) self.new) }

@@ -14,13 +14,13 @@ pub fn filled_logs(
     places: &[u32],
     ids: &[u32],
 ) -> Result<Vec<Vec<u32>>, Memory>
-    requires as_many { length ids.now ≡ length places.now }
-    requires places { All (λ p. p < partitions) places.now }
+    requires len { length ids.now ≡ length places.now }
+    requires partitions { All (λ p. p < partitions) places.now }
     ensures { IfOk result (λ logs. map vec_items logs.items
         ≡ filled (replicate partitions []) places.now ids.now) }
 {
     let counts = counts_of(alloc, partitions, places)?;
-    let mut logs = roomy_logs(alloc, &counts)?;
+    let mut logs = logs_with_capacity(alloc, &counts)?;
     for i in 0..places.len() {
         let log = &mut logs[places[i] as usize];
         log.push(ids[i])?;
@@ -29,7 +29,7 @@ pub fn filled_logs(
 }
 
 /// Empty logs, one for each of these counts, with room for so many records.
-pub fn roomy_logs(alloc: Global, counts: &[usize]) -> Result<Vec<Vec<u32>>, Memory>
+pub fn logs_with_capacity(alloc: Global, counts: &[usize]) -> Result<Vec<Vec<u32>>, Memory>
     ensures { IfOk result (λ logs. map vec_items logs.items ≡ replicate (length counts.now) []) }
 {
     let mut logs = Vec::with_capacity(alloc, counts.len())?;

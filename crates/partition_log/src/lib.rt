@@ -26,7 +26,7 @@ mod lists;
 mod sealed;
 mod shares;
 
-use key_numbers::KeyIds;
+use key_index::KeyDictionary;
 use lane_words::{LONGEST_KEY, MOST_PARTITIONS, MOST_RECORDS, Memory, Refusal};
 pub use laws::each_record_is_in_one_log;
 use partitioner::Partitions;
@@ -46,7 +46,7 @@ pub struct Logs {
     /// The number of partitions of each topic.
     partitions: Partitions,
     /// The keys of all logs.
-    keys: KeyIds,
+    keys: KeyDictionary,
     /// The records of each log, as key numbers.
     logs: Vec<Vec<u32>>,
 }
@@ -154,7 +154,7 @@ impl Logs {
         ensures empty { IfOk result (AreLogsOf []) }
         ensures valid { IfOk result IsValidLogs }
     {
-        let keys = KeyIds::new(rt, alloc)?;
+        let keys = KeyDictionary::new(rt, alloc)?;
         let logs = empty_logs(alloc, partitions.count() as usize)?;
         Ok(Logs {
             partitions,
@@ -173,9 +173,9 @@ impl Logs {
 
     /// The partition of a key, appended or not, in the first topic. It allocates nothing.
     pub fn place_of(&self, key: &[u8]) -> u32
-        ensures place { result ≡ place_in self.now (of_first key.now) }
-        ensures goes { IsPlaceOf self.now key.now result }
-        ensures within { result < self.now.partitions }
+        ensures partition { result ≡ place_in self.now (of_first key.now) }
+        ensures topic { IsPlaceOf self.now key.now result }
+        ensures bound { result < self.now.partitions }
     {
         // Reading a field makes the invariant available: there is a first topic.
         let _ = &self.partitions;
@@ -185,9 +185,9 @@ impl Logs {
     /// The same in the topic with this index. Partitions are numbered over all topics.
     pub fn place_of_in(&self, topic: u8, key: &[u8]) -> u32
         requires { IsOfTopic self.now (topic, key.now) }
-        ensures place { result ≡ place_in self.now (topic, key.now) }
-        ensures goes { IsPlaceOf self.now key.now result }
-        ensures within { result < self.now.partitions }
+        ensures partition { result ≡ place_in self.now (topic, key.now) }
+        ensures topic { IsPlaceOf self.now key.now result }
+        ensures bound { result < self.now.partitions }
     {
         self.partitions.place_in(topic, key)
     }
@@ -259,7 +259,7 @@ impl Logs {
 
     /// An equal copy, with hash seeds of its own.
     fn copy(&self, rt: &impl RandomSource, alloc: Global) -> Result<Logs, Memory>
-        ensures equal { IfOk result (λ logs. logs ≡ self.now) }
+        ensures value { IfOk result (λ logs. logs ≡ self.now) }
         ensures valid { IfOk result IsValidLogs }
     {
         let keys = self.keys.copy(rt)?;
@@ -303,7 +303,7 @@ fn same_logs(logs: &[Vec<u32>], others: &[Vec<u32>]) -> bool
 
 /// Appends the number of a key, interned if new, to the log of this index. Returns its offset.
 fn append_id(
-    keys: &mut KeyIds,
+    keys: &mut KeyDictionary,
     logs: &mut Vec<Vec<u32>>,
     place: usize,
     key: &[u8],
@@ -323,7 +323,7 @@ fn append_id(
 }
 
 /// Appends the number of a key to this log, and returns its offset.
-fn push_id(keys: &mut KeyIds, log: &mut Vec<u32>, key: &[u8]) -> Result<u32, Refusal>
+fn push_id(keys: &mut KeyDictionary, log: &mut Vec<u32>, key: &[u8]) -> Result<u32, Refusal>
     ensures answer { Answers (log_answer keys.old log.old.items key.now) result }
     ensures keys { OnOk result (keys.new ≡ with_key keys.old key.now) }
     ensures log { OnOk result (log.new.items ≡ with_id keys.old log.old.items key.now) }

@@ -2,21 +2,21 @@
 
 ghost use Rattle.std.specs.Prelude.{◌≡◌, ◌↔◌, ◌<◌, ◌≤◌, true, false, All, IfErr, IfOk, IsTrue, OnErr, OnOk, length, map};
 ghost use Rattle.std.specs.Thread.{IsSync};
-ghost use Rattle.key_lists.specs.Lists.{AreCoded, TellsLongest, joined, keys_in};
+ghost use Rattle.record_batch.specs.Lists.{AreEncoded, HasLongest, concatenated, keys_in};
 ghost use Rattle.partition_log.specs.Appends.{AreAppended, AreStoppedAfter, GrowByRecords, in_first, lent, placed};
-ghost use Rattle.key_numbers.specs.Interned.{IsDictionaryOf};
-ghost use Rattle.key_numbers.specs.Keys.{lent_lists};
+ghost use Rattle.key_index.specs.Interned.{IsDictionaryOf};
+ghost use Rattle.key_index.specs.Keys.{lent_lists};
 ghost use Rattle.partition_log.specs.Keys.{of_first};
 ghost use Rattle.partition_log.specs.Logs.{IsValidLogs, place_in};
-ghost use Rattle.partition_log.specs.Private.Filled.{AreShort, CanGoSideBySide};
+ghost use Rattle.partition_log.specs.Private.Filled.{AreShort, CanAppendParallel};
 ghost use Rattle.partition_log.specs.Private.Shares.{records_of};
 
 use crate::Logs;
 use crate::shares::logs_of_lists;
-use key_lists::{CodedPart, KeyList, coded_parts};
-use key_numbers::Interned;
+use key_index::Interned;
 use lane_words::{LONGEST_KEY, MOST_RECORDS, Memory, Refusal};
 use parallel::{LEAST_KEYS, drop_each};
+use record_batch::{EncodedBatch, RecordBatch, encode_batches};
 use std::alloc::Global;
 use std::thread::Threads;
 
@@ -29,18 +29,18 @@ impl Logs {
     pub fn append_lists<R: Threads + Sync>(
         &mut self,
         rt: &R,
-        lists: &[KeyList],
+        lists: &[RecordBatch],
     ) -> Result<(), (u64, Refusal)>
         ensures ok { IfOk result (λ _.
-            AreAppended self.old (placed self.old (in_first (joined lists.now))) self.new) }
+            AreAppended self.old (placed self.old (in_first (concatenated lists.now))) self.new) }
         ensures err { IfErr result (λ stop. AreStoppedAfter stop.0 stop.1 self.old
-            (placed self.old (in_first (joined lists.now))) self.new) }
+            (placed self.old (in_first (concatenated lists.now))) self.new) }
         ensures valid { IsValidLogs self.new }
         ensures history { OnOk result
-            (GrowByRecords (in_first (joined lists.now)) self.old self.new) }
+            (GrowByRecords (in_first (concatenated lists.now)) self.old self.new) }
     {
         if self.can_go_by_lists(lists) {
-            match self.append_coded(rt, lists) {
+            match self.append_encoded(rt, lists) {
                 Ok(true) => return Ok(()),
                 Ok(false) => {}
                 Err(_) => return Err((0, Refusal::Memory)),
@@ -50,16 +50,16 @@ impl Logs {
     }
 
     /// Drops the logs, many keys on several threads.
-    pub fn let_go<R: Threads + Sync>(self, rt: &R) {
+    pub fn drop_parallel<R: Threads + Sync>(self, rt: &R) {
         let Logs { keys, .. } = self;
-        keys.let_go(rt);
+        keys.drop_parallel(rt);
     }
 
     /// Whether the keys of these lists are many, and there is no record yet.
-    fn can_go_by_lists(&self, lists: &[KeyList]) -> bool
+    fn can_go_by_lists(&self, lists: &[RecordBatch]) -> bool
         ensures none { IsTrue result → length self.now.keys ≡ 0 }
-        ensures some { IsTrue result → 0 < length (joined lists.now) }
-        ensures few { IsTrue result → length (joined lists.now) ≤ MOST_RECORDS }
+        ensures nonempty { IsTrue result → 0 < length (concatenated lists.now) }
+        ensures bound { IsTrue result → length (concatenated lists.now) ≤ MOST_RECORDS }
         ensures valid { IsValidLogs self.now }
     {
         let records = len_of(lists);
@@ -68,23 +68,27 @@ impl Logs {
 
     /// Appends records of the keys of these lists, all of them or none, and returns whether it did:
     /// it does not if a key is too long. Fails only if memory runs out.
-    fn append_coded<R: Threads + Sync>(&mut self, rt: &R, lists: &[KeyList]) -> Result<bool, Memory>
+    fn append_encoded<R: Threads + Sync>(
+        &mut self,
+        rt: &R,
+        lists: &[RecordBatch],
+    ) -> Result<bool, Memory>
         requires none { length self.old.keys ≡ 0 }
-        requires some { 0 < length (joined lists.now) }
-        requires few { length (joined lists.now) ≤ MOST_RECORDS }
+        requires nonempty { 0 < length (concatenated lists.now) }
+        requires bound { length (concatenated lists.now) ≤ MOST_RECORDS }
         ensures done { IfOk result (λ done. done ≡ true
-            → AreAppended self.old (placed self.old (in_first (joined lists.now))) self.new) }
+            → AreAppended self.old (placed self.old (in_first (concatenated lists.now))) self.new) }
         ensures left { IfOk result (λ done. done ≡ false → self.new ≡ self.old) }
         ensures err { OnErr result (self.new ≡ self.old) }
         ensures valid { IsValidLogs self.new }
     {
         let alloc = *self.logs.allocator();
-        let coded = coded_parts(rt, alloc, lists)?;
-        if !are_all_short(&coded) {
+        let encoded = encode_batches(rt, alloc, lists)?;
+        if !are_all_short(&encoded) {
             return Ok(false);
         }
-        self.append_firsts(rt, &coded)?;
-        drop_each(rt, coded);
+        self.append_firsts(rt, &encoded)?;
+        drop_each(rt, encoded);
         Ok(true)
     }
 
@@ -92,21 +96,21 @@ impl Logs {
     fn append_firsts<R: Threads + Sync>(
         &mut self,
         rt: &R,
-        coded: &[CodedPart<'_>],
+        encoded: &[EncodedBatch<'_>],
     ) -> Result<(), Memory>
-        requires coded { AreCoded (map records_of coded.now) coded.now }
-        requires fits { CanGoSideBySide self.old (joined (map records_of coded.now)) }
+        requires encoded { AreEncoded (map records_of encoded.now) encoded.now }
+        requires fits { CanAppendParallel self.old (concatenated (map records_of encoded.now)) }
         ensures ok { OnOk result (AreAppended self.old
-            (placed self.old (in_first (joined (map records_of coded.now)))) self.new) }
+            (placed self.old (in_first (concatenated (map records_of encoded.now)))) self.new) }
         ensures err { OnErr result (self.new ≡ self.old) }
         ensures valid { IsValidLogs self.new }
     {
         let alloc = *self.logs.allocator();
-        let keys = keys_of(alloc, coded)?;
-        let (interned, places) = number_and_place(rt, self, &keys)?;
+        let keys = keys_of(alloc, encoded)?;
+        let (interned, places) = intern_and_place(rt, self, &keys)?;
         let places = places?;
         let partitions = self.partitions.count() as usize;
-        let logs = logs_of_lists(rt, alloc, partitions, coded, &places, &interned.ids)?;
+        let logs = logs_of_lists(rt, alloc, partitions, encoded, &places, &interned.ids)?;
         self.keys.begin_with(interned.keys);
         self.logs = logs;
         Ok(())
@@ -119,7 +123,7 @@ impl Logs {
         rt: &R,
         lists: &[&[&[u8]]],
     ) -> Result<Vec<u32>, Memory>
-        ensures places { IfOk result (λ places. places.items
+        ensures partitions { IfOk result (λ places. places.items
             ≡ map (λ key. place_in self.now (of_first key)) (lent_lists lists.now)) }
         ensures valid { IsValidLogs self.now }
     {
@@ -135,15 +139,15 @@ impl Logs {
     fn append_each<R: Threads + Sync>(
         &mut self,
         rt: &R,
-        lists: &[KeyList],
+        lists: &[RecordBatch],
     ) -> Result<(), (u64, Refusal)>
         ensures ok { IfOk result (λ _.
-            AreAppended self.old (placed self.old (in_first (joined lists.now))) self.new) }
+            AreAppended self.old (placed self.old (in_first (concatenated lists.now))) self.new) }
         ensures err { IfErr result (λ stop. AreStoppedAfter stop.0 stop.1 self.old
-            (placed self.old (in_first (joined lists.now))) self.new) }
+            (placed self.old (in_first (concatenated lists.now))) self.new) }
         ensures valid { IsValidLogs self.new }
         ensures history { OnOk result
-            (GrowByRecords (in_first (joined lists.now)) self.old self.new) }
+            (GrowByRecords (in_first (concatenated lists.now)) self.old self.new) }
     {
         let alloc = *self.logs.allocator();
         if len_of(lists) == 0 {
@@ -159,18 +163,18 @@ impl Logs {
 /// The keys of these lists without repeats, and of each key, one list after another, the key number
 /// and the partition in the first topic. Either is refused for want of memory. Places are found
 /// while one thread puts the keys in order.
-fn number_and_place<R: Threads + Sync>(
+fn intern_and_place<R: Threads + Sync>(
     rt: &R,
     logs: &Logs,
     lists: &[&[&[u8]]],
 ) -> Result<(Interned, Result<Vec<u32>, Memory>), Memory>
-    requires few { length (lent_lists lists.now) ≤ MOST_RECORDS }
+    requires bound { length (lent_lists lists.now) ≤ MOST_RECORDS }
     ensures value { IfOk result (λ r. IsDictionaryOf (lent_lists lists.now) r.0) }
-    ensures places { IfOk result (λ r. IfOk r.1 (λ places. places.items
+    ensures partitions { IfOk result (λ r. IfOk r.1 (λ places. places.items
         ≡ map (λ key. place_in logs.now (of_first key)) (lent_lists lists.now))) }
     ensures valid { IsValidLogs logs.now }
 {
-    logs.keys.number_all(
+    logs.keys.intern_all(
         rt,
         lists,
         keys_among(lists),
@@ -184,9 +188,9 @@ fn number_and_place<R: Threads + Sync>(
 }
 
 /// How many keys lists have together, where that is a number of records that logs can hold.
-fn len_of(lists: &[KeyList]) -> usize
-    ensures many { result ≤ length (joined lists.now) }
-    ensures all { result ≤ MOST_RECORDS → result ≡ length (joined lists.now) }
+fn len_of(lists: &[RecordBatch]) -> usize
+    ensures bound { result ≤ length (concatenated lists.now) }
+    ensures ok { result ≤ MOST_RECORDS → result ≡ length (concatenated lists.now) }
 {
     let mut len: usize = 0;
     for i in 0..lists.len() {
@@ -196,8 +200,8 @@ fn len_of(lists: &[KeyList]) -> usize
 }
 
 /// The bytes of each key of these lists, one list after another.
-fn slices_of(alloc: Global, lists: &[KeyList]) -> Result<Vec<&[u8]>, Memory>
-    ensures { IfOk result (λ keys. lent keys.items ≡ joined lists.now) }
+fn slices_of(alloc: Global, lists: &[RecordBatch]) -> Result<Vec<&[u8]>, Memory>
+    ensures { IfOk result (λ keys. lent keys.items ≡ concatenated lists.now) }
 {
     let mut keys = Vec::with_capacity(alloc, len_of(lists))?;
     for i in 0..lists.len() {
@@ -207,12 +211,12 @@ fn slices_of(alloc: Global, lists: &[KeyList]) -> Result<Vec<&[u8]>, Memory>
 }
 
 /// Whether no key of coded lists is too long.
-fn are_all_short(coded: &[CodedPart<'_>]) -> bool
-    requires { All TellsLongest coded.now }
-    ensures { IsTrue result ↔ AreShort (joined (map keys_in coded.now)) }
+fn are_all_short(encoded: &[EncodedBatch<'_>]) -> bool
+    requires { All HasLongest encoded.now }
+    ensures { IsTrue result ↔ AreShort (concatenated (map keys_in encoded.now)) }
 {
-    for i in 0..coded.len() {
-        if coded[i].longest > LONGEST_KEY {
+    for i in 0..encoded.len() {
+        if encoded[i].longest > LONGEST_KEY {
             return false;
         }
     }
@@ -220,12 +224,15 @@ fn are_all_short(coded: &[CodedPart<'_>]) -> bool
 }
 
 /// The keys of each coded list.
-fn keys_of<'a, 'k>(alloc: Global, coded: &'a [CodedPart<'k>]) -> Result<Vec<&'a [&'k [u8]]>, Memory>
-    ensures { IfOk result (λ keys. lent_lists keys.items ≡ joined (map keys_in coded.now)) }
+fn keys_of<'a, 'k>(
+    alloc: Global,
+    encoded: &'a [EncodedBatch<'k>],
+) -> Result<Vec<&'a [&'k [u8]]>, Memory>
+    ensures { IfOk result (λ keys. lent_lists keys.items ≡ concatenated (map keys_in encoded.now)) }
 {
-    let mut keys = Vec::with_capacity(alloc, coded.len())?;
-    for i in 0..coded.len() {
-        keys.push(coded[i].keys.as_slice())?;
+    let mut keys = Vec::with_capacity(alloc, encoded.len())?;
+    for i in 0..encoded.len() {
+        keys.push(encoded[i].keys.as_slice())?;
     }
     Ok(keys)
 }

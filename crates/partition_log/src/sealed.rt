@@ -52,7 +52,7 @@ impl SealedLogs {
     /// An equal copy with the same key numbers, to which records can be appended. Fails, as
     /// `Logs::new` does, if memory runs out or the random source fails.
     pub fn copy(&self, rt: &impl RandomSource, alloc: Global) -> Result<Logs, Memory>
-        ensures equal { IfOk result (λ logs. logs ≡ self.now) }
+        ensures value { IfOk result (λ logs. logs ≡ self.now) }
         ensures valid { IfOk result IsValidLogs }
     {
         self.logs.copy(rt, alloc)

@@ -1,14 +1,14 @@
 //! Logs that are filled share by share, side by side: a share is a list of keys by codes.
 
 ghost use Rattle.std.specs.Prelude.{◌≡◌, ◌<◌, ◌≤◌, [], ℕ, Ok, All, IfOk, length, map, replicate, slice_index_or, slice_range, vec_items, vec_len};
-ghost use Rattle.key_lists.specs.Lists.{AreCoded, joined, keys_in};
+ghost use Rattle.record_batch.specs.Lists.{AreEncoded, concatenated, keys_in};
 ghost use Rattle.partition_log.specs.Private.Filled.{filled};
-ghost use Rattle.partition_log.specs.Private.Shares.{AreMerged, IsFillable, in_row, numbers_in, places_in, read_by, records_of};
+ghost use Rattle.partition_log.specs.Private.Shares.{AreMerged, IsFillable, flattened, numbers_in, places_in, read_by, records_of};
 
-use crate::filling::roomy_logs;
-use key_lists::CodedPart;
+use crate::filling::logs_with_capacity;
 use lane_words::Memory;
 use parallel::collected;
+use record_batch::EncodedBatch;
 use std::alloc::Global;
 use std::thread;
 use std::thread::Threads;
@@ -35,26 +35,26 @@ fn part_of(numbers: &[u32], from: usize, to: usize) -> &[u32]
 /// The shares of coded lists, where `places` and `numbers` have those of the keys of all lists.
 fn shares_of<'a>(
     alloc: Global,
-    coded: &'a [CodedPart<'a>],
+    encoded: &'a [EncodedBatch<'a>],
     places: &'a [u32],
     numbers: &'a [u32],
 ) -> Result<Vec<Share<'a>>, Memory>
-    requires places { length places.now ≡ length (joined (map keys_in coded.now)) }
-    requires numbers { length numbers.now ≡ length (joined (map keys_in coded.now)) }
-    ensures places { IfOk result
-        (λ shares. in_row (map places_in shares.items) ≡ read_by places.now coded.now) }
+    requires partitions { length places.now ≡ length (concatenated (map keys_in encoded.now)) }
+    requires numbers { length numbers.now ≡ length (concatenated (map keys_in encoded.now)) }
+    ensures partitions { IfOk result
+        (λ shares. flattened (map places_in shares.items) ≡ read_by places.now encoded.now) }
     ensures numbers { IfOk result
-        (λ shares. in_row (map numbers_in shares.items) ≡ read_by numbers.now coded.now) }
-    ensures fillable { (partitions : ℕ) → AreCoded (map records_of coded.now) coded.now
+        (λ shares. flattened (map numbers_in shares.items) ≡ read_by numbers.now encoded.now) }
+    ensures valid { (partitions : ℕ) → AreEncoded (map records_of encoded.now) encoded.now
         → All (λ p. p < partitions) places.now
         → IfOk result (λ shares. All (IsFillable partitions) shares.items) }
 {
-    let mut shares = Vec::with_capacity(alloc, coded.len())?;
+    let mut shares = Vec::with_capacity(alloc, encoded.len())?;
     let mut from = 0;
-    for i in 0..coded.len() {
-        let to = from + coded[i].keys.len();
+    for i in 0..encoded.len() {
+        let to = from + encoded[i].keys.len();
         shares.push(Share {
-            codes: coded[i].codes,
+            codes: encoded[i].codes,
             places: part_of(places, from, to),
             numbers: part_of(numbers, from, to),
         })?;
@@ -84,7 +84,7 @@ fn fill_share(alloc: Global, partitions: usize, share: &Share<'_>) -> Result<Vec
         ≡ filled (replicate partitions []) (places_in share.now) (numbers_in share.now)) }
 {
     let counts = counts_in(alloc, partitions, share)?;
-    let mut logs = roomy_logs(alloc, &counts)?;
+    let mut logs = logs_with_capacity(alloc, &counts)?;
     for k in 0..share.codes.len() {
         let code = share.codes[k];
         let log = &mut logs[share.places[code] as usize];
@@ -110,7 +110,7 @@ fn fill_at(
 }
 
 /// The logs of each share, each filled in a thread of its own.
-fn fill_apart<R: Threads + Sync>(
+fn fill_parallel<R: Threads + Sync>(
     rt: &R,
     alloc: Global,
     partitions: usize,
@@ -144,7 +144,7 @@ fn fill_shares<R: Threads + Sync>(
         ≡ map (λ share. filled (replicate partitions []) (places_in share) (numbers_in share))
         shares.now) }
 {
-    let found = fill_apart(rt, alloc, partitions, shares)?;
+    let found = fill_parallel(rt, alloc, partitions, shares)?;
     collected(alloc, found)
 }
 
@@ -162,7 +162,7 @@ fn len_at(parts: &[Vec<Vec<u32>>], p: usize) -> usize
 /// The log of one partition: those of all parts, one after another.
 fn merged_log(alloc: Global, parts: &[Vec<Vec<u32>>], p: usize) -> Result<Vec<u32>, Memory>
     requires { All (λ part. p < length part.items) parts.now }
-    ensures { IfOk result (λ log. log.items ≡ in_row
+    ensures { IfOk result (λ log. log.items ≡ flattened
         (map (λ part. slice_index_or (map vec_items part.items) p []) parts.now)) }
 {
     let mut log = Vec::with_capacity(alloc, len_at(parts, p))?;
@@ -173,7 +173,7 @@ fn merged_log(alloc: Global, parts: &[Vec<Vec<u32>>], p: usize) -> Result<Vec<u3
 }
 
 /// The logs of all partitions, each merged in a thread of its own.
-fn merge_apart<R: Threads + Sync>(
+fn merge_parallel<R: Threads + Sync>(
     rt: &R,
     alloc: Global,
     partitions: usize,
@@ -182,7 +182,7 @@ fn merge_apart<R: Threads + Sync>(
     requires { All (λ part. length part.items ≡ partitions) parts.now }
     ensures len { IfOk result (λ found. vec_len found ≡ partitions) }
     ensures found { IfOk result (λ found. (p : ℕ) (d : _) → p < partitions
-        → IfOk (slice_index_or found.items p d) (λ log. log.items ≡ in_row
+        → IfOk (slice_index_or found.items p d) (λ log. log.items ≡ flattened
         (map (λ part. slice_index_or (map vec_items part.items) p []) parts.now))) }
 {
     let found = thread::map_indices(rt, alloc, partitions, &|p| merged_log(alloc, parts, p))?;
@@ -200,7 +200,7 @@ fn merged_logs<R: Threads + Sync>(
     ensures { IfOk result (λ logs. AreMerged partitions
         (map (λ part. map vec_items part.items) parts.now) (map vec_items logs.items)) }
 {
-    let found = merge_apart(rt, alloc, partitions, parts)?;
+    let found = merge_parallel(rt, alloc, partitions, parts)?;
     collected(alloc, found)
 }
 
@@ -211,18 +211,18 @@ pub fn logs_of_lists<R: Threads + Sync>(
     rt: &R,
     alloc: Global,
     partitions: usize,
-    coded: &[CodedPart<'_>],
+    encoded: &[EncodedBatch<'_>],
     places: &[u32],
     numbers: &[u32],
 ) -> Result<Vec<Vec<u32>>, Memory>
-    requires coded { AreCoded (map records_of coded.now) coded.now }
-    requires places { length places.now ≡ length (joined (map keys_in coded.now)) }
-    requires numbers { length numbers.now ≡ length (joined (map keys_in coded.now)) }
-    requires below { All (λ p. p < partitions) places.now }
+    requires encoded { AreEncoded (map records_of encoded.now) encoded.now }
+    requires partitions { length places.now ≡ length (concatenated (map keys_in encoded.now)) }
+    requires numbers { length numbers.now ≡ length (concatenated (map keys_in encoded.now)) }
+    requires bound { All (λ p. p < partitions) places.now }
     ensures { IfOk result (λ logs. map vec_items logs.items ≡ filled (replicate partitions [])
-        (read_by places.now coded.now) (read_by numbers.now coded.now)) }
+        (read_by places.now encoded.now) (read_by numbers.now encoded.now)) }
 {
-    let shares = shares_of(alloc, coded, places, numbers)?;
+    let shares = shares_of(alloc, encoded, places, numbers)?;
     let parts = fill_shares(rt, alloc, partitions, &shares)?;
     merged_logs(rt, alloc, partitions, &parts)
 }

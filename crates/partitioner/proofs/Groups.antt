@@ -3,30 +3,30 @@ use Rattle.std.proofs.Common.{ℕ, ◌≡◌, ◌≢◌, ◌+◌, ◌<◌, ◌�
 use Rattle.std.proofs.Math.ListN.{length-set}
 use Rattle.murmur_lanes.specs.Murmur.{AreOfOneLength, hash_of}
 use Rattle.partitioner.specs.Place.{positive_hash}
-use Rattle.partitioner.specs.Private.Groups.{AreKnown, AreOfLength, AreUnhashed, AreWaitingFrom, IsOfLength, IsWaiting, joined_row, no_key}
+use Rattle.partitioner.specs.Private.Groups.{AreComputed, AreOfLength, AreUnhashed, ArePendingFrom, IsOfLength, IsPending, extended_row, no_key}
 
-pub known_unhashed : (keys : List (Bor (List ℕ))) (hashes : List ℕ) → AreUnhashed hashes → AreKnown keys hashes
-unfolding AreKnown
-known_unhashed [] hashes none = tt
-known_unhashed (key ∷ keys) [] none = tt
-known_unhashed (key ∷ keys) (p ∷ hashes) none = ((λ missing. absurd (missing (none 0 (omega arith)))), known_unhashed keys hashes (λ k lt. none (suc k) (omega arith)))
+pub computed_unhashed : (keys : List (Bor (List ℕ))) (hashes : List ℕ) → AreUnhashed hashes → AreComputed keys hashes
+unfolding AreComputed
+computed_unhashed [] hashes none = tt
+computed_unhashed (key ∷ keys) [] none = tt
+computed_unhashed (key ∷ keys) (p ∷ hashes) none = ((λ missing. absurd (missing (none 0 (omega arith)))), computed_unhashed keys hashes (λ k lt. none (suc k) (omega arith)))
 
-pub known_set : (keys : List (Bor (List ℕ))) (hashes : List ℕ) (i hash : ℕ) → AreKnown keys hashes → hash ≡ positive_hash (get_or keys i no_key).now → AreKnown keys (slice_set hashes i hash)
-unfolding AreKnown
-known_set [] hashes i hash known e = tt
-known_set (key ∷ keys) [] i hash known e = tt
-known_set (key ∷ keys) (p ∷ hashes) zero hash known e = ((λ missing. e), known.1)
-known_set (key ∷ keys) (p ∷ hashes) (suc i) hash known e = (known.0, known_set keys hashes i hash known.1 e)
+pub computed_set : (keys : List (Bor (List ℕ))) (hashes : List ℕ) (i hash : ℕ) → AreComputed keys hashes → hash ≡ positive_hash (get_or keys i no_key).now → AreComputed keys (slice_set hashes i hash)
+unfolding AreComputed
+computed_set [] hashes i hash computed e = tt
+computed_set (key ∷ keys) [] i hash computed e = tt
+computed_set (key ∷ keys) (p ∷ hashes) zero hash computed e = ((λ missing. e), computed.1)
+computed_set (key ∷ keys) (p ∷ hashes) (suc i) hash computed e = (computed.0, computed_set keys hashes i hash computed.1 e)
 
 -- the hashes before an index are their keys', and those from there on too, or not computed yet
 unfoldable pub AreHashedBelow : ℕ → List (Bor (List ℕ)) → List ℕ → Type 0
-AreHashedBelow zero keys hashes = AreKnown keys hashes
+AreHashedBelow zero keys hashes = AreComputed keys hashes
 AreHashedBelow (suc i) [] hashes = Unit {0}
 AreHashedBelow (suc i) (key ∷ keys) [] = Unit {0}
 AreHashedBelow (suc i) (key ∷ keys) (p ∷ hashes) = (p ≡ positive_hash key.now) × AreHashedBelow i keys hashes
 
 hashed_set : (i : ℕ) (keys : List (Bor (List ℕ))) (hashes : List ℕ) (hash : ℕ) → AreHashedBelow i keys hashes → hash ≡ positive_hash (get_or keys i no_key).now → AreHashedBelow (suc i) keys (slice_set hashes i hash)
-unfolding AreHashedBelow AreKnown
+unfolding AreHashedBelow AreComputed
 hashed_set i [] hashes hash hashed e = tt
 hashed_set i (key ∷ keys) [] hash hashed e = tt
 hashed_set zero (key ∷ keys) (p ∷ hashes) hash hashed e = (e, hashed.1)
@@ -35,15 +35,15 @@ hashed_set (suc i) (key ∷ keys) (p ∷ hashes) hash hashed e = (hashed.0, hash
 pub hashed_one : (i : ℕ) (keys : List (Bor (List ℕ))) (hashes : List ℕ) (hash : ℕ) → AreHashedBelow i keys hashes → hash ≡ positive_hash (get_or keys i no_key).now → AreHashedBelow (i + 1) keys (slice_set hashes i hash)
 hashed_one i keys hashes hash hashed e = let one : i + 1 ≡ suc i = omega arith in rw one (hashed_set i keys hashes hash hashed e)
 
-hashed_known : (i : ℕ) (keys : List (Bor (List ℕ))) (hashes : List ℕ) → AreHashedBelow i keys hashes → get_or hashes i 0 ≢ 4294967295 → AreHashedBelow (suc i) keys hashes
-unfolding AreHashedBelow AreKnown
-hashed_known i [] hashes hashed there = tt
-hashed_known i (key ∷ keys) [] hashed there = tt
-hashed_known zero (key ∷ keys) (p ∷ hashes) hashed there = (hashed.0 there, hashed.1)
-hashed_known (suc i) (key ∷ keys) (p ∷ hashes) hashed there = (hashed.0, hashed_known i keys hashes hashed.1 there)
+hashed_computed : (i : ℕ) (keys : List (Bor (List ℕ))) (hashes : List ℕ) → AreHashedBelow i keys hashes → get_or hashes i 0 ≢ 4294967295 → AreHashedBelow (suc i) keys hashes
+unfolding AreHashedBelow AreComputed
+hashed_computed i [] hashes hashed there = tt
+hashed_computed i (key ∷ keys) [] hashed there = tt
+hashed_computed zero (key ∷ keys) (p ∷ hashes) hashed there = (hashed.0 there, hashed.1)
+hashed_computed (suc i) (key ∷ keys) (p ∷ hashes) hashed there = (hashed.0, hashed_computed i keys hashes hashed.1 there)
 
 pub hashed_before : (i : ℕ) (keys : List (Bor (List ℕ))) (hashes : List ℕ) → AreHashedBelow i keys hashes → get_or hashes i 0 ≢ 4294967295 → AreHashedBelow (i + 1) keys hashes
-hashed_before i keys hashes hashed there = let one : i + 1 ≡ suc i = omega arith in rw one (hashed_known i keys hashes hashed there)
+hashed_before i keys hashes hashed there = let one : i + 1 ≡ suc i = omega arith in rw one (hashed_computed i keys hashes hashed there)
 
 pub hashed_all : (i : ℕ) (keys : List (Bor (List ℕ))) (hashes : List ℕ) → length hashes ≡ length keys → length keys ≤ i → AreHashedBelow i keys hashes → hashes ≡ map (λ key. positive_hash key.now) keys
 unfolding AreHashedBelow
@@ -73,31 +73,31 @@ row_set keys len [] lane i all is = tt
 row_set keys len (j ∷ row) zero i all is = (is, all.1)
 row_set keys len (j ∷ row) (suc lane) i all is = (all.0, row_set keys len row lane i all.1 is)
 
-waiting_from : (keys : List (Bor (List ℕ))) (from i len : ℕ) (rows : List (List ℕ)) (counts : List ℕ) → AreWaitingFrom keys from rows counts → len ≡ from + i → i < length rows → i < length counts → IsWaiting keys len (get_or rows i []) (get_or counts i 0)
-unfolding AreWaitingFrom
-waiting_from keys from i len [] counts waiting e below_rows below_counts = absurd (omega arith)
-waiting_from keys from i len (row ∷ rows) [] waiting e below_rows below_counts = absurd (omega arith)
-waiting_from keys from zero len (row ∷ rows) (count ∷ counts) waiting e below_rows below_counts = let same : len ≡ from = omega arith in rw same waiting.0
-waiting_from keys from (suc i) len (row ∷ rows) (count ∷ counts) waiting e below_rows below_counts = waiting_from keys (suc from) i len rows counts waiting.1 (omega arith) (omega arith) (omega arith)
+pending_from : (keys : List (Bor (List ℕ))) (from i len : ℕ) (rows : List (List ℕ)) (counts : List ℕ) → ArePendingFrom keys from rows counts → len ≡ from + i → i < length rows → i < length counts → IsPending keys len (get_or rows i []) (get_or counts i 0)
+unfolding ArePendingFrom
+pending_from keys from i len [] counts pending e below_rows below_counts = absurd (omega arith)
+pending_from keys from i len (row ∷ rows) [] pending e below_rows below_counts = absurd (omega arith)
+pending_from keys from zero len (row ∷ rows) (count ∷ counts) pending e below_rows below_counts = let same : len ≡ from = omega arith in rw same pending.0
+pending_from keys from (suc i) len (row ∷ rows) (count ∷ counts) pending e below_rows below_counts = pending_from keys (suc from) i len rows counts pending.1 (omega arith) (omega arith) (omega arith)
 
-pub waiting_at : (keys : List (Bor (List ℕ))) (len : ℕ) (rows : List (List ℕ)) (counts : List ℕ) → AreWaitingFrom keys 0 rows counts → len < length rows → len < length counts → IsWaiting keys len (get_or rows len []) (get_or counts len 0)
-waiting_at keys len rows counts waiting below_rows below_counts = waiting_from keys 0 len len rows counts waiting (omega arith) below_rows below_counts
+pub pending_at : (keys : List (Bor (List ℕ))) (len : ℕ) (rows : List (List ℕ)) (counts : List ℕ) → ArePendingFrom keys 0 rows counts → len < length rows → len < length counts → IsPending keys len (get_or rows len []) (get_or counts len 0)
+pending_at keys len rows counts pending below_rows below_counts = pending_from keys 0 len len rows counts pending (omega arith) below_rows below_counts
 
-waiting_set_from : (keys : List (Bor (List ℕ))) (from i : ℕ) (rows : List (List ℕ)) (counts : List ℕ) (row : List ℕ) (count : ℕ) → AreWaitingFrom keys from rows counts → IsWaiting keys (from + i) row count → AreWaitingFrom keys from (slice_set rows i row) (slice_set counts i count)
-unfolding AreWaitingFrom
-waiting_set_from keys from i [] counts row count waiting is = tt
-waiting_set_from keys from zero (r ∷ rows) [] row count waiting is = tt
-waiting_set_from keys from (suc i) (r ∷ rows) [] row count waiting is = tt
-waiting_set_from keys from zero (r ∷ rows) (c ∷ counts) row count waiting is = let e : from ≡ from + 0 = omega arith in ((rw e is), waiting.1)
-waiting_set_from keys from (suc i) (r ∷ rows) (c ∷ counts) row count waiting is = let e : suc from + i ≡ from + suc i = omega arith in (waiting.0, waiting_set_from keys (suc from) i rows counts row count waiting.1 (rw e is))
+pending_set_from : (keys : List (Bor (List ℕ))) (from i : ℕ) (rows : List (List ℕ)) (counts : List ℕ) (row : List ℕ) (count : ℕ) → ArePendingFrom keys from rows counts → IsPending keys (from + i) row count → ArePendingFrom keys from (slice_set rows i row) (slice_set counts i count)
+unfolding ArePendingFrom
+pending_set_from keys from i [] counts row count pending is = tt
+pending_set_from keys from zero (r ∷ rows) [] row count pending is = tt
+pending_set_from keys from (suc i) (r ∷ rows) [] row count pending is = tt
+pending_set_from keys from zero (r ∷ rows) (c ∷ counts) row count pending is = let e : from ≡ from + 0 = omega arith in ((rw e is), pending.1)
+pending_set_from keys from (suc i) (r ∷ rows) (c ∷ counts) row count pending is = let e : suc from + i ≡ from + suc i = omega arith in (pending.0, pending_set_from keys (suc from) i rows counts row count pending.1 (rw e is))
 
-pub waiting_set : (keys : List (Bor (List ℕ))) (len : ℕ) (rows : List (List ℕ)) (counts : List ℕ) (row : List ℕ) (count : ℕ) → AreWaitingFrom keys 0 rows counts → IsWaiting keys len row count → AreWaitingFrom keys 0 (slice_set rows len row) (slice_set counts len count)
-waiting_set keys len rows counts row count waiting is = let e : 0 + len ≡ len = omega arith in waiting_set_from keys 0 len rows counts row count waiting (rw e is)
+pub pending_set : (keys : List (Bor (List ℕ))) (len : ℕ) (rows : List (List ℕ)) (counts : List ℕ) (row : List ℕ) (count : ℕ) → ArePendingFrom keys 0 rows counts → IsPending keys len row count → ArePendingFrom keys 0 (slice_set rows len row) (slice_set counts len count)
+pending_set keys len rows counts row count pending is = let e : 0 + len ≡ len = omega arith in pending_set_from keys 0 len rows counts row count pending (rw e is)
 
-pub waiting_start : (keys : List (Bor (List ℕ))) (from n : ℕ) (row : List ℕ) → length row ≡ 8 → AreWaitingFrom keys from (replicate n row) (replicate n 0)
-unfolding AreWaitingFrom
-waiting_start keys from zero row e = tt
-waiting_start keys from (suc n) row e = ((e, omega arith, λ some. absurd (omega arith)), waiting_start keys (suc from) n row e)
+pub pending_start : (keys : List (Bor (List ℕ))) (from n : ℕ) (row : List ℕ) → length row ≡ 8 → ArePendingFrom keys from (replicate n row) (replicate n 0)
+unfolding ArePendingFrom
+pending_start keys from zero row e = tt
+pending_start keys from (suc n) row e = ((e, omega arith, λ some. absurd (omega arith)), pending_start keys (suc from) n row e)
 
 -- the keys of a group
 abbrev pub row_keys : List (Bor (List ℕ)) → List ℕ → List (Bor (List ℕ))
@@ -134,10 +134,10 @@ read_row [] i row lt = absurd (omega arith)
 read_row (r ∷ rows) zero row lt = refl
 read_row (r ∷ rows) (suc i) row lt = read_row rows i row (omega arith)
 
-pub joined_long : (keys : List (Bor (List ℕ))) (len : ℕ) (row : List ℕ) (count i : ℕ) → IsWaiting keys len row count → length (joined_row row count i) ≡ 8
-joined_long keys len row zero i waiting = refl
-joined_long keys len row (suc count) i waiting = length-set {A = ℕ} row (suc count) i ∙ waiting.0
+pub extended_long : (keys : List (Bor (List ℕ))) (len : ℕ) (row : List ℕ) (count i : ℕ) → IsPending keys len row count → length (extended_row row count i) ≡ 8
+extended_long keys len row zero i pending = refl
+extended_long keys len row (suc count) i pending = length-set {A = ℕ} row (suc count) i ∙ pending.0
 
-pub joined_of_length : (keys : List (Bor (List ℕ))) (len : ℕ) (row : List ℕ) (count i : ℕ) → IsWaiting keys len row count → IsOfLength keys len i → AreOfLength keys len (joined_row row count i)
-joined_of_length keys len row zero i waiting is = row_begun keys len i 8 is
-joined_of_length keys len row (suc count) i waiting is = row_set keys len row (suc count) i (waiting.2 (omega arith)) is
+pub extended_of_length : (keys : List (Bor (List ℕ))) (len : ℕ) (row : List ℕ) (count i : ℕ) → IsPending keys len row count → IsOfLength keys len i → AreOfLength keys len (extended_row row count i)
+extended_of_length keys len row zero i pending is = row_begun keys len i 8 is
+extended_of_length keys len row (suc count) i pending is = row_set keys len row (suc count) i (pending.2 (omega arith)) is

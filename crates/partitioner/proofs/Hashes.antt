@@ -41,18 +41,18 @@ places_of_keys counts topic keys hashes places is p k d lt =
     p.each k (omega (arith, lt, ap length is, length-map keys (λ (key : Bor (List ℕ)). positive_hash key.now)))
     ∙ ap (place_of_hash counts (topic k)) (ap (λ hs. get_or hs k 0) is ∙ get_or-map (λ (key : Bor (List ℕ)). positive_hash key.now) keys k d 0 lt)
 
-pub piece_placed : (counts : List ℕ) (topic local : ℕ → ℕ) (keys : List (Bor (List ℕ))) (from n : ℕ) (hashes places : List ℕ) → from + n ≤ length keys
+pub batch_placed : (counts : List ℕ) (topic local : ℕ → ℕ) (keys : List (Bor (List ℕ))) (from n : ℕ) (hashes places : List ℕ) → from + n ≤ length keys
     → hashes ≡ map (λ key. positive_hash key.now) (take (from + n - from) (drop from keys)) → ArePlaces counts local hashes places → ((k : ℕ) → k < n → local k ≡ topic (from + k))
     → ArePlacedFrom counts topic keys from n places
-piece_placed counts topic local keys from n hashes places fits is p told k d lt =
-    let piece = take (from + n - from) (drop from keys) in
-    let long : length piece ≡ n = length-take-le (from + n - from) (drop from keys) (omega (arith, fits, length-drop from keys)) ∙ omega arith in
-    places_of_keys counts local piece hashes places is p k d (omega (arith, long, lt))
-    ∙ ap (λ t. place_in_topic counts t (get_or piece k d).now) (told k lt)
+batch_placed counts topic local keys from n hashes places fits is p told k d lt =
+    let batch = take (from + n - from) (drop from keys) in
+    let long : length batch ≡ n = length-take-le (from + n - from) (drop from keys) (omega (arith, fits, length-drop from keys)) ∙ omega arith in
+    places_of_keys counts local batch hashes places is p k d (omega (arith, long, lt))
+    ∙ ap (λ t. place_in_topic counts t (get_or batch k d).now) (told k lt)
     ∙ ap (λ (key : Bor (List ℕ)). place_in_topic counts (topic (from + k)) key.now) (get_or-take (from + n - from) (drop from keys) k d (omega (arith, lt)) ∙ get_or-drop from keys k d)
 
-pub piece_topic : (topics : List ℕ) (from n k : ℕ) → k < n → get_or (take (from + n - from) (drop from topics)) k 0 ≡ get_or topics (from + k) 0
-piece_topic topics from n k lt = get_or-take (from + n - from) (drop from topics) k 0 (omega (arith, lt)) ∙ get_or-drop from topics k 0
+pub batch_topic : (topics : List ℕ) (from n k : ℕ) → k < n → get_or (take (from + n - from) (drop from topics)) k 0 ≡ get_or topics (from + k) 0
+batch_topic topics from n k lt = get_or-take (from + n - from) (drop from topics) k 0 (omega (arith, lt)) ∙ get_or-drop from topics k 0
 
 pub by_index : {X : Type 0} (f : X → ℕ) (xs : List X) (d : X) (ys : List ℕ) → length ys ≡ length xs → ((i : ℕ) → i < length xs → get_or ys i 0 ≡ f (get_or xs i d)) → ys ≡ map f xs
 by_index f [] d [] e each = refl

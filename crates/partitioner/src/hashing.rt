@@ -5,7 +5,7 @@ ghost use Rattle.std.specs.Prelude.{◌≡◌, ◌≤◌, ◌<◌, ◌+◌, ◌^
 ghost use Rattle.std.specs.Borrow.{Bor};
 ghost use Rattle.murmur_lanes.specs.Murmur.{hash_of};
 ghost use Rattle.partitioner.specs.Place.{positive_hash};
-ghost use Rattle.partitioner.specs.Private.Groups.{AreKnown, AreOfLength, AreUnhashed, AreWaitingFrom, joined_row};
+ghost use Rattle.partitioner.specs.Private.Groups.{AreComputed, AreOfLength, AreUnhashed, ArePendingFrom, extended_row};
 
 use murmur_lanes::{murmur2, murmur2_x8};
 
@@ -34,10 +34,10 @@ pub fn hash_key(key: &[u8]) -> u32
 }
 
 /// Computes the hashes of all keys. None of them may be computed yet.
-#[tactic(auto, using(crate::proofs::Groups::known_unhashed))]
+#[tactic(auto, using(crate::proofs::Groups::computed_unhashed))]
 pub fn hash_keys(keys: &[&[u8]], hashes: &mut [u32])
-    requires length { length hashes.old ≡ length keys.now }
-    requires unhashed { AreUnhashed hashes.old }
+    requires len { length hashes.old ≡ length keys.now }
+    requires empty { AreUnhashed hashes.old }
     ensures { hashes.new ≡ map (λ key. positive_hash key.now) keys.now }
 {
     hash_eights(keys, hashes);
@@ -46,22 +46,22 @@ pub fn hash_keys(keys: &[&[u8]], hashes: &mut [u32])
 
 /// Hashes the keys that fall into groups of eight of the same length, and leaves the others.
 fn hash_eights(keys: &[&[u8]], hashes: &mut [u32])
-    requires length { length hashes.old ≡ length keys.now }
-    requires known { AreKnown keys.now hashes.old }
-    ensures length { length hashes.new ≡ length keys.now }
-    ensures known { AreKnown keys.now hashes.new }
+    requires len { length hashes.old ≡ length keys.now }
+    requires computed { AreComputed keys.now hashes.old }
+    ensures len { length hashes.new ≡ length keys.now }
+    ensures computed { AreComputed keys.now hashes.new }
 {
     let mut rows = [[0; LANES]; GROUPED];
     let mut counts = [0; GROUPED];
     for i in 0..keys.len() {
         if keys[i].len() < GROUPED {
-            wait(i, keys, &mut rows, &mut counts, hashes);
+            add_to_group(i, keys, &mut rows, &mut counts, hashes);
         }
     }
 }
 
 /// Adds a key to the group of its length, and hashes the group once it has eight keys.
-fn wait(
+fn add_to_group(
     i: usize,
     keys: &[&[u8]],
     rows: &mut [[usize; LANES]; GROUPED],
@@ -69,17 +69,17 @@ fn wait(
     hashes: &mut [u32],
 )
     requires index { i < length keys.now }
-    requires grouped { (d : Bor (List ℕ)) → length (slice_index_or keys.now i d).now < 65 }
-    requires waiting { AreWaitingFrom keys.now 0 rows.old counts.old }
-    requires length { length hashes.old ≡ length keys.now }
-    requires known { AreKnown keys.now hashes.old }
-    ensures waiting { AreWaitingFrom keys.now 0 rows.new counts.new }
-    ensures length { length hashes.new ≡ length keys.now }
-    ensures known { AreKnown keys.now hashes.new }
+    requires bound { (d : Bor (List ℕ)) → length (slice_index_or keys.now i d).now < 65 }
+    requires pending { ArePendingFrom keys.now 0 rows.old counts.old }
+    requires len { length hashes.old ≡ length keys.now }
+    requires computed { AreComputed keys.now hashes.old }
+    ensures pending { ArePendingFrom keys.now 0 rows.new counts.new }
+    ensures len { length hashes.new ≡ length keys.now }
+    ensures computed { AreComputed keys.now hashes.new }
 {
     let len = keys[i].len();
     let count = counts[len];
-    rows[len] = joined(rows[len], count, i);
+    rows[len] = extended(rows[len], count, i);
     if count < LANES - 1 {
         counts[len] = count + 1;
     } else {
@@ -91,10 +91,10 @@ fn wait(
 /// Hashes eight keys of the same length.
 fn hash_eight(row: [usize; LANES], keys: &[&[u8]], hashes: &mut [u32])
     requires row { (len : ℕ) × AreOfLength keys.now len row }
-    requires length { length hashes.old ≡ length keys.now }
-    requires known { AreKnown keys.now hashes.old }
-    ensures length { length hashes.new ≡ length keys.now }
-    ensures known { AreKnown keys.now hashes.new }
+    requires len { length hashes.old ≡ length keys.now }
+    requires computed { AreComputed keys.now hashes.old }
+    ensures len { length hashes.new ≡ length keys.now }
+    ensures computed { AreComputed keys.now hashes.new }
 {
     let [a, b, c, d, e, f, g, h] = row;
     let eight = murmur2_x8([
@@ -107,8 +107,8 @@ fn hash_eight(row: [usize; LANES], keys: &[&[u8]], hashes: &mut [u32])
 
 /// Hashes one by one the keys that are not hashed yet.
 fn hash_rest(keys: &[&[u8]], hashes: &mut [u32])
-    requires length { length hashes.old ≡ length keys.now }
-    requires known { AreKnown keys.now hashes.old }
+    requires len { length hashes.old ≡ length keys.now }
+    requires computed { AreComputed keys.now hashes.old }
     ensures { hashes.new ≡ map (λ key. positive_hash key.now) keys.now }
 {
     for i in 0..keys.len() {
@@ -120,15 +120,15 @@ fn hash_rest(keys: &[&[u8]], hashes: &mut [u32])
 
 /// The group with one more index. A new group is filled with its first index, so that all eight
 /// indices are of keys of one length from then on.
-fn joined(row: [usize; LANES], count: usize, i: usize) -> [usize; LANES]
+fn extended(row: [usize; LANES], count: usize, i: usize) -> [usize; LANES]
     requires { count < 8 }
-    ensures { result ≡ joined_row row count i }
+    ensures { result ≡ extended_row row count i }
 {
     if count == 0 {
         [i; LANES]
     } else {
-        let mut joined = row;
-        joined[count] = i;
-        joined
+        let mut extended = row;
+        extended[count] = i;
+        extended
     }
 }

@@ -124,8 +124,8 @@ impl Partitions {
 
     /// The partition of a key in the first topic, as by `place_in`. It allocates nothing.
     pub fn place(&self, key: &[u8]) -> u32
-        ensures place { result ≡ place_in_topic self.now 0 key.now }
-        ensures within { result < sum self.now }
+        ensures partition { result ≡ place_in_topic self.now 0 key.now }
+        ensures bound { result < sum self.now }
     {
         // Reading a field makes the invariant available: there is a first topic.
         let _ = &self.counts;
@@ -137,8 +137,8 @@ impl Partitions {
     /// the number of partitions of the topics before it. It allocates nothing.
     pub fn place_in(&self, topic: u8, key: &[u8]) -> u32
         requires { topic < length self.now }
-        ensures place { result ≡ place_in_topic self.now topic key.now }
-        ensures within { result < sum self.now }
+        ensures partition { result ≡ place_in_topic self.now topic key.now }
+        ensures bound { result < sum self.now }
     {
         self.place_of_hash(topic as usize, hash_key(key))
     }
@@ -146,8 +146,8 @@ impl Partitions {
     /// The partition in a topic of a key with this hash, whose highest bit is clear.
     fn place_of_hash(&self, topic: usize, hash: u32) -> u32
         requires { topic < length self.now }
-        ensures place { result ≡ place_of_hash self.now topic hash }
-        ensures within { result < sum self.now }
+        ensures partition { result ≡ place_of_hash self.now topic hash }
+        ensures bound { result < sum self.now }
     {
         let counts = &self.counts;
         self.before(topic) + hash % counts[topic]
@@ -168,7 +168,7 @@ impl Partitions {
             places.items ≡ map (λ key. place_in_topic self.now 0 key.now) keys.now) }
     {
         let mut places = vec![in alloc; UNHASHED; keys.len()]?;
-        self.place_pieces(rt, keys, &mut places);
+        self.place_batches(rt, keys, &mut places);
         Ok(places)
     }
 
@@ -185,14 +185,14 @@ impl Partitions {
             (λ keyed. place_in_topic self.now keyed.0 keyed.1.now) (zip topics.now keys.now)) }
     {
         let mut places = vec![in alloc; UNHASHED; keys.len()]?;
-        self.place_pieces_in(rt, topics, keys, &mut places);
+        self.place_batches_in(rt, topics, keys, &mut places);
         Ok(places)
     }
 
     /// Finds the partitions of the keys in batches. No key may be hashed yet.
-    fn place_pieces<R: Threads + Sync>(&self, rt: &R, keys: &[&[u8]], places: &mut [u32])
-        requires length { length places.old ≡ length keys.now }
-        requires unhashed { AreUnhashed places.old }
+    fn place_batches<R: Threads + Sync>(&self, rt: &R, keys: &[&[u8]], places: &mut [u32])
+        requires len { length places.old ≡ length keys.now }
+        requires empty { AreUnhashed places.old }
         ensures { places.new ≡ map (λ key. place_in_topic self.now 0 key.now) keys.now }
     {
         let partitions = *self;
@@ -200,18 +200,18 @@ impl Partitions {
             rt,
             places,
             LEAST_KEYS,
-            |from: usize, piece: &mut [u32]|
-                requires { (from + length piece.now ≤ length keys.now) × AreUnhashed piece.now }
+            |from: usize, batch: &mut [u32]|
+                requires { (from + length batch.now ≤ length keys.now) × AreUnhashed batch.now }
                 ensures { ArePlacedFrom partitions (λ i. 0) keys.entry.now from
-                    (length piece.entry.now) piece.exit.now }
-            { partitions.place_piece(keys, from, piece) },
+                    (length batch.entry.now) batch.exit.now }
+            { partitions.place_batch(keys, from, batch) },
         );
     }
 
     /// Finds the partitions of the keys from this index on, one for each element of `places`.
-    fn place_piece(&self, keys: &[&[u8]], from: usize, places: &mut [u32])
+    fn place_batch(&self, keys: &[&[u8]], from: usize, places: &mut [u32])
         requires range { from + length places.old ≤ length keys.now }
-        requires unhashed { AreUnhashed places.old }
+        requires empty { AreUnhashed places.old }
         ensures { ArePlacedFrom self.now (λ i. 0) keys.now from (length places.old) places.new }
     {
         hash_keys(&keys[from..from + places.len()], places);
@@ -230,16 +230,16 @@ impl Partitions {
     }
 
     /// Finds the partitions of the keys in their topics in batches. No key may be hashed yet.
-    fn place_pieces_in<R: Threads + Sync>(
+    fn place_batches_in<R: Threads + Sync>(
         &self,
         rt: &R,
         topics: &[u8],
         keys: &[&[u8]],
         places: &mut [u32],
     )
-        requires length { length places.old ≡ length keys.now }
+        requires len { length places.old ≡ length keys.now }
         requires topics { AreTopics (length self.now) (length keys.now) topics.now }
-        requires unhashed { AreUnhashed places.old }
+        requires empty { AreUnhashed places.old }
         ensures { places.new
             ≡ map (λ keyed. place_in_topic self.now keyed.0 keyed.1.now) (zip topics.now keys.now) }
     {
@@ -248,21 +248,21 @@ impl Partitions {
             rt,
             places,
             LEAST_KEYS,
-            |from: usize, piece: &mut [u32]|
-                requires piece { (from + length piece.now ≤ length keys.now)
-                    × AreUnhashed piece.now }
+            |from: usize, batch: &mut [u32]|
+                requires batch { (from + length batch.now ≤ length keys.now)
+                    × AreUnhashed batch.now }
                 requires topics { AreTopics (length partitions) (length keys.now) topics.now }
                 ensures { ArePlacedFrom partitions (λ i. slice_index_or topics.entry.now i 0)
-                    keys.entry.now from (length piece.entry.now) piece.exit.now }
-            { partitions.place_piece_in(topics, keys, from, piece) },
+                    keys.entry.now from (length batch.entry.now) batch.exit.now }
+            { partitions.place_batch_in(topics, keys, from, batch) },
         );
     }
 
     /// Finds the partitions of the keys from this index on in their topics, one for each place.
-    fn place_piece_in(&self, topics: &[u8], keys: &[&[u8]], from: usize, places: &mut [u32])
+    fn place_batch_in(&self, topics: &[u8], keys: &[&[u8]], from: usize, places: &mut [u32])
         requires range { from + length places.old ≤ length keys.now }
         requires topics { AreTopics (length self.now) (length keys.now) topics.now }
-        requires unhashed { AreUnhashed places.old }
+        requires empty { AreUnhashed places.old }
         ensures { ArePlacedFrom self.now (λ i. slice_index_or topics.now i 0) keys.now from
             (length places.old) places.new }
     {

@@ -57,7 +57,7 @@ impl Name {
 
     /// The text of the name.
     pub fn text(&self) -> &[u8]
-        ensures text { result.now ≡ self.now }
+        ensures report { result.now ≡ self.now }
         ensures name { is_name self.now ≡ true }
     {
         &self.bytes[..self.size as usize]

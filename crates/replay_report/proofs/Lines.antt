@@ -10,11 +10,11 @@ use Rattle.world.specs.World.{WorldState}
 use Rattle.replay_report.specs.ReplayReport.{LineOutcome, outcome_of_line, rows_of_answer, rows_of_line, text_before, text_of_lines, unless_over}
 use Rattle.group_machine.specs.Cluster.{ClusterState}
 use Rattle.report_rows.specs.ReplayRows.{closing_rows, move_rows}
-use Rattle.replay_report.specs.Private.Replay.{GoesOn, IsOver, WritesText}
+use Rattle.replay_report.specs.Private.Replay.{IsNotFinal, IsOver, WritesText}
 
-goes_on : (answer : Result (Unit {0}) Refusal) (text : Result (List ℕ) Refusal) → answer ≢ Err r.GenerationsOver → unless_over answer text ≡ text
-goes_on (Err r.GenerationsOver) text h = absurd (h refl)
-goes_on answer text h = refl
+not_final : (answer : Result (Unit {0}) Refusal) (text : Result (List ℕ) Refusal) → answer ≢ Err r.GenerationsOver → unless_over answer text ≡ text
+not_final (Err r.GenerationsOver) text h = absurd (h refl)
+not_final answer text h = refl
 
 pub text_of_lines-nil : (topics : List Topic) (batch : ℕ) (w : WorldState) → text_of_lines topics batch w [] ≡ Ok (closing_rows topics w.cluster)
 unfolding text_of_lines
@@ -23,7 +23,7 @@ text_of_lines-nil topics batch w = refl
 pub text_of_lines-next : (topics : List Topic) (batch : ℕ) (w : WorldState) (line : Line) (lines : List Line) → (outcome_of_line batch w line.action).answer ≢ Err r.GenerationsOver
     → text_of_lines topics batch w (line ∷ lines) ≡ text_before (rows_of_line topics line.number w (outcome_of_line batch w line.action)) (text_of_lines topics batch (outcome_of_line batch w line.action).after lines)
 unfolding text_of_lines
-text_of_lines-next topics batch w line lines h = goes_on _ _ h
+text_of_lines-next topics batch w line lines h = not_final _ _ h
 
 pub text_of_lines-over : (topics : List Topic) (batch : ℕ) (w : WorldState) (line : Line) (lines : List Line) → (outcome_of_line batch w line.action).answer ≡ Err r.GenerationsOver → text_of_lines topics batch w (line ∷ lines) ≡ Err r.GenerationsOver
 unfolding text_of_lines
@@ -41,7 +41,7 @@ written Written text now more (Ok rest) e h = let same : now ++ more ≡ text ++
 written Written text now more (Err fault) e h = absurd (cc e)
 
 -- ---- one line
-pub rows_written : (topics : List Topic) (Written : List ℕ → Type 0) (text rows : List ℕ) (line from : ℕ) (w w2 : WorldState) (s : ClusterState) (outcome : LineOutcome) (answer : Result (Unit {0}) Refusal) → GoesOn outcome answer w2 → s ≡ w2.cluster
+pub rows_written : (topics : List Topic) (Written : List ℕ → Type 0) (text rows : List ℕ) (line from : ℕ) (w w2 : WorldState) (s : ClusterState) (outcome : LineOutcome) (answer : Result (Unit {0}) Refusal) → IsNotFinal outcome answer w2 → s ≡ w2.cluster
     → from ≡ length w.cluster.group.moves → rows ≡ rows_of_answer line answer → Written ((text ++ move_rows topics s.group (drop from s.group.moves)) ++ rows) → Written (text ++ rows_of_line topics line w outcome)
 unfolding rows_of_line
 rows_written topics Written text rows line from w w2 s outcome answer goes s_is from_is rows_is h =

@@ -27,7 +27,7 @@ abbrev empty_logs : List ℕ → PartitionLogs
 empty_logs counts = record { counts = counts; partitions = sum counts; keys = []; logs = replicate (sum counts) [] }
 
 abbrev empty_store : ℕ → Commits
-empty_store partitions = record { offsets = replicate partitions 0; counts = []; room = 0 }
+empty_store partitions = record { offsets = replicate partitions 0; counts = []; capacity = 0 }
 
 logs_opening : (counts : List ℕ) (l : PartitionLogs) → IsValidLogs l → AreLogsOf [] l → l.counts ≡ counts → l ≡ empty_logs counts
 logs_opening counts l a h is =
@@ -42,12 +42,12 @@ logs_opening counts l a h is =
     ∙ ap (λ ks. let r : PartitionLogs = record { counts = counts; partitions = n; keys = ks; logs = l.logs } in r) keys
     ∙ ap (λ ls. let r : PartitionLogs = record { counts = counts; partitions = n; keys = []; logs = ls } in r) logs
 
-store_opening : (partitions : ℕ) (s : Commits) → length s.offsets ≡ partitions → ((p : ℕ) → committed_at s p ≡ 0) → s.counts ≡ [] → s.room ≡ 0 → s ≡ empty_store partitions
-store_opening partitions s long offsets counts room =
+store_opening : (partitions : ℕ) (s : Commits) → length s.offsets ≡ partitions → ((p : ℕ) → committed_at s p ≡ 0) → s.counts ≡ [] → s.capacity ≡ 0 → s ≡ empty_store partitions
+store_opening partitions s long offsets counts capacity =
     let offsets : s.offsets ≡ replicate partitions 0 = all_alike s.offsets partitions 0 0 long (λ p lt. offsets p) in
-    ap (λ os. let r : Commits = record { offsets = os; counts = s.counts; room = s.room } in r) offsets
-    ∙ ap (λ cs. let r : Commits = record { offsets = replicate partitions 0; counts = cs; room = s.room } in r) counts
-    ∙ ap (λ n. let r : Commits = record { offsets = replicate partitions 0; counts = []; room = n } in r) room
+    ap (λ os. let r : Commits = record { offsets = os; counts = s.counts; capacity = s.capacity } in r) offsets
+    ∙ ap (λ cs. let r : Commits = record { offsets = replicate partitions 0; counts = cs; capacity = s.capacity } in r) counts
+    ∙ ap (λ n. let r : Commits = record { offsets = replicate partitions 0; counts = []; capacity = n } in r) capacity
 
 cluster_opening : (counts : List ℕ) (s : ClusterState) → s.group ≡ opening (sum counts) → s.logs ≡ empty_logs counts → s.store ≡ empty_store (sum counts)
     → s ≡ record { group = opening (sum counts); logs = empty_logs counts; store = empty_store (sum counts) }
@@ -57,12 +57,12 @@ cluster_opening counts s group logs store =
     ∙ ap (λ x. let r : ClusterState = record { group = opening (sum counts); logs = empty_logs counts; store = x } in r) store
 
 -- there is only one new world with these topics
-pub opening_is : (counts : List ℕ) (w : WorldState) → IsOpening (sum counts) w → w.cluster.logs.counts ≡ counts → ((p : ℕ) → committed_at w.cluster.store p ≡ 0) → IsValidWorld w → w.cluster.store.room ≡ 0 → w ≡ opening_world counts
+pub opening_is : (counts : List ℕ) (w : WorldState) → IsOpening (sum counts) w → w.cluster.logs.counts ≡ counts → ((p : ℕ) → committed_at w.cluster.store p ≡ 0) → IsValidWorld w → w.cluster.store.capacity ≡ 0 → w ≡ opening_world counts
 unfolding opening_world
-opening_is counts w o same offsets v room =
+opening_is counts w o same offsets v capacity =
     let sized : w.cluster.group.partitions ≡ sum counts = ap (λ (g : GroupState). g.partitions) o.group in
     let logs = logs_opening counts w.cluster.logs v.cluster.logs o.logs same in
-    let store = store_opening (sum counts) w.cluster.store (v.cluster.store_partitions ∙ sized) offsets o.counts room in
+    let store = store_opening (sum counts) w.cluster.store (v.cluster.store_partitions ∙ sized) offsets o.counts capacity in
     let cluster = cluster_opening counts w.cluster o.group logs store in
     ap (λ s. let r : WorldState = record { cluster = s; consumers = w.consumers; mail = w.mail } in r) cluster
     ∙ ap (λ cs. let r : WorldState = record { cluster = (opening_world counts).cluster; consumers = cs; mail = w.mail } in r) o.consumers

@@ -35,7 +35,7 @@ opening_world counts = record {
       keys = [];
       logs = replicate (sum counts) [];
     };
-    store = record { offsets = replicate (sum counts) 0; counts = []; room = 0 };
+    store = record { offsets = replicate (sum counts) 0; counts = []; capacity = 0 };
   };
   consumers = [];
   mail = [];

@@ -1,7 +1,7 @@
 //! A replay, from two sources to a sink.
 
 ghost use Rattle.std.specs.Prelude.{◌≡◌, ◌<◌, ◌+◌, ◌-◌, Ok, IfOk, IfErr, IfSome};
-ghost use Rattle.devices.specs.Devices.{CanStillFail};
+ghost use Rattle.byte_io.specs.Devices.{CanStillFail};
 ghost use Rattle.ingest.specs.Records.{AreOfTopics, partition_counts, records_in, records_of};
 ghost use Rattle.ingest.specs.Reports.{AreInRange, MakesIfKnown, CountsFailures, IsFaultOf, IsNoDeviceFault, IsNoWrite, ReadsFileFirst, WritesAtEndAlone, WritesIfKnown, failed_reads, failed_writes, text_seen};
 ghost use Rattle.replay_report.specs.ReplayReport.{report_of_lines, report_of_replay};
@@ -12,8 +12,8 @@ ghost use Rattle.partitioner.specs.Topic.{MayBeTopics};
 mod lines;
 mod loading;
 
+use byte_io::{Sink, Source, read_all, write_all};
 use command_line::Options;
-use devices::{Sink, Source, read_all, write_all};
 use ingest::{FileRecords, file_records};
 use lane_words::Refusal;
 use lines::text_of_lines;
@@ -44,7 +44,7 @@ fn script_lines<S: Source>(
     requires topics { MayBeTopics topics.now }
     ensures lines { IfOk result (λ lines. IfSome (S.left script.old)
         (λ bytes. read_answer_in topics.now bytes ≡ Ok lines.items)) }
-    ensures refused { IfErr result (λ e. IfSome (S.left script.old)
+    ensures fault { IfErr result (λ e. IfSome (S.left script.old)
         (λ bytes. IsFaultOf (read_answer_in topics.now bytes) e)) }
     ensures kind { IfErr result IsNoWrite }
     ensures reads { S.failures script.new ≡ S.failures script.old + failed_reads result }
@@ -84,12 +84,12 @@ fn devices_report<R: Threads + Sync + RandomSource, S: Source, T: Source>(
     requires file { CanStillFail (S.failures file.old) }
     requires script { CanStillFail (T.failures script.old) }
     requires options { AreInRange options.now }
-    ensures text { MakesIfKnown IsFaultOf (report_of_replay options.now)
+    ensures report { MakesIfKnown IsFaultOf (report_of_replay options.now)
         (S.left file.old) (T.left script.old) result }
     ensures kind { IfErr result IsNoWrite }
     ensures reads { CountsFailures (S.failures file.old) (S.failures file.new)
         (T.failures script.old) (T.failures script.new) result }
-    ensures file_first { ReadsFileFirst (records_of options.now) (S.left file.old)
+    ensures order { ReadsFileFirst (records_of options.now) (S.left file.old)
         (S.failures file.old) (S.failures file.new) script.old script.new result }
 {
     let records = file_records(rt, alloc, file, options)?;
@@ -129,10 +129,10 @@ pub fn replay_text<R: Threads + Sync + RandomSource, S: Source, T: Source, K: Si
     requires options { AreInRange options.now }
     ensures report { WritesIfKnown (report_of_replay options.now)
         (S.left file.old) (T.left script.old) (K.written out.old) (K.written out.new) result }
-    ensures nothing_before { WritesAtEndAlone (K.written out.old) (K.written out.new) result }
+    ensures end { WritesAtEndAlone (K.written out.old) (K.written out.new) result }
     ensures reads { CountsFailures (S.failures file.old) (S.failures file.new)
         (T.failures script.old) (T.failures script.new) result }
-    ensures file_first { ReadsFileFirst (records_of options.now) (S.left file.old)
+    ensures order { ReadsFileFirst (records_of options.now) (S.left file.old)
         (S.failures file.old) (S.failures file.new) script.old script.new result }
     ensures writes { K.failures out.new ≡ K.failures out.old + failed_writes result }
 {

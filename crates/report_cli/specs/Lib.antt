@@ -4,11 +4,11 @@ pub use Rattle.command_line.specs.CommandLine
 pub use Rattle.command_line.specs.Options
 pub use Rattle.command_line.specs.Topics
 pub use Rattle.count_report.specs.CountReport
-pub use Rattle.devices.specs.Devices
+pub use Rattle.byte_io.specs.Devices
 pub use Rattle.ingest.specs.RecordFaults
 pub use Rattle.ingest.specs.Records
 pub use Rattle.ingest.specs.Reports
-pub use Rattle.key_file.specs.KeyFile
+pub use Rattle.csv_ingest.specs.KeyFile
 pub use Rattle.replay_report.specs.ReplayReport
 pub use Rattle.report_rows.specs.CountRows
 pub use Rattle.report_rows.specs.ReplayRows

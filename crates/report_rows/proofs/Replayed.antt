@@ -106,6 +106,6 @@ pub committed-fits : (s : ClusterState) (n : ℕ) → IsValidCluster s → n < s
 committed-fits s n valid below = sum-fits s n (committed_at s.store) valid below (λ k. omega (arith, valid.exact.within k, valid.logs.few_records k))
 
 -- ---- the rows at the end
-pub joined_rows : (text a b c d : List ℕ) → (((text ++ a) ++ b) ++ c) ++ d ≡ text ++ (((a ++ b) ++ c) ++ d)
-joined_rows text a b c d =
+pub rows-concatenated : (text a b c d : List ℕ) → (((text ++ a) ++ b) ++ c) ++ d ≡ text ++ (((a ++ b) ++ c) ++ d)
+rows-concatenated text a b c d =
     ap (λ t. (t ++ c) ++ d) (append_assoc text a b) ∙ ap (λ t. t ++ d) (append_assoc text (a ++ b) c) ∙ append_assoc text ((a ++ b) ++ c) d

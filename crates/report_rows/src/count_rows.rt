@@ -18,7 +18,7 @@ use std::thread::Threads;
 const PARTS: u32 = 8;
 
 /// The fewest rows that are worth a thread.
-const LEAST_ROWS: u32 = 16_384;
+const MIN_ROWS_PER_THREAD: u32 = 16_384;
 
 /// Writes the row of a key with its count.
 pub fn write_count(writer: &mut Writer<Vec<u8>>, key: &[u8], count: u64) -> Result<(), Memory>
@@ -36,7 +36,7 @@ fn write_counts<L: LogRead>(
     from: u32,
     to: u32,
 ) -> Result<(), Memory>
-    requires as_many { length (L.contents logs.now).keys ≡ length counts.now }
+    requires len { length (L.contents logs.now).keys ≡ length counts.now }
     requires range { (from ≤ to) × (to ≤ length counts.now) }
     ensures { OnOk result (AddsRows writer.old writer.new
         (rows_between (L.contents logs.now).keys counts.now from to)) }
@@ -48,14 +48,14 @@ fn write_counts<L: LogRead>(
 }
 
 /// The rows of the keys from number `from` on, below `to`, made on this thread.
-fn rows_in_turn<L: LogRead>(
+fn rows_sequential<L: LogRead>(
     alloc: Global,
     logs: &L,
     counts: &[u64],
     from: u32,
     to: u32,
 ) -> Result<Vec<u8>, Memory>
-    requires as_many { length (L.contents logs.now).keys ≡ length counts.now }
+    requires len { length (L.contents logs.now).keys ≡ length counts.now }
     requires range { (from ≤ to) × (to ≤ length counts.now) }
     ensures { IfOk result (λ text. text.items
         ≡ rows_between (L.contents logs.now).keys counts.now from to) }
@@ -66,7 +66,7 @@ fn rows_in_turn<L: LogRead>(
 }
 
 /// A list of one text.
-fn alone(alloc: Global, text: Vec<u8>) -> Result<Vec<Vec<u8>>, Memory>
+fn singleton(alloc: Global, text: Vec<u8>) -> Result<Vec<Vec<u8>>, Memory>
     ensures { IfOk result (λ texts. flat_map vec_items texts.items ≡ text.items) }
 {
     let mut texts = Vec::new(alloc);
@@ -75,7 +75,7 @@ fn alone(alloc: Global, text: Vec<u8>) -> Result<Vec<Vec<u8>>, Memory>
 }
 
 /// Both lists of texts, one after the other.
-fn put_behind(front: Vec<Vec<u8>>, back: Vec<Vec<u8>>) -> Result<Vec<Vec<u8>>, Memory>
+fn concatenated(front: Vec<Vec<u8>>, back: Vec<Vec<u8>>) -> Result<Vec<Vec<u8>>, Memory>
     ensures { IfOk result (λ texts. flat_map vec_items texts.items
         ≡ flat_map vec_items front.items ++ flat_map vec_items back.items) }
 {
@@ -95,22 +95,22 @@ struct Span {
 
 /// The rows of a span of keys, in texts to be written one after another. More than `most` rows are
 /// made in two halves in parallel, and each half likewise.
-fn rows_apart<R: Threads + Sync, L: LogRead + Sync>(
+fn rows_parallel<R: Threads + Sync, L: LogRead + Sync>(
     rt: &R,
     alloc: Global,
     logs: &L,
     counts: &[u64],
     span: Span,
 ) -> Result<Vec<Vec<u8>>, Memory>
-    requires as_many { length (L.contents logs.now).keys ≡ length counts.now }
+    requires len { length (L.contents logs.now).keys ≡ length counts.now }
     requires range { (span.from ≤ span.to) × (span.to ≤ length counts.now) }
-    requires most { 1 ≤ span.most }
+    requires bound { 1 ≤ span.most }
     ensures { IfOk result (λ texts. flat_map vec_items texts.items
         ≡ rows_between (L.contents logs.now).keys counts.now span.from span.to) }
 {
     let Span { from, to, most } = span;
     if to - from <= most {
-        return alone(alloc, rows_in_turn(alloc, logs, counts, from, to)?);
+        return singleton(alloc, rows_sequential(alloc, logs, counts, from, to)?);
     }
     let middle = from + (to - from) / 2;
     let (front, back) = thread::join(
@@ -122,7 +122,7 @@ fn rows_apart<R: Threads + Sync, L: LogRead + Sync>(
             ensures { IfOk result (λ texts. flat_map vec_items texts.items
                 ≡ rows_between (L.contents logs.entry.now).keys counts.entry.now from middle) }
         {
-            rows_apart(
+            rows_parallel(
                 rt,
                 alloc,
                 logs,
@@ -141,7 +141,7 @@ fn rows_apart<R: Threads + Sync, L: LogRead + Sync>(
             ensures { IfOk result (λ texts. flat_map vec_items texts.items
                 ≡ rows_between (L.contents logs.entry.now).keys counts.entry.now middle to) }
         {
-            rows_apart(
+            rows_parallel(
                 rt,
                 alloc,
                 logs,
@@ -154,7 +154,7 @@ fn rows_apart<R: Threads + Sync, L: LogRead + Sync>(
             )
         },
     );
-    put_behind(front?, back?)
+    concatenated(front?, back?)
 }
 
 fn total_text(alloc: Global, committed: u64, appended: u64) -> Result<Vec<u8>, Memory>
@@ -198,12 +198,12 @@ pub fn count_rows_texts<R: Threads + Sync, L: LogRead + Sync>(
         ≡ count_rows (L.contents logs.now).keys counts.now ++ total_row committed appended) }
 {
     let keys = logs.keys();
-    let most = (keys / PARTS).max(LEAST_ROWS);
+    let most = (keys / PARTS).max(MIN_ROWS_PER_THREAD);
     let span = Span {
         from: 0,
         to: keys,
         most,
     };
-    let rows = rows_apart(rt, alloc, logs, counts, span)?;
+    let rows = rows_parallel(rt, alloc, logs, counts, span)?;
     with_end(rows, total_text(alloc, committed, appended)?)
 }

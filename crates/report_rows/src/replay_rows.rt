@@ -28,10 +28,10 @@ fn name_or_empty(cluster: &Cluster, member: Option<u32>) -> &[u8]
 
 /// The name of a partition's topic and the partition's number in it. Without topics there is no
 /// name, and the number is the partition's own.
-fn place_among(topics: &[Topic], partition: u32) -> (Option<&[u8]>, u32)
-    ensures named { IfSome result.0 (λ name. partition_fields topics.now partition
+fn partition_among(topics: &[Topic], partition: u32) -> (Option<&[u8]>, u32)
+    ensures found { IfSome result.0 (λ name. partition_fields topics.now partition
         ≡ name.now ∷ decimal result.1 ∷ []) }
-    ensures bare { IfNone result.0
+    ensures none { IfNone result.0
         (partition_fields topics.now partition ≡ decimal result.1 ∷ []) }
 {
     let mut number = partition;
@@ -54,7 +54,7 @@ fn write_move(
         (AddsRows writer.old writer.new (move_row topics.now cluster.now.group made.now)) }
 {
     let (mut first, mut second) = (Buffer::new(), Buffer::new());
-    let (topic, number) = place_among(topics, made.partition);
+    let (topic, number) = partition_among(topics, made.partition);
     let generation = first.format(made.generation).as_bytes();
     let partition = second.format(number).as_bytes();
     let last = name_or_empty(cluster, made.last);
@@ -116,7 +116,7 @@ fn write_owner(
         (AddsRows writer.old writer.new (owner_row topics.now cluster.now.group p)) }
 {
     let mut digits = Buffer::new();
-    let (topic, number) = place_among(topics, p);
+    let (topic, number) = partition_among(topics, p);
     let partition = digits.format(number).as_bytes();
     let owner = name_or_empty(cluster, cluster.owner(p));
     match topic {
@@ -149,7 +149,7 @@ fn write_offset(
     ensures { OnOk result (AddsRows writer.old writer.new (offset_row topics.now p committed end)) }
 {
     let (mut digits, mut first, mut second) = (Buffer::new(), Buffer::new(), Buffer::new());
-    let (topic, number) = place_among(topics, p);
+    let (topic, number) = partition_among(topics, p);
     let partition = digits.format(number).as_bytes();
     let committed = first.format(committed).as_bytes();
     let end = second.format(end).as_bytes();

@@ -41,14 +41,14 @@ fn joins(rt: &impl Abort, cluster: &mut Cluster, name: &[u8], number: u32) -> bo
 }
 
 /// Whether a step succeeds, or the cluster has these rows.
-fn is_so(
+fn succeeds(
     rt: &impl Abort,
     alloc: Global,
     topics: &[Topic],
     cluster: &mut Cluster,
     step: &Step<'_>,
 ) -> Result<bool, Memory> {
-    let is_so = match step {
+    let succeeds = match step {
         Step::Join(text, number) => joins(rt, cluster, text, *number),
         Step::Append(key) => cluster.append(key).is_ok(),
         Step::Lose(member) => cluster.lose(*member) == Ok(()),
@@ -56,7 +56,7 @@ fn is_so(
         Step::Moves(from, wanted) => has_moves(alloc, topics, cluster, *from, wanted)?,
         Step::Closing(wanted) => has_closing(alloc, topics, cluster, wanted)?,
     };
-    Ok(is_so)
+    Ok(succeeds)
 }
 
 /// The index of the first step that fails.
@@ -68,7 +68,7 @@ fn first_other(
     steps: &[Step<'_>],
 ) -> Result<Option<usize>, Memory> {
     for (index, step) in steps.iter().enumerate() {
-        if !is_so(rt, alloc, topics, cluster, step)? {
+        if !succeeds(rt, alloc, topics, cluster, step)? {
             return Ok(Some(index));
         }
     }
@@ -225,7 +225,7 @@ const OF_TOPICS: [Step; 3] = [
 ];
 
 #[test]
-fn a_partition_is_told_by_its_topic(rt: HostRuntime) {
+fn a_partition_is_named_by_its_topic(rt: HostRuntime) {
     let topics = a_and_b(&rt);
     let other = first_other_of(&rt, rt.alloc(), &topics, 3, &OF_TOPICS);
     assert_eq!(rt; other, Ok(None));
@@ -245,7 +245,7 @@ fn are_refused(alloc: Global, wanted: &[u8]) -> Result<bool, Memory> {
 }
 
 #[test]
-fn a_refused_line_is_told_by_its_number(rt: HostRuntime) {
+fn a_refused_line_is_reported_by_its_number(rt: HostRuntime) {
     let wanted = b"refused,7,2\nrefused,18446744073709551615,11\n";
     assert_eq!(rt; are_refused(rt.alloc(), wanted), Ok(true));
 }

@@ -20,7 +20,7 @@ fn append_each(logs: &mut Logs, keys: &[&[u8]]) -> Result<(), Refusal> {
 }
 
 /// The number of keys in the logs, and whether this one text is the report of these counts.
-fn told<R: Threads + Sync>(
+fn reported<R: Threads + Sync>(
     rt: &R,
     alloc: Global,
     logs: &Logs,
@@ -36,7 +36,7 @@ fn told<R: Threads + Sync>(
 }
 
 /// The same for new logs with a record of each key.
-fn told_of_keys<R: Threads + Sync + RandomSource>(
+fn reported_of_keys<R: Threads + Sync + RandomSource>(
     rt: &R,
     alloc: Global,
     keys: &[&[u8]],
@@ -45,15 +45,15 @@ fn told_of_keys<R: Threads + Sync + RandomSource>(
 ) -> Result<(u32, bool), Refusal> {
     let mut logs = Logs::new(rt, alloc, 1)?;
     append_each(&mut logs, keys)?;
-    Ok(told(rt, alloc, &logs, counts, wanted)?)
+    Ok(reported(rt, alloc, &logs, counts, wanted)?)
 }
 
 #[test]
 fn a_count_is_rows_of_text(rt: HostRuntime) {
     let keys = [b"plain".as_slice(), b"a,\"b", b""];
     let rows = b"count,plain,7\ncount,\"a,\"\"b\",1\ncount,,10\ntotal,12,18\n";
-    let told = told_of_keys(&rt, rt.alloc(), &keys, &[7, 1, 10], rows);
-    assert_eq!(rt; told, Ok((3, true)));
+    let reported = reported_of_keys(&rt, rt.alloc(), &keys, &[7, 1, 10], rows);
+    assert_eq!(rt; reported, Ok((3, true)));
 }
 
 /// Appends a record of each number below this one.
@@ -87,7 +87,7 @@ fn write_each(writer: &mut Writer<Vec<u8>>, logs: &Logs, counts: &[u64]) -> Resu
 }
 
 /// Those rows as a text.
-fn rows_in_turn(alloc: Global, logs: &Logs, counts: &[u64]) -> Result<Vec<u8>, Memory>
+fn rows_sequential(alloc: Global, logs: &Logs, counts: &[u64]) -> Result<Vec<u8>, Memory>
     requires { length logs.now.keys ≡ length counts.now }
 {
     let mut writer = rows::new_writer(alloc);
@@ -96,7 +96,7 @@ fn rows_in_turn(alloc: Global, logs: &Logs, counts: &[u64]) -> Result<Vec<u8>, M
 }
 
 /// Whether these texts are the rows that one thread makes.
-fn are_made_in_turn(
+fn are_made_sequentially(
     alloc: Global,
     logs: &Logs,
     counts: &[u64],
@@ -104,12 +104,12 @@ fn are_made_in_turn(
 ) -> Result<bool, Memory>
     requires { length logs.now.keys ≡ length counts.now }
 {
-    let plain = rows_in_turn(alloc, logs, counts)?;
+    let plain = rows_sequential(alloc, logs, counts)?;
     Ok(is_several(plain.as_slice(), texts))
 }
 
 /// Whether `count_rows_texts` makes those rows.
-fn are_told_in_turn<R: Threads + Sync>(
+fn are_written_sequentially<R: Threads + Sync>(
     rt: &R,
     alloc: Global,
     logs: &Logs,
@@ -118,32 +118,32 @@ fn are_told_in_turn<R: Threads + Sync>(
     requires { length logs.now.keys ≡ length counts.now }
 {
     let texts = count_rows_texts(rt, alloc, logs, counts, 1, 2)?;
-    are_made_in_turn(alloc, logs, counts, texts.as_slice())
+    are_made_sequentially(alloc, logs, counts, texts.as_slice())
 }
 
 /// Whether it does for a count of 3 for each key.
-fn threes_are_told_in_turn<R: Threads + Sync>(
+fn threes_are_written_sequentially<R: Threads + Sync>(
     rt: &R,
     alloc: Global,
     logs: &Logs,
 ) -> Result<bool, Memory> {
     let counts = vec![in alloc; 3_u64; logs.keys() as usize]?;
-    are_told_in_turn(rt, alloc, logs, counts.as_slice())
+    are_written_sequentially(rt, alloc, logs, counts.as_slice())
 }
 
 /// Whether it does for new logs with a record of each number below this one.
-fn numbers_are_told_in_turn<R: Threads + Sync + RandomSource>(
+fn numbers_are_written_sequentially<R: Threads + Sync + RandomSource>(
     rt: &R,
     alloc: Global,
     keys: u32,
 ) -> Result<bool, Refusal> {
     let mut logs = Logs::new(rt, alloc, 1)?;
     append_numbers(&mut logs, keys)?;
-    Ok(threes_are_told_in_turn(rt, alloc, &logs)?)
+    Ok(threes_are_written_sequentially(rt, alloc, &logs)?)
 }
 
 #[test]
-fn many_rows_are_those_made_in_turn(rt: HostRuntime) {
-    let are_told = numbers_are_told_in_turn(&rt, rt.alloc(), 150_000);
-    assert_eq!(rt; are_told, Ok(true));
+fn many_rows_match_sequential_rows(rt: HostRuntime) {
+    let are_reported = numbers_are_written_sequentially(&rt, rt.alloc(), 150_000);
+    assert_eq!(rt; are_reported, Ok(true));
 }

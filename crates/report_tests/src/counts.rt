@@ -6,9 +6,9 @@ ghost use Rattle.ingest.specs.Reports.{AreInRange};
 use crate::slow::{Drip, Page};
 use crate::two_topics::options_of_two;
 use crate::{FILE, TOPIC_FILE, options};
+use byte_io::{FromRead, FromWrite};
 use command_line::Options;
 use count_report::count_text;
-use devices::{FromRead, FromWrite};
 use itoa::Buffer;
 use lane_words::{MOST_PARTITIONS, Memory, Refusal};
 use std::alloc::Global;
@@ -104,7 +104,7 @@ fn counted_slowly<R: Threads + Sync + RandomSource>(
 }
 
 #[test]
-fn a_read_that_fails_is_told_and_nothing_is_written(rt: HostRuntime) {
+fn a_failed_read_is_reported_and_nothing_is_written(rt: HostRuntime) {
     for fails_at in 0..=FILE.len() {
         let mut page = Page::new(rt.alloc(), 100);
         let answer = counted_slowly(&rt, rt.alloc(), fails_at, &mut page);
@@ -126,7 +126,7 @@ fn beginning(calls: u8) -> (Result<(), Refusal>, &'static [u8]) {
 }
 
 #[test]
-fn a_write_that_fails_leaves_a_beginning(rt: HostRuntime) {
+fn a_failed_write_leaves_a_prefix(rt: HostRuntime) {
     for calls in 0..=20_u8 {
         let mut page = Page::new(rt.alloc(), u64::from(calls));
         let answer = counted_slowly(&rt, rt.alloc(), 100, &mut page);

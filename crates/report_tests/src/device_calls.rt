@@ -3,7 +3,7 @@
 ghost use Rattle.std.specs.Prelude.{◌<◌, ◌-◌, ◌^◌};
 
 use crate::slow::{Drip, Page};
-use devices::{FromRead, FromWrite, Source, read_all, read_blocks, write_all, write_texts};
+use byte_io::{FromRead, FromWrite, Source, read_all, read_blocks, write_all, write_texts};
 use lane_words::{Memory, Refusal};
 use std::alloc::Global;
 use std::test::Fail;
@@ -57,7 +57,7 @@ fn gives_in_blocks<R: Threads + Sync, S: Source>(
 }
 
 #[test]
-fn a_source_is_read_in_blocks_whatever_it_expects(rt: HostRuntime) {
+fn a_source_is_read_in_blocks_with_any_estimate(rt: HostRuntime) {
     for count in [0, 1, 2, 4] {
         for expected in [0, 3, 10, 11, 100] {
             let mut file = FromRead::expecting(b"0123456789".as_slice(), expected);
@@ -68,13 +68,13 @@ fn a_source_is_read_in_blocks_whatever_it_expects(rt: HostRuntime) {
 }
 
 #[test]
-fn a_failed_read_is_told(rt: HostRuntime) {
-    let told = drips(rt.alloc(), b"one", 2);
-    assert_eq!(rt; told, Ok((Err(Refusal::ReadFailed), 1)));
+fn a_failed_read_is_reported(rt: HostRuntime) {
+    let reported = drips(rt.alloc(), b"one", 2);
+    assert_eq!(rt; reported, Ok((Err(Refusal::ReadFailed), 1)));
 }
 
 #[test]
-fn a_text_is_written_in_pieces(rt: HostRuntime) {
+fn a_text_is_written_in_several_writes(rt: HostRuntime) {
     let mut page = Page::new(rt.alloc(), 3);
     let answer = write_all(&mut page, b"0123456789");
     assert_eq!(rt;
@@ -115,13 +115,13 @@ fn written_twice(
 #[test]
 fn texts_are_written_one_after_another(rt: HostRuntime) -> Result<(), Fail> {
     let texts = three_texts(rt.alloc())?;
-    let told = written_twice(rt.alloc(), texts.as_slice(), b"0123456789");
-    assert_eq!(rt; told, (Ok(()), true, Err(Refusal::WriteFailed), 1));
+    let reported = written_twice(rt.alloc(), texts.as_slice(), b"0123456789");
+    assert_eq!(rt; reported, (Ok(()), true, Err(Refusal::WriteFailed), 1));
     Ok(())
 }
 
 #[test]
-fn a_failed_write_is_told(rt: HostRuntime) {
+fn a_failed_write_is_reported(rt: HostRuntime) {
     let mut page = Page::new(rt.alloc(), 1);
     let answer = write_all(&mut page, b"0123456789");
     assert_eq!(rt;
@@ -133,7 +133,7 @@ fn a_failed_write_is_told(rt: HostRuntime) {
 // A slice takes only the bytes that fit.
 #[test]
 fn a_full_writer_has_failed(rt: HostRuntime) {
-    let mut room = [0u8; 3];
-    let mut full = FromWrite::new(room.as_mut_slice());
+    let mut buffer = [0u8; 3];
+    let mut full = FromWrite::new(buffer.as_mut_slice());
     assert_eq!(rt; write_all(&mut full, b"abcd"), Err(Refusal::WriteFailed));
 }

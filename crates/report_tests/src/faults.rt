@@ -46,13 +46,13 @@ fn written(
 #[test]
 fn a_fault_has_its_line_and_status(rt: HostRuntime) {
     for (fault, line, code) in &FAULTS {
-        let told = (written(rt.alloc(), fault, 100, line), status(fault));
-        assert_eq!(rt; told, ((Ok(()), true, 0), *code));
+        let reported = (written(rt.alloc(), fault, 100, line), status(fault));
+        assert_eq!(rt; reported, ((Ok(()), true, 0), *code));
     }
 }
 
 #[test]
-fn a_line_that_could_not_be_written_is_told(rt: HostRuntime) {
-    let told = written(rt.alloc(), &Refusal::BadLine { line: 7 }, 2, b"fault 22");
-    assert_eq!(rt; told, (Err(Refusal::WriteFailed), true, 1));
+fn a_failed_write_of_a_line_is_reported(rt: HostRuntime) {
+    let reported = written(rt.alloc(), &Refusal::BadLine { line: 7 }, 2, b"fault 22");
+    assert_eq!(rt; reported, (Err(Refusal::WriteFailed), true, 1));
 }

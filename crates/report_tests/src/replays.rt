@@ -4,8 +4,8 @@ ghost use Rattle.ingest.specs.Reports.{AreInRange};
 
 use crate::two_topics::options_of_two;
 use crate::{FILE, TOPIC_FILE, options};
+use byte_io::{FromRead, FromWrite};
 use command_line::Options;
-use devices::{FromRead, FromWrite};
 use lane_words::{Memory, Refusal};
 use replay_report::replay_text;
 use std::alloc::Global;
@@ -42,7 +42,7 @@ fn replayed_in_four<R: Threads + Sync + RandomSource, W: Write + Drop>(
 }
 
 #[test]
-fn a_join_is_told_by_its_moves(rt: HostRuntime) {
+fn a_join_is_reported_by_its_moves(rt: HostRuntime) {
     const TEXT: &[u8] = b"move,1,0,,A\nmove,1,1,,A\nmove,1,2,,A\nmove,1,3,,A\n\
         owner,0,A\nowner,1,A\nowner,2,A\nowner,3,A\n\
         offset,0,0,2\noffset,1,0,1\noffset,2,0,1\noffset,3,0,1\ntotal,0,5\n";
@@ -52,7 +52,7 @@ fn a_join_is_told_by_its_moves(rt: HostRuntime) {
 }
 
 #[test]
-fn a_commit_that_comes_again_is_told_as_refused(rt: HostRuntime) {
+fn a_repeated_commit_is_reported_as_refused(rt: HostRuntime) {
     const SCRIPT: &[u8] = b"join A\nsettle\npoll A 0 2\nsend A 0\ndeliver 1\ndeliver 1\n";
     const TEXT: &[u8] = b"move,1,0,,A\nmove,1,1,,A\nmove,1,2,,A\nmove,1,3,,A\nrefused,6,11\n\
         owner,0,A\nowner,1,A\nowner,2,A\nowner,3,A\n\
@@ -64,7 +64,7 @@ fn a_commit_that_comes_again_is_told_as_refused(rt: HostRuntime) {
 }
 
 #[test]
-fn a_bad_line_is_told_and_nothing_is_written(rt: HostRuntime) {
+fn a_bad_line_is_reported_and_nothing_is_written(rt: HostRuntime) {
     let mut text = Vec::new(rt.alloc());
     let answer = replayed_in_four(&rt, rt.alloc(), b"jion A", &mut text);
     assert_eq!(rt;

@@ -6,8 +6,8 @@ ghost use Rattle.command_line.specs.declared.options.TheConstants.{MOST_BATCH};
 
 use crate::two_topics::options_of_two;
 use crate::{FILE, TOPIC_FILE};
+use byte_io::{FromRead, FromWrite};
 use command_line::Options;
-use devices::{FromRead, FromWrite};
 use lane_words::{Memory, Refusal};
 use run_report::run_text;
 use std::alloc::Global;
@@ -154,7 +154,7 @@ fn a_plan_that_leaves_nobody_is_refused(rt: HostRuntime) {
 }
 
 #[test]
-fn a_gate_that_stops_leaves_nothing_written(rt: HostRuntime) {
+fn a_stopped_run_writes_nothing(rt: HostRuntime) {
     let ran = ran(&rt, rt.alloc(), TWO, 500, &Always(Stop), b"");
     assert_eq!(rt; ran, (Err(Refusal::GateLimit), true));
 }

@@ -2,7 +2,7 @@
 
 ghost use Rattle.std.specs.Prelude.{◌≡◌, ℕ, IfOk, Some, drop};
 
-use devices::{DeviceFailed, Sink, Source};
+use byte_io::{DeviceFailed, Sink, Source};
 use lane_words::Memory;
 use std::alloc::Global;
 

@@ -3,7 +3,7 @@
 ghost use Rattle.std.specs.Prelude.{◌≤◌};
 ghost use Rattle.partition_log.specs.Logs.{IsValidLogs};
 
-use count_report::{counts_in_groups, counts_in_turn};
+use count_report::{counts_parallel, counts_sequential};
 use keyed_table::Table;
 use lane_words::{MOST_PARTITIONS, Memory, Refusal};
 use partition_log::{LogRead, Logs};
@@ -43,11 +43,11 @@ fn groups_agree<R: Threads + Sync, L: LogRead + Sync>(
     rt: &R,
     alloc: Global,
     logs: &L,
-    in_turn: &Table,
+    sequential: &Table,
 ) -> Result<bool, Memory>
     requires { IsValidLogs (L.contents logs.now) }
 {
-    Ok(counts_in_groups(rt, alloc, logs)?.counts() == in_turn.counts())
+    Ok(counts_parallel(rt, alloc, logs)?.counts() == sequential.counts())
 }
 
 /// Whether the counts made in parallel are those made on one thread.
@@ -58,8 +58,8 @@ fn both_agree<R: Threads + Sync, L: LogRead + Sync>(
 ) -> Result<bool, Memory>
     requires { IsValidLogs (L.contents logs.now) }
 {
-    let in_turn = counts_in_turn(alloc, logs)?;
-    groups_agree(rt, alloc, logs, &in_turn)
+    let sequential = counts_sequential(alloc, logs)?;
+    groups_agree(rt, alloc, logs, &sequential)
 }
 
 /// Whether they are so for new logs of this size.
@@ -76,7 +76,7 @@ fn are_counted_alike<R: Threads + Sync + RandomSource>(
 }
 
 #[test]
-fn counts_side_by_side_and_in_turn(rt: HostRuntime) -> Result<(), Fail> {
+fn parallel_counts_match_sequential_counts(rt: HostRuntime) -> Result<(), Fail> {
     for partitions in [1, 2, 7, 8, 9, 16, 17, 64] {
         for records in [0, 1, 4095, 4096, 20_000] {
             let are_alike = are_counted_alike(&rt, rt.alloc(), partitions, records);

@@ -25,13 +25,13 @@ fn plain(options: &Options) -> Plain {
 }
 
 /// Paths and options. A count has one path.
-type Told<'a> = (&'a str, &'a str, Plain);
+type Parsed<'a> = (&'a str, &'a str, Plain);
 
 /// Arguments, with the job that they ask for.
-type Row = (&'static [&'static str], Told<'static>);
+type Row = (&'static [&'static str], Parsed<'static>);
 
 /// The subcommand of a job, and its paths and options.
-fn told_of<'a>(job: &Job<'a>) -> (&'static str, Told<'a>) {
+fn reported_of<'a>(job: &Job<'a>) -> (&'static str, Parsed<'a>) {
     match job {
         Job::Count { file, options } => ("count", (*file, "", plain(options))),
         Job::Replay {
@@ -48,24 +48,24 @@ fn told_of<'a>(job: &Job<'a>) -> (&'static str, Told<'a>) {
 }
 
 /// Whether the answer is a job of this subcommand, with these paths and options.
-fn is_job(answer: &Result<Job, Usage>, subcommand: &str, told: &Told<'_>) -> bool {
+fn is_job(answer: &Result<Job, Usage>, subcommand: &str, reported: &Parsed<'_>) -> bool {
     match answer {
-        Ok(job) => told_of(job) == (subcommand, *told),
+        Ok(job) => reported_of(job) == (subcommand, *reported),
         Err(_) => false,
     }
 }
 
 /// Whether the arguments ask for that job. A test asserts the result of this function and owns no
 /// answer: an assertion is proved together with the drops of what is owned.
-fn asks_for(alloc: Global, words: &[&str], subcommand: &str, told: &Told<'_>) -> bool {
+fn asks_for(alloc: Global, words: &[&str], subcommand: &str, reported: &Parsed<'_>) -> bool {
     let answer = read_words(alloc, words);
-    is_job(&answer, subcommand, told)
+    is_job(&answer, subcommand, reported)
 }
 
 /// The index of the first row whose arguments do not ask for that job of this subcommand.
 fn first_other(alloc: Global, subcommand: &str, rows: &[Row]) -> Option<usize> {
-    for (i, (words, told)) in rows.iter().enumerate() {
-        if !asks_for(alloc, words, subcommand, told) {
+    for (i, (words, reported)) in rows.iter().enumerate() {
+        if !asks_for(alloc, words, subcommand, reported) {
             return Some(i);
         }
     }
@@ -129,7 +129,7 @@ const COUNTS: [Row; 9] = [
 ];
 
 #[test]
-fn options_stand_round_the_path(rt: HostRuntime) {
+fn options_come_before_and_after_the_path(rt: HostRuntime) {
     assert_eq!(rt; first_other(rt.alloc(), "count", &COUNTS), None);
 }
 
@@ -231,7 +231,7 @@ fn tells(answer: &Result<Job, Usage>, wanted: Option<Topics>, column: u32) -> bo
 }
 
 /// Whether the arguments are answered so.
-fn are_told(alloc: Global, words: &[&str], wanted: Option<Topics>, column: u32) -> bool {
+fn are_reported(alloc: Global, words: &[&str], wanted: Option<Topics>, column: u32) -> bool {
     let answer = read_words(alloc, words);
     tells(&answer, wanted, column)
 }
@@ -283,7 +283,7 @@ const LISTS: [(&str, Option<Topics>); 24] = [
 fn lists_of_topics_are_read(rt: HostRuntime) {
     for (i, (list, wanted)) in LISTS.iter().enumerate() {
         let words = ["count", "f", "--topics", list];
-        assert!(rt; are_told(rt.alloc(), &words, *wanted, 2), "case {i}");
+        assert!(rt; are_reported(rt.alloc(), &words, *wanted, 2), "case {i}");
     }
 }
 
@@ -311,7 +311,10 @@ const TOPICS: [(&[&str], u32, Option<Topics>); 6] = [
 #[test]
 fn each_subcommand_has_topics(rt: HostRuntime) {
     for (i, (words, column, wanted)) in TOPICS.iter().enumerate() {
-        assert!(rt; are_told(rt.alloc(), words, *wanted, *column), "case {i}");
+        assert!(rt;
+            are_reported(rt.alloc(), words, *wanted, *column),
+            "case {i}"
+        );
     }
 }
 
@@ -401,7 +404,7 @@ const HELPS: [(&[&str], &str, &str); 6] = [
 ];
 
 #[test]
-fn help_tells_what_there_is(rt: HostRuntime) {
+fn help_lists_the_subcommands(rt: HostRuntime) {
     for (i, (words, begin, end)) in HELPS.iter().enumerate() {
         assert!(rt; is_asked(rt.alloc(), words, begin, end), "case {i}");
     }

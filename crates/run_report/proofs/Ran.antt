@@ -13,14 +13,14 @@ use Rattle.std.proofs.lemmas.Slice.Eq.{bytes_eq-Decides}
 use Rattle.lane_words.specs.Sums.{sum_below}
 use Rattle.lane_words.specs.declared.Refusal.{Refusal}
 use Rattle.lane_words.specs.declared.Refusal.TheVariants as r
-use Rattle.partition_log.specs.Keys.{Key, Keyed, distinct, is_known, key_at, keys_in, plain, with_key}
+use Rattle.partition_log.specs.Keys.{Key, Keyed, distinct, is_interned, key_at, keys_in, plain, with_key}
 use Rattle.partition_log.specs.Logs.{IsOfTopic}
 use Rattle.partition_log.proofs.Numbered.{number-back}
 use Rattle.partition_log.proofs.Parted.{sum-plus, sum-same, sum-zero}
 use Rattle.partition_log.proofs.Valid.{place-below}
 use Rattle.commit_store.specs.Commits.{committed_at}
 use Rattle.group_machine.specs.Cluster.{ClusterState}
-use Rattle.group_laws.specs.Rounds.{bare, bare_seat}
+use Rattle.group_laws.specs.Rounds.{without_flags, seat_without_flags}
 use Rattle.group_machine.specs.Slots.{each_changed, present, reseated_from}
 use Rattle.group_machine.specs.State.{GroupState, name_of, owner_of}
 use Rattle.group_machine.specs.declared.group.Move.{Move}
@@ -39,7 +39,7 @@ use Rattle.report_rows.specs.ReplayRows.{closing_rows, committed_count_rows, com
 use Rattle.run_report.specs.RunReport.{ended_rows, group_rows, records_to, report_of_plan, text_of_run}
 use Rattle.run_report.specs.Private.Runs.{EndsRun, IsRunOver}
 use Rattle.report_rows.proofs.Counts.{counts-are}
-use Rattle.ingest.specs.Records.{partition_counts, place_of_record}
+use Rattle.ingest.specs.Records.{partition_counts, partition_of_record}
 use Rattle.ingest.proofs.Placed.{log-long, partitions-are}
 use Rattle.report_rows.proofs.Replayed.{counted_is}
 
@@ -50,50 +50,50 @@ name_reseated m f [] k = refl
 name_reseated m f (s ∷ slots) zero = refl
 name_reseated m f (s ∷ slots) (suc k) = name_reseated (suc m) f slots k
 
-name_bare : (g : GroupState) (member : ℕ) → name_of (bare g) member ≡ name_of g member
-name_bare g zero = refl
-name_bare g (suc k) = name_reseated 1 (λ m. option_map bare_seat) g.slots k
+name_without_flags : (g : GroupState) (member : ℕ) → name_of (without_flags g) member ≡ name_of g member
+name_without_flags g zero = refl
+name_without_flags g (suc k) = name_reseated 1 (λ m. option_map seat_without_flags) g.slots k
 
-named_bare : (g : GroupState) (member : Option ℕ) → name_or_empty (bare g) member ≡ name_or_empty g member
-named_bare g None = refl
-named_bare g (Some member) = ap (λ name. unwrap_or name []) (name_bare g member)
+named_without_flags : (g : GroupState) (member : Option ℕ) → name_or_empty (without_flags g) member ≡ name_or_empty g member
+named_without_flags g None = refl
+named_without_flags g (Some member) = ap (λ name. unwrap_or name []) (name_without_flags g member)
 
-found_bare : (p : ℕ × Seat → Bool) → ((m : ℕ) (x : Seat) → p (m, bare_seat x) ≡ p (m, x)) → (ms : List (ℕ × Seat))
-    → option_map (λ (m : ℕ × Seat). m.0) (find p (map (λ (m : ℕ × Seat). (m.0, bare_seat m.1)) ms)) ≡ option_map (λ (m : ℕ × Seat). m.0) (find p ms)
-found_bare p same [] = refl
-found_bare p same (m ∷ ms) = rw (same m.0 m.1) (go (p m) _ _ (found_bare p same ms))
+found_without_flags : (p : ℕ × Seat → Bool) → ((m : ℕ) (x : Seat) → p (m, seat_without_flags x) ≡ p (m, x)) → (ms : List (ℕ × Seat))
+    → option_map (λ (m : ℕ × Seat). m.0) (find p (map (λ (m : ℕ × Seat). (m.0, seat_without_flags m.1)) ms)) ≡ option_map (λ (m : ℕ × Seat). m.0) (find p ms)
+found_without_flags p same [] = refl
+found_without_flags p same (m ∷ ms) = rw (same m.0 m.1) (go (p m) _ _ (found_without_flags p same ms))
   where
     go : (b : Bool) (xs ys : Option (ℕ × Seat)) → option_map (λ (m : ℕ × Seat). m.0) xs ≡ option_map (λ (m : ℕ × Seat). m.0) ys
-        → option_map (λ (m : ℕ × Seat). m.0) (cond b (Some (m.0, bare_seat m.1)) xs) ≡ option_map (λ (m : ℕ × Seat). m.0) (cond b (Some m) ys)
+        → option_map (λ (m : ℕ × Seat). m.0) (cond b (Some (m.0, seat_without_flags m.1)) xs) ≡ option_map (λ (m : ℕ × Seat). m.0) (cond b (Some m) ys)
     go true xs ys e = refl
     go false xs ys e = e
 
-present_bare : (p : ℕ × Seat → Bool) → ((m : ℕ) (x : Seat) → p (m, bare_seat x) ≡ p (m, x)) → (slots : List Slot)
-    → option_map (λ (m : ℕ × Seat). m.0) (find p (present (each_changed (λ m. bare_seat) slots))) ≡ option_map (λ (m : ℕ × Seat). m.0) (find p (present slots))
-present_bare p same slots = ap (λ ms. option_map (λ (m : ℕ × Seat). m.0) (find p ms)) (present_each (λ m. bare_seat) slots) ∙ found_bare p same (present slots)
+present_without_flags : (p : ℕ × Seat → Bool) → ((m : ℕ) (x : Seat) → p (m, seat_without_flags x) ≡ p (m, x)) → (slots : List Slot)
+    → option_map (λ (m : ℕ × Seat). m.0) (find p (present (each_changed (λ m. seat_without_flags) slots))) ≡ option_map (λ (m : ℕ × Seat). m.0) (find p (present slots))
+present_without_flags p same slots = ap (λ ms. option_map (λ (m : ℕ × Seat). m.0) (find p ms)) (present_each (λ m. seat_without_flags) slots) ∙ found_without_flags p same (present slots)
 
-owner_bare : (g : GroupState) (q : ℕ) → owner_of (bare g) q ≡ owner_of g q
-owner_bare g q = present_bare _ (λ m x. refl) g.slots
+owner_without_flags : (g : GroupState) (q : ℕ) → owner_of (without_flags g) q ≡ owner_of g q
+owner_without_flags g q = present_without_flags _ (λ m x. refl) g.slots
 
-move_bare : (topics : List Topic) (g : GroupState) (move : Move) → move_row topics (bare g) move ≡ move_row topics g move
+move_without_flags : (topics : List Topic) (g : GroupState) (move : Move) → move_row topics (without_flags g) move ≡ move_row topics g move
 unfolding move_row
-move_bare topics g move = rw (named_bare g move.last, named_bare g (Some move.holder)) refl
+move_without_flags topics g move = rw (named_without_flags g move.last, named_without_flags g (Some move.holder)) refl
 
-moves_bare : (topics : List Topic) (g : GroupState) (moves : List Move) → move_rows topics (bare g) moves ≡ move_rows topics g moves
+moves_without_flags : (topics : List Topic) (g : GroupState) (moves : List Move) → move_rows topics (without_flags g) moves ≡ move_rows topics g moves
 unfolding move_rows
-moves_bare topics g [] = refl
-moves_bare topics g (move ∷ moves) = ap₂ (λ a b. a ++ b) (move_bare topics g move) (moves_bare topics g moves)
+moves_without_flags topics g [] = refl
+moves_without_flags topics g (move ∷ moves) = ap₂ (λ a b. a ++ b) (move_without_flags topics g move) (moves_without_flags topics g moves)
 
-owner_row_bare : (topics : List Topic) (g : GroupState) (p : ℕ) → owner_row topics (bare g) p ≡ owner_row topics g p
+owner_row_without_flags : (topics : List Topic) (g : GroupState) (p : ℕ) → owner_row topics (without_flags g) p ≡ owner_row topics g p
 unfolding owner_row
-owner_row_bare topics g p = rw (owner_bare g p, named_bare g (owner_of g p)) refl
+owner_row_without_flags topics g p = rw (owner_without_flags g p, named_without_flags g (owner_of g p)) refl
 
 rows_same : (n : ℕ) (row other : ℕ → List ℕ) → ((p : ℕ) → p < n → row p ≡ other p) → rows_below n row ≡ rows_below n other
 rows_same zero row other h = refl
 rows_same (suc n) row other h = ap₂ (λ a b. a ++ b) (rows_same n row other (λ p lt. h p (omega (arith, lt)))) (h n (omega arith))
 
-group_bare : (topics : List Topic) (g : GroupState) → group_rows topics (bare g) ≡ group_rows topics g
-group_bare topics g = ap₂ (λ a b. a ++ b) (moves_bare topics g g.moves) (rows_same g.partitions (owner_row topics (bare g)) (owner_row topics g) (λ p lt. owner_row_bare topics g p))
+group_without_flags : (topics : List Topic) (g : GroupState) → group_rows topics (without_flags g) ≡ group_rows topics g
+group_without_flags topics g = ap₂ (λ a b. a ++ b) (moves_without_flags topics g g.moves) (rows_same g.partitions (owner_row topics (without_flags g)) (owner_row topics g) (λ p lt. owner_row_without_flags topics g p))
 
 -- ---- the ends of the logs
 partitions_are : (counts : List ℕ) (records : List Keyed) (plan : List Change) (s : ClusterState) → IsRunOver counts records plan s → s.logs.partitions ≡ sum counts
@@ -114,11 +114,11 @@ offsets_are topics counts records plan s h =
     ∙ ap (λ m. rows_below m (λ p. offset_row topics p (records_to counts records p) (records_to counts records p))) n
 
 -- ---- the totals: each record is in one partition
-at_place : ℕ → ℕ → ℕ
-at_place place p = cond (place == p) 1 0
+at_partition : ℕ → ℕ → ℕ
+at_partition place p = cond (place == p) 1 0
 
-not_there : (place n : ℕ) → n ≤ place → sum_below n (at_place place) ≡ 0
-unfolding at_place
+not_there : (place n : ℕ) → n ≤ place → sum_below n (at_partition place) ≡ 0
+unfolding at_partition
 not_there place zero le = refl
 not_there place (suc n) le =
     let none : (place == n) ≡ false = elim (eqb_tells place n) [
@@ -127,8 +127,8 @@ not_there place (suc n) le =
     ] in
     rw none (omega (arith, not_there place n (omega (arith, le))))
 
-there : (place n : ℕ) → place < n → sum_below n (at_place place) ≡ 1
-unfolding at_place
+there : (place n : ℕ) → place < n → sum_below n (at_partition place) ≡ 1
+unfolding at_partition
 there place zero lt = absurd (omega (arith, lt))
 there place (suc n) lt =
     elim (eqb_tells place n) [
@@ -140,42 +140,42 @@ one_record : (b : Bool) (keyed : Keyed) (records : List Keyed) → length (cond 
 one_record true keyed records = omega arith
 one_record false keyed records = omega arith
 
-parted : (n : ℕ) (counts : List ℕ) (records : List Keyed) → All (λ keyed. place_of_record counts keyed < n) records → sum_below n (records_to counts records) ≡ length records
-unfolding at_place
+parted : (n : ℕ) (counts : List ℕ) (records : List Keyed) → All (λ keyed. partition_of_record counts keyed < n) records → sum_below n (records_to counts records) ≡ length records
+unfolding at_partition
 parted n counts [] placed = sum-zero n
 parted n counts (keyed ∷ records) placed =
-    let place = place_of_record counts keyed in
-    sum-same n (records_to counts (keyed ∷ records)) (λ p. at_place place p + records_to counts records p)
-    (λ p lt. one_record (place_of_record counts keyed == p) keyed (filter (λ (k : Keyed). place_of_record counts k == p) records))
-    ∙ sum-plus n (at_place place) (records_to counts records)
-    ∙ ap (λ m. m + sum_below n (records_to counts records)) (there place n (All-head (λ (k : Keyed). place_of_record counts k < n) keyed records placed))
-    ∙ omega (arith, parted n counts records (All-tail (λ (k : Keyed). place_of_record counts k < n) keyed records placed))
+    let place = partition_of_record counts keyed in
+    sum-same n (records_to counts (keyed ∷ records)) (λ p. at_partition place p + records_to counts records p)
+    (λ p lt. one_record (partition_of_record counts keyed == p) keyed (filter (λ (k : Keyed). partition_of_record counts k == p) records))
+    ∙ sum-plus n (at_partition place) (records_to counts records)
+    ∙ ap (λ m. m + sum_below n (records_to counts records)) (there place n (All-head (λ (k : Keyed). partition_of_record counts k < n) keyed records placed))
+    ∙ omega (arith, parted n counts records (All-tail (λ (k : Keyed). partition_of_record counts k < n) keyed records placed))
 
 totals_are : (counts : List ℕ) (records : List Keyed) (plan : List Change) (s : ClusterState) → IsRunOver counts records plan s → (committed_total s ≡ length records) × (appended_total s ≡ length records)
 totals_are counts records plan s h =
     let n : s.group.partitions ≡ s.logs.partitions = sym h.valid.logs_partitions in
-    let placed : All (λ keyed. place_of_record counts keyed < s.logs.partitions) records =
-    All-weaker (IsOfTopic s.logs) (λ keyed. place_of_record counts keyed < s.logs.partitions) (λ keyed topic.
-    subst (λ cs. place_of_record cs keyed < s.logs.partitions) h.counts_are (place-below s.logs keyed h.valid.logs topic)) records h.logs.topics in
+    let placed : All (λ keyed. partition_of_record counts keyed < s.logs.partitions) records =
+    All-weaker (IsOfTopic s.logs) (λ keyed. partition_of_record counts keyed < s.logs.partitions) (λ keyed topic.
+    subst (λ cs. partition_of_record cs keyed < s.logs.partitions) h.counts_are (place-below s.logs keyed h.valid.logs topic)) records h.logs.topics in
     let all : sum_below s.group.partitions (records_to counts records) ≡ length records = ap (λ m. sum_below m (records_to counts records)) n ∙ parted s.logs.partitions counts records placed in (
       sum-same s.group.partitions (committed_at s.store) (records_to counts records) (λ p lt. (ends_are counts records plan s h p lt).0) ∙ all,
       sum-same s.group.partitions (end_of s.logs) (records_to counts records) (λ p lt. (ends_are counts records plan s h p lt).1) ∙ all,
     )
 
 -- ---- the counts: each of the distinct keys was counted at least once
-one_more : (seen : List Key) (x k : Key) → is_known (with_key seen x) k ≡ true → (is_known seen k ≡ true) ⊎ (bytes_eq k x ≡ true)
-one_more seen x k h = go (is_known seen x) h
+one_more : (seen : List Key) (x k : Key) → is_interned (with_key seen x) k ≡ true → (is_interned seen k ≡ true) ⊎ (bytes_eq k x ≡ true)
+one_more seen x k h = go (is_interned seen x) h
   where
     last : (a b : Bool) → (a || (b || false)) ≡ true → (a ≡ true) ⊎ (b ≡ true)
     last true b e = inl refl
     last false true e = inr refl
     last false false e = absurd (cc e)
 
-    go : (b : Bool) → is_known (cond b seen (seen ++ x ∷ [])) k ≡ true → (is_known seen k ≡ true) ⊎ (bytes_eq k x ≡ true)
+    go : (b : Bool) → is_interned (cond b seen (seen ++ x ∷ [])) k ≡ true → (is_interned seen k ≡ true) ⊎ (bytes_eq k x ≡ true)
     go true e = inl e
-    go false e = last (is_known seen k) (bytes_eq k x) (sym (list_any-append (bytes_eq k) seen (x ∷ [])) ∙ e)
+    go false e = last (is_interned seen k) (bytes_eq k x) (sym (list_any-append (bytes_eq k) seen (x ∷ [])) ∙ e)
 
-known_there : (seen keys : List Key) (k : Key) → is_known (fold with_key seen keys) k ≡ true → (is_known seen k ≡ true) ⊎ (is_known keys k ≡ true)
+known_there : (seen keys : List Key) (k : Key) → is_interned (fold with_key seen keys) k ≡ true → (is_interned seen k ≡ true) ⊎ (is_interned keys k ≡ true)
 known_there seen [] k h = inl h
 known_there seen (x ∷ keys) k h = go (known_there (with_key seen x) keys k h)
   where
@@ -187,36 +187,36 @@ known_there seen (x ∷ keys) k h = go (known_there (with_key seen x) keys k h)
     or_right true d e = refl
     or_right false d e = e
 
-    first : (is_known seen k ≡ true) ⊎ (bytes_eq k x ≡ true) → (is_known seen k ≡ true) ⊎ (is_known (x ∷ keys) k ≡ true)
+    first : (is_interned seen k ≡ true) ⊎ (bytes_eq k x ≡ true) → (is_interned seen k ≡ true) ⊎ (is_interned (x ∷ keys) k ≡ true)
     first (inl e) = inl e
-    first (inr e) = inr (or_left (bytes_eq k x) (is_known keys k) e)
+    first (inr e) = inr (or_left (bytes_eq k x) (is_interned keys k) e)
 
-    go : (is_known (with_key seen x) k ≡ true) ⊎ (is_known keys k ≡ true) → (is_known seen k ≡ true) ⊎ (is_known (x ∷ keys) k ≡ true)
+    go : (is_interned (with_key seen x) k ≡ true) ⊎ (is_interned keys k ≡ true) → (is_interned seen k ≡ true) ⊎ (is_interned (x ∷ keys) k ≡ true)
     go (inl e) = first (one_more seen x k e)
-    go (inr e) = inr (or_right (bytes_eq k x) (is_known keys k) e)
+    go (inr e) = inr (or_right (bytes_eq k x) (is_interned keys k) e)
 
-counted_there : (keys : List Key) (k : Key) → is_known keys k ≡ true → plain keys k ≡ 0 → ⊥
+counted_there : (keys : List Key) (k : Key) → is_interned keys k ≡ true → plain keys k ≡ 0 → ⊥
 counted_there [] k h e = absurd (cc h)
 counted_there (x ∷ keys) k h e = go (bytes_eq k x) (counted_there keys k) h (sym (sum_by-cons (λ y. cond (bytes_eq k y) 1 0) x keys) ∙ e)
   where
-    go : (b : Bool) → (is_known keys k ≡ true → plain keys k ≡ 0 → ⊥) → (b || is_known keys k) ≡ true → cond b 1 0 + plain keys k ≡ 0 → ⊥
+    go : (b : Bool) → (is_interned keys k ≡ true → plain keys k ≡ 0 → ⊥) → (b || is_interned keys k) ≡ true → cond b 1 0 + plain keys k ≡ 0 → ⊥
     go true later h e = omega (arith, e)
     go false later h e = later h (omega (arith, e))
 
-distinct_counted : (keys : List Key) (k : Key) → is_known (distinct keys) k ≡ true → plain keys k ≡ 0 → ⊥
+distinct_counted : (keys : List Key) (k : Key) → is_interned (distinct keys) k ≡ true → plain keys k ≡ 0 → ⊥
 unfolding distinct
 distinct_counted keys k h = elim (known_there [] keys k h) [
   | inl e ↦ absurd (cc e)
   | inr e ↦ counted_there keys k e
 ]
 
-counted_rows : (keys some : List Key) → ((k : Key) → is_known some k ≡ true → plain keys k ≡ 0 → ⊥) → committed_count_rows some (map (plain keys) some) ≡ count_rows some (map (plain keys) some)
+counted_rows : (keys some : List Key) → ((k : Key) → is_interned some k ≡ true → plain keys k ≡ 0 → ⊥) → committed_count_rows some (map (plain keys) some) ≡ count_rows some (map (plain keys) some)
 unfolding committed_count_rows count_rows
 counted_rows keys [] h = refl
 counted_rows keys (k ∷ some) h =
-    ap₂ (λ a b. a ++ b) (counted_is k (plain keys k) (h k (here k))) (counted_rows keys some (λ x e. h x (later (bytes_eq x k) (is_known some x) e)))
+    ap₂ (λ a b. a ++ b) (counted_is k (plain keys k) (h k (here k))) (counted_rows keys some (λ x e. h x (later (bytes_eq x k) (is_interned some x) e)))
   where
-    here : (k : Key) → is_known (k ∷ some) k ≡ true
+    here : (k : Key) → is_interned (k ∷ some) k ≡ true
     here k = let same : bytes_eq k k ≡ true = (bytes_eq-Decides k k).1 refl in rw same refl
 
     later : (b d : Bool) → d ≡ true → (b || d) ≡ true
@@ -237,8 +237,8 @@ counts_are counts records plan s h =
     ∙ counted_rows (keys_in records) (distinct (keys_in records)) (distinct_counted (keys_in records))
 
 -- ---- the text
-joined : (m o f c t : List ℕ) → m ++ (((o ++ f) ++ c) ++ t) ≡ ((m ++ o) ++ f) ++ (c ++ t)
-joined m o f c t =
+concatenated : (m o f c t : List ℕ) → m ++ (((o ++ f) ++ c) ++ t) ≡ ((m ++ o) ++ f) ++ (c ++ t)
+concatenated m o f c t =
     sym (append_assoc m ((o ++ f) ++ c) t) ∙ ap (λ x. x ++ t) (sym (append_assoc m (o ++ f) c) ∙ ap (λ x. x ++ c) (sym (append_assoc m o f)))
     ∙ append_assoc ((m ++ o) ++ f) c t
 
@@ -249,23 +249,23 @@ unfolding text_of_run
 text_is topics counts records plan s h =
     let keys = keys_in records in
     let n = sum counts in
-    let group : group_rows topics s.group ≡ group_rows topics (settled n plan) = sym (group_bare topics s.group) ∙ ap (group_rows topics) (h.run.group ∙ ap (λ m. settled m plan) (partitions_are counts records plan s h)) in
+    let group : group_rows topics s.group ≡ group_rows topics (settled n plan) = sym (group_without_flags topics s.group) ∙ ap (group_rows topics) (h.run.group ∙ ap (λ m. settled m plan) (partitions_are counts records plan s h)) in
     let long : length records ≡ length keys = sym (length-map records (λ (keyed : Keyed). keyed.1)) in
     let totals = totals_are counts records plan s h in
-    joined (move_rows topics s.group s.group.moves) (owner_rows topics s.group) (offset_rows topics s) (committed_count_rows s.logs.keys s.store.counts) (total_row (committed_total s) (appended_total s))
+    concatenated (move_rows topics s.group s.group.moves) (owner_rows topics s.group) (offset_rows topics s) (committed_count_rows s.logs.keys s.store.counts) (total_row (committed_total s) (appended_total s))
     ∙ ap (λ g. (g ++ offset_rows topics s) ++ (committed_count_rows s.logs.keys s.store.counts ++ total_row (committed_total s) (appended_total s))) group
     ∙ ap (λ o. (group_rows topics (settled n plan) ++ o) ++ (committed_count_rows s.logs.keys s.store.counts ++ total_row (committed_total s) (appended_total s))) (offsets_are topics counts records plan s h)
     ∙ ap (λ c. (group_rows topics (settled n plan) ++ ended_rows topics counts records) ++ (c ++ total_row (committed_total s) (appended_total s))) (counts_are counts records plan s h)
     ∙ ap₂ (λ c t. (group_rows topics (settled n plan) ++ ended_rows topics counts records) ++ (count_rows (distinct keys) (counts_of keys) ++ total_row c t)) (totals.0 ∙ long) (totals.1 ∙ long)
 
-pub text_told : (options : Options) (records : List Keyed) (plan : List Change) (text : List ℕ) → first_fault (partition_counts options) [] records ≡ None
+pub text_reported : (options : Options) (records : List Keyed) (plan : List Change) (text : List ℕ) → first_fault (partition_counts options) [] records ≡ None
     → text ≡ text_of_run options.topics.items (partition_counts options) records plan → report_of_plan options records plan ≡ Ok text
 unfolding report_of_plan
-text_told options records plan text none is = ap (λ fault. fault_or fault (text_of_run options.topics.items (partition_counts options) records plan)) none ∙ ap Ok (sym is)
+text_reported options records plan text none is = ap (λ fault. fault_or fault (text_of_run options.topics.items (partition_counts options) records plan)) none ∙ ap Ok (sym is)
 
-fault_told : (options : Options) (records : List Keyed) (plan : List Change) (fault : Refusal) → first_fault (partition_counts options) [] records ≡ Some fault → report_of_plan options records plan ≡ Err fault
+fault_reported : (options : Options) (records : List Keyed) (plan : List Change) (fault : Refusal) → first_fault (partition_counts options) [] records ≡ Some fault → report_of_plan options records plan ≡ Err fault
 unfolding report_of_plan
-fault_told options records plan fault some = ap (λ o. fault_or o (text_of_run options.topics.items (partition_counts options) records plan)) some
+fault_reported options records plan fault some = ap (λ o. fault_or o (text_of_run options.topics.items (partition_counts options) records plan)) some
 
 is_ok : {T : Type 0} (expected : Result T Refusal) (text : T) → expected ≡ Ok text → IsOk expected
 is_ok expected text e = rw e refl
@@ -280,13 +280,13 @@ key_ends report e k h = absurd k
 
 pub key_ends_run : (options : Options) (records : List Keyed) (plan : List Change) (e : Refusal) → IsKeyFault e → (e ≡ r.Memory) ⊎ (first_fault (partition_counts options) [] records ≡ Some e) → EndsRun (report_of_plan options records plan) e
 key_ends_run options records plan e k (inl m) = key_ends (report_of_plan options records plan) e k (inl m)
-key_ends_run options records plan e k (inr h) = key_ends (report_of_plan options records plan) e k (inr (fault_told options records plan e h))
+key_ends_run options records plan e k (inr h) = key_ends (report_of_plan options records plan) e k (inr (fault_reported options records plan e h))
 
 pub refusal_ends_run : (options : Options) (records : List Keyed) (plan : List Change) (e : Refusal) → first_fault (partition_counts options) [] records ≡ None → IsRunRefusal e → EndsRun (report_of_plan options records plan) e
 refusal_ends_run options records plan e none h = go h
   where
     told : IsOk (report_of_plan options records plan)
-    told = is_ok (report_of_plan options records plan) _ (text_told options records plan _ none refl)
+    told = is_ok (report_of_plan options records plan) _ (text_reported options records plan _ none refl)
 
     go : IsRunRefusal e → EndsRun (report_of_plan options records plan) e
     go (inl m) = subst (EndsRun (report_of_plan options records plan)) (sym m) tt

@@ -14,14 +14,14 @@ use Rattle.workers.specs.Plans.{settled}
 use Rattle.command_line.specs.declared.options.Options.{Options}
 use Rattle.ingest.specs.RecordFaults.{fault_or, first_fault}
 use Rattle.report_rows.specs.CountRows.{plain_text}
-use Rattle.ingest.specs.Records.{partition_counts, place_of_record, records_of}
+use Rattle.ingest.specs.Records.{partition_counts, partition_of_record, records_of}
 use Rattle.report_rows.specs.ReplayRows.{move_rows, offset_row, owner_rows, rows_below}
 use Rattle.ingest.specs.Reports.{WritesReport, report_of_read}
 
 -- the number of these records in a partition, which is its end offset
 abbrev pub records_to : List ℕ → List Keyed → ℕ → ℕ
 records_to counts records p =
-    length (filter (λ keyed. place_of_record counts keyed == p) records)
+    length (filter (λ keyed. partition_of_record counts keyed == p) records)
 
 -- the offset row of each partition, with its end committed
 abbrev pub ended_rows : List Topic → List ℕ → List Keyed → List ℕ

@@ -2,7 +2,7 @@
 
 ghost use Rattle.std.specs.Prelude.{◌≡◌, ◌<◌, ◌+◌, ◌-◌, ◌++◌, [], None, Ok, IfOk, IfErr, IfSome, OnOk};
 ghost use Rattle.ingest.specs.RecordFaults.{first_fault, TakesRecords};
-ghost use Rattle.devices.specs.Devices.{CanStillFail};
+ghost use Rattle.byte_io.specs.Devices.{CanStillFail};
 ghost use Rattle.ingest.specs.Records.{AreOfTopics, partition_counts, records_in, records_of};
 ghost use Rattle.ingest.specs.Reports.{AreInRange, MakesIfKnown, CountsFailures, IsFaultOf, IsNoDeviceFault, IsNoStop, IsNoWrite, ReadsFileFirst, WritesAtEndAlone, failed_reads, failed_writes};
 ghost use Rattle.run_report.specs.Private.Runs.{EndsRun, IsRunOver};
@@ -12,8 +12,8 @@ ghost use Rattle.lane_words.specs.declared.Refusal.TheVariants as refusal;
 ghost use Rattle.partition_log.specs.Logs.{AreLogsOf};
 ghost use Rattle.script.specs.Plan.{plan_answer};
 
+use byte_io::{Sink, Source, read_all, write_all};
 use command_line::Options;
-use devices::{Sink, Source, read_all, write_all};
 use group_machine::Cluster;
 use ingest::{FileRecords, file_records, logs_of};
 use lane_words::Refusal;
@@ -30,7 +30,7 @@ fn script_plan<S: Source>(alloc: Global, script: &mut S) -> Result<Plan, Refusal
     requires { CanStillFail (S.failures script.old) }
     ensures plan { IfOk result (λ plan. IfSome (S.left script.old)
         (λ bytes. plan_answer bytes ≡ Ok plan)) }
-    ensures refused { IfErr result (λ e. IfSome (S.left script.old)
+    ensures fault { IfErr result (λ e. IfSome (S.left script.old)
         (λ bytes. IsFaultOf (plan_answer bytes) e)) }
     ensures kind { IfErr result IsNoWrite }
     ensures unstopped { IfErr result IsNoStop }
@@ -67,12 +67,12 @@ fn outcome_of<R: Threads + Wait + RandomSource + Sync, G: Gate + Sync>(
 ) -> Result<Outcome, Refusal>
     requires options { AreInRange options.now }
     requires topics { AreOfTopics (partition_counts options.now) (records_in records) }
-    ensures run { IfOk result
+    ensures value { IfOk result
         (IsRunOver (partition_counts options.now) (records_in records) plan.now) }
     ensures accepted { OnOk result
         (first_fault (partition_counts options.now) [] (records_in records) ≡ None) }
     ensures kind { IfErr result IsNoDeviceFault }
-    ensures refused { IfErr result
+    ensures fault { IfErr result
         (EndsRun (report_of_plan options.now (records_in records) plan.now)) }
 {
     let logs = sealed_logs(rt, alloc, records, options)?;
@@ -81,7 +81,7 @@ fn outcome_of<R: Threads + Wait + RandomSource + Sync, G: Gate + Sync>(
 
 /// The text of a run that ended: all moves, and the closing rows. Only an allocation can fail.
 fn text_of_end(alloc: Global, topics: &[Topic], cluster: &Cluster) -> Result<Vec<u8>, Refusal>
-    ensures text { IfOk result (λ text. text.items
+    ensures report { IfOk result (λ text. text.items
         ≡ move_rows topics.now cluster.now.group cluster.now.group.moves
         ++ closing_rows topics.now cluster.now) }
     ensures kind { IfErr result (λ e. e ≡ refusal.Memory) }
@@ -103,10 +103,10 @@ fn report_of_plan<R: Threads + Wait + RandomSource + Sync, G: Gate + Sync>(
 ) -> Result<Vec<u8>, Refusal>
     requires options { AreInRange options.now }
     requires topics { AreOfTopics (partition_counts options.now) (records_in records) }
-    ensures text { IfOk result
+    ensures report { IfOk result
         (λ text. report_of_plan options.now (records_in records) plan.now ≡ Ok text.items) }
     ensures kind { IfErr result IsNoDeviceFault }
-    ensures refused { IfErr result
+    ensures fault { IfErr result
         (EndsRun (report_of_plan options.now (records_in records) plan.now)) }
 {
     let outcome = outcome_of(rt, alloc, records, plan, options, gate)?;
@@ -125,12 +125,12 @@ fn devices_report<R: Threads + Wait + RandomSource + Sync, S: Source, T: Source,
     requires file { CanStillFail (S.failures file.old) }
     requires script { CanStillFail (T.failures script.old) }
     requires options { AreInRange options.now }
-    ensures text { MakesIfKnown EndsRun (report_of_run options.now)
+    ensures report { MakesIfKnown EndsRun (report_of_run options.now)
         (S.left file.old) (T.left script.old) result }
     ensures kind { IfErr result IsNoWrite }
     ensures reads { CountsFailures (S.failures file.old) (S.failures file.new)
         (T.failures script.old) (T.failures script.new) result }
-    ensures file_first { ReadsFileFirst (records_of options.now) (S.left file.old)
+    ensures order { ReadsFileFirst (records_of options.now) (S.left file.old)
         (S.failures file.old) (S.failures file.new) script.old script.new result }
 {
     let records = file_records(rt, alloc, file, options)?;
@@ -181,10 +181,10 @@ pub fn run_text<
     requires options { AreInRange options.now }
     ensures report { WritesRunIfKnown (report_of_run options.now)
         (S.left file.old) (T.left script.old) (K.written out.old) (K.written out.new) result }
-    ensures nothing_before { WritesAtEndAlone (K.written out.old) (K.written out.new) result }
+    ensures end { WritesAtEndAlone (K.written out.old) (K.written out.new) result }
     ensures reads { CountsFailures (S.failures file.old) (S.failures file.new)
         (T.failures script.old) (T.failures script.new) result }
-    ensures file_first { ReadsFileFirst (records_of options.now) (S.left file.old)
+    ensures order { ReadsFileFirst (records_of options.now) (S.left file.old)
         (S.failures file.old) (S.failures file.new) script.old script.new result }
     ensures writes { K.failures out.new ≡ K.failures out.old + failed_writes result }
 {

@@ -4,7 +4,7 @@ use Rattle.std.specs.List.{list_all}
 use Rattle.std.specs.Option.{option_and_then}
 use Rattle.partitioner.specs.Name.{is_name}
 use Rattle.script.proofs.Parts.{split-there}
-use Rattle.script.proofs.TopicLemmas.{said-in}
+use Rattle.script.proofs.TopicLemmas.{parsed-in}
 use Rattle.script.proofs.WordLemmas.{command-word, name-word, number-word}
 use Rattle.script.specs.Forms.{◌⎵◌, IsAppend, IsNumbered, IsPoll, IsSend, IsWritten}
 use Rattle.script.specs.Grammar.{action_of, append_action, appended, bare_action, command_action, is_space, mail_action, member_action, name_of, poll_action, send_action, single_action, split_word}
@@ -26,8 +26,8 @@ by_command : (topics : List Topic) (command text line : List ℕ) (action : Acti
     → list_all (λ b. not (is_space b)) command ≡ true → line ≡ command ⎵ text
     → command_action topics command text ≡ Some action → action_of topics line ≡ Some action
 unfolding action_of
-by_command topics command text line action word is said =
-    rw (is, split-there command text (command-word command word)) said
+by_command topics command text line action word is parsed =
+    rw (is, split-there command text (command-word command word)) parsed
 
 by_name : (topics : List Topic) (command name line : List ℕ) (action : Action)
     → list_all (λ b. not (is_space b)) command ≡ true
@@ -35,9 +35,9 @@ by_name : (topics : List Topic) (command name line : List ℕ) (action : Action)
     → member_action command name ≡ Some action
     → (is_name name ≡ true) × (line ≡ command ⎵ name) → action_of topics line ≡ Some action
 unfolding single_action
-by_name topics command name line action word single said h =
+by_name topics command name line action word single parsed h =
     by_command topics command name line action word h.1
-    (single ∙ rw (named name h.0, said) refl)
+    (single ∙ rw (named name h.0, parsed) refl)
 
 by_number : (topics : List Topic) (command : List ℕ) (n : ℕ) (line : List ℕ) (action : Action)
     → list_all (λ b. not (is_space b)) command ≡ true
@@ -46,17 +46,17 @@ by_number : (topics : List Topic) (command : List ℕ) (n : ℕ) (line : List �
     → mail_action command n ≡ Some action → IsNumbered command n line
     → action_of topics line ≡ Some action
 unfolding single_action
-by_number topics command n line action word single none said h =
+by_number topics command n line action word single none parsed h =
     by_command topics command h.word line action word h.line_is
     (single h.word
-    ∙ rw (none_then (member_action command) (name_of h.word) none, h.number, said) refl)
+    ∙ rw (none_then (member_action command) (name_of h.word) none, h.number, parsed) refl)
 
 by_append : (topics : List Topic) (topic : Option ℕ) (key line : List ℕ) → MayBeTopics topics
     → IsAppend topics topic key line → action_of topics line ≡ Some (appended topic key)
 unfolding command_action append_action
 by_append topics topic key line known h =
     by_command topics (codes "append") h.text line (appended topic key) refl h.line_is
-    (rw (said-in topics topic key h.text known h.said) refl)
+    (rw (parsed-in topics topic key h.text known h.parsed) refl)
 
 by_send : (topics : List Topic) (name : List ℕ) (p : ℕ) (line : List ℕ) → MayBeTopics topics
     → IsSend topics name p line → action_of topics line ≡ Some (Send name p)
@@ -66,7 +66,7 @@ by_send topics name p line known h =
     (rw (
       split-there name h.text (name-word name h.named),
       named name h.named,
-      said-in topics h.topic h.word h.text known h.said,
+      parsed-in topics h.topic h.word h.text known h.parsed,
       h.number_is,
     ) (ap (λ p. Some (Send name p)) (sym h.partition_is)))
 
@@ -78,7 +78,7 @@ by_poll topics name p n line known h =
     (rw (
       split-there name h.text (name-word name h.named),
       named name h.named,
-      said-in topics h.topic (h.word ⎵ h.most) h.text known h.said,
+      parsed-in topics h.topic (h.word ⎵ h.most) h.text known h.parsed,
       split-there h.word h.most (number-word h.word h.number h.number_is),
       h.number_is,
       h.most_is,

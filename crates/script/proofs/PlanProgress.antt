@@ -7,10 +7,10 @@ use Rattle.lane_words.specs.Answers.{Answers}
 use Rattle.lane_words.specs.declared.Refusal.{Refusal}
 use Rattle.lane_words.specs.declared.Refusal.TheVariants as r
 use Rattle.script.specs.Grammar.{action_of, lines_from}
-use Rattle.script.specs.Plan.{change_fault, change_of, change_said, changes_in, first_fault, is_no_plan_line, line_fault, roster_of, with_a_line}
-use Rattle.script.specs.Private.Answers.{line_answer}
-use Rattle.script.specs.Private.Plans.{said_answer, taken}
-use Rattle.script.specs.Replay.{action_said, is_bad, is_silent}
+use Rattle.script.specs.Plan.{change_fault, change_of, parse_change, changes_in, first_fault, is_no_plan_line, line_fault, roster_of, with_a_line}
+use Rattle.script.specs.Private.Answers.{parse_action_answer}
+use Rattle.script.specs.Private.Plans.{parse_change_answer, taken}
+use Rattle.script.specs.Replay.{parse_action, is_bad, is_silent}
 use Rattle.script.specs.declared.action.Action.{Action}
 use Rattle.script.specs.declared.limits.TheConstants.{LONGEST_LINE}
 use Rattle.script.specs.declared.plan.Change.{Change}
@@ -37,13 +37,13 @@ abbrev line_by : ℕ → Bool → Bool → Option Action → Result (Option Acti
 line_by n long silent action =
     cond (long || (not silent && is_none action)) (Err (r.BadLine n)) (Ok (action_by silent action))
 
-abbrev said_by : ℕ → Bool → Bool → Option Action → Result (Option Change) Refusal
-said_by n long silent action =
+abbrev parsed_by : ℕ → Bool → Bool → Option Action → Result (Option Change) Refusal
+parsed_by n long silent action =
     cond (long || (not silent && is_none (option_and_then change_of (action_by silent action))))
     (Err (r.BadLine n)) (Ok (option_and_then change_of (action_by silent action)))
 
 read_by : (n : ℕ) (long silent : Bool) (action x : Option Action)
-    → line_by n long silent action ≡ Ok x → said_by n long silent action ≡ read_as n x
+    → line_by n long silent action ≡ Ok x → parsed_by n long silent action ≡ read_as n x
 read_by n true silent action x e = absurd cc
 read_by n false true action None e = refl
 read_by n false true action (Some x) e = absurd cc
@@ -54,26 +54,26 @@ read_by n false false (Some a) (Some x) e =
     one_read n (change_of a) ∙ ap (λ a. read_as n (Some a)) same
 
 unread_by : (n : ℕ) (long silent : Bool) (action : Option Action) (e : Refusal)
-    → line_by n long silent action ≡ Err e → said_by n long silent action ≡ Err e
+    → line_by n long silent action ≡ Err e → parsed_by n long silent action ≡ Err e
 unread_by n true silent action e h = cc
 unread_by n false true action e h = absurd cc
 unread_by n false false None e h = cc
 unread_by n false false (Some a) e h = absurd cc
 
-pub said-read : (n : ℕ) (line : List ℕ) (x : Option Action)
-    → Answers (line_answer [] (n, line)) (Ok x) → said_answer (n, line) ≡ read_as n x
-unfolding action_said change_said is_bad is_no_plan_line line_answer said_answer
-said-read n line x (inl e) =
+pub parsed-read : (n : ℕ) (line : List ℕ) (x : Option Action)
+    → Answers (parse_action_answer [] (n, line)) (Ok x) → parse_change_answer (n, line) ≡ read_as n x
+unfolding parse_action parse_change is_bad is_no_plan_line parse_action_answer parse_change_answer
+parsed-read n line x (inl e) =
     read_by n (ltb LONGEST_LINE (length line)) (is_silent line) (action_of [] line) x (sym e)
-said-read n line x (inr e) = absurd cc
+parsed-read n line x (inr e) = absurd cc
 
-pub said-refused : (n : ℕ) (line : List ℕ) (e : Refusal)
-    → Answers (line_answer [] (n, line)) (Err e) → Answers (said_answer (n, line)) (Err e)
-unfolding action_said change_said is_bad is_no_plan_line line_answer said_answer
-said-refused n line e (inl h) =
+pub parsed-refused : (n : ℕ) (line : List ℕ) (e : Refusal)
+    → Answers (parse_action_answer [] (n, line)) (Err e) → Answers (parse_change_answer (n, line)) (Err e)
+unfolding parse_action parse_change is_bad is_no_plan_line parse_action_answer parse_change_answer
+parsed-refused n line e (inl h) =
     inl
     (sym (unread_by n (ltb LONGEST_LINE (length line)) (is_silent line) (action_of [] line) e (sym h)))
-said-refused n line e (inr h) = inr cc
+parsed-refused n line e (inr h) = inr cc
 
 -- ---- the rest of a plan
 
@@ -139,35 +139,35 @@ pub not_refused : (n : ℕ) (before : List Change) (c : Change)
     → change_fault n (roster_of before) c ≡ None
 not_refused n before c h = no_fault (change_fault n (roster_of before) c) h
 
-is_said : {x y : Result (Option Change) Refusal} {s : Option Change}
+is_parsed : {x y : Result (Option Change) Refusal} {s : Option Change}
     → y ≡ Ok s → Answers x y → x ≡ Ok s
-is_said e (inl h) = sym h ∙ e
-is_said e (inr h) = absurd cc
+is_parsed e (inl h) = sym h ∙ e
+is_parsed e (inr h) = absurd cc
 
 pub plan-silent : (before : List Change) (whole : Result (List Change) Refusal) (n : ℕ)
     (bytes line rest : List ℕ)
     → lines_from n bytes ≡ (n, line) ∷ lines_from (n + 1) rest
     → plan_after before (lines_from n bytes) ≡ whole
-    → Answers (said_answer (n, line)) (Ok None)
+    → Answers (parse_change_answer (n, line)) (Ok None)
     → plan_after before (lines_from (n + 1) rest) ≡ whole
-unfolding first_fault line_fault said_answer
-plan-silent before whole n bytes line rest first answer said =
+unfolding first_fault line_fault parse_change_answer
+plan-silent before whole n bytes line rest first answer parsed =
     sym
     (ap (plan_after before) first
-    ∙ silent_by before n (is_no_plan_line line) (change_said line) (lines_from (n + 1) rest)
-    (is_said refl said))
+    ∙ silent_by before n (is_no_plan_line line) (parse_change line) (lines_from (n + 1) rest)
+    (is_parsed refl parsed))
     ∙ answer
 
 pub plan-refused : (before : List Change) (whole : Result (List Change) Refusal) (n : ℕ)
     (bytes line rest : List ℕ) (e : Refusal)
     → lines_from n bytes ≡ (n, line) ∷ lines_from (n + 1) rest
     → plan_after before (lines_from n bytes) ≡ whole
-    → Answers (said_answer (n, line)) (Err e) → Answers whole (Err e)
-unfolding first_fault line_fault said_answer
+    → Answers (parse_change_answer (n, line)) (Err e) → Answers whole (Err e)
+unfolding first_fault line_fault parse_change_answer
 plan-refused before whole n bytes line rest e first answer (inl h) =
     inl
     (sym
-    (refused_by before n (is_no_plan_line line) (change_said line) (lines_from (n + 1) rest) e
+    (refused_by before n (is_no_plan_line line) (parse_change line) (lines_from (n + 1) rest) e
     (sym h))
     ∙ sym (ap (plan_after before) first)
     ∙ answer)
@@ -177,37 +177,37 @@ plan_with : (before : List Change) (whole : Result (List Change) Refusal) (n : �
     (bytes line rest : List ℕ) (c : Change) (fault : Option Refusal)
     → lines_from n bytes ≡ (n, line) ∷ lines_from (n + 1) rest
     → plan_after before (lines_from n bytes) ≡ whole
-    → Answers (said_answer (n, line)) (Ok (Some c))
+    → Answers (parse_change_answer (n, line)) (Ok (Some c))
     → change_fault n (roster_of before) c ≡ fault
     → option_map_or Err fault (plan_after (before ++ c ∷ []) (lines_from (n + 1) rest)) ≡ whole
-unfolding first_fault line_fault said_answer
-plan_with before whole n bytes line rest c fault first answer said is =
+unfolding first_fault line_fault parse_change_answer
+plan_with before whole n bytes line rest c fault first answer parsed is =
     sym
     (ap (plan_after before) first
-    ∙ fault_by before n (is_no_plan_line line) (change_said line) c (lines_from (n + 1) rest) fault
-    (is_said refl said) is)
+    ∙ fault_by before n (is_no_plan_line line) (parse_change line) c (lines_from (n + 1) rest) fault
+    (is_parsed refl parsed) is)
     ∙ answer
 
-pub plan-taken : (before : List Change) (whole : Result (List Change) Refusal) (n : ℕ)
+pub plan-accepted : (before : List Change) (whole : Result (List Change) Refusal) (n : ℕ)
     (bytes line rest : List ℕ) (c : Change)
     → lines_from n bytes ≡ (n, line) ∷ lines_from (n + 1) rest
     → plan_after before (lines_from n bytes) ≡ whole
-    → Answers (said_answer (n, line)) (Ok (Some c))
+    → Answers (parse_change_answer (n, line)) (Ok (Some c))
     → Answers (taken (change_fault n (roster_of before) c)) (Ok tt)
     → plan_after (before ++ c ∷ []) (lines_from (n + 1) rest) ≡ whole
-plan-taken before whole n bytes line rest c first answer said h =
-    plan_with before whole n bytes line rest c None first answer said (not_refused n before c h)
+plan-accepted before whole n bytes line rest c first answer parsed h =
+    plan_with before whole n bytes line rest c None first answer parsed (not_refused n before c h)
 
 pub plan-fault : (before : List Change) (whole : Result (List Change) Refusal) (n : ℕ)
     (bytes line rest : List ℕ) (c : Change) (e : Refusal)
     → lines_from n bytes ≡ (n, line) ∷ lines_from (n + 1) rest
     → plan_after before (lines_from n bytes) ≡ whole
-    → Answers (said_answer (n, line)) (Ok (Some c))
+    → Answers (parse_change_answer (n, line)) (Ok (Some c))
     → Answers (taken (change_fault n (roster_of before) c)) (Err e)
     → Answers whole (Err e)
-plan-fault before whole n bytes line rest c e first answer said h =
+plan-fault before whole n bytes line rest c e first answer parsed h =
     ⊎_elim
-    (λ is. inl (plan_with before whole n bytes line rest c (Some e) first answer said is))
+    (λ is. inl (plan_with before whole n bytes line rest c (Some e) first answer parsed is))
     (λ memory. inr (ap Err memory))
     (some_fault (change_fault n (roster_of before) c) e h)
 

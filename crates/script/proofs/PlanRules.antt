@@ -122,16 +122,16 @@ joined-counted lines =
     fold_along entered (λ n c. n + cond (is_join c) 1 0) (λ before n. length before.joined ≡ n)
     one_joins nobody_yet 0 lines refl
 
-room : (fresh : Bool) (n : ℕ) → (fresh && ltb n MOST_MEMBERS) ≡ true → n + 1 ≤ MOST_MEMBERS
-room true n e = let below = ltb-true n MOST_MEMBERS e in omega arith
-room false n e = absurd cc
+capacity : (fresh : Bool) (n : ℕ) → (fresh && ltb n MOST_MEMBERS) ≡ true → n + 1 ≤ MOST_MEMBERS
+capacity true n e = let below = ltb-true n MOST_MEMBERS e in omega arith
+capacity false n e = absurd cc
 
 entered-few : (before : Roster) (c : Change) → is_allowed before c ≡ true
     → length before.joined ≤ MOST_MEMBERS → length (entered before c).joined ≤ MOST_MEMBERS
 unfolding is_allowed
 entered-few before (Join name) allowed few =
     let more = length_push before.joined name in
-    let one = room (not (is_among before.joined name)) (length before.joined) allowed in
+    let one = capacity (not (is_among before.joined name)) (length before.joined) allowed in
     omega arith
 entered-few before (Leave name) allowed few = few
 entered-few before (Lose name) allowed few = few

@@ -5,9 +5,9 @@ use Rattle.std.specs.Option.{IfSome, option_and_then, option_map_or, option_or}
 use Rattle.std.specs.Str.{bytes_eq}
 use Rattle.partitioner.specs.Name.{is_name}
 use Rattle.script.proofs.Parts.{split-parts}
-use Rattle.script.proofs.TopicLemmas.{in-said}
-use Rattle.script.specs.Forms.{◌⎵◌, IsNamed, IsNumbered, IsSaidIn, IsWritten}
-use Rattle.script.specs.Grammar.{action_of, append_action, appended, bare_action, command_action, mail_action, member_action, name_of, number_of, poll_action, send_action, single_action, split_word, topic_said}
+use Rattle.script.proofs.TopicLemmas.{in-parsed}
+use Rattle.script.specs.Forms.{◌⎵◌, IsNamed, IsNumbered, IsTextIn, IsWritten}
+use Rattle.script.specs.Grammar.{action_of, append_action, appended, bare_action, command_action, mail_action, member_action, name_of, number_of, poll_action, send_action, single_action, split_word, parse_topic}
 use Rattle.partitioner.specs.declared.topic.Topic.{Topic}
 
 module _ {A : Type 0} (P : A → Type 0) where
@@ -39,10 +39,10 @@ module _ {A : Type 0} (P : A → Type 0) where
 same : (word text : List ℕ) → bytes_eq word text ≡ true → word ≡ text
 same word text e = (bytes_eq-Decides word text).0 e
 
-bare_said : (topics : List Topic) (command line : List ℕ) → line ≡ command
+bare_parsed : (topics : List Topic) (command line : List ℕ) → line ≡ command
     → IfSome (bare_action command) (λ action. IsWritten topics action line)
 unfolding bare_action
-bare_said topics command line e =
+bare_parsed topics command line e =
     if_some (λ action. IsWritten topics action line) _ _ _ (λ t. e ∙ same command (codes "settle") t)
     (if_some (λ action. IsWritten topics action line) _ _ _ (λ t. e ∙ same command (codes "drain") t)
     tt)
@@ -56,10 +56,10 @@ numbered_by : (command text word : List ℕ) (n : ℕ) (line : List ℕ) → num
 numbered_by command text word n line h e t =
     record { word = word; number = h; line_is = e ∙ ap (λ c. c ⎵ word) (same command text t) }
 
-member_said : (topics : List Topic) (command name line : List ℕ) → is_name name ≡ true → line ≡ command ⎵ name
+member_parsed : (topics : List Topic) (command name line : List ℕ) → is_name name ≡ true → line ≡ command ⎵ name
     → IfSome (member_action command name) (λ action. IsWritten topics action line)
 unfolding member_action
-member_said topics command name line h e =
+member_parsed topics command name line h e =
     if_some (λ action. IsWritten topics action line) _ _ _ (named_by command (codes "join") name line h e)
     (if_some (λ action. IsWritten topics action line) _ _ _ (named_by command (codes "keep") name line h e)
     (if_some (λ action. IsWritten topics action line) _ _ _ (named_by command (codes "return") name line h e)
@@ -69,91 +69,91 @@ member_said topics command name line h e =
     (if_some (λ action. IsWritten topics action line) _ _ _ (named_by command (codes "lose") name line h e)
     tt))))))
 
-mail_said : (topics : List Topic) (command word : List ℕ) (n : ℕ) (line : List ℕ) → number_of word ≡ Some n → line ≡ command ⎵ word
+mail_parsed : (topics : List Topic) (command word : List ℕ) (n : ℕ) (line : List ℕ) → number_of word ≡ Some n → line ≡ command ⎵ word
     → IfSome (mail_action command n) (λ action. IsWritten topics action line)
 unfolding mail_action
-mail_said topics command word n line h e =
+mail_parsed topics command word n line h e =
     if_some (λ action. IsWritten topics action line) _ _ _ (numbered_by command (codes "deliver") word n line h e)
     (if_some (λ action. IsWritten topics action line) _ _ _ (numbered_by command (codes "unanswered") word n line h e)
     tt)
 
-single_said : (topics : List Topic) (command word line : List ℕ) → line ≡ command ⎵ word
+single_parsed : (topics : List Topic) (command word line : List ℕ) → line ≡ command ⎵ word
     → IfSome (single_action command word) (λ action. IsWritten topics action line)
 unfolding single_action
-single_said topics command word line e =
+single_parsed topics command word line e =
     or_some (λ action. IsWritten topics action line) _ _
-    (then_name (λ action. IsWritten topics action line) (member_action command) word (λ h. member_said topics command word line h e))
-    (then_some (λ action. IsWritten topics action line) (mail_action command) (number_of word) (λ n h. mail_said topics command word n line h e))
+    (then_name (λ action. IsWritten topics action line) (member_action command) word (λ h. member_parsed topics command word line h e))
+    (then_some (λ action. IsWritten topics action line) (mail_action command) (number_of word) (λ n h. mail_parsed topics command word n line h e))
 
-append_said : (topics : List Topic) (text line : List ℕ) → line ≡ codes "append" ⎵ text
+append_parsed : (topics : List Topic) (text line : List ℕ) → line ≡ codes "append" ⎵ text
     → IfSome (append_action topics text) (λ action. IsWritten topics action line)
 unfolding append_action
-append_said topics text line e =
-    then_some (λ action. IsWritten topics action line) _ (topic_said topics text) (λ said h.
-    written_in said.0 said.1 (in-said topics text said h))
+append_parsed topics text line e =
+    then_some (λ action. IsWritten topics action line) _ (parse_topic topics text) (λ parsed h.
+    written_in parsed.0 parsed.1 (in-parsed topics text parsed h))
   where
-    written_in : (topic : Option ℕ) (key : List ℕ) → IsSaidIn topics topic key text
+    written_in : (topic : Option ℕ) (key : List ℕ) → IsTextIn topics topic key text
         → IsWritten topics (appended topic key) line
-    written_in None key h = record { text = text; said = h; line_is = e }
-    written_in (Some i) key h = record { text = text; said = h; line_is = e }
+    written_in None key h = record { text = text; parsed = h; line_is = e }
+    written_in (Some i) key h = record { text = text; parsed = h; line_is = e }
 
-send_said : (topics : List Topic) (text line : List ℕ) → line ≡ codes "send" ⎵ text
+send_parsed : (topics : List Topic) (text line : List ℕ) → line ≡ codes "send" ⎵ text
     → IfSome (send_action topics text) (λ action. IsWritten topics action line)
 unfolding send_action
-send_said topics text line e =
+send_parsed topics text line e =
     then_some (λ action. IsWritten topics action line) _ (split_word text) (λ parts cut.
     then_name (λ action. IsWritten topics action line) _ parts.0 (λ named.
-    then_some (λ action. IsWritten topics action line) _ (topic_said topics parts.1) (λ said h.
-    then_some (λ action. IsWritten topics action line) _ (number_of said.1) (λ p is.
+    then_some (λ action. IsWritten topics action line) _ (parse_topic topics parts.1) (λ parsed h.
+    then_some (λ action. IsWritten topics action line) _ (number_of parsed.1) (λ p is.
     record {
-      topic = said.0;
+      topic = parsed.0;
       number = p;
-      word = said.1;
+      word = parsed.1;
       text = parts.1;
       named = named;
-      said = in-said topics parts.1 said h;
+      parsed = in-parsed topics parts.1 parsed h;
       number_is = is;
       partition_is = refl;
       line_is = e ∙ ap (λ text. codes "send" ⎵ text) (split-parts text parts cut);
     }))))
 
-poll_said : (topics : List Topic) (text line : List ℕ) → line ≡ codes "poll" ⎵ text
+poll_parsed : (topics : List Topic) (text line : List ℕ) → line ≡ codes "poll" ⎵ text
     → IfSome (poll_action topics text) (λ action. IsWritten topics action line)
 unfolding poll_action
-poll_said topics text line e =
+poll_parsed topics text line e =
     then_some (λ action. IsWritten topics action line) _ (split_word text) (λ parts cut.
     then_name (λ action. IsWritten topics action line) _ parts.0 (λ named.
-    then_some (λ action. IsWritten topics action line) _ (topic_said topics parts.1) (λ said h.
-    then_some (λ action. IsWritten topics action line) _ (split_word said.1) (λ numbers at.
+    then_some (λ action. IsWritten topics action line) _ (parse_topic topics parts.1) (λ parsed h.
+    then_some (λ action. IsWritten topics action line) _ (split_word parsed.1) (λ numbers at.
     then_some (λ action. IsWritten topics action line) _ (number_of numbers.0) (λ p is.
     then_some (λ action. IsWritten topics action line) _ (number_of numbers.1) (λ n most.
     record {
-      topic = said.0;
+      topic = parsed.0;
       number = p;
       word = numbers.0;
       most = numbers.1;
       text = parts.1;
       named = named;
-      said =
-          subst (λ rest. IsSaidIn topics said.0 rest parts.1) (split-parts said.1 numbers at)
-          (in-said topics parts.1 said h);
+      parsed =
+          subst (λ rest. IsTextIn topics parsed.0 rest parts.1) (split-parts parsed.1 numbers at)
+          (in-parsed topics parts.1 parsed h);
       number_is = is;
       partition_is = refl;
       most_is = most;
       line_is = e ∙ ap (λ text. codes "poll" ⎵ text) (split-parts text parts cut);
     }))))))
 
-command_said : (topics : List Topic) (command text line : List ℕ) → line ≡ command ⎵ text
+command_parsed : (topics : List Topic) (command text line : List ℕ) → line ≡ command ⎵ text
     → IfSome (command_action topics command text) (λ action. IsWritten topics action line)
 unfolding command_action
-command_said topics command text line e =
+command_parsed topics command text line e =
     if_some (λ action. IsWritten topics action line) _ _ _
-    (λ t. append_said topics text line (e ∙ ap (λ c. c ⎵ text) (same command (codes "append") t)))
+    (λ t. append_parsed topics text line (e ∙ ap (λ c. c ⎵ text) (same command (codes "append") t)))
     (if_some (λ action. IsWritten topics action line) _ _ _
-    (λ t. send_said topics text line (e ∙ ap (λ c. c ⎵ text) (same command (codes "send") t)))
+    (λ t. send_parsed topics text line (e ∙ ap (λ c. c ⎵ text) (same command (codes "send") t)))
     (if_some (λ action. IsWritten topics action line) _ _ _
-    (λ t. poll_said topics text line (e ∙ ap (λ c. c ⎵ text) (same command (codes "poll") t)))
-    (single_said topics command text line e)))
+    (λ t. poll_parsed topics text line (e ∙ ap (λ c. c ⎵ text) (same command (codes "poll") t)))
+    (single_parsed topics command text line e)))
 
 pub read_is_written : (topics : List Topic) (line : List ℕ)
     → IfSome (action_of topics line) (λ action. IsWritten topics action line)
@@ -164,6 +164,6 @@ read_is_written topics line = go (split_word line) refl
         → IfSome
         (option_map_or (λ parts. command_action topics parts.0 parts.1) parts (bare_action line))
         (λ action. IsWritten topics action line)
-    go None cut = bare_said topics line line refl
+    go None cut = bare_parsed topics line line refl
     go (Some parts) cut =
-        command_said topics parts.0 parts.1 line (split-parts line parts cut)
+        command_parsed topics parts.0 parts.1 line (split-parts line parts cut)

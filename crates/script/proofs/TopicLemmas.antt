@@ -10,8 +10,8 @@ use Rattle.std.proofs.lemmas.Slice.Eq.{bytes_eq-Decides}
 use Rattle.partitioner.specs.Name.{is_name}
 use Rattle.script.proofs.Parts.{split-parts, split-there}
 use Rattle.script.proofs.WordLemmas.{name-word}
-use Rattle.script.specs.Forms.{IsInTopic, IsSaidIn}
-use Rattle.script.specs.Grammar.{split_word, topic_before, topic_said}
+use Rattle.script.specs.Forms.{IsInTopic, IsTextIn}
+use Rattle.script.specs.Grammar.{split_word, topic_before, parse_topic}
 use Rattle.partitioner.specs.Topic.{MayBeTopics}
 use Rattle.script.specs.Topics.{topic_named}
 use Rattle.partitioner.specs.declared.topic.Topic.{Topic}
@@ -50,8 +50,8 @@ topic-named topics i topic known e =
     rw (at, lt-ltb _ _ within) refl
 
 named-before : (first : Topic) (more : List Topic) (text : List ℕ)
-    → topic_said (first ∷ more) text ≡ topic_before (first ∷ more) text
-unfolding topic_said
+    → parse_topic (first ∷ more) text ≡ topic_before (first ∷ more) text
+unfolding parse_topic
 named-before first more text = at (length (first ∷ more) == 0) refl
   where
     at : (none : Bool) → (length (first ∷ more) == 0) ≡ none
@@ -60,36 +60,36 @@ named-before first more text = at (length (first ∷ more) == 0) refl
     at true e = let none = eqb-true (length (first ∷ more)) 0 e in absurd (omega arith)
     at false e = refl
 
-before-in : (topics : List Topic) (i : ℕ) (said text : List ℕ) → MayBeTopics topics
-    → IsInTopic topics i said text → topic_before topics text ≡ Some (Some i, said)
+before-in : (topics : List Topic) (i : ℕ) (parsed text : List ℕ) → MayBeTopics topics
+    → IsInTopic topics i parsed text → topic_before topics text ≡ Some (Some i, parsed)
 unfolding topic_before
-before-in topics i said text known h =
+before-in topics i parsed text known h =
     let name = known.named i h.topic (slice_get_within topics i h.topic h.at) in
     let same = get_or_from_slice_get topics i h.topic h.topic h.at in
     let named : is_name h.topic.name ≡ true = sym (ap (λ t. is_name t.name) same) ∙ name in
     rw (
       h.text_is,
-      split-there h.topic.name said (name-word h.topic.name named),
+      split-there h.topic.name parsed (name-word h.topic.name named),
       topic-named topics i h.topic known h.at,
     ) refl
 
-pub said-in : (topics : List Topic) (topic : Option ℕ) (said text : List ℕ) → MayBeTopics topics
-    → IsSaidIn topics topic said text → topic_said topics text ≡ Some (topic, said)
-unfolding topic_said
-said-in topics None said text known h = rw (h.0, h.1) refl
-said-in [] (Some i) said text known h = absurd (cc h.at)
-said-in (first ∷ more) (Some i) said text known h =
-    named-before first more text ∙ before-in (first ∷ more) i said text known h
+pub parsed-in : (topics : List Topic) (topic : Option ℕ) (parsed text : List ℕ) → MayBeTopics topics
+    → IsTextIn topics topic parsed text → parse_topic topics text ≡ Some (topic, parsed)
+unfolding parse_topic
+parsed-in topics None parsed text known h = rw (h.0, h.1) refl
+parsed-in [] (Some i) parsed text known h = absurd (cc h.at)
+parsed-in (first ∷ more) (Some i) parsed text known h =
+    named-before first more text ∙ before-in (first ∷ more) i parsed text known h
 
 in-before : (topics : List Topic) (text : List ℕ) (o : Option ℕ × List ℕ)
-    → topic_before topics text ≡ Some o → IsSaidIn topics o.0 o.1 text
+    → topic_before topics text ≡ Some o → IsTextIn topics o.0 o.1 text
 unfolding topic_before
 in-before topics text o e = go (split_word text) refl e
   where
     named : (parts : List ℕ × List ℕ) → split_word text ≡ Some parts
         → (i : Option ℕ) → topic_named topics parts.0 ≡ i
         → option_and_then (λ topic. Some (Some topic, parts.1)) i ≡ Some o
-        → IsSaidIn topics o.0 o.1 text
+        → IsTextIn topics o.0 o.1 text
     named parts cut None is e = absurd cc
     named parts cut (Some i) is e =
         let topic = named-topic topics parts.0 i is in
@@ -101,21 +101,21 @@ in-before topics text o e = go (split_word text) refl e
           text_is =
               split-parts text parts cut ∙ ap (λ name. name ++ 32 ∷ parts.1) (sym topic.2);
         } in
-        subst (λ o. IsSaidIn topics o.0 o.1 text) that written
+        subst (λ o. IsTextIn topics o.0 o.1 text) that written
 
     go : (parts : Option (List ℕ × List ℕ)) → split_word text ≡ parts
         → option_and_then
         (λ parts. option_and_then (λ topic. Some (Some topic, parts.1)) (topic_named topics parts.0))
         parts ≡ Some o
-        → IsSaidIn topics o.0 o.1 text
+        → IsTextIn topics o.0 o.1 text
     go None cut e = absurd cc
     go (Some parts) cut e = named parts cut (topic_named topics parts.0) refl e
 
-pub in-said : (topics : List Topic) (text : List ℕ) (o : Option ℕ × List ℕ)
-    → topic_said topics text ≡ Some o → IsSaidIn topics o.0 o.1 text
-unfolding topic_said
-in-said [] text o e =
+pub in-parsed : (topics : List Topic) (text : List ℕ) (o : Option ℕ × List ℕ)
+    → parse_topic topics text ≡ Some o → IsTextIn topics o.0 o.1 text
+unfolding parse_topic
+in-parsed [] text o e =
     let that : (None, text) ≡ o = cc in
-    subst (λ o. IsSaidIn [] o.0 o.1 text) that (refl, refl)
-in-said (first ∷ more) text o e =
+    subst (λ o. IsTextIn [] o.0 o.1 text) that (refl, refl)
+in-parsed (first ∷ more) text o e =
     in-before (first ∷ more) text o (sym (named-before first more text) ∙ e)

@@ -24,20 +24,20 @@ pub record IsNumbered (command : List ℕ) (n : ℕ) (line : List ℕ) : Type 0 
   pub line_is : line ≡ command ⎵ word
 
 -- a text after the name of the topic of this index
-pub record IsInTopic (topics : List Topic) (i : ℕ) (said text : List ℕ) : Type 0 where
+pub record IsInTopic (topics : List Topic) (i : ℕ) (parsed text : List ℕ) : Type 0 where
   pub topic : Topic
   pub at : slice_get topics i ≡ Some topic
-  pub text_is : text ≡ topic.name ⎵ said
+  pub text_is : text ≡ topic.name ⎵ parsed
 
 -- a text in a topic, after its name; without topics, the text alone
-abbrev pub IsSaidIn : List Topic → Option ℕ → List ℕ → List ℕ → Type 0
-IsSaidIn topics None said text = (topics ≡ []) × (text ≡ said)
-IsSaidIn topics (Some i) said text = IsInTopic topics i said text
+abbrev pub IsTextIn : List Topic → Option ℕ → List ℕ → List ℕ → Type 0
+IsTextIn topics None parsed text = (topics ≡ []) × (text ≡ parsed)
+IsTextIn topics (Some i) parsed text = IsInTopic topics i parsed text
 
 -- append KEY, append TOPIC KEY
 pub record IsAppend (topics : List Topic) (topic : Option ℕ) (key line : List ℕ) : Type 0 where
   pub text : List ℕ
-  pub said : IsSaidIn topics topic key text
+  pub parsed : IsTextIn topics topic key text
   pub line_is : line ≡ codes "append" ⎵ text
 
 -- send NAME P, send NAME TOPIC P
@@ -47,7 +47,7 @@ pub record IsSend (topics : List Topic) (name : List ℕ) (p : ℕ) (line : List
   pub word : List ℕ
   pub text : List ℕ
   pub named : is_name name ≡ true
-  pub said : IsSaidIn topics topic word text
+  pub parsed : IsTextIn topics topic word text
   pub number_is : number_of word ≡ Some number
   pub partition_is : p ≡ partition_at topics topic number
   pub line_is : line ≡ codes "send" ⎵ name ⎵ text
@@ -60,7 +60,7 @@ pub record IsPoll (topics : List Topic) (name : List ℕ) (p n : ℕ) (line : Li
   pub most : List ℕ
   pub text : List ℕ
   pub named : is_name name ≡ true
-  pub said : IsSaidIn topics topic (word ⎵ most) text
+  pub parsed : IsTextIn topics topic (word ⎵ most) text
   pub number_is : number_of word ≡ Some number
   pub partition_is : p ≡ partition_at topics topic number
   pub most_is : number_of most ≡ Some n

@@ -59,8 +59,8 @@ topic_before topics text = do
   Some (Some topic, parts.1)
 
 -- with topics, the name of one stands before the text; without any, there is no index
-unfoldable pub topic_said : List Topic → List ℕ → Option (Option ℕ × List ℕ)
-topic_said topics text =
+unfoldable pub parse_topic : List Topic → List ℕ → Option (Option ℕ × List ℕ)
+parse_topic topics text =
     if length topics == 0 then Some (None, text) else topic_before topics text
 
 abbrev pub appended : Option ℕ → List ℕ → Action
@@ -70,8 +70,8 @@ appended (Some topic) key = AppendIn topic key
 -- append KEY, and with topics append TOPIC KEY: the key is the rest of the line
 unfoldable pub append_action : List Topic → List ℕ → Option Action
 append_action topics text = do
-  said ← topic_said topics text
-  Some (appended said.0 said.1)
+  parsed ← parse_topic topics text
+  Some (appended parsed.0 parsed.1)
 
 -- settle, drain
 unfoldable pub bare_action : List ℕ → Option Action
@@ -104,20 +104,20 @@ unfoldable pub send_action : List Topic → List ℕ → Option Action
 send_action topics text = do
   parts ← split_word text
   name ← name_of parts.0
-  said ← topic_said topics parts.1
-  p ← number_of said.1
-  Some (Send name (partition_at topics said.0 p))
+  parsed ← parse_topic topics parts.1
+  p ← number_of parsed.1
+  Some (Send name (partition_at topics parsed.0 p))
 
 -- poll NAME P N, and with topics poll NAME TOPIC P N
 unfoldable pub poll_action : List Topic → List ℕ → Option Action
 poll_action topics text = do
   parts ← split_word text
   name ← name_of parts.0
-  said ← topic_said topics parts.1
-  numbers ← split_word said.1
+  parsed ← parse_topic topics parts.1
+  numbers ← split_word parsed.1
   p ← number_of numbers.0
   most ← number_of numbers.1
-  Some (Poll name (partition_at topics said.0 p) most)
+  Some (Poll name (partition_at topics parsed.0 p) most)
 
 -- a command with one argument: a name or a number
 unfoldable pub single_action : List ℕ → List ℕ → Option Action

@@ -7,7 +7,7 @@ use Rattle.lane_words.specs.declared.Refusal.{Refusal}
 use Rattle.lane_words.specs.declared.Refusal.TheVariants as r
 use Rattle.lane_words.specs.declared.limits.TheConstants.{MOST_MEMBERS}
 use Rattle.script.specs.Grammar.{◌>>=◌, lines_from}
-use Rattle.script.specs.Replay.{action_said, is_silent}
+use Rattle.script.specs.Replay.{parse_action, is_silent}
 use Rattle.script.specs.declared.action.Action.{Action}
 use Rattle.script.specs.declared.action.Action.TheVariants as a
 use Rattle.script.specs.declared.limits.TheConstants.{LONGEST_LINE}
@@ -70,13 +70,13 @@ change_of (a.Lose name) = Some (Lose name)
 change_of action = None
 
 -- the change of a line, without topics
-unfoldable pub change_said : List ℕ → Option Change
-change_said line = action_said [] line >>= change_of
+unfoldable pub parse_change : List ℕ → Option Change
+parse_change line = parse_action [] line >>= change_of
 
 -- a line that is too long, even a comment, or that is neither silent nor has a change
 unfoldable pub is_no_plan_line : List ℕ → Bool
 is_no_plan_line line =
-    nat_lt LONGEST_LINE (length line) || (not (is_silent line) && is_none (change_said line))
+    nat_lt LONGEST_LINE (length line) || (not (is_silent line) && is_none (parse_change line))
 
 -- the fault of a change, as the line of this number: it may not follow those before it, or nobody
 -- is left after it
@@ -90,7 +90,7 @@ change_fault number before change =
 unfoldable pub line_fault : Roster → ℕ × List ℕ → Option Refusal
 line_fault before (number, line) =
     if is_no_plan_line line then Some (r.BadLine number)
-    else change_said line >>= change_fault number before
+    else parse_change line >>= change_fault number before
 
 -- the fault of the first line that has one, if these changes stand before the lines
 unfoldable pub first_fault : List Change → List (ℕ × List ℕ) → Option Refusal
@@ -98,11 +98,11 @@ first_fault before [] = None
 first_fault before (line ∷ lines) =
     option_or
     (line_fault (roster_of before) line)
-    (first_fault (before ++ option_to_list (change_said line.1)) lines)
+    (first_fault (before ++ option_to_list (parse_change line.1)) lines)
 
 -- the changes of lines
 abbrev pub changes_in : List (ℕ × List ℕ) → List Change
-changes_in lines = filter_map (λ line. change_said line.1) lines
+changes_in lines = filter_map (λ line. parse_change line.1) lines
 
 -- a plan has at least one change: without any, nobody is present
 unfoldable pub with_a_line : List Change → Result (List Change) Refusal

@@ -22,13 +22,13 @@ is_bad topics line =
     nat_lt LONGEST_LINE (length line) || (not (is_silent line) && is_none (action_of topics line))
 
 -- the action of a line, if it is not silent
-unfoldable pub action_said : List Topic → List ℕ → Option Action
-action_said topics line = if is_silent line then None else action_of topics line
+unfoldable pub parse_action : List Topic → List ℕ → Option Action
+parse_action topics line = if is_silent line then None else action_of topics line
 
 -- the action of a line, with its number
-unfoldable pub said : List Topic → ℕ × List ℕ → Option Line
-said topics (number, line) =
-    option_map (λ action. record { number = number; action = action }) (action_said topics line)
+unfoldable pub parsed : List Topic → ℕ × List ℕ → Option Line
+parsed topics (number, line) =
+    option_map (λ action. record { number = number; action = action }) (parse_action topics line)
 
 -- the first bad line, or if none is bad, the lines with an action
 unfoldable pub answer_of : List Topic → List (ℕ × List ℕ) → Result (List Line) Refusal
@@ -36,7 +36,7 @@ answer_of topics lines =
     option_map_or
     (λ bad. Err (r.BadLine bad.0))
     (find (λ line. is_bad topics line.1) lines)
-    (Ok (filter_map (said topics) lines))
+    (Ok (filter_map (parsed topics) lines))
 
 -- the lines of a script are numbered from 1
 abbrev pub read_answer_in : List Topic → List ℕ → Result (List Line) Refusal

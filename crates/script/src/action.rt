@@ -134,7 +134,7 @@ fn append_action(alloc: Global, topics: &[Topic], text: &[u8]) -> Result<Option<
     requires { MayBeTopics topics.now }
     ensures { IfOk result (λ action. action ≡ append_action topics.now text.now) }
 {
-    let Some((topic, key)) = topics::topic_said(topics, text) else {
+    let Some((topic, key)) = topics::parse_topic(topics, text) else {
         return Ok(None);
     };
     let key = Key::new(key.to_vec(alloc)?);
@@ -217,7 +217,7 @@ fn send_action(topics: &[Topic], text: &[u8]) -> Option<Action>
 {
     let (name, rest) = words::split_word(text)?;
     let name = Name::new(name)?;
-    let (topic, number) = topics::topic_said(topics, rest)?;
+    let (topic, number) = topics::parse_topic(topics, rest)?;
     let partition = topics::partition_at(topics, topic, words::number_of(number)?);
     Some(Action::Send { name, partition })
 }
@@ -230,7 +230,7 @@ fn poll_action(topics: &[Topic], text: &[u8]) -> Option<Action>
 {
     let (name, rest) = words::split_word(text)?;
     let name = Name::new(name)?;
-    let (topic, rest) = topics::topic_said(topics, rest)?;
+    let (topic, rest) = topics::parse_topic(topics, rest)?;
     let (number, most) = words::split_word(rest)?;
     let partition = topics::partition_at(topics, topic, words::number_of(number)?);
     let most = words::number_of(most)?;

@@ -4,7 +4,7 @@ ghost use Rattle.std.specs.Prelude.{◌≡◌, ℕ, ◌+◌, ◌∷◌, ◌<◌,
 ghost use Rattle.std.specs.Str.Lines.{strip_carriage_return};
 ghost use Rattle.lane_words.specs.Answers.{Answers};
 ghost use Rattle.script.specs.Grammar.{lines_from, split_lines};
-ghost use Rattle.script.specs.Private.Answers.{line_answer};
+ghost use Rattle.script.specs.Private.Answers.{parse_action_answer};
 ghost use Rattle.partitioner.specs.Topic.{MayBeTopics};
 
 use crate::action::{self, Action};
@@ -19,7 +19,7 @@ pub fn first_line(bytes: &[u8]) -> (&[u8], &[u8])
     requires { 0 < length bytes.now }
     ensures lines { (n : ℕ)
         → lines_from n bytes.now ≡ (n, result.0.now) ∷ lines_from (n + 1) result.1.now }
-    ensures shorter { length result.1.now < length bytes.now }
+    ensures bound { length result.1.now < length bytes.now }
 {
     let (line, rest) = split_line(bytes);
     (without_carriage_return(line), rest)
@@ -29,7 +29,7 @@ pub fn first_line(bytes: &[u8]) -> (&[u8], &[u8])
 fn split_line(bytes: &[u8]) -> (&[u8], &[u8])
     requires { 0 < length bytes.now }
     ensures lines { split_lines bytes.now ≡ result.0.now ∷ split_lines result.1.now }
-    ensures shorter { length result.1.now < length bytes.now }
+    ensures bound { length result.1.now < length bytes.now }
 {
     match words::first_index(bytes, b'\n') {
         Some(end) => (&bytes[..end], &bytes[end + 1..]),
@@ -49,15 +49,15 @@ fn without_carriage_return(line: &[u8]) -> &[u8]
 
 /// Parses the line of this number. A comment or an empty line has no action; a line that is not
 /// valid is refused with `BadLine`.
-#[tactic(auto, unfolding(crate::specs::Private::Answers::line_answer, crate::specs::Replay::is_bad, crate::specs::Replay::action_said))]
-pub fn action_said(
+#[tactic(auto, unfolding(crate::specs::Private::Answers::parse_action_answer, crate::specs::Replay::is_bad, crate::specs::Replay::parse_action))]
+pub fn parse_action(
     alloc: Global,
     topics: &[Topic],
     number: u64,
     line: &[u8],
 ) -> Result<Option<Action>, Refusal>
     requires { MayBeTopics topics.now }
-    ensures { Answers (line_answer topics.now (number, line.now)) result }
+    ensures { Answers (parse_action_answer topics.now (number, line.now)) result }
 {
     if line.len() > LONGEST_LINE {
         return Err(Refusal::BadLine { line: number });

@@ -4,7 +4,7 @@ ghost use Rattle.std.specs.Prelude.{◌≡◌, ◌≤◌, ◌↔◌, ◌<◌, le
 ghost use Rattle.lane_words.specs.Answers.{Answers};
 ghost use Rattle.lane_words.specs.declared.limits.TheConstants.{MOST_MEMBERS};
 ghost use Rattle.script.specs.Plan.{IsPlan, change_fault, change_of, entered, is_allowed, is_among, is_anybody_left, is_there, nobody_yet, plan_answer, roster_of};
-ghost use Rattle.script.specs.Private.Plans.{is_join, said_answer, taken};
+ghost use Rattle.script.specs.Private.Plans.{is_join, parse_change_answer, taken};
 
 use crate::action::Action;
 use crate::lines;
@@ -87,7 +87,7 @@ impl Plan {
 
     /// A copy of the plan. Fails only if memory runs out.
     pub fn copy(&self, alloc: Global) -> Result<Plan, Memory>
-        ensures equal { IfOk result (λ copy. copy ≡ self.now) }
+        ensures value { IfOk result (λ copy. copy ≡ self.now) }
     {
         let mut lines = Vec::with_capacity(alloc, self.lines.len())?;
         for change in &self.lines {
@@ -98,7 +98,7 @@ impl Plan {
 
     /// Whether the other plan has the same changes in the same order.
     pub fn same(&self, other: &Plan) -> bool
-        ensures equal { IsTrue result ↔ (self.now ≡ other.now) }
+        ensures iff { IsTrue result ↔ (self.now ≡ other.now) }
     {
         if self.lines.len() != other.lines.len() {
             return false;
@@ -114,8 +114,8 @@ impl Plan {
     /// The number of members that join: 1 to 512.
     pub fn members(&self) -> u32
         ensures count { result ≡ length (roster_of self.now).joined }
-        ensures some { 1 ≤ result }
-        ensures few { result ≤ MOST_MEMBERS }
+        ensures nonempty { 1 ≤ result }
+        ensures bound { result ≤ MOST_MEMBERS }
     {
         self.lines.iter().filter(|change| change.is_join()).count() as u32
     }
@@ -138,7 +138,7 @@ pub fn read_plan(alloc: Global, bytes: &[u8]) -> Result<Plan, Refusal>
     while !rest.is_empty() {
         let (line, after) = lines::first_line(rest);
         number += 1;
-        if let Some(change) = change_said(alloc, number, line)? {
+        if let Some(change) = parse_change(alloc, number, line)? {
             roster.take(number, &change)?;
             lines.push(change)?;
         }
@@ -152,10 +152,10 @@ pub fn read_plan(alloc: Global, bytes: &[u8]) -> Result<Plan, Refusal>
 
 /// Parses the line of this number. A comment or an empty line has no change; any other line that is
 /// not a change is refused with `BadLine`.
-fn change_said(alloc: Global, number: u64, line: &[u8]) -> Result<Option<Change>, Refusal>
-    ensures { Answers (said_answer (number, line.now)) result }
+fn parse_change(alloc: Global, number: u64, line: &[u8]) -> Result<Option<Change>, Refusal>
+    ensures { Answers (parse_change_answer (number, line.now)) result }
 {
-    let Some(action) = lines::action_said(alloc, &[], number, line)? else {
+    let Some(action) = lines::parse_action(alloc, &[], number, line)? else {
         return Ok(None);
     };
     let Some(change) = change_of(&action) else {

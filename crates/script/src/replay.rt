@@ -55,7 +55,7 @@ fn lines_in(alloc: Global, topics: &[Topic], bytes: &[u8]) -> Result<Vec<Line>, 
     while !rest.is_empty() {
         let (line, after) = lines::first_line(rest);
         number += 1;
-        if let Some(action) = lines::action_said(alloc, topics, number, line)? {
+        if let Some(action) = lines::parse_action(alloc, topics, number, line)? {
             lines.push(Line { number, action })?;
         }
         rest = after;

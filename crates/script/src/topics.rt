@@ -1,7 +1,7 @@
 //! The topics that lines name.
 
 ghost use Rattle.std.specs.Prelude.{◌≡◌, ◌≤◌, ℕ, length, take, IfSome, IfNone};
-ghost use Rattle.script.specs.Grammar.{topic_said};
+ghost use Rattle.script.specs.Grammar.{parse_topic};
 ghost use Rattle.partitioner.specs.Topic.{MayBeTopics, partitions_in};
 ghost use Rattle.script.specs.Topics.{partition_at, topic_named};
 
@@ -11,12 +11,12 @@ use partitioner::Topic;
 
 /// Splits the name of a topic from the text after it, and returns the topic's index and the text.
 /// Without topics there is no index, and the text is returned as it is.
-#[tactic(auto, unfolding(crate::specs::Grammar::topic_said, crate::specs::Grammar::topic_before))]
-pub fn topic_said<'a>(topics: &[Topic], text: &'a [u8]) -> Option<(Option<u32>, &'a [u8])>
+#[tactic(auto, unfolding(crate::specs::Grammar::parse_topic, crate::specs::Grammar::topic_before))]
+pub fn parse_topic<'a>(topics: &[Topic], text: &'a [u8]) -> Option<(Option<u32>, &'a [u8])>
     requires { MayBeTopics topics.now }
     ensures found { IfSome result
-        (λ said. topic_said topics.now text.now ≡ Some (said.0, said.1.now)) }
-    ensures none { IfNone result (topic_said topics.now text.now ≡ None) }
+        (λ parsed. parse_topic topics.now text.now ≡ Some (parsed.0, parsed.1.now)) }
+    ensures none { IfNone result (parse_topic topics.now text.now ≡ None) }
 {
     if topics.is_empty() {
         return Some((None, text));
@@ -66,8 +66,8 @@ pub fn partition_at(topics: &[Topic], topic: Option<u32>, partition: u32) -> u32
 
 /// The number of partitions of the topics before this index.
 fn partitions_before(topics: &[Topic], index: usize) -> u32
-    requires known { MayBeTopics topics.now }
-    requires within { index ≤ length topics.now }
+    requires topics { MayBeTopics topics.now }
+    requires bound { index ≤ length topics.now }
     ensures { result ≡ partitions_in (take index topics.now) }
 {
     let mut partitions = 0;

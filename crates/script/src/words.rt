@@ -32,7 +32,7 @@ pub fn first_index(text: &[u8], byte: u8) -> Option<usize>
 pub fn number_of(word: &[u8]) -> Option<u32>
     ensures { result ≡ number_of word.now }
 {
-    if !has_digits_alone(word) || word.is_empty() || word.len() > MOST_DIGITS {
+    if !is_all_digits(word) || word.is_empty() || word.len() > MOST_DIGITS {
         return None;
     }
     let Ok(text) = str::from_utf8(word) else {
@@ -42,7 +42,7 @@ pub fn number_of(word: &[u8]) -> Option<u32>
 }
 
 /// Whether each byte is a decimal digit.
-fn has_digits_alone(word: &[u8]) -> bool
+fn is_all_digits(word: &[u8]) -> bool
     ensures { result ≡ list_all is_ascii_digit word.now }
 {
     word.iter().all(|byte| byte.is_ascii_digit())

@@ -4,13 +4,13 @@ use Rattle.std.specs.Prelude.{Some}
 use Rattle.bit_planes.specs.PartitionSet.{PartitionSet, partitions_of}
 use Rattle.bit_planes.specs.SetRows.{SetRows, members, find_row, set_or_empty, sets_of, IsRising, AreOver, IsValidRows}
 use Rattle.bit_planes.proofs.Sets.{partitions_empty}
-use Rattle.sticky_assignor.specs.Balanced.{AreApart, AreBelow, IsBalanced}
-use Rattle.sticky_assignor.specs.Private.Filling.{quotas, quotas_by, sizes, keeping, free_of, gaps, filled}
-use Rattle.sticky_assignor.specs.Kept.{kept, KeepsMost}
+use Rattle.sticky_assignor.specs.Balanced.{AreDisjoint, AreBelow, IsBalanced}
+use Rattle.sticky_assignor.specs.Private.Filling.{quotas, quotas_by, sizes, retaining, free_of, gaps, filled}
+use Rattle.sticky_assignor.specs.Retained.{retained, RetainsMost}
 use Rattle.sticky_assignor.specs.Target.{target}
 use Rattle.bit_planes.proofs.RowLaws.{rising_rest}
 use Rattle.sticky_assignor.proofs.Rows.{eq_self, not_eq}
-use Rattle.sticky_assignor.proofs.TargetLaws.{is_balanced, keeps_most}
+use Rattle.sticky_assignor.proofs.TargetLaws.{is_balanced, retains_most}
 use Rattle.sticky_assignor.proofs.Ranks.{filling_is_target, length_quotas}
 use Rattle.sticky_assignor.proofs.Steps.{quotas_by_is}
 use Rattle.sticky_assignor.specs.Assigned.{pair_up, assigned, target_rows}
@@ -49,8 +49,8 @@ partitions_found p (row ∷ rows) m over =
     ]
 
 pub sets_over : (r : SetRows) (ms : List ℕ) → IsValidRows r → AreBelow r.partitions (sets_of r ms)
-sets_over r [] kept = tt
-sets_over r (m ∷ ms) kept = (partitions_found r.partitions r.rows m kept.over, sets_over r ms kept)
+sets_over r [] retained = tt
+sets_over r (m ∷ ms) retained = (partitions_found r.partitions r.rows m retained.over, sets_over r ms retained)
 
 pub length_sets : (r : SetRows) (ms : List ℕ) → length (sets_of r ms) ≡ length ms
 length_sets r [] = refl
@@ -73,13 +73,13 @@ unfolding assigned
 sets_assigned p ms owned rising =
     sets_paired p ms (target p (sets_of owned ms)) (length_target p (sets_of owned ms) ∙ length_sets owned ms) rising
 
-pub assigned_kept : (ms : List ℕ) (owned : SetRows) → IsValidRows owned → IsRising ms → IsValidRows (assigned owned.partitions ms owned)
+pub assigned_retained : (ms : List ℕ) (owned : SetRows) → IsValidRows owned → IsRising ms → IsValidRows (assigned owned.partitions ms owned)
 unfolding assigned
-assigned_kept ms owned kept rising = record {
-  some = kept.some;
-  few = kept.few;
+assigned_retained ms owned retained rising = record {
+  some = retained.some;
+  few = retained.few;
   rising = subst IsRising (sym (members_assigned owned.partitions ms owned)) rising;
-  over = over_paired owned.partitions ms (target owned.partitions (sets_of owned ms)) (target_over owned.partitions (sets_of owned ms) (sets_over owned ms kept));
+  over = over_paired owned.partitions ms (target owned.partitions (sets_of owned ms)) (target_over owned.partitions (sets_of owned ms) (sets_over owned ms retained));
 }
 
 pairs_are : (rows : List (ℕ × PartitionSet)) → rows ≡ pair_up (map (λ row. row.0) rows) (map (λ row. row.1) rows)
@@ -114,29 +114,29 @@ pub quotas_long : (p : ℕ) (ms : List ℕ) (owned : SetRows) (qs ns : List ℕ)
 quotas_long p ms owned qs ns e same = ap length (same ∙ e) ∙ length_quotas p (sets_of owned ms) ∙ length_sets owned ms
 
 pub is_assigned : (p : ℕ) (ms : List ℕ) (owned : SetRows) (qs ns ks : List ℕ) (free : PartitionSet) (rows : SetRows) → owned.partitions ≡ p → qs ≡ quotas owned.partitions (sets_of owned ms) → ns ≡ qs → ks ≡ qs
-    → free ≡ free_of owned.partitions (keeping ns (sets_of owned ms))
-    → rows ≡ record { partitions = owned.partitions; rows = pair_up ms (filled free (gaps ks (keeping ks (sets_of owned ms))) (keeping ks (sets_of owned ms))) }
+    → free ≡ free_of owned.partitions (retaining ns (sets_of owned ms))
+    → rows ≡ record { partitions = owned.partitions; rows = pair_up ms (filled free (gaps ks (retaining ks (sets_of owned ms))) (retaining ks (sets_of owned ms))) }
     → rows ≡ assigned p ms owned
 unfolding assigned
 is_assigned p ms owned qs ns ks free rows below eq en ek ef er =
     let sets : List PartitionSet = sets_of owned ms in
     let n : ns ≡ quotas owned.partitions sets = en ∙ eq in
     let k : ks ≡ quotas owned.partitions sets = ek ∙ eq in
-    let f : free ≡ free_of owned.partitions (keeping (quotas owned.partitions sets) sets) = ef ∙ ap (λ xs. free_of owned.partitions (keeping xs sets)) n in
+    let f : free ≡ free_of owned.partitions (retaining (quotas owned.partitions sets) sets) = ef ∙ ap (λ xs. free_of owned.partitions (retaining xs sets)) n in
     er
-    ∙ ap (λ xs. record { partitions = owned.partitions; rows = pair_up ms (filled free (gaps xs (keeping xs sets)) (keeping xs sets)) }) k
-    ∙ ap (λ s. record { partitions = owned.partitions; rows = pair_up ms (filled s (gaps (quotas owned.partitions sets) (keeping (quotas owned.partitions sets) sets)) (keeping (quotas owned.partitions sets) sets)) }) f
+    ∙ ap (λ xs. record { partitions = owned.partitions; rows = pair_up ms (filled free (gaps xs (retaining xs sets)) (retaining xs sets)) }) k
+    ∙ ap (λ s. record { partitions = owned.partitions; rows = pair_up ms (filled s (gaps (quotas owned.partitions sets) (retaining (quotas owned.partitions sets) sets)) (retaining (quotas owned.partitions sets) sets)) }) f
     ∙ ap (λ t. record { partitions = owned.partitions; rows = pair_up ms t }) (filling_is_target owned.partitions sets)
     ∙ ap (λ m. record { partitions = m; rows = pair_up ms (target m sets) }) below
 
-pub balanced_assigned : (p : ℕ) (ms : List ℕ) (owned : SetRows) → owned.partitions ≡ p → IsValidRows owned → 0 < length ms → IsRising ms → AreApart (sets_of owned ms) → IsBalanced p (sets_of (assigned p ms owned) ms)
-balanced_assigned p ms owned below kept some rising apart =
-    let over : AreBelow p (sets_of owned ms) = subst (λ n. AreBelow n (sets_of owned ms)) below (sets_over owned ms kept) in
+pub balanced_assigned : (p : ℕ) (ms : List ℕ) (owned : SetRows) → owned.partitions ≡ p → IsValidRows owned → 0 < length ms → IsRising ms → AreDisjoint (sets_of owned ms) → IsBalanced p (sets_of (assigned p ms owned) ms)
+balanced_assigned p ms owned below retained some rising disjoint =
+    let over : AreBelow p (sets_of owned ms) = subst (λ n. AreBelow n (sets_of owned ms)) below (sets_over owned ms retained) in
     let many : 0 < length (sets_of owned ms) = omega (arith, length_sets owned ms) in
-    subst (IsBalanced p) (sym (sets_assigned p ms owned rising)) (is_balanced p (sets_of owned ms) many over apart)
+    subst (IsBalanced p) (sym (sets_assigned p ms owned rising)) (is_balanced p (sets_of owned ms) many over disjoint)
 
 pub most_assigned : (p : ℕ) (ms : List ℕ) (owned : SetRows) → owned.partitions ≡ p → IsValidRows owned → IsRising ms
-    → KeepsMost p (sets_of owned ms) (sets_of (assigned p ms owned) ms)
+    → RetainsMost p (sets_of owned ms) (sets_of (assigned p ms owned) ms)
 most_assigned p ms owned below is rising others len over balanced =
     let mine : AreBelow p (sets_of owned ms) = subst (λ n. AreBelow n (sets_of owned ms)) below (sets_over owned ms is) in
-    subst (λ rows. kept (sets_of owned ms) others ≤ kept (sets_of owned ms) rows) (sym (sets_assigned p ms owned rising)) (keeps_most p (sets_of owned ms) others len mine over balanced)
+    subst (λ rows. retained (sets_of owned ms) others ≤ retained (sets_of owned ms) rows) (sym (sets_assigned p ms owned rising)) (retains_most p (sets_of owned ms) others len mine over balanced)

@@ -4,8 +4,8 @@ use Rattle.std.proofs.lemmas.List.Sums.{sum_by-cons}
 use Rattle.std.proofs.lemmas.Bool.{cases_lt}
 use Rattle.bit_planes.specs.PartitionSet.{PartitionSet, partitions_of, is_in, one, size, full_set, union, minus, lowest}
 use Rattle.bit_planes.proofs.Sets.{one_le, one_or, one_in_minus, in_union, in_full, partitions_full, partitions_lowest, partitions_minus, lowest_splits, size_lowest, size_union, size_minus, size_full}
-use Rattle.sticky_assignor.specs.Balanced.{holders, size_at, IsBalanced, AreApart, AreBelow}
-use Rattle.sticky_assignor.specs.Private.Filling.{one_of, shares, quotas, keeping, free_of, gaps, filled, filled_up, filling}
+use Rattle.sticky_assignor.specs.Balanced.{holders, size_at, IsBalanced, AreDisjoint, AreBelow}
+use Rattle.sticky_assignor.specs.Private.Filling.{one_of, shares, quotas, retaining, free_of, gaps, filled, filled_up, filling}
 use Rattle.sticky_assignor.specs.Target.{is_heavy, heavies}
 use Rattle.sticky_assignor.proofs.Rows.{one_none, size_beyond, none_past}
 
@@ -37,8 +37,8 @@ Clear rows free = (q : ℕ) → holders rows q + one (is_in free q) ≤ 1
 clear_rest : (g : ℕ) (k : PartitionSet) (ks : List PartitionSet) (free : PartitionSet) → Clear (k ∷ ks) free → Clear ks (minus free (lowest g free))
 clear_rest g k ks free clear q = let h = clear q in omega (arith, lowest_splits g free q)
 
-apart_low : (g : ℕ) (k : PartitionSet) (ks : List PartitionSet) (free : PartitionSet) → Clear (k ∷ ks) free → (q : ℕ) → one (is_in k q) + one (is_in (lowest g free) q) ≤ 1
-apart_low g k ks free clear q = let h = clear q in omega (arith, lowest_splits g free q)
+disjoint_low : (g : ℕ) (k : PartitionSet) (ks : List PartitionSet) (free : PartitionSet) → Clear (k ∷ ks) free → (q : ℕ) → one (is_in k q) + one (is_in (lowest g free) q) ≤ 1
+disjoint_low g k ks free clear q = let h = clear q in omega (arith, lowest_splits g free q)
 
 filled_holders : (p : ℕ) (free : PartitionSet) (gs : List ℕ) (ks : List PartitionSet) → length gs ≡ length ks → partitions_of free ≡ p → AreBelow p ks → Clear ks free → size free ≤ total gs → (q : ℕ) → holders (filled free gs ks) q ≡ holders ks q + one (is_in free q)
 filled_holders p free [] [] len long over clear le q = omega (arith, one_none free q (omega arith))
@@ -47,7 +47,7 @@ filled_holders p free (g ∷ gs) [] len long over clear le q = absurd (omega ari
 filled_holders p free (g ∷ gs) (k ∷ ks) len long over clear le q =
     let low : PartitionSet = lowest g free in
     let rest : PartitionSet = minus free low in
-    let both : one (is_in (union k low) q) ≡ one (is_in k q) + one (is_in low q) = rw (in_union k low q (over.0 ∙ sym long ∙ sym (partitions_lowest g free))) (one_or (is_in k q) (is_in low q) (apart_low g k ks free clear q)) in
+    let both : one (is_in (union k low) q) ≡ one (is_in k q) + one (is_in low q) = rw (in_union k low q (over.0 ∙ sym long ∙ sym (partitions_lowest g free))) (one_or (is_in k q) (is_in low q) (disjoint_low g k ks free clear q)) in
     let ih : holders (filled rest gs ks) q ≡ holders ks q + one (is_in rest q) = filled_holders p rest gs ks (omega arith) (partitions_minus free low ∙ long) over.1 (clear_rest g k ks free clear) (omega (arith, size_beyond g free, size_lowest g free)) q in
     omega (arith, lowest_splits g free q)
 
@@ -58,27 +58,27 @@ filled_sized p free (q ∷ qs) [] fits long over clear le = absurd fits
 filled_sized p free (q ∷ qs) (k ∷ ks) fits long over clear le =
     let g : ℕ = q - size k in
     let low : PartitionSet = lowest g free in
-    let sized : size (union k low) ≡ size k + size low = size_union k low (over.0 ∙ sym long ∙ sym (partitions_lowest g free)) (apart_low g k ks free clear) in (
+    let sized : size (union k low) ≡ size k + size low = size_union k low (over.0 ∙ sym long ∙ sym (partitions_lowest g free)) (disjoint_low g k ks free clear) in (
       omega (arith, size_lowest g free, fits.0),
       filled_sized p (minus free low) qs ks fits.1 (partitions_minus free low ∙ long) over.1 (clear_rest g k ks free clear) (omega (arith, size_beyond g free, size_lowest g free)),
     )
 
 -- ---- what is kept
-pub keeping_over : (p : ℕ) (qs : List ℕ) (rows : List PartitionSet) → AreBelow p rows → AreBelow p (keeping qs rows)
-keeping_over p [] rows over = tt
-keeping_over p (q ∷ qs) [] over = tt
-keeping_over p (q ∷ qs) (row ∷ rows) over = (partitions_lowest q row ∙ over.0, keeping_over p qs rows over.1)
+pub retaining_over : (p : ℕ) (qs : List ℕ) (rows : List PartitionSet) → AreBelow p rows → AreBelow p (retaining qs rows)
+retaining_over p [] rows over = tt
+retaining_over p (q ∷ qs) [] over = tt
+retaining_over p (q ∷ qs) (row ∷ rows) over = (partitions_lowest q row ∙ over.0, retaining_over p qs rows over.1)
 
-pub keeping_fits : (qs : List ℕ) (rows : List PartitionSet) → length qs ≡ length rows → Fits qs (keeping qs rows)
-keeping_fits [] [] len = tt
-keeping_fits [] (row ∷ rows) len = absurd (omega arith)
-keeping_fits (q ∷ qs) [] len = absurd (omega arith)
-keeping_fits (q ∷ qs) (row ∷ rows) len = (omega (arith, size_lowest q row), keeping_fits qs rows (omega arith))
+pub retaining_fits : (qs : List ℕ) (rows : List PartitionSet) → length qs ≡ length rows → Fits qs (retaining qs rows)
+retaining_fits [] [] len = tt
+retaining_fits [] (row ∷ rows) len = absurd (omega arith)
+retaining_fits (q ∷ qs) [] len = absurd (omega arith)
+retaining_fits (q ∷ qs) (row ∷ rows) len = (omega (arith, size_lowest q row), retaining_fits qs rows (omega arith))
 
-keeping_holders : (qs : List ℕ) (rows : List PartitionSet) (n : ℕ) → holders (keeping qs rows) n ≤ holders rows n
-keeping_holders [] rows n = omega arith
-keeping_holders (q ∷ qs) [] n = omega arith
-keeping_holders (q ∷ qs) (row ∷ rows) n = omega (arith, keeping_holders qs rows n, lowest_splits q row n)
+retaining_holders : (qs : List ℕ) (rows : List PartitionSet) (n : ℕ) → holders (retaining qs rows) n ≤ holders rows n
+retaining_holders [] rows n = omega arith
+retaining_holders (q ∷ qs) [] n = omega arith
+retaining_holders (q ∷ qs) (row ∷ rows) n = omega (arith, retaining_holders qs rows n, lowest_splits q row n)
 
 -- ---- what is free
 pub partitions_free : (p : ℕ) (rows : List PartitionSet) → partitions_of (free_of p rows) ≡ p
@@ -105,9 +105,9 @@ size_free p (row ∷ rows) over within =
 pub one_full : (p q : ℕ) → q < p → one (is_in (full_set p) q) ≡ 1
 one_full p q lt = ap one (in_full p q lt)
 
-pub in_all : (p : ℕ) (rows : List PartitionSet) → AreBelow p rows → AreApart rows → InAll p rows
-in_all p rows over apart q =
-    let a = apart q in
+pub in_all : (p : ℕ) (rows : List PartitionSet) → AreBelow p rows → AreDisjoint rows → InAll p rows
+in_all p rows over disjoint q =
+    let a = disjoint q in
     elim (cases_lt q p) [
       | inl lt ↦ omega (arith, one_full p q lt)
       | inr ge ↦ omega (arith, none_past p rows q over ge)
@@ -191,23 +191,23 @@ length_gaps [] (k ∷ ks) fits = absurd fits
 length_gaps (q ∷ qs) [] fits = absurd fits
 length_gaps (q ∷ qs) (k ∷ ks) fits = ap (λ n. suc n) (length_gaps qs ks fits.1)
 
-filled_up_balanced : (p share : ℕ) (qs : List ℕ) (kept : List PartitionSet) → Within share qs → total qs ≡ p → Fits qs kept → AreBelow p kept → AreApart kept → IsBalanced p (filled_up p qs kept)
-filled_up_balanced p share qs kept within sum_is fits over apart =
-    let free : PartitionSet = free_of p kept in
-    let inside : InAll p kept = in_all p kept over apart in
-    let clear : Clear kept free = λ q. omega (arith, free_holders p kept inside q, one_le (is_in (full_set p) q)) in
-    let room : total (gaps qs kept) ≡ size free = omega (arith, total_gaps qs kept fits, size_free p kept over inside) in
-    let sized : Sized qs (filled free (gaps qs kept) kept) = filled_sized p free qs kept fits (partitions_free p kept) over clear (omega arith) in record {
-      once = λ q lt. omega (arith, filled_holders p free (gaps qs kept) kept (length_gaps qs kept fits) (partitions_free p kept) over clear (omega arith) q, free_holders p kept inside q, ap one (in_full p q lt));
+filled_up_balanced : (p share : ℕ) (qs : List ℕ) (retained : List PartitionSet) → Within share qs → total qs ≡ p → Fits qs retained → AreBelow p retained → AreDisjoint retained → IsBalanced p (filled_up p qs retained)
+filled_up_balanced p share qs retained within sum_is fits over disjoint =
+    let free : PartitionSet = free_of p retained in
+    let inside : InAll p retained = in_all p retained over disjoint in
+    let clear : Clear retained free = λ q. omega (arith, free_holders p retained inside q, one_le (is_in (full_set p) q)) in
+    let capacity : total (gaps qs retained) ≡ size free = omega (arith, total_gaps qs retained fits, size_free p retained over inside) in
+    let sized : Sized qs (filled free (gaps qs retained) retained) = filled_sized p free qs retained fits (partitions_free p retained) over clear (omega arith) in record {
+      once = λ q lt. omega (arith, filled_holders p free (gaps qs retained) retained (length_gaps qs retained fits) (partitions_free p retained) over clear (omega arith) q, free_holders p retained inside q, ap one (in_full p q lt));
       even = λ i j a b.
-          let x = size_within share qs (filled free (gaps qs kept) kept) i within sized a in
-          let y = size_within share qs (filled free (gaps qs kept) kept) j within sized b in
+          let x = size_within share qs (filled free (gaps qs retained) retained) i within sized a in
+          let y = size_within share qs (filled free (gaps qs retained) retained) j within sized b in
           omega arith;
     }
 
-pub filling_balanced : (p : ℕ) (owned : List PartitionSet) → 0 < length owned → AreBelow p owned → AreApart owned → IsBalanced p (filling p owned)
-filling_balanced p owned some over apart =
+pub filling_balanced : (p : ℕ) (owned : List PartitionSet) → 0 < length owned → AreBelow p owned → AreDisjoint owned → IsBalanced p (filling p owned)
+filling_balanced p owned some over disjoint =
     let share : ℕ = p / length owned in
     let h : ℕ = min (p % length owned) (heavies share owned) in
     let o : ℕ = p % length owned - h in
-    filled_up_balanced p share (quotas p owned) (keeping (quotas p owned) owned) (shares_within share h o owned) (total_quotas p owned some) (keeping_fits (quotas p owned) owned (length_shares share h o owned)) (keeping_over p (quotas p owned) owned over) (λ q. omega (arith, apart q, keeping_holders (quotas p owned) owned q))
+    filled_up_balanced p share (quotas p owned) (retaining (quotas p owned) owned) (shares_within share h o owned) (total_quotas p owned some) (retaining_fits (quotas p owned) owned (length_shares share h o owned)) (retaining_over p (quotas p owned) owned over) (λ q. omega (arith, disjoint q, retaining_holders (quotas p owned) owned q))

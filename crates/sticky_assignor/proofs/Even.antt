@@ -4,13 +4,13 @@ use Rattle.std.proofs.Math.Nat.{mul-le-mul_left}
 use Rattle.std.proofs.lemmas.Bool.{cases_lt}
 use Rattle.bit_planes.specs.PartitionSet.{PartitionSet, partitions_of, is_in, one, size, full_set}
 use Rattle.bit_planes.proofs.Sets.{one_le, size_is, how_many-none, partitions_full}
-use Rattle.sticky_assignor.specs.Balanced.{size_at, IsBalanced, AreApart, AreBelow}
+use Rattle.sticky_assignor.specs.Balanced.{size_at, IsBalanced, AreDisjoint, AreBelow}
 use Rattle.sticky_assignor.specs.Private.Filling.{free_of}
 use Rattle.sticky_assignor.proofs.Rows.{one_past, none_past, is_false}
 use Rattle.sticky_assignor.proofs.Balance.{total, sizes, Within, InAll, in_all, free_holders, size_free}
 
-pub balanced_apart : (p : ℕ) (rows : List PartitionSet) → AreBelow p rows → IsBalanced p rows → AreApart rows
-balanced_apart p rows over balanced q =
+pub balanced_disjoint : (p : ℕ) (rows : List PartitionSet) → AreBelow p rows → IsBalanced p rows → AreDisjoint rows
+balanced_disjoint p rows over balanced q =
     elim (cases_lt q p) [
       | inl lt ↦ let h = balanced.once q lt in omega arith
       | inr ge ↦ omega (arith, none_past p rows q over ge)
@@ -33,7 +33,7 @@ empty_size s empty = size_is s ∙ how_many-none (partitions_of s) (is_in s) (λ
 
 pub nothing_free : (p : ℕ) (rows : List PartitionSet) → AreBelow p rows → IsBalanced p rows → size (free_of p rows) ≡ 0
 nothing_free p rows over balanced =
-    let inside : InAll p rows = in_all p rows over (balanced_apart p rows over balanced) in
+    let inside : InAll p rows = in_all p rows over (balanced_disjoint p rows over balanced) in
     empty_size (free_of p rows) (λ q. elim (cases_lt q p) [
       | inl lt ↦ let h = balanced.once q lt in omega (arith, free_holders p rows inside q, one_le (is_in (full_set p) q))
       | inr ge ↦ let l = partitions_full p in omega (arith, free_holders p rows inside q, one_past (full_set p) q (omega arith))
@@ -41,7 +41,7 @@ nothing_free p rows over balanced =
 
 pub sizes_sum : (p : ℕ) (rows : List PartitionSet) → AreBelow p rows → IsBalanced p rows → sizes rows ≡ p
 sizes_sum p rows over balanced =
-    omega (arith, nothing_free p rows over balanced, size_free p rows over (in_all p rows over (balanced_apart p rows over balanced)))
+    omega (arith, nothing_free p rows over balanced, size_free p rows over (in_all p rows over (balanced_disjoint p rows over balanced)))
 
 most : (m : ℕ) (rows : List PartitionSet) → ((i : ℕ) → i < length rows → size_at rows i ≤ m) → sizes rows ≤ length rows * m
 most m [] h = omega arith

@@ -5,7 +5,7 @@ use Rattle.std.proofs.lemmas.Bool.{lt-ltb}
 use Rattle.std.proofs.lemmas.Bool.Decides.{nat_tests}
 use Rattle.bit_planes.specs.PartitionSet.{PartitionSet, is_in, rank, size, lowest}
 use Rattle.bit_planes.proofs.Sets.{same_set, partitions_lowest, in_lowest, rank_below}
-use Rattle.sticky_assignor.specs.Private.Filling.{one_of, shares, quotas, keeping}
+use Rattle.sticky_assignor.specs.Private.Filling.{one_of, shares, quotas, retaining}
 use Rattle.sticky_assignor.specs.Target.{is_heavy, heavies}
 use Rattle.sticky_assignor.proofs.Balance.{total, Within, Fits, heavies_cons}
 
@@ -17,11 +17,11 @@ pub lowest_all : (n : ℕ) (s : PartitionSet) → size s ≤ n → lowest n s �
 lowest_all n s le =
     same_set (lowest n s) s (partitions_lowest n s) (λ q lt. in_lowest n s q ∙ all_below (is_in s q) (rank s q) n (size s) (rank_below s q) le)
 
-pub keeping_all : (qs : List ℕ) (rows : List PartitionSet) → Fits qs rows → keeping qs rows ≡ rows
-keeping_all [] [] fits = refl
-keeping_all [] (row ∷ rows) fits = absurd fits
-keeping_all (q ∷ qs) [] fits = absurd fits
-keeping_all (q ∷ qs) (row ∷ rows) fits = rw (lowest_all q row fits.0) (ap (λ r. row ∷ r) (keeping_all qs rows fits.1))
+pub retaining_all : (qs : List ℕ) (rows : List PartitionSet) → Fits qs rows → retaining qs rows ≡ rows
+retaining_all [] [] fits = refl
+retaining_all [] (row ∷ rows) fits = absurd fits
+retaining_all (q ∷ qs) [] fits = absurd fits
+retaining_all (q ∷ qs) (row ∷ rows) fits = rw (lowest_all q row fits.0) (ap (λ r. row ∷ r) (retaining_all qs rows fits.1))
 
 -- how many quotas are above the share
 abbrev pub overs : ℕ → List ℕ → ℕ

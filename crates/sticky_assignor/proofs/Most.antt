@@ -5,12 +5,12 @@ use Rattle.std.proofs.lemmas.Bool.Decides.{nat_tests}
 use Rattle.bit_planes.specs.PartitionSet.{PartitionSet, partitions_of, is_in, one, rank, size, union, minus, lowest}
 use Rattle.bit_planes.proofs.Sets.{how_many-same, size_is, in_lowest, in_union, partitions_lowest, partitions_minus, size_lowest}
 use Rattle.sticky_assignor.specs.Balanced.{AreBelow, IsBalanced}
-use Rattle.sticky_assignor.specs.Private.Filling.{one_of, shares, quotas, keeping, free_of, gaps, filled, filling}
+use Rattle.sticky_assignor.specs.Private.Filling.{one_of, shares, quotas, retaining, free_of, gaps, filled, filling}
 use Rattle.sticky_assignor.specs.Target.{is_heavy, heavies}
-use Rattle.sticky_assignor.specs.Kept.{in_both, kept}
+use Rattle.sticky_assignor.specs.Retained.{in_both, retained}
 use Rattle.sticky_assignor.proofs.Rows.{how_many-most}
-use Rattle.sticky_assignor.proofs.Balance.{total, Within, heavies_cons, length_shares, length_gaps, keeping_fits, partitions_free}
-use Rattle.sticky_assignor.proofs.Ranks.{length_keeping}
+use Rattle.sticky_assignor.proofs.Balance.{total, Within, heavies_cons, length_shares, length_gaps, retaining_fits, partitions_free}
+use Rattle.sticky_assignor.proofs.Ranks.{length_retaining}
 use Rattle.sticky_assignor.proofs.Keeps.{overs, total_overs}
 use Rattle.sticky_assignor.proofs.Even.{sizes_of, length_sizes, total_sizes, sizes_sum, balanced_within}
 
@@ -42,11 +42,11 @@ both_left s t = rw (size_is s) (how_many-most (partitions_of s) (λ q. is_in s q
 both_right : (s t : PartitionSet) → partitions_of s ≡ partitions_of t → in_both s t ≤ size t
 both_right s t len = rw (size_is t, sym len) (how_many-most (partitions_of s) (λ q. is_in s q && is_in t q) (is_in t) (λ q. and_right (is_in s q) (is_in t q)))
 
-kept_reach : (p : ℕ) (owned rows : List PartitionSet) → AreBelow p owned → AreBelow p rows → length rows ≡ length owned → kept owned rows ≤ reach (sizes_of rows) owned
-kept_reach p [] [] oo or len = omega arith
-kept_reach p [] (row ∷ rows) oo or len = absurd (omega arith)
-kept_reach p (own ∷ owned) [] oo or len = absurd (omega arith)
-kept_reach p (own ∷ owned) (row ∷ rows) oo or len = omega (arith, both_left own row, both_right own row (oo.0 ∙ sym or.0), kept_reach p owned rows oo.1 or.1 (omega arith))
+retained_reach : (p : ℕ) (owned rows : List PartitionSet) → AreBelow p owned → AreBelow p rows → length rows ≡ length owned → retained owned rows ≤ reach (sizes_of rows) owned
+retained_reach p [] [] oo or len = omega arith
+retained_reach p [] (row ∷ rows) oo or len = absurd (omega arith)
+retained_reach p (own ∷ owned) [] oo or len = absurd (omega arith)
+retained_reach p (own ∷ owned) (row ∷ rows) oo or len = omega (arith, both_left own row, both_right own row (oo.0 ∙ sym or.0), retained_reach p owned rows oo.1 or.1 (omega arith))
 
 -- ---- balanced sizes reach the even shares, and one more of some heavy ones
 reach_overs : (share : ℕ) (qs : List ℕ) (owned : List PartitionSet) → Within share qs → length qs ≡ length owned → reach qs owned ≤ base share owned + overs share qs
@@ -106,7 +106,7 @@ both_union : (s t u : PartitionSet) → partitions_of t ≡ partitions_of u → 
 both_union s t u len =
     how_many-most (partitions_of s) (λ q. is_in s q && is_in t q) (λ q. is_in s q && is_in (union t u) q) (λ q. rw (in_union t u q len) (and_or (is_in s q) (is_in t q) (is_in u q)))
 
-reach_filled : (p : ℕ) (free : PartitionSet) (gs qs : List ℕ) (owned : List PartitionSet) → partitions_of free ≡ p → AreBelow p owned → length gs ≡ length owned → length qs ≡ length owned → reach qs owned ≤ kept owned (filled free gs (keeping qs owned))
+reach_filled : (p : ℕ) (free : PartitionSet) (gs qs : List ℕ) (owned : List PartitionSet) → partitions_of free ≡ p → AreBelow p owned → length gs ≡ length owned → length qs ≡ length owned → reach qs owned ≤ retained owned (filled free gs (retaining qs owned))
 reach_filled p free [] [] [] long over lg lq = omega arith
 reach_filled p free (g ∷ gs) [] [] long over lg lq = absurd (omega arith)
 reach_filled p free gs (q ∷ qs) [] long over lg lq = absurd (omega arith)
@@ -116,8 +116,8 @@ reach_filled p free (g ∷ gs) (q ∷ qs) (own ∷ owned) long over lg lq =
     let low : PartitionSet = lowest g free in
     omega (arith, reach_filled p (minus free low) gs qs owned (partitions_minus free low ∙ long) over.1 (omega arith) (omega arith), both_union own (lowest q own) low (partitions_lowest q own ∙ over.0 ∙ sym long ∙ sym (partitions_lowest g free)), both_lowest q own, size_lowest q own)
 
-some_keep_most : (p : ℕ) (owned rows : List PartitionSet) → 0 < length owned → length rows ≡ length owned → AreBelow p owned → AreBelow p rows → IsBalanced p rows → kept owned rows ≤ kept owned (filling p owned)
-some_keep_most p owned rows some len mine over balanced =
+some_retain_most : (p : ℕ) (owned rows : List PartitionSet) → 0 < length owned → length rows ≡ length owned → AreBelow p owned → AreBelow p rows → IsBalanced p rows → retained owned rows ≤ retained owned (filling p owned)
+some_retain_most p owned rows some len mine over balanced =
     let n : ℕ = length owned in
     let share : ℕ = p / n in
     let more : ℕ = p % n in
@@ -132,14 +132,14 @@ some_keep_most p owned rows some len mine over balanced =
     let all : n * share + more ≡ p = omega arith in
     let over_all : overs share ss ≡ more = omega (arith, total_sizes rows, sizes_sum p rows over balanced) in
     let lq : length qs ≡ n = length_shares share h (more - h) owned in
-    let lg : length (gaps qs (keeping qs owned)) ≡ n = length_gaps qs (keeping qs owned) (keeping_fits qs owned lq) ∙ length_keeping qs owned lq in
-    let a : kept owned rows ≤ reach ss owned = kept_reach p owned rows mine over len in
+    let lg : length (gaps qs (retaining qs owned)) ≡ n = length_gaps qs (retaining qs owned) (retaining_fits qs owned lq) ∙ length_retaining qs owned lq in
+    let a : retained owned rows ≤ reach ss owned = retained_reach p owned rows mine over len in
     let b : reach ss owned ≤ base share owned + overs share ss = reach_overs share ss owned within ls in
     let c : reach ss owned ≤ base share owned + heavy = reach_heavies share ss owned within ls in
     let d : base share owned + min h heavy ≤ reach qs owned = reach_shares share h (more - h) owned in
-    let e : reach qs owned ≤ kept owned (filling p owned) = reach_filled p (free_of p (keeping qs owned)) (gaps qs (keeping qs owned)) qs owned (partitions_free p (keeping qs owned)) mine lg lq in
+    let e : reach qs owned ≤ retained owned (filling p owned) = reach_filled p (free_of p (retaining qs owned)) (gaps qs (retaining qs owned)) qs owned (partitions_free p (retaining qs owned)) mine lg lq in
     omega arith
 
-pub filling_keeps_most : (p : ℕ) (owned rows : List PartitionSet) → length rows ≡ length owned → AreBelow p owned → AreBelow p rows → IsBalanced p rows → kept owned rows ≤ kept owned (filling p owned)
-filling_keeps_most p [] rows len mine over balanced = omega arith
-filling_keeps_most p (own ∷ owned) rows len mine over balanced = some_keep_most p (own ∷ owned) rows (omega arith) len mine over balanced
+pub filling_retains_most : (p : ℕ) (owned rows : List PartitionSet) → length rows ≡ length owned → AreBelow p owned → AreBelow p rows → IsBalanced p rows → retained owned rows ≤ retained owned (filling p owned)
+filling_retains_most p [] rows len mine over balanced = omega arith
+filling_retains_most p (own ∷ owned) rows len mine over balanced = some_retain_most p (own ∷ owned) rows (omega arith) len mine over balanced

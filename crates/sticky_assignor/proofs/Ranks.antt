@@ -5,9 +5,9 @@ use Rattle.std.proofs.lemmas.Bool.Decides.{nat_tests}
 use Rattle.std.specs.Prelude.{nat_lt, nat_le}
 use Rattle.bit_planes.specs.PartitionSet.{PartitionSet, partitions_of, is_in, one, any_below, rank, size, union, minus, lowest}
 use Rattle.bit_planes.proofs.Sets.{same_set, partitions_where, in_where, in_full, in_minus, in_lowest, partitions_lowest, partitions_minus, rank_is, rank_next, rank_lowest, lowest_splits}
-use Rattle.sticky_assignor.specs.Private.Filling.{one_of, shares, quotas, keeping, free_of, gaps, filled, filling}
-use Rattle.sticky_assignor.specs.Target.{is_heavy, heavies, row_at, sum_below, quota_of, kept_row, free_set, gap_of, covers, taken_row, rows_by, target}
-use Rattle.sticky_assignor.proofs.Balance.{total, heavies_cons, length_shares, partitions_free, length_gaps, keeping_fits}
+use Rattle.sticky_assignor.specs.Private.Filling.{one_of, shares, quotas, retaining, free_of, gaps, filled, filling}
+use Rattle.sticky_assignor.specs.Target.{is_heavy, heavies, row_at, sum_below, quota_of, retained_row, free_set, gap_of, covers, taken_row, rows_by, target}
+use Rattle.sticky_assignor.proofs.Balance.{total, heavies_cons, length_shares, partitions_free, length_gaps, retaining_fits}
 
 -- ---- quotas by index
 one_of_lt : (n : ℕ) → one_of n ≡ one (nat_lt 0 n)
@@ -110,11 +110,11 @@ quota_at p owned i lt =
     let h : ℕ = min (p % length owned) (heavies share owned) in
     share_at share h (p % length owned - h) owned i lt
 
-keeping_at : (qs : List ℕ) (owned : List PartitionSet) (i : ℕ) → i < length qs → i < length owned → row_at (keeping qs owned) i ≡ lowest (get_or qs i 0) (row_at owned i)
-keeping_at [] owned i lq lo = absurd (omega arith)
-keeping_at (n ∷ qs) [] i lq lo = absurd (omega arith)
-keeping_at (n ∷ qs) (own ∷ owned) zero lq lo = refl
-keeping_at (n ∷ qs) (own ∷ owned) (suc i) lq lo = keeping_at qs owned i (omega arith) (omega arith)
+retaining_at : (qs : List ℕ) (owned : List PartitionSet) (i : ℕ) → i < length qs → i < length owned → row_at (retaining qs owned) i ≡ lowest (get_or qs i 0) (row_at owned i)
+retaining_at [] owned i lq lo = absurd (omega arith)
+retaining_at (n ∷ qs) [] i lq lo = absurd (omega arith)
+retaining_at (n ∷ qs) (own ∷ owned) zero lq lo = refl
+retaining_at (n ∷ qs) (own ∷ owned) (suc i) lq lo = retaining_at qs owned i (omega arith) (omega arith)
 
 gaps_at : (qs : List ℕ) (ks : List PartitionSet) (i : ℕ) → i < length qs → i < length ks → get_or (gaps qs ks) i 0 ≡ get_or qs i 0 - size (row_at ks i)
 gaps_at [] ks i lq lk = absurd (omega arith)
@@ -154,11 +154,11 @@ in_free p (row ∷ rows) q lt =
     and_nor false true = refl
     and_nor false false = refl
 
-pub length_keeping : (qs : List ℕ) (owned : List PartitionSet) → length qs ≡ length owned → length (keeping qs owned) ≡ length owned
-length_keeping [] [] len = refl
-length_keeping [] (own ∷ owned) len = absurd (omega arith)
-length_keeping (q ∷ qs) [] len = absurd (omega arith)
-length_keeping (q ∷ qs) (own ∷ owned) len = ap (λ n. suc n) (length_keeping qs owned (omega arith))
+pub length_retaining : (qs : List ℕ) (owned : List PartitionSet) → length qs ≡ length owned → length (retaining qs owned) ≡ length owned
+length_retaining [] [] len = refl
+length_retaining [] (own ∷ owned) len = absurd (omega arith)
+length_retaining (q ∷ qs) [] len = absurd (omega arith)
+length_retaining (q ∷ qs) (own ∷ owned) len = ap (λ n. suc n) (length_retaining qs owned (omega arith))
 
 pub length_quotas : (p : ℕ) (owned : List PartitionSet) → length (quotas p owned) ≡ length owned
 length_quotas p owned =
@@ -166,20 +166,20 @@ length_quotas p owned =
     let h : ℕ = min (p % length owned) (heavies share owned) in
     length_shares share h (p % length owned - h) owned
 
-kept_at : (p : ℕ) (owned : List PartitionSet) (i : ℕ) → i < length owned → kept_row p owned i ≡ row_at (keeping (quotas p owned) owned) i
-kept_at p owned i lt =
+retained_at : (p : ℕ) (owned : List PartitionSet) (i : ℕ) → i < length owned → retained_row p owned i ≡ row_at (retaining (quotas p owned) owned) i
+retained_at p owned i lt =
     let lq = length_quotas p owned in
-    sym (keeping_at (quotas p owned) owned i (omega arith) lt ∙ ap (λ n. lowest n (row_at owned i)) (quota_at p owned i lt))
+    sym (retaining_at (quotas p owned) owned i (omega arith) lt ∙ ap (λ n. lowest n (row_at owned i)) (quota_at p owned i lt))
 
-free_same : (p : ℕ) (owned : List PartitionSet) → free_set p owned ≡ free_of p (keeping (quotas p owned) owned)
+free_same : (p : ℕ) (owned : List PartitionSet) → free_set p owned ≡ free_of p (retaining (quotas p owned) owned)
 free_same p owned =
-    let kept : List PartitionSet = keeping (quotas p owned) owned in
-    let lk : length kept ≡ length owned = length_keeping (quotas p owned) owned (length_quotas p owned) in
-    let f : ℕ → ℕ → Bool = λ q i. is_in (kept_row p owned i) q in
+    let retained : List PartitionSet = retaining (quotas p owned) owned in
+    let lk : length retained ≡ length owned = length_retaining (quotas p owned) owned (length_quotas p owned) in
+    let f : ℕ → ℕ → Bool = λ q i. is_in (retained_row p owned i) q in
     let ps : partitions_of (free_set p owned) ≡ p = partitions_where p (λ q. not (any_below (length owned) (f q))) in
-    same_set (free_set p owned) (free_of p kept) (ps ∙ sym (partitions_free p kept)) (λ q lt.
-    let any : any_below (length owned) (f q) ≡ any_row kept q = ap (λ n. any_below n (f q)) (sym lk) ∙ any_same kept (f q) q (λ i l. ap (λ s. is_in s q) (kept_at p owned i (omega arith))) in
-    in_where p (λ q. not (any_below (length owned) (f q))) q (omega arith) ∙ ap not any ∙ sym (in_free p kept q (omega arith)))
+    same_set (free_set p owned) (free_of p retained) (ps ∙ sym (partitions_free p retained)) (λ q lt.
+    let any : any_below (length owned) (f q) ≡ any_row retained q = ap (λ n. any_below n (f q)) (sym lk) ∙ any_same retained (f q) q (λ i l. ap (λ s. is_in s q) (retained_at p owned i (omega arith))) in
+    in_where p (λ q. not (any_below (length owned) (f q))) q (omega arith) ∙ ap not any ∙ sym (in_free p retained q (omega arith)))
 
 -- ---- gaps laid end to end
 total_next : (gs : List ℕ) (i : ℕ) → total (take (suc i) gs) ≡ total (take i gs) + get_or gs i 0
@@ -202,24 +202,24 @@ pub filling_is_target : (p : ℕ) (owned : List PartitionSet) → filling p owne
 unfolding target
 filling_is_target p owned =
     let qs : List ℕ = quotas p owned in
-    let kept : List PartitionSet = keeping qs owned in
-    let free : PartitionSet = free_of p kept in
-    let gs : List ℕ = gaps qs kept in
+    let retained : List PartitionSet = retaining qs owned in
+    let free : PartitionSet = free_of p retained in
+    let gs : List ℕ = gaps qs retained in
     let lq : length qs ≡ length owned = length_quotas p owned in
-    let lk : length kept ≡ length owned = length_keeping qs owned lq in
-    let lg : length gs ≡ length kept = length_gaps qs kept (keeping_fits qs owned lq) in
-    let lt : length (filling p owned) ≡ length owned = length_filled free gs kept lg ∙ lk in
+    let lk : length retained ≡ length owned = length_retaining qs owned lq in
+    let lg : length gs ≡ length retained = length_gaps qs retained (retaining_fits qs owned lq) in
+    let lt : length (filling p owned) ≡ length owned = length_filled free gs retained lg ∙ lk in
     let fr : free_set p owned ≡ free = free_same p owned in
-    let row : ℕ → PartitionSet = λ i. union (kept_row p owned i) (taken_row p owned i) in
+    let row : ℕ → PartitionSet = λ i. union (retained_row p owned i) (taken_row p owned i) in
     let gap : (j : ℕ) → j < length gs → get_or gs j 0 ≡ gap_of p owned j = λ j l.
     let lj : j < length owned = omega arith in
-    gaps_at qs kept j (omega arith) (omega arith) ∙ ap (λ m. m - size (row_at kept j)) (quota_at p owned j lj) ∙ ap (λ s. quota_of p owned j - size s) (sym (kept_at p owned j lj)) in
+    gaps_at qs retained j (omega arith) (omega arith) ∙ ap (λ m. m - size (row_at retained j)) (quota_at p owned j lj) ∙ ap (λ s. quota_of p owned j - size s) (sym (retained_at p owned j lj)) in
     let before : (i : ℕ) → i ≤ length gs → sum_below i (gap_of p owned) ≡ total (take i gs) = λ i le. gaps_before gs (gap_of p owned) i le gap in
     let taken : (i : ℕ) → i < length owned → taken_row p owned i ≡ given free gs i = λ i l.
     let f : ℕ → Bool = λ q. is_in (free_set p owned) q && covers p owned i (rank (free_set p owned) q) in
-    same_set (taken_row p owned i) (given free gs i) (partitions_where p f ∙ sym (partitions_given free gs i ∙ partitions_free p kept)) (λ q few.
+    same_set (taken_row p owned i) (given free gs i) (partitions_where p f ∙ sym (partitions_given free gs i ∙ partitions_free p retained)) (λ q few.
     let e = partitions_where p f in
     in_where p f q (omega arith) ∙ rw (fr, before (suc i) (omega arith), before i (omega arith)) (sym (given_at free gs i q (omega arith)))) in
     sym (ap (λ m. rows_by m row) (sym lt) ∙ rows_same (filling p owned) row (λ i l.
     let li : i < length owned = omega arith in
-    ap (λ s. union s (taken_row p owned i)) (kept_at p owned i li) ∙ ap (λ s. union (row_at kept i) s) (taken i li) ∙ sym (filled_at free gs kept i (omega arith) (omega arith))))
+    ap (λ s. union s (taken_row p owned i)) (retained_at p owned i li) ∙ ap (λ s. union (row_at retained i) s) (taken i li) ∙ sym (filled_at free gs retained i (omega arith) (omega arith))))

@@ -2,12 +2,12 @@
 use Rattle.std.proofs.Common.{ℕ, zero, suc, ◌≡◌, ◌/◌, ◌<◌, ◌≤◌, Bool, true, false, ◌||◌, List, [], ◌∷◌, length, refl, ap, sym, ◌∙◌, subst, arith}
 use Rattle.bit_planes.specs.PartitionSet.{PartitionSet, partitions_of, is_in, one, size, minus, lowest}
 use Rattle.bit_planes.proofs.Sets.{in_union, partitions_union, partitions_lowest, partitions_minus, size_is}
-use Rattle.sticky_assignor.specs.Balanced.{holders, AreBelow, AreApart, IsBalanced}
-use Rattle.sticky_assignor.specs.Private.Filling.{quotas, keeping, free_of, gaps, filled}
+use Rattle.sticky_assignor.specs.Balanced.{holders, AreBelow, AreDisjoint, IsBalanced}
+use Rattle.sticky_assignor.specs.Private.Filling.{quotas, retaining, free_of, gaps, filled}
 use Rattle.sticky_assignor.specs.Target.{rows_by, target}
 use Rattle.sticky_assignor.proofs.Rows.{how_many-most}
-use Rattle.sticky_assignor.proofs.Balance.{Within, Fits, partitions_free, length_gaps, keeping_over}
-use Rattle.sticky_assignor.proofs.Keeps.{keeping_all, fits_quotas}
+use Rattle.sticky_assignor.proofs.Balance.{Within, Fits, partitions_free, length_gaps, retaining_over}
+use Rattle.sticky_assignor.proofs.Keeps.{retaining_all, fits_quotas}
 use Rattle.sticky_assignor.proofs.Even.{sizes_of, length_sizes, total_sizes, sizes_sum, balanced_within}
 use Rattle.sticky_assignor.proofs.Ranks.{filling_is_target}
 
@@ -30,8 +30,8 @@ lies_holders [] (b ∷ bs) q lies = absurd lies
 lies_holders (a ∷ rest) [] q lies = absurd lies
 lies_holders (a ∷ rest) (b ∷ bs) q lies = let h = lies.0 q in omega (arith, lies_holders rest bs q lies.1)
 
-pub lies_apart : (rows bs : List PartitionSet) → Lies rows bs → AreApart bs → AreApart rows
-lies_apart rows bs lies apart q = let a = apart q in omega (arith, lies_holders rows bs q lies)
+pub lies_disjoint : (rows bs : List PartitionSet) → Lies rows bs → AreDisjoint bs → AreDisjoint rows
+lies_disjoint rows bs lies disjoint q = let a = disjoint q in omega (arith, lies_holders rows bs q lies)
 
 le_or : (x y : Bool) → one x ≤ one (x || y)
 le_or true y = omega arith
@@ -56,13 +56,13 @@ fits_lies p [] (b ∷ bs) over ob lies = absurd lies
 fits_lies p (r ∷ rows) [] over ob lies = absurd lies
 fits_lies p (r ∷ rows) (b ∷ bs) over ob lies = (size_le r b (over.0 ∙ sym ob.0) lies.0, fits_lies p rows bs over.1 ob.1 lies.1)
 
-pub kept_whole : (p : ℕ) (rows bs : List PartitionSet) → 0 < length rows → AreBelow p rows → AreBelow p bs → IsBalanced p bs → Lies rows bs → Lies rows (target p rows)
-kept_whole p rows bs some over ob balanced lies =
+pub retained_whole : (p : ℕ) (rows bs : List PartitionSet) → 0 < length rows → AreBelow p rows → AreBelow p bs → IsBalanced p bs → Lies rows bs → Lies rows (target p rows)
+retained_whole p rows bs some over ob balanced lies =
     let len : length bs ≡ length rows = sym (lies_length rows bs lies) in
     let ls : length (sizes_of bs) ≡ length rows = length_sizes bs ∙ len in
     let within : Within (p / length rows) (sizes_of bs) = rw len at (balanced_within p bs (omega arith) ob balanced) in
     let fits : Fits (quotas p rows) rows = fits_quotas p (sizes_of bs) rows some ls within (total_sizes bs ∙ sizes_sum p bs ob balanced) (fits_lies p rows bs over ob lies) in
-    let whole : keeping (quotas p rows) rows ≡ rows = keeping_all (quotas p rows) rows fits in
+    let whole : retaining (quotas p rows) rows ≡ rows = retaining_all (quotas p rows) rows fits in
     let is : filled (free_of p rows) (gaps (quotas p rows) rows) rows ≡ target p rows = sym (ap (λ ks. filled (free_of p ks) (gaps (quotas p rows) ks) ks) whole) ∙ filling_is_target p rows in
     subst (Lies rows) is (lies_filled p (free_of p rows) (gaps (quotas p rows) rows) rows (length_gaps (quotas p rows) rows fits) (partitions_free p rows) over)
 
@@ -74,7 +74,7 @@ over_filled p free (g ∷ gs) (k ∷ ks) over = (partitions_union k (lowest g fr
 pub target_over : (p : ℕ) (rows : List PartitionSet) → AreBelow p rows → AreBelow p (target p rows)
 target_over p rows over =
     let qs : List ℕ = quotas p rows in
-    subst (AreBelow p) (filling_is_target p rows) (over_filled p (free_of p (keeping qs rows)) (gaps qs (keeping qs rows)) (keeping qs rows) (keeping_over p qs rows over))
+    subst (AreBelow p) (filling_is_target p rows) (over_filled p (free_of p (retaining qs rows)) (gaps qs (retaining qs rows)) (retaining qs rows) (retaining_over p qs rows over))
 
 length_rows_by : (n : ℕ) (f : ℕ → PartitionSet) → length (rows_by n f) ≡ n
 length_rows_by zero f = refl

@@ -6,7 +6,7 @@ use Rattle.sticky_assignor.specs.Balanced.{AreBelow, IsBalanced}
 use Rattle.sticky_assignor.specs.Private.Filling.{quotas, free_of, gaps, filled, filling}
 use Rattle.sticky_assignor.proofs.Rows.{size_beyond}
 use Rattle.sticky_assignor.proofs.Balance.{Fits, length_gaps, partitions_free}
-use Rattle.sticky_assignor.proofs.Keeps.{keeping_all, fits_quotas}
+use Rattle.sticky_assignor.proofs.Keeps.{retaining_all, fits_quotas}
 use Rattle.sticky_assignor.proofs.Even.{sizes_of, length_sizes, total_sizes, sizes_sum, balanced_within, nothing_free}
 
 or_false : (x y : Bool) → y ≡ false → (x || y) ≡ x
@@ -37,5 +37,5 @@ filling_stays p (row ∷ rest) over balanced =
     let rows : List PartitionSet = row ∷ rest in
     let some : 0 < length rows = omega arith in
     let fits : Fits (quotas p rows) rows = fits_quotas p (sizes_of rows) rows some (length_sizes rows) (balanced_within p rows some over balanced) (total_sizes rows ∙ sizes_sum p rows over balanced) (fits_sizes rows) in
-    ap (λ ks. filled (free_of p ks) (gaps (quotas p rows) ks) ks) (keeping_all (quotas p rows) rows fits)
+    ap (λ ks. filled (free_of p ks) (gaps (quotas p rows) ks) ks) (retaining_all (quotas p rows) rows fits)
     ∙ filled_nothing p (free_of p rows) (gaps (quotas p rows) rows) rows (partitions_free p rows) over (nothing_free p rows over balanced) (length_gaps (quotas p rows) rows fits)

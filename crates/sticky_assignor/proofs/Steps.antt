@@ -9,7 +9,7 @@ use Rattle.bit_planes.specs.SetRows.{SetRows, members, put_row, with_row, set_of
 use Rattle.bit_planes.proofs.Sets.{same_set, in_union, in_minus, in_lowest, partitions_union, partitions_minus, partitions_lowest, size_lowest, lowest_all}
 use Rattle.bit_planes.proofs.RowLaws.{put_last}
 use Rattle.sticky_assignor.specs.Assigned.{pair_up}
-use Rattle.sticky_assignor.specs.Private.Filling.{one_of, shares, quotas, sizes, heavies_by, shares_by, quotas_by, keeping, free_of, gaps, filled, given_of}
+use Rattle.sticky_assignor.specs.Private.Filling.{one_of, shares, quotas, sizes, heavies_by, shares_by, quotas_by, retaining, free_of, gaps, filled, given_of}
 use Rattle.sticky_assignor.specs.Target.{is_heavy, heavies}
 use Rattle.sticky_assignor.proofs.Balance.{heavies_cons}
 
@@ -88,11 +88,11 @@ union_none s t below none = same_set s (union s t) (sym (partitions_union s t)) 
 pub minus_none : (s t : PartitionSet) → ((q : ℕ) → is_in t q ≡ false) → s ≡ minus s t
 minus_none s t none = same_set s (minus s t) (sym (partitions_minus s t)) (λ q lt. and_not_none (is_in s q) (is_in t q) (none q) ∙ sym (in_minus s t q))
 
-pub kept_whole : (row : PartitionSet) (quota : ℕ) → size row ≤ quota → row ≡ lowest quota row
-kept_whole row quota le = lowest_all quota row le
+pub retained_whole : (row : PartitionSet) (quota : ℕ) → size row ≤ quota → row ≡ lowest quota row
+retained_whole row quota le = lowest_all quota row le
 
-pub row_alone : (row kept free : PartitionSet) (quota : ℕ) → partitions_of free ≡ partitions_of row → quota ≤ size row → kept ≡ lowest quota row → kept ≡ union (lowest quota row) (given_of quota row free)
-row_alone row kept free quota below le e =
+pub row_alone : (row retained free : PartitionSet) (quota : ℕ) → partitions_of free ≡ partitions_of row → quota ≤ size row → retained ≡ lowest quota row → retained ≡ union (lowest quota row) (given_of quota row free)
+row_alone row retained free quota below le e =
     let full : quota - size (lowest quota row) ≡ 0 = let s = size_lowest quota row in omega arith in
     let low : PartitionSet = lowest quota row in
     e ∙ union_none low (given_of quota row free) (partitions_lowest quota row ∙ (sym below ∙ sym (partitions_lowest (quota - size low) free))) (none_given (quota - size low) free full)
@@ -134,19 +134,19 @@ pub left_is_free : (p : ℕ) (rows : List PartitionSet) → left_by (full_set p)
 left_is_free p [] = refl
 left_is_free p (row ∷ rows) = left_last (full_set p) row rows ∙ ap (λ s. minus s row) (left_is_free p rows)
 
-pub keeping_next : (owned : SetRows) (ms qs : List ℕ) (i m n : ℕ) → i < length ms → i < length qs → m ≡ get_or ms i m → n ≡ get_or qs i n
-    → keeping (drop i qs) (sets_of owned (drop i ms)) ≡ lowest n (set_of owned m) ∷ keeping (drop (i + 1) qs) (sets_of owned (drop (i + 1) ms))
-keeping_next owned [] qs i m n lm lq em en = absurd (omega arith)
-keeping_next owned (x ∷ ms) [] i m n lm lq em en = absurd (omega arith)
-keeping_next owned (x ∷ ms) (y ∷ qs) zero m n lm lq em en = rw (em, en) refl
-keeping_next owned (x ∷ ms) (y ∷ qs) (suc i) m n lm lq em en =
-    let k : suc i + 1 ≡ suc (i + 1) = omega arith in rw k (keeping_next owned ms qs i m n (omega arith) (omega arith) em en)
+pub retaining_next : (owned : SetRows) (ms qs : List ℕ) (i m n : ℕ) → i < length ms → i < length qs → m ≡ get_or ms i m → n ≡ get_or qs i n
+    → retaining (drop i qs) (sets_of owned (drop i ms)) ≡ lowest n (set_of owned m) ∷ retaining (drop (i + 1) qs) (sets_of owned (drop (i + 1) ms))
+retaining_next owned [] qs i m n lm lq em en = absurd (omega arith)
+retaining_next owned (x ∷ ms) [] i m n lm lq em en = absurd (omega arith)
+retaining_next owned (x ∷ ms) (y ∷ qs) zero m n lm lq em en = rw (em, en) refl
+retaining_next owned (x ∷ ms) (y ∷ qs) (suc i) m n lm lq em en =
+    let k : suc i + 1 ≡ suc (i + 1) = omega arith in rw k (retaining_next owned ms qs i m n (omega arith) (omega arith) em en)
 
 -- ---- filling
 -- the rows of the members from index i on
 abbrev pub filled_from : SetRows → PartitionSet → List ℕ → List ℕ → ℕ → List (ℕ × PartitionSet)
 filled_from owned free ms qs i =
-    let ks = keeping (drop i qs) (sets_of owned (drop i ms)) in
+    let ks = retaining (drop i qs) (sets_of owned (drop i ms)) in
     pair_up (drop i ms) (filled free (gaps (drop i qs) ks) ks)
 
 pub filled_next : (owned : SetRows) (free : PartitionSet) (ms qs : List ℕ) (i m n : ℕ) → i < length ms → i < length qs → m ≡ get_or ms i m → n ≡ get_or qs i n
@@ -172,14 +172,14 @@ filled_end owned free (m ∷ ms) (q ∷ qs) (suc i) le = filled_end owned free m
 pub left_init : (p n : ℕ) (s : PartitionSet) (rows : List PartitionSet) → s ≡ full_set n → n ≡ p → left_by s rows ≡ free_of p rows
 left_init p n s rows is e = ap (λ t. left_by t rows) (is ∙ ap full_set e) ∙ left_is_free p rows
 
-pub left_step : (owned : SetRows) (ms qs : List ℕ) (i m n : ℕ) (free kept own next : PartitionSet) → i < length ms → i < length qs → m ≡ get_or ms i m → n ≡ get_or qs i n → own ≡ set_of owned m → kept ≡ lowest n own → next ≡ minus free kept
-    → left_by next (keeping (drop (i + 1) qs) (sets_of owned (drop (i + 1) ms))) ≡ left_by free (keeping (drop i qs) (sets_of owned (drop i ms)))
-left_step owned ms qs i m n free kept own next lm lq em en eo ek is =
-    let k : kept ≡ lowest n (set_of owned m) = ek ∙ ap (lowest n) eo in
-    sym (ap (λ rows. left_by free rows) (keeping_next owned ms qs i m n lm lq em en) ∙ ap (λ s. left_by s (keeping (drop (i + 1) qs) (sets_of owned (drop (i + 1) ms)))) (sym (is ∙ ap (minus free) k)))
+pub left_step : (owned : SetRows) (ms qs : List ℕ) (i m n : ℕ) (free retained own next : PartitionSet) → i < length ms → i < length qs → m ≡ get_or ms i m → n ≡ get_or qs i n → own ≡ set_of owned m → retained ≡ lowest n own → next ≡ minus free retained
+    → left_by next (retaining (drop (i + 1) qs) (sets_of owned (drop (i + 1) ms))) ≡ left_by free (retaining (drop i qs) (sets_of owned (drop i ms)))
+left_step owned ms qs i m n free retained own next lm lq em en eo ek is =
+    let k : retained ≡ lowest n (set_of owned m) = ek ∙ ap (lowest n) eo in
+    sym (ap (λ rows. left_by free rows) (retaining_next owned ms qs i m n lm lq em en) ∙ ap (λ s. left_by s (retaining (drop (i + 1) qs) (sets_of owned (drop (i + 1) ms)))) (sym (is ∙ ap (minus free) k)))
 
-pub left_end : (owned : SetRows) (ms qs : List ℕ) (i : ℕ) (free : PartitionSet) → length qs ≤ i → left_by free (keeping (drop i qs) (sets_of owned (drop i ms))) ≡ free
-left_end owned ms qs i free le = ap (λ ns. left_by free (keeping ns (sets_of owned (drop i ms)))) (drop_all qs i le)
+pub left_end : (owned : SetRows) (ms qs : List ℕ) (i : ℕ) (free : PartitionSet) → length qs ≤ i → left_by free (retaining (drop i qs) (sets_of owned (drop i ms))) ≡ free
+left_end owned ms qs i free le = ap (λ ns. left_by free (retaining ns (sets_of owned (drop i ms)))) (drop_all qs i le)
   where
     drop_all : (ns : List ℕ) (i : ℕ) → length ns ≤ i → drop i ns ≡ []
     drop_all [] zero le = refl
@@ -212,11 +212,11 @@ any_default [] i m d lt e = absurd (omega arith)
 any_default (x ∷ ms) zero m d lt e = e
 any_default (x ∷ ms) (suc i) m d lt e = any_default ms i m d (omega arith) e
 
-pub fill_step : (owned rows new : SetRows) (ms qs : List ℕ) (i m n count gap : ℕ) (free own kept given row next : PartitionSet) → IsRising ms → i < length ms → i < length qs → m ≡ get_or ms i m → n ≡ get_or qs i n
-    → own ≡ set_of owned m → kept ≡ lowest n own → count ≡ size kept → gap ≡ n - count → given ≡ lowest gap free → row ≡ union kept given → next ≡ minus free given → new ≡ with_row rows m row → members rows ≡ take i ms
+pub fill_step : (owned rows new : SetRows) (ms qs : List ℕ) (i m n count gap : ℕ) (free own retained given row next : PartitionSet) → IsRising ms → i < length ms → i < length qs → m ≡ get_or ms i m → n ≡ get_or qs i n
+    → own ≡ set_of owned m → retained ≡ lowest n own → count ≡ size retained → gap ≡ n - count → given ≡ lowest gap free → row ≡ union retained given → next ≡ minus free given → new ≡ with_row rows m row → members rows ≡ take i ms
     → (new.partitions ≡ rows.partitions) × (members new ≡ take (i + 1) ms) × (new.rows ++ filled_from owned next ms qs (i + 1) ≡ rows.rows ++ filled_from owned free ms qs i)
-fill_step owned rows new ms qs i m n count gap free own kept given row next rising lm lq em en eo ek ec eg egiven er enext enew numbers =
-    let k : kept ≡ lowest n (set_of owned m) = ek ∙ ap (lowest n) eo in
+fill_step owned rows new ms qs i m n count gap free own retained given row next rising lm lq em en eo ek ec eg egiven er enext enew numbers =
+    let k : retained ≡ lowest n (set_of owned m) = ek ∙ ap (lowest n) eo in
     let g : gap ≡ n - size (lowest n (set_of owned m)) = eg ∙ ap (λ x. n - x) (ec ∙ ap size k) in
     let low : given ≡ lowest (n - size (lowest n (set_of owned m))) free = egiven ∙ ap (λ x. lowest x free) g in
     let r : row ≡ union (lowest n (set_of owned m)) (lowest (n - size (lowest n (set_of owned m))) free) = er ∙ ap (λ s. union s given) k ∙ ap (union (lowest n (set_of owned m))) low in

@@ -22,8 +22,8 @@ pub record IsBalanced (partitions : ℕ) (rows : List PartitionSet) : Type 0 whe
   pub even : (i j : ℕ) → i < length rows → j < length rows → size_at rows i ≤ size_at rows j + 1
 
 -- no partition is in two rows
-abbrev pub AreApart : List PartitionSet → Type 0
-AreApart rows = (q : ℕ) → holders rows q ≤ 1
+abbrev pub AreDisjoint : List PartitionSet → Type 0
+AreDisjoint rows = (q : ℕ) → holders rows q ≤ 1
 
 -- each row is a set of this many partitions
 abbrev pub AreBelow : ℕ → List PartitionSet → Type 0
@@ -34,4 +34,4 @@ AreBelow partitions (row ∷ rows) = (partitions_of row ≡ partitions) × AreBe
 pub record AreOwned (partitions : ℕ) (rows : List PartitionSet) : Type 0 where
   pub some : 0 < length rows
   pub below : AreBelow partitions rows
-  pub apart : AreApart rows
+  pub disjoint : AreDisjoint rows

@@ -1,5 +1,5 @@
 pub mod Assigned
 pub mod Balanced
-pub mod Kept
+pub mod Retained
 pub mod Private
 pub mod Target

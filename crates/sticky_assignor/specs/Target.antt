@@ -25,18 +25,18 @@ quota_of partitions owned i =
     )
 
 -- what a member retains: the lowest partitions that it owns, up to its quota
-abbrev pub kept_row : ℕ → List PartitionSet → ℕ → PartitionSet
-kept_row partitions owned i = lowest (quota_of partitions owned i) (row_at owned i)
+abbrev pub retained_row : ℕ → List PartitionSet → ℕ → PartitionSet
+retained_row partitions owned i = lowest (quota_of partitions owned i) (row_at owned i)
 
 -- the partitions that nobody retains
 abbrev pub free_set : ℕ → List PartitionSet → PartitionSet
 free_set partitions owned =
     set_where partitions (λ q.
-    not (any_below (length owned) (λ i. is_in (kept_row partitions owned i) q)))
+    not (any_below (length owned) (λ i. is_in (retained_row partitions owned i) q)))
 
 -- what a member lacks of its quota
 abbrev pub gap_of : ℕ → List PartitionSet → ℕ → ℕ
-gap_of partitions owned i = quota_of partitions owned i - size (kept_row partitions owned i)
+gap_of partitions owned i = quota_of partitions owned i - size (retained_row partitions owned i)
 
 -- whether the gap of member i, with the gaps laid end to end, covers r
 abbrev pub covers : ℕ → List PartitionSet → ℕ → ℕ → Bool
@@ -59,4 +59,4 @@ rows_by (suc n) f = f 0 ∷ rows_by n (λ i. f (suc i))
 unfoldable pub target : ℕ → List PartitionSet → List PartitionSet
 target partitions owned =
     rows_by (length owned)
-    (λ i. union (kept_row partitions owned i) (taken_row partitions owned i))
+    (λ i. union (retained_row partitions owned i) (taken_row partitions owned i))

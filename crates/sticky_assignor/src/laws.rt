@@ -3,7 +3,7 @@
 ghost use Rattle.std.specs.Prelude.{◌≡◌, ℕ, List};
 ghost use Rattle.bit_planes.specs.PartitionSet.{PartitionSet};
 ghost use Rattle.sticky_assignor.specs.Balanced.{AreBelow, AreOwned, IsBalanced};
-ghost use Rattle.sticky_assignor.specs.Kept.{KeepsMost};
+ghost use Rattle.sticky_assignor.specs.Retained.{RetainsMost};
 ghost use Rattle.sticky_assignor.specs.Target.{target};
 
 /// Each target assignment is balanced.
@@ -14,13 +14,13 @@ pub fn target_is_balanced()
 {}
 
 /// No balanced assignment leaves more partitions with their owners.
-pub fn target_keeps_most()
+pub fn target_retains_most()
     ensures { (partitions : ℕ) (owned : List PartitionSet)
-        → AreBelow partitions owned → KeepsMost partitions owned (target partitions owned) }
+        → AreBelow partitions owned → RetainsMost partitions owned (target partitions owned) }
 {}
 
 /// Nothing moves if the assignment is balanced already.
-pub fn balanced_stays()
+pub fn balanced_target_is_unchanged()
     ensures { (partitions : ℕ) (rows : List PartitionSet)
         → AreBelow partitions rows → IsBalanced partitions rows → target partitions rows ≡ rows }
 {}

@@ -10,15 +10,15 @@ ghost use Rattle.std.specs.Prelude.{◌≡◌, ◌<◌, ◌≤◌, length, IfOk,
 ghost use Rattle.bit_planes.specs.PartitionSet.{partitions_of, size, union, minus, lowest};
 ghost use Rattle.bit_planes.specs.SetRows.{IsValidRows, IsRising, members as members_of, row_of, set_of, sets_of};
 ghost use Rattle.sticky_assignor.specs.Assigned.{assigned, HaveRows};
-ghost use Rattle.sticky_assignor.specs.Balanced.{AreApart, IsBalanced};
-ghost use Rattle.sticky_assignor.specs.Kept.{KeepsMost};
-ghost use Rattle.sticky_assignor.specs.Private.Filling.{filled_rows, free_of, given_of, heavies_by, keeping, one_of, quotas_by, shares_by, sizes};
+ghost use Rattle.sticky_assignor.specs.Balanced.{AreDisjoint, IsBalanced};
+ghost use Rattle.sticky_assignor.specs.Retained.{RetainsMost};
+ghost use Rattle.sticky_assignor.specs.Private.Filling.{filled_rows, free_of, given_of, heavies_by, retaining, one_of, quotas_by, shares_by, sizes};
 
 mod laws;
 
 use bit_planes::{Plane, PlaneRows};
 use lane_words::{MOST_PARTITIONS, Memory};
-pub use laws::{balanced_stays, target_is_balanced, target_keeps_most};
+pub use laws::{balanced_target_is_unchanged, target_is_balanced, target_retains_most};
 use std::alloc::Global;
 
 /// The target: of all balanced assignments, one that leaves the most partitions with their owners.
@@ -32,22 +32,22 @@ pub fn assign(
     members: &[u32],
     owned: &PlaneRows,
 ) -> Result<PlaneRows, Memory>
-    requires below { owned.now.partitions ≡ partitions }
-    requires some { 0 < length members.now }
-    requires rising { IsRising members.now }
+    requires partitions { owned.now.partitions ≡ partitions }
+    requires nonempty { 0 < length members.now }
+    requires sorted { IsRising members.now }
     requires rows { HaveRows owned.now members.now }
-    requires apart { AreApart (sets_of owned.now members.now) }
-    ensures target { IfOk result (λ rows. rows ≡ assigned partitions members.now owned.now) }
+    requires disjoint { AreDisjoint (sets_of owned.now members.now) }
+    ensures value { IfOk result (λ rows. rows ≡ assigned partitions members.now owned.now) }
     ensures members { IfOk result (λ rows. members_of rows ≡ members.now) }
     ensures balanced { IfOk result (λ rows. IsBalanced partitions (sets_of rows members.now)) }
-    ensures most { IfOk result (λ rows.
-        KeepsMost partitions (sets_of owned.now members.now) (sets_of rows members.now)) }
+    ensures sticky { IfOk result (λ rows.
+        RetainsMost partitions (sets_of owned.now members.now) (sets_of rows members.now)) }
     ensures valid { IfOk result IsValidRows }
 {
     prove!(owned.partitions() == partitions);
     let counts = counts_of(alloc, members, owned)?;
     let quotas = quotas_of(alloc, partitions, &counts)?;
-    let free = free_beside(&counts, &quotas, members, owned);
+    let free = free_partitions(&counts, &quotas, members, owned);
     fill(alloc, free, &counts, &quotas, members, owned)
 }
 
@@ -65,8 +65,8 @@ fn counts_of(alloc: Global, members: &[u32], owned: &PlaneRows) -> Result<Vec<u3
 
 /// The number of partitions that each member is to own, from the number that each owns now.
 fn quotas_of(alloc: Global, partitions: u32, counts: &[u32]) -> Result<Vec<u32>, Memory>
-    requires few { partitions ≤ MOST_PARTITIONS }
-    requires some { 0 < length counts.now }
+    requires bound { partitions ≤ MOST_PARTITIONS }
+    requires nonempty { 0 < length counts.now }
     ensures { IfOk result (λ qs. qs.items ≡ quotas_by partitions counts.now) }
 {
     let share = (partitions as usize / counts.len()) as u32;
@@ -98,7 +98,7 @@ fn shares_of(
     for_others: usize,
     counts: &[u32],
 ) -> Result<Vec<u32>, Memory>
-    requires few { share ≤ MOST_PARTITIONS }
+    requires bound { share ≤ MOST_PARTITIONS }
     ensures { IfOk result (λ qs. qs.items ≡ shares_by share for_heavy for_others counts.now) }
 {
     let mut quotas = Vec::with_capacity(alloc, counts.len())?;
@@ -118,34 +118,34 @@ fn shares_of(
 
 /// One while some are left, then zero.
 fn one_of(left: usize) -> u32
-    ensures one { result ≡ one_of left }
-    ensures most { result ≤ 1 }
+    ensures value { result ≡ one_of left }
+    ensures bound { result ≤ 1 }
 {
     if left == 0 { 0 } else { 1 }
 }
 
 /// The partitions that no member retains.
-fn free_beside(counts: &[u32], quotas: &[u32], members: &[u32], owned: &PlaneRows) -> Plane
-    requires sized { counts.now ≡ sizes (sets_of owned.now members.now) }
-    requires long { length quotas.now ≡ length members.now }
+fn free_partitions(counts: &[u32], quotas: &[u32], members: &[u32], owned: &PlaneRows) -> Plane
+    requires counts { counts.now ≡ sizes (sets_of owned.now members.now) }
+    requires len { length quotas.now ≡ length members.now }
     requires rows { HaveRows owned.now members.now }
     ensures free { result
-        ≡ free_of owned.now.partitions (keeping quotas.now (sets_of owned.now members.now)) }
-    ensures below { partitions_of result ≡ owned.now.partitions }
+        ≡ free_of owned.now.partitions (retaining quotas.now (sets_of owned.now members.now)) }
+    ensures partitions { partitions_of result ≡ owned.now.partitions }
 {
     let mut free = Plane::full(owned.partitions());
     for i in 0..members.len() {
-        remove_kept(&mut free, row_of(owned, members[i]), counts[i], quotas[i]);
+        remove_retained(&mut free, row_of(owned, members[i]), counts[i], quotas[i]);
     }
     free
 }
 
 /// Removes what a member retains of its row of `count` elements: the lowest, up to its quota.
-fn remove_kept(free: &mut Plane, row: &Plane, count: u32, quota: u32)
-    requires below { partitions_of free.old ≡ partitions_of row.now }
-    requires sized { count ≡ size row.now }
+fn remove_retained(free: &mut Plane, row: &Plane, count: u32, quota: u32)
+    requires partitions { partitions_of free.old ≡ partitions_of row.now }
+    requires counts { count ≡ size row.now }
     ensures value { free.new ≡ minus free.old (lowest quota row.now) }
-    ensures below { partitions_of free.new ≡ partitions_of free.old }
+    ensures partitions { partitions_of free.new ≡ partitions_of free.old }
 {
     if count <= quota {
         free.remove_all(row);
@@ -163,14 +163,14 @@ fn fill(
     members: &[u32],
     owned: &PlaneRows,
 ) -> Result<PlaneRows, Memory>
-    requires below { partitions_of all_free ≡ owned.now.partitions }
-    requires sized { counts.now ≡ sizes (sets_of owned.now members.now) }
-    requires long { length quotas.now ≡ length members.now }
-    requires rising { IsRising members.now }
+    requires partitions { partitions_of all_free ≡ owned.now.partitions }
+    requires counts { counts.now ≡ sizes (sets_of owned.now members.now) }
+    requires len { length quotas.now ≡ length members.now }
+    requires sorted { IsRising members.now }
     requires rows { HaveRows owned.now members.now }
     ensures { IfOk result (λ rows. rows ≡ filled_rows all_free quotas.now members.now owned.now) }
 {
-    let mut rows = PlaneRows::with_room(alloc, owned.partitions(), members.len())?;
+    let mut rows = PlaneRows::with_row_capacity(alloc, owned.partitions(), members.len())?;
     let mut free = all_free;
     for i in 0..members.len() {
         let row = filled_row(&mut free, row_of(owned, members[i]), counts[i], quotas[i]);
@@ -182,12 +182,12 @@ fn fill(
 /// What a member retains of its row, which has `count` elements, filled up to its quota from the
 /// free partitions.
 fn filled_row(free: &mut Plane, row: &Plane, count: u32, quota: u32) -> Plane
-    requires below { partitions_of free.old ≡ partitions_of row.now }
-    requires sized { count ≡ size row.now }
+    requires partitions { partitions_of free.old ≡ partitions_of row.now }
+    requires counts { count ≡ size row.now }
     ensures row { result ≡ union (lowest quota row.now) (given_of quota row.now free.old) }
     ensures free { free.new ≡ minus free.old (given_of quota row.now free.old) }
-    ensures below { partitions_of result ≡ partitions_of row.now }
-    ensures free_below { partitions_of free.new ≡ partitions_of free.old }
+    ensures partitions { partitions_of result ≡ partitions_of row.now }
+    ensures free_partitions { partitions_of free.new ≡ partitions_of free.old }
 {
     if quota < count {
         return row.lowest(quota);
@@ -205,7 +205,7 @@ fn filled_row(free: &mut Plane, row: &Plane, count: u32, quota: u32) -> Plane
 fn row_of(owned: &PlaneRows, member: u32) -> &Plane
     requires { IsSome (row_of owned.now member) }
     ensures value { result.now ≡ set_of owned.now member }
-    ensures below { partitions_of result.now ≡ owned.now.partitions }
+    ensures partitions { partitions_of result.now ≡ owned.now.partitions }
 {
     owned.get(member).unwrap()
 }

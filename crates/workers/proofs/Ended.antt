@@ -20,14 +20,14 @@ all_counted s l exact ends x =
     exact.counted x
     ∙ sum-same l.partitions (λ p. plain (take (committed_at s p) (keys_of_log l p)) x) (λ p. plain (keys_of_log l p) x) (λ p lt. ap (λ ks. plain ks x) (take_all (committed_at s p) (keys_of_log l p) (omega (arith, ends p lt, length-map (log_at l p) (key_at l.keys)))))
 
-settled_rests : (a b : Bool) → b ≡ true → (a || b) ≡ true
-settled_rests true b e = refl
-settled_rests false b e = e
+settled_is_at_rest : (a b : Bool) → b ≡ true → (a || b) ≡ true
+settled_is_at_rest true b e = refl
+settled_is_at_rest false b e = e
 
 pub run_of : (s : Progress) (logs : PartitionLogs) (plan : List Change) → IsValidProgress s → IsValidCluster s.cluster → IsFinished s → s.plan ≡ plan → logs ≡ s.cluster.logs → IsRunOf logs plan s.cluster
 run_of s logs plan was valid done same_plan same_logs =
     let g : GroupState = s.cluster.group in
-    let rest : is_at_rest g ≡ true = settled_rests (is_empty g.phase) (is_settled g) done.settled in
+    let rest : is_at_rest g ≡ true = settled_is_at_rest (is_empty g.phase) (is_settled g) done.settled in
     record {
       logs_are = sym same_logs;
       ends = done.ends;

@@ -13,7 +13,7 @@ use Rattle.consumer.specs.declared.held.Held.{Held}
 use Rattle.consumer.specs.Consumer.{ConsumerState, IsWithinLogs, answered_by, given_up, held_at, leased, leased_slot, out_of_group, realigned, realigned_held, realigned_slot}
 use Rattle.consumer.proofs.Changed.{position_out, with_position}
 use Rattle.consumer.proofs.Valid.{slot_by, slot_past, slot_position}
-use Rattle.workers.specs.Private.Reading.{BeginsWithin, TellsWithin}
+use Rattle.workers.specs.Private.Reading.{BeginsWithin, IsReplyWithin}
 
 -- ---- the walk through a lease
 -- the partitions of a lease that were walked through start within their logs
@@ -60,18 +60,18 @@ leased_within c l lease was begins p =
       | inr le ↦ rw (slot_past (λ q. leased_slot lease q (held_at c q)) (length c.held) p le) (omega arith)
     ]
 
-kept_position : (b : Bool) (o : Option Held) (most : ℕ) → slot_position o ≤ most → slot_position (if b then o else None) ≤ most
-kept_position true o most le = le
-kept_position false o most le = omega arith
+retained_position : (b : Bool) (o : Option Held) (most : ℕ) → slot_position o ≤ most → slot_position (if b then o else None) ≤ most
+retained_position true o most le = le
+retained_position false o most le = omega arith
 
-abbrev kept_slot : ConsumerState → ℕ → Option Held
-kept_slot c p = if is_in c.assigned p then held_at c p else None
+abbrev retained_slot : ConsumerState → ℕ → Option Held
+retained_slot c p = if is_in c.assigned p then held_at c p else None
 
 pub given_up_within : (c : ConsumerState) (l : PartitionLogs) → IsWithinLogs c l → IsWithinLogs (given_up c) l
 given_up_within c l was p =
     elim (cases_lt p (length c.held)) [
-      | inl lt ↦ rw (slot_by (kept_slot c) (length c.held) p lt) (kept_position (is_in c.assigned p) (held_at c p) (length (log_at l p)) (was p))
-      | inr le ↦ rw (slot_past (kept_slot c) (length c.held) p le) (omega arith)
+      | inl lt ↦ rw (slot_by (retained_slot c) (length c.held) p lt) (retained_position (is_in c.assigned p) (held_at c p) (length (log_at l p)) (was p))
+      | inr le ↦ rw (slot_past (retained_slot c) (length c.held) p le) (omega arith)
     ]
 
 pub out_within : (n : ℕ) (l : PartitionLogs) → IsWithinLogs (out_of_group n) l
@@ -85,11 +85,11 @@ realigned_position h k most old new = go (nat_le h.base k)
     go false = new
 
 realigned_within : (c : ConsumerState) (l : PartitionLogs) (p k : ℕ) → IsWithinLogs c l → k ≤ length (log_at l p) → IsWithinLogs (realigned c p k) l
-realigned_within c l p k was told = go (held_at c p) refl
+realigned_within c l p k was replied = go (held_at c p) refl
   where
     go : (o : Option Held) → held_at c p ≡ o → IsWithinLogs (realigned_slot c p k o) l
     go None is = was
-    go (Some h) is = with_position c p h (realigned_held h k) is (λ q. length (log_at l q)) (realigned_position h k (length (log_at l p)) (subst (λ (o : Option Held). slot_position o ≤ length (log_at l p)) is (was p)) told) was
+    go (Some h) is = with_position c p h (realigned_held h k) is (λ q. length (log_at l q)) (realigned_position h k (length (log_at l p)) (subst (λ (o : Option Held). slot_position o ≤ length (log_at l p)) is (was p)) replied) was
 
 realigned_partitions : (c : ConsumerState) (p k : ℕ) → (realigned c p k).partitions ≡ c.partitions
 realigned_partitions c p k = go (held_at c p)
@@ -98,42 +98,42 @@ realigned_partitions c p k = go (held_at c p)
     go None = refl
     go (Some h) = refl
 
-pub answered_within : (c : ConsumerState) (l : PartitionLogs) (p : ℕ) (reply : Result ℕ Refusal) → IsWithinLogs c l → TellsWithin p reply l → IsWithinLogs (answered_by c p reply) l
-answered_within c l p (Ok k) was told = realigned_within c l p k was told
-answered_within c l p (Err (r.OffsetMismatch k)) was told = realigned_within c l p k was told
-answered_within c l p (Err r.UnknownMember) was told = out_within c.partitions l
-answered_within c l p (Err r.StaleGeneration) was told = was
-answered_within c l p (Err r.RebalanceInProgress) was told = was
-answered_within c l p (Err r.NothingToGive) was told = was
-answered_within c l p (Err r.SyncFirst) was told = was
-answered_within c l p (Err r.ClaimDiffers) was told = was
-answered_within c l p (Err r.AlreadyJoined) was told = was
-answered_within c l p (Err r.NameUsed) was told = was
-answered_within c l p (Err r.TooManyMembers) was told = was
-answered_within c l p (Err r.NotOwner) was told = was
-answered_within c l p (Err r.PastEnd) was told = was
-answered_within c l p (Err r.WrongRecords) was told = was
-answered_within c l p (Err r.EmptyCommit) was told = was
-answered_within c l p (Err r.NotHeld) was told = was
-answered_within c l p (Err r.OutOfGroup) was told = was
-answered_within c l p (Err r.NoSuchCommit) was told = was
-answered_within c l p (Err r.NotSettled) was told = was
-answered_within c l p (Err r.NobodyPresent) was told = was
-answered_within c l p (Err r.KeyTooLong) was told = was
-answered_within c l p (Err r.LogFull) was told = was
-answered_within c l p (Err r.ReadFailed) was told = was
-answered_within c l p (Err r.WriteFailed) was told = was
-answered_within c l p (Err r.Differs) was told = was
-answered_within c l p (Err r.GateLimit) was told = was
-answered_within c l p (Err r.MailFull) was told = was
-answered_within c l p (Err r.GenerationsOver) was told = was
-answered_within c l p (Err r.Memory) was told = was
-answered_within c l p (Err (r.BadLine line)) was told = was
-answered_within c l p (Err (r.NoSuchColumn nth)) was told = was
-answered_within c l p (Err (r.BadCsv nth)) was told = was
-answered_within c l p (Err (r.NobodyLeft line)) was told = was
-answered_within c l p (Err (r.NoSuchTopic nth)) was told = was
-answered_within c l p (Err r.NotKept) was told = was
+pub answered_within : (c : ConsumerState) (l : PartitionLogs) (p : ℕ) (reply : Result ℕ Refusal) → IsWithinLogs c l → IsReplyWithin p reply l → IsWithinLogs (answered_by c p reply) l
+answered_within c l p (Ok k) was replied = realigned_within c l p k was replied
+answered_within c l p (Err (r.OffsetMismatch k)) was replied = realigned_within c l p k was replied
+answered_within c l p (Err r.UnknownMember) was replied = out_within c.partitions l
+answered_within c l p (Err r.StaleGeneration) was replied = was
+answered_within c l p (Err r.RebalanceInProgress) was replied = was
+answered_within c l p (Err r.NothingToGive) was replied = was
+answered_within c l p (Err r.SyncFirst) was replied = was
+answered_within c l p (Err r.ClaimDiffers) was replied = was
+answered_within c l p (Err r.AlreadyJoined) was replied = was
+answered_within c l p (Err r.NameUsed) was replied = was
+answered_within c l p (Err r.TooManyMembers) was replied = was
+answered_within c l p (Err r.NotOwner) was replied = was
+answered_within c l p (Err r.PastEnd) was replied = was
+answered_within c l p (Err r.WrongRecords) was replied = was
+answered_within c l p (Err r.EmptyCommit) was replied = was
+answered_within c l p (Err r.NotHeld) was replied = was
+answered_within c l p (Err r.OutOfGroup) was replied = was
+answered_within c l p (Err r.NoSuchCommit) was replied = was
+answered_within c l p (Err r.NotSettled) was replied = was
+answered_within c l p (Err r.NobodyPresent) was replied = was
+answered_within c l p (Err r.KeyTooLong) was replied = was
+answered_within c l p (Err r.LogFull) was replied = was
+answered_within c l p (Err r.ReadFailed) was replied = was
+answered_within c l p (Err r.WriteFailed) was replied = was
+answered_within c l p (Err r.Differs) was replied = was
+answered_within c l p (Err r.GateLimit) was replied = was
+answered_within c l p (Err r.MailFull) was replied = was
+answered_within c l p (Err r.GenerationsOver) was replied = was
+answered_within c l p (Err r.Memory) was replied = was
+answered_within c l p (Err (r.BadLine line)) was replied = was
+answered_within c l p (Err (r.NoSuchColumn nth)) was replied = was
+answered_within c l p (Err (r.BadCsv nth)) was replied = was
+answered_within c l p (Err (r.NobodyLeft line)) was replied = was
+answered_within c l p (Err (r.NoSuchTopic nth)) was replied = was
+answered_within c l p (Err r.NotKept) was replied = was
 
 pub answered_partitions : (c : ConsumerState) (p : ℕ) (reply : Result ℕ Refusal) → (answered_by c p reply).partitions ≡ c.partitions
 answered_partitions c p (Ok k) = realigned_partitions c p k

@@ -10,8 +10,8 @@ use Rattle.std.proofs.lemmas.Slice.Eq.{bytes_eq-Decides}
 use Rattle.group_machine.specs.State.{GroupState, is_present, opening}
 use Rattle.group_laws.specs.Names.{HasNumber, names}
 use Rattle.group_machine.specs.Steps.{joined_by, left_by}
-use Rattle.group_laws.specs.Rounds.{finish}
-use Rattle.group_laws.proofs.EndLemmas.{joined_names, joined_stays, left_names, left_others, names_finish, present_finish}
+use Rattle.group_laws.specs.Rounds.{rebalance_result}
+use Rattle.group_laws.proofs.ResultFacts.{joined_names, joined_stays, left_names, left_others, names_result, present_result}
 use Rattle.group_machine.proofs.JoinLemmas.{joined_newcomer}
 use Rattle.group_laws.proofs.NameLemmas.{name_has_number}
 use Rattle.script.specs.Plan.{IsPlan, Roster, entered, is_allowed, is_among, is_there, nobody_yet, roster_of}
@@ -74,15 +74,15 @@ line_at (x ∷ plan) zero lt = (x, refl)
 line_at (x ∷ plan) (suc i) lt = line_at plan i (omega arith)
 
 -- ---- one line more
-pub settled_more : (g : GroupState) (lines : List Change) (line : Change) → settled_from g (lines ++ line ∷ []) ≡ finish (changed_by (settled_from g lines) line)
+pub settled_more : (g : GroupState) (lines : List Change) (line : Change) → settled_from g (lines ++ line ∷ []) ≡ rebalance_result (changed_by (settled_from g lines) line)
 settled_more g [] line = refl
-settled_more g (x ∷ lines) line = settled_more (finish (changed_by g x)) lines line
+settled_more g (x ∷ lines) line = settled_more (rebalance_result (changed_by g x)) lines line
 
 roster_more : (r : Roster) (lines : List Change) (line : Change) → fold entered r (lines ++ line ∷ []) ≡ entered (fold entered r lines) line
 roster_more r [] line = refl
 roster_more r (x ∷ lines) line = roster_more (entered r x) lines line
 
-pub next_settled : (p : ℕ) (plan : List Change) (i : ℕ) (line : Change) → slice_get plan i ≡ Some line → settled p (take (suc i) plan) ≡ finish (changed_by (settled p (take i plan)) line)
+pub next_settled : (p : ℕ) (plan : List Change) (i : ℕ) (line : Change) → slice_get plan i ≡ Some line → settled p (take (suc i) plan) ≡ rebalance_result (changed_by (settled p (take i plan)) line)
 next_settled p plan i line at = ap (λ lines. settled p lines) (take_line plan i line at) ∙ settled_more (opening p) (take i plan) line
 
 next_roster : (plan : List Change) (i : ℕ) (line : Change) → slice_get plan i ≡ Some line → roster_of (take (suc i) plan) ≡ entered (roster_of (take i plan)) line
@@ -162,16 +162,16 @@ changed_roster g r (Join name) has e = joined_roster g r name has
 changed_roster g r (Leave name) has e = left_roster g r name has e
 changed_roster g r (Lose name) has e = left_roster g r name has e
 
-ended_roster : (g : GroupState) (r : Roster) → HasRoster g r → HasRoster (finish g) r
+ended_roster : (g : GroupState) (r : Roster) → HasRoster g r → HasRoster (rebalance_result g) r
 ended_roster g r has = record {
-  names_are = names_finish g ∙ has.names_are;
-  there = λ i name at gone. present_finish g (i + 1) ∙ has.there i name at gone;
+  names_are = names_result g ∙ has.names_are;
+  there = λ i name at gone. present_result g (i + 1) ∙ has.there i name at gone;
 }
 
-before_end : (g : GroupState) (r : Roster) → HasRoster (finish g) r → HasRoster g r
+before_end : (g : GroupState) (r : Roster) → HasRoster (rebalance_result g) r → HasRoster g r
 before_end g r has = record {
-  names_are = sym (names_finish g) ∙ has.names_are;
-  there = λ i name at gone. sym (present_finish g (i + 1)) ∙ has.there i name at gone;
+  names_are = sym (names_result g) ∙ has.names_are;
+  there = λ i name at gone. sym (present_result g (i + 1)) ∙ has.there i name at gone;
 }
 
 settled_roster : (p : ℕ) (plan : List Change) → IsPlan plan → (i : ℕ) → i ≤ length plan → HasRoster (settled p (take i plan)) (roster_of (take i plan))
@@ -179,11 +179,11 @@ settled_roster p plan is zero le = opening_roster p
 settled_roster p plan is (suc i) le =
     let at = line_at plan i (omega arith) in
     let before : HasRoster (settled p (take i plan)) (roster_of (take i plan)) = settled_roster p plan is i (omega arith) in
-    let after : HasRoster (finish (changed_by (settled p (take i plan)) at.0)) (entered (roster_of (take i plan)) at.0) =
+    let after : HasRoster (rebalance_result (changed_by (settled p (take i plan)) at.0)) (entered (roster_of (take i plan)) at.0) =
     ended_roster (changed_by (settled p (take i plan)) at.0) (entered (roster_of (take i plan)) at.0) (changed_roster (settled p (take i plan)) (roster_of (take i plan)) at.0 before (is.allowed i at.0 at.1)) in
     subst (λ r. HasRoster (settled p (take (suc i) plan)) r) (sym (next_roster plan i at.0 at.1))
     (subst (λ g. HasRoster g (entered (roster_of (take i plan)) at.0)) (sym (next_settled p plan i at.0 at.1)) after)
 
-pub progress_roster : (g : GroupState) (p : ℕ) (plan : List Change) (i : ℕ) → IsPlan plan → i ≤ length plan → finish g ≡ settled p (take i plan) → HasRoster g (roster_of (take i plan))
+pub progress_roster : (g : GroupState) (p : ℕ) (plan : List Change) (i : ℕ) → IsPlan plan → i ≤ length plan → rebalance_result g ≡ settled p (take i plan) → HasRoster g (roster_of (take i plan))
 progress_roster g p plan i is le end =
     before_end g (roster_of (take i plan)) (subst (λ h. HasRoster h (roster_of (take i plan))) (sym end) (settled_roster p plan is i le))

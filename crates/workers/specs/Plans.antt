@@ -2,7 +2,7 @@
 use Rattle.std.specs.Prelude.{ℕ, List, [], ◌∷◌}
 use Rattle.std.specs.Option.{unwrap_or}
 use Rattle.group_machine.specs.State.{GroupState, member_named, opening}
-use Rattle.group_laws.specs.Rounds.{finish}
+use Rattle.group_laws.specs.Rounds.{rebalance_result}
 use Rattle.group_machine.specs.Steps.{joined_by, left_by}
 use Rattle.script.specs.declared.plan.Change.{Change}
 use Rattle.script.specs.declared.plan.Change.TheVariants.{Join, Leave, Lose}
@@ -20,7 +20,7 @@ changed_by g (Lose name) = left_by g (number_of g name)
 -- the group after each line and its rebalance
 abbrev pub settled_from : GroupState → List Change → GroupState
 settled_from g [] = g
-settled_from g (change ∷ rest) = settled_from (finish (changed_by g change)) rest
+settled_from g (change ∷ rest) = settled_from (rebalance_result (changed_by g change)) rest
 
 -- the result of a plan, from a group that nobody has joined
 abbrev pub settled : ℕ → List Change → GroupState

@@ -3,9 +3,9 @@ use Rattle.std.specs.Prelude.{◌≡◌, ℕ, ◌+◌, ◌≤◌, Bool, true, fa
 use Rattle.group_machine.specs.State.{GroupState}
 use Rattle.group_machine.specs.declared.group.Phase.{Phase}
 use Rattle.group_machine.specs.declared.group.Phase.TheVariants.{Empty, Preparing, Stable}
-use Rattle.group_laws.specs.Rounds.{finish}
+use Rattle.group_laws.specs.Rounds.{rebalance_result}
 use Rattle.group_machine.specs.Settled.{is_settled}
-use Rattle.group_machine.specs.Good.{IsValidGroup}
+use Rattle.group_machine.specs.Valid.{IsValidGroup}
 use Rattle.group_machine.specs.Cluster.{ClusterState, with_group}
 use Rattle.script.specs.declared.plan.Change.{Change}
 use Rattle.script.specs.Plan.{IsPlan}
@@ -56,5 +56,5 @@ pub record IsValidProgress (s : Progress) : Type 0 where
   pub valid : IsValidGroup s.cluster.group
   pub plan : IsPlan s.plan
   pub within : s.applied ≤ length s.plan
-  pub end : finish s.cluster.group
+  pub end : rebalance_result s.cluster.group
       ≡ settled s.cluster.group.partitions (take s.applied s.plan)

@@ -5,7 +5,7 @@ use Rattle.lane_words.specs.declared.Refusal.TheVariants as r
 use Rattle.partition_log.specs.Keys.{Key, id_of}
 use Rattle.partition_log.specs.Logs.{PartitionLogs, count_in_logs}
 use Rattle.commit_store.specs.Commits.{AreEndsCommitted, Commits, count_at}
-use Rattle.group_laws.specs.Rounds.{bare}
+use Rattle.group_laws.specs.Rounds.{without_flags}
 use Rattle.group_machine.specs.Cluster.{ClusterState}
 use Rattle.script.specs.declared.plan.Change.{Change}
 use Rattle.workers.specs.Plans.{settled}
@@ -21,7 +21,7 @@ pub record IsRunOf (logs : PartitionLogs) (plan : List Change) (s : ClusterState
   pub logs_are : s.logs ≡ logs
   pub ends : AreEndsCommitted s.store s.logs
   pub counts : AreAllCounted s.store s.logs
-  pub group : bare s.group ≡ settled logs.partitions plan
+  pub group : without_flags s.group ≡ settled logs.partitions plan
 
 -- why a run fails: memory or a thread could not be had, the gate stopped it, or the logs or the
 -- plan differ from the given ones

@@ -109,7 +109,7 @@ impl Planned {
             ≡ regrouped self.old (rejoined_by self.old.cluster.group member)) }
         ensures err { OnErr result (self.new ≡ self.old) }
     {
-        self.rejoin_heard(member, generation, claim)?;
+        self.rejoin_announced(member, generation, claim)?;
         Ok(())
     }
 
@@ -163,13 +163,13 @@ pub struct TurnStart {
 
 /// What an idle worker does.
 #[derive(Clone, Copy, Debug, PartialEq, Eq)]
-pub enum Rest {
+pub enum IdleStep {
     /// It waits until something changes.
-    Stay,
+    Wait,
     /// It takes another turn: something has changed meanwhile.
-    GoOn,
+    Retry,
     /// It wakes the others: the run has ended.
-    Over,
+    Finished,
 }
 
 impl Planned {
@@ -198,15 +198,15 @@ impl Planned {
 
     /// A member rejoins. Returns whether other workers may have waited for that: a rebalance has
     /// begun, or a generation is complete.
-    pub(crate) fn rejoin_heard(
+    pub(crate) fn rejoin_announced(
         &mut self,
         member: u32,
         generation: u32,
         claim: &Plane,
     ) -> Result<bool, Refusal>
-        ensures taken { OnOk result
+        ensures value { OnOk result
             (rejoin_answer self.old.cluster.group member generation claim.now ≡ Ok tt) }
-        ensures refused { IfErr result (λ why. Answers
+        ensures fault { IfErr result (λ why. Answers
             (rejoin_answer self.old.cluster.group member generation claim.now) (Err why)) }
         ensures ok { OnOk result (self.new
             ≡ regrouped self.old (rejoined_by self.old.cluster.group member)) }
@@ -214,26 +214,26 @@ impl Planned {
     {
         let before = (self.cluster.phase(), self.cluster.generation());
         self.cluster.rejoin(member, generation, claim)?;
-        let is_heard = (self.cluster.phase(), self.cluster.generation()) != before;
-        if is_heard {
+        let is_announced = (self.cluster.phase(), self.cluster.generation()) != before;
+        if is_announced {
             self.changes = self.changes.wrapping_add(1);
         }
-        Ok(is_heard)
+        Ok(is_announced)
     }
 
     /// What a worker does that found nothing to do at `seen` changes. It ends a finished run.
-    pub(crate) fn idle_step(&mut self, seen: u64) -> Rest
+    pub(crate) fn idle_step(&mut self, seen: u64) -> IdleStep
         ensures same { self.new ≡ self.old }
     {
         if self.end.is_some() || self.changes != seen {
-            return Rest::GoOn;
+            return IdleStep::Retry;
         }
         if !self.is_finished() {
-            return Rest::Stay;
+            return IdleStep::Wait;
         }
         self.end = Some(Ok(()));
         self.changes = self.changes.wrapping_add(1);
-        Rest::Over
+        IdleStep::Finished
     }
 
     /// Ends the run with a fault, unless it has ended already.
@@ -248,15 +248,15 @@ impl Planned {
 
     /// The cluster at the end of the run, if the run finished with these logs and this plan.
     pub(crate) fn outcome(self, logs: &SealedLogs, plan: &Plan) -> Result<Cluster, Fault>
-        ensures run { IfOk result (IsRunOf logs.now plan.now) }
+        ensures value { IfOk result (IsRunOf logs.now plan.now) }
         ensures valid { IfOk result IsValidCluster }
     {
-        let came = self.came_to(logs, plan);
+        let came = self.run_result(logs, plan);
         came.and(Ok(self.cluster))
     }
 
     /// Whether the run finished with these logs and this plan, or why not.
-    fn came_to(&self, logs: &SealedLogs, plan: &Plan) -> Result<(), Fault>
+    fn run_result(&self, logs: &SealedLogs, plan: &Plan) -> Result<(), Fault>
         ensures { OnOk result (IsRunOf logs.now plan.now self.now.cluster) }
     {
         if let Some(Err(fault)) = self.end {

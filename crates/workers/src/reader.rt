@@ -4,7 +4,7 @@ ghost use Rattle.std.specs.Prelude.{◌≡◌, ◌≤◌, IsTrue, length};
 ghost use Rattle.bit_planes.specs.PartitionSet.{is_in, partitions_of};
 ghost use Rattle.partition_log.specs.Logs.{log_at};
 ghost use Rattle.consumer.specs.Consumer.{IsWithinLogs};
-ghost use Rattle.workers.specs.Private.Reading.{BeginsWithin, IsLeaseOver, TellsWithin};
+ghost use Rattle.workers.specs.Private.Reading.{BeginsWithin, IsLeaseOver, IsReplyWithin};
 
 use crate::fault::Fault;
 use bit_planes::Plane;
@@ -83,7 +83,7 @@ impl<'a> Reader<'a> {
     /// Takes the reply to a commit of a partition. Fails with `Differs` if the committed offset in
     /// the reply is past the end of the log.
     pub fn learn(&mut self, p: u32, reply: Result<u32, Refusal>) -> Result<(), Fault> {
-        if !tells_within(self.logs, p, &reply) {
+        if !is_reply_within(self.logs, p, &reply) {
             return Err(Fault::Differs);
         }
         self.consumer.answered(p, reply);
@@ -130,8 +130,8 @@ fn begins_within(logs: &SealedLogs, lease: &Lease) -> bool
 }
 
 /// Whether the committed offset in a reply, if any, is at most the end of the partition's log.
-fn tells_within(logs: &SealedLogs, p: u32, reply: &Result<u32, Refusal>) -> bool
-    ensures { IsTrue result → TellsWithin p reply.now logs.now }
+fn is_reply_within(logs: &SealedLogs, p: u32, reply: &Result<u32, Refusal>) -> bool
+    ensures { IsTrue result → IsReplyWithin p reply.now logs.now }
 {
     match reply {
         Ok(committed) => is_within(logs, p, *committed),

@@ -6,7 +6,7 @@ ghost use Rattle.workers.specs.Runs.{IsRunOf, IsRunRefusal};
 
 use crate::fault::Fault;
 use crate::gate::{Gate, GateAnswer};
-use crate::planned::{Planned, Rest, Task, TurnStart};
+use crate::planned::{IdleStep, Planned, Task, TurnStart};
 use crate::reader::Reader;
 use bit_planes::Plane;
 use group_machine::{Cluster, NextStep};
@@ -45,7 +45,7 @@ impl Outcome {
 
 /// How often a thread tries the lock before it sleeps. The tries take longer than a commit of
 /// `ENOUGH_RECORDS` records does, since sleeping and waking up takes longer still.
-const LOOKS: u32 = 4000;
+const SPIN_LIMIT: u32 = 4000;
 
 /// The most polls that share one commit.
 const MOST_POLLS: u32 = 32;
@@ -66,11 +66,11 @@ fn polls_together(batch: u32) -> u32
 
 /// What the threads of a run share.
 #[derive(Drop)]
-struct Desk<'a, G> {
+struct Shared<'a, G> {
     alloc: Global,
     planned: &'a Mutex<Planned>,
     /// Wakes workers that wait, after something changed.
-    bell: &'a Condvar,
+    changed: &'a Condvar,
     logs: &'a SealedLogs,
     gate: &'a G,
     /// The most records of one poll.
@@ -98,23 +98,23 @@ pub fn run_cluster<R: Threads + Wait + RandomSource + Sync, G: Gate + Sync>(
     gate: &G,
 ) -> Result<Outcome, Refusal>
     requires { 1 ≤ batch }
-    ensures run { IfOk result (IsRunOf logs.now plan.now) }
+    ensures value { IfOk result (IsRunOf logs.now plan.now) }
     ensures valid { IfOk result IsValidCluster }
-    ensures refused { IfErr result IsRunRefusal }
+    ensures fault { IfErr result IsRunRefusal }
 {
     let planned = Planned::new(alloc, logs.copy(rt, alloc)?, plan.copy(alloc)?)?;
     let lock = Mutex::new(planned);
-    let bell = Condvar::new();
-    let desk = Desk {
+    let changed = Condvar::new();
+    let shared = Shared {
         alloc,
         planned: &lock,
-        bell: &bell,
+        changed: &changed,
         logs,
         gate,
         batch,
         polls: polls_together(batch),
     };
-    start_all(rt, &desk, plan.members());
+    start_all(rt, &shared, plan.members());
     match lock.into_inner().outcome(logs, plan) {
         Ok(cluster) => Ok(Outcome { cluster }),
         Err(fault) => Err(fault.refusal()),
@@ -122,11 +122,15 @@ pub fn run_cluster<R: Threads + Wait + RandomSource + Sync, G: Gate + Sync>(
 }
 
 /// Starts a worker for each member, and returns once all have ended.
-fn start_all<R: Threads + Wait + Sync, G: Gate + Sync>(rt: &R, desk: &Desk<'_, G>, members: u32) {
+fn start_all<R: Threads + Wait + Sync, G: Gate + Sync>(
+    rt: &R,
+    shared: &Shared<'_, G>,
+    members: u32,
+) {
     thread::scope(thread::scope_env(), rt, |scope| {
         for index in 0..members {
-            if scope.spawn(move || work(rt, desk, index + 1)).is_err() {
-                desk.stop(rt, Fault::Memory);
+            if scope.spawn(move || work(rt, shared, index + 1)).is_err() {
+                shared.stop(rt, Fault::Memory);
                 break;
             }
         }
@@ -140,28 +144,28 @@ enum Turn {
     /// There was nothing to do at this number of changes.
     Idle(u64),
     /// There is nothing left to do.
-    Over,
+    Finished,
 }
 
 /// Takes a member's turns until the member is gone or the run has ended.
-fn work<R: Wait, G: Gate>(rt: &R, desk: &Desk<'_, G>, member: u32) {
-    let Ok(mut reader) = Reader::new(desk.alloc, desk.logs, member) else {
-        return desk.stop(rt, Fault::Memory);
+fn work<R: Wait, G: Gate>(rt: &R, shared: &Shared<'_, G>, member: u32) {
+    let Ok(mut reader) = Reader::new(shared.alloc, shared.logs, member) else {
+        return shared.stop(rt, Fault::Memory);
     };
     for _ in rt.forever() {
-        match desk.take_turn(rt, &mut reader) {
+        match shared.take_turn(rt, &mut reader) {
             Ok(Turn::Worked) => {}
-            Ok(Turn::Idle(seen)) => desk.wait_for_change(rt, seen),
-            Ok(Turn::Over) => break,
+            Ok(Turn::Idle(seen)) => shared.wait_for_change(rt, seen),
+            Ok(Turn::Finished) => break,
             Err(fault) => {
-                desk.stop(rt, fault);
+                shared.stop(rt, fault);
                 break;
             }
         }
     }
 }
 
-impl<'a, G: Gate> Desk<'a, G> {
+impl<'a, G: Gate> Shared<'a, G> {
     /// Takes one turn of a member.
     fn take_turn<R: Wait>(&self, rt: &R, reader: &mut Reader<'_>) -> Result<Turn, Fault> {
         let start = self.start_turn(rt, reader.member())?;
@@ -174,7 +178,7 @@ impl<'a, G: Gate> Desk<'a, G> {
                     return Ok(Turn::Idle(start.seen));
                 }
             }
-            Task::End => return Ok(Turn::Over),
+            Task::End => return Ok(Turn::Finished),
         }
         Ok(Turn::Worked)
     }
@@ -186,7 +190,7 @@ impl<'a, G: Gate> Desk<'a, G> {
             return Err(Fault::Memory);
         };
         if start.is_advanced {
-            self.bell.notify_all();
+            self.changed.notify_all();
         }
         Ok(start)
     }
@@ -209,12 +213,12 @@ impl<'a, G: Gate> Desk<'a, G> {
         self.commit_surplus(rt, reader, &claim)?;
         let answer = self
             .lock(rt)
-            .rejoin_heard(reader.member(), reader.generation(), &claim);
+            .rejoin_announced(reader.member(), reader.generation(), &claim);
         match answer {
-            Ok(is_heard) => {
+            Ok(is_announced) => {
                 reader.give_up();
-                if is_heard {
-                    self.bell.notify_all();
+                if is_announced {
+                    self.changed.notify_all();
                 }
             }
             Err(Refusal::Memory) => return Err(Fault::Memory),
@@ -280,18 +284,18 @@ impl<'a, G: Gate> Desk<'a, G> {
     fn wait_for_change<R: Wait>(&self, rt: &R, seen: u64) {
         let mut planned = self.lock(rt);
         match planned.idle_step(seen) {
-            Rest::Stay => {
-                let _woken = self.bell.wait(rt, planned);
+            IdleStep::Wait => {
+                let _woken = self.changed.wait(rt, planned);
             }
-            Rest::GoOn => {}
-            Rest::Over => self.bell.notify_all(),
+            IdleStep::Retry => {}
+            IdleStep::Finished => self.changed.notify_all(),
         }
     }
 
     /// Locks the shared state. It is held for less time than it takes to put a thread to sleep and
     /// wake it, so a thread that finds the lock taken spins for a while.
     fn lock<R: Wait>(&self, rt: &R) -> MutexGuard<'_, Planned> {
-        for _ in 0..LOOKS {
+        for _ in 0..SPIN_LIMIT {
             if let Some(planned) = self.planned.try_lock() {
                 return planned;
             }
@@ -303,6 +307,6 @@ impl<'a, G: Gate> Desk<'a, G> {
     /// Ends the run with a fault, and wakes all workers.
     fn stop<R: Wait>(&self, rt: &R, fault: Fault) {
         self.lock(rt).stop(fault);
-        self.bell.notify_all();
+        self.changed.notify_all();
     }
 }

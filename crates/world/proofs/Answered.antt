@@ -22,9 +22,9 @@ use Rattle.world.specs.declared.event.TheConstants.{MOST_COMMITS}
 use Rattle.world.specs.Courses.{Course, answer_in, chain, for_each, goes_on, happens, nothing, outcome_of}
 use Rattle.world.specs.Draining.{drain_log, drain_member, drain_members, read_on, read_up}
 use Rattle.world.specs.Settling.{commit_pending, flush, forgiven, pass, rejoin_if_due, sync_if_new, turn, unless_mismatch}
-use Rattle.world.specs.Steps.{Outcome, asked, delivered, delivery, mail_answer, poll_known, poll_outcome, refused, refused_by_cluster, rejoin_outcome, send_known, send_outcome, sync_outcome, told}
+use Rattle.world.specs.Steps.{Outcome, asked, delivered, delivery, mail_answer, poll_by_consumer, poll_outcome, refused, refused_by_cluster, rejoin_outcome, send_by_consumer, send_outcome, sync_outcome, replied}
 use Rattle.world.specs.World.{WorldState, commit_at, consumer_of}
-use Rattle.world.proofs.Kept.{IsOfTurn}
+use Rattle.world.proofs.Preserved.{IsOfTurn}
 
 abbrev pub IsNever : {A : Type 0} → Result A Refusal → Type 0
 IsNever a = a ≡ Err r.NotSettled → ⊥
@@ -120,7 +120,7 @@ rejoin_never : (w : WorldState) (m : ℕ) (a : Result (Unit {0}) Refusal) → Is
 rejoin_never w m (Ok u) h e = cc
 rejoin_never w m (Err why) h e = refused_never w m why (λ x. h (ap Err x)) e
 
-poll_never : (w : WorldState) (m p n : ℕ) (o : Option ConsumerState) → IsNever (answer_in (poll_known w m p n o).reply)
+poll_never : (w : WorldState) (m p n : ℕ) (o : Option ConsumerState) → IsNever (answer_in (poll_by_consumer w m p n o).reply)
 poll_never w m p n None e = cc
 poll_never w m p n (Some c) e = go (poll_answer c w.cluster.logs p n) (poll_answers w c p n) e
   where
@@ -128,7 +128,7 @@ poll_never w m p n (Some c) e = go (poll_answer c w.cluster.logs p n) (poll_answ
     go (Ok count) h e = cc
     go (Err why) h e = h (ap Err (inside why r.NotSettled e))
 
-send_never : (w : WorldState) (p : ℕ) (o : Option ConsumerState) → IsNever (answer_in (send_known w p o).reply)
+send_never : (w : WorldState) (p : ℕ) (o : Option ConsumerState) → IsNever (answer_in (send_by_consumer w p o).reply)
 send_never w p None e = cc
 send_never w p (Some c) e = go (mail_answer w c p) (send_answers w c p) e
   where
@@ -140,7 +140,7 @@ deliver_never : (w : WorldState) (o : Option CommitTerms) → IsNever (answer_in
 deliver_never w None e = cc
 deliver_never w (Some c) e = go (cluster_commit_answer w.cluster c) (commit_answers w.cluster c) e
   where
-    go : (a : Result ℕ Refusal) → IsNever a → answer_in (told a) ≡ Err r.NotSettled → ⊥
+    go : (a : Result ℕ Refusal) → IsNever a → answer_in (replied a) ≡ Err r.NotSettled → ⊥
     go (Ok end) h e = cc
     go (Err why) h e = h (ap Err (inside why r.NotSettled e))
 

@@ -10,47 +10,47 @@ use Rattle.lane_words.specs.declared.Refusal.{Refusal}
 use Rattle.lane_words.specs.declared.Refusal.TheVariants as r
 use Rattle.bit_planes.specs.PartitionSet.{PartitionSet}
 use Rattle.keyed_table.proofs.Raised.{length-raised}
-use Rattle.partition_log.specs.Keys.{Keyed, id_of, is_known}
+use Rattle.partition_log.specs.Keys.{Keyed, id_of, is_interned}
 use Rattle.partition_log.specs.Logs.{IsOfTopic, IsPlaceOf, PartitionLogs, is_full_for, log_at, place_in, with_record}
 use Rattle.partition_log.proofs.Valid.{is_place, log-other, log-same, place-below, valid}
 use Rattle.commit_store.specs.Commits.{Commits, Fits, commit_answer, committed_at, raised}
 use Rattle.commit_store.proofs.Answered.{accepted}
 use Rattle.commit_store.proofs.Exact.{commit-exact}
-use Rattle.group_machine.specs.State.{GroupState, is_present, kept_member}
-use Rattle.group_machine.specs.Steps.{join_answer, joined_by, joined_kept_by, leave_answer, left_by, rejoin_answer, rejoined_by, synced_by, take_over_answer, taken_over_by}
-use Rattle.group_laws.specs.Others.{IsHandedOn, LeavesMember, LeavesOthers}
+use Rattle.group_machine.specs.State.{GroupState, is_present, static_member}
+use Rattle.group_machine.specs.Steps.{join_answer, joined_by, joined_static_by, leave_answer, left_by, rejoin_answer, rejoined_by, synced_by, take_over_answer, taken_over_by}
+use Rattle.group_laws.specs.Others.{IsTakenOver, LeavesMember, LeavesOthers}
 use Rattle.group_machine.specs.Cluster.{ClusterState, CommitTerms, IsValidCluster, IsValidLogs, append_answer, appended_to, cluster_commit_answer, committed_by, fence, with_group}
-use Rattle.group_machine.proofs.ClusterLemmas.{append-kept, partition-below, regrouped}
-use Rattle.group_laws.proofs.FinishLemmas as finish
+use Rattle.group_machine.proofs.ClusterLemmas.{append-valid, partition-below, regrouped}
+use Rattle.group_laws.proofs.ResultLemmas as rebalance_result
 use Rattle.group_machine.proofs.JoinLemmas.{accepted_join}
 use Rattle.group_laws.proofs.OtherLemmas.{accepted_leave, join_leaves, leave_leaves, rejoin_leaves}
-use Rattle.group_laws.proofs.StepLemmas.{join_good, leave_good, rejoin_good}
-use Rattle.group_machine.proofs.StepLemmas.{sync_good}
-use Rattle.group_laws.proofs.TakeOverLemmas.{handed_leaves, kept_join_good, kept_join_leaves, take_over_good, take_over_hands}
+use Rattle.group_laws.proofs.StepLemmas.{join_valid, leave_valid, rejoin_valid}
+use Rattle.group_machine.proofs.StepLemmas.{sync_valid}
+use Rattle.group_laws.proofs.TakeOverLemmas.{handed_leaves, kept_join_valid, kept_join_leaves, take_over_valid, take_over_hands}
 
 -- ---- steps of the group
 pub joined_valid : (s : ClusterState) (name : List ℕ) (n : ℕ) → IsValidCluster s → join_answer s.group name ≡ Ok n → IsValidCluster (with_group s (joined_by s.group name))
 joined_valid s name n v ok =
-    regrouped s (joined_by s.group name) v (join_good s.group name v.good (accepted_join s.group name n ok).0) (join_leaves s.group name n v.good ok).partitions
+    regrouped s (joined_by s.group name) v (join_valid s.group name v.good (accepted_join s.group name n ok).0) (join_leaves s.group name n v.good ok).partitions
 
-pub joined_kept_valid : (s : ClusterState) (name : List ℕ) (n : ℕ) → IsValidCluster s → join_answer s.group name ≡ Ok n → IsValidCluster (with_group s (joined_kept_by s.group name))
+pub joined_kept_valid : (s : ClusterState) (name : List ℕ) (n : ℕ) → IsValidCluster s → join_answer s.group name ≡ Ok n → IsValidCluster (with_group s (joined_static_by s.group name))
 joined_kept_valid s name n v ok =
-    regrouped s (joined_kept_by s.group name) v (kept_join_good s.group name v.good (accepted_join s.group name n ok).0) (kept_join_leaves s.group name n v.good ok).partitions
+    regrouped s (joined_static_by s.group name) v (kept_join_valid s.group name v.good (accepted_join s.group name n ok).0) (kept_join_leaves s.group name n v.good ok).partitions
 
-pub taken_over_valid : (s : ClusterState) (name : List ℕ) (m n : ℕ) → IsValidCluster s → kept_member s.group name ≡ Some m → take_over_answer s.group name ≡ Ok n → IsValidCluster (with_group s (taken_over_by s.group name))
+pub taken_over_valid : (s : ClusterState) (name : List ℕ) (m n : ℕ) → IsValidCluster s → static_member s.group name ≡ Some m → take_over_answer s.group name ≡ Ok n → IsValidCluster (with_group s (taken_over_by s.group name))
 taken_over_valid s name m n v kept ok =
-    regrouped s (taken_over_by s.group name) v (take_over_good s.group name m n v.good kept ok) (take_over_hands s.group name m n kept ok).partitions
+    regrouped s (taken_over_by s.group name) v (take_over_valid s.group name m n v.good kept ok) (take_over_hands s.group name m n kept ok).partitions
 
 pub rejoined_valid : (s : ClusterState) (m generation : ℕ) (claim : PartitionSet) → IsValidCluster s → rejoin_answer s.group m generation claim ≡ Ok tt → IsValidCluster (with_group s (rejoined_by s.group m))
 rejoined_valid s m generation claim v ok =
-    regrouped s (rejoined_by s.group m) v (rejoin_good s.group m v.good (ap is_some (finish.accepted s.group m generation claim ok).1)) (rejoin_leaves s.group m generation claim v.good ok).partitions
+    regrouped s (rejoined_by s.group m) v (rejoin_valid s.group m v.good (ap is_some (rebalance_result.accepted s.group m generation claim ok).1)) (rejoin_leaves s.group m generation claim v.good ok).partitions
 
 pub left_valid : (s : ClusterState) (m : ℕ) → IsValidCluster s → leave_answer s.group m ≡ Ok tt → IsValidCluster (with_group s (left_by s.group m))
 left_valid s m v ok =
-    regrouped s (left_by s.group m) v (leave_good s.group m v.good (accepted_leave (is_present s.group m) _ ok)) (leave_leaves s.group m v.good ok).partitions
+    regrouped s (left_by s.group m) v (leave_valid s.group m v.good (accepted_leave (is_present s.group m) _ ok)) (leave_leaves s.group m v.good ok).partitions
 
 pub synced_valid : (s : ClusterState) (m : ℕ) → IsValidCluster s → IsValidCluster (with_group s (synced_by s.group m))
-synced_valid s m v = regrouped s (synced_by s.group m) v (sync_good s.group m v.good) refl
+synced_valid s m v = regrouped s (synced_by s.group m) v (sync_valid s.group m v.good) refl
 
 -- ---- appends
 accepted_append : (long full : Bool) (a b : ℕ × ℕ) → ◌≡◌ {A = Result (ℕ × ℕ) Refusal} (if long then Err r.KeyTooLong else if full then Err r.LogFull else Ok a) (Ok b) → (long ≡ false) × (full ≡ false)
@@ -67,7 +67,7 @@ appended_valid s keyed at v topic ok =
     let place = place_in s.logs keyed in
     let goes : IsPlaceOf s.logs key place = (keyed.0, topic, refl) in
     let passed = accepted_append (nat_lt LONGEST_KEY (length key)) (is_full_for s.logs place key) (place, length (log_at s.logs place)) at ok in
-    append-kept s place key v goes (valid s.logs place key v.logs goes (place-below s.logs keyed v.logs topic) (not_longer LONGEST_KEY (length key) passed.0) passed.1)
+    append-valid s place key v goes (valid s.logs place key v.logs goes (place-below s.logs keyed v.logs topic) (not_longer LONGEST_KEY (length key) passed.0) passed.1)
 
 -- ---- commits
 passed_fence : (a : Result (Unit {0}) Refusal) (b : Result ℕ Refusal) (end : ℕ) → result_and a b ≡ Ok end → (a ≡ Ok tt) × (b ≡ Ok end)
@@ -135,7 +135,7 @@ is_it m n =
       | inr f ↦ inr (λ e. f.1 e)
     ]
 
-pub leaves_handed_on : (s : ClusterState) (g : GroupState) (m n : ℕ) → IsValidCluster (with_group s g) → IsHandedOn s.group g m n → Leaves s (with_group s g) n
+pub leaves_handed_on : (s : ClusterState) (g : GroupState) (m n : ℕ) → IsValidCluster (with_group s g) → IsTakenOver s.group g m n → Leaves s (with_group s g) n
 leaves_handed_on s g m n valid on = record {
   valid = valid;
   partitions = on.partitions;
@@ -190,6 +190,6 @@ append_leaves s keyed at about v topic ok = record {
   valid = appended_valid s keyed at v topic ok;
   partitions = refl;
   others = λ n ne here. same_member s.group n;
-  committed = λ p. omega (arith, ap (λ (os : List ℕ). slice_index_or os p 0) (offsets_same (is_known s.logs.keys keyed.1) s.store));
+  committed = λ p. omega (arith, ap (λ (os : List ℕ). slice_index_or os p 0) (offsets_same (is_interned s.logs.keys keyed.1) s.store));
   logs = λ p. log_grows s.logs keyed p v.logs topic;
 }

@@ -20,7 +20,7 @@ use Rattle.group_machine.specs.declared.group.Slot.{Slot}
 use Rattle.group_machine.specs.State.{GroupState, assigned_of, granted_of, is_present, is_synced, members}
 use Rattle.group_machine.specs.Slots.{seat_in}
 use Rattle.group_machine.specs.Cluster.{cluster_commit_answer}
-use Rattle.group_laws.specs.Passes.{is_calm}
+use Rattle.group_laws.specs.Passes.{is_settled_and_synced}
 use Rattle.group_machine.specs.Settled.{is_settled}
 use Rattle.group_laws.proofs.PassLemmas.{settled_same}
 use Rattle.group_machine.proofs.PresentLemmas.{Listed, listed_present}
@@ -34,15 +34,15 @@ use Rattle.world.specs.declared.event.TheConstants.{MOST_COMMITS}
 use Rattle.world.specs.Courses.{Course, Follows, answer_in, chain, for_each, goes_on, happens, nothing, outcome_of}
 use Rattle.world.specs.Draining.{drain_log, drain_member, drain_members, held_by, is_read_up, read_on, read_up}
 use Rattle.world.specs.Settling.{commit_pending, forgiven, is_pending, unless_mismatch}
-use Rattle.world.specs.Steps.{Outcome, delivered, delivery, deliver_event, done, given, poll_event, poll_known, poll_outcome, refused, send_event, send_known, send_outcome, told}
+use Rattle.world.specs.Steps.{Outcome, delivered, delivery, deliver_event, done, given, poll_event, poll_by_consumer, poll_outcome, refused, send_event, send_by_consumer, send_outcome, replied}
 use Rattle.world.specs.Valid.{IsValidWorld}
 use Rattle.world.specs.World.{WorldState, changed, commit_at, consumer_of, on_consumer, with_cluster}
 use Rattle.world.proofs.Clusters.{committed_valid}
 use Rattle.world.proofs.Following.{IsCourse, drain_log_course, drain_member_course, drain_members_course, each_course, happens_course, read_on_course}
-use Rattle.world.proofs.Kept.{AreAll, GoesFurther, IsFurther, IsReading, LeavesGroup, drain_log_events, drain_member_events, drain_members_events, each_events, keeps_further, keeps_group, kept_course, read_on_events, reading_open, valid_course}
+use Rattle.world.proofs.Preserved.{AreAll, GoesFurther, IsFurther, IsReading, LeavesGroup, drain_log_events, drain_member_events, drain_members_events, each_events, preserves_further, preserves_group, preserved_course, read_on_events, reading_open, valid_course}
 use Rattle.world.proofs.Lists.{get_last}
 use Rattle.world.proofs.Refusals.{commit_elsewhere, commit_mismatch}
-use Rattle.world.proofs.Settled.{calm_settled, chain_done}
+use Rattle.world.proofs.Settled.{settled_and_synced_is_settled, chain_done}
 use Rattle.world.proofs.Walks.{holds_some}
 
 -- ---- lookups
@@ -56,9 +56,9 @@ get_within [] i lt = absurd (omega arith)
 get_within (x ∷ xs) zero lt = (x, refl)
 get_within (x ∷ xs) (suc i) lt = get_within xs i (omega arith)
 
-changed_known : (w : WorldState) (m : ℕ) (c : ConsumerState) (f : ConsumerState → ConsumerState) → consumer_of w m ≡ Some c → consumer_of (on_consumer w m f) m ≡ Some (f c)
-changed_known w zero c f e = absurd (cc e)
-changed_known w (suc i) c f e = ap (λ o. consumer_of (changed w (suc i) f o) (suc i)) e ∙ get_set_same w.consumers i (f c) c e
+changed_existing : (w : WorldState) (m : ℕ) (c : ConsumerState) (f : ConsumerState → ConsumerState) → consumer_of w m ≡ Some c → consumer_of (on_consumer w m f) m ≡ Some (f c)
+changed_existing w zero c f e = absurd (cc e)
+changed_existing w (suc i) c f e = ap (λ o. consumer_of (changed w (suc i) f o) (suc i)) e ∙ get_set_same w.consumers i (f c) c e
 
 same_consumers : (w w2 : WorldState) (m : ℕ) → w2.consumers ≡ w.consumers → consumer_of w2 m ≡ consumer_of w m
 same_consumers w w2 zero e = refl
@@ -94,9 +94,9 @@ seat_within slots i here = go (slice_get slots i) refl here
     go None is some = absurd (cc some)
     go (Some s) is some = slice_get_within slots i s is
 
-present_known : (w : WorldState) (m : ℕ) → IsValidWorld w → is_present w.cluster.group m ≡ true → (c : ConsumerState) × (consumer_of w m ≡ Some c)
-present_known w zero v here = absurd (cc here)
-present_known w (suc i) v here =
+present_has_consumer : (w : WorldState) (m : ℕ) → IsValidWorld w → is_present w.cluster.group m ≡ true → (c : ConsumerState) × (consumer_of w m ≡ Some c)
+present_has_consumer w zero v here = absurd (cc here)
+present_has_consumer w (suc i) v here =
     let lt = seat_within w.cluster.group.slots i here in
     get_within w.consumers i (omega (arith, lt, v.a_consumer_each))
 
@@ -106,7 +106,7 @@ some_held (Some h) e = (h, refl)
 
 reader_holds : (w : WorldState) (m p : ℕ) → IsValidWorld w → IsReader w.cluster.group m p → (h : Held) × HoldsAt w m p h
 reader_holds w m p v reads =
-    let known = present_known w m v reads.present in
+    let known = present_has_consumer w m v reads.present in
     let step = v.present m known.0 reads.present known.1 in
     let held = some_held (held_at known.0 p) (step.held reads.synced p reads.assigned) in
     (held.0, record { c = known.0; known = known.1; member = step.member; held = held.1 })
@@ -131,7 +131,7 @@ hold_ok c m p h member held = rw (member, held) refl
 poll_accepted : (w : WorldState) (m p n : ℕ) (h : Held) (at : HoldsAt w m p h) → (poll_event w m p n).after ≡ on_consumer w m (λ x. polled x w.cluster.logs p n)
 poll_accepted w m p n h at =
     let ok = hold_ok at.c m p h at.member at.held in
-    ap (λ o. (poll_known w m p n o).after) at.known ∙ ap (λ a. (poll_outcome w m p n at.c (result_and a (Ok (polled_count at.c w.cluster.logs p n)))).after) ok
+    ap (λ o. (poll_by_consumer w m p n o).after) at.known ∙ ap (λ a. (poll_outcome w m p n at.c (result_and a (Ok (polled_count at.c w.cluster.logs p n)))).after) ok
 
 abbrev polled_held : WorldState → ℕ → ℕ → Held → Held
 polled_held w p n h = record { base = h.base; position = h.position + min n (length (log_at w.cluster.logs p) - h.position) }
@@ -143,7 +143,7 @@ poll_moves w m p n h at =
     let offsets : Option Held → Held = λ o. record { base = slot_base o; position = slot_position o + min n (length (log_at w.cluster.logs p) - slot_position o) } in
     record {
       c = f at.c;
-      known = ap (λ x. consumer_of x m) (poll_accepted w m p n h at) ∙ changed_known w m at.c f at.known;
+      known = ap (λ x. consumer_of x m) (poll_accepted w m p n h at) ∙ changed_existing w m at.c f at.known;
       member = at.member;
       held = held_there at.c p h (offsets (held_at at.c p)) at.held ∙ ap (λ o. Some (offsets o)) at.held;
     }
@@ -181,7 +181,7 @@ send_is : (w : WorldState) (m p : ℕ) (h : Held) (at : HoldsAt w m p h) → h.b
     → send_event w m p ≡ send_outcome w p at.c (let a : Result (Unit {0}) Refusal = if full then Err r.MailFull else Ok tt in a)
 send_is w m p h at lt full is =
     let ok = sendable at.c m p h at.member at.held lt in
-    ap (send_known w p) at.known ∙ ap (λ a. send_outcome w p at.c (result_and a (let x : Result (Unit {0}) Refusal = if nat_le MOST_COMMITS (length w.mail) then Err r.MailFull else Ok tt in x))) ok
+    ap (send_by_consumer w p) at.known ∙ ap (λ a. send_outcome w p at.c (result_and a (let x : Result (Unit {0}) Refusal = if nat_le MOST_COMMITS (length w.mail) then Err r.MailFull else Ok tt in x))) ok
     ∙ ap (λ b. send_outcome w p at.c (let x : Result (Unit {0}) Refusal = if b then Err r.MailFull else Ok tt in x)) is
 
 last_sent : (w : WorldState) (c : ConsumerState) (p : ℕ) → commit_at (sent_by w c p) (length (sent_by w c p).mail) ≡ Some (commit_of c w.cluster.logs p)
@@ -194,17 +194,17 @@ realigned_base : (c : ConsumerState) (p k : ℕ) (h : Held) → held_at c p ≡ 
 realigned_base c p k h held = ap (λ o. base_of (realigned_slot c p k o) p) held ∙ ap slot_base (held_there c p h (realigned_held h k) held)
 
 answer_raises : (w : WorldState) (m p : ℕ) (h : Held) (at : HoldsAt w m p h) → IsValidWorld w → (a : Result ℕ Refusal) → cluster_commit_answer w.cluster (commit_of at.c w.cluster.logs p) ≡ a
-    → unless_mismatch (answer_in (told a)) ≡ Ok tt → h.base < base_of (answered_by at.c p a) p
+    → unless_mismatch (answer_in (replied a)) ≡ Ok tt → h.base < base_of (answered_by at.c p a) p
 answer_raises w m p h at v (Ok end) is ok =
     let taken = committed_valid w.cluster (commit_of at.c w.cluster.logs p) end v.cluster is in
     omega (arith, taken.end_is, taken.fits.some, realigned_base at.c p end h at.held, ap slot_base at.held)
 answer_raises w m p h at v (Err (r.OffsetMismatch k)) is ok =
     let t = commit_of at.c w.cluster.logs p in
-    let told = commit_mismatch w.cluster t k is in
+    let replied = commit_mismatch w.cluster t k is in
     let known = (v.consumers m at.c at.known).committed p in
     let other = commit_elsewhere w.cluster t k is in
     elim (cases_lt (base_of at.c p) (committed_at w.cluster.store p)) [
-      | inl lt ↦ omega (arith, lt, told, realigned_base at.c p k h at.held, ap slot_base at.held)
+      | inl lt ↦ omega (arith, lt, replied, realigned_base at.c p k h at.held, ap slot_base at.held)
       | inr le ↦ absurd (other (omega (arith, le, known)))
     ]
 answer_raises w m p h at v (Err why) is ok = absurd (cc ok)
@@ -220,7 +220,7 @@ delivered_base w m p h at a =
     let mine : t.member ≡ m = ap (λ o. unwrap_or o 0) at.member in
     let known : consumer_of w2 m ≡ Some at.c = same_consumers w w2 m refl ∙ at.known in
     let f : ConsumerState → ConsumerState = λ x. answered_by x p a in
-    ap (λ n. base_in (on_consumer w2 n f) m p) mine ∙ ap (λ o. option_map_or (λ c. base_of c p) o 0) (changed_known w2 m at.c f known)
+    ap (λ n. base_in (on_consumer w2 n f) m p) mine ∙ ap (λ o. option_map_or (λ c. base_of c p) o 0) (changed_existing w2 m at.c f known)
 
 commit_raises : (w : WorldState) (m p : ℕ) (h : Held) → IsValidWorld w → HoldsAt w m p h → h.base < h.position → (forgiven (commit_pending m p w)).answer ≡ Ok tt
     → h.base < base_in (commit_pending m p w).after m p
@@ -241,7 +241,7 @@ commit_raises w m p h v at lt ok = go (nat_le MOST_COMMITS (length w.mail)) refl
         let a = cluster_commit_answer w.cluster (commit_of at.c w.cluster.logs p) in
         let all = whole (done (reply.Sent (length w.mail + 1)) w1) (send_is w m p h at lt false is) in
         let delivering = happens_is (event.Deliver (length w1.mail)) w1 (delivered w1 (commit_of at.c w.cluster.logs p) a) (delivery_is w at.c p) in
-        let answer : unless_mismatch (answer_in (told a)) ≡ Ok tt = ap (λ (c : Course). unless_mismatch c.answer) (sym delivering) ∙ ap (λ (c : Course). unless_mismatch c.answer) (sym all) ∙ ok in
+        let answer : unless_mismatch (answer_in (replied a)) ≡ Ok tt = ap (λ (c : Course). unless_mismatch c.answer) (sym delivering) ∙ ap (λ (c : Course). unless_mismatch c.answer) (sym all) ∙ ok in
         let after = ap (λ (c : Course). base_in c.after m p) all ∙ ap (λ (c : Course). base_in c.after m p) delivering ∙ delivered_base w m p h at a in
         omega (arith, after, answer_raises w m p h at v a refl answer)
 
@@ -281,7 +281,7 @@ abbrev IsDrained : WorldState → ℕ → Type 0
 IsDrained w p = length (log_at w.cluster.logs p) ≤ committed_at w.cluster.store p
 
 read_leaves : (batch m p : ℕ) (w : WorldState) → LeavesGroup w (read_on batch m p w).after
-read_leaves batch m p w = kept_course IsReading LeavesGroup keeps_group w (read_on batch m p w) (read_on_course batch m p w) (read_on_events IsReading reading_open batch m p w)
+read_leaves batch m p w = preserved_course IsReading LeavesGroup preserves_group w (read_on batch m p w) (read_on_course batch m p w) (read_on_events IsReading reading_open batch m p w)
 
 reader_stays : (w w2 : WorldState) (m p : ℕ) → LeavesGroup w w2 → IsReader w.cluster.group m p → IsReader w2.cluster.group m p
 reader_stays w w2 m p left reads = subst (λ g. IsReader g m p) (sym left.group) reads
@@ -327,13 +327,13 @@ each_drains course made reading m p k drains (n ∷ ns) here w v reads ok =
     let w1 = (course n w).after in
     let rest = for_each ns course w1 in
     let v1 = valid_course w (course n w) (made n w) v in
-    let left = kept_course IsReading LeavesGroup keeps_group w (course n w) (made n w) (reading n w) in
+    let left = preserved_course IsReading LeavesGroup preserves_group w (course n w) (made n w) (reading n w) in
     subst (λ (x : WorldState). IsDrained x p) (sym d.after_is) (elim here [
       | inl is ↦
           let first = drains w v reads (subst (λ j. (course j w).answer ≡ Ok tt) (sym is) d.first_ok) in
           let made_rest = each_course ns course made w1 in
           let reading_rest = each_events IsReading ns course reading w1 in
-          drained_stays w1 rest.after p (kept_course IsReading LeavesGroup keeps_group w1 rest made_rest reading_rest) (kept_course IsReading GoesFurther keeps_further w1 rest made_rest reading_rest v1)
+          drained_stays w1 rest.after p (preserved_course IsReading LeavesGroup preserves_group w1 rest made_rest reading_rest) (preserved_course IsReading GoesFurther preserves_further w1 rest made_rest reading_rest v1)
           (subst (λ j. IsDrained (course j w).after p) is first)
       | inr later ↦ each_drains course made reading m p k drains ns later w1 v1 (reader_stays w w1 m p left reads) d.next_ok
     ])
@@ -406,10 +406,10 @@ all_listed f (x ∷ ms) m all at =
       | inr later ↦ all_listed f ms m both.1 later
     ]
 
-calm_reader : (w : WorldState) (p : ℕ) → IsValidWorld w → is_calm w.cluster.group ≡ true → p < w.cluster.group.partitions → (m : ℕ) × Listed m (members w.cluster.group) × IsReader w.cluster.group m p
-calm_reader w p v calm lt =
+settled_and_synced_reader : (w : WorldState) (p : ℕ) → IsValidWorld w → is_settled_and_synced w.cluster.group ≡ true → p < w.cluster.group.partitions → (m : ℕ) × Listed m (members w.cluster.group) × IsReader w.cluster.group m p
+settled_and_synced_reader w p v calm lt =
     let g = w.cluster.group in
-    let settled = calm_settled g calm in
+    let settled = settled_and_synced_is_settled g calm in
     let once : rows_with (map (λ m. granted_of g m) (members g)) p ≡ 1 = (v.cluster.good.balanced settled).once p lt in
     let found = some_row (λ m. granted_of g m) p (members g) (omega (arith, once)) in
     let m = found.0 in
@@ -425,16 +425,16 @@ calm_reader w p v calm lt =
     )
 
 -- ---- all logs
-all_drained : (batch : ℕ) (w : WorldState) → 1 ≤ batch → IsValidWorld w → is_calm w.cluster.group ≡ true → (drain_members batch w).answer ≡ Ok tt
+all_drained : (batch : ℕ) (w : WorldState) → 1 ≤ batch → IsValidWorld w → is_settled_and_synced w.cluster.group ≡ true → (drain_members batch w).answer ≡ Ok tt
     → AreEndsCommitted (drain_members batch w).after.cluster.store (drain_members batch w).after.cluster.logs
 all_drained batch w some v calm ok p lt =
     let c = drain_members batch w in
     let v2 = valid_course w c (drain_members_course batch w) v in
-    let left = kept_course IsReading LeavesGroup keeps_group w c (drain_members_course batch w) (drain_members_events IsReading reading_open batch w) in
-    let reader = calm_reader w p v calm (omega (arith, lt, ap (λ (g : GroupState). g.partitions) left.group, v2.cluster.logs_partitions)) in
+    let left = preserved_course IsReading LeavesGroup preserves_group w c (drain_members_course batch w) (drain_members_events IsReading reading_open batch w) in
+    let reader = settled_and_synced_reader w p v calm (omega (arith, lt, ap (λ (g : GroupState). g.partitions) left.group, v2.cluster.logs_partitions)) in
     omega (arith, members_drain batch reader.0 p w some v reader.2 reader.1 ok, v2.cluster.exact.within p)
 
-pub drained_committed : (batch : ℕ) (w w2 : WorldState) (result : Result (Unit {0}) Refusal) → 1 ≤ batch → IsValidWorld w → is_calm w.cluster.group ≡ true → Follows w (drain_members batch w) result w2 → result ≡ Ok tt
+pub drained_committed : (batch : ℕ) (w w2 : WorldState) (result : Result (Unit {0}) Refusal) → 1 ≤ batch → IsValidWorld w → is_settled_and_synced w.cluster.group ≡ true → Follows w (drain_members batch w) result w2 → result ≡ Ok tt
     → AreEndsCommitted w2.cluster.store w2.cluster.logs
-drained_committed batch w w2 result some v calm (inl told) ok = subst (λ (x : WorldState). AreEndsCommitted x.cluster.store x.cluster.logs) (sym told.1) (all_drained batch w some v calm (sym told.0 ∙ ok))
+drained_committed batch w w2 result some v calm (inl replied) ok = subst (λ (x : WorldState). AreEndsCommitted x.cluster.store x.cluster.logs) (sym replied.1) (all_drained batch w some v calm (sym replied.0 ∙ ok))
 drained_committed batch w w2 result some v calm (inr way) ok = absurd (cc (way.0, ok))

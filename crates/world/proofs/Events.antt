@@ -13,9 +13,9 @@ use Rattle.lane_words.specs.declared.Refusal.TheVariants as r
 use Rattle.partition_log.specs.Keys.{Keyed, of_first}
 use Rattle.partition_log.specs.Logs.{PartitionLogs, log_at}
 use Rattle.commit_store.specs.Commits.{committed_at}
-use Rattle.group_machine.specs.State.{GroupState, is_present, kept_member}
+use Rattle.group_machine.specs.State.{GroupState, is_present, static_member}
 use Rattle.group_laws.specs.Others.{IsNewcomer}
-use Rattle.group_machine.specs.Steps.{join_answer, joined_by, joined_kept_by, leave_answer, left_by, rejoin_answer, rejoined_by, synced_by, take_over_answer, taken_over_by}
+use Rattle.group_machine.specs.Steps.{join_answer, joined_by, joined_static_by, leave_answer, left_by, rejoin_answer, rejoined_by, synced_by, take_over_answer, taken_over_by}
 use Rattle.group_machine.specs.Cluster.{ClusterState, CommitTerms, LeaseTerms, append_answer, appended_to, cluster_commit_answer, cluster_sync_answer, committed_by, lease_of, with_group}
 use Rattle.group_machine.proofs.JoinLemmas.{accepted_join}
 use Rattle.group_laws.proofs.OtherLemmas.{join_brings, join_leaves, leave_leaves, leave_takes_out, rejoin_leaves, sync_leaves}
@@ -29,26 +29,26 @@ use Rattle.world.specs.declared.event.Reply.{Reply}
 use Rattle.world.specs.declared.event.Reply.TheVariants as reply
 use Rattle.world.specs.declared.event.TheConstants.{MOST_COMMITS}
 use Rattle.world.specs.World.{WorldState, commit_at, consumer_of, with_cluster}
-use Rattle.world.specs.Steps.{Comes, MayCome, NeverFaults, Outcome, Step, append_event, append_in_event, append_outcome, asked, deliver_event, deliver_unanswered_event, delivered, delivered_unanswered, delivery, dropped, entry_outcome, join_event, join_kept_event, joined_outcome, leave_event, leave_outcome, lose_event, lose_outcome, mail_answer, poll_event, poll_known, poll_outcome, refused_by_cluster, refused, rejoin_event, rejoin_outcome, send_event, send_known, send_outcome, sync_event, sync_outcome, take_over_event}
+use Rattle.world.specs.Steps.{Comes, MayCome, NeverFaults, Outcome, Step, append_event, append_in_event, append_outcome, asked, deliver_event, deliver_unanswered_event, delivered, delivered_unanswered, delivery, dropped, entry_outcome, join_event, join_kept_event, joined_outcome, leave_event, leave_outcome, lose_event, lose_outcome, mail_answer, poll_event, poll_by_consumer, poll_outcome, refused_by_cluster, refused, rejoin_event, rejoin_outcome, send_event, send_by_consumer, send_outcome, sync_event, sync_outcome, take_over_event}
 use Rattle.world.specs.Valid.{IsSent, IsValidWorld}
 use Rattle.std.proofs.lemmas.Bool.Decides.{nat_tests}
 use Rattle.partition_log.specs.Logs.{IsOfTopic}
 use Rattle.partition_log.proofs.Stored.{first-topic}
 use Rattle.world.proofs.Clusters.{Leaves, append_leaves, commit_leaves, committed_valid, is_it, joined_kept_valid, joined_valid, leaves_by_group, leaves_handed_on, left_valid, nothing_leaves, rejoined_valid, synced_valid, taken_over_valid}
-use Rattle.world.proofs.Fine.{join_fine, rejoin_fine, sync_fine}
+use Rattle.world.proofs.SoundConsumers.{join_sound, rejoin_sound, sync_sound}
 use Rattle.world.proofs.Groups.{in_step_same}
 use Rattle.world.proofs.Lists.{get_push}
 use Rattle.world.proofs.Lookups.{consumer_more}
 use Rattle.world.proofs.Outcomes.{leased_to}
 use Rattle.world.proofs.Refusals.{commit_mismatch, commit_never_faults, commit_unknown, leave_unknown, rejoin_accepted, rejoin_never_faults, rejoin_unknown, sync_present, sync_unknown}
 use Rattle.world.proofs.Slots.{joined_kept_slots, joined_slots, left_slots, rejoined_slots, synced_slots, taken_over_slots}
-use Rattle.world.proofs.Stays.{IsFine, both_stay, consumer_stays, out_fine, stays}
+use Rattle.world.proofs.Stays.{IsSoundConsumer, both_stay, consumer_stays, out_sound, stays}
 
 alone_stays : (w : WorldState) (new : ClusterState) (m : ℕ) → IsValidWorld w → Leaves w.cluster new m → length new.group.slots ≡ length w.cluster.group.slots
-    → ((c : ConsumerState) → consumer_of w m ≡ Some c → IsFine new m c) → IsValidWorld (with_cluster w new)
-alone_stays w new m v leaves slots fine =
+    → ((c : ConsumerState) → consumer_of w m ≡ Some c → IsSoundConsumer new m c) → IsValidWorld (with_cluster w new)
+alone_stays w new m v leaves slots sound =
     stays w (with_cluster w new) m v leaves refl (v.a_consumer_each ∙ sym slots) (λ n c e. elim (is_it m n) [
-      | inl same ↦ inl (same, fine c (ap (consumer_of w) (sym same) ∙ same_lookup n c e))
+      | inl same ↦ inl (same, sound c (ap (consumer_of w) (sym same) ∙ same_lookup n c e))
       | inr other ↦ inr (other, same_lookup n c e)
     ])
   where
@@ -56,8 +56,8 @@ alone_stays w new m v leaves slots fine =
     same_lookup zero c e = e
     same_lookup (suc i) c e = e
 
-fine_before : (w : WorldState) (m : ℕ) (c : ConsumerState) → IsValidWorld w → consumer_of w m ≡ Some c → IsFine w.cluster m c
-fine_before w m c v e = record { known = v.consumers m c e; step = λ here. v.present m c here e }
+sound_before : (w : WorldState) (m : ℕ) (c : ConsumerState) → IsValidWorld w → consumer_of w m ≡ Some c → IsSoundConsumer w.cluster m c
+sound_before w m c v e = record { known = v.consumers m c e; step = λ here. v.present m c here e }
 
 same_consumer : (w : WorldState) (m : ℕ) (c x : ConsumerState) → consumer_of w m ≡ Some c → consumer_of w m ≡ Some x → c ≡ x
 same_consumer w m c x a b = cc
@@ -85,22 +85,22 @@ number_within : (w : WorldState) (n : ℕ) (c : ConsumerState) → consumer_of w
 number_within w zero c e = omega arith
 number_within w (suc i) c e = omega (arith, slice_get_within w.consumers i c e)
 
-entered_world : (told : ℕ → Reply) (group : GroupState) (w : WorldState) (m : ℕ) → IsValidWorld w → Leaves w.cluster (with_group w.cluster group) m → IsNewcomer w.cluster.group group m → m ≡ length w.cluster.group.slots + 1
-    → length group.slots ≡ length w.cluster.group.slots + 1 → IsValidWorld (entry_outcome told group w (Ok m)).after
-entered_world told group w m v leaves brings next slots =
+entered_world : (replied : ℕ → Reply) (group : GroupState) (w : WorldState) (m : ℕ) → IsValidWorld w → Leaves w.cluster (with_group w.cluster group) m → IsNewcomer w.cluster.group group m → m ≡ length w.cluster.group.slots + 1
+    → length group.slots ≡ length w.cluster.group.slots + 1 → IsValidWorld (entry_outcome replied group w (Ok m)).after
+entered_world replied group w m v leaves brings next slots =
     let g = w.cluster.group in
     let new : ClusterState = with_group w.cluster group in
-    let fine = join_fine w.cluster new m leaves.valid leaves.partitions brings (leaves.valid.good.counted (any_of_present group m brings.present)) in
+    let sound = join_sound w.cluster new m leaves.valid leaves.partitions brings (leaves.valid.good.counted (any_of_present group m brings.present)) in
     let number : m ≡ length w.consumers + 1 = omega (arith, next, v.a_consumer_each) in
     let newcomer : ConsumerState = joined_as (out_of_group g.partitions) m in
-    stays w (entry_outcome told group w (Ok m)).after m v leaves refl
+    stays w (entry_outcome replied group w (Ok m)).after m v leaves refl
     (length-append w.consumers (newcomer ∷ []) ∙ ap (λ n. n + 1) v.a_consumer_each ∙ sym slots)
     (λ n c e. elim (consumer_more w n newcomer c (lookup n c e)) [
-      | inl at ↦ inl (at.0 ∙ sym number, subst (IsFine new m) (sym at.1) fine)
+      | inl at ↦ inl (at.0 ∙ sym number, subst (IsSoundConsumer new m) (sym at.1) sound)
       | inr old ↦ inr ((λ same. omega (arith, same, number, number_within w n c old)), old)
     ])
   where
-    lookup : (n : ℕ) (c : ConsumerState) → consumer_of (entry_outcome told group w (Ok m)).after n ≡ Some c
+    lookup : (n : ℕ) (c : ConsumerState) → consumer_of (entry_outcome replied group w (Ok m)).after n ≡ Some c
         → consumer_of (record w { consumers = w.consumers ++ joined_as (out_of_group w.cluster.group.partitions) m ∷ [] }) n ≡ Some c
     lookup zero c e = e
     lookup (suc i) c e = e
@@ -118,19 +118,19 @@ join_stays w name v = go (join_answer w.cluster.group name) refl
 join_kept_stays : (w : WorldState) (name : List ℕ) → IsValidWorld w → IsValidWorld (join_kept_event w name).after
 join_kept_stays w name v = go (join_answer w.cluster.group name) refl
   where
-    go : (a : Result ℕ Refusal) → join_answer w.cluster.group name ≡ a → IsValidWorld (joined_outcome (joined_kept_by w.cluster.group name) w a).after
+    go : (a : Result ℕ Refusal) → join_answer w.cluster.group name ≡ a → IsValidWorld (joined_outcome (joined_static_by w.cluster.group name) w a).after
     go (Ok m) is =
         let g = w.cluster.group in
-        let leaves = leaves_by_group w.cluster (joined_kept_by g name) m (joined_kept_valid w.cluster name m v.cluster is) (kept_join_leaves g name m v.cluster.good is) in
-        entered_world (λ n. reply.Joined n) (joined_kept_by g name) w m v leaves (kept_join_brings g name m v.cluster.good is) (accepted_join g name m is).1 (joined_kept_slots g name)
+        let leaves = leaves_by_group w.cluster (joined_static_by g name) m (joined_kept_valid w.cluster name m v.cluster is) (kept_join_leaves g name m v.cluster.good is) in
+        entered_world (λ n. reply.Joined n) (joined_static_by g name) w m v leaves (kept_join_brings g name m v.cluster.good is) (accepted_join g name m is).1 (joined_kept_slots g name)
     go (Err why) is = v
 
 -- ---- take-overs
-keeper_of : (g : GroupState) (name : List ℕ) (n : ℕ) → take_over_answer g name ≡ Ok n → (m : ℕ) × (kept_member g name ≡ Some m)
-keeper_of g name n ok = go (kept_member g name) refl ok
+static_member_of : (g : GroupState) (name : List ℕ) (n : ℕ) → take_over_answer g name ≡ Ok n → (m : ℕ) × (static_member g name ≡ Some m)
+static_member_of g name n ok = go (static_member g name) refl ok
   where
-    go : (o : Option ℕ) → kept_member g name ≡ o → ◌≡◌ {A = Result ℕ Refusal} (if not (is_some o) then Err r.NotKept else if nat_le MOST_MEMBERS (length g.slots) then Err r.TooManyMembers else Ok (length g.slots + 1)) (Ok n)
-        → (m : ℕ) × (kept_member g name ≡ Some m)
+    go : (o : Option ℕ) → static_member g name ≡ o → ◌≡◌ {A = Result ℕ Refusal} (if not (is_some o) then Err r.NotKept else if nat_le MOST_MEMBERS (length g.slots) then Err r.TooManyMembers else Ok (length g.slots + 1)) (Ok n)
+        → (m : ℕ) × (static_member g name ≡ Some m)
     go None is e = absurd (cc e)
     go (Some m) is e = (m, is)
 
@@ -140,7 +140,7 @@ take_over_stays w name v = go (take_over_answer w.cluster.group name) refl
     go : (a : Result ℕ Refusal) → take_over_answer w.cluster.group name ≡ a → IsValidWorld (entry_outcome (λ n. reply.TakenOver n) (taken_over_by w.cluster.group name) w a).after
     go (Ok n) is =
         let g = w.cluster.group in
-        let keeper = keeper_of g name n is in
+        let keeper = static_member_of g name n is in
         let hands = take_over_hands g name keeper.0 n keeper.1 is in
         let leaves = leaves_handed_on w.cluster (taken_over_by g name) keeper.0 n (taken_over_valid w.cluster name keeper.0 n v.cluster keeper.1 is) hands in
         entered_world (λ k. reply.TakenOver k) (taken_over_by g name) w n v leaves hands.newcomer (omega (arith, (accepted_take_over g name n is).1)) (taken_over_slots g name keeper.0 keeper.1)
@@ -163,7 +163,7 @@ lose_stays w m v = go (leave_answer w.cluster.group m) refl
 -- ---- requests of a consumer
 refused_stays : (w : WorldState) (m : ℕ) (why : Refusal) → IsValidWorld w → (why ≡ r.UnknownMember → is_present w.cluster.group m ≡ false) → IsValidWorld (refused_by_cluster w m why).after
 refused_stays w m r.UnknownMember v gone =
-    both_stay w w.cluster m dropped v (nothing_leaves w.cluster m v.cluster) refl (λ c e. out_fine w.cluster m c (v.consumers m c e) (gone refl))
+    both_stay w w.cluster m dropped v (nothing_leaves w.cluster m v.cluster) refl (λ c e. out_sound w.cluster m c (v.consumers m c e) (gone refl))
 refused_stays w m why v gone = v
 
 asked_stays : (w : WorldState) (m : ℕ) (f : ConsumerState → Outcome) → IsValidWorld w → ((c : ConsumerState) → consumer_of w m ≡ Some c → IsValidWorld (f c).after) → IsValidWorld (asked w (consumer_of w m) f).after
@@ -187,8 +187,8 @@ sync_stays w m v = asked_stays w m (λ c. sync_outcome w m (cluster_sync_answer 
         let mine : lease ≡ lease_of w.cluster m = leased_to w.cluster m lease (inl (sym is)) in
         both_stay w (with_group w.cluster (synced_by g m)) m (λ c. leased c lease) v
         (leaves_by_group w.cluster (synced_by g m) m (synced_valid w.cluster m v.cluster) (sync_leaves g m)) (synced_slots g m)
-        (λ c e. subst (λ l. IsFine (with_group w.cluster (synced_by g m)) m (leased c l)) (sym mine)
-        (sync_fine w.cluster m c v.cluster (v.consumers m c e) (v.present m c here e) here))
+        (λ c e. subst (λ l. IsSoundConsumer (with_group w.cluster (synced_by g m)) m (leased c l)) (sym mine)
+        (sync_sound w.cluster m c v.cluster (v.consumers m c e) (v.present m c here e) here))
     go (Err why) is = refused_stays w m why v (λ e. sync_unknown w.cluster m (is ∙ ap (λ x. Err x) e))
 
 rejoin_stays : (w : WorldState) (m : ℕ) → IsValidWorld w → IsValidWorld (rejoin_event w m).after
@@ -200,8 +200,8 @@ rejoin_stays w m v = asked_stays w m (λ c. rejoin_outcome w m (rejoin_answer w.
         let here = (rejoin_accepted g m c.generation c.assigned is).present in
         both_stay w (with_group w.cluster (rejoined_by g m)) m given_up v
         (leaves_by_group w.cluster (rejoined_by g m) m (rejoined_valid w.cluster m c.generation c.assigned v.cluster is) (rejoin_leaves g m c.generation c.assigned v.cluster.good is)) (rejoined_slots g m)
-        (λ x e. subst (λ y. IsFine (with_group w.cluster (rejoined_by g m)) m (given_up y)) (same_consumer w m c x known e)
-        (rejoin_fine w.cluster m c v.cluster (v.consumers m c known) (v.present m c here known) is))
+        (λ x e. subst (λ y. IsSoundConsumer (with_group w.cluster (rejoined_by g m)) m (given_up y)) (same_consumer w m c x known e)
+        (rejoin_sound w.cluster m c v.cluster (v.consumers m c known) (v.present m c here known) is))
     go c known (Err why) is = refused_stays w m why v (λ e. rejoin_unknown w.cluster.group m c.generation c.assigned (is ∙ ap (λ x. Err x) e))
 
 leave_stays : (w : WorldState) (m : ℕ) → IsValidWorld w → IsValidWorld (leave_event w m).after
@@ -213,12 +213,12 @@ leave_stays w m v = asked_stays w m (λ c. leave_outcome w m (leave_answer w.clu
         let new : ClusterState = with_group w.cluster (left_by g m) in
         let leaves = leaves_by_group w.cluster (left_by g m) m (left_valid w.cluster m v.cluster is) (leave_leaves g m v.cluster.good is) in
         both_stay w new m dropped v leaves (left_slots g m)
-        (λ c e. out_fine new m c (consumer_stays w.cluster new m m c leaves (v.consumers m c e)) (leave_takes_out g m v.cluster.good is))
+        (λ c e. out_sound new m c (consumer_stays w.cluster new m m c leaves (v.consumers m c e)) (leave_takes_out g m v.cluster.good is))
     go (Err why) is = refused_stays w m why v (λ e. leave_unknown w.cluster.group m (is ∙ ap (λ x. Err x) e))
 
 -- ---- polls
-poll_fine : (s : ClusterState) (m p n count : ℕ) (c : ConsumerState) → IsFine s m c → poll_answer c s.logs p n ≡ Ok count → IsFine s m (polled c s.logs p n)
-poll_fine s m p n count c was ok =
+poll_sound : (s : ClusterState) (m p n count : ℕ) (c : ConsumerState) → IsSoundConsumer s m c → poll_answer c s.logs p n ≡ Ok count → IsSoundConsumer s m (polled c s.logs p n)
+poll_sound s m p n count c was ok =
     let left = poll_leaves c s.logs p n count was.known.valid was.known.within ok in
     record {
       known = record {
@@ -237,10 +237,10 @@ poll_stays w m p n v = go (consumer_of w m) refl
     polls : (c : ConsumerState) → consumer_of w m ≡ Some c → (a : Result ℕ Refusal) → poll_answer c w.cluster.logs p n ≡ a → IsValidWorld (poll_outcome w m p n c a).after
     polls c known (Ok count) is =
         both_stay w w.cluster m (λ x. polled x w.cluster.logs p n) v (nothing_leaves w.cluster m v.cluster) refl
-        (λ x e. subst (λ y. IsFine w.cluster m (polled y w.cluster.logs p n)) (same_consumer w m c x known e) (poll_fine w.cluster m p n count c (fine_before w m c v known) is))
+        (λ x e. subst (λ y. IsSoundConsumer w.cluster m (polled y w.cluster.logs p n)) (same_consumer w m c x known e) (poll_sound w.cluster m p n count c (sound_before w m c v known) is))
     polls c known (Err why) is = v
 
-    go : (o : Option ConsumerState) → consumer_of w m ≡ o → IsValidWorld (poll_known w m p n o).after
+    go : (o : Option ConsumerState) → consumer_of w m ≡ o → IsValidWorld (poll_by_consumer w m p n o).after
     go None is = v
     go (Some c) is = polls c is (poll_answer c w.cluster.logs p n) refl
 
@@ -279,8 +279,8 @@ commit_is_sent l c p ordered within some =
           | inr ge ↦ absurd (ne (omega arith))
         ]
 
-mail_room : (most n : ℕ) → nat_le most n ≡ false → n < most
-mail_room most n e = grind (arith, nat_tests)
+mail_capacity : (most n : ℕ) → nat_le most n ≡ false → n < most
+mail_capacity most n e = grind (arith, nat_tests)
 
 send_stays : (w : WorldState) (m p : ℕ) → IsValidWorld w → IsValidWorld (send_event w m p).after
 send_stays w m p v = go (consumer_of w m) refl
@@ -300,7 +300,7 @@ send_stays w m p v = go (consumer_of w m) refl
             | inl at ↦ subst (IsSent w.cluster.logs) (sym at.1) sent
             | inr old ↦ v.mail i x old
           ];
-          few_commits = omega (arith, length-append w.mail (commit_of c w.cluster.logs p ∷ []), mail_room MOST_COMMITS (length w.mail) passed.1);
+          few_commits = omega (arith, length-append w.mail (commit_of c w.cluster.logs p ∷ []), mail_capacity MOST_COMMITS (length w.mail) passed.1);
         }
       where
         lookup : (c : ConsumerState) (n : ℕ) (x : ConsumerState) → consumer_of (record w { mail = w.mail ++ commit_of c w.cluster.logs p ∷ [] }) n ≡ Some x → consumer_of w n ≡ Some x
@@ -308,13 +308,13 @@ send_stays w m p v = go (consumer_of w m) refl
         lookup c (suc i) x e = e
     sends c known (Err why) is = v
 
-    go : (o : Option ConsumerState) → consumer_of w m ≡ o → IsValidWorld (send_known w p o).after
+    go : (o : Option ConsumerState) → consumer_of w m ≡ o → IsValidWorld (send_by_consumer w p o).after
     go None is = v
     go (Some c) is = sends c is (mail_answer w c p) refl
 
 -- ---- deliveries
-realign_fine : (s : ClusterState) (m p k : ℕ) (c : ConsumerState) → IsFine s m c → k ≤ committed_at s.store p → k ≤ length (log_at s.logs p) → IsFine s m (answered_by c p (Ok k))
-realign_fine s m p k c was base position =
+realign_sound : (s : ClusterState) (m p k : ℕ) (c : ConsumerState) → IsSoundConsumer s m c → k ≤ committed_at s.store p → k ≤ length (log_at s.logs p) → IsSoundConsumer s m (answered_by c p (Ok k))
+realign_sound s m p k c was base position =
     let left = realign_leaves c p k was.known.valid in
     let new = answered_by c p (Ok k) in
     record {
@@ -331,13 +331,13 @@ realign_fine s m p k c was base position =
 refused_delivery : (w : WorldState) (c : CommitTerms) (why : Refusal) → IsValidWorld w → cluster_commit_answer w.cluster c ≡ Err why → IsValidWorld (delivered w c (Err why)).after
 refused_delivery w c r.UnknownMember v is =
     both_stay w w.cluster c.member (λ x. answered_by x c.partition (Err r.UnknownMember)) v (nothing_leaves w.cluster c.member v.cluster) refl
-    (λ x e. out_fine w.cluster c.member x (v.consumers c.member x e) (commit_unknown w.cluster c is))
+    (λ x e. out_sound w.cluster c.member x (v.consumers c.member x e) (commit_unknown w.cluster c is))
 refused_delivery w c (r.OffsetMismatch k) v is =
-    let told = commit_mismatch w.cluster c k is in
+    let replied = commit_mismatch w.cluster c k is in
     both_stay w w.cluster c.member (λ x. answered_by x c.partition (Err (r.OffsetMismatch k))) v (nothing_leaves w.cluster c.member v.cluster) refl
-    (λ x e. realign_fine w.cluster c.member c.partition k x (fine_before w c.member x v e) (omega (arith, told)) (omega (arith, told, v.cluster.exact.within c.partition)))
+    (λ x e. realign_sound w.cluster c.member c.partition k x (sound_before w c.member x v e) (omega (arith, replied)) (omega (arith, replied, v.cluster.exact.within c.partition)))
 refused_delivery w c why v is =
-    both_stay w w.cluster c.member (λ x. x) v (nothing_leaves w.cluster c.member v.cluster) refl (λ x e. fine_before w c.member x v e)
+    both_stay w w.cluster c.member (λ x. x) v (nothing_leaves w.cluster c.member v.cluster) refl (λ x e. sound_before w c.member x v e)
 
 delivered_stays : (w : WorldState) (c : CommitTerms) (a : Result ℕ Refusal) → IsValidWorld w → cluster_commit_answer w.cluster c ≡ a → IsValidWorld (delivered w c a).after
 delivered_stays w c (Ok end) v is =
@@ -346,7 +346,7 @@ delivered_stays w c (Ok end) v is =
     let leaves = commit_leaves w.cluster c end c.member taken in
     let there : committed_at new.store c.partition ≡ committed_at w.cluster.store c.partition + length c.ids = get_or-set_same w.cluster.store.offsets c.partition (committed_at w.cluster.store c.partition + length c.ids) 0 taken.below in
     both_stay w new c.member (λ x. answered_by x c.partition (Ok end)) v leaves refl
-    (λ x e. realign_fine new c.member c.partition end x
+    (λ x e. realign_sound new c.member c.partition end x
     (record { known = consumer_stays w.cluster new c.member c.member x leaves (v.consumers c.member x e); step = λ here. v.present c.member x here e })
     (omega (arith, taken.end_is, taken.fits.next, there)) (omega (arith, taken.end_is, taken.fits.within)))
 delivered_stays w c (Err why) v is = refused_delivery w c why v is
@@ -361,29 +361,29 @@ delivery_stays w f v each None = v
 delivery_stays w f v each (Some c) = each c
 
 -- ---- every event
-came : (outcome : Outcome) (told : Reply) (w2 : WorldState) → Comes outcome told w2 → IsValidWorld outcome.after → IsValidWorld w2
-came outcome told w2 comes v = subst IsValidWorld (sym comes.1) v
+came : (outcome : Outcome) (replied : Reply) (w2 : WorldState) → Comes outcome replied w2 → IsValidWorld outcome.after → IsValidWorld w2
+came outcome replied w2 comes v = subst IsValidWorld (sym comes.1) v
 
-may_come : (w : WorldState) (outcome : Outcome) (told : Reply) (w2 : WorldState) → IsValidWorld w → MayCome w outcome told w2 → IsValidWorld outcome.after → IsValidWorld w2
-may_come w outcome told w2 was (inl comes) v = subst IsValidWorld (sym comes.1) v
-may_come w outcome told w2 was (inr comes) v = subst IsValidWorld (sym comes.1) was
+may_come : (w : WorldState) (outcome : Outcome) (replied : Reply) (w2 : WorldState) → IsValidWorld w → MayCome w outcome replied w2 → IsValidWorld outcome.after → IsValidWorld w2
+may_come w outcome replied w2 was (inl comes) v = subst IsValidWorld (sym comes.1) v
+may_come w outcome replied w2 was (inr comes) v = subst IsValidWorld (sym comes.1) was
 
-pub valid_after : (w : WorldState) (e : Event) (told : Reply) (w2 : WorldState) → IsValidWorld w → Step w e told w2 → IsValidWorld w2
-valid_after w (event.Append key) told w2 v step = may_come w (append_event w (of_first key.now)) told w2 v step (append_stays w (of_first key.now) v (first-topic w.cluster.logs key.now v.cluster.logs))
-valid_after w (event.AppendIn topic key) told w2 v step = may_come w (append_in_event w (topic, key.now)) told w2 v step (append_in_stays w (topic, key.now) v)
-valid_after w (event.Join name) told w2 v step = may_come w (join_event w name.now) told w2 v step (join_stays w name.now v)
-valid_after w (event.JoinKept name) told w2 v step = may_come w (join_kept_event w name.now) told w2 v step (join_kept_stays w name.now v)
-valid_after w (event.TakeOver name) told w2 v step = may_come w (take_over_event w name.now) told w2 v step (take_over_stays w name.now v)
-valid_after w (event.Sync m) told w2 v step = may_come w (sync_event w m) told w2 v step (sync_stays w m v)
-valid_after w (event.Rejoin m) told w2 v step = may_come w (rejoin_event w m) told w2 v step (rejoin_stays w m v)
-valid_after w (event.Leave m) told w2 v step = may_come w (leave_event w m) told w2 v step (leave_stays w m v)
-valid_after w (event.Lose m) told w2 v step = may_come w (lose_event w m) told w2 v step (lose_stays w m v)
-valid_after w (event.Poll m p n) told w2 v step = came (poll_event w m p n) told w2 step (poll_stays w m p n v)
-valid_after w (event.Send m p) told w2 v step = may_come w (send_event w m p) told w2 v step (send_stays w m p v)
-valid_after w (event.Deliver k) told w2 v step =
-    came (deliver_event w k) told w2 step (delivery_stays w (delivered w) v (λ c. delivered_stays w c (cluster_commit_answer w.cluster c) v refl) (commit_at w k))
-valid_after w (event.DeliverUnanswered k) told w2 v step =
-    came (deliver_unanswered_event w k) told w2 step (delivery_stays w (delivered_unanswered w) v (λ c. unanswered_stays w c (cluster_commit_answer w.cluster c) v refl) (commit_at w k))
+pub valid_after : (w : WorldState) (e : Event) (replied : Reply) (w2 : WorldState) → IsValidWorld w → Step w e replied w2 → IsValidWorld w2
+valid_after w (event.Append key) replied w2 v step = may_come w (append_event w (of_first key.now)) replied w2 v step (append_stays w (of_first key.now) v (first-topic w.cluster.logs key.now v.cluster.logs))
+valid_after w (event.AppendIn topic key) replied w2 v step = may_come w (append_in_event w (topic, key.now)) replied w2 v step (append_in_stays w (topic, key.now) v)
+valid_after w (event.Join name) replied w2 v step = may_come w (join_event w name.now) replied w2 v step (join_stays w name.now v)
+valid_after w (event.JoinKept name) replied w2 v step = may_come w (join_kept_event w name.now) replied w2 v step (join_kept_stays w name.now v)
+valid_after w (event.TakeOver name) replied w2 v step = may_come w (take_over_event w name.now) replied w2 v step (take_over_stays w name.now v)
+valid_after w (event.Sync m) replied w2 v step = may_come w (sync_event w m) replied w2 v step (sync_stays w m v)
+valid_after w (event.Rejoin m) replied w2 v step = may_come w (rejoin_event w m) replied w2 v step (rejoin_stays w m v)
+valid_after w (event.Leave m) replied w2 v step = may_come w (leave_event w m) replied w2 v step (leave_stays w m v)
+valid_after w (event.Lose m) replied w2 v step = may_come w (lose_event w m) replied w2 v step (lose_stays w m v)
+valid_after w (event.Poll m p n) replied w2 v step = came (poll_event w m p n) replied w2 step (poll_stays w m p n v)
+valid_after w (event.Send m p) replied w2 v step = may_come w (send_event w m p) replied w2 v step (send_stays w m p v)
+valid_after w (event.Deliver k) replied w2 v step =
+    came (deliver_event w k) replied w2 step (delivery_stays w (delivered w) v (λ c. delivered_stays w c (cluster_commit_answer w.cluster c) v refl) (commit_at w k))
+valid_after w (event.DeliverUnanswered k) replied w2 v step =
+    came (deliver_unanswered_event w k) replied w2 step (delivery_stays w (delivered_unanswered w) v (λ c. unanswered_stays w c (cluster_commit_answer w.cluster c) v refl) (commit_at w k))
 
 -- ---- refusals that never occur
 commit_sent : (w : WorldState) (k : ℕ) (c : CommitTerms) → IsValidWorld w → commit_at w k ≡ Some c → IsSent w.cluster.logs c

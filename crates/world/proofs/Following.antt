@@ -10,7 +10,7 @@ use Rattle.world.specs.declared.event.Event.TheVariants as event
 use Rattle.world.specs.declared.event.Reply.{Reply}
 use Rattle.world.specs.declared.event.Reply.TheVariants as reply
 use Rattle.group_machine.specs.NextSteps.{has_to_rejoin}
-use Rattle.group_laws.specs.Passes.{is_calm}
+use Rattle.group_laws.specs.Passes.{is_settled_and_synced}
 use Rattle.world.specs.Courses.{Course, Follows, after_all, answer_in, answered_at_once, chain, for_each, goes_on, happens, nothing, outcome_of}
 use Rattle.world.specs.Draining.{drain_log, drain_member, drain_members, draining, held_by, is_read_up, read_on, read_up}
 use Rattle.world.specs.Settling.{commit_pending, flush, forgiven, is_pending, pass, passes, rejoin_if_due, settling, sync_if_new, turn}
@@ -76,8 +76,8 @@ pass_course w = each_course (members w.cluster.group) turn turn_course w
 
 pub passes_course : (n : ℕ) (w : WorldState) → IsCourse w (passes n w)
 unfolding passes
-passes_course zero w = if_course (is_calm w.cluster.group) w (nothing w) (answered_at_once (Err r.NotSettled) w) refl refl
-passes_course (suc n) w = if_course (is_calm w.cluster.group) w (nothing w) _ refl (chain_course w (pass w) (passes n) (pass_course w) (passes_course n))
+passes_course zero w = if_course (is_settled_and_synced w.cluster.group) w (nothing w) (answered_at_once (Err r.NotSettled) w) refl refl
+passes_course (suc n) w = if_course (is_settled_and_synced w.cluster.group) w (nothing w) _ refl (chain_course w (pass w) (passes n) (pass_course w) (passes_course n))
 
 pub settling_course : (w : WorldState) → IsCourse w (settling w)
 unfolding settling
@@ -105,25 +105,25 @@ unfolding drain_members
 drain_members_course batch w = each_course (members w.cluster.group) (drain_member batch) (drain_member_course batch) w
 
 -- ---- one event
-step_comes : (w : WorldState) (e : Event) (told : Reply) (w2 : WorldState) → Step w e told w2 → Comes (outcome_of w e) told w2 ⊎ Comes (refused w r.Memory) told w2
-step_comes w (event.Append key) told w2 s = s
-step_comes w (event.AppendIn topic key) told w2 s = s
-step_comes w (event.Join name) told w2 s = s
-step_comes w (event.JoinKept name) told w2 s = s
-step_comes w (event.TakeOver name) told w2 s = s
-step_comes w (event.Sync m) told w2 s = s
-step_comes w (event.Rejoin m) told w2 s = s
-step_comes w (event.Leave m) told w2 s = s
-step_comes w (event.Lose m) told w2 s = s
-step_comes w (event.Poll m p n) told w2 s = inl s
-step_comes w (event.Send m p) told w2 s = s
-step_comes w (event.Deliver k) told w2 s = inl s
-step_comes w (event.DeliverUnanswered k) told w2 s = inl s
+step_comes : (w : WorldState) (e : Event) (replied : Reply) (w2 : WorldState) → Step w e replied w2 → Comes (outcome_of w e) replied w2 ⊎ Comes (refused w r.Memory) replied w2
+step_comes w (event.Append key) replied w2 s = s
+step_comes w (event.AppendIn topic key) replied w2 s = s
+step_comes w (event.Join name) replied w2 s = s
+step_comes w (event.JoinKept name) replied w2 s = s
+step_comes w (event.TakeOver name) replied w2 s = s
+step_comes w (event.Sync m) replied w2 s = s
+step_comes w (event.Rejoin m) replied w2 s = s
+step_comes w (event.Leave m) replied w2 s = s
+step_comes w (event.Lose m) replied w2 s = s
+step_comes w (event.Poll m p n) replied w2 s = inl s
+step_comes w (event.Send m p) replied w2 s = s
+step_comes w (event.Deliver k) replied w2 s = inl s
+step_comes w (event.DeliverUnanswered k) replied w2 s = inl s
 
-pub attempted : (w : WorldState) (e : Event) (told : Reply) (w2 : WorldState) → Step w e told w2 → Follows w (happens e w) (answer_in told) w2
+pub attempted : (w : WorldState) (e : Event) (replied : Reply) (w2 : WorldState) → Step w e replied w2 → Follows w (happens e w) (answer_in replied) w2
 unfolding happens
-attempted w e told w2 s =
-    elim (step_comes w e told w2 s) [
+attempted w e replied w2 s =
+    elim (step_comes w e replied w2 s) [
       | inl comes ↦ inl (ap answer_in comes.0, comes.1)
       | inr comes ↦ inr (ap answer_in comes.0, record { came = []; left = e ∷ []; events_are = refl; world_is = comes.1 })
     ]
@@ -140,7 +140,7 @@ abbrev both : Course → Course → Course
 both first second = record { events = first.events ++ second.events; answer = second.answer; after = second.after }
 
 second_follows : (w mid : WorldState) (first second : Course) → IsCourse w first → mid ≡ first.after → Continues w (both first second) mid second
-second_follows w mid first second made here result w2 (inl told) = inl told
+second_follows w mid first second made here result w2 (inl replied) = inl replied
 second_follows w mid first second made here result w2 (inr way) =
     inr (
       way.0,
@@ -154,17 +154,17 @@ second_follows w mid first second made here result w2 (inr way) =
 
 pub chain_on : (w mid : WorldState) (first : Course) (next : WorldState → Course) (a : Result (Unit {0}) Refusal) → IsCourse w first → Follows w first a mid → a ≡ Ok tt → Continues w (chain first next) mid (next mid)
 unfolding chain
-chain_on w mid first next a made (inl told) ok result w2 f =
-    let go : goes_on first (next first.after) first.answer ≡ both first (next first.after) = ap (goes_on first (next first.after)) (sym told.0 ∙ ok) in
+chain_on w mid first next a made (inl replied) ok result w2 f =
+    let go : goes_on first (next first.after) first.answer ≡ both first (next first.after) = ap (goes_on first (next first.after)) (sym replied.0 ∙ ok) in
     subst (λ c. Follows w c result w2) (sym go)
-    (second_follows w mid first (next first.after) made told.1 result w2 (subst (λ x. Follows mid (next x) result w2) told.1 f))
+    (second_follows w mid first (next first.after) made replied.1 result w2 (subst (λ x. Follows mid (next x) result w2) replied.1 f))
 chain_on w mid first next a made (inr way) ok result w2 f = absurd (cc (way.0, ok))
 
 pub chain_stop : (w mid : WorldState) (first : Course) (next : WorldState → Course) (a : Result (Unit {0}) Refusal) (why : Refusal) → IsCourse w first → Follows w first a mid → a ≡ Err why → Follows w (chain first next) (Err why) mid
 unfolding chain
-chain_stop w mid first next a why made (inl told) err =
-    let go : goes_on first (next first.after) first.answer ≡ first = ap (goes_on first (next first.after)) (sym told.0 ∙ err) in
-    subst (λ c. Follows w c (Err why) mid) (sym go) (inl (sym err ∙ told.0, told.1))
+chain_stop w mid first next a why made (inl replied) err =
+    let go : goes_on first (next first.after) first.answer ≡ first = ap (goes_on first (next first.after)) (sym replied.0 ∙ err) in
+    subst (λ c. Follows w c (Err why) mid) (sym go) (inl (sym err ∙ replied.0, replied.1))
 chain_stop w mid first next a why made (inr way) err = stopped first.answer
   where
     stopped : (b : Result (Unit {0}) Refusal) → Follows w (goes_on first (next first.after) b) (Err why) mid
@@ -258,18 +258,18 @@ pub pass_is : (w : WorldState) → Continues w (pass w) w (for_each (members w.c
 unfolding pass
 pass_is w result w2 f = f
 
-pub calm_ends : (n : ℕ) (w : WorldState) → is_calm w.cluster.group ≡ true → Follows w (passes n w) (Ok tt) w
+pub settled_and_synced_ends : (n : ℕ) (w : WorldState) → is_settled_and_synced w.cluster.group ≡ true → Follows w (passes n w) (Ok tt) w
 unfolding passes
-calm_ends zero w e = at_once (is_calm w.cluster.group) (answered_at_once (Err r.NotSettled) w) w e
-calm_ends (suc n) w e = at_once (is_calm w.cluster.group) _ w e
+settled_and_synced_ends zero w e = at_once (is_settled_and_synced w.cluster.group) (answered_at_once (Err r.NotSettled) w) w e
+settled_and_synced_ends (suc n) w e = at_once (is_settled_and_synced w.cluster.group) _ w e
 
-pub passes_run_out : (w : WorldState) → is_calm w.cluster.group ≡ false → Follows w (passes 0 w) (Err r.NotSettled) w
+pub passes_run_out : (w : WorldState) → is_settled_and_synced w.cluster.group ≡ false → Follows w (passes 0 w) (Err r.NotSettled) w
 unfolding passes
-passes_run_out w e = other_taken (is_calm w.cluster.group) (nothing w) (answered_at_once (Err r.NotSettled) w) w e (Err r.NotSettled) w (inl (refl, refl))
+passes_run_out w e = other_taken (is_settled_and_synced w.cluster.group) (nothing w) (answered_at_once (Err r.NotSettled) w) w e (Err r.NotSettled) w (inl (refl, refl))
 
-pub one_more_pass : (n : ℕ) (w : WorldState) → is_calm w.cluster.group ≡ false → Continues w (passes (suc n) w) w (chain (pass w) (passes n))
+pub one_more_pass : (n : ℕ) (w : WorldState) → is_settled_and_synced w.cluster.group ≡ false → Continues w (passes (suc n) w) w (chain (pass w) (passes n))
 unfolding passes
-one_more_pass n w e = other_taken (is_calm w.cluster.group) (nothing w) _ w e
+one_more_pass n w e = other_taken (is_settled_and_synced w.cluster.group) (nothing w) _ w e
 
 pub somebody_settles : (w : WorldState) → is_anybody w.cluster.group ≡ true → Continues w (settling w) w (passes 4 w)
 unfolding settling
@@ -312,7 +312,7 @@ pub draining_is : (batch : ℕ) (w : WorldState) → Continues w (draining batch
 unfolding draining
 draining_is batch w result w2 f = f
 
-pub no_refusal : (told : Reply) → ((why : Refusal) → told ≡ reply.Refused why → ⊥) → answer_in told ≡ Ok tt
+pub no_refusal : (replied : Reply) → ((why : Refusal) → replied ≡ reply.Refused why → ⊥) → answer_in replied ≡ Ok tt
 no_refusal (reply.Appended p o) h = refl
 no_refusal (reply.Joined m) h = refl
 no_refusal (reply.TakenOver m) h = refl

@@ -2,10 +2,10 @@ pub mod Answered
 pub mod Clusters
 pub mod Drained
 pub mod Events
-pub mod Fine
+pub mod SoundConsumers
 pub mod Following
 pub mod Groups
-pub mod Kept
+pub mod Preserved
 pub mod Lists
 pub mod Loading
 pub mod Lookups

@@ -34,18 +34,18 @@ no_appends w = ([], refl, tt)
 appended_last : (replies : List Reply) (p offset : ℕ) → AreAppended replies → AreAppended (replies ++ reply.Appended p offset ∷ [])
 appended_last [] p offset h = tt
 appended_last (reply.Appended q o ∷ replies) p offset h = appended_last replies p offset h
-appended_last (told ∷ replies) p offset h = absurd h
+appended_last (replied ∷ replies) p offset h = absurd h
 
 topic_is : (topic count : ℕ) → topic < count → nat_lt topic count ≡ true
 topic_is topic count lt = grind (arith, nat_tests)
 
-append_step : (w : WorldState) (e : Event) (keyed : Keyed) (told : Reply) (w2 : WorldState) → IsAppendOf e keyed → IsOfTopic w.cluster.logs keyed → MayCome w (append_event w keyed) told w2 → Step w e told w2
-append_step w (event.Append key) keyed told w2 is topic comes = subst (λ (k : Keyed). MayCome w (append_event w k) told w2) is comes
-append_step w (event.AppendIn t key) keyed told w2 is topic comes =
+append_step : (w : WorldState) (e : Event) (keyed : Keyed) (replied : Reply) (w2 : WorldState) → IsAppendOf e keyed → IsOfTopic w.cluster.logs keyed → MayCome w (append_event w keyed) replied w2 → Step w e replied w2
+append_step w (event.Append key) keyed replied w2 is topic comes = subst (λ (k : Keyed). MayCome w (append_event w k) replied w2) is comes
+append_step w (event.AppendIn t key) keyed replied w2 is topic comes =
     let test : nat_lt keyed.0 (length w.cluster.logs.counts) ≡ true = topic_is keyed.0 (length w.cluster.logs.counts) topic in
-    let goes = subst (λ b. MayCome w (if b then append_event w keyed else refused w (r.NoSuchTopic 0)) told w2) (sym test) comes in
-    subst (λ (k : Keyed). MayCome w (append_in_event w k) told w2) is goes
-append_step w e keyed told w2 is topic comes = absurd is
+    let goes = subst (λ b. MayCome w (if b then append_event w keyed else refused w (r.NoSuchTopic 0)) replied w2) (sym test) comes in
+    subst (λ (k : Keyed). MayCome w (append_in_event w k) replied w2) is goes
+append_step w e keyed replied w2 is topic comes = absurd is
 
 pub append_more : (w w2 : WorldState) (events : List Event) (i : ℕ) (keyed : Keyed) (s : ClusterState) (at : ℕ × ℕ) → Appends w (take i events) w2 → i < length events → IsAppendOf (event_at events i) keyed → IsOfTopic w2.cluster.logs keyed
     → Answers (append_answer w2.cluster.logs keyed) (Ok at) → s ≡ appended_to w2.cluster keyed → Appends w (take (i + 1) events) (with_cluster w2 s)
@@ -88,13 +88,13 @@ appended_anywhere e p offset = refl
 
 run_history : (events : List Event) (replies : List Reply) (w w2 : WorldState) → IsValidWorld w → Run w events replies w2 → AreAppended replies → AppendsRecords (records_of events) w w2
 run_history [] [] w w2 v run all = nothing_more w w2 (ap (λ (x : WorldState). x.cluster.logs) run)
-run_history [] (told ∷ replies) w w2 v run all = absurd run
+run_history [] (replied ∷ replies) w w2 v run all = absurd run
 run_history (e ∷ events) [] w w2 v run all = absurd run
 run_history (e ∷ events) (reply.Appended p offset ∷ replies) w w2 v run all =
-    let told = reply.Appended p offset in
-    let first : AppendsRecords (appended_by e (reply.Appended 0 0)) w run.0 = subst (λ ks. AppendsRecords ks w run.0) (sym (appended_anywhere e p offset)) (history_after w e told run.0 v run.1) in
-    appends_both (appended_by e (reply.Appended 0 0)) (records_of events) w run.0 w2 first (run_history events replies run.0 w2 (valid_after w e told run.0 v run.1) run.2 all)
-run_history (e ∷ events) (told ∷ replies) w w2 v run all = absurd all
+    let replied = reply.Appended p offset in
+    let first : AppendsRecords (appended_by e (reply.Appended 0 0)) w run.0 = subst (λ ks. AppendsRecords ks w run.0) (sym (appended_anywhere e p offset)) (history_after w e replied run.0 v run.1) in
+    appends_both (appended_by e (reply.Appended 0 0)) (records_of events) w run.0 w2 first (run_history events replies run.0 w2 (valid_after w e replied run.0 v run.1) run.2 all)
+run_history (e ∷ events) (replied ∷ replies) w w2 v run all = absurd all
 
 appends_history : (w : WorldState) (events : List Event) (records : List Keyed) (w2 : WorldState) → records_of events ≡ records → IsValidWorld w → Appends w events w2 → AppendsRecords records w w2
 appends_history w events records w2 is v done = subst (λ ks. AppendsRecords ks w w2) is (run_history events done.0 w w2 v done.1 done.2)

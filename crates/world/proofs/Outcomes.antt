@@ -16,7 +16,7 @@ use Rattle.world.specs.declared.event.TheConstants.{MOST_COMMITS}
 use Rattle.world.specs.declared.event.Reply.{Reply}
 use Rattle.world.specs.declared.event.Reply.TheVariants as reply
 use Rattle.world.specs.World.{WorldState, consumer_of, on_consumer, with_cluster}
-use Rattle.world.specs.Steps.{Comes, MayCome, Outcome, asked, both, entry_outcome, poll_event, poll_known, poll_outcome, refused, refused_by_cluster, rejoin_event, rejoin_outcome, send_event, send_known, send_outcome, sync_event, sync_outcome}
+use Rattle.world.specs.Steps.{Comes, MayCome, Outcome, asked, both, entry_outcome, poll_event, poll_by_consumer, poll_outcome, refused, refused_by_cluster, rejoin_event, rejoin_outcome, send_event, send_by_consumer, send_outcome, sync_event, sync_outcome}
 use Rattle.world.specs.Private.Lookups.{IsAsking}
 
 -- the world with this consumer at an index
@@ -39,14 +39,14 @@ put_same w i c at =
 pub poll_ok : (w : WorldState) (m i p n count : ℕ) (c new : ConsumerState) → m ≡ suc i → consumer_of w m ≡ Some c
     → Ok count ≡ poll_answer c w.cluster.logs p n → new ≡ polled c w.cluster.logs p n → Comes (poll_event w m p n) (reply.Polled count) (put w i new)
 poll_ok w m i p n count c new number known answer is =
-    let event : poll_event w m p n ≡ poll_outcome w m p n c (Ok count) = ap (poll_known w m p n) known ∙ ap (poll_outcome w m p n c) (sym answer) in
+    let event : poll_event w m p n ≡ poll_outcome w m p n c (Ok count) = ap (poll_by_consumer w m p n) known ∙ ap (poll_outcome w m p n c) (sym answer) in
     let after : put w i new ≡ on_consumer w m (λ x. polled x w.cluster.logs p n) = ap (put w i) is ∙ sym (changed_at w m i (λ x. polled x w.cluster.logs p n) c number known) in
     (ap (λ (o : Outcome). o.reply) (sym event), after ∙ ap (λ (o : Outcome). o.after) (sym event))
 
 pub poll_err : (w : WorldState) (m i p n : ℕ) (why : Refusal) (c new : ConsumerState) → consumer_of w m ≡ Some c → c ≡ slice_index_or w.consumers i c
     → Err why ≡ poll_answer c w.cluster.logs p n → new ≡ c → Comes (poll_event w m p n) (reply.Refused why) (put w i new)
 poll_err w m i p n why c new known at answer is =
-    let event : poll_event w m p n ≡ poll_outcome w m p n c (Err why) = ap (poll_known w m p n) known ∙ ap (poll_outcome w m p n c) (sym answer) in
+    let event : poll_event w m p n ≡ poll_outcome w m p n c (Err why) = ap (poll_by_consumer w m p n) known ∙ ap (poll_outcome w m p n c) (sym answer) in
     (ap (λ (o : Outcome). o.reply) (sym event), ap (put w i) is ∙ put_same w i c at ∙ ap (λ (o : Outcome). o.after) (sym event))
 
 pub asks : (w : WorldState) (m i : ℕ) (c : ConsumerState) (f : ConsumerState → Outcome) → IsAsking w m i → slice_get w.consumers i ≡ Some c → asked w (consumer_of w m) f ≡ f c
@@ -54,10 +54,10 @@ asks w m i c f asking there =
     let known : consumer_of w m ≡ Some c = rw asking.number there in
     ap (λ o. asked w o f) known ∙ ap (λ b. if b then refused w r.OutOfGroup else f c) (asking.present c there)
 
-pub refused_ok : (w w2 : WorldState) (m i : ℕ) (event : Outcome) (why : Refusal) (told : Reply) → m ≡ suc i → (event ≡ refused_by_cluster w m why) ⊎ (why ≡ r.Memory)
-    → Comes (refused_by_cluster w (suc i) why) told w2 → MayCome w event told w2
-refused_ok w w2 m i event why told number (inl is) comes = inl (rw is (rw number comes))
-refused_ok w w2 m i event why told number (inr is) comes = inr (subst (λ (x : Refusal). Comes (refused_by_cluster w (suc i) x) told w2) is comes)
+pub refused_ok : (w w2 : WorldState) (m i : ℕ) (event : Outcome) (why : Refusal) (replied : Reply) → m ≡ suc i → (event ≡ refused_by_cluster w m why) ⊎ (why ≡ r.Memory)
+    → Comes (refused_by_cluster w (suc i) why) replied w2 → MayCome w event replied w2
+refused_ok w w2 m i event why replied number (inl is) comes = inl (rw is (rw number comes))
+refused_ok w w2 m i event why replied number (inr is) comes = inr (subst (λ (x : Refusal). Comes (refused_by_cluster w (suc i) x) replied w2) is comes)
 
 pub sync_ok : (w : WorldState) (m i : ℕ) (c new : ConsumerState) (s : ClusterState) (lease : LeaseTerms) (generation : ℕ) → IsAsking w m i → slice_get w.consumers i ≡ Some c
     → Answers (cluster_sync_answer w.cluster m) (Ok lease) → s ≡ with_group w.cluster (synced_by w.cluster.group m) → new ≡ leased c lease → generation ≡ lease.generation
@@ -90,15 +90,15 @@ rejoin_refused w m i c why asking there answer =
 pub no_more : (most n : ℕ) → n < most → nat_le most n ≡ false
 no_more most n lt = grind (arith, nat_tests)
 
-send_is : (w : WorldState) (p : ℕ) (c : ConsumerState) → sendable_answer c p ≡ Ok tt → nat_le MOST_COMMITS (length w.mail) ≡ false → send_known w p (Some c) ≡ send_outcome w p c (Ok tt)
-send_is w p c some room = rw (some, room) refl
+send_is : (w : WorldState) (p : ℕ) (c : ConsumerState) → sendable_answer c p ≡ Ok tt → nat_le MOST_COMMITS (length w.mail) ≡ false → send_by_consumer w p (Some c) ≡ send_outcome w p c (Ok tt)
+send_is w p c some capacity = rw (some, capacity) refl
 
 pub send_ok : (w : WorldState) (m p sent : ℕ) (c : ConsumerState) (commit : CommitTerms) (mail : List CommitTerms) → consumer_of w m ≡ Some c
     → sendable_answer c p ≡ Ok tt → nat_le MOST_COMMITS (length w.mail) ≡ false → Answers (send_answer c w.cluster.logs p) (Ok commit) → sent ≡ length w.mail + 1 → mail ≡ w.mail ++ commit ∷ []
     → MayCome w (send_event w m p) (reply.Sent sent) (record w { mail = mail })
-send_ok w m p sent c commit mail known some room (inr wrong) count grown = absurd (cc wrong)
-send_ok w m p sent c commit mail known some room (inl answer) count grown =
-    let event : send_event w m p ≡ send_outcome w p c (Ok tt) = ap (send_known w p) known ∙ send_is w p c some room in
+send_ok w m p sent c commit mail known some capacity (inr wrong) count grown = absurd (cc wrong)
+send_ok w m p sent c commit mail known some capacity (inl answer) count grown =
+    let event : send_event w m p ≡ send_outcome w p c (Ok tt) = ap (send_by_consumer w p) known ∙ send_is w p c some capacity in
     let is : commit ≡ commit_of c w.cluster.logs p = let e = rw some at answer in cc in
     let after : record w { mail = mail } ≡ record w { mail = w.mail ++ commit_of c w.cluster.logs p ∷ [] } =
     ap (λ (x : List CommitTerms). record w { mail = x }) grown ∙ ap (λ x. record w { mail = w.mail ++ x ∷ [] }) is in
@@ -116,13 +116,13 @@ pub is_in_as : (member : Option ℕ) (m : ℕ) → is_none member ≡ false → 
 is_in_as None m some number = absurd (cc some)
 is_in_as (Some n) m some number = ap (λ k. Some k) (number n refl)
 
-pub entered : (told : ℕ → Reply) (group : GroupState) (w : WorldState) (answer : Result ℕ Refusal) (member : ℕ) (s : ClusterState) (consumers : List ConsumerState) → Answers answer (Ok member)
+pub entered : (replied : ℕ → Reply) (group : GroupState) (w : WorldState) (answer : Result ℕ Refusal) (member : ℕ) (s : ClusterState) (consumers : List ConsumerState) → Answers answer (Ok member)
     → s ≡ with_group w.cluster group → consumers ≡ w.consumers ++ joined_as (out_of_group w.cluster.group.partitions) member ∷ []
-    → MayCome w (entry_outcome told group w answer) (told member) (record { cluster = s; consumers = consumers; mail = w.mail })
-entered told group w answer member s consumers (inr wrong) stepped grown = absurd (cc wrong)
-entered told group w answer member s consumers (inl same) stepped grown =
-    let event : entry_outcome told group w answer ≡ entry_outcome told group w (Ok member) = ap (entry_outcome told group w) (sym same) in
-    let after : ◌≡◌ {A = WorldState} (record { cluster = s; consumers = consumers; mail = w.mail }) (entry_outcome told group w (Ok member)).after =
+    → MayCome w (entry_outcome replied group w answer) (replied member) (record { cluster = s; consumers = consumers; mail = w.mail })
+entered replied group w answer member s consumers (inr wrong) stepped grown = absurd (cc wrong)
+entered replied group w answer member s consumers (inl same) stepped grown =
+    let event : entry_outcome replied group w answer ≡ entry_outcome replied group w (Ok member) = ap (entry_outcome replied group w) (sym same) in
+    let after : ◌≡◌ {A = WorldState} (record { cluster = s; consumers = consumers; mail = w.mail }) (entry_outcome replied group w (Ok member)).after =
     ap (λ (t : ClusterState). record w { cluster = t; consumers = consumers }) stepped
     ∙ ap (λ (cs : List ConsumerState). record w { cluster = with_group w.cluster group; consumers = cs }) grown in
     inl (ap (λ (o : Outcome). o.reply) (sym event), after ∙ ap (λ (o : Outcome). o.after) (sym event))

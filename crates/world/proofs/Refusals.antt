@@ -32,12 +32,12 @@ unknown_sync (Some seat) lease e = absurd (go seat.joined e)
 pub sync_unknown : (s : ClusterState) (m : ℕ) → cluster_sync_answer s m ≡ Err r.UnknownMember → is_present s.group m ≡ false
 sync_unknown s m e = unknown_sync (member_of s.group m) (lease_of s m) e
 
-known_sync : (o : Option Seat) (lease got : LeaseTerms) → result_and (sync_seat_answer o) (Ok lease) ≡ Ok got → is_some o ≡ true
-known_sync None lease got e = absurd (cc e)
-known_sync (Some seat) lease got e = refl
+sync_by_consumer : (o : Option Seat) (lease got : LeaseTerms) → result_and (sync_seat_answer o) (Ok lease) ≡ Ok got → is_some o ≡ true
+sync_by_consumer None lease got e = absurd (cc e)
+sync_by_consumer (Some seat) lease got e = refl
 
 pub sync_present : (s : ClusterState) (m : ℕ) (lease : LeaseTerms) → cluster_sync_answer s m ≡ Ok lease → is_present s.group m ≡ true
-sync_present s m lease e = known_sync (member_of s.group m) (lease_of s m) lease e
+sync_present s m lease e = sync_by_consumer (member_of s.group m) (lease_of s m) lease e
 
 -- ---- leaving
 unknown_leave : (here over : Bool) → ◌≡◌ {A = Result (Unit {0}) Refusal} (if here then (if over then Err r.GenerationsOver else Ok tt) else Err r.UnknownMember) (Err r.UnknownMember) → here ≡ false
@@ -206,18 +206,18 @@ commit_elsewhere s c k e =
     (nat_lt (length (log_at s.logs c.partition)) (c.from + length c.ids)) (not (bytes_eq (records_between s.logs c.partition c.from (c.from + length c.ids)) c.ids))
     (mismatch_by (not (is_present s.group c.member)) _ _ (commit_answer s.store s.logs c.partition c.from c.ids) k e))
 
-fine_offset : (committed end : ℕ) (none elsewhere past wrong : Bool) → none ≡ false → past ≡ false → wrong ≡ false → IsNoCommitFault (offset_by committed end none elsewhere past wrong)
-fine_offset committed end true elsewhere past wrong a b c = absurd (cc a)
-fine_offset committed end false true past wrong a b c = tt
-fine_offset committed end false false true wrong a b c = absurd (cc b)
-fine_offset committed end false false false true a b c = absurd (cc c)
-fine_offset committed end false false false false a b c = tt
+sound_offset : (committed end : ℕ) (none elsewhere past wrong : Bool) → none ≡ false → past ≡ false → wrong ≡ false → IsNoCommitFault (offset_by committed end none elsewhere past wrong)
+sound_offset committed end true elsewhere past wrong a b c = absurd (cc a)
+sound_offset committed end false true past wrong a b c = tt
+sound_offset committed end false false true wrong a b c = absurd (cc b)
+sound_offset committed end false false false true a b c = absurd (cc c)
+sound_offset committed end false false false false a b c = tt
 
-fine_by : (gone stale other : Bool) (b : Result ℕ Refusal) → IsNoCommitFault b → IsNoCommitFault (result_and (fence_by gone stale other) b)
-fine_by true stale other b fine = tt
-fine_by false true other b fine = tt
-fine_by false false true b fine = tt
-fine_by false false false b fine = fine
+sound_by : (gone stale other : Bool) (b : Result ℕ Refusal) → IsNoCommitFault b → IsNoCommitFault (result_and (fence_by gone stale other) b)
+sound_by true stale other b sound = tt
+sound_by false true other b sound = tt
+sound_by false false true b sound = tt
+sound_by false false false b sound = sound
 
 some_records : (n : ℕ) → 0 < n → (n == 0) ≡ false
 some_records n lt = grind (arith, nat_tests)
@@ -230,8 +230,8 @@ same_records xs ys e = (bytes_eq-Decides xs ys).1 e
 
 pub commit_never_faults : (s : ClusterState) (c : CommitTerms) → IsSent s.logs c → IsNoCommitFault (cluster_commit_answer s c)
 commit_never_faults s c sent =
-    fine_by (not (is_present s.group c.member)) _ _ (commit_answer s.store s.logs c.partition c.from c.ids)
-    (fine_offset (committed_at s.store c.partition) (c.from + length c.ids) (length c.ids == 0) (not (c.from == committed_at s.store c.partition))
+    sound_by (not (is_present s.group c.member)) _ _ (commit_answer s.store s.logs c.partition c.from c.ids)
+    (sound_offset (committed_at s.store c.partition) (c.from + length c.ids) (length c.ids == 0) (not (c.from == committed_at s.store c.partition))
     (nat_lt (length (log_at s.logs c.partition)) (c.from + length c.ids)) (not (bytes_eq (records_between s.logs c.partition c.from (c.from + length c.ids)) c.ids))
     (some_records (length c.ids) sent.some) (not_past (length (log_at s.logs c.partition)) (c.from + length c.ids) sent.within)
     (ap not (same_records (records_between s.logs c.partition c.from (c.from + length c.ids)) c.ids sent.same)))

@@ -38,13 +38,13 @@ consumer_stays s new about n c leaves was = record {
 }
 
 -- what is required of a consumer of a world
-pub record IsFine (s : ClusterState) (m : ℕ) (c : ConsumerState) : Type 0 where
+pub record IsSoundConsumer (s : ClusterState) (m : ℕ) (c : ConsumerState) : Type 0 where
   pub known : IsConsumerOf s m c
   pub step : is_present s.group m ≡ true → IsInStep s.group m c
 
 -- a consumer after a step: that of the member which made the step, or another one from before
 abbrev pub IsFrom : WorldState → ClusterState → ℕ → ℕ → ConsumerState → Type 0
-IsFrom w new m n c = ((n ≡ m) × IsFine new m c) ⊎ ((n ≡ m → ⊥) × (consumer_of w n ≡ Some c))
+IsFrom w new m n c = ((n ≡ m) × IsSoundConsumer new m c) ⊎ ((n ≡ m → ⊥) × (consumer_of w n ≡ Some c))
 
 pub stays : (w w2 : WorldState) (m : ℕ) → IsValidWorld w → Leaves w.cluster w2.cluster m → w2.mail ≡ w.mail → length w2.consumers ≡ length w2.cluster.group.slots
     → ((n : ℕ) (c : ConsumerState) → consumer_of w2 n ≡ Some c → IsFrom w w2.cluster m n c) → IsValidWorld w2
@@ -91,15 +91,15 @@ on_cluster w zero f (Some c) = refl
 on_cluster w (suc i) f (Some c) = refl
 
 pub both_stay : (w : WorldState) (new : ClusterState) (m : ℕ) (f : ConsumerState → ConsumerState) → IsValidWorld w → Leaves w.cluster new m → length new.group.slots ≡ length w.cluster.group.slots
-    → ((c : ConsumerState) → consumer_of w m ≡ Some c → IsFine new m (f c)) → IsValidWorld (on_consumer (with_cluster w new) m f)
-both_stay w new m f v leaves slots fine =
+    → ((c : ConsumerState) → consumer_of w m ≡ Some c → IsSoundConsumer new m (f c)) → IsValidWorld (on_consumer (with_cluster w new) m f)
+both_stay w new m f v leaves slots sound =
     let w1 = with_cluster w new in
     let o = consumer_of w1 m in
     let cluster : (changed w1 m f o).cluster ≡ new = on_cluster w1 m f o in
     stays w (changed w1 m f o) m v (subst (λ s. Leaves w.cluster s m) (sym cluster) leaves) (on_mail w1 m f o)
     (on_long w1 m f o ∙ v.a_consumer_each ∙ sym (ap (λ (s : ClusterState). length s.group.slots) cluster ∙ slots))
     (λ n c e. elim (on_lookup w1 m n f o refl c e) [
-      | inl at ↦ inl (at.0, subst (λ s. IsFine s m c) (sym cluster) (subst (IsFine new m) (sym at.3) (fine at.1 (same_lookup m at.1 at.2))))
+      | inl at ↦ inl (at.0, subst (λ s. IsSoundConsumer s m c) (sym cluster) (subst (IsSoundConsumer new m) (sym at.3) (sound at.1 (same_lookup m at.1 at.2))))
       | inr other ↦ inr (other.0, same_lookup n c other.1)
     ])
   where
@@ -107,8 +107,8 @@ both_stay w new m f v leaves slots fine =
     same_lookup zero c e = e
     same_lookup (suc i) c e = e
 
-pub out_fine : (s : ClusterState) (m : ℕ) (c : ConsumerState) → IsConsumerOf s m c → is_present s.group m ≡ false → IsFine s m (out_of_group c.partitions)
-out_fine s m c was gone = record {
+pub out_sound : (s : ClusterState) (m : ℕ) (c : ConsumerState) → IsConsumerOf s m c → is_present s.group m ≡ false → IsSoundConsumer s m (out_of_group c.partitions)
+out_sound s m c was gone = record {
   known = record {
     valid = out_valid c.partitions was.valid.some_partitions was.valid.few_partitions;
     partitions = was.partitions;

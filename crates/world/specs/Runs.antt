@@ -19,7 +19,7 @@ pub record IsOpening (partitions : ℕ) (w : WorldState) : Type 0 where
   pub group : w.cluster.group ≡ opening partitions
   pub logs : AreLogsOf [] w.cluster.logs
   pub counts : w.cluster.store.counts ≡ []
-  pub room : w.cluster.store.room ≡ 0
+  pub capacity : w.cluster.store.capacity ≡ 0
   pub consumers : w.consumers ≡ []
   pub mail : w.mail ≡ []
 

@@ -6,7 +6,7 @@ use Rattle.lane_words.specs.declared.Refusal.TheVariants as r
 use Rattle.bit_planes.specs.PartitionSet.{elements, minus}
 use Rattle.group_machine.specs.State.{assigned_of, granted_of, is_anybody, is_joined, is_synced, members}
 use Rattle.group_machine.specs.NextSteps.{has_to_rejoin}
-use Rattle.group_laws.specs.Passes.{is_calm}
+use Rattle.group_laws.specs.Passes.{is_settled_and_synced}
 use Rattle.consumer.specs.Consumer.{sendable_answer}
 use Rattle.world.specs.declared.event.Event.TheVariants as event
 use Rattle.world.specs.Courses.{Course, answered_at_once, for_each, happens, nothing, chain}
@@ -70,9 +70,9 @@ pass w = for_each (members w.cluster.group) turn w
 -- passes until the group is settled and synced, at most n
 unfoldable pub passes : ℕ → WorldState → Course
 passes zero w =
-    if is_calm w.cluster.group then nothing w else answered_at_once (Err r.NotSettled) w
+    if is_settled_and_synced w.cluster.group then nothing w else answered_at_once (Err r.NotSettled) w
 passes (suc n) w =
-    if is_calm w.cluster.group then nothing w else chain (pass w) (passes n)
+    if is_settled_and_synced w.cluster.group then nothing w else chain (pass w) (passes n)
 
 -- a world settles in at most four passes; an empty group is refused
 unfoldable pub settling : WorldState → Course

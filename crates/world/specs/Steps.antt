@@ -6,7 +6,7 @@ use Rattle.lane_words.specs.declared.Refusal.TheVariants as r
 use Rattle.partition_log.specs.Keys.{Keyed, of_first}
 use Rattle.group_machine.specs.Cluster.{ClusterState, CommitTerms, LeaseTerms, append_answer, appended_to, cluster_commit_answer, cluster_sync_answer, committed_by, with_group}
 use Rattle.group_machine.specs.State.{GroupState}
-use Rattle.group_machine.specs.Steps.{join_answer, joined_by, joined_kept_by, leave_answer, left_by, rejoin_answer, rejoined_by, synced_by, take_over_answer, taken_over_by}
+use Rattle.group_machine.specs.Steps.{join_answer, joined_by, joined_static_by, leave_answer, left_by, rejoin_answer, rejoined_by, synced_by, take_over_answer, taken_over_by}
 use Rattle.consumer.specs.Consumer.{ConsumerState, answered_by, commit_of, given_up, joined_as, leased, out_of_group, poll_answer, polled, sendable_answer}
 use Rattle.world.specs.declared.event.Event.{Event}
 use Rattle.world.specs.declared.event.Event.TheVariants as event
@@ -44,12 +44,12 @@ append_in_event w keyed =
 
 -- a member joins the group, and gets a consumer that is in the group
 abbrev pub entry_outcome : (ℕ → Reply) → GroupState → WorldState → Result ℕ Refusal → Outcome
-entry_outcome told group w (Ok member) = done (told member) (record {
+entry_outcome replied group w (Ok member) = done (replied member) (record {
   cluster = with_group w.cluster group;
   consumers = w.consumers ++ joined_as (out_of_group w.cluster.group.partitions) member ∷ [];
   mail = w.mail;
 })
-entry_outcome told group w (Err why) = refused w why
+entry_outcome replied group w (Err why) = refused w why
 
 abbrev pub joined_outcome : GroupState → WorldState → Result ℕ Refusal → Outcome
 joined_outcome group w answer = entry_outcome (λ member. reply.Joined member) group w answer
@@ -60,7 +60,7 @@ join_event w name =
 
 abbrev pub join_kept_event : WorldState → List ℕ → Outcome
 join_kept_event w name =
-    joined_outcome (joined_kept_by w.cluster.group name) w (join_answer w.cluster.group name)
+    joined_outcome (joined_static_by w.cluster.group name) w (join_answer w.cluster.group name)
 
 -- the consumer of the member whose seat is taken over does not learn of it
 abbrev pub take_over_event : WorldState → List ℕ → Outcome
@@ -131,12 +131,12 @@ poll_outcome w m p n c (Ok count) = done (reply.Polled count)
     (on_consumer w m (λ x. polled x w.cluster.logs p n))
 poll_outcome w m p n c (Err why) = refused w why
 
-abbrev pub poll_known : WorldState → ℕ → ℕ → ℕ → Option ConsumerState → Outcome
-poll_known w m p n None = refused w r.UnknownMember
-poll_known w m p n (Some c) = poll_outcome w m p n c (poll_answer c w.cluster.logs p n)
+abbrev pub poll_by_consumer : WorldState → ℕ → ℕ → ℕ → Option ConsumerState → Outcome
+poll_by_consumer w m p n None = refused w r.UnknownMember
+poll_by_consumer w m p n (Some c) = poll_outcome w m p n c (poll_answer c w.cluster.logs p n)
 
 abbrev pub poll_event : WorldState → ℕ → ℕ → ℕ → Outcome
-poll_event w m p n = poll_known w m p n (consumer_of w m)
+poll_event w m p n = poll_by_consumer w m p n (consumer_of w m)
 
 -- whether a commit can be sent: the consumer has something to send, and the mail is not full
 abbrev pub mail_answer : WorldState → ConsumerState → ℕ → Result (Unit {0}) Refusal
@@ -149,12 +149,12 @@ send_outcome w p c (Ok _) = done (reply.Sent (length w.mail + 1))
     (record w { mail = w.mail ++ commit_of c w.cluster.logs p ∷ [] })
 send_outcome w p c (Err why) = refused w why
 
-abbrev pub send_known : WorldState → ℕ → Option ConsumerState → Outcome
-send_known w p None = refused w r.UnknownMember
-send_known w p (Some c) = send_outcome w p c (mail_answer w c p)
+abbrev pub send_by_consumer : WorldState → ℕ → Option ConsumerState → Outcome
+send_by_consumer w p None = refused w r.UnknownMember
+send_by_consumer w p (Some c) = send_outcome w p c (mail_answer w c p)
 
 abbrev pub send_event : WorldState → ℕ → ℕ → Outcome
-send_event w m p = send_known w p (consumer_of w m)
+send_event w m p = send_by_consumer w p (consumer_of w m)
 
 -- ---- deliveries
 -- the cluster after a commit has reached it
@@ -162,13 +162,13 @@ abbrev pub given : ClusterState → CommitTerms → Result ℕ Refusal → Clust
 given s c (Ok _) = committed_by s c
 given s c (Err _) = s
 
-abbrev pub told : Result ℕ Refusal → Reply
-told (Ok offset) = reply.Committed offset
-told (Err why) = reply.Refused why
+abbrev pub replied : Result ℕ Refusal → Reply
+replied (Ok offset) = reply.Committed offset
+replied (Err why) = reply.Refused why
 
 -- a commit reaches the cluster, and the reply reaches its member's consumer
 abbrev pub delivered : WorldState → CommitTerms → Result ℕ Refusal → Outcome
-delivered w c answer = done (told answer)
+delivered w c answer = done (replied answer)
     (both w c.member (given w.cluster c answer) (λ x. answered_by x c.partition answer))
 
 -- the same, but the reply is lost

@@ -7,7 +7,7 @@ ghost use Rattle.world.specs.Valid.{IsFullyCommitted};
 ghost use Rattle.world.specs.World.{WorldState};
 
 /// If all logs are committed to their ends, each key's count is the number of its records.
-pub fn all_committed_is_the_plain_count()
+pub fn full_commit_counts_all_records()
     ensures { (w : WorldState) (appended : List Keyed) → IsFullyCommitted appended w
         → HasPlainCounts w.cluster.store w.cluster.logs (keys_in appended) }
 {}

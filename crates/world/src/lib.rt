@@ -16,5 +16,5 @@ mod parts;
 mod world;
 
 pub use event::{Event, MOST_COMMITS, Reply};
-pub use laws::all_committed_is_the_plain_count;
+pub use laws::full_commit_counts_all_records;
 pub use world::World;

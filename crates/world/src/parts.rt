@@ -61,7 +61,7 @@ impl Parts {
     /// Appends a record of each key to the first topic, in order, until one is refused.
     pub fn load<R: Threads + Sync>(&mut self, rt: &R, keys: &[&[u8]]) -> Result<(), (u64, Refusal)>
         requires { IsValidWorld (world_view self.old) }
-        ensures loads { Loads (world_view self.old) (appends_of keys.now) result
+        ensures step { Loads (world_view self.old) (appends_of keys.now) result
             (world_view self.new) }
         ensures history { OnOk result (AppendsRecords (map (λ key. of_first key.now) keys.now)
             (world_view self.old) (world_view self.new)) }
@@ -83,7 +83,7 @@ impl Parts {
         requires topics { AreTopics (length self.old.cluster.logs.counts) (length keys.now)
             topics.now }
         requires valid { IsValidWorld (world_view self.old) }
-        ensures loads { Loads (world_view self.old) (appends_in topics.now keys.now) result
+        ensures step { Loads (world_view self.old) (appends_in topics.now keys.now) result
             (world_view self.new) }
         ensures history { OnOk result (AppendsRecords (zip topics.now (lent keys.now))
             (world_view self.old) (world_view self.new)) }
@@ -97,9 +97,9 @@ impl Parts {
 
     /// Appends a record of each key to its partition, in order, until one is refused.
     fn append_placed(&mut self, keys: &[&[u8]], places: &[u32]) -> Result<(), (u64, Refusal)>
-        requires placed { ArePlaced self.old.cluster.logs places.now keys.now }
+        requires partitions { ArePlaced self.old.cluster.logs places.now keys.now }
         requires valid { IsValidWorld (world_view self.old) }
-        ensures loads { LoadsPlaced (world_view self.old) places.now keys.now result
+        ensures step { LoadsPlaced (world_view self.old) places.now keys.now result
             (world_view self.new) }
         ensures valid { IsValidWorld (world_view self.new) }
     {
@@ -323,8 +323,8 @@ impl Parts {
 
     /// The index of a member's consumer, if there is one and it is in the group.
     fn asking(&self, member: u32) -> Result<usize, Refusal>
-        ensures asking { IfOk result (IsAsking (world_view self.now) member) }
-        ensures refused { IfErr result (IsNotAsking (world_view self.now) member) }
+        ensures value { IfOk result (IsAsking (world_view self.now) member) }
+        ensures fault { IfErr result (IsNotAsking (world_view self.now) member) }
     {
         let Some(index) = index_of(member, self.consumers.len()) else {
             return Err(Refusal::UnknownMember);
@@ -356,8 +356,8 @@ fn new_consumer(
     partitions: u32,
 ) -> Result<Consumer, Memory>
     requires { (1 ≤ partitions) × (partitions ≤ MOST_PARTITIONS) }
-    ensures out { IfOk result (λ consumer. consumer ≡ out_of_group partitions) }
-    ensures room { OnOk result (vec_len consumers.new < vec_capacity consumers.new) }
+    ensures value { IfOk result (λ consumer. consumer ≡ out_of_group partitions) }
+    ensures capacity { OnOk result (vec_len consumers.new < vec_capacity consumers.new) }
     ensures same { consumers.new.items ≡ consumers.old.items }
 {
     consumers.reserve(1)?;

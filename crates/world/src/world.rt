@@ -53,7 +53,7 @@ impl World {
     /// memory runs out, or if the random source of the keys' hasher fails.
     pub fn new(rt: &impl RandomSource, alloc: Global, partitions: u32) -> Result<World, Memory>
         requires { (1 ≤ partitions) × (partitions ≤ MOST_PARTITIONS) }
-        ensures opening { IfOk result (IsOpening partitions) }
+        ensures state { IfOk result (IsOpening partitions) }
         ensures counts { IfOk result (λ w. w.cluster.logs.counts ≡ partitions ∷ []) }
         ensures offsets { IfOk result (λ w. (p : ℕ) → committed_at w.cluster.store p ≡ 0) }
         ensures valid { IfOk result IsValidWorld }
@@ -76,7 +76,7 @@ impl World {
         counts: &[u32],
     ) -> Result<World, Memory>
         requires { AreCounts counts.now }
-        ensures opening { IfOk result (IsOpening (sum counts.now)) }
+        ensures state { IfOk result (IsOpening (sum counts.now)) }
         ensures counts { IfOk result (λ w. w.cluster.logs.counts ≡ counts.now) }
         ensures offsets { IfOk result (λ w. (p : ℕ) → committed_at w.cluster.store p ≡ 0) }
         ensures valid { IfOk result IsValidWorld }
@@ -99,7 +99,7 @@ impl World {
     /// An event that takes memory may be refused with `Memory`; then nothing has changed.
     pub fn step(&mut self, event: Event<'_>) -> Reply
         ensures step { Step self.old event.entry result self.new }
-        ensures never_faults { NeverFaults self.old event.entry }
+        ensures kind { NeverFaults self.old event.entry }
         ensures history { AppendsRecords (appended_by event.entry result) self.old self.new }
         ensures valid { IsValidWorld self.new }
     {
@@ -127,7 +127,7 @@ impl World {
     /// Stops at the first record that is refused, and returns the number of records before it,
     /// which stay, and the refusal. If memory for the keys' partitions runs out, that number is 0.
     pub fn load<R: Threads + Sync>(&mut self, rt: &R, keys: &[&[u8]]) -> Result<(), (u64, Refusal)>
-        ensures loads { Loads self.old (appends_of keys.now) result self.new }
+        ensures step { Loads self.old (appends_of keys.now) result self.new }
         ensures history { OnOk result (AppendsRecords (map (λ key. of_first key.now) keys.now)
             self.old self.new) }
         ensures valid { IsValidWorld self.new }
@@ -143,7 +143,7 @@ impl World {
         keys: &[&[u8]],
     ) -> Result<(), (u64, Refusal)>
         requires { AreTopics (length self.old.cluster.logs.counts) (length keys.now) topics.now }
-        ensures loads { Loads self.old (appends_in topics.now keys.now) result self.new }
+        ensures step { Loads self.old (appends_in topics.now keys.now) result self.new }
         ensures history { OnOk result (AppendsRecords (zip topics.now (lent keys.now))
             self.old self.new) }
         ensures valid { IsValidWorld self.new }

@@ -16,27 +16,27 @@ use Rattle.command_line.specs.declared.words.Usage.TheVariants.{Help, Bad, Memor
 use Rattle.command_line.specs.declared.options.TheConstants.{LAST_COLUMN, MOST_BATCH}
 
 -- the text, if there is one, denotes a number from 1 to `most`
-abbrev pub ReadsNumber : Option Text → ℕ → Type 0
-ReadsNumber None most = ⊤
-ReadsNumber (Some text) most = IsSignedIn (pos 1) (pos most) text
+abbrev pub IsOptionalNumber : Option Text → ℕ → Type 0
+IsOptionalNumber None most = ⊤
+IsOptionalNumber (Some text) most = IsSignedIn (pos 1) (pos most) text
 
 -- what clap has checked of the options of all subcommands
-pub record TakesOptions (rows : List Row) : Type 0 where
-  pub partitions : ReadsNumber (first_of (codes "partitions") rows) MOST_PARTITIONS
-  pub column : ReadsNumber (first_of (codes "column") rows) LAST_COLUMN
-  pub topic_column : ReadsNumber (first_of (codes "topic-column") rows) LAST_COLUMN
+pub record AreOptionRows (rows : List Row) : Type 0 where
+  pub partitions : IsOptionalNumber (first_of (codes "partitions") rows) MOST_PARTITIONS
+  pub column : IsOptionalNumber (first_of (codes "column") rows) LAST_COLUMN
+  pub topic_column : IsOptionalNumber (first_of (codes "topic-column") rows) LAST_COLUMN
 
 -- what clap has checked of the words after `count`
-pub record TakesCount (rows : List Row) : Type 0 where
+pub record AreCountRows (rows : List Row) : Type 0 where
   pub file : IsSome (first_of (codes "file") rows)
-  pub options : TakesOptions rows
+  pub options : AreOptionRows rows
 
 -- what clap has checked of the words after `replay` or `run`
-pub record TakesScript (rows : List Row) : Type 0 where
+pub record AreScriptRows (rows : List Row) : Type 0 where
   pub file : IsSome (first_of (codes "file") rows)
   pub script : IsSome (first_of (codes "script") rows)
-  pub options : TakesOptions rows
-  pub batch : ReadsNumber (first_of (codes "batch") rows) MOST_BATCH
+  pub options : AreOptionRows rows
+  pub batch : IsOptionalNumber (first_of (codes "batch") rows) MOST_BATCH
 
 -- clap parses by this command as by `app`, and it has no global argument
 pub record IsCommand (app : App) (c : Command) : Type 0 where
@@ -44,19 +44,19 @@ pub record IsCommand (app : App) (c : Command) : Type 0 where
   pub local : (out-Command c).has_globals ≡ false
 
 -- what an error of clap becomes: a request for help or for the version `Help`, any other `Bad`
-abbrev pub Tells : Usage → ErrorKind → Type 0
-Tells (Help text) k = IsRequest k
-Tells (Bad text) k =
+abbrev pub IsUsageOf : Usage → ErrorKind → Type 0
+IsUsageOf (Help text) k = IsRequest k
+IsUsageOf (Bad text) k =
     (k ≢ kind.DisplayHelp) × (k ≢ kind.DisplayVersion) × (k ≢ kind.OutOfMemory)
-Tells Memory k = ⊤
+IsUsageOf Memory k = ⊤
 
 -- the job of the subcommand of this name, with the files and options that clap found
 abbrev pub IsJobOfRows : Text → List Row → Job → Type 0
 IsJobOfRows name rows job = (name_of job ≡ name) × HasJob rows job
 
 -- a list of topics is reported as not valid only where the one that clap found is not
-abbrev pub TellsBadList : List Row → Usage → Type 0
-TellsBadList rows (Help text) = ⊥
-TellsBadList rows (Bad text) =
+abbrev pub ReportsBadList : List Row → Usage → Type 0
+ReportsBadList rows (Help text) = ⊥
+ReportsBadList rows (Bad text) =
     IsBadList (first_of (codes "topics") rows) × (string_bytes text ≡ bad_topics)
-TellsBadList rows Memory = ⊤
+ReportsBadList rows Memory = ⊤

@@ -17,7 +17,7 @@ use Rattle.group_machine.specs.State.{GroupState, assigned_of, is_anybody, is_pr
 use Rattle.group_machine.specs.Moves.{takers, moves_to}
 use Rattle.group_machine.specs.Completion.{all_joined, is_ready, is_over, next_rows_of}
 use Rattle.group_machine.specs.Steps.{sync_answer, newcomer, rejoined_seat, phase_left}
-use Rattle.group_machine.specs.Good.{IsSized, IsApart, AllFit, IsHeldByLast}
+use Rattle.group_machine.specs.Valid.{IsSized, IsDisjoint, AreConsistentSeats, IsHeldByLast}
 
 -- the seat of member m after a change
 abbrev pub seat_after : Change → ℕ → Option Seat → Option Seat
@@ -46,8 +46,8 @@ after change name g = record g {
 -- the invariant between a change and its completion
 pub record IsChanged (g : GroupState) : Type 0 where
   pub sized : IsSized g
-  pub apart : IsApart g
-  pub fit : AllFit g
+  pub disjoint : IsDisjoint g
+  pub consistent : AreConsistentSeats g
   pub held : IsHeldByLast g
   pub some : is_anybody g ≡ true → g.phase ≡ Preparing
   pub gone : is_anybody g ≡ false → g.phase ≡ Empty
@@ -66,8 +66,8 @@ IsPlanned g (Some a) =
     (is_ready g ≡ true) × (g.generation < LAST_GENERATION) × IsCompletion g a
 
 -- there is capacity for the moves of a planned completion
-abbrev pub HasRoom : Option Completion → ℕ → ℕ → Type 0
-HasRoom planned used capacity =
+abbrev pub HasCapacity : Option Completion → ℕ → ℕ → Type 0
+HasCapacity planned used capacity =
     (a : Completion) → planned ≡ Some a → used + length a.moves.items ≤ capacity
 
 -- why planning fails: the generation would pass the last, or out of memory

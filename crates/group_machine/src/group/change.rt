@@ -74,13 +74,13 @@ pub fn granted_rows(
     slots: &[Slot],
     change: Change,
 ) -> Result<PlaneRows, Memory>
-    requires bounds { (1 ≤ partitions) × (partitions ≤ MOST_PARTITIONS) }
-    requires few { length slots.now ≤ MOST_MEMBERS }
-    requires over { AreSeatsOver partitions slots.now }
+    requires partitions { (1 ≤ partitions) × (partitions ≤ MOST_PARTITIONS) }
+    requires bound { length slots.now ≤ MOST_MEMBERS }
+    requires valid { AreSeatsOver partitions slots.now }
     ensures { (name : List ℕ) → IfOk result (λ rows.
         rows ≡ granted_in partitions (slots_after partitions name change slots.now)) }
 {
-    let mut rows = PlaneRows::with_room(alloc, partitions, slots.len() + 1)?;
+    let mut rows = PlaneRows::with_row_capacity(alloc, partitions, slots.len() + 1)?;
     for (index, slot) in slots.iter().enumerate() {
         let member = index as u32 + 1;
         if let Some(granted) = change.granted(member, slot) {

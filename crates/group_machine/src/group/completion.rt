@@ -39,8 +39,8 @@ pub fn next_rows(alloc: Global, granted: &PlaneRows) -> Result<PlaneRows, Memory
 
 /// Gives each present member its row, and clears its flags.
 pub fn give(slots: &mut [Slot], next: &PlaneRows)
-    requires few { length slots.old ≤ MOST_MEMBERS }
-    requires over { AreSeatsOver next.now.partitions slots.old }
+    requires bound { length slots.old ≤ MOST_MEMBERS }
+    requires valid { AreSeatsOver next.now.partitions slots.old }
     ensures { slots.new ≡ each_changed (completed_seat next.now) slots.old }
 {
     for index in 0..slots.len() {
@@ -68,7 +68,7 @@ fn complete_seat(seat: &mut Seat, row: Plane)
         ≡ record {
           joined = false;
           synced = false;
-          kept = seat.old.kept;
+          is_static = seat.old.is_static;
           granted = union seat.old.granted row;
           assigned = row;
         } }

@@ -3,7 +3,7 @@
 ghost use Rattle.std.specs.Prelude.{◌≡◌, ◌<◌, ◌≤◌, length, position, Some, None, IfSome, MatchOption};
 ghost use Rattle.std.specs.Iterator.{YieldsFirst, item_count};
 ghost use Rattle.group_machine.specs.Slots.{members_in, owner_in};
-ghost use Rattle.group_machine.specs.State.{is_kept_as, kept_in, name_at, number_in};
+ghost use Rattle.group_machine.specs.State.{is_static_as, static_in, name_at, number_in};
 
 use super::{Slot, slots};
 use lane_words::MOST_MEMBERS;
@@ -101,18 +101,20 @@ pub fn number_named(slots: &[Slot], name: &Name) -> Option<u32>
 }
 
 /// The present static member of this name.
-pub fn kept_member(slots: &[Slot], name: &Name) -> Option<u32>
+pub fn static_member(slots: &[Slot], name: &Name) -> Option<u32>
     requires { length slots.now ≤ MOST_MEMBERS }
-    ensures { result ≡ kept_in slots.now name.now }
+    ensures { result ≡ static_in slots.now name.now }
 {
-    let index = index_kept(slots, name)?;
+    let index = static_index(slots, name)?;
     Some(index as u32 + 1)
 }
 
 /// The index of the slot of the present static member of this name.
-fn index_kept(slots: &[Slot], name: &Name) -> Option<usize>
-    ensures value { result ≡ position (is_kept_as name.now) slots.now }
-    ensures within { IfSome result (λ k. k < length slots.now) }
+fn static_index(slots: &[Slot], name: &Name) -> Option<usize>
+    ensures value { result ≡ position (is_static_as name.now) slots.now }
+    ensures bound { IfSome result (λ k. k < length slots.now) }
 {
-    slots.iter().position(|slot| slots::is_kept_as(slot, name))
+    slots
+        .iter()
+        .position(|slot| slots::is_static_as(slot, name))
 }

@@ -19,8 +19,8 @@ pub fn takers_of(
     granted: &PlaneRows,
     next: &PlaneRows,
 ) -> Result<Vec<Option<u32>>, Memory>
-    requires below { next.now.partitions ≡ granted.now.partitions }
-    requires apart { (m n q : ℕ) → is_in (set_of next.now m) q ≡ true
+    requires partitions { next.now.partitions ≡ granted.now.partitions }
+    requires disjoint { (m n q : ℕ) → is_in (set_of next.now m) q ≡ true
         → is_in (set_of next.now n) q ≡ true → m ≡ n }
     ensures { IfOk result (λ takers. takers.items ≡ takers_in granted.now next.now) }
 {
@@ -36,9 +36,9 @@ pub fn takers_of(
 /// Records a member as the taker of these partitions.
 fn take_added(takers: &mut [Option<u32>], member: u32, added: &Plane)
     requires { partitions_of added.now ≡ length takers.old }
-    ensures taken { (q : ℕ) → q < length takers.old
+    ensures value { (q : ℕ) → q < length takers.old
         → slice_index_or takers.new q None ≡ taken_by member added.now takers.old q }
-    ensures long { length takers.new ≡ length takers.old }
+    ensures len { length takers.new ≡ length takers.old }
 {
     for q in added.iter() {
         takers[q as usize] = Some(member);
@@ -52,8 +52,8 @@ pub fn moves_of(
     takers: &[Option<u32>],
     last: &[Option<u32>],
 ) -> Result<Vec<Move>, Memory>
-    requires few { length takers.now < 2 ^ 32 }
-    requires long { length takers.now ≡ length last.now }
+    requires bound { length takers.now < 2 ^ 32 }
+    requires len { length takers.now ≡ length last.now }
     ensures { IfOk result (λ moves. moves.items ≡ moves_by generation takers.now last.now) }
 {
     let mut moves = Vec::new(alloc);

@@ -5,8 +5,8 @@ ghost use Rattle.std.specs.List.{list_any, list_all};
 ghost use Rattle.std.specs.Option.{option_map, option_map_or};
 ghost use Rattle.std.specs.Str.{bytes_eq};
 ghost use Rattle.group_machine.specs.Slots.{is_anybody_in, seat_of, one_changed, without_seat};
-ghost use Rattle.group_machine.specs.Steps.{handed_seat, kept_seat, phase_left, rejoined_seat, synced_seat};
-ghost use Rattle.group_machine.specs.State.{is_kept_as};
+ghost use Rattle.group_machine.specs.Steps.{handed_seat, static_seat, phase_left, rejoined_seat, synced_seat};
+ghost use Rattle.group_machine.specs.State.{is_static_as};
 ghost use Rattle.group_machine.specs.Settled.{agrees};
 ghost use Rattle.group_machine.specs.Private.Walks.{AreSeatsOver};
 
@@ -66,12 +66,12 @@ pub fn mark_synced(slots: &mut [Slot], member: u32)
 }
 
 /// Makes a present member static.
-pub fn keep(slots: &mut [Slot], member: u32)
+pub fn make_static(slots: &mut [Slot], member: u32)
     requires { is_some (seat_of slots.old member) ≡ true }
-    ensures { slots.new ≡ one_changed kept_seat slots.old member }
+    ensures { slots.new ≡ one_changed static_seat slots.old member }
 {
     if let Some(seat) = &mut slots[member as usize - 1].seat {
-        seat.kept = true;
+        seat.is_static = true;
     }
 }
 
@@ -89,10 +89,10 @@ pub fn hand_out(slots: &mut [Slot], member: u32) -> Option<Seat>
 }
 
 /// Whether a slot is of a present static member of this name.
-pub fn is_kept_as(slot: &Slot, name: &Name) -> bool
-    ensures { result ≡ is_kept_as name.now slot.now }
+pub fn is_static_as(slot: &Slot, name: &Name) -> bool
+    ensures { result ≡ is_static_as name.now slot.now }
 {
-    slot.name.text() == name.text() && slot.seat.as_ref().is_some_and(|seat| seat.kept)
+    slot.name.text() == name.text() && slot.seat.as_ref().is_some_and(|seat| seat.is_static)
 }
 
 /// Whether any member is present.

@@ -10,7 +10,7 @@ IsTouched ids b = (x : ℕ) × (0 < plain ids x) × (x / 8 ≡ b)
 -- these counters are the plain counts of a list in these blocks, which hold all its numbers
 pub record HaveCounts (ids blocks counts : List ℕ) : Type 0 where
   pub whole : length counts ≡ 8 * length blocks
-  pub rise : IsStrictlyIncreasing blocks
+  pub increasing : IsStrictlyIncreasing blocks
   pub counted : (j k : ℕ) → j < length blocks → k < 8
       → slice_index_or counts (8 * j + k) 0 ≡ plain ids (8 * slice_index_or blocks j 0 + k)
   pub others : (x : ℕ) → ((j : ℕ) → j < length blocks → slice_index_or blocks j 0 ≢ x / 8)
@@ -22,8 +22,8 @@ pub record AreBlocksOf (ids blocks counts : List ℕ) : Type 0 where
   pub touched : (j : ℕ) → j < length blocks → IsTouched ids (slice_index_or blocks j 0)
 
 -- from index start to end the blocks are consecutive
-abbrev pub AreNeighbours : List ℕ → ℕ → ℕ → Type 0
-AreNeighbours blocks start end = (i : ℕ) → start + i < end
+abbrev pub AreConsecutive : List ℕ → ℕ → ℕ → Type 0
+AreConsecutive blocks start end = (i : ℕ) → start + i < end
     → slice_index_or blocks (start + i) 0 ≡ slice_index_or blocks start 0 + i
 
 -- each number of a list lies in the first bound blocks
@@ -37,7 +37,7 @@ AreTallies ids tallies = (x : ℕ) → slice_index_or tallies x 0 ≡ plain ids 
 -- the blocks of a list below block b
 pub record AreBlocksBelow (b : ℕ) (ids blocks counts : List ℕ) : Type 0 where
   pub whole : length counts ≡ 8 * length blocks
-  pub rise : IsStrictlyIncreasing blocks
+  pub increasing : IsStrictlyIncreasing blocks
   pub below : (j : ℕ) → j < length blocks → slice_index_or blocks j 0 < b
   pub counted : (j k : ℕ) → j < length blocks → k < 8
       → slice_index_or counts (8 * j + k) 0 ≡ plain ids (8 * slice_index_or blocks j 0 + k)

@@ -4,7 +4,7 @@ use Rattle.keyed_table.specs.Counts.{Counters}
 
 -- the counters of the keys, and the capacity for more after them
 abbrev pub table_view : ℕ → List ℕ → Counters
-table_view keys cells = record { counts = take keys cells; room = length cells - keys }
+table_view keys cells = record { counts = take keys cells; capacity = length cells - keys }
 
 -- whole blocks of eight, in which the counters past the keys are zero
 pub record IsValidTable (keys : ℕ) (cells : List ℕ) : Type 0 where

@@ -74,8 +74,8 @@ pub fn equal32(a: &[u32], b: &[u32]) -> bool
 
 /// Adds the numbers of `b` to those of `a`, a slice of the same length. No sum may overflow.
 pub fn add_into(a: &mut [u64], b: &[u64])
-    requires length { length a.old ≡ length b.now }
-    requires fit { (i : ℕ) → slice_index_or a.old i 0 + slice_index_or b.now i 0 < 2 ^ 64 }
+    requires len { length a.old ≡ length b.now }
+    requires sums { (i : ℕ) → slice_index_or a.old i 0 + slice_index_or b.now i 0 < 2 ^ 64 }
     ensures { a.new ≡ zip2 (λ x y. x + y) a.old b.now }
 {
     for i in 0..a.len() {

@@ -10,8 +10,8 @@ lanes_absorbed n (h ∷ hs) [] p q = absurd (omega arith)
 lanes_absorbed zero (h ∷ hs) (w ∷ ws) p q = absurd (omega arith)
 lanes_absorbed (suc n) (h ∷ hs) (w ∷ ws) p q = ap (λ r. absorbed h w ∷ r) (lanes_absorbed n hs ws (omega arith) (omega arith))
 
-pub returns-clause-absorbed : goal.returns-clause-absorbed
-returns-clause-absorbed c = lanes_absorbed 8 c.args.hash c.args.word c.requires.hash c.requires.word
+pub returns-clause-value : goal.returns-clause-value
+returns-clause-value c = lanes_absorbed 8 c.args.hash c.args.word c.requires.hash c.requires.word
 
-pub returns-clause-lanes : goal.returns-clause-lanes
-returns-clause-lanes c = ap length (lanes_absorbed 8 c.args.hash c.args.word c.requires.hash c.requires.word) ∙ (length-zip2 absorbed c.args.hash c.args.word (c.requires.hash ∙ sym c.requires.word) ∙ c.requires.hash)
+pub returns-clause-len : goal.returns-clause-len
+returns-clause-len c = ap length (lanes_absorbed 8 c.args.hash c.args.word c.requires.hash c.requires.word) ∙ (length-zip2 absorbed c.args.hash c.args.word (c.requires.hash ∙ sym c.requires.word) ∙ c.requires.hash)

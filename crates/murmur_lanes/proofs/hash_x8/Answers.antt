@@ -12,7 +12,7 @@ loop-at-init c = record {
 
 pub loop-at-preserved : goal.loop-at-preserved
 loop-at-preserved c = record {
-  lanes = c.absorb_x8-hash.ensures.lanes;
+  lanes = c.absorb_x8-hash.ensures.len;
   within = omega arith;
-  so_far = rw (c.absorb_x8-hash.ensures.absorbed, c.words_at.ensures.words) (lanes_step c.args.len c.loop-at.at c.loop-at.hash c.args.keys.now (λ i lt. All-get_or (λ key. length key.now ≡ c.args.len) c.args.keys.now i no_key lt c.requires) (omega arith) ∙ c.loop-at.invariant.so_far);
+  so_far = rw (c.absorb_x8-hash.ensures.value, c.words_at.ensures.words) (lanes_step c.args.len c.loop-at.at c.loop-at.hash c.args.keys.now (λ i lt. All-get_or (λ key. length key.now ≡ c.args.len) c.args.keys.now i no_key lt c.requires) (omega arith) ∙ c.loop-at.invariant.so_far);
 }

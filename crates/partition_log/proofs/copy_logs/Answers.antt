@@ -1,5 +1,5 @@
 use Rattle.std.proofs.Common.{◌∙◌, ap, map, vec_items, rules, arith}
-use Rattle.key_numbers.proofs.Copied.{next_shown}
+use Rattle.key_index.proofs.Copied.{next_shown}
 use Rattle.partition_log.proofs.copy_logs.Goals as goal
 
 pub loop-log-preserved : goal.loop-log-preserved

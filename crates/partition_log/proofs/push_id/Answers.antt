@@ -4,11 +4,11 @@ use Rattle.partition_log.proofs.push_id.Goals as goal
 pub returns-then-count-ge-MOST_RECORDS-clause-answer : goal.returns-then-count-ge-MOST_RECORDS-clause-answer
 returns-then-count-ge-MOST_RECORDS-clause-answer c = search rules
 
-pub add-requires-clause-fresh : goal.add-requires-clause-fresh
-add-requires-clause-fresh c = search rules
+pub add-requires-clause-absent : goal.add-requires-clause-absent
+add-requires-clause-absent c = search rules
 
-pub add-requires-clause-room : goal.add-requires-clause-room
-add-requires-clause-room c = search rules
+pub add-requires-clause-capacity : goal.add-requires-clause-capacity
+add-requires-clause-capacity c = search rules
 
 pub returns-clause-answer : goal.returns-clause-answer
 returns-clause-answer c = search rules

@@ -3,12 +3,12 @@ use Rattle.std.specs.Prelude.{List, ℕ, [], ◌∷◌, ◌++◌, length, if◌t
 use Rattle.lane_words.specs.declared.Refusal.{Refusal}
 use Rattle.lane_words.specs.declared.Refusal.TheVariants as r
 use Rattle.partition_log.specs.Keys.{Key, id_of}
-use Rattle.partition_log.specs.Logs.{finds_no_room}
+use Rattle.partition_log.specs.Logs.{exceeds_limits}
 
 -- the answer of an append of a key to this log: its offset, or that the log is full
 abbrev pub log_answer : List Key → List ℕ → Key → Result ℕ Refusal
 log_answer keys log key =
-    if finds_no_room keys (length log) key then Err r.LogFull else Ok (length log)
+    if exceeds_limits keys (length log) key then Err r.LogFull else Ok (length log)
 
 -- a log with the number of one more key
 abbrev pub with_id : List Key → List ℕ → Key → List ℕ

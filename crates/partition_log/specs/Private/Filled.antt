@@ -22,7 +22,7 @@ abbrev pub AreShort : List Key → Type 0
 AreShort keys = All (λ (key : Key). length key ≤ LONGEST_KEY) keys
 
 -- no limit applies to these keys: there is no key yet, and they are few and short
-pub record CanGoSideBySide (l : PartitionLogs) (keys : List Key) : Type 0 where
+pub record CanAppendParallel (l : PartitionLogs) (keys : List Key) : Type 0 where
   pub none : length l.keys ≡ 0
   pub some : 0 < length keys
   pub few : length keys ≤ MOST_RECORDS

@@ -10,8 +10,8 @@ abbrev pub no_key : Bor (List ℕ)
 no_key = record { ref_ptr = (0, 0); now = [] }
 
 -- a hash is the expected one, unless it is not computed yet
-abbrev pub IsKnown : ℕ → ℕ → Type 0
-IsKnown hash expected = hash ≢ 2 ^ 32 - 1 → hash ≡ expected
+abbrev pub IsComputed : ℕ → ℕ → Type 0
+IsComputed hash expected = hash ≢ 2 ^ 32 - 1 → hash ≡ expected
 
 -- no hash is computed yet
 abbrev pub AreUnhashed : List ℕ → Type 0
@@ -23,8 +23,8 @@ ArePlacedFrom counts topic keys from count places = (k : ℕ) (d : Bor (List ℕ
     → slice_index places k ≡ place_in_topic counts (topic (from + k)) (get_or keys (from + k) d).now
 
 -- each hash is its key's, or not computed yet
-unfoldable pub AreKnown : List (Bor (List ℕ)) → List ℕ → Type 0
-AreKnown keys hashes = Each2 (λ key hash. IsKnown hash (positive_hash key.now)) keys hashes
+unfoldable pub AreComputed : List (Bor (List ℕ)) → List ℕ → Type 0
+AreComputed keys hashes = Each2 (λ key hash. IsComputed hash (positive_hash key.now)) keys hashes
 
 -- an index of a key of this length
 abbrev pub IsOfLength : List (Bor (List ℕ)) → ℕ → ℕ → Type 0
@@ -35,18 +35,18 @@ unfoldable pub AreOfLength : List (Bor (List ℕ)) → ℕ → List ℕ → Type
 AreOfLength keys len row = Each1 (λ i. IsOfLength keys len i) row
 
 -- the group of this length has fewer than eight keys
-abbrev pub IsWaiting : List (Bor (List ℕ)) → ℕ → List ℕ → ℕ → Type 0
-IsWaiting keys len row count =
+abbrev pub IsPending : List (Bor (List ℕ)) → ℕ → List ℕ → ℕ → Type 0
+IsPending keys len row count =
     (length row ≡ 8) × (count < 8) × (0 < count → AreOfLength keys len row)
 
 -- each group of this or a greater length has fewer than eight keys
-unfoldable pub AreWaitingFrom : List (Bor (List ℕ)) → ℕ → List (List ℕ) → List ℕ → Type 0
-AreWaitingFrom keys len [] counts = Unit {0}
-AreWaitingFrom keys len (row ∷ rows) [] = Unit {0}
-AreWaitingFrom keys len (row ∷ rows) (count ∷ counts) =
-    IsWaiting keys len row count × AreWaitingFrom keys (suc len) rows counts
+unfoldable pub ArePendingFrom : List (Bor (List ℕ)) → ℕ → List (List ℕ) → List ℕ → Type 0
+ArePendingFrom keys len [] counts = Unit {0}
+ArePendingFrom keys len (row ∷ rows) [] = Unit {0}
+ArePendingFrom keys len (row ∷ rows) (count ∷ counts) =
+    IsPending keys len row count × ArePendingFrom keys (suc len) rows counts
 
 -- the group with one more index
-abbrev pub joined_row : List ℕ → ℕ → ℕ → List ℕ
-joined_row row zero i = replicate 8 i
-joined_row row (suc count) i = slice_set row (suc count) i
+abbrev pub extended_row : List ℕ → ℕ → ℕ → List ℕ
+extended_row row zero i = replicate 8 i
+extended_row row (suc count) i = slice_set row (suc count) i

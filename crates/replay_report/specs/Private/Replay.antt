@@ -13,8 +13,8 @@ use Rattle.report_rows.specs.Rows.{HasText}
 use Rattle.replay_report.specs.ReplayReport.{LineOutcome, outcome_of_line, rows_of_line}
 
 -- the outcome came about, or an allocation failed
-abbrev pub ComesOrMemory : LineOutcome → Result (Unit {0}) Refusal → WorldState → Type 0
-ComesOrMemory outcome result w2 =
+abbrev pub IsOutcomeOrMemory : LineOutcome → Result (Unit {0}) Refusal → WorldState → Type 0
+IsOutcomeOrMemory outcome result w2 =
     ((result ≡ outcome.answer) × (w2 ≡ outcome.after)) ⊎ (result ≡ Err r.Memory)
 
 -- a line that stands for one event
@@ -28,7 +28,7 @@ abbrev pub IsOver : Refusal → Result (Unit {0}) Refusal → Type 0
 IsOver fault answer = (fault ≡ r.GenerationsOver) × (answer ≡ Err r.GenerationsOver)
 
 -- the answer and the world are those of this outcome, which does not end the replay
-pub record GoesOn (outcome : LineOutcome) (answer : Result (Unit {0}) Refusal) (w2 : WorldState)
+pub record IsNotFinal (outcome : LineOutcome) (answer : Result (Unit {0}) Refusal) (w2 : WorldState)
     : Type 0 where
   pub answer_is : answer ≡ outcome.answer
   pub after_is : w2 ≡ outcome.after

@@ -3,7 +3,7 @@
 ghost use Rattle.std.specs.Prelude.{◌≡◌, ◌≢◌, ◌≤◌, ◌⊎◌, ℕ, Ok, Err, IfOk, IfErr, OnOk};
 ghost use Rattle.lane_words.specs.Answers.{Answers};
 ghost use Rattle.lane_words.specs.declared.Refusal.TheVariants as refusal;
-ghost use Rattle.replay_report.specs.Private.Replay.{ComesOrMemory, GoesOn, IsEvent, IsOver, WritesLines, line_rows};
+ghost use Rattle.replay_report.specs.Private.Replay.{IsOutcomeOrMemory, IsNotFinal, IsEvent, IsOver, WritesLines, line_rows};
 ghost use Rattle.ingest.specs.Reports.{IsNoDeviceFault, text_seen};
 ghost use Rattle.report_rows.specs.Rows.{AddsRows};
 ghost use Rattle.replay_report.specs.ReplayReport.{number_named, outcome_of_event, outcome_of_line, rows_of_answer, text_of_lines};
@@ -25,8 +25,8 @@ fn number_named(world: &World, name: &Name) -> u32
 }
 
 /// Applies an event, and returns its refusal if it is refused.
-fn happen(world: &mut World, event: Event<'_>) -> Result<(), Refusal>
-    ensures { ComesOrMemory (outcome_of_event (outcome_of world.old event.entry)) result world.new }
+fn apply_event(world: &mut World, event: Event<'_>) -> Result<(), Refusal>
+    ensures { IsOutcomeOrMemory (outcome_of_event (outcome_of world.old event.entry)) result world.new }
 {
     match world.step(event) {
         Reply::Refused(why) => Err(why),
@@ -71,16 +71,16 @@ fn event_of<'a>(world: &World, action: &'a Action) -> Event<'a>
 }
 
 #[tactic(auto, unfolding(crate::specs::ReplayReport::outcome_of_line))]
-fn act(world: &mut World, action: &Action, batch: u32) -> Result<(), Refusal>
+fn apply_line(world: &mut World, action: &Action, batch: u32) -> Result<(), Refusal>
     requires { 1 ≤ batch }
-    ensures { ComesOrMemory (outcome_of_line batch world.old action.now) result world.new }
+    ensures { IsOutcomeOrMemory (outcome_of_line batch world.old action.now) result world.new }
 {
     match action {
         Action::Settle => world.settle(),
         Action::Drain => world.drain(batch),
         _ => {
             let event = event_of(world, action);
-            happen(world, event)
+            apply_event(world, event)
         }
     }
 }
@@ -89,12 +89,12 @@ fn act(world: &mut World, action: &Action, batch: u32) -> Result<(), Refusal>
 /// if an allocation failed, and `GenerationsOver` if the line would pass the last generation.
 fn perform(world: &mut World, action: &Action, batch: u32) -> Result<Result<(), Refusal>, Refusal>
     requires { 1 ≤ batch }
-    ensures performed { IfOk result
-        (λ answer. GoesOn (outcome_of_line batch world.old action.now) answer world.new) }
-    ensures refused { IfErr result (λ e. (e ≡ refusal.Memory)
+    ensures value { IfOk result
+        (λ answer. IsNotFinal (outcome_of_line batch world.old action.now) answer world.new) }
+    ensures fault { IfErr result (λ e. (e ≡ refusal.Memory)
         ⊎ IsOver e (outcome_of_line batch world.old action.now).answer) }
 {
-    let answer = act(world, action, batch);
+    let answer = apply_line(world, action, batch);
     if let Err(why) = answer
         && (why == Refusal::Memory || why == Refusal::GenerationsOver)
     {
@@ -130,9 +130,9 @@ fn write_line(
         ≡ (outcome_of_line batch world.old line.now.action).after) }
     ensures rows { OnOk result
         (AddsRows writer.old writer.new (line_rows topics.now batch world.old line.now)) }
-    ensures not_over { OnOk result ((outcome_of_line batch world.old line.now.action).answer
+    ensures accepted { OnOk result ((outcome_of_line batch world.old line.now.action).answer
         ≢ Err refusal.GenerationsOver) }
-    ensures refused { IfErr result (λ e. (e ≡ refusal.Memory) ⊎ IsOver e
+    ensures fault { IfErr result (λ e. (e ≡ refusal.Memory) ⊎ IsOver e
         (outcome_of_line batch world.old line.now.action).answer) }
 {
     let from = world.cluster().moves().len();
@@ -154,7 +154,7 @@ fn write_lines(
     ensures rows { OnOk result (WritesLines writer.old writer.new
         (text_of_lines topics.now batch world.old lines.now)) }
     ensures kind { IfErr result IsNoDeviceFault }
-    ensures refused { IfErr result
+    ensures fault { IfErr result
         (λ e. (e ≡ refusal.Memory) ⊎ (text_of_lines topics.now batch world.old lines.now ≡ Err e)) }
 {
     for line in lines {

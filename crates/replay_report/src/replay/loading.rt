@@ -10,8 +10,8 @@ ghost use Rattle.replay_report.specs.ReplayReport.{loaded, opening_world};
 ghost use Rattle.world.specs.Valid.{IsValidWorld};
 
 use command_line::Options;
+use csv_ingest::{FileKeys, TopicKeys};
 use ingest::{FileRecords, partition_counts};
-use key_file::{FileKeys, TopicKeys};
 use lane_words::{Memory, Refusal};
 use std::alloc::Global;
 use std::random::RandomSource;
@@ -21,7 +21,7 @@ use world::World;
 /// A new world with the topics of these options.
 fn opened(rt: &impl RandomSource, alloc: Global, options: &Options) -> Result<World, Memory>
     requires { AreInRange options.now }
-    ensures opening { IfOk result
+    ensures state { IfOk result
         (λ world. world ≡ opening_world (partition_counts options.now)) }
     ensures valid { IfOk result IsValidWorld }
 {
@@ -75,7 +75,7 @@ fn load_records<R: Threads + Sync>(
     records: &FileRecords,
 ) -> Result<(), Refusal>
     requires { AreOfTopics world.old.cluster.logs.counts (records_in records.now) }
-    ensures loads { LoadsRecords world.old (records_in records.now) result world.new }
+    ensures step { LoadsRecords world.old (records_in records.now) result world.new }
     ensures valid { OnOk result (IsValidWorld world.new) }
 {
     match records {
@@ -91,7 +91,7 @@ fn load_keys<R: Threads + Sync>(
     world: &mut World,
     keys: &FileKeys,
 ) -> Result<(), Refusal>
-    ensures loads { LoadsRecords world.old (in_first keys.now) result world.new }
+    ensures step { LoadsRecords world.old (in_first keys.now) result world.new }
     ensures valid { OnOk result (IsValidWorld world.new) }
 {
     let slices = keys.slices(alloc)?;
@@ -109,7 +109,7 @@ fn load_topic_keys<R: Threads + Sync>(
     keys: &TopicKeys,
 ) -> Result<(), Refusal>
     requires { AreOfTopics world.old.cluster.logs.counts (map record_of keys.now) }
-    ensures loads { LoadsRecords world.old (map record_of keys.now) result world.new }
+    ensures step { LoadsRecords world.old (map record_of keys.now) result world.new }
     ensures valid { OnOk result (IsValidWorld world.new) }
 {
     let (topics, slices) = keys.topics_and_slices(alloc)?;

@@ -22,14 +22,14 @@ loop-count-preserved c =
           let quota = share + w.one_of.result in
           let rest = shares_by share (heavy - 1) others (drop (i + 1) ns) in
           let pushed : c.if-share-count.quotas.items ≡ quotas ++ quota ∷ [] = rw w.quotas-is w.in_ok-push.ensures.items in
-          let next = heavy_by share heavy others ns i n c.loop-count-test.true at w.if-share-count.true ∙ ap (λ one. (share + one) ∷ rest) (sym w.one_of.ensures.one) in
+          let next = heavy_by share heavy others ns i n c.loop-count-test.true at w.if-share-count.true ∙ ap (λ one. (share + one) ∷ rest) (sym w.one_of.ensures.value) in
           let heavy_left : c.if-share-count.heavy_left ≡ heavy - 1 = omega arith in
           rw (heavy_left, w.others_left-is) (pushed_on quotas c.if-share-count.quotas.items quota rest left whole pushed next c.loop-count.invariant)
       | else-share-count+in_ok-push-2 w ↦
           let quota = share + w.one_of-else-share-count.result in
           let rest = shares_by share heavy (others - 1) (drop (i + 1) ns) in
           let pushed : c.if-share-count.quotas.items ≡ quotas ++ quota ∷ [] = rw w.quotas-is w.in_ok-push-2.ensures.items in
-          let next = light_by share heavy others ns i n c.loop-count-test.true at w.if-share-count.false ∙ ap (λ one. (share + one) ∷ rest) (sym w.one_of-else-share-count.ensures.one) in
+          let next = light_by share heavy others ns i n c.loop-count-test.true at w.if-share-count.false ∙ ap (λ one. (share + one) ∷ rest) (sym w.one_of-else-share-count.ensures.value) in
           let others_left : c.if-share-count.others_left ≡ others - 1 = omega arith in
           rw (w.heavy_left-is, others_left) (pushed_on quotas c.if-share-count.quotas.items quota rest left whole pushed next c.loop-count.invariant)
     ]

@@ -49,10 +49,10 @@ quotas partitions rows =
     shares share for_heavy (more - for_heavy) rows
 
 -- each member retains the lowest partitions that it owns, up to its quota
-abbrev pub keeping : List ℕ → List PartitionSet → List PartitionSet
-keeping [] rows = []
-keeping (q ∷ qs) [] = []
-keeping (q ∷ qs) (row ∷ rows) = lowest q row ∷ keeping qs rows
+abbrev pub retaining : List ℕ → List PartitionSet → List PartitionSet
+retaining [] rows = []
+retaining (q ∷ qs) [] = []
+retaining (q ∷ qs) (row ∷ rows) = lowest q row ∷ retaining qs rows
 
 -- the partitions that are in no row
 abbrev pub free_of : ℕ → List PartitionSet → PartitionSet
@@ -61,18 +61,18 @@ free_of partitions (row ∷ rows) = minus (free_of partitions rows) row
 
 -- what each row lacks of its quota
 abbrev pub gaps : List ℕ → List PartitionSet → List ℕ
-gaps [] kept = []
+gaps [] retained = []
 gaps (q ∷ qs) [] = []
 gaps (q ∷ qs) (k ∷ ks) = (q - size k) ∷ gaps qs ks
 
 -- the free partitions, in rising order, fill the gaps one after the other
 abbrev pub filled : PartitionSet → List ℕ → List PartitionSet → List PartitionSet
-filled free [] kept = []
+filled free [] retained = []
 filled free (g ∷ gs) [] = []
 filled free (g ∷ gs) (k ∷ ks) = union k (lowest g free) ∷ filled (minus free (lowest g free)) gs ks
 
 abbrev pub filled_up : ℕ → List ℕ → List PartitionSet → List PartitionSet
-filled_up partitions qs kept = filled (free_of partitions kept) (gaps qs kept) kept
+filled_up partitions qs retained = filled (free_of partitions retained) (gaps qs retained) retained
 
 -- the free partitions that a row gets, up to its quota
 abbrev pub given_of : ℕ → PartitionSet → PartitionSet → PartitionSet
@@ -81,14 +81,14 @@ given_of quota row free = lowest (quota - size (lowest quota row)) free
 -- each member's row: what it retains, and the free partitions that it gets
 abbrev pub filled_rows : PartitionSet → List ℕ → List ℕ → SetRows → SetRows
 filled_rows free qs ms owned =
-    let kept = keeping qs (sets_of owned ms) in
+    let retained = retaining qs (sets_of owned ms) in
     record {
       partitions = owned.partitions;
-      rows = pair_up ms (filled free (gaps qs kept) kept);
+      rows = pair_up ms (filled free (gaps qs retained) retained);
     }
 
 -- quotas, then what is retained, then the free partitions
 abbrev pub filling : ℕ → List PartitionSet → List PartitionSet
 filling partitions owned =
     let qs = quotas partitions owned in
-    filled_up partitions qs (keeping qs owned)
+    filled_up partitions qs (retaining qs owned)

@@ -19,7 +19,7 @@ pub record IsLeaseOver (c : ConsumerState) (l : PartitionLogs) (lease : LeaseTer
   pub within : BeginsWithin lease l
 
 -- the committed offset in a reply, the new one or that of a mismatch, is at most the end of the log
-abbrev pub TellsWithin : ℕ → Result ℕ Refusal → PartitionLogs → Type 0
-TellsWithin p (Ok committed) l = committed ≤ length (log_at l p)
-TellsWithin p (Err (r.OffsetMismatch committed)) l = committed ≤ length (log_at l p)
-TellsWithin p (Err refusal) l = ⊤
+abbrev pub IsReplyWithin : ℕ → Result ℕ Refusal → PartitionLogs → Type 0
+IsReplyWithin p (Ok committed) l = committed ≤ length (log_at l p)
+IsReplyWithin p (Err (r.OffsetMismatch committed)) l = committed ≤ length (log_at l p)
+IsReplyWithin p (Err refusal) l = ⊤

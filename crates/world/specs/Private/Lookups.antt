@@ -21,5 +21,5 @@ is_refusal_of (Some c) = r.OutOfGroup
 
 -- why a consumer cannot make requests: there is none for the number, or it is out
 pub record IsNotAsking (w : WorldState) (m : ℕ) (why : Refusal) : Type 0 where
-  pub told : why ≡ is_refusal_of (consumer_of w m)
+  pub replied : why ≡ is_refusal_of (consumer_of w m)
   pub out : (c : ConsumerState) → consumer_of w m ≡ Some c → c.member ≡ None

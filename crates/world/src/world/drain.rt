@@ -4,7 +4,7 @@ ghost use Rattle.std.specs.Prelude.{◌≡◌, ◌≢◌, ◌≤◌, ◌<◌, Er
 ghost use Rattle.lane_words.specs.declared.Refusal.TheVariants as refusal;
 ghost use Rattle.bit_planes.specs.PartitionSet.{elements};
 ghost use Rattle.commit_store.specs.Commits.{AreEndsCommitted};
-ghost use Rattle.group_laws.specs.Rounds.{bare, finish};
+ghost use Rattle.group_laws.specs.Rounds.{without_flags, rebalance_result};
 ghost use Rattle.group_machine.specs.Settled.{is_settled};
 ghost use Rattle.world.specs.Courses.{Follows, for_each};
 ghost use Rattle.world.specs.Draining.{drain_log, drain_member, drain_members, draining, held_by, is_read_up, read_on};
@@ -24,9 +24,9 @@ impl World {
     /// Fails as `settle` does, or with the first event that is refused; earlier events stand.
     pub fn drain(&mut self, batch: u32) -> Result<(), Refusal>
         requires { 1 ≤ batch }
-        ensures follows { Follows self.old (draining batch self.old) result self.new }
-        ensures four_passes { result ≢ Err refusal.NotSettled }
-        ensures end { OnOk result (bare self.new.cluster.group ≡ finish self.old.cluster.group) }
+        ensures step { Follows self.old (draining batch self.old) result self.new }
+        ensures kind { result ≢ Err refusal.NotSettled }
+        ensures end { OnOk result (without_flags self.new.cluster.group ≡ rebalance_result self.old.cluster.group) }
         ensures settled { OnOk result (is_settled self.new.cluster.group ≡ true) }
         ensures committed { OnOk result (AreEndsCommitted self.new.cluster.store
             self.new.cluster.logs) }

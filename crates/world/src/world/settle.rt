@@ -6,8 +6,8 @@ ghost use Rattle.lane_words.specs.declared.Refusal.TheVariants as refusal;
 ghost use Rattle.bit_planes.specs.PartitionSet.{elements};
 ghost use Rattle.group_machine.specs.NextSteps.{has_to_rejoin};
 ghost use Rattle.group_machine.specs.State.{is_joined, is_present, is_synced, members};
-ghost use Rattle.group_laws.specs.Rounds.{bare, finish};
-ghost use Rattle.group_laws.specs.Passes.{is_calm};
+ghost use Rattle.group_laws.specs.Rounds.{without_flags, rebalance_result};
+ghost use Rattle.group_laws.specs.Passes.{is_settled_and_synced};
 ghost use Rattle.world.specs.Courses.{Follows, for_each, happens};
 ghost use Rattle.world.specs.Settling.{commit_pending, flush, forgiven, is_pending, pass, passes, rejoin_if_due, settling, sync_if_new, turn};
 ghost use Rattle.world.specs.Valid.{IsValidWorld};
@@ -31,10 +31,10 @@ impl World {
     /// Fails with `NobodyPresent`, and then nothing has changed; or with the first event that is
     /// refused (`MailFull`, `GenerationsOver` or `Memory`), where earlier events stand.
     pub fn settle(&mut self) -> Result<(), Refusal>
-        ensures follows { Follows self.old (settling self.old) result self.new }
-        ensures four_passes { result ≢ Err refusal.NotSettled }
-        ensures calm { OnOk result (is_calm self.new.cluster.group ≡ true) }
-        ensures end { OnOk result (bare self.new.cluster.group ≡ finish self.old.cluster.group) }
+        ensures step { Follows self.old (settling self.old) result self.new }
+        ensures kind { result ≢ Err refusal.NotSettled }
+        ensures settled { OnOk result (is_settled_and_synced self.new.cluster.group ≡ true) }
+        ensures end { OnOk result (without_flags self.new.cluster.group ≡ rebalance_result self.old.cluster.group) }
         ensures valid { IsValidWorld self.new }
     {
         match self.cluster().phase() {
@@ -48,20 +48,20 @@ impl World {
         ensures { Follows self.old (passes 4 self.old) result self.new }
     {
         for _ in 0..MOST_PASSES {
-            if self.is_calm() {
+            if self.is_settled_and_synced() {
                 return Ok(());
             }
             self.make_pass()?;
         }
-        if self.is_calm() {
+        if self.is_settled_and_synced() {
             return Ok(());
         }
         Err(Refusal::NotSettled)
     }
 
     /// Whether the group is settled, and each member has synced.
-    fn is_calm(&self) -> bool
-        ensures { result ≡ is_calm self.now.cluster.group }
+    fn is_settled_and_synced(&self) -> bool
+        ensures { result ≡ is_settled_and_synced self.now.cluster.group }
     {
         self.cluster().is_settled() && self.has_everybody_synced()
     }
@@ -120,8 +120,8 @@ impl World {
 
     /// Rejoins a member that has to, after it committed what is pending of what it gives up.
     fn rejoin_if_due(&mut self, member: u32) -> Result<(), Refusal>
-        requires here { is_present self.old.cluster.group member ≡ true }
-        requires synced { (is_joined self.old.cluster.group member
+        requires present { is_present self.old.cluster.group member ≡ true }
+        requires state { (is_joined self.old.cluster.group member
             || is_synced self.old.cluster.group member) ≡ true }
         ensures { Follows self.old (rejoin_if_due member self.old) result self.new }
     {
@@ -134,8 +134,8 @@ impl World {
 
     /// The partitions that a present member gives up by its rejoin, if it has to rejoin.
     fn given_up_by(&self, member: u32) -> Option<Plane>
-        requires here { is_present self.now.cluster.group member ≡ true }
-        requires synced { (is_joined self.now.cluster.group member
+        requires present { is_present self.now.cluster.group member ≡ true }
+        requires state { (is_joined self.now.cluster.group member
             || is_synced self.now.cluster.group member) ≡ true }
         ensures { MatchOption result (has_to_rejoin self.now.cluster.group member ≡ false)
             (GivesUp self.now.cluster.group member) }

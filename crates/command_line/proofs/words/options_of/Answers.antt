@@ -16,11 +16,11 @@ returns-clause-options c =
         topics = topics;
         topic_column = c.number_of-3.ensures;
         in_range = record {
-          partitions = number_in _ 4 4096 _ (omega arith, omega arith) c.requires.tested.partitions c.number_of.ensures;
-          column = number_in _ 1 65535 _ (omega arith, omega arith) c.requires.tested.column c.number_of-2.ensures;
+          partitions = number_in _ 4 4096 _ (omega arith, omega arith) c.requires.present.partitions c.number_of.ensures;
+          column = number_in _ 1 65535 _ (omega arith, omega arith) c.requires.present.column c.number_of-2.ensures;
           batch = c.requires.batch;
           topics = may_be_topics _ _ topics;
-          topic_column = number_in _ 2 65535 _ (omega arith, omega arith) c.requires.tested.topic_column c.number_of-3.ensures;
+          topic_column = number_in _ 2 65535 _ (omega arith, omega arith) c.requires.present.topic_column c.number_of-3.ensures;
         };
       },
       refl,

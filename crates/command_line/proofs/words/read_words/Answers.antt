@@ -6,8 +6,8 @@ use Rattle.clap.specs.Faults.{fault_of, is_simple_and_free}
 use Rattle.clap.specs.Words.{found_of, rows_of}
 use Rattle.clap.specs.Walk.{Row, Text}
 use Rattle.command_line.specs.CommandLine.{keycount_app}
-use Rattle.command_line.specs.Private.CommandLine.{TakesCount, TakesScript, TellsBadList}
-use Rattle.command_line.proofs.Entered.{bad_list_told, keycount_free, list_told, matches_are, none_told, takes_count, takes_none, takes_replay, takes_run, told, told_rows}
+use Rattle.command_line.specs.Private.CommandLine.{AreCountRows, AreScriptRows, ReportsBadList}
+use Rattle.command_line.proofs.Entered.{bad_list_reported, keycount_free, bad_list_is_refusal, matches_are, none_entered, takes_count, takes_none, takes_replay, takes_run, reported, entered_rows}
 use Rattle.command_line.proofs.words.read_words.Goals as goal
 
 pub returns-in-Err-clause-usage : goal.returns-in-Err-clause-usage
@@ -15,45 +15,45 @@ returns-in-Err-clause-usage c =
     let words = map (λ (w : Bor Text). w.now) c.args.words.now in
     let app : app_of c.in-Ok.command ≡ keycount_app = c.in-Ok.ensures in
     let free : is_simple_and_free (app_of c.in-Ok.command) ≡ true = ap is_simple_and_free app ∙ keycount_free in
-    told words _ c.in-Err.error _ (ap (λ a. fault_of a words) app) c.usage_of.ensures (c.in-Err.ensures.kinds free)
+    reported words _ c.in-Err.error _ (ap (λ a. fault_of a words) app) c.usage_of.ensures (c.in-Err.ensures.kinds free)
 
 pub unreachable-requires : goal.unreachable-requires
 unreachable-requires c =
     let words = map (λ (w : Bor Text). w.now) c.args.words.now in
     let found = c.in-Ok-try_get_matches_from.ensures in
     let job = matches_are c.in-Ok.command words _ c.in-Ok.ensures found.matches found.kinds in
-    none_told _ _ _ job.entered c.in_default-subcommand.ensures.rows
+    none_entered _ _ _ job.entered c.in_default-subcommand.ensures.rows
 
 pub count_job-requires : goal.count_job-requires
 count_job-requires c =
     let words = map (λ (w : Bor Text). w.now) c.args.words.now in
     let found = c.in-Ok-try_get_matches_from.ensures in
     let job = matches_are c.in-Ok.command words _ c.in-Ok.ensures found.matches found.kinds in
-    let met = told_rows _ _ _ _ _ job.entered c.in-Some.ensures.name c.in-Some.ensures.rows in
-    subst TakesCount met.1 (takes_count _ _ job.tested (met.0 ∙ c.in-count.is))
+    let met = entered_rows _ _ _ _ _ job.entered c.in-Some.ensures.name c.in-Some.ensures.rows in
+    subst AreCountRows met.1 (takes_count _ _ job.tested (met.0 ∙ c.in-count.is))
 
 pub replay_job-requires : goal.replay_job-requires
 replay_job-requires c =
     let words = map (λ (w : Bor Text). w.now) c.args.words.now in
     let found = c.in-Ok-try_get_matches_from.ensures in
     let job = matches_are c.in-Ok.command words _ c.in-Ok.ensures found.matches found.kinds in
-    let met = told_rows _ _ _ _ _ job.entered c.in-Some.ensures.name c.in-Some.ensures.rows in
-    subst TakesScript met.1 (takes_replay _ _ job.tested (met.0 ∙ c.in-replay.is))
+    let met = entered_rows _ _ _ _ _ job.entered c.in-Some.ensures.name c.in-Some.ensures.rows in
+    subst AreScriptRows met.1 (takes_replay _ _ job.tested (met.0 ∙ c.in-replay.is))
 
 pub run_job-requires : goal.run_job-requires
 run_job-requires c =
     let words = map (λ (w : Bor Text). w.now) c.args.words.now in
     let found = c.in-Ok-try_get_matches_from.ensures in
     let job = matches_are c.in-Ok.command words _ c.in-Ok.ensures found.matches found.kinds in
-    let met = told_rows _ _ _ _ _ job.entered c.in-Some.ensures.name c.in-Some.ensures.rows in
-    subst TakesScript met.1 (takes_run _ _ job.tested (met.0 ∙ c.in-run.is))
+    let met = entered_rows _ _ _ _ _ job.entered c.in-Some.ensures.name c.in-Some.ensures.rows in
+    subst AreScriptRows met.1 (takes_run _ _ job.tested (met.0 ∙ c.in-run.is))
 
 pub unreachable-requires-in_default-name : goal.unreachable-requires-in_default-name
 unreachable-requires-in_default-name c =
     let words = map (λ (w : Bor Text). w.now) c.args.words.now in
     let found = c.in-Ok-try_get_matches_from.ensures in
     let job = matches_are c.in-Ok.command words _ c.in-Ok.ensures found.matches found.kinds in
-    let met = told_rows _ _ _ _ _ job.entered c.in-Some.ensures.name c.in-Some.ensures.rows in
+    let met = entered_rows _ _ _ _ _ job.entered c.in-Some.ensures.name c.in-Some.ensures.rows in
     takes_none _ _ job.tested (λ e. c.in_default-name.not-count (sym met.0 ∙ e)) (λ e. c.in_default-name.not-replay (sym met.0 ∙ e)) (λ e. c.in_default-name.not-run (sym met.0 ∙ e))
 
 pub returns-in-count-clause-job : goal.returns-in-count-clause-job
@@ -61,7 +61,7 @@ returns-in-count-clause-job c =
     let words = map (λ (w : Bor Text). w.now) c.args.words.now in
     let found = c.in-Ok-try_get_matches_from.ensures in
     let job = matches_are c.in-Ok.command words _ c.in-Ok.ensures found.matches found.kinds in
-    let met = told_rows _ _ _ _ _ job.entered c.in-Some.ensures.name c.in-Some.ensures.rows in
+    let met = entered_rows _ _ _ _ _ job.entered c.in-Some.ensures.name c.in-Some.ensures.rows in
     IfOk-weaker c.count_job.result _ _
     (λ r is. record {
       rows = rows_of (found_of c.in-Some.given.now);
@@ -76,17 +76,17 @@ returns-in-count-clause-usage c =
     let words = map (λ (w : Bor Text). w.now) c.args.words.now in
     let found = c.in-Ok-try_get_matches_from.ensures in
     let job = matches_are c.in-Ok.command words _ c.in-Ok.ensures found.matches found.kinds in
-    let met = told_rows _ _ _ _ _ job.entered c.in-Some.ensures.name c.in-Some.ensures.rows in
+    let met = entered_rows _ _ _ _ _ job.entered c.in-Some.ensures.name c.in-Some.ensures.rows in
     IfErr-weaker c.count_job.result _ _
-    (λ usage tells. list_told words job.name job.rows usage job.taken job.subcommand (subst (λ rows. TellsBadList rows usage) (sym met.1) tells))
-    c.count_job.ensures.bad
+    (λ usage reports. bad_list_is_refusal words job.name job.rows usage job.taken job.subcommand (subst (λ rows. ReportsBadList rows usage) (sym met.1) reports))
+    c.count_job.ensures.fault
 
 pub returns-in-replay-clause-job : goal.returns-in-replay-clause-job
 returns-in-replay-clause-job c =
     let words = map (λ (w : Bor Text). w.now) c.args.words.now in
     let found = c.in-Ok-try_get_matches_from.ensures in
     let job = matches_are c.in-Ok.command words _ c.in-Ok.ensures found.matches found.kinds in
-    let met = told_rows _ _ _ _ _ job.entered c.in-Some.ensures.name c.in-Some.ensures.rows in
+    let met = entered_rows _ _ _ _ _ job.entered c.in-Some.ensures.name c.in-Some.ensures.rows in
     IfOk-weaker c.replay_job.result _ _
     (λ r is. record {
       rows = rows_of (found_of c.in-Some.given.now);
@@ -101,17 +101,17 @@ returns-in-replay-clause-usage c =
     let words = map (λ (w : Bor Text). w.now) c.args.words.now in
     let found = c.in-Ok-try_get_matches_from.ensures in
     let job = matches_are c.in-Ok.command words _ c.in-Ok.ensures found.matches found.kinds in
-    let met = told_rows _ _ _ _ _ job.entered c.in-Some.ensures.name c.in-Some.ensures.rows in
+    let met = entered_rows _ _ _ _ _ job.entered c.in-Some.ensures.name c.in-Some.ensures.rows in
     IfErr-weaker c.replay_job.result _ _
-    (λ usage tells. list_told words job.name job.rows usage job.taken job.subcommand (subst (λ rows. TellsBadList rows usage) (sym met.1) tells))
-    c.replay_job.ensures.bad
+    (λ usage reports. bad_list_is_refusal words job.name job.rows usage job.taken job.subcommand (subst (λ rows. ReportsBadList rows usage) (sym met.1) reports))
+    c.replay_job.ensures.fault
 
 pub returns-in-run-clause-job : goal.returns-in-run-clause-job
 returns-in-run-clause-job c =
     let words = map (λ (w : Bor Text). w.now) c.args.words.now in
     let found = c.in-Ok-try_get_matches_from.ensures in
     let job = matches_are c.in-Ok.command words _ c.in-Ok.ensures found.matches found.kinds in
-    let met = told_rows _ _ _ _ _ job.entered c.in-Some.ensures.name c.in-Some.ensures.rows in
+    let met = entered_rows _ _ _ _ _ job.entered c.in-Some.ensures.name c.in-Some.ensures.rows in
     IfOk-weaker c.run_job.result _ _
     (λ r is. record {
       rows = rows_of (found_of c.in-Some.given.now);
@@ -126,23 +126,23 @@ returns-in-run-clause-usage c =
     let words = map (λ (w : Bor Text). w.now) c.args.words.now in
     let found = c.in-Ok-try_get_matches_from.ensures in
     let job = matches_are c.in-Ok.command words _ c.in-Ok.ensures found.matches found.kinds in
-    let met = told_rows _ _ _ _ _ job.entered c.in-Some.ensures.name c.in-Some.ensures.rows in
+    let met = entered_rows _ _ _ _ _ job.entered c.in-Some.ensures.name c.in-Some.ensures.rows in
     IfErr-weaker c.run_job.result _ _
-    (λ usage tells. list_told words job.name job.rows usage job.taken job.subcommand (subst (λ rows. TellsBadList rows usage) (sym met.1) tells))
-    c.run_job.ensures.bad
+    (λ usage reports. bad_list_is_refusal words job.name job.rows usage job.taken job.subcommand (subst (λ rows. ReportsBadList rows usage) (sym met.1) reports))
+    c.run_job.ensures.fault
 
-pub returns-in-Err-clause-list : goal.returns-in-Err-clause-list
-returns-in-Err-clause-list c =
-    bad_list_told (map (λ (w : Bor Text). w.now) c.args.words.now) (Err c.usage_of.result) tt (returns-in-Err-clause-usage c)
+pub returns-in-Err-clause-topics : goal.returns-in-Err-clause-topics
+returns-in-Err-clause-topics c =
+    bad_list_reported (map (λ (w : Bor Text). w.now) c.args.words.now) (Err c.usage_of.result) tt (returns-in-Err-clause-usage c)
 
-pub returns-in-count-clause-list : goal.returns-in-count-clause-list
-returns-in-count-clause-list c =
-    bad_list_told (map (λ (w : Bor Text). w.now) c.args.words.now) c.count_job.result (returns-in-count-clause-job c) (returns-in-count-clause-usage c)
+pub returns-in-count-clause-topics : goal.returns-in-count-clause-topics
+returns-in-count-clause-topics c =
+    bad_list_reported (map (λ (w : Bor Text). w.now) c.args.words.now) c.count_job.result (returns-in-count-clause-job c) (returns-in-count-clause-usage c)
 
-pub returns-in-replay-clause-list : goal.returns-in-replay-clause-list
-returns-in-replay-clause-list c =
-    bad_list_told (map (λ (w : Bor Text). w.now) c.args.words.now) c.replay_job.result (returns-in-replay-clause-job c) (returns-in-replay-clause-usage c)
+pub returns-in-replay-clause-topics : goal.returns-in-replay-clause-topics
+returns-in-replay-clause-topics c =
+    bad_list_reported (map (λ (w : Bor Text). w.now) c.args.words.now) c.replay_job.result (returns-in-replay-clause-job c) (returns-in-replay-clause-usage c)
 
-pub returns-in-run-clause-list : goal.returns-in-run-clause-list
-returns-in-run-clause-list c =
-    bad_list_told (map (λ (w : Bor Text). w.now) c.args.words.now) c.run_job.result (returns-in-run-clause-job c) (returns-in-run-clause-usage c)
+pub returns-in-run-clause-topics : goal.returns-in-run-clause-topics
+returns-in-run-clause-topics c =
+    bad_list_reported (map (λ (w : Bor Text). w.now) c.args.words.now) c.run_job.result (returns-in-run-clause-job c) (returns-in-run-clause-usage c)

@@ -19,14 +19,14 @@ pub bounds-held-p : goal.bounds-held-p
 bounds-held-p c =
     let new = next_in _ _ _ _ _ c.in-Some.p c.next.new.self c.in-Some.ensures.steps c.loop-p.invariant in
     let below = in_below c.args.lease.now.assigned c.in-Some.p (in_first c.args.lease.now.assigned c.args.holding.now c.in-Some.p new) in
-    omega (arith, below, c.loop-p.invariant.long, c.requires.one_each)
+    omega (arith, below, c.loop-p.invariant.long, c.requires.len)
 
 pub loop-p-preserved : goal.loop-p-preserved
 loop-p-preserved c =
     let p = c.in-Some.p in
     let new = next_in _ _ _ _ _ p c.next.new.self c.in-Some.ensures.steps c.loop-p.invariant in
     let below = in_below c.args.lease.now.assigned p (in_first c.args.lease.now.assigned c.args.holding.now p new) in
-    one_written _ _ _ c.loop-p.held _ p c.next.new.self _ c.in-Some.ensures.steps (omega (arith, below, c.requires.one_each))
+    one_written _ _ _ c.loop-p.held _ p c.next.new.self _ c.in-Some.ensures.steps (omega (arith, below, c.requires.len))
     (ap (λ n. Some (record { base = n; position = n })) c.start-start.ensures ∙ sym (lease_starts c.args.lease.now c.args.holding.now c.args.held.now c.requires.holding p new)) c.loop-p.invariant
 
 pub returns-clause-slots : goal.returns-clause-slots
@@ -37,4 +37,4 @@ returns-clause-slots c =
 pub returns-clause-holding : goal.returns-clause-holding
 returns-clause-holding c =
     let over : c.loop-p.p-iterator ≡ [] = search rules in
-    lease_holding c.args.lease.now c.args.holding.now _ c.args.held.now c.loop-p.held c.requires.holding (sym c.requires.one_each) c.loop-p.invariant.long (c.union.ensures.value ∙ ap (union c.args.holding.now) c.assigned-2.ensures) (slot_written _ _ _ c.loop-p.held _ over c.loop-p.invariant)
+    lease_holding c.args.lease.now c.args.holding.now _ c.args.held.now c.loop-p.held c.requires.holding (sym c.requires.len) c.loop-p.invariant.long (c.union.ensures.value ∙ ap (union c.args.holding.now) c.assigned-2.ensures) (slot_written _ _ _ c.loop-p.held _ over c.loop-p.invariant)

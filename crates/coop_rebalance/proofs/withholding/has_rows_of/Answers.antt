@@ -17,7 +17,7 @@ same-requires c =
 pub returns-then-not-same : goal.returns-then-not-same
 returns-then-not-same c =
     let turn = row_turn c.args.others.now _ _ _ c.loop-member.yielded _ (c.in-Some.member, c.in-Some.row) c.iter-member-items.ensures.valid (cc) c.loop-member.yielded_by c.in-Some.is c.next.ensures.steps in
-    record { rows = tells_lack c.args.rows.now c.args.others.now c.in-Some.member c.in-Some.row.now turn.found (λ e. let same : c.in-Some-get.own.now ≡ c.in-Some.row.now = cc (e, c.in-Some-get.ensures.value) in cc (c.same.ensures.equal.1 same, c.if-not-same.true)); valid = c.iter-member-items.ensures.valid }
+    record { rows = tells_lack c.args.rows.now c.args.others.now c.in-Some.member c.in-Some.row.now turn.found (λ e. let same : c.in-Some-get.own.now ≡ c.in-Some.row.now = cc (e, c.in-Some-get.ensures.value) in cc (c.same.ensures.iff.1 same, c.if-not-same.true)); valid = c.iter-member-items.ensures.valid }
 
 pub loop-member-preserved : goal.loop-member-preserved
 loop-member-preserved c =
@@ -26,7 +26,7 @@ loop-member-preserved c =
     record {
       next = tt;
       ends = tt;
-      so_far = rw next (one_more c.args.rows.now c.args.others.now (length c.loop-member.yielded) (c.in-Some.member, c.in-Some.row.now) turn.within turn.at (c.in-Some-get.ensures.value ∙ ap Some (c.same.ensures.equal.0 c.if-not-same.false)) c.loop-member.invariant.so_far);
+      so_far = rw next (one_more c.args.rows.now c.args.others.now (length c.loop-member.yielded) (c.in-Some.member, c.in-Some.row.now) turn.within turn.at (c.in-Some-get.ensures.value ∙ ap Some (c.same.ensures.iff.0 c.if-not-same.false)) c.loop-member.invariant.so_far);
     }
 
 pub returns : goal.returns

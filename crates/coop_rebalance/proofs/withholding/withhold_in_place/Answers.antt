@@ -12,20 +12,20 @@ use Rattle.coop_rebalance.proofs.withholding.withhold_in_place.Goals as goal
 pub loop-member-init : goal.loop-member-init
 loop-member-init c = record { next = tt; ends = tt; so_far = withheld_none c.args.rows.now c.args.granted.now }
 
-pub beside-requires-clause-some : goal.beside-requires-clause-some
-beside-requires-clause-some c =
+pub to_others-requires-clause-nonempty : goal.to_others-requires-clause-nonempty
+to_others-requires-clause-nonempty c =
     let turn = row_turn c.args.granted.now _ _ _ c.loop-member.yielded _ (c.in-Some.member, c.in-Some.own) c.iter-member-items.ensures.valid (cc) c.loop-member.yielded_by c.in-Some.is c.next.ensures.steps in
     c.of-grants.ensures.some_below ∙ sym turn.below
 
-pub beside-requires-clause-several : goal.beside-requires-clause-several
-beside-requires-clause-several c =
+pub to_others-requires-clause-several : goal.to_others-requires-clause-several
+to_others-requires-clause-several c =
     let turn = row_turn c.args.granted.now _ _ _ c.loop-member.yielded _ (c.in-Some.member, c.in-Some.own) c.iter-member-items.ensures.valid (cc) c.loop-member.yielded_by c.in-Some.is c.next.ensures.steps in
     c.of-grants.ensures.several_below ∙ sym turn.below
 
 pub remove_from-requires : goal.remove_from-requires
 remove_from-requires c =
     let turn = row_turn c.args.granted.now _ _ _ c.loop-member.yielded _ (c.in-Some.member, c.in-Some.own) c.iter-member-items.ensures.valid (cc) c.loop-member.yielded_by c.in-Some.is c.next.ensures.steps in
-    c.beside.ensures.partitions ∙ turn.below ∙ sym (ap (λ (r : SetRows). r.partitions) c.loop-member.invariant.so_far ∙ c.requires.partitions)
+    c.to_others.ensures.partitions ∙ turn.below ∙ sym (ap (λ (r : SetRows). r.partitions) c.loop-member.invariant.so_far ∙ c.requires.partitions)
 
 pub loop-member-preserved : goal.loop-member-preserved
 loop-member-preserved c =
@@ -34,8 +34,8 @@ loop-member-preserved c =
     record {
       next = tt;
       ends = tt;
-      so_far = rw (next, turn.more) (withheld_one c.args.rows.now c.args.granted.now c.loop-member.rows c.remove_from.new.self (take (length c.loop-member.yielded) c.args.granted.now.rows) (c.in-Some.member, c.in-Some.own.now) c.beside.result
-          (λ q. c.beside.ensures.elements q ∙ others_beside c.of-grants.result.some c.of-grants.result.several c.in-Some.own.now c.args.granted.now c.in-Some.member q c.iter-member-items.ensures.valid c.of-grants.ensures turn.found)
+      so_far = rw (next, turn.more) (withheld_one c.args.rows.now c.args.granted.now c.loop-member.rows c.remove_from.new.self (take (length c.loop-member.yielded) c.args.granted.now.rows) (c.in-Some.member, c.in-Some.own.now) c.to_others.result
+          (λ q. c.to_others.ensures.elements q ∙ others_beside c.of-grants.result.some c.of-grants.result.several c.in-Some.own.now c.args.granted.now c.in-Some.member q c.iter-member-items.ensures.valid c.of-grants.ensures turn.found)
           c.loop-member.invariant.so_far c.remove_from.ensures.value);
     }
 

@@ -6,7 +6,7 @@ use Rattle.report_rows.specs.Rows.{total_row}
 use Rattle.ingest.specs.RecordFaults.{fault_or, first_fault}
 use Rattle.ingest.specs.Records.{partition_counts, records_in}
 use Rattle.ingest.proofs.Faulted.{fault_told}
-use Rattle.ingest.proofs.Told.{as_answer}
+use Rattle.ingest.proofs.ReadFaults.{as_answer}
 use Rattle.count_report.specs.CountReport.{report_of_records}
 use Rattle.report_rows.proofs.Counts.{counts-are}
 use Rattle.count_report.proofs.count.plain_report.Goals as goal

@@ -13,8 +13,8 @@ merge-requires-clause-numbers g c =
     let log = counted-log l p i c.args.group.now c.args.group.now c.counts-item.result c.in-Ok.partial its refl c.counts-item.is c.in-Ok.is in
     subst (λ (ids : List ℕ). HaveCounters c.loop-counts.table.counts ids) (sym log) (in-counters l p c.loop-counts.table.counts c.requires.valid c.loop-counts.invariant)
 
-pub merge-requires-clause-fit : goal.merge-requires-clause-fit
-merge-requires-clause-fit g c =
+pub merge-requires-clause-sums : goal.merge-requires-clause-sums
+merge-requires-clause-sums g c =
     let l = g.L.LogRead.contents c.args.logs.now in
     let i = c.loop-counts.counts-index in
     let p = c.args.from + i in

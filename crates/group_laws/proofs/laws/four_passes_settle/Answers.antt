@@ -1,4 +1,4 @@
-use Rattle.group_laws.proofs.CalmLemmas.{four_passes}
+use Rattle.group_laws.proofs.FourPasses.{four_passes}
 use Rattle.group_laws.proofs.laws.four_passes_settle.Goals as goal
 
 pub returns : goal.returns

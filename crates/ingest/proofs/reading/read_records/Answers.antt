@@ -2,9 +2,9 @@ use Rattle.std.proofs.Common.{◌≡◌, ◌∙◌, Bor, List, ℕ, Err, false, 
 use Rattle.std.specs.Prelude.{◌==◌}
 use Rattle.std.specs.Result.{result_map_both}
 use Rattle.partitioner.specs.declared.topic.Topic.{Topic}
-use Rattle.key_file.specs.KeyFile.{topic_keys_of}
+use Rattle.csv_ingest.specs.KeyFile.{topic_keys_of}
 use Rattle.ingest.specs.Records.{record_of, records_of}
-use Rattle.ingest.proofs.Told.{as_answer}
+use Rattle.ingest.proofs.ReadFaults.{as_answer}
 use Rattle.ingest.proofs.Taken.{first-among, records-refused, topic-records, topics-among}
 use Rattle.ingest.proofs.reading.read_records.Goals as goal
 

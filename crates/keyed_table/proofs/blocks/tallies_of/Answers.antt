@@ -8,6 +8,6 @@ overflow_add-index_mut c =
     let ids = c.args.ids.now in
     let at = c.loop-id.id-index in
     let tallies = c.loop-id.tallies.items in
-    let within : get_or ids at 0 < length tallies = omega (arith, c.requires.within at (omega arith), c.loop-id.invariant.len) in
+    let within : get_or ids at 0 < length tallies = omega (arith, c.requires.bound at (omega arith), c.loop-id.invariant.len) in
     let is = get_or_read tallies (get_or ids at 0) c.index_mut.result.now within c.index_mut.ensures.value 0 in
     omega (arith, is, tally-fits ids tallies at c.loop-id.invariant.counts)

@@ -12,7 +12,7 @@ pub bounds-cells-ids-in-loop-at : goal.bounds-cells-ids-in-loop-at
 bounds-cells-ids-in-loop-at c = next-within c.args.cells.now c.args.ids.now c.loop-at.cells c.loop-at.at c.requires.numbers c.loop-at.invariant (omega arith)
 
 pub overflow_add-cells : goal.overflow_add-cells
-overflow_add-cells c = omega (arith, next-fits c.args.cells.now c.args.ids.now c.loop-at.cells c.loop-at.at c.requires.fit c.loop-at.invariant (omega arith))
+overflow_add-cells c = omega (arith, next-fits c.args.cells.now c.args.ids.now c.loop-at.cells c.loop-at.at c.requires.sums c.loop-at.invariant (omega arith))
 
 pub loop-at-preserved : goal.loop-at-preserved
 loop-at-preserved c = counted-more c.args.cells.now c.args.ids.now c.loop-at.cells c.loop-at.at c.requires.numbers c.loop-at.invariant (omega arith)

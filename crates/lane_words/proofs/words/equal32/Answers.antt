@@ -1,5 +1,5 @@
 use Rattle.std.proofs.Common.{◌∙◌, ap, not, sym, arith, bit_xor}
-use Rattle.lane_words.proofs.Kernels.{set_more, lanes_more, lanes_found, lanes_none, is_set-pos, is_set-zero, told_none, equal_is, equal_told, rests}
+use Rattle.lane_words.proofs.Kernels.{set_more, lanes_more, lanes_found, lanes_none, is_set-pos, is_set-zero, none_set, equal_is, equal_by_bits, rests}
 use Rattle.lane_words.proofs.words.equal32.Goals as goal
 
 pub loop-at-preserved : goal.loop-at-preserved
@@ -11,10 +11,10 @@ loop-at-preserved c = record {
 
 pub returns-then-found-eq0 : goal.returns-then-found-eq0
 returns-then-found-eq0 c =
-    let told = equal_told _ _ c.equal32_by_eight.result (rests c.loop-at.at c.args.a.now c.args.b.now c.requires) c.equal32_by_eight.ensures in
+    let told = equal_by_bits _ _ c.equal32_by_eight.result (rests c.loop-at.at c.args.a.now c.args.b.now c.requires) c.equal32_by_eight.ensures in
     equal_is c.args.a.now c.args.b.now _ c.requires (told ∙ ap not (lanes_none bit_xor c.loop-at.at c.loop-at.found c.args.a.now c.args.b.now c.requires c.loop-at.invariant.within c.loop-at.invariant.so_far (is_set-zero _ c.if-found-eq0.true)))
 
 pub returns-else-found-eq0 : goal.returns-else-found-eq0
 returns-else-found-eq0 c =
     let some = is_set-pos _ (let t = c.if-found-eq0.false in omega arith) in
-    equal_is c.args.a.now c.args.b.now _ c.requires (told_none _ ∙ ap not (some ∙ sym (lanes_found bit_xor c.loop-at.at c.loop-at.found c.args.a.now c.args.b.now c.requires c.loop-at.invariant.within c.loop-at.invariant.so_far some)))
+    equal_is c.args.a.now c.args.b.now _ c.requires (none_set _ ∙ ap not (some ∙ sym (lanes_found bit_xor c.loop-at.at c.loop-at.found c.args.a.now c.args.b.now c.requires c.loop-at.invariant.within c.loop-at.invariant.so_far some)))

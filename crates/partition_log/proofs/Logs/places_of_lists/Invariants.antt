@@ -1,5 +1,5 @@
 use Rattle.std.proofs.Common.{◌≡◌, map, take}
-use Rattle.key_numbers.specs.Keys.{lent_lists}
+use Rattle.key_index.specs.Keys.{lent_lists}
 use Rattle.partition_log.specs.Keys.{of_first}
 use Rattle.partition_log.specs.Logs.{place_in}
 use Rattle.partition_log.proofs.Logs.places_of_lists.Given as goal

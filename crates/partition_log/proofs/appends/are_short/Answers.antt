@@ -5,7 +5,7 @@ use Rattle.lane_words.specs.declared.limits.TheConstants.{LONGEST_KEY}
 use Rattle.partition_log.specs.Appends.{lent}
 use Rattle.partition_log.specs.Keys.{Key}
 use Rattle.partition_log.specs.Private.Filled.{AreShort}
-use Rattle.key_numbers.proofs.ShardRecords.{lent-key, lent-long}
+use Rattle.key_index.proofs.ShardRecords.{lent-key, lent-long}
 use Rattle.partition_log.proofs.appends.are_short.Goals as goal
 
 pub loop-i-preserved : goal.loop-i-preserved

@@ -15,7 +15,7 @@ loop-i-init c =
     }
 
 pub index_mut-log-requires : goal.index_mut-log-requires
-index_mut-log-requires c = omega (arith, c.loop-i.invariant.each, c.requires.places c.loop-i.i 0 c.loop-i-test.true)
+index_mut-log-requires c = omega (arith, c.loop-i.invariant.each, c.requires.partitions c.loop-i.i 0 c.loop-i-test.true)
 
 pub loop-i-preserved : goal.loop-i-preserved
 loop-i-preserved c =
@@ -26,8 +26,8 @@ loop-i-preserved c =
     let place = get_or places i 0 in
     let inv = c.loop-i.invariant in
     let lt : i < length places = c.loop-i-test.true in
-    let lt_ids : i < length ids = omega (arith, lt, c.requires.as_many) in
-    let below : place < length logs = omega (arith, inv.each, c.requires.places i 0 lt) in
+    let lt_ids : i < length ids = omega (arith, lt, c.requires.len) in
+    let below : place < length logs = omega (arith, inv.each, c.requires.partitions i 0 lt) in
     let old : get_or (map vec_items logs) place [] ≡ vec_items c.index_mut-log.result.now = get_or-map vec_items logs place c.index_mut-log.result.now [] below ∙ ap vec_items (sym c.index_mut-log.ensures.value) in
     let more : map vec_items (slice_set logs place c.push.new.self) ≡ slice_set (map vec_items logs) place (get_or (map vec_items logs) place [] ++ get_or ids i 0 ∷ []) =
     map-set vec_items logs place c.push.new.self ∙ ap (slice_set (map vec_items logs) place) (c.in_ok-push.ensures.items ∙ ap (λ log. log ++ get_or ids i 0 ∷ []) (sym old)) in

@@ -1,7 +1,7 @@
 use Rattle.std.proofs.Common.{◌≡◌, take}
-use Rattle.key_lists.specs.Lists.{joined}
+use Rattle.record_batch.specs.Lists.{concatenated}
 use Rattle.partition_log.specs.Appends.{lent}
 use Rattle.partition_log.proofs.lists.slices_of.Given as goal
 
 abbrev pub invariant-loop-i : goal.invariant-loop-i
-invariant-loop-i l = lent l.keys.items ≡ joined (take l.i l.lists)
+invariant-loop-i l = lent l.keys.items ≡ concatenated (take l.i l.lists)

@@ -10,7 +10,7 @@ place_of_hash-requires c = c.requires.topics.among c.loop-i.i 0 (omega (arith, c
 
 pub loop-i-preserved : goal.loop-i-preserved
 loop-i-preserved c =
-    one_placed c.args.self.now (λ i. get_or c.args.topics.now i 0) c.loop-i.i c.args.hashes.now c.loop-i.hashes c.place_of_hash.result c.loop-i-test.true c.loop-i.invariant c.place_of_hash.ensures.place
+    one_placed c.args.self.now (λ i. get_or c.args.topics.now i 0) c.loop-i.i c.args.hashes.now c.loop-i.hashes c.place_of_hash.result c.loop-i-test.true c.loop-i.invariant c.place_of_hash.ensures.partition
 
 pub returns : goal.returns
 returns c = all_placed c.args.self.now (λ i. get_or c.args.topics.now i 0) c.loop-i.i c.args.hashes.now c.loop-i.hashes (omega (arith, c.loop-i-test.false)) c.loop-i.invariant

@@ -4,8 +4,8 @@ use Rattle.std.proofs.lemmas.List.{get_or-take}
 use Rattle.partitioner.proofs.Counts.{place_within}
 use Rattle.partitioner.proofs.Partitions.place_of_hash.Goals as goal
 
-pub returns-clause-within : goal.returns-clause-within
-returns-clause-within c =
+pub returns-clause-bound : goal.returns-clause-bound
+returns-clause-bound c =
     let here = c.self.inside in
     let counts = subst AreCounts c.self.view_is c.self.invariant.1 in
     let long = ap length c.self.view_is in

@@ -1,6 +1,6 @@
 use Rattle.std.proofs.Common.{ℕ, arith, get_or}
 use Rattle.std.proofs.Math.ListN.{length-set}
-use Rattle.partitioner.proofs.Groups.{known_set, lane_positive, lane_within, row_of_one_length}
+use Rattle.partitioner.proofs.Groups.{computed_set, lane_positive, lane_within, row_of_one_length}
 use Rattle.partitioner.proofs.hashing.hash_eight.Goals as goal
 
 pub offset_bounds-keys-a : goal.offset_bounds-keys-a
@@ -63,5 +63,5 @@ bounds-hashes-row c = omega (arith, lane_within c.args.keys.now c.requires.row.0
 pub loop-lane-preserved : goal.loop-lane-preserved
 loop-lane-preserved c = record {
   long = omega (arith, length-set {A = ℕ});
-  known = known_set c.args.keys.now c.loop-lane.hashes (get_or c.args.row c.loop-lane.lane 0) c.positive.result c.loop-lane.invariant.known (lane_positive c.args.keys.now c.args.row c.murmur2_x8-eight.result c.loop-lane.lane c.positive.result (omega arith) c.murmur2_x8-eight.ensures c.positive.ensures);
+  computed = computed_set c.args.keys.now c.loop-lane.hashes (get_or c.args.row c.loop-lane.lane 0) c.positive.result c.loop-lane.invariant.computed (lane_positive c.args.keys.now c.args.row c.murmur2_x8-eight.result c.loop-lane.lane c.positive.result (omega arith) c.murmur2_x8-eight.ensures c.positive.ensures);
 }

@@ -6,7 +6,7 @@ use Rattle.partitioner.proofs.hashing.hash_rest.Goals.{then-hashes-i, else-hashe
 
 pub loop-i-init : goal.loop-i-init
 unfolding AreHashedBelow
-loop-i-init c = record { long = c.requires.length; hashed = c.requires.known }
+loop-i-init c = record { long = c.requires.len; hashed = c.requires.computed }
 
 pub loop-i-preserved : goal.loop-i-preserved
 loop-i-preserved c =

@@ -4,7 +4,7 @@ use Rattle.std.specs.Option.{option_map_or}
 use Rattle.lane_words.specs.declared.Refusal.{Refusal}
 use Rattle.lane_words.specs.declared.Refusal.TheVariants as r
 use Rattle.ingest.specs.Records.{records_in}
-use Rattle.ingest.proofs.Told.{as_answer}
+use Rattle.ingest.proofs.ReadFaults.{as_answer}
 use Rattle.replay_report.specs.ReplayReport.{report_of_lines}
 use Rattle.replay_report.proofs.replay.report_of_lines.Goals as goal
 

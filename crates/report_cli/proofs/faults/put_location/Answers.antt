@@ -10,7 +10,7 @@ put_before-requires c =
     let few : length (decimal c.args.number) ≤ 20 = length-decimal-le 20 c.args.number (omega arith) (omega arith) c.ranges.number.fits in
     (omega (arith, c.write_digits-start.ensures.start), omega (arith, c.write_digits-start.ensures.start))
 
-pub returns-clause-room : goal.returns-clause-room
-returns-clause-room c =
+pub returns-clause-capacity : goal.returns-clause-capacity
+returns-clause-capacity c =
     let few : length (decimal c.args.number) ≤ 20 = length-decimal-le 20 c.args.number (omega arith) (omega arith) c.ranges.number.fits in
     omega (arith, c.write_digits-start.ensures.start, c.put_before.ensures.start)

@@ -17,7 +17,7 @@ loop-id-preserved g c =
     let from = c.args.from in
     let id = c.loop-id.id in
     let inv = c.loop-id.invariant in
-    let more = rows_more keys counts from id inv.within (omega (arith, c.requires.range)) c.requires.as_many in
+    let more = rows_more keys counts from id inv.within (omega (arith, c.requires.range)) c.requires.len in
     record {
       within = omega (arith, inv.within);
       rows = λ text begun.

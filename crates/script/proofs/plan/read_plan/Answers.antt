@@ -2,7 +2,7 @@ use Rattle.std.proofs.Common.{◌≡◌, ◌≤◌, ◌∙◌, ◌+◌, ap, arit
 use Rattle.std.proofs.lemmas.Bool.Decides.{nat_tests}
 use Rattle.std.proofs.lemmas.List.Sums.{fold_push}
 use Rattle.std.proofs.lemmas.Result.{err_from_is_err_and}
-use Rattle.script.proofs.PlanProgress.{not_refused, plan-all, plan-fault, plan-refused, plan-silent, plan-taken, with_lines, without_a_line}
+use Rattle.script.proofs.PlanProgress.{not_refused, plan-all, plan-fault, plan-refused, plan-silent, plan-accepted, with_lines, without_a_line}
 use Rattle.script.proofs.PlanRules.{none-allowed, push-allowed}
 use Rattle.script.specs.Plan.{entered, nobody_yet, plan_answer, plan_of}
 use Rattle.script.proofs.plan.read_plan.Goals as goal
@@ -25,29 +25,29 @@ returns-in_err-change c =
 pub returns-in_err-take : goal.returns-in_err-take
 returns-in_err-take c =
     let p = err_from_is_err_and c.from_residual-in_err-take.result c.from_residual-in_err-take.ensures.1 in
-    let said = rw c.in-Some.is at c.in_ok-change.ensures in
+    let parsed = rw c.in-Some.is at c.in_ok-change.ensures in
     let refused = rw c.loop-rest.invariant.roster at c.in_err-take.ensures.answer in
     rw (p.1, p.2)
     (plan-fault c.loop-rest.lines.items (plan_answer c.args.bytes.now)
     (c.loop-rest.number + 1) c.loop-rest.rest.now c.first_line.result.0.now
     c.first_line.result.1.now c.in-Some.change _
     (c.first_line.ensures.lines (c.loop-rest.number + 1))
-    c.loop-rest.invariant.answer said refused)
+    c.loop-rest.invariant.answer parsed refused)
 
 pub loop-rest-preserved-in_ok-push : goal.loop-rest-preserved-in_ok-push
 loop-rest-preserved-in_ok-push c =
     let n = c.loop-rest.number + 1 in
     let before = c.loop-rest.lines.items in
     let change = c.in-Some.change in
-    let said = rw c.in-Some.is at c.in_ok-change.ensures in
+    let parsed = rw c.in-Some.is at c.in_ok-change.ensures in
     let taken = rw c.loop-rest.invariant.roster at c.in_ok-take.ensures.answer in
     let roster = c.in_ok-take.ensures.ok in
     rw c.in_ok-push.ensures.items
     (record {
       answer =
-          plan-taken before (plan_answer c.args.bytes.now) n c.loop-rest.rest.now
+          plan-accepted before (plan_answer c.args.bytes.now) n c.loop-rest.rest.now
           c.first_line.result.0.now c.first_line.result.1.now change (c.first_line.ensures.lines n)
-          c.loop-rest.invariant.answer said taken;
+          c.loop-rest.invariant.answer parsed taken;
       roster =
           roster
           ∙ ap (λ before. entered before change) c.loop-rest.invariant.roster

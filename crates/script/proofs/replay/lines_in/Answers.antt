@@ -16,14 +16,14 @@ returns-in_err-action c =
 
 pub loop-rest-preserved-in_ok-push : goal.loop-rest-preserved-in_ok-push
 loop-rest-preserved-in_ok-push c =
-    let said = rw c.in-Some.is at c.in_ok-action.ensures in
+    let parsed = rw c.in-Some.is at c.in_ok-action.ensures in
     record {
       answer = rw c.in_ok-push.ensures.items
           (read-more c.args.topics.now c.loop-rest.lines.items (read_answer_in c.args.topics.now c.args.bytes.now)
           (c.loop-rest.number + 1) c.loop-rest.rest.now c.first_line.result.0.now
           c.first_line.result.1.now (Some c.in-Some.action)
           (c.first_line.ensures.lines (c.loop-rest.number + 1))
-          c.loop-rest.invariant.answer said);
+          c.loop-rest.invariant.answer parsed);
       few = omega arith;
     }
 

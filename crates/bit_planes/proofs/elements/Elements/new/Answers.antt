@@ -7,9 +7,9 @@ use Rattle.bit_planes.proofs.elements.Elements.new.Goals as goal
 pub returns-clause-value : goal.returns-clause-value
 returns-clause-value c = elements-first c.args.plane.now
 
-pub returns-clause-few : goal.returns-clause-few
-returns-clause-few c =
+pub returns-clause-bound : goal.returns-clause-bound
+returns-clause-bound c =
     let s = c.args.plane.now in
     let below = c.partitions.ensures.value in
     let most = size_most s in
-    omega (arith, ap length (elements-first s), length-elements s, rank_most s (partitions_of s), c.partitions.ensures.bounds)
+    omega (arith, ap length (elements-first s), length-elements s, rank_most s (partitions_of s), c.partitions.ensures.bound)

@@ -6,7 +6,7 @@ gone : {m n : ℕ} → m ≡ suc n → n < m
 gone e = omega (arith, e)
 
 pub overflow_add-self : goal.overflow_add-self
-overflow_add-self c = record { fits = omega (arith, c.in_ok-q.ensures.below) }
+overflow_add-self c = record { fits = omega (arith, c.in_ok-q.ensures.bound) }
 
 pub returns-in_err-q-clause-steps : goal.returns-in_err-q-clause-steps
 returns-in_err-q-clause-steps c =

@@ -10,8 +10,8 @@ is_set-requires c = omega (arith, c.if-q-self.true, c.self.invariant.few, c.self
 pub returns-then-q-self-clause-value : goal.returns-then-q-self-clause-value
 returns-then-q-self-clause-value c = c.is_set.ensures ∙ marks_are _ _ _ c.self.invariant.clear c.self.view_is c.args.q
 
-pub returns-then-q-self-clause-below : goal.returns-then-q-self-clause-below
-returns-then-q-self-clause-below c h =
+pub returns-then-q-self-clause-bound : goal.returns-then-q-self-clause-bound
+returns-then-q-self-clause-bound c h =
     let p = below_is _ _ _ c.self.view_is in
     omega (arith, p, c.if-q-self.true)
 

@@ -15,13 +15,13 @@ invariant_of-self c =
     record {
       some = c.self.invariant.some;
       few = c.self.invariant.few;
-      clear = with_clear _ _ _ c.args.q (omega (arith, p, c.requires)) c.self.invariant.clear c.set.ensures.marks;
+      clear = with_clear _ _ _ c.args.q (omega (arith, p, c.requires)) c.self.invariant.clear c.set.ensures.bits;
     }
 
 pub returns : goal.returns
 returns c =
     let marks = marks_are _ _ _ c.self.invariant.clear c.self.view_is in
-    let e = seen_with _ _ _ c.args.self.now c.args.q c.self.view_is marks c.set.ensures.marks in
+    let e = seen_with _ _ _ c.args.self.now c.args.q c.self.view_is marks c.set.ensures.bits in
     record {
       value = e;
       elements = λ n. ap (λ s. is_in s n) e ∙ in_with c.args.self.now c.args.q n c.requires;

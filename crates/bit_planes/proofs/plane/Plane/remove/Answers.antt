@@ -11,13 +11,13 @@ pub invariant_of-self : goal.invariant_of-self
 invariant_of-self c = record {
   some = c.self.invariant.some;
   few = c.self.invariant.few;
-  clear = without_clear _ _ _ c.args.q c.self.invariant.clear c.clear.ensures.marks;
+  clear = without_clear _ _ _ c.args.q c.self.invariant.clear c.clear.ensures.bits;
 }
 
 pub returns-then-q-self : goal.returns-then-q-self
 returns-then-q-self c =
     let marks = marks_are _ _ _ c.self.invariant.clear c.self.view_is in
-    let e = seen_without _ _ _ c.args.self.now c.args.q c.self.view_is marks c.clear.ensures.marks in
+    let e = seen_without _ _ _ c.args.self.now c.args.q c.self.view_is marks c.clear.ensures.bits in
     record {
       value = e;
       elements = λ n. ap (λ s. is_in s n) e ∙ in_without c.args.self.now c.args.q n;

@@ -12,10 +12,10 @@ invariant_of-self c = (less_there _ c.args.self.now c.args.member c.in-Ok.index 
 pub returns-in-Ok : goal.returns-in-Ok
 returns-in-Ok c =
     let less = less_there _ c.args.self.now c.args.member c.in-Ok.index c.args.plane.now c.remove_all.new.self c.index_mut.result.now c.self.view_is c.self.invariant c.in-Ok.ensures.found c.index_mut.ensures.value c.remove_all.ensures.value in
-    record { value = less.value; this = less.this; others = less.others; partitions = ap (λ (r : SetRows). r.partitions) less.value; valid = less.valid }
+    record { value = less.value; row = less.this; others = less.others; partitions = ap (λ (r : SetRows). r.partitions) less.value; valid = less.valid }
 
 pub returns-in_default-clause-value : goal.returns-in_default-clause-value
 returns-in_default-clause-value c = (less_nowhere c.args.self.now c.args.member c.in_default.field-0 c.args.plane.now (subst IsValidRows c.self.view_is c.self.invariant) c.in_default.ensures.absent).value
 
-pub returns-in_default-clause-this : goal.returns-in_default-clause-this
-returns-in_default-clause-this c = (less_nowhere c.args.self.now c.args.member c.in_default.field-0 c.args.plane.now (subst IsValidRows c.self.view_is c.self.invariant) c.in_default.ensures.absent).this
+pub returns-in_default-clause-row : goal.returns-in_default-clause-row
+returns-in_default-clause-row c = (less_nowhere c.args.self.now c.args.member c.in_default.field-0 c.args.plane.now (subst IsValidRows c.self.view_is c.self.invariant) c.in_default.ensures.absent).this

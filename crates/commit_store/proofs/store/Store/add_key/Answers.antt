@@ -7,5 +7,5 @@ use Rattle.commit_store.proofs.store.Store.add_key.Goals as goal
 pub returns-clause-exact : goal.returns-clause-exact
 returns-clause-exact c l e =
     let old = c.args.self.now in
-    let new : store_view (record { committed = c.self.inside.committed; counts = c.add_key.new.self }) ≡ record old { counts = old.counts ++ 0 ∷ []; room = old.room - 1 } = search rules in
-    subst (λ (s : Commits). IsExact s l) (sym new) (counter-exact old (old.room - 1) l e)
+    let new : store_view (record { committed = c.self.inside.committed; counts = c.add_key.new.self }) ≡ record old { counts = old.counts ++ 0 ∷ []; capacity = old.capacity - 1 } = search rules in
+    subst (λ (s : Commits). IsExact s l) (sym new) (counter-exact old (old.capacity - 1) l e)

@@ -19,8 +19,8 @@ merge-requires-clause-numbers g c =
     let have = have-counters old l c.args.p c.args.from ids logs taken.0 c.requires.counters in
     subst (λ (s : Commits). HaveCounters s.counts ids) (sym c.self.view_is) have
 
-pub merge-requires-clause-fit : goal.merge-requires-clause-fit
-merge-requires-clause-fit g c =
+pub merge-requires-clause-sums : goal.merge-requires-clause-sums
+merge-requires-clause-sums g c =
     let l = g.L.LogRead.contents c.args.logs.now in
     let old = c.args.self.now in
     let ids = c.args.partial.now in

@@ -1,5 +1,5 @@
 use Rattle.std.proofs.Common.{rules}
 use Rattle.commit_store.proofs.store.Store.reserve_key.Goals as goal
 
-pub returns-clause-room : goal.returns-clause-room
-returns-clause-room c = search rules
+pub returns-clause-capacity : goal.returns-clause-capacity
+returns-clause-capacity c = search rules

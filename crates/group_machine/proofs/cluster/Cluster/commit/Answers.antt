@@ -2,7 +2,7 @@ use Rattle.std.proofs.Common.{◌≡◌, Ok, rules}
 use Rattle.group_machine.specs.Cluster.{fence}
 use Rattle.group_machine.specs.Private.ClusterView.{cluster_view}
 use Rattle.group_machine.specs.Private.GroupView.{group_view}
-use Rattle.group_machine.proofs.ClusterLemmas.{partition-below, commit-kept}
+use Rattle.group_machine.proofs.ClusterLemmas.{partition-below, commit-valid}
 use Rattle.group_machine.proofs.cluster.Cluster.commit.Goals as goal
 
 pub commit-requires-clause-partition : goal.commit-requires-clause-partition
@@ -14,4 +14,4 @@ commit-requires-clause-partition c =
 pub invariant_of-self : goal.invariant_of-self
 invariant_of-self c =
     let step = c.commit.ensures in
-    commit-kept (group_view c.self.inside.group) c.self.inside.logs c.self.inside.store c.commit.new.self c.partition.result c.partial.result.now c.commit.result c.self.invariant step.ok step.err step.exact
+    commit-valid (group_view c.self.inside.group) c.self.inside.logs c.self.inside.store c.commit.new.self c.partition.result c.partial.result.now c.commit.result c.self.invariant step.ok step.err step.exact

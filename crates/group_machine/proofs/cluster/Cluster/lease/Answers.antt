@@ -7,5 +7,5 @@ use Rattle.group_machine.proofs.cluster.Cluster.lease.Goals as goal
 pub invariant_of-result : goal.invariant_of-result
 invariant_of-result c =
     let offsets = c.in_ok-starts.ensures.items ∙ c.offsets.ensures in
-    let assigned = c.copy-assigned.ensures ∙ c.in_ok-leasable.ensures.may.1 in
-    ap length offsets ∙ c.self.invariant.store_partitions ∙ sym (ap partitions_of assigned ∙ assigned_over (group_view c.self.inside.group) c.self.invariant.good.fit c.args.member)
+    let assigned = c.copy-assigned.ensures ∙ c.in_ok-leasable.ensures.ok.1 in
+    ap length offsets ∙ c.self.invariant.store_partitions ∙ sym (ap partitions_of assigned ∙ assigned_over (group_view c.self.inside.group) c.self.invariant.good.consistent c.args.member)

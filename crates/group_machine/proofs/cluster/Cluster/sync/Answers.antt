@@ -7,4 +7,4 @@ use Rattle.group_machine.proofs.cluster.Cluster.sync.Goals as goal
 pub invariant_of-self : goal.invariant_of-self
 invariant_of-self c =
     let step = c.mark_synced.ensures in
-    regrouped (cluster_view c.self.inside) (group_view c.mark_synced.new.self) c.self.invariant step.valid (ap (λ g. g.partitions) step.synced)
+    regrouped (cluster_view c.self.inside) (group_view c.mark_synced.new.self) c.self.invariant step.valid (ap (λ g. g.partitions) step.state)

@@ -9,7 +9,7 @@ use Rattle.group_machine.proofs.TableLemmas.{seats_over, all_present}
 use Rattle.group_machine.proofs.group.Group.is_settled.Goals as goal
 
 pub all_agree-requires : goal.all_agree-requires
-all_agree-requires c = (c.args.self.now.partitions, subst (λ (slots : List Slot). AreSeatsOver c.args.self.now.partitions slots) (sym c.deref.ensures.value) (seats_over (group_view c.args.self.now) c.requires.fit))
+all_agree-requires c = (c.args.self.now.partitions, subst (λ (slots : List Slot). AreSeatsOver c.args.self.now.partitions slots) (sym c.deref.ensures.value) (seats_over (group_view c.args.self.now) c.requires.consistent))
 
 pub returns-then-is_stable : goal.returns-then-is_stable
 returns-then-is_stable c =

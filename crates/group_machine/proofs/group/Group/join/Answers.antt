@@ -23,29 +23,29 @@ returns-then-len-ge-MOST_MEMBERS-clause-answer c =
     let fresh : is_name_used g c.args.name ≡ false = ap (λ slots. is_name_used (record g { slots = slots }) c.args.name) (sym c.deref.ensures.value) ∙ sym c.is_used.ensures ∙ c.if-is_used.false in
     inl (many_answer g c.args.name fresh (omega (arith, c.if-len-ge-MOST_MEMBERS.true, c.len.ensures, c.deref.ensures.len, ap length c.deref.ensures.value)))
 
-pub plan_completion-requires-clause-changed : goal.plan_completion-requires-clause-changed
-plan_completion-requires-clause-changed c name =
+pub plan_completion-requires-clause-state : goal.plan_completion-requires-clause-state
+plan_completion-requires-clause-state c name =
     let g : GroupState = group_view c.args.self.now in
-    let room : length g.slots < MOST_MEMBERS = omega (arith, c.if-len-ge-MOST_MEMBERS.false, c.len.ensures, c.deref.ensures.len, ap length c.deref.ensures.value) in
-    joining_changed g name c.requires room
+    let capacity : length g.slots < MOST_MEMBERS = omega (arith, c.if-len-ge-MOST_MEMBERS.false, c.len.ensures, c.deref.ensures.len, ap length c.deref.ensures.value) in
+    joining_changed g name c.requires capacity
 
 pub returns-in_err-planned-clause-answer : goal.returns-in_err-planned-clause-answer
 returns-in_err-planned-clause-answer c =
     let g : GroupState = group_view c.args.self.now in
     let fresh : is_name_used g c.args.name ≡ false = ap (λ slots. is_name_used (record g { slots = slots }) c.args.name) (sym c.deref.ensures.value) ∙ sym c.is_used.ensures ∙ c.if-is_used.false in
-    let room : length g.slots < MOST_MEMBERS = omega (arith, c.if-len-ge-MOST_MEMBERS.false, c.len.ensures, c.deref.ensures.len, ap length c.deref.ensures.value) in
+    let capacity : length g.slots < MOST_MEMBERS = omega (arith, c.if-len-ge-MOST_MEMBERS.false, c.len.ensures, c.deref.ensures.len, ap length c.deref.ensures.value) in
     let same : c.from_residual.result ≡ Err c.in_err-planned.field-0.0 = search rules in
     subst (λ (answer : Result ℕ Refusal). Answers (join_answer g c.args.name) answer) (sym same)
-    (subst (λ (expected : Result ℕ Refusal). Answers expected (Err c.in_err-planned.field-0.0)) (sym (join_go g c.args.name fresh room)) (refused_answer (joining g c.args.name) (length g.slots + 1) c.in_err-planned.field-0.0 (c.in_err-planned.ensures.err c.args.name)))
+    (subst (λ (expected : Result ℕ Refusal). Answers expected (Err c.in_err-planned.field-0.0)) (sym (join_go g c.args.name fresh capacity)) (refused_answer (joining g c.args.name) (length g.slots + 1) c.in_err-planned.field-0.0 (c.in_err-planned.ensures.err c.args.name)))
 
-pub complete-requires-clause-changed : goal.complete-requires-clause-changed
-complete-requires-clause-changed c =
+pub complete-requires-clause-state : goal.complete-requires-clause-state
+complete-requires-clause-state c =
     let g : GroupState = group_view c.args.self.now in
     let same : group_view c.plan_completion.new.self ≡ g = c.plan_completion.ensures.same in
     let slots = c.push_reserved.ensures.items ∙ ap (λ s. s ++ c.newcomer.result ∷ []) (c.reserve.ensures.items ∙ ap (λ a. a.slots) same) ∙ ap (λ s. g.slots ++ s ∷ []) (c.newcomer.ensures ∙ ap (λ a. newcomer a.partitions c.args.name) same) in
     let during = ap (λ a. with_phase a Preparing c.push_reserved.new.self.items) same ∙ ap (with_phase g Preparing) slots in
-    let room : length g.slots < MOST_MEMBERS = omega (arith, c.if-len-ge-MOST_MEMBERS.false, c.len.ensures, c.deref.ensures.len, ap length c.deref.ensures.value) in
-    subst IsChanged (sym during) (joining_changed g c.args.name c.requires room)
+    let capacity : length g.slots < MOST_MEMBERS = omega (arith, c.if-len-ge-MOST_MEMBERS.false, c.len.ensures, c.deref.ensures.len, ap length c.deref.ensures.value) in
+    subst IsChanged (sym during) (joining_changed g c.args.name c.requires capacity)
 
 pub complete-requires-clause-planned : goal.complete-requires-clause-planned
 complete-requires-clause-planned c =
@@ -59,6 +59,6 @@ pub returns-clause-answer : goal.returns-clause-answer
 returns-clause-answer c =
     let g : GroupState = group_view c.args.self.now in
     let fresh : is_name_used g c.args.name ≡ false = ap (λ slots. is_name_used (record g { slots = slots }) c.args.name) (sym c.deref.ensures.value) ∙ sym c.is_used.ensures ∙ c.if-is_used.false in
-    let room : length g.slots < MOST_MEMBERS = omega (arith, c.if-len-ge-MOST_MEMBERS.false, c.len.ensures, c.deref.ensures.len, ap length c.deref.ensures.value) in
+    let capacity : length g.slots < MOST_MEMBERS = omega (arith, c.if-len-ge-MOST_MEMBERS.false, c.len.ensures, c.deref.ensures.len, ap length c.deref.ensures.value) in
     let number : c.len-2.result + 1 ≡ length g.slots + 1 = omega (arith, c.len-2.ensures, c.deref.ensures.len, ap length c.deref.ensures.value) in
-    inl (ap (λ (n : ℕ). Ok n) number ∙ planned_answer (joining g c.args.name) (length g.slots + 1) c.in_ok-planned.planned (c.in_ok-planned.ensures.ok c.args.name) ∙ sym (join_go g c.args.name fresh room))
+    inl (ap (λ (n : ℕ). Ok n) number ∙ planned_answer (joining g c.args.name) (length g.slots + 1) c.in_ok-planned.planned (c.in_ok-planned.ensures.ok c.args.name) ∙ sym (join_go g c.args.name fresh capacity))

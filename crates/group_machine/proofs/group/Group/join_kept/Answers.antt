@@ -4,21 +4,21 @@ use Rattle.std.specs.Option.{option_map}
 use Rattle.lane_words.specs.Answers.{Answers}
 use Rattle.group_machine.specs.Slots.{one_changed, only_of, seat_of}
 use Rattle.group_machine.specs.State.{GroupState, is_present}
-use Rattle.group_machine.specs.Steps.{kept_seat, join_answer, joined_by}
-use Rattle.group_machine.specs.Good.{IsValidGroup}
+use Rattle.group_machine.specs.Steps.{static_seat, join_answer, joined_by}
+use Rattle.group_machine.specs.Valid.{IsValidGroup}
 use Rattle.group_machine.specs.Private.GroupView.{group_view}
 use Rattle.group_machine.proofs.PresentLemmas.{length_reseated}
 use Rattle.group_machine.proofs.JoinLemmas.{joined_newcomer}
 use Rattle.group_machine.proofs.JoinLemmas.{accepted_join}
-use Rattle.group_machine.proofs.StepLemmas.{keep_good, with_slots}
+use Rattle.group_machine.proofs.StepLemmas.{keep_valid, with_slots}
 use Rattle.group_machine.proofs.group.Group.join_kept.Goals as goal
 
 next_number : (g : GroupState) (name : List ℕ) (n : ℕ) → Answers (join_answer g name) (Ok n) → n ≡ length g.slots + 1
 next_number g name n (inl same) = (accepted_join g name n (sym same)).1
 next_number g name n (inr wrong) = absurd (cc wrong)
 
-pub keep-requires : goal.keep-requires
-keep-requires c =
+pub make_static-requires : goal.make_static-requires
+make_static-requires c =
     let old : GroupState = group_view c.args.self.now in
     let number : c.in_ok-number.number ≡ length old.slots + 1 = next_number old c.args.name c.in_ok-number.number c.in_ok-number.ensures.answer in
     let joined : group_view c.join.new.self ≡ joined_by old c.args.name = c.in_ok-number.ensures.ok in
@@ -29,9 +29,9 @@ keep-requires c =
 pub returns-clause-valid : goal.returns-clause-valid
 returns-clause-valid c =
     let g : GroupState = group_view c.join.new.self in
-    let long = ap length c.keep.ensures ∙ length_reseated (only_of c.in_ok-number.number (option_map kept_seat)) c.deref_mut.result.now ∙ c.deref_mut.ensures.len in
-    let slots = with_items_is c.join.new.self.slots c.keep.new.slots long ∙ c.keep.ensures ∙ ap (λ s. one_changed kept_seat s c.in_ok-number.number) c.deref_mut.ensures.value in
-    subst IsValidGroup (sym (ap (with_slots g) slots)) (keep_good g c.in_ok-number.number c.join.ensures.valid)
+    let long = ap length c.make_static.ensures ∙ length_reseated (only_of c.in_ok-number.number (option_map static_seat)) c.deref_mut.result.now ∙ c.deref_mut.ensures.len in
+    let slots = with_items_is c.join.new.self.slots c.make_static.new.slots long ∙ c.make_static.ensures ∙ ap (λ s. one_changed static_seat s c.in_ok-number.number) c.deref_mut.ensures.value in
+    subst IsValidGroup (sym (ap (with_slots g) slots)) (keep_valid g c.in_ok-number.number c.join.ensures.valid)
 
 pub returns-clause-answer : goal.returns-clause-answer
 returns-clause-answer c = search rules

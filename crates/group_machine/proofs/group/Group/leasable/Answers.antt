@@ -1,5 +1,5 @@
 use Rattle.std.proofs.Common.{rules}
 use Rattle.group_machine.proofs.group.Group.leasable.Goals as goal
 
-pub returns-clause-may : goal.returns-clause-may
-returns-clause-may c = search rules
+pub returns-clause-ok : goal.returns-clause-ok
+returns-clause-ok c = search rules

@@ -14,8 +14,8 @@ use Rattle.group_machine.proofs.StepLemmas.{leaving_changed}
 use Rattle.group_machine.proofs.TableLemmas.{with_phase, leave_go, refused_answer, planned_answer}
 use Rattle.group_machine.proofs.group.Group.leave.Goals as goal
 
-pub plan_completion-requires-clause-changed : goal.plan_completion-requires-clause-changed
-plan_completion-requires-clause-changed c name =
+pub plan_completion-requires-clause-state : goal.plan_completion-requires-clause-state
+plan_completion-requires-clause-state c name =
     let g : GroupState = group_view c.args.self.now in
     let here : is_present g c.args.member ≡ true = ap (λ slots. is_some (seat_of slots c.args.member)) (sym c.deref.ensures.value) ∙ sym c.is_present.ensures ∙ c.if-not-is_present.false in
     leaving_changed g c.args.member c.requires here
@@ -28,8 +28,8 @@ returns-in_err-planned-clause-answer c =
     subst (λ (answer : Result (Unit {0}) Refusal). Answers (leave_answer g c.args.member) answer) (sym same)
     (subst (λ (expected : Result (Unit {0}) Refusal). Answers expected (Err c.in_err-planned.field-0.0)) (sym (leave_go g c.args.member here)) (refused_answer (leaving g c.args.member) tt c.in_err-planned.field-0.0 (c.in_err-planned.ensures.err [])))
 
-pub complete-requires-clause-changed : goal.complete-requires-clause-changed
-complete-requires-clause-changed c =
+pub complete-requires-clause-state : goal.complete-requires-clause-state
+complete-requires-clause-state c =
     let g : GroupState = group_view c.args.self.now in
     let here : is_present g c.args.member ≡ true = ap (λ slots. is_some (seat_of slots c.args.member)) (sym c.deref.ensures.value) ∙ sym c.is_present.ensures ∙ c.if-not-is_present.false in
     let same : group_view c.plan_completion.new.self ≡ g = c.plan_completion.ensures.same in
@@ -63,4 +63,4 @@ returns-clause-ok c =
     let slots = items ∙ c.remove.ensures ∙ ap (λ s. without_seat s c.args.member) (c.deref_mut.ensures.value ∙ ap (λ a. a.slots) same) in
     let phase = c.phase_left-self.ensures ∙ ap (λ s. (left g s).phase) (c.deref-2.ensures.value ∙ slots) in
     let during = ap (λ a. with_phase a c.phase_left-self.result (with_items c.plan_completion.new.self.slots c.remove.new.slots).items) same ∙ ap (with_phase g c.phase_left-self.result) slots ∙ ap (λ p. with_phase g p (without_seat g.slots c.args.member)) phase in
-    c.complete.ensures.completed ∙ ap completed during
+    c.complete.ensures.state ∙ ap completed during

@@ -14,17 +14,17 @@ use Rattle.group_machine.proofs.PresentLemmas.{length_reseated}
 use Rattle.group_machine.proofs.TableLemmas.{seats_over, rows_below, complete_is}
 use Rattle.group_machine.proofs.group.Group.make.Goals as goal
 
-pub give-requires-clause-over : goal.give-requires-clause-over
-give-requires-clause-over c =
+pub give-requires-clause-valid : goal.give-requires-clause-valid
+give-requires-clause-valid c =
     let g : GroupState = group_view c.args.self.now in
-    let below = rows_below g c.args.completion.now.next c.requires.changed c.requires.some c.requires.completion.rows in
-    subst (λ (p : ℕ). AreSeatsOver p c.deref_mut-2.result.now) (sym below) (subst (λ (slots : List Slot). AreSeatsOver g.partitions slots) (sym c.deref_mut-2.ensures.value) (seats_over g c.requires.changed.fit))
+    let below = rows_below g c.args.completion.now.next c.requires.state c.requires.nonempty c.requires.completion.rows in
+    subst (λ (p : ℕ). AreSeatsOver p c.deref_mut-2.result.now) (sym below) (subst (λ (slots : List Slot). AreSeatsOver g.partitions slots) (sym c.deref_mut-2.ensures.value) (seats_over g c.requires.state.consistent))
 
 pub hold-requires : goal.hold-requires
 hold-requires c =
     let g : GroupState = group_view c.args.self.now in
     ap length (c.deref-2.ensures.value ∙ c.requires.completion.taken) ∙ length-map-range_with_len (taker g c.args.completion.now.next) 0 g.partitions
-    ∙ sym (ap length c.deref_mut.ensures.value ∙ c.requires.changed.sized.a_holder_each)
+    ∙ sym (ap length c.deref_mut.ensures.value ∙ c.requires.state.sized.a_holder_each)
 
 pub returns : goal.returns
 returns c =

@@ -16,8 +16,8 @@ use Rattle.group_machine.proofs.StepLemmas.{rejoining_changed}
 use Rattle.group_machine.proofs.TableLemmas.{with_phase, accepted_present, rejoin_go, refused_answer, planned_answer}
 use Rattle.group_machine.proofs.group.Group.rejoin.Goals as goal
 
-pub plan_completion-requires-clause-changed : goal.plan_completion-requires-clause-changed
-plan_completion-requires-clause-changed c name =
+pub plan_completion-requires-clause-state : goal.plan_completion-requires-clause-state
+plan_completion-requires-clause-state c name =
     let g : GroupState = group_view c.args.self.now in
     let here : is_present g c.args.member ≡ true = accepted_present g c.args.generation c.args.claim.now (member_of g c.args.member) (sym c.why_no_rejoin.ensures ∙ c.in_default.is) in
     rejoining_changed g c.args.member c.requires here
@@ -30,8 +30,8 @@ returns-in_err-planned-clause-answer c =
     subst (λ (answer : Result (Unit {0}) Refusal). Answers (rejoin_answer g c.args.member c.args.generation c.args.claim.now) answer) (sym same)
     (subst (λ (expected : Result (Unit {0}) Refusal). Answers expected (Err c.in_err-planned.field-0.0)) (sym (rejoin_go g c.args.member c.args.generation c.args.claim.now none)) (refused_answer (rejoining g c.args.member) tt c.in_err-planned.field-0.0 (c.in_err-planned.ensures.err [])))
 
-pub complete-requires-clause-changed : goal.complete-requires-clause-changed
-complete-requires-clause-changed c =
+pub complete-requires-clause-state : goal.complete-requires-clause-state
+complete-requires-clause-state c =
     let g : GroupState = group_view c.args.self.now in
     let here : is_present g c.args.member ≡ true = accepted_present g c.args.generation c.args.claim.now (member_of g c.args.member) (sym c.why_no_rejoin.ensures ∙ c.in_default.is) in
     let same : group_view c.plan_completion.new.self ≡ g = c.plan_completion.ensures.same in
@@ -62,4 +62,4 @@ returns-clause-ok c =
     let items = with_items_is c.plan_completion.new.self.slots c.rejoin.new.slots (ap length c.rejoin.ensures ∙ length_reseated (only_of c.args.member (option_map rejoined_seat)) c.deref_mut.result.now ∙ c.deref_mut.ensures.len) in
     let slots = items ∙ c.rejoin.ensures ∙ ap (λ s. one_changed rejoined_seat s c.args.member) (c.deref_mut.ensures.value ∙ ap (λ a. a.slots) same) in
     let during = ap (λ a. with_phase a Preparing (with_items c.plan_completion.new.self.slots c.rejoin.new.slots).items) same ∙ ap (with_phase g Preparing) slots in
-    c.complete.ensures.completed ∙ ap completed during
+    c.complete.ensures.state ∙ ap completed during

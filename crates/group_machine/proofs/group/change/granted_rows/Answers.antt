@@ -9,7 +9,7 @@ use Rattle.group_machine.proofs.group.change.granted_rows.Goals.{in-Some+in_ok-p
 pub put-requires : goal.put-requires
 put-requires c =
     let e = c.in-Some.ensures in
-    ap partitions_of (c.copy.ensures ∙ e.2) ∙ granted_over c.args.partitions c.args.change c.args.slots.now c.loop-index.index c.index-slots-index.result e.0 c.requires.over c.loop-index-test.true c.index-slots-index.is e.1
+    ap partitions_of (c.copy.ensures ∙ e.2) ∙ granted_over c.args.partitions c.args.change c.args.slots.now c.loop-index.index c.index-slots-index.result e.0 c.requires.valid c.loop-index-test.true c.index-slots-index.is e.1
     ∙ sym (ap (λ r. r.partitions) c.loop-index.invariant)
 
 pub loop-index-preserved : goal.loop-index-preserved

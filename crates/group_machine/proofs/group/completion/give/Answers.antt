@@ -11,7 +11,7 @@ use Rattle.group_machine.proofs.group.completion.give.Goals.{in-Some, in_default
 pub complete_seat-requires : goal.complete_seat-requires
 complete_seat-requires c =
     let at = given_seat_at (λ m. option_map (completed_seat c.args.next.now m)) c.args.slots.now c.loop-index.slots c.loop-index.index c.index-slots-index.result c.in-Some.seat c.loop-index.invariant.given (omega (arith, c.loop-index-test.true, c.loop-index.auto.slots)) c.in-Some.is in
-    (c.requires.over (suc c.loop-index.index) c.in-Some.seat at).granted ∙ sym c.row_for.ensures.partitions
+    (c.requires.valid (suc c.loop-index.index) c.in-Some.seat at).granted ∙ sym c.row_for.ensures.partitions
 
 pub loop-index-preserved : goal.loop-index-preserved
 loop-index-preserved c =
@@ -22,7 +22,7 @@ loop-index-preserved c =
     elim c.match-slots-index.branch [
       | in-Some w ↦
           let new : w.complete_seat.new.seat ≡ completed_seat next (index + 1) w.in-Some.seat =
-          w.complete_seat.ensures ∙ ap (λ r. record { joined = false; synced = false; kept = w.in-Some.seat.kept; granted = union w.in-Some.seat.granted r; assigned = r }) w.row_for.ensures.row in
+          w.complete_seat.ensures ∙ ap (λ r. record { joined = false; synced = false; is_static = w.in-Some.seat.is_static; granted = union w.in-Some.seat.granted r; assigned = r }) w.row_for.ensures.row in
           let seat : Some w.complete_seat.new.seat ≡ option_map (completed_seat next (index + 1)) (get_or now index d).seat = ap (λ x. Some x) new ∙ ap (option_map (completed_seat next (index + 1))) (sym w.in-Some.is) in
           record {
             long = c.match-slots-index.auto.slots ∙ c.loop-index.invariant.long;

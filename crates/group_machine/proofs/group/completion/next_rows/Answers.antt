@@ -14,4 +14,4 @@ assign-requires-clause-rows c =
     subst (HaveRows c.args.granted.now) (sym (c.deref.ensures.value ∙ same)) (have_rows c.args.granted.now)
 
 pub withhold_in_place-requires-clause-partitions : goal.withhold_in_place-requires-clause-partitions
-withhold_in_place-requires-clause-partitions c = ap (λ r. r.partitions) c.in_ok-rows.ensures.target ∙ below_assigned c.partitions.result c.deref.result.now c.args.granted.now ∙ c.partitions.ensures.value
+withhold_in_place-requires-clause-partitions c = ap (λ r. r.partitions) c.in_ok-rows.ensures.value ∙ below_assigned c.partitions.result c.deref.result.now c.args.granted.now ∙ c.partitions.ensures.value

@@ -6,5 +6,5 @@ abbrev pub invariant-loop-made : goal.invariant-loop-made
 invariant-loop-made l = record {
   items : l.moves.items ≡ l.fn.moves.items ++ take l.made-index l.new;
   long : vec_len l.moves ≡ vec_len l.fn.moves + l.made-index;
-  room : vec_capacity l.moves ≡ vec_capacity l.fn.moves;
+  capacity : vec_capacity l.moves ≡ vec_capacity l.fn.moves;
 }

@@ -10,21 +10,21 @@ use Rattle.group_machine.proofs.group.moves.takers_of.Goals as goal
 pub added-requires : goal.added-requires
 added-requires c =
     let turn = row_turn c.args.granted.now _ _ _ c.loop-member.yielded _ (c.in-Some.member, c.in-Some.plane) c.iter-member-items.ensures.valid (cc) c.loop-member.yielded_by c.in-Some.is c.next.ensures.steps in
-    c.in-Some-get.ensures.partitions ∙ c.requires.below ∙ sym turn.below
+    c.in-Some-get.ensures.partitions ∙ c.requires.partitions ∙ sym turn.below
 
 pub loop-member-preserved-in-Some-get : goal.loop-member-preserved-in-Some-get
 loop-member-preserved-in-Some-get c =
     let turn = row_turn c.args.granted.now _ _ _ c.loop-member.yielded _ (c.in-Some.member, c.in-Some.plane) c.iter-member-items.ensures.valid (cc) c.loop-member.yielded_by c.in-Some.is c.next.ensures.steps in
     let row : ℕ × PartitionSet = (c.in-Some.member, c.in-Some.plane.now) in
     let was = c.loop-member.invariant in
-    let same = with_items_is c.loop-member.takers c.take_added.new.takers (c.take_added.ensures.long ∙ c.deref_mut.ensures.len) in
+    let same = with_items_is c.loop-member.takers c.take_added.new.takers (c.take_added.ensures.len ∙ c.deref_mut.ensures.len) in
     let next = length_push c.loop-member.yielded (c.in-Some.member, c.in-Some.plane) in
     record {
       next = tt;
       ends = tt;
-      long = ap length same ∙ c.take_added.ensures.long ∙ ap length c.deref_mut.ensures.value ∙ was.long;
-      so_far = λ q lt. rw next (taker_given c.args.granted.now.rows (length c.loop-member.yielded) row c.args.next.now q c.in-Some-get.row.now c.added.result _ _ turn.within turn.at (λ m n e h. c.requires.apart m n q e h) c.in-Some-get.ensures.value (c.added.ensures.elements q) (ap (λ v. slice_index_or v q None) c.deref_mut.ensures.value ∙ was.so_far q lt)
-          (ap (λ v. slice_index_or v q None) same ∙ c.take_added.ensures.taken q (omega (arith, ap length c.deref_mut.ensures.value, was.long, lt))));
+      long = ap length same ∙ c.take_added.ensures.len ∙ ap length c.deref_mut.ensures.value ∙ was.long;
+      so_far = λ q lt. rw next (taker_given c.args.granted.now.rows (length c.loop-member.yielded) row c.args.next.now q c.in-Some-get.row.now c.added.result _ _ turn.within turn.at (λ m n e h. c.requires.disjoint m n q e h) c.in-Some-get.ensures.value (c.added.ensures.elements q) (ap (λ v. slice_index_or v q None) c.deref_mut.ensures.value ∙ was.so_far q lt)
+          (ap (λ v. slice_index_or v q None) same ∙ c.take_added.ensures.value q (omega (arith, ap length c.deref_mut.ensures.value, was.long, lt))));
     }
 
 pub loop-member-preserved : goal.loop-member-preserved
@@ -37,7 +37,7 @@ loop-member-preserved c =
       next = tt;
       ends = tt;
       long = was.long;
-      so_far = λ q lt. rw next (taker_rowless c.args.granted.now.rows (length c.loop-member.yielded) row c.args.next.now q _ turn.within turn.at (λ m n e h. c.requires.apart m n q e h) c.in_default.ensures.value (was.so_far q lt));
+      so_far = λ q lt. rw next (taker_rowless c.args.granted.now.rows (length c.loop-member.yielded) row c.args.next.now q _ turn.within turn.at (λ m n e h. c.requires.disjoint m n q e h) c.in_default.ensures.value (was.so_far q lt));
     }
 
 pub returns : goal.returns

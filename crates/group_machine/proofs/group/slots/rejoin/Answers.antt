@@ -8,7 +8,7 @@ use Rattle.group_machine.proofs.group.slots.rejoin.Goals as goal
 pub returns-in-Some : goal.returns-in-Some
 returns-in-Some c =
     let given = number_given c.args.slots.now c.args.member c.requires in
-    ap (λ s. set c.args.slots.now (c.args.member - 1) (slot_with (get_or c.args.slots.now (c.args.member - 1) c.index-slots-member.result).name (Some (record { joined = true; synced = c.in-Some.seat.synced; kept = c.in-Some.seat.kept; granted = s; assigned = c.in-Some.seat.assigned })))) c.copy-seat.ensures
+    ap (λ s. set c.args.slots.now (c.args.member - 1) (slot_with (get_or c.args.slots.now (c.args.member - 1) c.index-slots-member.result).name (Some (record { joined = true; synced = c.in-Some.seat.synced; is_static = c.in-Some.seat.is_static; granted = s; assigned = c.in-Some.seat.assigned })))) c.copy-seat.ensures
     ∙ ap (λ o. set c.args.slots.now (c.args.member - 1) (slot_with (get_or c.args.slots.now (c.args.member - 1) c.index-slots-member.result).name (option_map rejoined_seat o))) (sym c.in-Some.is)
     ∙ seat_put c.args.slots.now c.args.member c.index-slots-member.result (option_map rejoined_seat) given.0 given.1
 

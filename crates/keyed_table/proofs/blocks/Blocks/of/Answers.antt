@@ -8,4 +8,4 @@ loop-block-preserved c = c.in_ok-take.ensures c.args.ids.now (rw c.as_slice.ensu
 pub returns : goal.returns
 returns c =
     let end : c.loop-block.block ≡ c.args.bound = omega arith in
-    all-below c.args.bound c.args.ids.now c.loop-block.blocks.numbers.items c.loop-block.blocks.counts.items c.requires.within (rw (← end) c.loop-block.invariant)
+    all-below c.args.bound c.args.ids.now c.loop-block.blocks.numbers.items c.loop-block.blocks.counts.items c.requires.bound (rw (← end) c.loop-block.invariant)

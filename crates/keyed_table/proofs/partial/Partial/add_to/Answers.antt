@@ -12,7 +12,7 @@ add_to-requires-in-Numbers-clause-numbers c =
     let same : c.in-Numbers.counted ≡ c.args.self.now = ap list_of (sym c.in-Numbers.is) ∙ c.self.view_is in
     rw same c.requires.numbers
 
-pub add_to-requires-in-Rising-clause-numbers : goal.add_to-requires-in-Rising-clause-numbers
-add_to-requires-in-Rising-clause-numbers c =
-    let same : c.in-Rising.counted ≡ c.args.self.now = ap list_of (sym c.in-Rising.is) ∙ c.self.view_is in
+pub add_to-requires-in-Increasing-clause-numbers : goal.add_to-requires-in-Increasing-clause-numbers
+add_to-requires-in-Increasing-clause-numbers c =
+    let same : c.in-Increasing.counted ≡ c.args.self.now = ap list_of (sym c.in-Increasing.is) ∙ c.self.view_is in
     rw same c.requires.numbers

@@ -9,9 +9,9 @@ add_to-requires-clause-numbers c =
     let have = subst (λ (v : Counters). HaveCounters v.counts c.args.partial.now) (sym c.self.view_is) c.requires.numbers in
     rw c.deref_mut.ensures.value (cells-have c.self.inside.keys c.self.inside.cells.items c.args.partial.now have)
 
-pub add_to-requires-clause-fit : goal.add_to-requires-clause-fit
-add_to-requires-clause-fit c =
-    let fit = subst (λ (v : Counters). SumsFit v.counts c.args.partial.now) (sym c.self.view_is) c.requires.fit in
+pub add_to-requires-clause-sums : goal.add_to-requires-clause-sums
+add_to-requires-clause-sums c =
+    let fit = subst (λ (v : Counters). SumsFit v.counts c.args.partial.now) (sym c.self.view_is) c.requires.sums in
     rw c.deref_mut.ensures.value (cells-fit c.self.inside.keys c.self.inside.cells.items c.args.partial.now c.self.invariant fit)
 
 pub invariant_of-self : goal.invariant_of-self

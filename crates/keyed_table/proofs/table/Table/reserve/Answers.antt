@@ -4,5 +4,5 @@ use Rattle.keyed_table.proofs.table.Table.reserve.Goals as goal
 pub invariant_of-self : goal.invariant_of-self
 invariant_of-self c = search rules
 
-pub returns-in_ok-extend_from_slice-clause-room : goal.returns-in_ok-extend_from_slice-clause-room
-returns-in_ok-extend_from_slice-clause-room c = search rules
+pub returns-in_ok-extend_from_slice-clause-capacity : goal.returns-in_ok-extend_from_slice-clause-capacity
+returns-in_ok-extend_from_slice-clause-capacity c = search rules

@@ -1,8 +1,8 @@
 use Rattle.std.proofs.Common.{rules}
 use Rattle.replay_report.proofs.replay.lines.perform.Goals as goal
 
-pub returns-clause-refused : goal.returns-clause-refused
-returns-clause-refused c = search rules
+pub returns-clause-fault : goal.returns-clause-fault
+returns-clause-fault c = search rules
 
-pub returns-2-clause-performed : goal.returns-2-clause-performed
-returns-2-clause-performed c = search rules
+pub returns-2-clause-value : goal.returns-2-clause-value
+returns-2-clause-value c = search rules

@@ -1,5 +1,5 @@
 use Rattle.std.proofs.Common.{◌≡◌, ◌∙◌, [], Ok, Err, inl, rules, sym, ap}
-use Rattle.ingest.proofs.Told.{as_answer}
+use Rattle.ingest.proofs.ReadFaults.{as_answer}
 use Rattle.replay_report.specs.ReplayReport.{text_of_lines}
 use Rattle.replay_report.proofs.replay.lines.text_of_lines.Goals as goal
 
@@ -12,4 +12,4 @@ pub returns-in_err-write_lines-clause-answer : goal.returns-in_err-write_lines-c
 returns-in_err-write_lines-clause-answer c =
     let fault = c.in_err-write_lines.field-0.0 in
     let same : c.from_residual.result ≡ Err fault = search rules in
-    rw same (as_answer (text_of_lines c.args.topics.now c.args.batch c.args.world.now c.args.lines.now) fault c.in_err-write_lines.ensures.refused)
+    rw same (as_answer (text_of_lines c.args.topics.now c.args.batch c.args.world.now c.args.lines.now) fault c.in_err-write_lines.ensures.fault)

@@ -12,4 +12,4 @@ returns-clause-rows c text begun =
     let outcome = outcome_of_line c.args.batch c.args.world.now c.args.line.now.action in
     let from = ap length (c.moves-from.ensures ∙ ap (λ (s : ClusterState). s.group.moves) c.cluster.ensures.cluster) in
     rows_written c.args.topics.now (HasText c.write_answer.new.writer) text (rows_of_answer n answer) n (length c.moves-from.result.now) c.args.world.now c.perform.new.world c.cluster-2.result.now outcome answer
-    c.in_ok-answer.ensures.performed c.cluster-2.ensures.cluster from refl (c.in_ok-write_answer.ensures _ (c.in_ok-write_moves.ensures text begun))
+    c.in_ok-answer.ensures.value c.cluster-2.ensures.cluster from refl (c.in_ok-write_answer.ensures _ (c.in_ok-write_moves.ensures text begun))

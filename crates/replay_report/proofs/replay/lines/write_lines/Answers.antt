@@ -4,11 +4,11 @@ use Rattle.replay_report.specs.ReplayReport.{outcome_of_line, rows_of_line, text
 use Rattle.replay_report.proofs.Lines.{fault_before, lines_end, lines_fault, lines_step, text_step}
 use Rattle.replay_report.proofs.replay.lines.write_lines.Goals as goal
 
-pub returns-in_err-write_line-clause-refused : goal.returns-in_err-write_line-clause-refused
-returns-in_err-write_line-clause-refused c =
+pub returns-in_err-write_line-clause-fault : goal.returns-in_err-write_line-clause-fault
+returns-in_err-write_line-clause-fault c =
     let fault = c.in_err-write_line.field-0.0 in
     let told = lines_fault c.args.topics.now c.args.batch c.loop-line.world c.args.lines.now c.loop-line.line-index c.line-item.result (text_of_lines c.args.topics.now c.args.batch c.args.world.now c.args.lines.now) fault (omega arith) c.line-item.is
-    c.loop-line.invariant.fault c.in_err-write_line.ensures.refused in
+    c.loop-line.invariant.fault c.in_err-write_line.ensures.fault in
     search rules
 
 pub loop-line-preserved : goal.loop-line-preserved
@@ -18,7 +18,7 @@ loop-line-preserved c =
     let line = c.line-item.result in
     let ok = c.in_ok-write_line.ensures in
     let rows = rows_of_line c.args.topics.now line.number w (outcome_of_line batch w line.action) in
-    let step = lines_step c.args.topics.now batch w c.write_line.new.world c.args.lines.now c.loop-line.line-index line (omega arith) c.line-item.is ok.not_over ok.world in
+    let step = lines_step c.args.topics.now batch w c.write_line.new.world c.args.lines.now c.loop-line.line-index line (omega arith) c.line-item.is ok.accepted ok.world in
     record {
       text = λ text begun.
           let now = c.loop-line.invariant.text text begun in

@@ -9,10 +9,10 @@ use Rattle.replay_report.proofs.replay.loading.load_keys.Goals as goal
 events_are : (slices items : List (Bor Key)) (keys : List Key) → slices ≡ items → map (λ key. key.now) items ≡ keys → AreAppendsOf (appends_of slices) (in_first keys)
 events_are slices items keys e h = subst (λ ks. AreAppendsOf (appends_of slices) (in_first ks)) (ap lent e ∙ h) (first_appends slices)
 
-pub returns-in-Ok-clause-loads : goal.returns-in-Ok-clause-loads
-returns-in-Ok-clause-loads g c =
-    (appends_of c.as_slice.result.now, events_are c.as_slice.result.now c.in_ok-slices.slices.items c.args.keys.now c.as_slice.ensures.value c.in_ok-slices.ensures, c.in-Ok.ensures.loads)
+pub returns-in-Ok-clause-step : goal.returns-in-Ok-clause-step
+returns-in-Ok-clause-step g c =
+    (appends_of c.as_slice.result.now, events_are c.as_slice.result.now c.in_ok-slices.slices.items c.args.keys.now c.as_slice.ensures.value c.in_ok-slices.ensures, c.in-Ok.ensures.step)
 
-pub returns-clause-loads : goal.returns-clause-loads
-returns-clause-loads g c =
-    inr (c.in-Err.field-0-0, appends_of c.as_slice.result.now, events_are c.as_slice.result.now c.in_ok-slices.slices.items c.args.keys.now c.as_slice.ensures.value c.in_ok-slices.ensures, c.in-Err.ensures.loads)
+pub returns-clause-step : goal.returns-clause-step
+returns-clause-step g c =
+    inr (c.in-Err.field-0-0, appends_of c.as_slice.result.now, events_are c.as_slice.result.now c.in_ok-slices.slices.items c.args.keys.now c.as_slice.ensures.value c.in_ok-slices.ensures, c.in-Err.ensures.step)

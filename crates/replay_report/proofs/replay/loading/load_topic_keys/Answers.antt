@@ -1,5 +1,5 @@
 use Rattle.std.proofs.Common.{◌≡◌, Bor, List, ℕ, inr, length, map, subst}
-use Rattle.key_file.specs.KeyFile.{key_behind, topic_of}
+use Rattle.csv_ingest.specs.KeyFile.{key_behind, topic_of}
 use Rattle.partition_log.specs.Keys.{Key}
 use Rattle.world.specs.Runs.{appends_in}
 use Rattle.ingest.specs.Records.{record_of}
@@ -18,12 +18,12 @@ load_in-requires-after_bounds g c κs within =
     topics-are (length c.args.world.now.cluster.logs.counts) c.args.keys.now c.as_slice.result.now c.in_ok-topics.topics.items c.as_slice-2.result.now c.in_ok-topics.slices.items c.requires c.as_slice.ensures.value c.in_ok-topics.ensures.topics
     c.as_slice-2.ensures.value c.in_ok-topics.ensures.slices
 
-pub returns-in-Ok-clause-loads : goal.returns-in-Ok-clause-loads
-returns-in-Ok-clause-loads g c =
+pub returns-in-Ok-clause-step : goal.returns-in-Ok-clause-step
+returns-in-Ok-clause-step g c =
     let events = events_are c.args.keys.now c.as_slice.result.now c.in_ok-topics.topics.items c.as_slice-2.result.now c.in_ok-topics.slices.items c.as_slice.ensures.value c.in_ok-topics.ensures.topics c.as_slice-2.ensures.value c.in_ok-topics.ensures.slices in
-    (appends_in c.as_slice.result.now c.as_slice-2.result.now, events, c.in-Ok.ensures.loads)
+    (appends_in c.as_slice.result.now c.as_slice-2.result.now, events, c.in-Ok.ensures.step)
 
-pub returns-clause-loads : goal.returns-clause-loads
-returns-clause-loads g c =
+pub returns-clause-step : goal.returns-clause-step
+returns-clause-step g c =
     let events = events_are c.args.keys.now c.as_slice.result.now c.in_ok-topics.topics.items c.as_slice-2.result.now c.in_ok-topics.slices.items c.as_slice.ensures.value c.in_ok-topics.ensures.topics c.as_slice-2.ensures.value c.in_ok-topics.ensures.slices in
-    inr (c.in-Err.field-0-0, appends_in c.as_slice.result.now c.as_slice-2.result.now, events, c.in-Err.ensures.loads)
+    inr (c.in-Err.field-0-0, appends_in c.as_slice.result.now c.as_slice-2.result.now, events, c.in-Err.ensures.step)

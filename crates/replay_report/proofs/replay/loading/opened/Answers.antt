@@ -5,9 +5,9 @@ use Rattle.world.specs.Runs.{IsOpening}
 use Rattle.replay_report.proofs.Opening.{opening_is}
 use Rattle.replay_report.proofs.replay.loading.opened.Goals as goal
 
-pub returns-clause-opening : goal.returns-clause-opening
-returns-clause-opening g c =
+pub returns-clause-state : goal.returns-clause-state
+returns-clause-state g c =
     let new = c.in_ok-world.ensures in
     let same = c.as_slice.ensures.value ∙ c.in_ok-counts.ensures.value in
     let w = c.in_ok-world.world in
-    opening_is (partition_counts c.args.options.now) w (subst (λ cs. IsOpening (sum cs) w) same new.opening) (new.counts ∙ same) new.offsets new.valid new.opening.room
+    opening_is (partition_counts c.args.options.now) w (subst (λ cs. IsOpening (sum cs) w) same new.state) (new.counts ∙ same) new.offsets new.valid new.state.capacity

@@ -11,8 +11,8 @@ next xs i v h e = rw add-one (drop-cons xs i v h ∙ ap (λ x. x ∷ drop (suc i
 
 pub returns-clause-bytes : goal.returns-clause-bytes
 returns-clause-bytes c =
-    let room : 0 < length c.args.buf.now = search rules in
+    let buffer : 0 < length c.args.buf.now = search rules in
     let there : c.args.self.now.at < length c.args.self.now.bytes.items = search rules in
     let step : drop c.args.self.now.at c.args.self.now.bytes.items ≡ c.index.result.now ∷ drop (c.args.self.now.at + 1) c.args.self.now.bytes.items
     = next c.args.self.now.bytes.items c.args.self.now.at c.index.result.now there c.index.ensures in
-    (step ∙ ap (λ front. front ++ drop (c.args.self.now.at + 1) c.args.self.now.bytes.items) (sym (first_set c.args.buf.now c.index.result.now room)), λ no. cc no)
+    (step ∙ ap (λ front. front ++ drop (c.args.self.now.at + 1) c.args.self.now.bytes.items) (sym (first_set c.args.buf.now c.index.result.now buffer)), λ no. cc no)

@@ -25,15 +25,15 @@ overflow_cast-result c =
     let few = members-few c.args.self.now (subst IsPlan lines c.self.invariant) in
     omega arith
 
-pub returns-clause-some : goal.returns-clause-some
-returns-clause-some c =
+pub returns-clause-nonempty : goal.returns-clause-nonempty
+returns-clause-nonempty c =
     let lines : c.self.inside.lines.items ≡ c.args.self.now = cc in
     let count = returns-clause-count c in
     let some = members-some c.args.self.now (subst IsPlan lines c.self.invariant) in
     omega arith
 
-pub returns-clause-few : goal.returns-clause-few
-returns-clause-few c =
+pub returns-clause-bound : goal.returns-clause-bound
+returns-clause-bound c =
     let lines : c.self.inside.lines.items ≡ c.args.self.now = cc in
     let count = returns-clause-count c in
     let few = members-few c.args.self.now (subst IsPlan lines c.self.invariant) in

@@ -8,8 +8,8 @@ pub returns-in_err-apply-clause-answer : goal.returns-in_err-apply-clause-answer
 returns-in_err-apply-clause-answer c =
     let found = c.in-Some.ensures.lookup in
     let at : slice_get c.self.inside.plan c.self.inside.applied ≡ Some c.in-Some.change.now = looked_up c.self.inside.plan c.lines.result.now c.self.inside.applied c.in-Some.change.now c.lines.ensures.lines found.0 found.1 in
-    let told : c.from_residual.result ≡ Err c.in_err-apply.field-0.0 = search rules in
-    inr (told ∙ ap (λ why. Err why) (due_refused (planned_view c.self.inside) c.in-Some.change.now c.in_err-apply.field-0.0 c.self.invariant at c.in_err-apply.ensures.answer))
+    let replied : c.from_residual.result ≡ Err c.in_err-apply.field-0.0 = search rules in
+    inr (replied ∙ ap (λ why. Err why) (due_refused (planned_view c.self.inside) c.in-Some.change.now c.in_err-apply.field-0.0 c.self.invariant at c.in_err-apply.ensures.answer))
 
 pub invariant_of-self-2 : goal.invariant_of-self-2
 invariant_of-self-2 c =

@@ -22,12 +22,12 @@ append_at-requires c =
     let none : Bor Key = record { ref_ptr = (0, 0); now = [] } in
     let i = c.loop-i.i in
     let lt : i < length c.args.keys.now = omega (arith, c.loop-i-test.true) in
-    let placed = c.requires.placed in
+    let placed = c.requires.partitions in
     let here = append_still c.args.self.now.cluster.logs c.loop-i.self.cluster.logs (event_at placed.0 i) (get_or c.args.places.now i 0) (get_or c.args.keys.now i none).now c.loop-i.invariant.counts (placed.1.each i lt) in
     (here.0, here.2, here.3)
 
-pub returns-in-Err-clause-loads : goal.returns-in-Err-clause-loads
-returns-in-Err-clause-loads c = λ events h.
+pub returns-in-Err-clause-step : goal.returns-in-Err-clause-step
+returns-in-Err-clause-step c = λ events h.
     let none : Bor Key = record { ref_ptr = (0, 0); now = [] } in
     let w = world_view c.loop-i.self in
     let logs = c.loop-i.self.cluster.logs in
@@ -54,7 +54,7 @@ loop-i-preserved c =
     let none : Bor Key = record { ref_ptr = (0, 0); now = [] } in
     let before = c.loop-i.invariant in
     let done = c.in_default.ensures in
-    let told = c.in_default.field-0 in
+    let replied = c.in_default.field-0 in
     let w = world_view c.loop-i.self in
     let old = c.args.self.now.cluster.logs in
     let logs = c.loop-i.self.cluster.logs in
@@ -62,20 +62,20 @@ loop-i-preserved c =
     let place = get_or c.args.places.now i 0 in
     let key = (get_or c.args.keys.now i none).now in
     let lt : i < length c.args.keys.now = omega (arith, c.loop-i-test.true) in
-    let placed = c.requires.placed in
+    let placed = c.requires.partitions in
     let some = append_still old logs (event_at placed.0 i) place key before.counts (placed.1.each i lt) in
     record {
       so_far = λ events h.
           let here = append_still old logs (event_at events i) place key before.counts (h.each i lt) in
-          append_more (world_view c.args.self.now) w events i (here.0, key) c.append_at.new.self told (before.so_far events h) (omega (arith, lt, h.events_each)) here.1 here.2
-          (subst (λ p. Answers (answer_at logs p key) (Ok told)) (sym here.3) done.answer)
+          append_more (world_view c.args.self.now) w events i (here.0, key) c.append_at.new.self replied (before.so_far events h) (omega (arith, lt, h.events_each)) here.1 here.2
+          (subst (λ p. Answers (answer_at logs p key) (Ok replied)) (sym here.3) done.answer)
           (subst (λ p. c.append_at.new.self ≡ appended_at c.loop-i.self.cluster p key) (sym here.3) done.ok);
       counts = ap (λ (s : ClusterState). s.logs.counts) done.ok ∙ before.counts;
-      valid = appended_world w (some.0, key) told c.append_at.new.self before.valid some.2
-          (subst (λ p. Answers (answer_at logs p key) (Ok told)) (sym some.3) done.answer)
+      valid = appended_world w (some.0, key) replied c.append_at.new.self before.valid some.2
+          (subst (λ p. Answers (answer_at logs p key) (Ok replied)) (sym some.3) done.answer)
           (subst (λ p. c.append_at.new.self ≡ appended_at c.loop-i.self.cluster p key) (sym some.3) done.ok);
     }
 
-pub returns-clause-loads : goal.returns-clause-loads
-returns-clause-loads c = λ events h.
+pub returns-clause-step : goal.returns-clause-step
+returns-clause-step c = λ events h.
     subst (λ es. Appends (world_view c.args.self.now) es (world_view c.loop-i.self)) (take_all c.loop-i.i events (omega (arith, h.events_each, c.loop-i-test.false))) (c.loop-i.invariant.so_far events h)

@@ -17,4 +17,4 @@ returns-in-Ok-join c =
     (subst (λ x. Answers (join_answer g x) (Ok c.in-Ok-join.member)) c.copy.ensures c.in-Ok-join.ensures.answer)
     (c.in-Ok-join.ensures.ok ∙ ap (λ x. with_group w.cluster (joined_by g x)) c.copy.ensures)
     (c.enter.ensures ∙ ap (λ cs. cs ++ joined_as c.in-Ok.consumer c.in-Ok-join.member ∷ []) c.new_consumer.ensures.same
-    ∙ ap (λ (x : ConsumerState). w.consumers ++ joined_as x c.in-Ok-join.member ∷ []) (c.in-Ok.ensures.out ∙ ap out_of_group c.partitions-partitions.ensures.count))
+    ∙ ap (λ (x : ConsumerState). w.consumers ++ joined_as x c.in-Ok-join.member ∷ []) (c.in-Ok.ensures.value ∙ ap out_of_group c.partitions-partitions.ensures.count))

@@ -1,7 +1,7 @@
 use Rattle.std.proofs.Common.{◌∙◌, ◌++◌, ◌∷◌, [], Ok, ap, subst}
 use Rattle.lane_words.specs.Answers.{Answers}
 use Rattle.group_machine.specs.Cluster.{with_group}
-use Rattle.group_machine.specs.Steps.{join_answer, joined_kept_by}
+use Rattle.group_machine.specs.Steps.{join_answer, joined_static_by}
 use Rattle.consumer.specs.Consumer.{ConsumerState, joined_as, out_of_group}
 use Rattle.world.specs.declared.event.Reply.TheVariants as reply
 use Rattle.world.specs.Private.View.{world_view}
@@ -13,8 +13,8 @@ returns-in-Ok-join_kept c =
     let w = world_view c.args.self.now in
     let g = w.cluster.group in
     let name = c.args.name.now in
-    entered (λ m. reply.Joined m) (joined_kept_by g name) w (join_answer g name) c.in-Ok-join_kept.member c.join_kept.new.self c.enter.new.consumers.items
+    entered (λ m. reply.Joined m) (joined_static_by g name) w (join_answer g name) c.in-Ok-join_kept.member c.join_kept.new.self c.enter.new.consumers.items
     (subst (λ x. Answers (join_answer g x) (Ok c.in-Ok-join_kept.member)) c.copy.ensures c.in-Ok-join_kept.ensures.answer)
-    (c.in-Ok-join_kept.ensures.ok ∙ ap (λ x. with_group w.cluster (joined_kept_by g x)) c.copy.ensures)
+    (c.in-Ok-join_kept.ensures.ok ∙ ap (λ x. with_group w.cluster (joined_static_by g x)) c.copy.ensures)
     (c.enter.ensures ∙ ap (λ cs. cs ++ joined_as c.in-Ok.consumer c.in-Ok-join_kept.member ∷ []) c.new_consumer.ensures.same
-    ∙ ap (λ (x : ConsumerState). w.consumers ++ joined_as x c.in-Ok-join_kept.member ∷ []) (c.in-Ok.ensures.out ∙ ap out_of_group c.partitions-partitions.ensures.count))
+    ∙ ap (λ (x : ConsumerState). w.consumers ++ joined_as x c.in-Ok-join_kept.member ∷ []) (c.in-Ok.ensures.value ∙ ap out_of_group c.partitions-partitions.ensures.count))

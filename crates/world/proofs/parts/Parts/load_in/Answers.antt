@@ -9,27 +9,27 @@ use Rattle.world.specs.Private.View.{world_view}
 use Rattle.world.proofs.Loading.{load_history, load_stops_first, records_in, topics_placed}
 use Rattle.world.proofs.parts.Parts.load_in.Goals as goal
 
-pub returns-in_default-clause-loads : goal.returns-in_default-clause-loads
-returns-in_default-clause-loads g c = load_stops_first (world_view c.args.self.now) (appends_in c.args.topics.now c.args.keys.now)
+pub returns-in_default-clause-step : goal.returns-in_default-clause-step
+returns-in_default-clause-step g c = load_stops_first (world_view c.args.self.now) (appends_in c.args.topics.now c.args.keys.now)
 
-pub append_placed-requires-clause-placed : goal.append_placed-requires-clause-placed
-append_placed-requires-clause-placed g c =
+pub append_placed-requires-clause-partitions : goal.append_placed-requires-clause-partitions
+append_placed-requires-clause-partitions g c =
     let l = c.args.self.now.cluster.logs in
     let topics = c.args.topics.now in
     let keys = c.args.keys.now in
-    let places = c.deref.ensures.value ∙ c.in-Ok.ensures.places ∙ ap (λ (x : PartitionLogs). map (λ (keyed : ℕ × Bor Key). place_in x (keyed.0, keyed.1.now)) (zip topics keys)) c.logs.ensures.logs in
+    let places = c.deref.ensures.value ∙ c.in-Ok.ensures.partitions ∙ ap (λ (x : PartitionLogs). map (λ (keyed : ℕ × Bor Key). place_in x (keyed.0, keyed.1.now)) (zip topics keys)) c.logs.ensures.logs in
     (appends_in topics keys, topics_placed l c.deref.result.now topics keys c.requires.topics places)
 
-pub returns-clause-loads : goal.returns-clause-loads
-returns-clause-loads g c =
+pub returns-clause-step : goal.returns-clause-step
+returns-clause-step g c =
     let l = c.args.self.now.cluster.logs in
     let topics = c.args.topics.now in
     let keys = c.args.keys.now in
-    let places = c.deref.ensures.value ∙ c.in-Ok.ensures.places ∙ ap (λ (x : PartitionLogs). map (λ (keyed : ℕ × Bor Key). place_in x (keyed.0, keyed.1.now)) (zip topics keys)) c.logs.ensures.logs in
-    c.append_placed.ensures.loads (appends_in topics keys) (topics_placed l c.deref.result.now topics keys c.requires.topics places)
+    let places = c.deref.ensures.value ∙ c.in-Ok.ensures.partitions ∙ ap (λ (x : PartitionLogs). map (λ (keyed : ℕ × Bor Key). place_in x (keyed.0, keyed.1.now)) (zip topics keys)) c.logs.ensures.logs in
+    c.append_placed.ensures.step (appends_in topics keys) (topics_placed l c.deref.result.now topics keys c.requires.topics places)
 
 pub returns-clause-history : goal.returns-clause-history
 returns-clause-history g c =
     let topics = c.args.topics.now in
     let keys = c.args.keys.now in
-    load_history (world_view c.args.self.now) (appends_in topics keys) (zip topics (lent keys)) c.append_placed.result (world_view c.append_placed.new.self) (records_in topics keys) c.requires.valid (returns-clause-loads g c)
+    load_history (world_view c.args.self.now) (appends_in topics keys) (zip topics (lent keys)) c.append_placed.result (world_view c.append_placed.new.self) (records_in topics keys) c.requires.valid (returns-clause-step g c)

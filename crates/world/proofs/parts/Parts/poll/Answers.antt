@@ -13,8 +13,8 @@ poll-requires-clause-partitions c =
     let consumer = c.requires.consumers c.args.member c.index_mut.result.now known in
     ap (λ (l : PartitionLogs). l.partitions) c.logs.ensures.logs ∙ c.requires.cluster.logs_partitions ∙ sym consumer.partitions
 
-pub poll-requires-clause-within : goal.poll-requires-clause-within
-poll-requires-clause-within c =
+pub poll-requires-clause-bound : goal.poll-requires-clause-bound
+poll-requires-clause-bound c =
     let w = world_view c.args.self.now in
     let below : c.in-Some.index < length w.consumers = omega (arith, c.in-Some.ensures.1, c.len.ensures) in
     let known = consumer_at w c.args.member c.in-Some.index c.index_mut.result.now c.in-Some.ensures.0 below c.index_mut.ensures.value in

@@ -10,7 +10,7 @@ use Rattle.world.proofs.parts.Parts.rejoin.Goals as goal
 pub returns-in-Err-rejoin : goal.returns-in-Err-rejoin
 returns-in-Err-rejoin c =
     let w = world_view c.args.self.now in
-    let asking = c.in-Ok.ensures.asking in
+    let asking = c.in-Ok.ensures.value in
     let consumer = c.index_mut-consumer.result.now in
     let why = c.in-Err-rejoin.why in
     let there = consumer_there w c.in-Ok.index consumer asking.below c.index_mut-consumer.ensures.value in

@@ -13,7 +13,7 @@ use Rattle.world.proofs.parts.Parts.sync.Goals as goal
 pub take_lease-requires-clause-member : goal.take_lease-requires-clause-member
 take_lease-requires-clause-member c =
     let w = world_view c.args.self.now in
-    let asking = c.in-Ok.ensures.asking in
+    let asking = c.in-Ok.ensures.value in
     let known = consumer_at w c.args.member c.in-Ok.index c.index_mut.result.now asking.number asking.below c.index_mut.ensures.value in
     let there = consumer_there w c.in-Ok.index c.index_mut.result.now asking.below c.index_mut.ensures.value in
     let consumer = c.requires.consumers c.args.member c.index_mut.result.now known in
@@ -23,16 +23,16 @@ take_lease-requires-clause-member c =
 pub take_lease-requires-clause-partitions : goal.take_lease-requires-clause-partitions
 take_lease-requires-clause-partitions c =
     let w = world_view c.args.self.now in
-    let asking = c.in-Ok.ensures.asking in
+    let asking = c.in-Ok.ensures.value in
     let known = consumer_at w c.args.member c.in-Ok.index c.index_mut.result.now asking.number asking.below c.index_mut.ensures.value in
     let consumer = c.requires.consumers c.args.member c.index_mut.result.now known in
     ap (λ (l : LeaseTerms). partitions_of l.assigned) (leased_to c.args.self.now.cluster c.args.member c.in-Ok-sync.lease c.in-Ok-sync.ensures.answer)
-    ∙ assigned_over c.args.self.now.cluster.group c.requires.cluster.good.fit c.args.member ∙ sym consumer.partitions
+    ∙ assigned_over c.args.self.now.cluster.group c.requires.cluster.good.consistent c.args.member ∙ sym consumer.partitions
 
 pub returns-in-Ok-sync : goal.returns-in-Ok-sync
 returns-in-Ok-sync c =
     let w = world_view c.args.self.now in
-    let asking = c.in-Ok.ensures.asking in
+    let asking = c.in-Ok.ensures.value in
     let there = consumer_there w c.in-Ok.index c.index_mut.result.now asking.below c.index_mut.ensures.value in
     sync_ok w c.args.member c.in-Ok.index c.index_mut.result.now c.take_lease.new.self c.sync.new.self c.in-Ok-sync.lease c.generation.result asking there
     c.in-Ok-sync.ensures.answer c.in-Ok-sync.ensures.ok c.take_lease.ensures c.generation.ensures
@@ -40,7 +40,7 @@ returns-in-Ok-sync c =
 pub returns-in-Err-sync : goal.returns-in-Err-sync
 returns-in-Err-sync c =
     let w = world_view c.args.self.now in
-    let asking = c.in-Ok.ensures.asking in
+    let asking = c.in-Ok.ensures.value in
     let some = slice_index_or w.consumers c.in-Ok.index (out_of_group 0) in
     let why = c.in-Err-sync.why in
     let same : with_cluster w c.sync.new.self ≡ w = ap (with_cluster w) c.in-Err-sync.ensures.err in

@@ -14,4 +14,4 @@ returns-in-Ok-take_over c =
     entered (λ m. reply.TakenOver m) (taken_over_by g name) w (take_over_answer g name) c.in-Ok-take_over.member c.take_over.new.self c.enter.new.consumers.items
     c.in-Ok-take_over.ensures.answer c.in-Ok-take_over.ensures.ok
     (c.enter.ensures ∙ ap (λ cs. cs ++ joined_as c.in-Ok.consumer c.in-Ok-take_over.member ∷ []) c.new_consumer.ensures.same
-    ∙ ap (λ (x : ConsumerState). w.consumers ++ joined_as x c.in-Ok-take_over.member ∷ []) (c.in-Ok.ensures.out ∙ ap out_of_group c.partitions-partitions.ensures.count))
+    ∙ ap (λ (x : ConsumerState). w.consumers ++ joined_as x c.in-Ok-take_over.member ∷ []) (c.in-Ok.ensures.value ∙ ap out_of_group c.partitions-partitions.ensures.count))

@@ -4,7 +4,7 @@ use Rattle.partition_log.specs.Logs.{log_at}
 use Rattle.world.specs.Courses.{Follows}
 use Rattle.world.specs.Draining.{drain_log, read_on, read_up}
 use Rattle.world.proofs.Following.{Continues, chain_on, chain_stops, drain_log_is, goes_further, read_on_course, read_up_done, read_up_ends, read_up_more}
-use Rattle.world.proofs.Kept.{IsReading, LeavesGroup, keeps_group, kept_following, read_on_events, reading_open}
+use Rattle.world.proofs.Preserved.{IsReading, LeavesGroup, preserves_group, preserved_following, read_on_events, reading_open}
 use Rattle.world.proofs.world.World.drain_log.Goals as goal
 
 pub loop-init : goal.loop-init
@@ -43,7 +43,7 @@ loop-preserved c =
     let one = read_on c.args.batch c.args.member c.args.p mid in
     let made = read_on_course c.args.batch c.args.member c.args.p mid in
     let more = read_up rest c.args.batch c.args.member c.args.p in
-    let group = (kept_following IsReading LeavesGroup keeps_group mid far one c.read_on.result made (read_on_events IsReading reading_open c.args.batch c.args.member c.args.p mid) c.read_on.ensures).group in
+    let group = (preserved_following IsReading LeavesGroup preserves_group mid far one c.read_on.result made (read_on_events IsReading reading_open c.args.batch c.args.member c.args.p mid) c.read_on.ensures).group in
     record {
       left = goes_further w mid far (drain_log c.args.batch c.args.member c.args.p w) (read_up (c.len-end.result - c.loop.counter) c.args.batch c.args.member c.args.p mid) (more far) c.loop.invariant.left
           (subst (λ n. Continues mid (read_up n c.args.batch c.args.member c.args.p mid) far (more far)) (sym left)

@@ -4,7 +4,7 @@ use Rattle.group_machine.specs.State.{GroupState}
 use Rattle.world.specs.Courses.{Follows, for_each}
 use Rattle.world.specs.Draining.{drain_log, drain_member, held_by}
 use Rattle.world.proofs.Following.{Continues, drain_log_course, drain_member_is, each_done, each_on, each_stops, goes_further}
-use Rattle.world.proofs.Kept.{IsReading, LeavesGroup, drain_log_events, keeps_group, kept_following, reading_open}
+use Rattle.world.proofs.Preserved.{IsReading, LeavesGroup, drain_log_events, preserves_group, preserved_following, reading_open}
 use Rattle.world.proofs.Walks.{AreBelow, elements_below, held_partitions}
 use Rattle.world.proofs.world.World.drain_member.Goals as goal
 
@@ -33,7 +33,7 @@ loop-p-preserved c =
     let p = c.in-Some.p in
     let made = drain_log_course c.args.batch c.args.member p mid in
     let below = subst (AreBelow w.cluster.group.partitions) c.in-Some.ensures.steps c.loop-p.invariant.below in
-    let group = (kept_following IsReading LeavesGroup keeps_group mid far (course p mid) c.drain_log.result made (drain_log_events IsReading reading_open c.args.batch c.args.member p mid) c.drain_log.ensures).group in
+    let group = (preserved_following IsReading LeavesGroup preserves_group mid far (course p mid) c.drain_log.result made (drain_log_events IsReading reading_open c.args.batch c.args.member p mid) c.drain_log.ensures).group in
     record {
       left = goes_further w mid far (drain_member c.args.batch c.args.member w) (for_each c.loop-p.p-iterator course mid) (for_each next course far) c.loop-p.invariant.left
           (subst (λ xs. Continues mid (for_each xs course mid) far (for_each next course far)) (sym c.in-Some.ensures.steps)

@@ -3,7 +3,7 @@ use Rattle.group_machine.specs.State.{is_present}
 use Rattle.world.specs.Courses.{Follows, for_each}
 use Rattle.world.specs.Draining.{drain_member, drain_members}
 use Rattle.world.proofs.Following.{Continues, each_done, each_on, each_stops, goes_further, drain_members_is, drain_member_course}
-use Rattle.world.proofs.Kept.{IsReading, LeavesGroup, SamePresent, drain_member_events, keeps_group, kept_following, reading_open}
+use Rattle.world.proofs.Preserved.{IsReading, LeavesGroup, SamePresent, drain_member_events, preserves_group, preserved_following, reading_open}
 use Rattle.world.proofs.Walks.{numbers_gone, numbers_here, numbers_left, numbers_past}
 use Rattle.world.proofs.world.World.drain_members.Goals as goal
 use Rattle.world.proofs.world.World.drain_members.Goals.{then-is_present+in_ok-drain_member, else-is_present}
@@ -45,7 +45,7 @@ loop-index-preserved c =
                 (subst (λ ns. Continues mid (for_each ns (drain_member c.args.batch) mid) far (for_each rest (drain_member c.args.batch) far)) (sym (numbers_here slots i lt here))
                 (each_on mid far (i + 1) rest (drain_member c.args.batch) b.drain_member.result made b.drain_member.ensures b.in_ok-drain_member.was)));
             present = subst (SamePresent w) (sym b.self-is)
-                (λ n. ap (λ g. is_present g n) (kept_following IsReading LeavesGroup keeps_group mid far (drain_member c.args.batch (i + 1) mid) b.drain_member.result made (drain_member_events IsReading reading_open c.args.batch (i + 1) mid) b.drain_member.ensures).group ∙ c.loop-index.invariant.present n);
+                (λ n. ap (λ g. is_present g n) (preserved_following IsReading LeavesGroup preserves_group mid far (drain_member c.args.batch (i + 1) mid) b.drain_member.result made (drain_member_events IsReading reading_open c.args.batch (i + 1) mid) b.drain_member.ensures).group ∙ c.loop-index.invariant.present n);
           }
       | else-is_present b ↦
           let now : is_present mid.cluster.group (i + 1) ≡ false = search rules in

@@ -1,7 +1,7 @@
 use Rattle.world.specs.Courses.{for_each}
 use Rattle.world.specs.Draining.{drain_member, drain_members}
 use Rattle.world.proofs.Following.{Continues}
-use Rattle.world.proofs.Kept.{SamePresent}
+use Rattle.world.proofs.Preserved.{SamePresent}
 use Rattle.world.proofs.Walks.{numbers_left}
 use Rattle.world.proofs.world.World.drain_members.Given as goal
 

@@ -3,7 +3,7 @@ use Rattle.group_machine.specs.State.{is_present}
 use Rattle.world.specs.Courses.{Follows, for_each}
 use Rattle.world.specs.Settling.{pass, turn}
 use Rattle.world.proofs.Following.{Continues, each_done, each_on, each_stops, goes_further, pass_is, turn_course}
-use Rattle.world.proofs.Kept.{IsOfTurn, SamePresent, kept_following, keeps_present, turn_events}
+use Rattle.world.proofs.Preserved.{IsOfTurn, SamePresent, preserved_following, preserves_present, turn_events}
 use Rattle.world.proofs.Walks.{numbers_gone, numbers_here, numbers_left, numbers_past}
 use Rattle.world.proofs.world.World.make_pass.Goals as goal
 use Rattle.world.proofs.world.World.make_pass.Goals.{then-is_present+in_ok-take_turn, else-is_present}
@@ -45,7 +45,7 @@ loop-index-preserved c =
                 (subst (λ ns. Continues mid (for_each ns turn mid) far (for_each rest turn far)) (sym (numbers_here slots i lt here))
                 (each_on mid far (i + 1) rest turn b.take_turn.result made b.take_turn.ensures b.in_ok-take_turn.was)));
             present = subst (SamePresent w) (sym b.self-is)
-                (λ n. kept_following IsOfTurn SamePresent keeps_present mid far (turn (i + 1) mid) b.take_turn.result made (turn_events (i + 1) mid) b.take_turn.ensures n ∙ c.loop-index.invariant.present n);
+                (λ n. preserved_following IsOfTurn SamePresent preserves_present mid far (turn (i + 1) mid) b.take_turn.result made (turn_events (i + 1) mid) b.take_turn.ensures n ∙ c.loop-index.invariant.present n);
           }
       | else-is_present b ↦
           let now : is_present mid.cluster.group (i + 1) ≡ false = search rules in

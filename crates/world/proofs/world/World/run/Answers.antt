@@ -8,7 +8,7 @@ loop-event-preserved c =
     let event = c.event-item.result in
     record {
       counted = omega (arith, c.push_reserved.ensures.len, c.loop-event.invariant.counted);
-      room = omega (arith, c.push_reserved.ensures.capacity, c.loop-event.invariant.room);
+      capacity = omega (arith, c.push_reserved.ensures.capacity, c.loop-event.invariant.capacity);
       so_far = one_step_more c.args.events.now c.loop-event.replies.items c.push_reserved.new.self.items c.args.self.now c.loop-event.self c.step.new.self c.loop-event.event-index event event c.step.result
           so_far c.step.ensures.step c.event-item.is c.loop-event-test.true c.push_reserved.ensures.items;
       history = history_more c.args.events.now c.loop-event.replies.items c.push_reserved.new.self.items c.args.self.now c.loop-event.self c.step.new.self c.loop-event.event-index event event c.step.result

@@ -1,15 +1,15 @@
 use Rattle.std.proofs.Common.{rules, ◌≡◌, ◌∙◌, true, inl, inr}
 use Rattle.group_machine.specs.declared.group.Phase.TheVariants as phase
-use Rattle.group_laws.specs.Passes.{is_calm}
-use Rattle.group_laws.specs.Rounds.{bare, finish}
+use Rattle.group_laws.specs.Passes.{is_settled_and_synced}
+use Rattle.group_laws.specs.Rounds.{without_flags, rebalance_result}
 use Rattle.world.proofs.Following.{nobody_settles, passes_course, somebody_settles}
 use Rattle.world.proofs.Settled.{never_unsettled, on_ok, settled_by, settling_never, somebody}
-use Rattle.world.proofs.Kept.{valid_following}
+use Rattle.world.proofs.Preserved.{valid_following}
 use Rattle.world.specs.Settling.{passes, settling}
 use Rattle.world.proofs.world.World.settle.Goals as goal
 
-pub returns-in-Empty-clause-follows : goal.returns-in-Empty-clause-follows
-returns-in-Empty-clause-follows c =
+pub returns-in-Empty-clause-step : goal.returns-in-Empty-clause-step
+returns-in-Empty-clause-step c =
     let w = c.args.self.now in
     let empty : w.cluster.group.phase ≡ phase.Empty = search rules in
     nobody_settles w (c.cluster.ensures.valid.cluster.good.empty.0 empty)
@@ -23,9 +23,9 @@ returns-in-Preparing c =
     let w2 = c.make_passes.new.self in
     let follows = somebody_settles w (somebody w.cluster.group v.cluster.good (elim c.in-Preparing.is [ inl p ↦ inl (at ∙ p) | inr p ↦ inr (at ∙ p) ])) result w2 c.make_passes.ensures in
     record {
-      follows = follows;
-      four_passes = never_unsettled w w2 (settling w) result (settling_never w v) follows;
-      calm = on_ok (is_calm w2.cluster.group ≡ true) result (λ ok. (settled_by w w2 result v follows ok).calm);
-      end = on_ok (bare w2.cluster.group ≡ finish w.cluster.group) result (λ ok. (settled_by w w2 result v follows ok).end);
+      step = follows;
+      kind = never_unsettled w w2 (settling w) result (settling_never w v) follows;
+      settled = on_ok (is_settled_and_synced w2.cluster.group ≡ true) result (λ ok. (settled_by w w2 result v follows ok).calm);
+      end = on_ok (without_flags w2.cluster.group ≡ rebalance_result w.cluster.group) result (λ ok. (settled_by w w2 result v follows ok).end);
       valid = valid_following w c.make_passes.new.self (passes 4 w) c.make_passes.result (passes_course 4 w) c.make_passes.ensures c.cluster.ensures.valid;
     }

@@ -10,8 +10,8 @@ pub invariant_of-self : goal.invariant_of-self
 invariant_of-self c =
     valid_after (world_view c.self.inside.parts) c.args.event c.step.result (world_view c.step.new.self) c.self.invariant c.step.ensures
 
-pub returns-clause-never_faults : goal.returns-clause-never_faults
-returns-clause-never_faults c = subst (λ w. NeverFaults w c.args.event) c.self.view_is (never_faults (world_view c.self.inside.parts) c.args.event c.self.invariant)
+pub returns-clause-kind : goal.returns-clause-kind
+returns-clause-kind c = subst (λ w. NeverFaults w c.args.event) c.self.view_is (never_faults (world_view c.self.inside.parts) c.args.event c.self.invariant)
 
 pub returns-clause-history : goal.returns-clause-history
 returns-clause-history c =

@@ -1,7 +1,7 @@
 use Rattle.std.proofs.Common.{rules, ◌≡◌, ◌∙◌, Err}
 use Rattle.world.specs.Settling.{rejoin_if_due, sync_if_new}
 use Rattle.world.proofs.Following.{chain_on, chain_stops, sync_course, turn_is}
-use Rattle.world.proofs.Kept.{IsOfTurn, SamePresent, kept_following, keeps_present, sync_events}
+use Rattle.world.proofs.Preserved.{IsOfTurn, SamePresent, preserved_following, preserves_present, sync_events}
 use Rattle.world.proofs.NextSteps.{has_synced_after}
 use Rattle.world.proofs.world.World.take_turn.Goals as goal
 
@@ -13,14 +13,14 @@ returns-in_err-sync_if_new c =
     turn_is m w c.from_residual.result c.sync_if_new.new.self
     (chain_stops w c.sync_if_new.new.self (sync_if_new m w) (rejoin_if_due m) c.sync_if_new.result c.from_residual.result c.in_err-sync_if_new.field-0.0 (sync_course m w) c.sync_if_new.ensures c.in_err-sync_if_new.was same)
 
-pub rejoin_if_due-requires-clause-here : goal.rejoin_if_due-requires-clause-here
-rejoin_if_due-requires-clause-here c =
+pub rejoin_if_due-requires-clause-present : goal.rejoin_if_due-requires-clause-present
+rejoin_if_due-requires-clause-present c =
     let w = c.args.self.now in
     let m = c.args.member in
-    kept_following IsOfTurn SamePresent keeps_present w c.sync_if_new.new.self (sync_if_new m w) c.sync_if_new.result (sync_course m w) (sync_events m w) c.sync_if_new.ensures m ∙ c.requires
+    preserved_following IsOfTurn SamePresent preserves_present w c.sync_if_new.new.self (sync_if_new m w) c.sync_if_new.result (sync_course m w) (sync_events m w) c.sync_if_new.ensures m ∙ c.requires
 
-pub rejoin_if_due-requires-clause-synced : goal.rejoin_if_due-requires-clause-synced
-rejoin_if_due-requires-clause-synced c = has_synced_after c.args.member c.args.self.now c.sync_if_new.new.self c.sync_if_new.result c.requires c.sync_if_new.ensures c.in_ok-sync_if_new.was
+pub rejoin_if_due-requires-clause-state : goal.rejoin_if_due-requires-clause-state
+rejoin_if_due-requires-clause-state c = has_synced_after c.args.member c.args.self.now c.sync_if_new.new.self c.sync_if_new.result c.requires c.sync_if_new.ensures c.in_ok-sync_if_new.was
 
 pub returns : goal.returns
 returns c =

@@ -1,5 +1,0 @@
-use Rattle.bit_planes.proofs.RowLaws.{same_rows}
-use Rattle.bit_planes.proofs.laws.equal_by_look_up.Goals as goal
-
-pub returns : goal.returns
-returns c = same_rows

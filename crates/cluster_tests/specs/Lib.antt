@@ -1,0 +1,2 @@
+pub mod ReferencePartial
+pub mod ReferencePlane

@@ -1,5 +1,0 @@
-use Rattle.commit_store.proofs.Exact.{append-exact}
-use Rattle.commit_store.proofs.laws.an_append_keeps_exact.Goals as goal
-
-pub returns : goal.returns
-returns c = append-exact

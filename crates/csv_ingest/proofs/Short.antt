@@ -1,0 +1,87 @@
+-- A file has no more records than bytes, so that their numbers fit.
+use Rattle.std.proofs.Common.{◌≡◌, ◌<◌, ◌≤◌, ◌+◌, ℕ, List, [], ◌∷◌, ◌++◌, Bool, true, false, Result, Ok, Err, length, refl, arith, inl, inr, subst}
+use Rattle.std.proofs.lemmas.Bool.{cases_Bool}
+use Rattle.std.specs.Prelude.{◌==◌, if◌then◌else◌, suc, ⊤}
+use Rattle.csv.specs.Machine.{ends_at_end, field_after, fields_after, is_end, step}
+use Rattle.csv.specs.Reading.{default_config, is_bom, records, strip_bom}
+use Rattle.csv.specs.declared.parser.State.{State}
+use Rattle.csv.specs.declared.parser.State.TheVariants as st
+use Rattle.lane_words.specs.declared.Refusal.{Refusal}
+use Rattle.lane_words.specs.declared.Refusal.TheVariants as r
+use Rattle.csv_ingest.specs.declared.lack.Lack.{Lack}
+use Rattle.csv_ingest.specs.declared.lack.Lack.TheVariants as l
+use Rattle.csv_ingest.specs.Pieces.{file_records}
+use Rattle.csv_ingest.specs.Private.Pieces.{fault_number}
+use Rattle.csv_ingest.specs.KeyFile.{Record, Taking, keyed, keys_from}
+use Rattle.csv_ingest.specs.Private.Records.{IsBetween}
+use Rattle.csv_ingest.proofs.Progress.{step-between}
+use Rattle.csv_ingest.specs.Private.Walk.{walk}
+use Rattle.csv_ingest.proofs.Walk.{records-walk}
+
+-- one record more, where the end of the text ends one
+abbrev last_one : Bool → ℕ
+last_one ends = if ends then 1 else 0
+
+one_at_most : (b : Bool) → last_one b ≤ 1
+one_at_most true = omega arith
+one_at_most false = omega arith
+
+none_between : (s : State) → IsBetween s → last_one (ends_at_end s) ≡ 0
+none_between s (inl e) = rw e refl
+none_between s (inr e) = rw e refl
+
+end_short : (b : Bool) (row : Record) → length (if b then row ∷ [] else []) ≤ 0 + last_one b
+end_short true row = omega arith
+end_short false row = omega arith
+
+if_short : (b : Bool) (row : Record) (x y : List Record) (n : ℕ) → (b ≡ true → suc (length x) ≤ n) → length y ≤ n → length (if b then row ∷ x else y) ≤ n
+if_short true row x y n h k = h refl
+if_short false row x y n h k = k
+
+walk-short : (xs : List ℕ) (s : State) (fields : List (List ℕ)) (field : List ℕ) → length (walk s fields field xs) ≤ length xs + last_one (ends_at_end s)
+unfolding walk
+walk-short [] s fields field = end_short (ends_at_end s) (fields ++ (field ∷ []))
+walk-short (c ∷ xs) s fields field =
+    let next = (step default_config s c).0 in
+    let row = fields_after (step default_config s c).1 fields field in
+    let more = walk-short xs next [] [] in
+    let on = walk-short xs next row (field_after (step default_config s c).1 c field) in
+    let one = one_at_most (ends_at_end next) in
+    if_short (is_end (step default_config s c).1) row (walk next [] [] xs) _ (length (c ∷ xs) + last_one (ends_at_end s))
+    (λ e. let none = none_between next (step-between s c e) in omega (arith, more, none))
+    (omega (arith, on, one))
+
+records-short : (xs : List ℕ) → length (records default_config xs) ≤ length xs
+records-short xs = rw (records-walk xs) (let h = walk-short xs st.StartRecord [] [] in omega (arith, h))
+
+strip-short : (xs : List ℕ) → length (strip_bom xs) ≤ length xs
+unfolding strip_bom
+strip-short [] = omega arith
+strip-short (a ∷ []) = omega arith
+strip-short (a ∷ b ∷ []) = omega arith
+strip-short (a ∷ b ∷ c ∷ xs) = elim (cases_Bool (is_bom a b c)) [ inl t ↦ rw t (omega arith) | inr f ↦ rw f (omega arith) ]
+
+pub file_records-short : (xs : List ℕ) → length (file_records xs) ≤ length xs
+file_records-short xs = let a = records-short (strip_bom xs) in let b = strip-short xs in omega (arith, a, b)
+
+-- the number of a fault lies among those of the records
+abbrev pub FaultBelow : ℕ → Result (List (List ℕ)) Refusal → Type 0
+FaultBelow n (Ok keys) = ⊤
+FaultBelow n (Err fault) = fault_number fault < n
+
+keyed-below : (b : Bool) (nth n : ℕ) (o : Result (List ℕ) Lack) (rest : Result (List (List ℕ)) Refusal) → nth < n → FaultBelow n rest
+    → FaultBelow n (if b then keyed nth o rest else Err (r.BadCsv nth))
+keyed-below false nth n o rest h k = h
+keyed-below true nth n (Err l.Column) rest h k = h
+keyed-below true nth n (Err l.Topic) rest h k = h
+keyed-below true nth n (Ok key) (Ok keys) h k = tt
+keyed-below true nth n (Ok key) (Err fault) h k = k
+
+keys-below : (wanted : Taking) (width nth n : ℕ) (xs : List Record) → nth + length xs ≤ n → FaultBelow n (keys_from wanted width nth xs)
+unfolding keys_from
+keys-below wanted width nth n [] h = tt
+keys-below wanted width nth n (x ∷ xs) h =
+    keyed-below (length x == width) nth n (wanted x) _ (omega arith) (keys-below wanted width (nth + 1) n xs (omega arith))
+
+pub fault-below : (wanted : Taking) (width nth : ℕ) (xs : List Record) (e : Refusal) → keys_from wanted width nth xs ≡ Err e → fault_number e < nth + length xs
+fault-below wanted width nth xs e h = subst (FaultBelow (nth + length xs)) h (keys-below wanted width nth (nth + length xs) xs (omega arith))

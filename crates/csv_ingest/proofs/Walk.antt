@@ -1,0 +1,166 @@
+-- The records of a text in one walk over its bytes, with no number of turns.
+use Rattle.std.proofs.Common.{◌≡◌, ◌≤◌, ◌∙◌, ℕ, List, [], ◌∷◌, ◌++◌, Bool, true, false, Option, Some, None, length, ap, refl, arith, add-one}
+use Rattle.std.specs.Prelude.{◌==◌, ◌||◌, if◌then◌else◌, suc, zero, ⊤}
+use Rattle.csv.specs.Machine.{Read, after_end, ends_at_end, ends_with, field_after, fields_after, in_field, is_end, next_record, start_field, start_record, step}
+use Rattle.csv.specs.Reading.{default_config, records, records_from, records_next}
+use Rattle.csv.specs.declared.parser.Action.{Action}
+use Rattle.csv.specs.declared.parser.Action.TheVariants as act
+use Rattle.csv.specs.declared.parser.State.{State}
+use Rattle.csv.specs.declared.parser.State.TheVariants as st
+use Rattle.csv_ingest.specs.KeyFile.{Record}
+use Rattle.csv_ingest.specs.Private.Walk.{walk}
+
+-- the state after these bytes
+unfoldable pub state_after : State → List ℕ → State
+state_after s [] = s
+state_after s (c ∷ rest) = state_after (step default_config s c).0 rest
+
+none_left : (n : ℕ) → records_from default_config n st.StartRecord [] ≡ []
+unfolding records_from next_record
+none_left zero = refl
+none_left (suc n) = refl
+
+at_end : (n : ℕ) (b : Bool) (row : Record)
+    → records_next (records_from default_config n) (if b then Some (row, st.StartRecord, []) else None) ≡ if b then row ∷ [] else []
+at_end n true row = ap (λ rest. row ∷ rest) (none_left n)
+at_end n false row = refl
+
+next_or_more : (n : ℕ) (b : Bool) (p : Read) (o : Option Read) (x y : List Record) → records_next (records_from default_config n) (Some p) ≡ x
+    → records_next (records_from default_config n) o ≡ y → records_next (records_from default_config n) (if b then Some p else o) ≡ if b then x else y
+next_or_more n true p o x y h k = h
+next_or_more n false p o x y h k = k
+
+-- turns enough for a text
+abbrev pub Walks : State → List (List ℕ) → List ℕ → List ℕ → Type 0
+Walks s fields field y = (n : ℕ) → length y ≤ n → records_next (records_from default_config n) (next_record default_config s fields field y) ≡ walk s fields field y
+
+one_turn : (n : ℕ) (s : State) (y : List ℕ) → Walks s [] [] y → suc (length y) ≤ n → records_from default_config n s y ≡ walk s [] [] y
+unfolding records_from
+one_turn zero s y walks h = absurd (omega arith)
+one_turn (suc n) s y walks h = walks n (omega arith)
+
+pub walks : (y : List ℕ) (s : State) (fields : List (List ℕ)) (field : List ℕ) → Walks s fields field y
+unfolding next_record walk
+walks [] s fields field n h = at_end n (ends_at_end s) (fields ++ (field ∷ []))
+walks (c ∷ y) s fields field n h =
+    next_or_more n (is_end (step default_config s c).1) (fields_after (step default_config s c).1 fields field, (step default_config s c).0, y) _ _ _
+    (ap (λ rest. fields_after (step default_config s c).1 fields field ∷ rest) (one_turn n (step default_config s c).0 y (walks y (step default_config s c).0 [] []) h))
+    (walks y (step default_config s c).0 (fields_after (step default_config s c).1 fields field) (field_after (step default_config s c).1 c field) n (omega arith))
+
+pub records-walk : (y : List ℕ) → records default_config y ≡ walk st.StartRecord [] [] y
+unfolding records_from
+records-walk y = rw add-one (walks y st.StartRecord [] [] (length y) (omega arith))
+
+-- where no record is begun, there is no field
+abbrev pub Holds : State → List (List ℕ) → List ℕ → Type 0
+Holds st.StartRecord fields field = (fields ≡ []) × (field ≡ [])
+Holds st.AfterCr fields field = (fields ≡ []) × (field ≡ [])
+Holds st.InComment fields field = (fields ≡ []) × (field ≡ [])
+Holds st.StartField fields field = ⊤
+Holds st.InField fields field = ⊤
+Holds st.InQuoted fields field = ⊤
+Holds st.AfterQuote fields field = ⊤
+Holds st.InEscape fields field = ⊤
+
+pub holds-none : (s : State) → Holds s [] []
+holds-none st.StartRecord = (refl, refl)
+holds-none st.AfterCr = (refl, refl)
+holds-none st.InComment = (refl, refl)
+holds-none st.StartField = tt
+holds-none st.InField = tt
+holds-none st.InQuoted = tt
+holds-none st.AfterQuote = tt
+holds-none st.InEscape = tt
+
+-- a step that ends no record keeps that
+abbrev pub KeepsHolding : List (List ℕ) → List ℕ → ℕ → State × Action → Type 0
+KeepsHolding fields field c p = is_end p.1 ≡ false → Holds p.0 (fields_after p.1 fields field) (field_after p.1 c field)
+
+choose : (fields : List (List ℕ)) (field : List ℕ) (c : ℕ) (b : Bool) (p q : State × Action) → KeepsHolding fields field c p → KeepsHolding fields field c q
+    → KeepsHolding fields field c (if b then p else q)
+choose fields field c true p q h k = h
+choose fields field c false p q h k = k
+
+in_field-holds : (fields : List (List ℕ)) (field : List ℕ) (c : ℕ) → KeepsHolding fields field c (in_field default_config c)
+in_field-holds fields field c =
+    choose fields field c (c == 44) (st.StartField, act.EndField) (if ends_with default_config.terminator c then (after_end default_config.terminator c, act.EndRecord) else (st.InField, act.Copy))
+    (λ e. tt)
+    (choose fields field c (ends_with default_config.terminator c) (after_end default_config.terminator c, act.EndRecord) (st.InField, act.Copy) (λ e. cc e) (λ e. tt))
+
+start_field-holds : (fields : List (List ℕ)) (field : List ℕ) (c : ℕ) → KeepsHolding fields field c (start_field default_config c)
+start_field-holds fields field c =
+    choose fields field c (c == 34) (st.InQuoted, act.Skip) (in_field default_config c) (λ e. tt) (in_field-holds fields field c)
+
+start_record-holds : (fields : List (List ℕ)) (field : List ℕ) (c : ℕ) → (fields ≡ []) × (field ≡ []) → KeepsHolding fields field c (start_record default_config c)
+start_record-holds fields field c h =
+    choose fields field c (ends_with default_config.terminator c) (st.StartRecord, act.Skip) (start_field default_config c) (λ e. h) (start_field-holds fields field c)
+
+pub step-holds : (s : State) (fields : List (List ℕ)) (field : List ℕ) (c : ℕ) → Holds s fields field → KeepsHolding fields field c (step default_config s c)
+step-holds st.StartRecord fields field c h = start_record-holds fields field c h
+step-holds st.AfterCr fields field c h =
+    choose fields field c (c == 10) (st.StartRecord, act.Skip) (start_record default_config c) (λ e. h) (start_record-holds fields field c h)
+step-holds st.InComment fields field c h = choose fields field c (c == 10) (st.StartRecord, act.Skip) (st.InComment, act.Skip) (λ e. h) (λ e. h)
+step-holds st.StartField fields field c h = start_field-holds fields field c
+step-holds st.InField fields field c h = in_field-holds fields field c
+step-holds st.InQuoted fields field c h = choose fields field c (c == 34) (st.AfterQuote, act.Skip) (st.InQuoted, act.Copy) (λ e. tt) (λ e. tt)
+step-holds st.AfterQuote fields field c h = choose fields field c (c == 34) (st.InQuoted, act.Copy) (in_field default_config c) (λ e. tt) (in_field-holds fields field c)
+step-holds st.InEscape fields field c h = λ e. tt
+
+pub append_if : (b : Bool) (x y x2 y2 z : List Record) → x ≡ x2 ++ z → (b ≡ false → y ≡ y2 ++ z) → (if b then x else y) ≡ (if b then x2 else y2) ++ z
+append_if true x y x2 y2 z h k = h
+append_if false x y x2 y2 z h k = k refl
+
+behind_none : (s : State) (fields : List (List ℕ)) (field b : List ℕ) → Holds s fields field → ends_at_end s ≡ false
+    → walk s fields field b ≡ walk s fields field [] ++ walk s [] [] b
+unfolding walk
+behind_none st.StartRecord fields field b h e = rw (h.0, h.1) refl
+behind_none st.AfterCr fields field b h e = rw (h.0, h.1) refl
+behind_none st.InComment fields field b h e = cc e
+behind_none st.StartField fields field b h e = cc e
+behind_none st.InField fields field b h e = cc e
+behind_none st.InQuoted fields field b h e = cc e
+behind_none st.AfterQuote fields field b h e = cc e
+behind_none st.InEscape fields field b h e = cc e
+
+walk-append : (a : List ℕ) (s : State) (fields : List (List ℕ)) (field b : List ℕ) → Holds s fields field → ends_at_end (state_after s a) ≡ false
+    → walk s fields field (a ++ b) ≡ walk s fields field a ++ walk (state_after s a) [] [] b
+unfolding walk state_after
+walk-append [] s fields field b h e = behind_none s fields field b h e
+walk-append (c ∷ a) s fields field b h e =
+    append_if (is_end (step default_config s c).1) _ _ _ _ _
+    (ap (λ rest. fields_after (step default_config s c).1 fields field ∷ rest) (walk-append a (step default_config s c).0 [] [] b (holds-none (step default_config s c).0) e))
+    (λ more. walk-append a (step default_config s c).0 (fields_after (step default_config s c).1 fields field) (field_after (step default_config s c).1 c field) b (step-holds s fields field c h more) e)
+
+-- after a carriage return each byte does what it does at the start of a record
+same_step : (r n : Bool) (x y : State × Action) → (if n then x else if r || n then x else y) ≡ if r || n then x else y
+same_step true true x y = refl
+same_step true false x y = refl
+same_step false true x y = refl
+same_step false false x y = refl
+
+after_cr-step : (c : ℕ) → step default_config st.AfterCr c ≡ step default_config st.StartRecord c
+after_cr-step c = same_step (c == 13) (c == 10) (st.StartRecord, act.Skip) (start_field default_config c)
+
+after_cr : (b : List ℕ) → walk st.AfterCr [] [] b ≡ walk st.StartRecord [] [] b
+unfolding walk
+after_cr [] = refl
+after_cr (c ∷ b) =
+    ap (λ (p : State × Action). if is_end p.1 then fields_after p.1 [] [] ∷ walk p.0 [] [] b else walk p.0 (fields_after p.1 [] []) (field_after p.1 c []) b) (after_cr-step c)
+
+-- where no record is begun, the rest reads as a text of its own
+pub from_start : (s : State) (b : List ℕ) → ends_at_end s ≡ false → walk s [] [] b ≡ walk st.StartRecord [] [] b
+from_start st.StartRecord b e = refl
+from_start st.AfterCr b e = after_cr b
+from_start st.InComment b e = cc e
+from_start st.StartField b e = cc e
+from_start st.InField b e = cc e
+from_start st.InQuoted b e = cc e
+from_start st.AfterQuote b e = cc e
+from_start st.InEscape b e = cc e
+
+-- the records of two texts, where between them csv's machine has begun no record
+pub records-append : (a b : List ℕ) → ends_at_end (state_after st.StartRecord a) ≡ false
+    → records default_config (a ++ b) ≡ records default_config a ++ records default_config b
+records-append a b e =
+    rw (records-walk (a ++ b), records-walk a, records-walk b)
+    (walk-append a st.StartRecord [] [] b (refl, refl) e ∙ ap (λ rest. walk st.StartRecord [] [] a ++ rest) (from_start (state_after st.StartRecord a) b e))

@@ -1,0 +1,10 @@
+use Rattle.std.proofs.Common.{◌≤◌, ◌∷◌, ◌++◌, [], length}
+use Rattle.csv_ingest.specs.Pieces.{ArePieces}
+use Rattle.csv_ingest.specs.Private.Pieces.{lent}
+use Rattle.csv_ingest.proofs.cuts.pieces_of.Given as goal
+
+abbrev pub invariant-loop-piece : goal.invariant-loop-piece
+invariant-loop-piece l = record {
+  within : length l.rest ≤ length l.file;
+  pieces : ArePieces l.file (lent l.found.items ++ l.rest ∷ []);
+}

@@ -1,0 +1,5 @@
+use Rattle.csv_ingest.proofs.Stands.{stand-append}
+use Rattle.csv_ingest.proofs.laws.stand_after_two.Goals as goal
+
+pub returns : goal.returns
+returns c = λ s a b. stand-append a s b

@@ -1,0 +1,50 @@
+-- The keys of the pieces of a file, and those of the whole.
+use Rattle.std.specs.Prelude.{◌≡◌, ℕ, ◌+◌, false, List, [], ◌∷◌, ◌++◌, length, Result, Ok, Err}
+use Rattle.csv.specs.Reading.{default_config, records, strip_bom}
+use Rattle.lane_words.specs.declared.Refusal.{Refusal}
+use Rattle.lane_words.specs.declared.Refusal.TheVariants as r
+use Rattle.csv_ingest.specs.KeyFile.{Record, Taking, after_keys, keys_from}
+use Rattle.csv_ingest.specs.Stand.{in_quotes, stand_after}
+use Rattle.csv_ingest.specs.declared.stand.Stand.TheVariants as k
+
+-- the records of a file
+abbrev pub file_records : List ℕ → List Record
+file_records bytes = records default_config (strip_bom bytes)
+
+-- the pieces of a file, which is cut before line feeds that no quotes protect
+unfoldable pub ArePieces : List ℕ → List (List ℕ) → Type 0
+ArePieces file [] = file ≡ []
+ArePieces file (piece ∷ []) = file ≡ piece
+ArePieces file (piece ∷ next ∷ pieces) =
+    (rest : List ℕ) × (file ≡ piece ++ 10 ∷ rest)
+    × (in_quotes (stand_after k.Record (strip_bom piece)) ≡ false)
+    × ArePieces (10 ∷ rest) (next ∷ pieces)
+
+-- the keys of a piece, and then those of the rest
+abbrev pub then_keys : Result (List (List ℕ)) Refusal → Result (List (List ℕ)) Refusal
+    → Result (List (List ℕ)) Refusal
+then_keys (Ok keys) rest = after_keys keys rest
+then_keys (Err fault) rest = Err fault
+
+-- a fault of a record before which there are `earlier` records more
+abbrev pub later_fault : ℕ → Refusal → Refusal
+later_fault earlier (r.NoSuchColumn nth) = r.NoSuchColumn (nth + earlier)
+later_fault earlier (r.BadCsv nth) = r.BadCsv (nth + earlier)
+later_fault earlier (r.NoSuchTopic nth) = r.NoSuchTopic (nth + earlier)
+later_fault earlier fault = fault
+
+-- the keys of a piece that was numbered from its own first record on
+abbrev pub later_keys : ℕ → Result (List (List ℕ)) Refusal → Result (List (List ℕ)) Refusal
+later_keys earlier (Ok keys) = Ok keys
+later_keys earlier (Err fault) = Err (later_fault earlier fault)
+
+-- the keys of a piece behind the first, whose records are numbered from 1 on
+abbrev pub piece_keys : Taking → ℕ → List ℕ → Result (List (List ℕ)) Refusal
+piece_keys wanted width piece = keys_from wanted width 1 (file_records piece)
+
+-- the keys of pieces in their order, after `earlier` records: of a fault the record's number counts
+-- on
+abbrev pub joined : ℕ → List (Result (List (List ℕ)) Refusal) → Result (List (List ℕ)) Refusal
+joined earlier [] = Ok []
+joined earlier (Ok keys ∷ rest) = after_keys keys (joined (earlier + length keys) rest)
+joined earlier (Err fault ∷ rest) = Err (later_fault earlier fault)

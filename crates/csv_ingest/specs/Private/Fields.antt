@@ -1,0 +1,50 @@
+-- A record that is read field by field.
+use Rattle.std.specs.Prelude.{◌≡◌, ◌<◌, ◌≤◌, ◌+◌, ◌⊎◌, ◌++◌, ◌∷◌, [], ℕ, Bool, List, Some, drop, get_or, length, if◌then◌else◌}
+use Rattle.csv.specs.Records.{field_at}
+use Rattle.csv.specs.declared.parser.State.{State}
+use Rattle.csv.specs.declared.parser.State.TheVariants as st
+use Rattle.csv_ingest.specs.KeyFile.{Record}
+use Rattle.csv_ingest.specs.Private.Walk.{walk}
+use Rattle.csv_ingest.specs.declared.scan.Row.{Row}
+
+-- a byte that ends a line
+abbrev pub IsLineEnd : ℕ → Type 0
+IsLineEnd c = (c ≡ 10) ⊎ (c ≡ 13)
+
+-- from a place on a field in this state has these bytes more, and there it ends: at a comma, at the
+-- end of a line or of the text
+pub record EndsField (s : State) (text : List ℕ) (at end : ℕ) (more : List ℕ) : Type 0 where
+  pub order : at ≤ end
+  pub within : end ≤ length text
+  pub ended : end < length text → (get_or text end 0 ≡ 44) ⊎ IsLineEnd (get_or text end 0)
+  pub walked : (fields : Record) (field : List ℕ)
+      → walk s fields field (drop at text) ≡ walk st.InField fields (field ++ more) (drop end text)
+
+-- the bytes that were kept, and these of a field behind them, where they are wanted
+abbrev pub kept : Bool → List ℕ → List ℕ → List ℕ
+kept wanted old more = if wanted then old ++ more else old
+
+-- a field was read from a place on to its end, and its bytes are kept where they are wanted
+pub record ReadsField (s : State) (text : List ℕ) (at end : ℕ) (wanted : Bool) (old new : List ℕ) : Type 0 where
+  pub more : List ℕ
+  pub ends : EndsField s text at end more
+  pub keeps : new ≡ kept wanted old more
+
+-- these fields of the record at hand are complete, and the key is that of this column, counted from
+-- 0, as soon as its field is
+pub record IsRow (column : ℕ) (row : Row) (fields : Record) : Type 0 where
+  pub count : row.count ≡ length fields
+  pub key : column < row.count → field_at fields column ≡ Some row.key.items
+  pub before : row.count ≤ column → row.key.items ≡ []
+
+-- these are all fields of a record, the one at hand included
+pub record IsWhole (column : ℕ) (row : Row) (fields : Record) : Type 0 where
+  pub count : row.count + 1 ≡ length fields
+  pub key : column < row.count + 1 → field_at fields column ≡ Some row.key.items
+  pub before : row.count < column → row.key.items ≡ []
+
+-- the field at hand was read to its end
+pub record ReadsRow (text : List ℕ) (at end column : ℕ) (old new : Row) : Type 0 where
+  pub field : List ℕ
+  pub ends : EndsField st.StartField text at end field
+  pub whole : (fields : Record) → IsRow column old fields → IsWhole column new (fields ++ field ∷ [])

@@ -1,0 +1,123 @@
+//! Where a file can be cut.
+
+ghost use Rattle.std.specs.Prelude.{◌≡◌, ◌≤◌, ◌<◌, ◌++◌, false, length, slice_index, take, IfOk, IfSome};
+ghost use Rattle.csv.specs.Reading.{is_bom, strip_bom};
+ghost use Rattle.csv_ingest.specs.Pieces.{ArePieces};
+ghost use Rattle.csv_ingest.specs.Private.Cuts.{IsOutside, bom_length};
+ghost use Rattle.csv_ingest.specs.Private.Pieces.{lent};
+ghost use Rattle.csv_ingest.specs.Stand.{in_quotes, stand_after};
+ghost use Rattle.csv_ingest.specs.declared.stand.Stand.TheVariants as stands;
+
+use crate::stand::{Stand, stand_behind};
+use lane_words::Memory;
+use std::alloc::Global;
+
+/// How many bytes a byte order mark takes.
+const MARK: usize = 3;
+
+/// Whether these are the bytes of a byte order mark.
+fn is_mark(a: u8, b: u8, c: u8) -> bool
+    ensures { result ≡ is_bom a b c }
+{
+    a == 0xEF && b == 0xBB && c == 0xBF
+}
+
+/// How many bytes a byte order mark takes at the start of a file.
+pub fn mark_length(file: &[u8]) -> usize
+    ensures value { result ≡ bom_length file.now }
+    ensures bound { result ≤ length file.now }
+{
+    if file.len() < 3 {
+        0
+    } else if is_mark(file[0], file[1], file[2]) {
+        3
+    } else {
+        0
+    }
+}
+
+/// The first line feed that no quotes protect, where a reader stands here before the bytes.
+fn open_cut(bytes: &[u8], from: Stand) -> Option<usize>
+    ensures range { IfSome result (λ cut. cut < length bytes.now) }
+    ensures cut { IfSome result (λ cut. (slice_index bytes.now cut ≡ 10)
+        × (in_quotes (stand_after from (take cut bytes.now)) ≡ false)) }
+{
+    let mut stand = from;
+    for i in 0..bytes.len() {
+        let byte = bytes[i];
+        if byte == b'\n' && !stand.is_quoted() {
+            return Some(i);
+        }
+        stand = stand.next(byte);
+    }
+    None
+}
+
+/// The first line feed before `to` that no quotes protect, wherever a reader stands before the bytes.
+///
+/// Behind a few quoted fields a reader mostly stands at the same place wherever it began.
+fn synced_cut(bytes: &[u8], to: usize) -> Option<usize>
+    requires { to ≤ length bytes.now }
+    ensures range { IfSome result (λ cut. cut < length bytes.now) }
+    ensures cut { IfSome result
+        (λ cut. (slice_index bytes.now cut ≡ 10) × IsOutside (take cut bytes.now)) }
+{
+    let mut fresh = Stand::Record;
+    let mut bare = Stand::Bare;
+    let mut quoted = Stand::Quoted;
+    for i in 0..to {
+        let byte = bytes[i];
+        if byte == b'\n' && !quoted.is_quoted() && !fresh.is_quoted() && !bare.is_quoted() {
+            return Some(i);
+        }
+        fresh = fresh.next(byte);
+        bare = bare.next(byte);
+        quoted = quoted.next(byte);
+    }
+    None
+}
+
+/// How many bytes are looked at for a cut that does not depend on the bytes before.
+const WINDOW: usize = 65536;
+
+/// Where bytes that follow the first ones of a file can be cut: before the first line feed that is
+/// seen not to be in quotes. Behind fewer than three bytes there is no cut, since they may begin a
+/// byte order mark.
+pub fn cut_behind(before: &[u8], next: &[u8]) -> Option<usize>
+    ensures range { IfSome result (λ cut. cut < length next.now) }
+    ensures cut { IfSome result (λ cut. (slice_index next.now cut ≡ 10)
+        × (in_quotes (stand_after stands.Record (strip_bom (before.now ++ take cut next.now))) ≡ false)) }
+{
+    if before.len() < MARK {
+        return None;
+    }
+    if let Some(cut) = synced_cut(next, WINDOW.min(next.len())) {
+        return Some(cut);
+    }
+    let start = mark_length(before);
+    open_cut(next, stand_behind(Stand::Record, &before[start..]))
+}
+
+/// A file in at most `pieces` pieces of about the same length; 0 are one.
+pub fn pieces_of(alloc: Global, file: &[u8], pieces: usize) -> Result<Vec<&[u8]>, Memory>
+    ensures { IfOk result (λ found. ArePieces file.now (lent found.items)) }
+{
+    let step = if pieces == 0 {
+        file.len()
+    } else {
+        file.len() / pieces
+    };
+    let mut found = Vec::new(alloc);
+    let mut rest = file;
+    for _piece in 1..pieces {
+        let aim = step.max(MARK).min(rest.len());
+        let Some(more) = cut_behind(&rest[..aim], &rest[aim..]) else {
+            break;
+        };
+        let cut = aim + more;
+        found.push(&rest[..cut])?;
+        rest = &rest[cut..];
+    }
+    found.push(rest)?;
+    Ok(found)
+}

@@ -1,0 +1,43 @@
+//! The keys of a file of comma-separated records, read as a whole or in chunks in parallel.
+//!
+//! It promises:
+//! - Each read returns the keys of a column, with their topics or without, or the first fault,
+//!   exactly as the definition by records says (`keys_of`), however the file is split. The only
+//!   other error is running out of memory.
+//! - Laws: when a file can be split at a line feed, and how the records and keys of a file follow
+//!   from those of its chunks.
+//!
+//! Tests: `log_tests`.
+#![tactic(auto)]
+
+mod apart;
+mod blocks;
+mod cuts;
+mod file_keys;
+mod join;
+mod lack;
+mod laws;
+mod piece;
+mod records;
+mod scan;
+mod stand;
+mod topic_keys;
+mod wanted;
+mod whole;
+
+pub use apart::{
+    Reading, pieces_for, read_keys_apart, read_keys_in_pieces, read_topic_keys_apart,
+    read_topic_keys_in_pieces,
+};
+pub use blocks::Blocks;
+pub use file_keys::FileKeys;
+pub use lack::Lack;
+pub use laws::{
+    a_key_a_record, cut_before_a_line_feed, cut_behind_a_record, cut_file, cut_without_quotes,
+    keys_later, keys_of_pieces, keys_of_two_pieces, line_feed_ends_a_record,
+    outside_without_quotes, records_of_pieces, stand_after_two,
+};
+pub use record_batch::RecordBatch;
+pub use stand::Stand;
+pub use topic_keys::TopicKeys;
+pub use whole::read_keys;

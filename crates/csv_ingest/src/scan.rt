@@ -1,0 +1,277 @@
+//! The keys of a piece, scanned field by field. `csv` says what its fields are; of all but one of
+//! each record nothing is wanted here but the end.
+
+ghost use Rattle.std.specs.Prelude.{◌≡◌, ◌≤◌, ◌<◌, ◌+◌, ◌-◌, ◌^◌, ◌⊎◌, ◌∷◌, ◌++◌, [], ℕ, IfErr, IfOk, List, Ok, OnOk, Err, get_or, length, slice_range, true, false};
+ghost use Rattle.csv.specs.declared.parser.State.TheVariants as st;
+ghost use Rattle.csv_ingest.specs.KeyFile.{IsFileFault, Record, key_in, taken_of};
+ghost use Rattle.csv_ingest.specs.Pieces.{file_records, piece_keys};
+ghost use Rattle.csv_ingest.specs.Private.Cuts.{bom_length};
+ghost use Rattle.csv_ingest.specs.Private.Fields.{EndsField, IsLineEnd, IsRow, IsWhole, ReadsField, ReadsRow, kept};
+ghost use Rattle.csv_ingest.specs.Private.Pieces.{IsWidthOf};
+ghost use Rattle.csv_ingest.specs.Private.KeyFile.{IsFaultAt, TakesKey};
+ghost use Rattle.csv_ingest.specs.Private.Wanted.{taking};
+ghost use Rattle.lane_words.specs.declared.Refusal.TheVariants as refusal;
+
+use crate::cuts::mark_length;
+use crate::piece::keys_of_piece;
+use crate::wanted::Wanted;
+use crate::whole::read_taken;
+use lane_words::{Memory, Refusal};
+use memchr::memchr;
+use record_batch::RecordBatch;
+use std::alloc::Global;
+
+/// Whether a byte ends a line.
+fn ends_line(byte: u8) -> bool
+    ensures if_true { result ≡ true → IsLineEnd byte }
+    ensures if_false { result ≡ false → IsLineEnd byte → ⊥ }
+{
+    matches!(byte, b'\n' | b'\r')
+}
+
+/// Whether there is this byte here.
+fn is_at(text: &[u8], at: usize, byte: u8) -> bool
+    ensures if_true { result ≡ true → (at < length text.now) × (get_or text.now at 0 ≡ byte) }
+    ensures if_false { result ≡ false → at < length text.now → get_or text.now at 0 ≡ byte → ⊥ }
+{
+    at < text.len() && text[at] == byte
+}
+
+/// Where a field that goes on here without quotes ends.
+fn bare_end(text: &[u8], at: usize) -> usize
+    requires { at ≤ length text.now }
+    ensures { EndsField st.InField text.now at result (slice_range text.now at result) }
+{
+    for i in at..text.len() {
+        if matches!(text[i], b',' | b'\n' | b'\r') {
+            return i;
+        }
+    }
+    text.len()
+}
+
+/// Keeps bytes of a field where they are wanted.
+fn keep(bytes: &[u8], wanted: bool, key: &mut Vec<u8>) -> Result<(), Memory>
+    ensures { OnOk result (key.new.items ≡ kept wanted key.old.items bytes.now) }
+{
+    if wanted {
+        key.extend_from_slice(bytes)?;
+    }
+    Ok(())
+}
+
+/// Reads on to the end of a field that goes on here without quotes.
+fn read_bare(text: &[u8], at: usize, wanted: bool, key: &mut Vec<u8>) -> Result<usize, Memory>
+    requires { at ≤ length text.now }
+    ensures { IfOk result
+        (λ end. ReadsField st.InField text.now at end wanted key.old.items key.new.items) }
+{
+    let end = bare_end(text, at);
+    keep(&text[at..end], wanted, key)?;
+    Ok(end)
+}
+
+/// Reads on to the end of a field that goes on here in quotes. Of two double quotes one is a byte of
+/// the field, and behind a single one it goes on without quotes.
+fn read_quoted(text: &[u8], start: usize, wanted: bool, key: &mut Vec<u8>) -> Result<usize, Memory>
+    requires { start ≤ length text.now }
+    ensures { IfOk result
+        (λ end. ReadsField st.InQuoted text.now start end wanted key.old.items key.new.items) }
+{
+    let mut at = start;
+    'quotes: while let Some(more) = memchr(b'"', &text[at..]) {
+        let quote = at + more;
+        if !is_at(text, quote + 1, b'"') {
+            keep(&text[at..quote], wanted, key)?;
+            return read_bare(text, quote + 1, wanted, key);
+        }
+        keep(&text[at..quote + 1], wanted, key)?;
+        at = quote + 2;
+    }
+    keep(&text[at..], wanted, key)?;
+    Ok(text.len())
+}
+
+/// The record at hand.
+#[derive(Drop)]
+struct Row {
+    /// How many fields come before the one at hand.
+    count: usize,
+    /// The bytes of the key, as far as they were read.
+    key: Vec<u8>,
+}
+
+impl Row {
+    /// A record of which nothing was read.
+    fn new(alloc: Global) -> Row
+        ensures none { result.count ≡ 0 }
+        ensures row { (column : ℕ) → IsRow column result [] }
+    {
+        Row {
+            count: 0,
+            key: Vec::new(alloc),
+        }
+    }
+
+    /// Reads the field at hand, which starts here, and tells where it ends.
+    fn read_field(&mut self, text: &[u8], at: usize, column: usize) -> Result<usize, Memory>
+        requires { at < length text.now }
+        ensures count { OnOk result (self.new.count ≡ self.old.count) }
+        ensures field { IfOk result (λ end. ReadsRow text.now at end column self.old self.new) }
+    {
+        let wanted = self.count == column;
+        if text[at] == b'"' {
+            read_quoted(text, at + 1, wanted, &mut self.key)
+        } else {
+            read_bare(text, at, wanted, &mut self.key)
+        }
+    }
+
+    /// Goes on to the next field.
+    fn go_on(&mut self)
+        requires { self.old.count < 2 ^ 64 - 1 }
+        ensures count { self.new.count ≡ self.old.count + 1 }
+        ensures row { (column : ℕ) (fields : Record) → IsWhole column self.old fields
+            → IsRow column self.new fields }
+    {
+        self.count += 1;
+    }
+
+    /// Begins a new record.
+    fn start_over(&mut self)
+        ensures none { self.new.count ≡ 0 }
+        ensures row { (column : ℕ) → IsRow column self.new [] }
+    {
+        self.count = 0;
+        self.key.clear();
+    }
+
+    /// Adds the key of this record, which was read to its end, as record number nth, which has to be
+    /// `width` fields long.
+    fn add_to(
+        &self,
+        keys: &mut RecordBatch,
+        column: usize,
+        width: usize,
+        nth: u64,
+    ) -> Result<(), Refusal>
+        requires { self.now.count < 2 ^ 64 - 1 }
+        ensures bound { OnOk result (length keys.new < 2 ^ 63) }
+        ensures value { OnOk result (length keys.new ≡ length keys.old + 1) }
+        ensures key { OnOk result ((fields : Record) → IsWhole column self.now fields
+            → TakesKey (key_in (column + 1)) width nth keys.old keys.new fields) }
+        ensures kind { IfErr result IsFileFault }
+        ensures fault { IfErr result (λ e. (e ≡ refusal.Memory)
+            ⊎ ((fields : Record) → IsWhole column self.now fields
+            → IsFaultAt (key_in (column + 1)) width nth fields e)) }
+    {
+        if self.count + 1 != width {
+            return Err(Refusal::BadCsv { nth });
+        }
+        if self.count < column {
+            return Err(Refusal::NoSuchColumn { nth });
+        }
+        Ok(keys.push(self.key.as_slice())?)
+    }
+}
+
+/// Reads the keys of a piece without a byte order mark into an empty list: of each record the field
+/// in this column, which is counted from 0.
+fn scan(
+    keys: &mut RecordBatch,
+    alloc: Global,
+    text: &[u8],
+    column: usize,
+    width: usize,
+) -> Result<(), Refusal>
+    requires empty { keys.old ≡ [] }
+    requires unmarked { bom_length text.now ≡ 0 }
+    ensures keys { OnOk result (piece_keys (key_in (column + 1)) width text.now ≡ Ok keys.new) }
+    ensures kind { IfErr result IsFileFault }
+    ensures fault { IfErr result (λ e. (e ≡ refusal.Memory)
+        ⊎ (piece_keys (key_in (column + 1)) width text.now ≡ Err e)) }
+{
+    let mut row = Row::new(alloc);
+    let mut at = 0;
+    let mut nth = 1;
+    while at < text.len() {
+        if row.count == 0 && ends_line(text[at]) {
+            at += 1;
+        } else {
+            let end = row.read_field(text, at, column)?;
+            if is_at(text, end, b',') {
+                row.go_on();
+            } else {
+                row.add_to(keys, column, width, nth)?;
+                row.start_over();
+                nth += 1;
+            }
+            at = end + 1;
+        }
+    }
+    // Behind a last comma there is one field more.
+    if row.count > 0 {
+        row.add_to(keys, column, width, nth)?;
+    }
+    Ok(())
+}
+
+/// The keys of a piece without a byte order mark, as `keys_of_piece` has them.
+fn scanned(
+    alloc: Global,
+    text: &[u8],
+    wanted: &Wanted<'_>,
+    column: usize,
+    width: usize,
+) -> Result<RecordBatch, Refusal>
+    requires unmarked { bom_length text.now ≡ 0 }
+    requires column { taking wanted.now ≡ key_in (column + 1) }
+    ensures keys { IfOk result (λ keys. piece_keys (taking wanted.now) width text.now ≡ Ok keys) }
+    ensures kind { IfErr result IsFileFault }
+    ensures fault { IfErr result
+        (λ e. (e ≡ refusal.Memory) ⊎ (piece_keys (taking wanted.now) width text.now ≡ Err e)) }
+{
+    let mut keys = wanted.new_list(alloc);
+    scan(&mut keys, alloc, text, column, width)?;
+    Ok(keys)
+}
+
+/// The keys of one piece of a file, as `keys_of_piece` has them, which is asked where more than the
+/// key is wanted, or where there is a byte order mark.
+pub fn keys_of(
+    alloc: Global,
+    piece: &[u8],
+    wanted: &Wanted<'_>,
+    width: usize,
+) -> Result<RecordBatch, Refusal>
+    ensures keys { IfOk result (λ keys. piece_keys (taking wanted.now) width piece.now ≡ Ok keys) }
+    ensures kind { IfErr result IsFileFault }
+    ensures fault { IfErr result
+        (λ e. (e ≡ refusal.Memory) ⊎ (piece_keys (taking wanted.now) width piece.now ≡ Err e)) }
+{
+    match wanted.key_column() {
+        Some(column) if mark_length(piece) == 0 => scanned(alloc, piece, wanted, column, width),
+        _ => keys_of_piece(alloc, piece, wanted, width),
+    }
+}
+
+/// The keys of the first piece of a file, whose first record is `width` fields long.
+pub fn first_keys(
+    alloc: Global,
+    piece: &[u8],
+    wanted: &Wanted<'_>,
+    header: bool,
+    width: usize,
+) -> Result<RecordBatch, Refusal>
+    requires { IsWidthOf width (file_records piece.now) }
+    ensures keys { IfOk result (λ keys. taken_of (taking wanted.now) header piece.now ≡ Ok keys) }
+    ensures kind { IfErr result IsFileFault }
+    ensures fault { IfErr result
+        (λ e. (e ≡ refusal.Memory) ⊎ (taken_of (taking wanted.now) header piece.now ≡ Err e)) }
+{
+    if header {
+        read_taken(alloc, piece, wanted, header)
+    } else {
+        keys_of(alloc, piece, wanted, width)
+    }
+}

@@ -1,5 +1,0 @@
-use Rattle.group_laws.proofs.OtherLemmas.{join_brings}
-use Rattle.group_laws.proofs.laws.join_brings_a_newcomer.Goals as goal
-
-pub returns : goal.returns
-returns c g name a = join_brings g name a.number a.valid a.accepted

@@ -1,5 +1,0 @@
-use Rattle.group_laws.proofs.OtherLemmas.{rejoin_keeps}
-use Rattle.group_laws.proofs.laws.rejoin_leaves_what_is_kept.Goals as goal
-
-pub returns : goal.returns
-returns c g member a = rejoin_keeps g member a.generation a.claim a.valid a.accepted

@@ -1,5 +1,0 @@
-use Rattle.group_laws.proofs.OtherLemmas.{sync_leaves}
-use Rattle.group_laws.proofs.laws.sync_leaves_others.Goals as goal
-
-pub returns : goal.returns
-returns c = sync_leaves

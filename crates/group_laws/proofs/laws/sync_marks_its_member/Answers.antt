@@ -1,5 +1,0 @@
-use Rattle.group_laws.proofs.OtherLemmas.{sync_marks}
-use Rattle.group_laws.proofs.laws.sync_marks_its_member.Goals as goal
-
-pub returns : goal.returns
-returns c = sync_marks

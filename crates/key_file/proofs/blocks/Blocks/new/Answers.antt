@@ -1,9 +1,0 @@
-use Rattle.std.proofs.Common.{refl}
-use Rattle.key_file.proofs.Parts.{none-pieces}
-use Rattle.key_file.proofs.blocks.Blocks.new.Goals as goal
-
-pub invariant_of-result : goal.invariant_of-result
-invariant_of-result c = rw c.new.ensures.items (none-pieces, refl)
-
-pub returns : goal.returns
-returns c = rw c.new.ensures.items refl

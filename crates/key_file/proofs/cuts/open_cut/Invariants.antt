@@ -1,6 +1,0 @@
-use Rattle.std.proofs.Common.{◌≡◌, take}
-use Rattle.key_file.specs.Stand.{stand_after}
-use Rattle.key_file.proofs.cuts.open_cut.Given as goal
-
-abbrev pub invariant-loop-i : goal.invariant-loop-i
-invariant-loop-i l = l.stand ≡ stand_after l.fn.from (take l.i l.bytes)

@@ -1,5 +1,0 @@
-use Rattle.key_file.proofs.Pieces.{keys_from-append}
-use Rattle.key_file.proofs.laws.keys_of_two_pieces.Goals as goal
-
-pub returns : goal.returns
-returns c = keys_from-append

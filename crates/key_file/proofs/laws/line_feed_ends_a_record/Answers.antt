@@ -1,5 +1,0 @@
-use Rattle.key_file.proofs.Stands.{line-record}
-use Rattle.key_file.proofs.laws.line_feed_ends_a_record.Goals as goal
-
-pub returns : goal.returns
-returns c = λ s a. line-record a s

@@ -1,5 +1,0 @@
-use Rattle.key_file.proofs.Stands.{no_quote-outside}
-use Rattle.key_file.proofs.laws.outside_without_quotes.Goals as goal
-
-pub returns : goal.returns
-returns c = λ s a. no_quote-outside a s

@@ -1,5 +1,0 @@
-use Rattle.key_file.proofs.Pieces.{pieces-records}
-use Rattle.key_file.proofs.laws.records_of_pieces.Goals as goal
-
-pub returns : goal.returns
-returns c = λ file pieces. pieces-records pieces file

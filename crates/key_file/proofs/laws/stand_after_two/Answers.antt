@@ -1,5 +1,0 @@
-use Rattle.key_file.proofs.Stands.{stand-append}
-use Rattle.key_file.proofs.laws.stand_after_two.Goals as goal
-
-pub returns : goal.returns
-returns c = λ s a b. stand-append a s b

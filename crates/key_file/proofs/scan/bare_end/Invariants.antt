@@ -1,9 +1,0 @@
-use Rattle.std.proofs.Common.{slice_range}
-use Rattle.csv.specs.declared.parser.State.TheVariants as st
-use Rattle.key_file.proofs.Fields.{Goes}
-use Rattle.key_file.proofs.scan.bare_end.Given as goal
-
-abbrev pub invariant-loop-i : goal.invariant-loop-i
-invariant-loop-i l = record {
-  goes : Goes st.InField st.InField l.text l.at l.i (slice_range l.text l.at l.i);
-}

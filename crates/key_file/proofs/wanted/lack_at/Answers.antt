@@ -1,5 +1,0 @@
-use Rattle.std.proofs.Common.{rules}
-use Rattle.key_file.proofs.wanted.lack_at.Goals as goal
-
-pub returns-in-Column : goal.returns-in-Column
-returns-in-Column c = search rules

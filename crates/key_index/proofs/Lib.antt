@@ -1,0 +1,15 @@
+pub mod Copied
+pub mod Scattered
+pub mod Filtered
+pub mod Firsts
+pub mod Gathered
+pub mod Growth
+pub mod Hashed
+pub mod InShards
+pub mod Joined
+pub mod Numbers
+pub mod Ordered
+pub mod ReadBack
+pub mod ShardRecords
+pub mod Assigned
+pub mod Whole

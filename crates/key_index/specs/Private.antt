@@ -1,0 +1,4 @@
+pub mod ScatteredKey
+pub mod KeyHash
+pub mod Sharded
+pub mod StoredKey

@@ -1,0 +1,492 @@
+//! Keys interned shard by shard, in parallel.
+
+ghost use Rattle.std.specs.Prelude.{◌≡◌, ◌≤◌, ◌<◌, ◌+◌, ◌*◌, ◌++◌, ℕ, [], List, IfOk, OnOk, flat_map, length, map, replicate, slice_index_or, slice_set, vec_items, vec_len};
+ghost use Rattle.key_index.specs.Keys.{distinct, id_of, lent_lists};
+ghost use Rattle.key_index.specs.Private.Sharded.{AreScattered, AreFrom, AreGlobal, AreLocalIds, AreInternedFrom, AreInternedIn, AreOrdered, AreSeenCounts, AreReadable, AreTables, is_first, keys_in, local_ids_in, shard_by, shard_of, with_first, with_first_at, with_keys};
+
+use crate::key_hash::KeyHash;
+use crate::key_map::KeyMap;
+use crate::scattered_key::ScatteredKey;
+use crate::scattering::{SLICES, Scattered, all_shards, scatter_lists};
+use crate::shards::{GROUPS, KeyLocation, SHARDS, SHARDS_PER_GROUP};
+use lane_words::{MOST_RECORDS, Memory};
+use parallel::collected;
+use std::alloc::Global;
+use std::thread;
+use std::thread::Threads;
+
+/// Interned keys.
+#[derive(Drop)]
+pub struct InternedKeys {
+    /// The keys of each shard.
+    pub tables: Vec<KeyMap>,
+    /// The key numbers of the keys of each shard.
+    pub ids: Vec<Vec<u32>>,
+    /// The shard and the number there of each key.
+    pub order: Vec<KeyLocation>,
+    /// The key number of each record, in order.
+    pub numbers: Vec<u32>,
+}
+
+/// Interns keys in order of first appearance, with memory reserved for `capacity` distinct ones.
+pub fn intern_keys<R: Threads + Sync, T: Send + Drop, F: FnOnce() -> T + Send + Drop>(
+    rt: &R,
+    alloc: Global,
+    hasher: KeyHash,
+    lists: &[&[&[u8]]],
+    capacity: usize,
+    overlapped: F,
+) -> Result<(InternedKeys, T), Memory>
+    requires bound { length (lent_lists lists.now) ≤ MOST_RECORDS }
+    requires overlapped { F.pre overlapped }
+    ensures tables { IfOk result (λ r.
+        AreTables (shard_of hasher) SHARDS (lent_lists lists.now) r.0.tables.items) }
+    ensures len { IfOk result (λ r. vec_len r.0.ids ≡ SHARDS) }
+    ensures ids { IfOk result (λ r.
+        AreGlobal (shard_of hasher) (lent_lists lists.now) (map vec_items r.0.ids.items)) }
+    ensures order { IfOk result (λ r. AreOrdered (shard_of hasher) (lent_lists lists.now)
+        (distinct (lent_lists lists.now)) SHARDS r.0.order.items) }
+    ensures numbers { IfOk result (λ r. r.0.numbers.items
+        ≡ map (id_of (distinct (lent_lists lists.now))) (lent_lists lists.now)) }
+    ensures overlapped { IfOk result (λ r. F.post overlapped r.1) }
+{
+    let scattered = scatter_lists(rt, alloc, hasher, lists)?;
+    let shards = all_shards(alloc, hasher, lists, &scattered)?;
+    let found = intern_shards(rt, alloc, hasher, lists, &scattered, capacity)?;
+    let (tables, local_ids) = tables_of(alloc, hasher, lists, found)?;
+    let records = ShardedRecords {
+        hasher,
+        lists,
+        shards: &shards,
+        local_ids: &local_ids,
+    };
+    let (assigned, zeros, other) = assign_global_ids(
+        rt, alloc, &records, scattered, &tables, overlapped,
+    );
+    let (ids, order) = assigned?;
+    let mut numbers = zeros?;
+    read_slices(rt, &records, &ids, &mut numbers);
+    let numbered = InternedKeys {
+        tables,
+        ids,
+        order,
+        numbers,
+    };
+    Ok((numbered, other))
+}
+
+/// An interned shard.
+#[derive(Drop)]
+pub struct InternedShard {
+    /// Its keys, by their numbers in the shard.
+    table: KeyMap,
+    /// The number in the shard of each of its records, in order.
+    local_ids: Vec<u32>,
+}
+
+/// Interns more records of a shard.
+fn intern_row(
+    table: &mut KeyMap,
+    local_ids: &mut Vec<u32>,
+    row: &[ScatteredKey<'_>],
+) -> Result<(), Memory>
+    requires { length table.old + length row.now ≤ MOST_RECORDS }
+    ensures table { OnOk result (table.new ≡ with_keys table.old row.now) }
+    ensures local_ids { OnOk result (local_ids.new.items ≡ local_ids.old.items
+        ++ map (id_of (with_keys table.old row.now)) row.now) }
+{
+    for k in 0..row.len() {
+        let number = row[k].intern_in(table)?;
+        local_ids.push(number)?;
+    }
+    Ok(())
+}
+
+/// Interns the records of one shard, list by list, with memory reserved for `capacity` of its keys.
+fn intern_shard(
+    alloc: Global,
+    hasher: KeyHash,
+    lists: &[&[&[u8]]],
+    scattered: &[Scattered<'_>],
+    shard: u8,
+    capacity: usize,
+) -> Result<InternedShard, Memory>
+    requires bound { length (lent_lists lists.now) ≤ MOST_RECORDS }
+    requires shard { shard < SHARDS }
+    requires scattered { AreScattered (shard_of hasher) lists.now scattered.now }
+    ensures { IfOk result (λ n.
+        AreInternedIn (shard_of hasher) shard (lent_lists lists.now) n.table n.local_ids.items) }
+{
+    let mut table = KeyMap::hashed_by(alloc, hasher);
+    table.reserve(capacity)?;
+    let mut local_ids = Vec::with_capacity(alloc, capacity)?;
+    for i in 0..scattered.len() {
+        let row = &scattered[i].rows[shard as usize];
+        intern_row(&mut table, &mut local_ids, row.as_slice())?;
+    }
+    Ok(InternedShard { table, local_ids })
+}
+
+/// Interns the shards of one group, one after another.
+fn intern_group(
+    alloc: Global,
+    hasher: KeyHash,
+    lists: &[&[&[u8]]],
+    scattered: &[Scattered<'_>],
+    group: usize,
+    capacity: usize,
+) -> Result<Vec<Result<InternedShard, Memory>>, Memory>
+    requires bound { length (lent_lists lists.now) ≤ MOST_RECORDS }
+    requires group { group < GROUPS }
+    requires scattered { AreScattered (shard_of hasher) lists.now scattered.now }
+    ensures len { IfOk result (λ found. length found.items ≡ SHARDS_PER_GROUP) }
+    ensures found { IfOk result (λ found.
+        AreInternedFrom (shard_of hasher) (lent_lists lists.now) (group * SHARDS_PER_GROUP) SHARDS_PER_GROUP
+        found.items) }
+{
+    let from = group as u8 * SHARDS_PER_GROUP;
+    let mut found = Vec::with_capacity(alloc, SHARDS_PER_GROUP as usize)?;
+    for s in from..from + SHARDS_PER_GROUP {
+        found.push(intern_shard(alloc, hasher, lists, scattered, s, capacity))?;
+    }
+    Ok(found)
+}
+
+/// Interns each group of shards in a thread of its own.
+fn intern_groups<R: Threads + Sync>(
+    rt: &R,
+    alloc: Global,
+    hasher: KeyHash,
+    lists: &[&[&[u8]]],
+    scattered: &[Scattered<'_>],
+    capacity: usize,
+) -> Result<Vec<Result<Vec<Result<InternedShard, Memory>>, Memory>>, Memory>
+    requires bound { length (lent_lists lists.now) ≤ MOST_RECORDS }
+    requires scattered { AreScattered (shard_of hasher) lists.now scattered.now }
+    ensures len { IfOk result (λ groups. vec_len groups ≡ GROUPS) }
+    ensures found { IfOk result (λ groups. (g : ℕ) (d : _) → g < GROUPS
+        → IfOk (slice_index_or groups.items g d) (λ found. (length found.items ≡ SHARDS_PER_GROUP)
+        × AreInternedFrom (shard_of hasher) (lent_lists lists.now) (g * SHARDS_PER_GROUP) SHARDS_PER_GROUP
+        found.items)) }
+{
+    let groups = thread::map_indices(
+        rt,
+        alloc,
+        GROUPS,
+        &|g| intern_group(alloc, hasher, lists, scattered, g, capacity),
+    )?;
+    Ok(groups)
+}
+
+/// The shards of all groups, concatenated.
+fn flattened(
+    alloc: Global,
+    groups: Vec<Vec<Result<InternedShard, Memory>>>,
+) -> Result<Vec<Result<InternedShard, Memory>>, Memory>
+    ensures { IfOk result (λ all. all.items ≡ flat_map vec_items groups.items) }
+{
+    let mut all = Vec::with_capacity(alloc, SHARDS as usize)?;
+    for group in groups {
+        let mut group = group;
+        all.append(&mut group)?;
+    }
+    Ok(all)
+}
+
+/// Interns all shards, a group of them in each thread.
+fn intern_shards<R: Threads + Sync>(
+    rt: &R,
+    alloc: Global,
+    hasher: KeyHash,
+    lists: &[&[&[u8]]],
+    scattered: &[Scattered<'_>],
+    capacity: usize,
+) -> Result<Vec<Result<InternedShard, Memory>>, Memory>
+    requires bound { length (lent_lists lists.now) ≤ MOST_RECORDS }
+    requires scattered { AreScattered (shard_of hasher) lists.now scattered.now }
+    ensures len { IfOk result (λ found. vec_len found ≡ SHARDS) }
+    ensures found { IfOk result (λ found. (s : ℕ) (d : _) → s < SHARDS
+        → IfOk (slice_index_or found.items s d)
+        (λ n. AreInternedIn (shard_of hasher) s (lent_lists lists.now) n.table n.local_ids.items)) }
+{
+    // Slightly more than the average shard gets.
+    let each = capacity / (SHARDS as usize - 1);
+    let groups = intern_groups(rt, alloc, hasher, lists, scattered, each)?;
+    flattened(alloc, collected(alloc, groups)?)
+}
+
+/// The keys of each shard, and the numbers there of its records.
+fn tables_of(
+    alloc: Global,
+    hasher: KeyHash,
+    lists: &[&[&[u8]]],
+    found: Vec<Result<InternedShard, Memory>>,
+) -> Result<(Vec<KeyMap>, Vec<Vec<u32>>), Memory>
+    requires found { (s : ℕ) (d : _) → s < vec_len found → IfOk (slice_index_or found.items s d)
+        (λ n. AreInternedIn (shard_of hasher) s (lent_lists lists.now) n.table n.local_ids.items) }
+    ensures tables { IfOk result (λ r.
+        AreTables (shard_of hasher) (vec_len found) (lent_lists lists.now) r.0.items) }
+    ensures local_ids { IfOk result (λ r.
+        AreLocalIds (shard_of hasher) (vec_len found) (lent_lists lists.now)
+        (map vec_items r.1.items)) }
+{
+    let mut tables = Vec::with_capacity(alloc, found.len())?;
+    let mut local_ids = Vec::with_capacity(alloc, found.len())?;
+    for shard in found {
+        let shard = shard?;
+        tables.push(shard.table)?;
+        local_ids.push(shard.local_ids)?;
+    }
+    Ok((tables, local_ids))
+}
+
+/// Takes one more record of a shard. The first record of a key gives it the next key number.
+fn assign_id(
+    ids: &mut Vec<Vec<u32>>,
+    order: &mut Vec<KeyLocation>,
+    shard: u8,
+    local_id: u32,
+) -> Result<(), Memory>
+    requires shard { shard < vec_len ids.old }
+    requires capacity { vec_len order.old < MOST_RECORDS }
+    ensures ids { let old = slice_index_or (map vec_items ids.old.items) shard [] in
+        OnOk result (map vec_items ids.new.items ≡ slice_set (map vec_items ids.old.items) shard
+        (with_first old local_id (vec_len order.old))) }
+    ensures order { let old = slice_index_or (map vec_items ids.old.items) shard [] in
+        OnOk result (order.new.items ≡ with_first_at order.old.items old shard local_id) }
+{
+    let next = order.len() as u32;
+    let of_shard = &mut ids[shard as usize];
+    if push_first(of_shard, local_id, next)? {
+        order.push(KeyLocation {
+            shard,
+            number: local_id,
+        })?;
+    }
+    Ok(())
+}
+
+/// Takes one more record of this shard, and returns whether it is the first of its key.
+fn push_first(ids: &mut Vec<u32>, local_id: u32, next: u32) -> Result<bool, Memory>
+    ensures first { IfOk result (λ first. first ≡ is_first ids.old.items local_id) }
+    ensures ids { OnOk result (ids.new.items ≡ with_first ids.old.items local_id next) }
+{
+    let first = local_id as usize == ids.len();
+    if first {
+        ids.push(next)?;
+    }
+    Ok(first)
+}
+
+/// Records that are interned in their shards.
+#[derive(Clone, Copy)]
+pub struct ShardedRecords<'a> {
+    /// What decides the shard of a key.
+    pub hasher: KeyHash,
+    /// The keys of the records, in lists.
+    pub lists: &'a [&'a [&'a [u8]]],
+    /// The shard of each record, one list after another.
+    pub shards: &'a [u8],
+    /// The numbers in each shard of its records.
+    pub local_ids: &'a [Vec<u32>],
+}
+
+/// The key numbers of each shard, and the shard and the number there of each key.
+fn assign_in_order(
+    alloc: Global,
+    records: &ShardedRecords<'_>,
+    tables: &[KeyMap],
+) -> Result<(Vec<Vec<u32>>, Vec<KeyLocation>), Memory>
+    requires bound { length (keys_in records.now) ≤ MOST_RECORDS }
+    requires shards { records.now.shards.now ≡ map (shard_by records.now) (keys_in records.now) }
+    requires tables { length tables.now ≡ SHARDS }
+    requires local_ids { AreLocalIds (shard_by records.now) SHARDS (keys_in records.now)
+        (local_ids_in records.now) }
+    ensures len { IfOk result (λ w. vec_len w.0 ≡ SHARDS) }
+    ensures ids { IfOk result (λ w.
+        AreGlobal (shard_by records.now) (keys_in records.now) (map vec_items w.0.items)) }
+    ensures order { IfOk result (λ w. AreOrdered (shard_by records.now) (keys_in records.now)
+        (distinct (keys_in records.now)) SHARDS w.1.items) }
+{
+    let ShardedRecords {
+        shards,
+        local_ids,
+        ..
+    } = *records;
+    let mut ids = no_ids(alloc, tables)?;
+    let mut order = Vec::with_capacity(alloc, keys_of(tables))?;
+    let mut seen = [0; SHARDS as usize];
+    for i in 0..shards.len() {
+        let shard = shards[i] as usize;
+        let local_id = local_ids[shard][seen[shard]];
+        seen[shard] += 1;
+        assign_id(&mut ids, &mut order, shards[i], local_id)?;
+    }
+    Ok((ids, order))
+}
+
+/// Runs `assign_in_order` while another thread drops the scattered keys, allocates a number for each record,
+/// and runs `overlapped`.
+fn assign_global_ids<R: Threads + Sync, T: Send, F: FnOnce() -> T + Send>(
+    rt: &R,
+    alloc: Global,
+    records: &ShardedRecords<'_>,
+    scattered: Vec<Scattered<'_>>,
+    tables: &[KeyMap],
+    overlapped: F,
+) -> (
+    Result<(Vec<Vec<u32>>, Vec<KeyLocation>), Memory>,
+    Result<Vec<u32>, Memory>,
+    T,
+)
+    requires bound { length (keys_in records.now) ≤ MOST_RECORDS }
+    requires shards { records.now.shards.now ≡ map (shard_by records.now) (keys_in records.now) }
+    requires tables { length tables.now ≡ SHARDS }
+    requires local_ids { AreLocalIds (shard_by records.now) SHARDS (keys_in records.now)
+        (local_ids_in records.now) }
+    requires overlapped { F.pre overlapped }
+    ensures len { IfOk result.0 (λ w. vec_len w.0 ≡ SHARDS) }
+    ensures ids { IfOk result.0 (λ w.
+        AreGlobal (shard_by records.now) (keys_in records.now) (map vec_items w.0.items)) }
+    ensures order { IfOk result.0 (λ w. AreOrdered (shard_by records.now) (keys_in records.now)
+        (distinct (keys_in records.now)) SHARDS w.1.items) }
+    ensures zeros { IfOk result.1 (λ zeros. length zeros.items ≡ length (keys_in records.now)) }
+    ensures overlapped { F.post overlapped result.2 }
+{
+    let ShardedRecords {
+        hasher,
+        lists,
+        shards,
+        local_ids,
+    } = *records;
+    let len = shards.len();
+    let ((zeros, other), assigned) = thread::join(
+        rt,
+        move || -> (Result<Vec<u32>, Memory>, T)
+            requires { F.pre overlapped }
+            ensures { IfOk result.0 (λ zeros. length zeros.items ≡ len)
+                × F.post overlapped result.1 }
+        { (zeros_after(alloc, scattered, len), overlapped()) },
+        || -> Result<(Vec<Vec<u32>>, Vec<KeyLocation>), Memory>
+            requires { (length (lent_lists lists.now) ≤ MOST_RECORDS)
+                × (shards.now ≡ map (shard_of hasher) (lent_lists lists.now))
+                × (length tables.now ≡ SHARDS)
+                × AreLocalIds (shard_of hasher) SHARDS (lent_lists lists.now)
+                (map vec_items local_ids.now) }
+            ensures { IfOk result (λ w. (vec_len w.0 ≡ SHARDS)
+                × AreGlobal (shard_of hasher) (lent_lists lists.entry.now) (map vec_items w.0.items)
+                × AreOrdered (shard_of hasher) (lent_lists lists.entry.now)
+                (distinct (lent_lists lists.entry.now)) SHARDS w.1.items) }
+        {
+            let records = ShardedRecords {
+                hasher,
+                lists,
+                shards,
+                local_ids,
+            };
+            assign_in_order(alloc, &records, tables)
+        },
+    );
+    (assigned, zeros, other)
+}
+
+/// A zero for each record, allocated after the scattered keys are dropped.
+fn zeros_after(
+    alloc: Global,
+    scattered: Vec<Scattered<'_>>,
+    records: usize,
+) -> Result<Vec<u32>, Memory>
+    ensures { IfOk result (λ zeros. length zeros.items ≡ records) }
+{
+    drop(scattered);
+    let zeros = vec![in alloc; 0; records]?;
+    Ok(zeros)
+}
+
+/// An empty list of key numbers for each shard, with capacity for its keys.
+fn no_ids(alloc: Global, tables: &[KeyMap]) -> Result<Vec<Vec<u32>>, Memory>
+    requires { length tables.now ≡ SHARDS }
+    ensures { IfOk result (λ ids. map vec_items ids.items ≡ replicate SHARDS []) }
+{
+    let mut ids = Vec::with_capacity(alloc, SHARDS as usize)?;
+    for s in 0..SHARDS as usize {
+        ids.push(Vec::with_capacity(alloc, tables[s].count() as usize)?)?;
+    }
+    Ok(ids)
+}
+
+/// The number of keys of all tables. It only decides how much memory is reserved.
+fn keys_of(tables: &[KeyMap]) -> usize {
+    let mut keys: usize = 0;
+    for s in 0..tables.len() {
+        keys = keys.saturating_add(tables[s].count() as usize);
+    }
+    keys
+}
+
+/// Fills in the key numbers of the records, in slices and in parallel.
+fn read_slices<R: Threads + Sync>(
+    rt: &R,
+    records: &ShardedRecords<'_>,
+    ids: &[Vec<u32>],
+    numbers: &mut [u32],
+)
+    requires len { length numbers.old ≡ length (keys_in records.now) }
+    requires valid { AreReadable (shard_by records.now) (keys_in records.now)
+        records.now.shards.now (local_ids_in records.now) (map vec_items ids.now) }
+    ensures { numbers.new ≡ map (id_of (distinct (keys_in records.now))) (keys_in records.now) }
+{
+    thread::for_each_chunk_mut(
+        rt,
+        numbers,
+        records.shards.len() / SLICES + 1,
+        &|from: usize, slice: &mut [u32]|
+            requires { (from + length slice.now ≤ length (keys_in records.now))
+                × AreReadable (shard_by records.now) (keys_in records.now) records.now.shards.now
+                (local_ids_in records.now) (map vec_items ids.now) }
+            ensures { AreFrom (id_of (distinct (keys_in records.entry.now)))
+                (keys_in records.entry.now) from (length slice.entry.now) slice.exit.now }
+        { read_numbers(from, records, ids, slice) },
+    );
+}
+
+/// Fills in the key numbers of the records from this index on.
+fn read_numbers(from: usize, records: &ShardedRecords<'_>, ids: &[Vec<u32>], numbers: &mut [u32])
+    requires range { from + length numbers.old ≤ length (keys_in records.now) }
+    requires valid { AreReadable (shard_by records.now) (keys_in records.now)
+        records.now.shards.now (local_ids_in records.now) (map vec_items ids.now) }
+    ensures { AreFrom (id_of (distinct (keys_in records.now))) (keys_in records.now) from
+        (length numbers.old) numbers.new }
+{
+    let ShardedRecords {
+        hasher,
+        lists,
+        shards,
+        local_ids,
+    } = *records;
+    let mut seen = seen_before(from, hasher, lists, shards);
+    for k in 0..numbers.len() {
+        let shard = shards[from + k] as usize;
+        let local_id = local_ids[shard][seen[shard]];
+        seen[shard] += 1;
+        numbers[k] = ids[shard][local_id as usize];
+    }
+}
+
+/// The number of records of each shard before this index.
+fn seen_before(
+    from: usize,
+    hasher: KeyHash,
+    lists: &[&[&[u8]]],
+    shards: &[u8],
+) -> [usize; SHARDS as usize]
+    requires range { from ≤ length (lent_lists lists.now) }
+    requires shards { shards.now ≡ map (shard_of hasher) (lent_lists lists.now) }
+    ensures { AreSeenCounts (shard_of hasher) SHARDS (lent_lists lists.now) from result }
+{
+    let mut seen = [0; SHARDS as usize];
+    for i in 0..from {
+        seen[shards[i] as usize] += 1;
+    }
+    seen
+}

@@ -1,0 +1,27 @@
+//! The key index: keys interned as 32-bit key numbers, in the order of their first appearance.
+//!
+//! It promises:
+//! - `KeyDictionary` is a dictionary of distinct keys. Its `intern_all` interns whole lists in parallel,
+//!   shard by shard, with the same result as one record after another.
+//! - `KeyMap` is the map below it: at most as many distinct keys as there are key numbers.
+//! - `KeyHash` is a keyed hash: multilinear for short keys, SipHash for long ones. No contract of
+//!   another crate depends on it.
+//!
+//! Tests: `log_tests`.
+#![tactic(auto)]
+
+mod interning;
+mod key_hash;
+mod key_map;
+mod keys;
+mod scattered_key;
+mod scattering;
+mod shards;
+mod stored_key;
+
+pub use key_hash::KeyHash;
+pub use key_map::KeyMap;
+pub use keys::KeyDictionary;
+pub use scattering::split_keys;
+pub use shards::{Interned, ShardedMap};
+pub use stored_key::LONGEST_INLINE;

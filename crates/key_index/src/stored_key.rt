@@ -1,0 +1,145 @@
+//! A key as the key map stores it.
+
+ghost use Rattle.std.specs.Prelude.{◌≡◌, ◌≤◌, length, Some, IfSome, vec_capacity};
+ghost use Rattle.std.proofs.Common.{rules};
+ghost use Rattle.std.specs.Cmp as compare;
+ghost use Rattle.std.specs.Cmp.Lexicographic.{nat_list_eq_equiv};
+ghost use Rattle.std.specs.Cmp.Rules.{comparing, hashing};
+ghost use Rattle.std.specs.Str.{bytes_eq};
+ghost use Rattle.key_index.specs.Private.StoredKey.{IsCopyOf, bytes_of};
+
+use std::hash::{Hash, Hasher};
+use std::marker::Model;
+
+/// The longest key stored inline, in bytes: it, its size and the variant tag fill three words.
+pub const LONGEST_INLINE: usize = 22;
+
+/// Where the bytes of a key are.
+#[derive(Debug, Drop)]
+enum Storage {
+    /// The first `size` of these bytes.
+    Inline {
+        bytes: [u8; LONGEST_INLINE],
+        size: u8,
+    },
+    /// On the heap.
+    Heap(Vec<u8>),
+}
+
+/// A copy of a key of up to `LONGEST_INLINE` bytes.
+#[derive(Clone, Copy, Debug)]
+pub struct ShortKey {
+    /// The bytes of the key, followed by zeros.
+    bytes: [u8; LONGEST_INLINE],
+    /// The length of the key.
+    size: u8,
+}
+
+impl ShortKey {
+    /// A copy of a key.
+    pub fn of(key: &[u8]) -> ShortKey
+        requires { length key.now ≤ LONGEST_INLINE }
+        ensures { IsCopyOf key.now result }
+    {
+        let mut bytes = [0u8; LONGEST_INLINE];
+        bytes[..key.len()].copy_from_slice(key);
+        ShortKey {
+            bytes,
+            size: key.len() as u8,
+        }
+    }
+}
+
+/// A key. A short one is stored inline, so that a lookup follows no pointer to it.
+#[derive(Debug, Drop)]
+pub struct StoredKey {
+    storage: Storage,
+}
+
+impl Model for StoredKey {
+    ghost use Rattle.std.specs.Prelude.{List, ℕ};
+
+    ghost Value = { List ℕ };
+
+    ghost use Rattle.key_index.specs.Private.StoredKey.{bytes_in, IsValidStoredKey};
+
+    ghost view = { λ k. bytes_in k.storage };
+
+    ghost invariant = { λ k. IsValidStoredKey k.storage };
+}
+
+impl StoredKey {
+    /// A short key. It allocates nothing.
+    pub fn short(key: &ShortKey) -> StoredKey
+        requires { key.now.size ≤ LONGEST_INLINE }
+        ensures { result ≡ bytes_of key.now }
+    {
+        StoredKey {
+            storage: Storage::Inline {
+                bytes: key.bytes,
+                size: key.size,
+            },
+        }
+    }
+
+    /// A key on the heap.
+    pub fn long(text: Vec<u8>) -> StoredKey
+        ensures { result ≡ text.items }
+    {
+        StoredKey {
+            storage: Storage::Heap(text),
+        }
+    }
+
+    /// The bytes of the key.
+    #[inline(always)]
+    pub fn as_slice(&self) -> &[u8]
+        ensures { result.now ≡ self.now }
+    {
+        match &self.storage {
+            Storage::Inline { bytes, size } => &bytes[..*size as usize],
+            Storage::Heap(text) => text.as_slice(),
+        }
+    }
+}
+
+impl StoredKey {
+    /// The memory of a long key, to be used again.
+    pub fn into_text(self) -> Option<Vec<u8>>
+        ensures { IfSome result (λ text. text.items ≡ self) }
+    {
+        let StoredKey { storage } = self;
+        match storage {
+            Storage::Inline { .. } => None,
+            Storage::Heap(text) => Some(text),
+        }
+    }
+}
+
+impl PartialEq for StoredKey {
+    ghost eq = { bytes_eq };
+
+    ghost laws = { compare.partial_equiv_from_equiv nat_list_eq_equiv };
+
+    fn eq(&self, other: &StoredKey) -> bool {
+        self.as_slice() == other.as_slice()
+    }
+}
+
+impl Eq for StoredKey {
+    ghost laws = { nat_list_eq_equiv };
+}
+
+// One write of all bytes: a slice's own hash would make a write a byte.
+impl Hash for StoredKey {
+    ghost use Rattle.std.specs.Prelude.{[], ◌∷◌};
+
+    ghost hash_input = { λ k. k ∷ [] };
+
+    ghost respects_eq = { Prim.search (hashing, rules) };
+
+    #[inline(always)]
+    fn hash<H: Hasher>(&self, state: &mut H) {
+        state.write(self.as_slice());
+    }
+}

@@ -1,3 +1,0 @@
-pub mod Coded
-pub mod Ends
-pub mod Longest

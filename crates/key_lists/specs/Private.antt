@@ -1,3 +1,0 @@
-pub mod KeyStore
-pub mod KeyText
-pub mod Known

@@ -1,6 +1,0 @@
-use Rattle.std.proofs.Common.{arith}
-use Rattle.std.proofs.lemmas.Grind.{common_steps}
-use Rattle.key_numbers.proofs.keys.KeyIds.key.Goals as goal
-
-pub returns-then-number-first : goal.returns-then-number-first
-returns-then-number-first c = grind (arith, common_steps)

@@ -1,4 +1,0 @@
-pub mod DealtKey
-pub mod KeyHash
-pub mod Sharded
-pub mod StoredKey

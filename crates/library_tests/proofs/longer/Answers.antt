@@ -1,5 +1,0 @@
-use Rattle.std.proofs.Common.{rules}
-use Rattle.library_tests.proofs.longer.Goals as goal
-
-pub returns : goal.returns
-returns c = search rules

@@ -1,0 +1,3 @@
+pub mod Encoded
+pub mod Ends
+pub mod Longest

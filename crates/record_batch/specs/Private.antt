@@ -1,0 +1,3 @@
+pub mod BatchDictionary
+pub mod StringPool
+pub mod KeyCache

@@ -1,5 +1,0 @@
-use Rattle.std.proofs.Common.{◌∙◌}
-use Rattle.store_tests.proofs.plain_partial.counts_of.Goals as goal
-
-pub returns : goal.returns
-returns c = (λ x. c.in_ok-map_of.ensures.0 x ∙ c.in_ok-runs.ensures x, c.in_ok-map_of.ensures.1)

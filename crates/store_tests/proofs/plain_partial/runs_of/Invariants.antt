@@ -1,5 +1,0 @@
-use Rattle.store_tests.proofs.plain_partial.Listed.{AreListed}
-use Rattle.store_tests.proofs.plain_partial.runs_of.Given as goal
-
-abbrev pub invariant-loop-at : goal.invariant-loop-at
-invariant-loop-at l = AreListed l.runs.items l.ids l.start l.at

@@ -1,6 +1,0 @@
-use Rattle.std.proofs.Common.{false, true, replicate}
-use Rattle.store_tests.proofs.plain_plane.Flags.{AreMarked}
-use Rattle.store_tests.proofs.plain_plane.PlainPlane.full.Given as goal
-
-abbrev pub invariant-loop-q : goal.invariant-loop-q
-invariant-loop-q l = AreMarked (replicate 4096 false) (λ q. true) l.q l.flags

@@ -1,5 +1,0 @@
-use Rattle.store_tests.proofs.plain_plane.Flags.{AreTrimmed}
-use Rattle.store_tests.proofs.plain_plane.PlainPlane.lowest.Given as goal
-
-abbrev pub invariant-loop-q : goal.invariant-loop-q
-invariant-loop-q l = AreTrimmed l.self-inside.flags l.self l.n l.q l.flags l.left

@@ -1,5 +1,0 @@
-use Rattle.store_tests.proofs.planes.are_alike.Goals as goal
-
--- the search stops over a clause of `contains`, whose premise is the test's own
-pub next-requires : goal.next-requires
-next-requires c = tt

@@ -1,6 +1,0 @@
-use Rattle.std.proofs.Common.{◌≡◌}
-use Rattle.bit_planes.specs.PartitionSet.{partitions_of}
-use Rattle.store_tests.proofs.planes.both_ways.Given as goal
-
-abbrev pub invariant-loop-q : goal.invariant-loop-q
-invariant-loop-q l = record { words : partitions_of l.set ≡ l.partitions; plain : partitions_of l.plain ≡ l.partitions }

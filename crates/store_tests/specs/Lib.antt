@@ -1,2 +1,0 @@
-pub mod PlainPartial
-pub mod PlainPlane
