@@ -104,12 +104,12 @@ by_member rows m (Err i) h = λ rises.
       λ k d ge lt. ap (λ n. nat_cmp n m) (member_or rows k (d, empty_set 0)) ∙ parted.1 k (d, empty_set 0) ge (omega arith),
     )
 
-pub places : (rows : Rows) (m : ℕ) (r : Result ℕ ℕ) → IsRising (map (λ row. row.0) rows) → IsBinarySearchResult (λ y. nat_cmp y.0 m) rows r → IfOk r (IsIndexOf rows m) × IfErr r (IsGapFor rows m)
-places rows m (Ok i) rising h =
+pub search_indices : (rows : Rows) (m : ℕ) (r : Result ℕ ℕ) → IsRising (map (λ row. row.0) rows) → IsBinarySearchResult (λ y. nat_cmp y.0 m) rows r → IfOk r (IsIndexOf rows m) × IfErr r (IsGapFor rows m)
+search_indices rows m (Ok i) rising h =
     let long = length-map rows (λ (row : ℕ × PartitionSet). row.0) in
     let s = searched (map (λ row. row.0) rows) m (Ok i) (by_member rows m (Ok i) h) (never_falls (map (λ row. row.0) rows) rising) in
     (record { within = omega (arith, s.0); there = s.1 }, tt)
-places rows m (Err i) rising h =
+search_indices rows m (Err i) rising h =
     let long = length-map rows (λ (row : ℕ × PartitionSet). row.0) in
     let s = searched (map (λ row. row.0) rows) m (Err i) (by_member rows m (Err i) h) (never_falls (map (λ row. row.0) rows) rising) in
     (tt, record { within = omega (arith, s.0); before = s.1; after = λ j ge lt. s.2 j ge (omega (arith, lt)) })

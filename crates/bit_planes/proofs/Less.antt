@@ -16,8 +16,8 @@ Rows = List (ℕ × PartitionSet)
 here : (n : ℕ) → (n == n) ≡ true
 here n = grind (arith, nat_tests)
 
-apart : (m n : ℕ) → m ≢ n → (m == n) ≡ false
-apart m n ne = grind (arith, nat_tests)
+not_equal : (m n : ℕ) → m ≢ n → (m == n) ≡ false
+not_equal m n ne = grind (arith, nat_tests)
 
 same_id : (m n : ℕ) → (m == n) ≡ true → m ≡ n
 same_id m n e = grind (arith, nat_tests)
@@ -26,7 +26,7 @@ this_row : (m : ℕ) (s : PartitionSet) (row : ℕ × PartitionSet) → row.0 �
 this_row m s row e = ap (λ b. cond b (row.0, minus row.1 s) row) (ap (λ n. n == m) e ∙ here m)
 
 other_row : (m : ℕ) (s : PartitionSet) (row : ℕ × PartitionSet) → row.0 ≢ m → less_row m s row ≡ row
-other_row m s row ne = ap (λ b. cond b (row.0, minus row.1 s) row) (apart row.0 m ne)
+other_row m s row ne = ap (λ b. cond b (row.0, minus row.1 s) row) (not_equal row.0 m ne)
 
 no_less : (rows : Rows) (m : ℕ) (s : PartitionSet) → ((i : ℕ) → i < length rows → member_at rows i ≢ m) → map (less_row m s) rows ≡ rows
 no_less [] m s none = refl
@@ -68,14 +68,14 @@ found_less (row ∷ rows) m s =
       | false ↦ λ e. ap (λ b. cond b (Some row.1) (find_row (map (less_row m s) rows) m)) e ∙ found_less rows m s
     ] refl
 
-found_beside : (rows : Rows) (m : ℕ) (s : PartitionSet) (n : ℕ) → n ≢ m → find_row (map (less_row m s) rows) n ≡ find_row rows n
-found_beside [] m s n ne = refl
-found_beside (row ∷ rows) m s n ne =
+found_of_others : (rows : Rows) (m : ℕ) (s : PartitionSet) (n : ℕ) → n ≢ m → find_row (map (less_row m s) rows) n ≡ find_row rows n
+found_of_others [] m s n ne = refl
+found_of_others (row ∷ rows) m s n ne =
     elim (row.0 == m) as (λ b. (row.0 == m) ≡ b → cond ((cond b (row.0, minus row.1 s) row).0 == n) (Some (cond b (row.0, minus row.1 s) row).1) (find_row (map (less_row m s) rows) n) ≡ cond (row.0 == n) (Some row.1) (find_row rows n)) [
       | true ↦ λ e.
-          let other : (row.0 == n) ≡ false = apart row.0 n (λ same. ne (sym same ∙ same_id row.0 m e)) in
-          ap (λ b. cond b (Some (minus row.1 s)) (find_row (map (less_row m s) rows) n)) other ∙ (found_beside rows m s n ne ∙ sym (ap (λ b. cond b (Some row.1) (find_row rows n)) other))
-      | false ↦ λ e. ap (λ o. cond (row.0 == n) (Some row.1) o) (found_beside rows m s n ne)
+          let other : (row.0 == n) ≡ false = not_equal row.0 n (λ same. ne (sym same ∙ same_id row.0 m e)) in
+          ap (λ b. cond b (Some (minus row.1 s)) (find_row (map (less_row m s) rows) n)) other ∙ (found_of_others rows m s n ne ∙ sym (ap (λ b. cond b (Some row.1) (find_row rows n)) other))
+      | false ↦ λ e. ap (λ o. cond (row.0 == n) (Some row.1) o) (found_of_others rows m s n ne)
     ] refl
 
 -- ---- what is taken out
@@ -89,7 +89,7 @@ less : (old new : SetRows) (m : ℕ) (s : PartitionSet) → IsValidRows old → 
 less old new m s valid e = record {
   value = e;
   this = ap (λ r. row_of r m) e ∙ found_less old.rows m s;
-  others = λ n ne. ap (λ r. row_of r n) e ∙ found_beside old.rows m s n ne;
+  others = λ n ne. ap (λ r. row_of r n) e ∙ found_of_others old.rows m s n ne;
   valid = subst IsValidRows (sym e) (record {
     some = valid.some;
     few = valid.few;

@@ -139,9 +139,9 @@ listed_below q (suc n) f lt = listed_step q n f ∙ elim (cases_lt q n) [
     all_of true y e = e
     all_of false y e = refl
 
-pub elements_tell : (s : PartitionSet) (q : ℕ) → is_listed q (elements s) ≡ is_in s q
+pub listed_elements : (s : PartitionSet) (q : ℕ) → is_listed q (elements s) ≡ is_in s q
 unfolding elements
-elements_tell s q = elim (cases_lt q (partitions_of s)) [
+listed_elements s q = elim (cases_lt q (partitions_of s)) [
   | inl lt ↦ listed_below q (partitions_of s) (is_in s) lt
   | inr le ↦ listed_past q (partitions_of s) (is_in s) le ∙ sym (past s q le)
 ]

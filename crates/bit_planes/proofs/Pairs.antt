@@ -114,4 +114,4 @@ same_marks a b alike marks = same_words a b alike.same (λ i lt.
     same_word (get_or a i 0) (get_or b i 0) (alike.mine i) (alike.theirs i) (λ k below. sym (marked_at a (64 * i + k) i k refl below) ∙ (marks (64 * i + k) ∙ marked_at b (64 * i + k) i k refl below)))
 
 pub equal_marks : (a b : List ℕ) (x : Bool) → AreAlike a b → IsTrue x ↔ (a ≡ b) → IsTrue x ↔ ((q : ℕ) → bit_of a q ≡ bit_of b q)
-equal_marks a b x alike told = (λ h q. ap (λ ws. bit_of ws q) (told.0 h), λ marks. told.1 (same_marks a b alike marks))
+equal_marks a b x alike iff = (λ h q. ap (λ ws. bit_of ws q) (iff.0 h), λ marks. iff.1 (same_marks a b alike marks))

@@ -42,13 +42,13 @@ found_put (row ∷ rows) m s = elim (row.0 == m) as (λ h. (row.0 == m) ≡ h �
 ] refl
 
 pub found_other : (rows : List (ℕ × PartitionSet)) (m : ℕ) (s : PartitionSet) (n : ℕ) → n ≢ m → find_row (put_row rows m s) n ≡ find_row rows n
-found_other [] m s n ne = let turned : m ≢ n = λ e. ne (sym e) in found_later (m, s) [] n turned
+found_other [] m s n ne = let ne_sym : m ≢ n = λ e. ne (sym e) in found_later (m, s) [] n ne_sym
 found_other (row ∷ rows) m s n ne =
-    let turned : m ≢ n = λ e. ne (sym e) in
+    let ne_sym : m ≢ n = λ e. ne (sym e) in
     elim (row.0 == m) as (λ h. (row.0 == m) ≡ h → find_row (if h then (m, s) ∷ rows else if nat_lt m row.0 then (m, s) ∷ row ∷ rows else row ∷ put_row rows m s) n ≡ find_row (row ∷ rows) n) [
-      | true ↦ λ e. found_later (m, s) rows n turned ∙ sym (found_later row rows n (λ f. turned (sym (eq_says row.0 m e) ∙ f)))
+      | true ↦ λ e. found_later (m, s) rows n ne_sym ∙ sym (found_later row rows n (λ f. ne_sym (sym (eq_says row.0 m e) ∙ f)))
       | false ↦ λ e. elim (nat_lt m row.0) as (λ b. find_row (if b then (m, s) ∷ row ∷ rows else row ∷ put_row rows m s) n ≡ find_row (row ∷ rows) n) [
-        | true ↦ found_later (m, s) (row ∷ rows) n turned
+        | true ↦ found_later (m, s) (row ∷ rows) n ne_sym
         | false ↦ ap (λ o. if row.0 == n then Some row.1 else o) (found_other rows m s n ne)
       ]
     ] refl

@@ -209,14 +209,14 @@ count_shown p n words s shown =
 -- ---- the same set
 pub same_shown : (p n p' n' : ℕ) (words others : List ℕ) (s t : PartitionSet) (x : Bool) → IsShown p n words s → IsShown p' n' others t → partitions_of s ≡ partitions_of t
     → IsTrue x ↔ ((q : ℕ) → bit_of (take n words) q ≡ bit_of (take n' others) q) → IsTrue x ↔ (s ≡ t)
-same_shown p n p' n' words others s t x mine theirs len told = (
-  λ h. same_set s t len (λ q lt. sym (shown_front p n words s mine q) ∙ (told.0 h q ∙ shown_front p' n' others t theirs q)),
-  λ e. told.1 (λ q. shown_front p n words s mine q ∙ (ap (λ u. is_in u q) e ∙ sym (shown_front p' n' others t theirs q))),
+same_shown p n p' n' words others s t x mine theirs len holds = (
+  λ h. same_set s t len (λ q lt. sym (shown_front p n words s mine q) ∙ (holds.0 h q ∙ shown_front p' n' others t theirs q)),
+  λ e. holds.1 (λ q. shown_front p n words s mine q ∙ (ap (λ u. is_in u q) e ∙ sym (shown_front p' n' others t theirs q))),
 )
 
 pub same_value : (s t : PartitionSet) (x : Bool) → IsTrue x ↔ (s ≡ t) → x ≡ is_same s t
-same_value s t true told = let e : s ≡ t = told.0 refl in sym (ap (is_same s) (sym e) ∙ same_self s)
-same_value s t false told = false_is (is_same s t) (λ h. told.1 (same_says s t h))
+same_value s t true holds = let e : s ≡ t = holds.0 refl in sym (ap (is_same s) (sym e) ∙ same_self s)
+same_value s t false holds = false_is (is_same s t) (λ h. holds.1 (same_says s t h))
   where
     false_is : (x : Bool) → (x ≡ true → false ≡ true) → false ≡ x
     false_is true h = h refl
@@ -235,12 +235,12 @@ lowest_shown p n words s from q shown low = record {
 
 pub found_shown : (p n : ℕ) (words : List ℕ) (s : PartitionSet) (from : ℕ) (found : Option ℕ) → IsShown p n words s → MatchOption found (AreClearFrom (take n words) from) (IsLowestFrom (take n words) from)
     → MatchOption found ((q : ℕ) → from ≤ q → is_in s q ≡ false) (IsLowestElement s from)
-found_shown p n words s from None shown told = clear_shown p n words s from shown told
-found_shown p n words s from (Some q) shown told = lowest_shown p n words s from q shown told
+found_shown p n words s from None shown holds = clear_shown p n words s from shown holds
+found_shown p n words s from (Some q) shown holds = lowest_shown p n words s from q shown holds
 
 pub found_below : (p n : ℕ) (words : List ℕ) (s : PartitionSet) (from : ℕ) (found : Option ℕ) → IsShown p n words s → MatchOption found (AreClearFrom (take n words) from) (IsLowestFrom (take n words) from) → IfSome found (λ q. q < 4096)
-found_below p n words s from None shown told = tt
-found_below p n words s from (Some q) shown told = below (in_below s q (sym (shown_front p n words s shown q) ∙ told.set))
+found_below p n words s from None shown holds = tt
+found_below p n words s from (Some q) shown holds = below (in_below s q (sym (shown_front p n words s shown q) ∙ holds.set))
   where
     below : q < partitions_of s → q < 4096
     below lt =

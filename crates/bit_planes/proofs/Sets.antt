@@ -246,9 +246,9 @@ size_over : (s : PartitionSet) (p : ℕ) → partitions_of s ≡ p → size s �
 size_over s p e = size_is s ∙ ap (λ n. how_many n (is_in s)) e
 
 pub size_union : (s t : PartitionSet) → partitions_of s ≡ partitions_of t → ((q : ℕ) → one (is_in s q) + one (is_in t q) ≤ 1) → size (union s t) ≡ size s + size t
-size_union s t len apart =
+size_union s t len disjoint =
     let p : ℕ = partitions_of s in
-    let add = how_many-add p (is_in s) (is_in t) (is_in (union s t)) (λ q lt. rw (in_union s t q len) (one_or (is_in s q) (is_in t q) (apart q))) in
+    let add = how_many-add p (is_in s) (is_in t) (is_in (union s t)) (λ q lt. rw (in_union s t q len) (one_or (is_in s q) (is_in t q) (disjoint q))) in
     omega (arith, add, size_over (union s t) p (partitions_union s t), size_over s p refl, size_over t p (sym len))
 
 pub one_in_minus : (s t : PartitionSet) (q : ℕ) → one (is_in t q) ≤ one (is_in s q) → one (is_in (minus s t) q) + one (is_in t q) ≡ one (is_in s q)
@@ -375,16 +375,16 @@ true_is : (x y : Bool) → (x ≡ false → y ≡ true → ⊥) → y ≡ true �
 true_is true y not_so h = refl
 true_is false y not_so h = absurd (not_so refl h)
 
-pub tells_apart : (s t : PartitionSet) (b : Bool) → b ≡ meets s t → (b ≡ false) ↔ ((q : ℕ) → (is_in s q && is_in t q) ≡ false)
-tells_apart s t b e = (λ h. meets_says s t (sym e ∙ h), λ none. e ∙ meets_of s t none)
+pub disjoint_elements : (s t : PartitionSet) (b : Bool) → b ≡ meets s t → (b ≡ false) ↔ ((q : ℕ) → (is_in s q && is_in t q) ≡ false)
+disjoint_elements s t b e = (λ h. meets_says s t (sym e ∙ h), λ none. e ∙ meets_of s t none)
 
-pub tells_within : (s t : PartitionSet) (b : Bool) → b ≡ is_within s t → IsTrue b ↔ ((q : ℕ) → is_in s q ≡ true → is_in t q ≡ true)
-tells_within s t true e = (λ h. within_says s t (sym e), λ h. refl)
-tells_within s t false e = (λ h. absurd (cc h), λ h. let so = within_of s t h in absurd (grind (arith, e, so)))
+pub within_elements : (s t : PartitionSet) (b : Bool) → b ≡ is_within s t → IsTrue b ↔ ((q : ℕ) → is_in s q ≡ true → is_in t q ≡ true)
+within_elements s t true e = (λ h. within_says s t (sym e), λ h. refl)
+within_elements s t false e = (λ h. absurd (cc h), λ h. let so = within_of s t h in absurd (grind (arith, e, so)))
 
-pub tells_same : (s t : PartitionSet) (b : Bool) → b ≡ is_same s t → IsTrue b ↔ (s ≡ t)
-tells_same s t true e = (λ h. same_says s t (sym e), λ h. refl)
-tells_same s t false e = (λ h. absurd (cc h), λ h. let so : is_same s t ≡ true = ap (is_same s) (sym h) ∙ same_self s in absurd (grind (arith, e, so)))
+pub same_iff : (s t : PartitionSet) (b : Bool) → b ≡ is_same s t → IsTrue b ↔ (s ≡ t)
+same_iff s t true e = (λ h. same_says s t (sym e), λ h. refl)
+same_iff s t false e = (λ h. absurd (cc h), λ h. let so : is_same s t ≡ true = ap (is_same s) (sym h) ∙ same_self s in absurd (grind (arith, e, so)))
 
 pub within_all : (s t : PartitionSet) (n : ℕ) → partitions_of s ≤ n → ((q : ℕ) → q < n → is_in s q ≡ true → is_in t q ≡ true) → true ≡ is_within s t
 within_all s t n le all = sym (within_of s t (λ q e. let lt = in_below s q e in all q (omega arith) e))
@@ -401,29 +401,29 @@ pub rank_out : (s : PartitionSet) (q : ℕ) → is_in s q ≡ false → rank s (
 rank_out s q h = omega (arith, rank_more s q, ap one h)
 
 -- ---- what a test of two memberships implies
-pub union_told : (s t u : PartitionSet) → partitions_of s ≡ partitions_of t → partitions_of u ≡ partitions_of s → ((q : ℕ) → q < partitions_of s → is_in u q ≡ (is_in s q || is_in t q)) → u ≡ union s t
-union_told s t u len same told = same_set u (union s t) (same ∙ sym (partitions_union s t)) (λ q lt. told q (omega (arith, lt, same)) ∙ sym (in_union s t q len))
+pub union_of_elements : (s t u : PartitionSet) → partitions_of s ≡ partitions_of t → partitions_of u ≡ partitions_of s → ((q : ℕ) → q < partitions_of s → is_in u q ≡ (is_in s q || is_in t q)) → u ≡ union s t
+union_of_elements s t u len same holds = same_set u (union s t) (same ∙ sym (partitions_union s t)) (λ q lt. holds q (omega (arith, lt, same)) ∙ sym (in_union s t q len))
 
-pub minus_told : (s t u : PartitionSet) → partitions_of u ≡ partitions_of s → ((q : ℕ) → q < partitions_of s → is_in u q ≡ (is_in s q && not (is_in t q))) → u ≡ minus s t
-minus_told s t u same told = same_set u (minus s t) (same ∙ sym (partitions_minus s t)) (λ q lt. told q (omega (arith, lt, same)) ∙ sym (in_minus s t q))
+pub minus_of_elements : (s t u : PartitionSet) → partitions_of u ≡ partitions_of s → ((q : ℕ) → q < partitions_of s → is_in u q ≡ (is_in s q && not (is_in t q))) → u ≡ minus s t
+minus_of_elements s t u same holds = same_set u (minus s t) (same ∙ sym (partitions_minus s t)) (λ q lt. holds q (omega (arith, lt, same)) ∙ sym (in_minus s t q))
 
 pub any_below-at : (n : ℕ) (f : ℕ → Bool) (q : ℕ) → q < n → f q ≡ true → any_below n f ≡ true
 any_below-at n f q lt h = true_is (any_below n f) true (λ no e. let none = any_below-none n f no q lt in cc (none, h)) refl
 
-pub any_told : (f : Bool → Bool → Bool) (s t : PartitionSet) (b : Bool) (T F : Type 0) → MatchBool b T F
+pub any_below_of_match : (f : Bool → Bool → Bool) (s t : PartitionSet) (b : Bool) (T F : Type 0) → MatchBool b T F
     → (T → (q : ℕ) × (q < partitions_of s) × (true ≡ f (is_in s q) (is_in t q)))
     → (F → (q : ℕ) → q < partitions_of s → false ≡ f (is_in s q) (is_in t q))
     → b ≡ any_below (partitions_of s) (λ q. f (is_in s q) (is_in t q))
-any_told f s t true T F told at_one at_none = let at = at_one told in sym (any_below-at (partitions_of s) (λ q. f (is_in s q) (is_in t q)) at.0 at.1 (sym at.2))
-any_told f s t false T F told at_one at_none = sym (any_below-of_none (partitions_of s) (λ q. f (is_in s q) (is_in t q)) (λ q lt. sym (at_none told q lt)))
+any_below_of_match f s t true T F holds at_one at_none = let at = at_one holds in sym (any_below-at (partitions_of s) (λ q. f (is_in s q) (is_in t q)) at.0 at.1 (sym at.2))
+any_below_of_match f s t false T F holds at_one at_none = sym (any_below-of_none (partitions_of s) (λ q. f (is_in s q) (is_in t q)) (λ q lt. sym (at_none holds q lt)))
 
-pub meets_told : (s t : PartitionSet) (b : Bool) → b ≡ any_below (partitions_of s) (λ q. is_in s q && is_in t q) → b ≡ meets s t
+pub meets_of_any : (s t : PartitionSet) (b : Bool) → b ≡ any_below (partitions_of s) (λ q. is_in s q && is_in t q) → b ≡ meets s t
 unfolding meets
-meets_told s t b e = e
+meets_of_any s t b e = e
 
-pub within_told : (s t : PartitionSet) (b : Bool) → b ≡ any_below (partitions_of s) (λ q. is_in s q && not (is_in t q)) → not b ≡ is_within s t
+pub within_of_any : (s t : PartitionSet) (b : Bool) → b ≡ any_below (partitions_of s) (λ q. is_in s q && not (is_in t q)) → not b ≡ is_within s t
 unfolding is_within
-within_told s t b e = ap not e
+within_of_any s t b e = ap not e
 
 -- whether two memberships differ
 abbrev pub differ : Bool → Bool → Bool
@@ -439,10 +439,10 @@ differ_self : (x : Bool) → differ x x ≡ false
 differ_self true = refl
 differ_self false = refl
 
-pub same_told : (s t : PartitionSet) (b : Bool) → partitions_of s ≡ partitions_of t → b ≡ any_below (partitions_of s) (λ q. differ (is_in s q) (is_in t q)) → not b ≡ is_same s t
-same_told s t true len e = false_is (is_same s t) (λ h. let f : ℕ → Bool = λ q. differ (is_in s q) (is_in t q) in let none : any_below (partitions_of s) f ≡ false = any_below-of_none (partitions_of s) f (λ q lt. ap (λ u. differ (is_in s q) (is_in u q)) (sym (same_says s t h)) ∙ differ_self (is_in s q)) in cc (e, none))
+pub same_of_any : (s t : PartitionSet) (b : Bool) → partitions_of s ≡ partitions_of t → b ≡ any_below (partitions_of s) (λ q. differ (is_in s q) (is_in t q)) → not b ≡ is_same s t
+same_of_any s t true len e = false_is (is_same s t) (λ h. let f : ℕ → Bool = λ q. differ (is_in s q) (is_in t q) in let none : any_below (partitions_of s) f ≡ false = any_below-of_none (partitions_of s) f (λ q lt. ap (λ u. differ (is_in s q) (is_in u q)) (sym (same_says s t h)) ∙ differ_self (is_in s q)) in cc (e, none))
   where
     false_is : (x : Bool) → (x ≡ true → ⊥) → false ≡ x
     false_is true h = absurd (h refl)
     false_is false h = refl
-same_told s t false len e = same_all s t (partitions_of s) len (omega arith) (λ q lt. differ_not (is_in s q) (is_in t q) (any_below-none (partitions_of s) (λ k. differ (is_in s k) (is_in t k)) (sym e) q lt))
+same_of_any s t false len e = same_all s t (partitions_of s) len (omega arith) (λ q lt. differ_not (is_in s q) (is_in t q) (any_below-none (partitions_of s) (λ k. differ (is_in s k) (is_in t k)) (sym e) q lt))

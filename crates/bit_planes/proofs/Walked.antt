@@ -53,16 +53,16 @@ filled_more n long i words w lt bits before =
     }
 
 -- ---- the n lowest marks left
-pub record AreKept (old : List ℕ) (n i left : ℕ) (words : List ℕ) : Type 0 where
+pub record AreRetained (old : List ℕ) (n i left : ℕ) (words : List ℕ) : Type 0 where
   pub length_is : length words ≡ length old
   pub counted : left ≡ n - how_many (64 * i) (bit_of old)
   pub done : (q : ℕ) → q < 64 * i → bit_of words q ≡ (bit_of old q && nat_lt (how_many q (bit_of old)) n)
   pub rest : (j : ℕ) → i ≤ j → get_or words j 0 ≡ get_or old j 0
 
-pub retained_none : (old : List ℕ) (n : ℕ) → AreKept old n 0 n old
+pub retained_none : (old : List ℕ) (n : ℕ) → AreRetained old n 0 n old
 retained_none old n = record { length_is = refl; counted = omega arith; done = λ q lt. absurd (omega arith); rest = λ j le. refl }
 
-pub retained_more : (old : List ℕ) (n i left : ℕ) (words : List ℕ) (w v ones : ℕ) → i < length words → w ≡ get_or words i 0 → ones ≡ how_many 64 (is_bit w) → HasLowestBits left w v → AreKept old n i left words → AreKept old n (i + 1) (left - ones) (slice_set words i v)
+pub retained_more : (old : List ℕ) (n i left : ℕ) (words : List ℕ) (w v ones : ℕ) → i < length words → w ≡ get_or words i 0 → ones ≡ how_many 64 (is_bit w) → HasLowestBits left w v → AreRetained old n i left words → AreRetained old n (i + 1) (left - ones) (slice_set words i v)
 retained_more old n i left words w v ones lt e counted bits before =
     let left_is = before.counted in
     let here : w ≡ get_or old i 0 = e ∙ before.rest i (omega arith) in
@@ -88,18 +88,18 @@ retained_more old n i left words w v ones lt e counted bits before =
       rest = λ j le. let other : j ≢ i = omega arith in get_or-set_other words i j v 0 other ∙ before.rest j (omega arith);
     }
 
-pub retained_counted : (old : List ℕ) (n i left : ℕ) (words : List ℕ) (w v ones after : ℕ) → i < length words → w ≡ get_or words i 0 → ones ≡ how_many 64 (is_bit v) → after ≡ left - ones → HasLowestBits left w v → AreKept old n i left words → AreKept old n (i + 1) after (slice_set words i v)
+pub retained_counted : (old : List ℕ) (n i left : ℕ) (words : List ℕ) (w v ones after : ℕ) → i < length words → w ≡ get_or words i 0 → ones ≡ how_many 64 (is_bit v) → after ≡ left - ones → HasLowestBits left w v → AreRetained old n i left words → AreRetained old n (i + 1) after (slice_set words i v)
 retained_counted old n i left words w v ones after lt e counted less bits before =
     let fewer : how_many 64 (is_bit v) ≡ min left (how_many 64 (is_bit w)) = how_many-lowest left 64 (is_bit w) (is_bit v) bits in
     let same : left - how_many 64 (is_bit w) ≡ after = omega arith in
-    subst (λ m. AreKept old n (i + 1) m (slice_set words i v)) same (retained_more old n i left words w v (how_many 64 (is_bit w)) lt e refl bits before)
+    subst (λ m. AreRetained old n (i + 1) m (slice_set words i v)) same (retained_more old n i left words w v (how_many 64 (is_bit w)) lt e refl bits before)
 
 none_and : (x y : Bool) → x ≡ false → x ≡ (x && y)
 none_and true y e = absurd (cc e)
 none_and false y e = refl
 
-pub retained_passed : (old : List ℕ) (n i left : ℕ) (words : List ℕ) → get_or words i 0 ≡ 0 → AreKept old n i left words → AreKept old n (i + 1) left words
-retained_passed old n i left words none before =
+pub retained_zero : (old : List ℕ) (n i left : ℕ) (words : List ℕ) → get_or words i 0 ≡ 0 → AreRetained old n i left words → AreRetained old n (i + 1) left words
+retained_zero old n i left words none before =
     let left_is = before.counted in
     let old_none : get_or old i 0 ≡ 0 = sym (before.rest i (omega arith)) ∙ none in
     let whole : 64 * (i + 1) ≡ 64 * i + 64 = omega arith in
@@ -121,7 +121,7 @@ retained_passed old n i left words none before =
       rest = λ j le. before.rest j (omega arith);
     }
 
-pub retained_all : (old : List ℕ) (n i left : ℕ) (words : List ℕ) → length words ≤ i → AreKept old n i left words → (q : ℕ) → bit_of words q ≡ (bit_of old q && nat_lt (how_many q (bit_of old)) n)
+pub retained_all : (old : List ℕ) (n i left : ℕ) (words : List ℕ) → length words ≤ i → AreRetained old n i left words → (q : ℕ) → bit_of words q ≡ (bit_of old q && nat_lt (how_many q (bit_of old)) n)
 retained_all old n i left words le all q =
     let len = all.length_is in
     elim (cases_lt q (64 * i)) [

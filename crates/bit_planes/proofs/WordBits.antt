@@ -122,19 +122,19 @@ below_lowest (suc t) w set clear =
     let ih : bit_at (w / 2 - 1) t ≡ 0 = below_lowest t (w / 2) upper (λ i lt. sym (bit_at-suc w i) ∙ clear (suc i) (omega arith)) in
     bit_at-suc (w - 1) t ∙ (let half : (w - 1) / 2 ≡ w / 2 - 1 = omega arith in rw half ih)
 
-beside_lowest : (t w k : ℕ) → bit_at w t ≡ 1 → ((i : ℕ) → i < t → bit_at w i ≡ 0) → k ≢ t → min (bit_at w k) (bit_at (w - 1) k) ≡ bit_at w k
-beside_lowest zero w zero set clear other = absurd (other refl)
-beside_lowest zero w (suc k) set clear other =
+other_than_lowest : (t w k : ℕ) → bit_at w t ≡ 1 → ((i : ℕ) → i < t → bit_at w i ≡ 0) → k ≢ t → min (bit_at w k) (bit_at (w - 1) k) ≡ bit_at w k
+other_than_lowest zero w zero set clear other = absurd (other refl)
+other_than_lowest zero w (suc k) set clear other =
     let odd : w % 2 ≡ 1 = sym (bit_at_lowest w) ∙ set in
     let half : (w - 1) / 2 ≡ w / 2 = omega arith in
     let same : bit_at (w - 1) (suc k) ≡ bit_at w (suc k) = bit_at-suc (w - 1) k ∙ (ap (λ n. bit_at n k) half ∙ sym (bit_at-suc w k)) in
     rw same (omega arith)
-beside_lowest (suc t) w zero set clear other = let none = clear 0 (omega arith) in rw none (omega arith)
-beside_lowest (suc t) w (suc k) set clear other =
+other_than_lowest (suc t) w zero set clear other = let none = clear 0 (omega arith) in rw none (omega arith)
+other_than_lowest (suc t) w (suc k) set clear other =
     let even : w % 2 ≡ 0 = sym (bit_at_lowest w) ∙ clear 0 (omega arith) in
     let upper : bit_at (w / 2) t ≡ 1 = sym (bit_at-suc w t) ∙ set in
     let half : (w - 1) / 2 ≡ w / 2 - 1 = omega arith in
-    let ih : min (bit_at (w / 2) k) (bit_at (w / 2 - 1) k) ≡ bit_at (w / 2) k = beside_lowest t (w / 2) k upper (λ i lt. sym (bit_at-suc w i) ∙ clear (suc i) (omega arith)) (λ e. other (ap (λ n. suc n) e)) in
+    let ih : min (bit_at (w / 2) k) (bit_at (w / 2 - 1) k) ≡ bit_at (w / 2) k = other_than_lowest t (w / 2) k upper (λ i lt. sym (bit_at-suc w i) ∙ clear (suc i) (omega arith)) (λ e. other (ap (λ n. suc n) e)) in
     rw (bit_at-suc w k, bit_at-suc (w - 1) k, half) ih
 
 set_digit : (w k : ℕ) → is_bit w k ≡ true → bit_at w k ≡ 1
@@ -150,7 +150,7 @@ lowest_cleared w t low =
 
 pub others_stay : (w t k : ℕ) → IsLowestBit w t → k ≢ t → is_bit (bit_and w (w - 1)) k ≡ is_bit w k
 others_stay w t k low other =
-    bit_of_at (bit_and w (w - 1)) w k k (bit_at_and w (w - 1) k ∙ beside_lowest t w k (set_digit w t low.set) (λ i lt. clear_digit w i (low.clear i lt)) other)
+    bit_of_at (bit_and w (w - 1)) w k k (bit_at_and w (w - 1) k ∙ other_than_lowest t w k (set_digit w t low.set) (λ i lt. clear_digit w i (low.clear i lt)) other)
 
 -- ---- the lowest bits cleared one after another
 abbrev pub LacksLowestBits : ℕ → ℕ → ℕ → Type 0
@@ -208,16 +208,16 @@ rank_of_lowest old rest n t low lacks =
       ],
     )
 
-apart_step : (x : Bool) (r n : ℕ) → (x ≡ true → r ≢ n) → (x && not (nat_lt r n)) ≡ (x && not (nat_lt r (n + 1)))
-apart_step true r n apart = let ne = apart refl in grind (arith, nat_tests)
-apart_step false r n apart = refl
+distinct_step : (x : Bool) (r n : ℕ) → (x ≡ true → r ≢ n) → (x && not (nat_lt r n)) ≡ (x && not (nat_lt r (n + 1)))
+distinct_step true r n distinct = let ne = distinct refl in grind (arith, nat_tests)
+distinct_step false r n distinct = refl
 
 this_gone : (x : Bool) (r n : ℕ) → r ≡ n → false ≡ (x && not (nat_lt r (n + 1)))
 this_gone true r n e = grind (arith, nat_tests)
 this_gone false r n e = refl
 
-rank_apart : (f : ℕ → Bool) (k t : ℕ) → f k ≡ true → f t ≡ true → k ≢ t → how_many k f ≢ how_many t f
-rank_apart f k t at_k at_t ne same = elim (cases_lt k t) [
+ranks_distinct : (f : ℕ → Bool) (k t : ℕ) → f k ≡ true → f t ≡ true → k ≢ t → how_many k f ≢ how_many t f
+ranks_distinct f k t at_k at_t ne same = elim (cases_lt k t) [
   | inl lt ↦ omega (arith, how_many-rises (suc k) t f lt, one_more (f k) at_k)
   | inr le ↦ omega (arith, how_many-rises (suc t) k f (omega arith), one_more (f t) at_t)
 ]
@@ -229,7 +229,7 @@ lacks_more old rest n some fits lacks k lt =
     let ranked = rank_of_lowest old rest n t low lacks in
     elim (cases_eq k t) [
       | inl same ↦ rw same (lowest_cleared rest t low ∙ this_gone (is_bit old t) (how_many t (is_bit old)) n ranked.1)
-      | inr other ↦ others_stay rest t k low other ∙ (lacks k lt ∙ apart_step (is_bit old k) (how_many k (is_bit old)) n (λ at_k e. rank_apart (is_bit old) k t at_k ranked.0 other (e ∙ sym ranked.1)))
+      | inr other ↦ others_stay rest t k low other ∙ (lacks k lt ∙ distinct_step (is_bit old k) (how_many k (is_bit old)) n (λ at_k e. ranks_distinct (is_bit old) k t at_k ranked.0 other (e ∙ sym ranked.1)))
     ]
 
 gone_already : (x : Bool) (r n : ℕ) → false ≡ (x && not (nat_lt r n)) → false ≡ (x && not (nat_lt r (n + 1)))

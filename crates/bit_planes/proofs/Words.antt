@@ -128,9 +128,9 @@ set_one words q n lt =
         | inl bit ↦
             let same : n ≡ q = omega arith in
             rw bit (or_true (bit_of words n) (n == q) (is_bit w k) (bit_is w k ∙ ap (λ m. m == 1) (bit_at_set_same w64 old k (omega arith))) (same_id n q same))
-        | inr apart ↦
+        | inr distinct ↦
             let ne : n ≢ q = omega arith in
-            bit_of_at w old (n % 64) (n % 64) (bit_at_set_other w64 old k (omega arith) (n % 64) apart)
+            bit_of_at w old (n % 64) (n % 64) (bit_at_set_other w64 old k (omega arith) (n % 64) distinct)
             ∙ (ap (λ i. is_bit (get_or words i 0) (n % 64)) (sym word) ∙ (sym (bit_of_is words n) ∙ or_false (bit_of words n) (n == q) (other_id n q ne)))
       ]
     ]
@@ -146,9 +146,9 @@ clear_one words q n lt =
         | inl bit ↦
             let same : n ≡ q = omega arith in
             rw bit (bit_is w k ∙ ap (λ m. m == 1) (bit_at_clear_same w64 old k (omega arith)) ∙ and_true (bit_of words n) (n == q) (same_id n q same))
-        | inr apart ↦
+        | inr distinct ↦
             let ne : n ≢ q = omega arith in
-            bit_of_at w old (n % 64) (n % 64) (bit_at_clear_other w64 old k (omega arith) (n % 64) (omega arith) apart)
+            bit_of_at w old (n % 64) (n % 64) (bit_at_clear_other w64 old k (omega arith) (n % 64) (omega arith) distinct)
             ∙ (ap (λ i. is_bit (get_or words i 0) (n % 64)) (sym word) ∙ (sym (bit_of_is words n) ∙ and_false (bit_of words n) (n == q) (other_id n q ne)))
       ]
     ]

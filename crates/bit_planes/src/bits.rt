@@ -101,9 +101,9 @@ pub fn retain_lowest(words: &mut [u64], n: u32)
     for i in 0..words.len() {
         // Most words of most sets are zero: skip them without counting.
         if words[i] != 0 {
-            let kept = lowest_bits(words[i], left);
-            words[i] = kept;
-            left = left.saturating_sub(count_in(kept));
+            let retained = lowest_bits(words[i], left);
+            words[i] = retained;
+            left = left.saturating_sub(count_in(retained));
         }
     }
 }

@@ -1,1 +1,1 @@
-pub mod KeyCache
+pub mod ConsecutiveCalls

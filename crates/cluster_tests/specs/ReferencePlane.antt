@@ -1,5 +1,5 @@
 -- How truth values are seen as a set, and what a test of two memberships comes to, where
--- `tells x y answer` says that the test may answer so.
+-- `allows x y answer` says that the test may answer so.
 use Rattle.std.specs.Prelude.{◌≡◌, ℕ, ◌<◌, ◌≤◌, Bool, true, false, MatchBool, List, take, slice_index_or}
 use Rattle.lane_words.specs.declared.limits.TheConstants.{MOST_PARTITIONS}
 use Rattle.bit_planes.specs.PartitionSet.{PartitionSet, partitions_of, is_in}
@@ -17,11 +17,11 @@ pub record AreValidFlags (partitions : ℕ) (flags : List Bool) : Type 0 where
 -- u has what the test answers of each partition
 abbrev pub IsCombined : (Bool → Bool → Bool → Type 0)
     → PartitionSet → PartitionSet → PartitionSet → Type 0
-IsCombined tells s t u = (q : ℕ) → q < partitions_of s → tells (is_in s q) (is_in t q) (is_in u q)
+IsCombined allows s t u = (q : ℕ) → q < partitions_of s → allows (is_in s q) (is_in t q) (is_in u q)
 
 -- the answer is whether some partition passes
-abbrev pub TellsSomePass : (Bool → Bool → Bool → Type 0)
+abbrev pub IsSomePass : (Bool → Bool → Bool → Type 0)
     → PartitionSet → PartitionSet → Bool → Type 0
-TellsSomePass tells s t answer = MatchBool answer
-    ((q : ℕ) × (q < partitions_of s) × tells (is_in s q) (is_in t q) true)
-    ((q : ℕ) → q < partitions_of s → tells (is_in s q) (is_in t q) false)
+IsSomePass allows s t answer = MatchBool answer
+    ((q : ℕ) × (q < partitions_of s) × allows (is_in s q) (is_in t q) true)
+    ((q : ℕ) → q < partitions_of s → allows (is_in s q) (is_in t q) false)

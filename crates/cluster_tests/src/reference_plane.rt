@@ -2,7 +2,7 @@
 
 ghost use Rattle.std.specs.Prelude.{◌≡◌, ◌<◌, ◌≤◌, ◌==◌, ◌&&◌, ◌||◌, ◌↔◌, ℕ, false, true, not, nat_lt, min, length, IsTrue, All};
 ghost use Rattle.std.specs.List.{list_any};
-ghost use Rattle.cluster_tests.specs.ReferencePlane.{IsCombined, TellsSomePass};
+ghost use Rattle.cluster_tests.specs.ReferencePlane.{IsCombined, IsSomePass};
 ghost use Rattle.bit_planes.specs.PartitionSet.{partitions_of, is_in, any_below, rank, size, elements, empty_set, full_set, with_one, without_one, union, minus, lowest, meets, is_within, is_same};
 
 use lane_words::MOST_PARTITIONS;
@@ -220,7 +220,7 @@ impl ReferencePlane {
     fn some_pass<F: Fn(bool, bool) -> bool>(&self, other: &ReferencePlane, test: F) -> bool
         requires callable { F.IsAlwaysCallable test }
         requires partitions { partitions_of self.now ≡ partitions_of other.now }
-        ensures { TellsSomePass (F.post test) self.now other.now result }
+        ensures { IsSomePass (F.post test) self.now other.now result }
     {
         let mut passed = false;
         for q in 0..self.partitions as usize {

@@ -218,10 +218,10 @@ fn last_of_log_differs(
 #[test]
 fn the_last_of_the_records_alone_differs(rt: HostRuntime) {
     for len in [17, 1000] {
-        let told = last_of_log_differs(&rt, rt.alloc(), len);
+        let returned = last_of_log_differs(&rt, rt.alloc(), len);
         let refused = (Err(Refusal::WrongRecords), 0, 0);
         let taken = (Ok(len as u32), len as u64, 0);
-        assert_eq!(rt; told, Ok((refused, taken)), "{len}");
+        assert_eq!(rt; returned, Ok((refused, taken)), "{len}");
     }
 }
 

@@ -179,7 +179,7 @@ fn are_below(ids: &[u32], bound: usize) -> bool
 }
 
 /// Whether each counter can take this much more.
-fn leave_room(counts: &[u64], more: usize) -> bool
+fn can_grow(counts: &[u64], more: usize) -> bool
     ensures { IsTrue result → (i : ℕ) → slice_index_or counts.now i 0 + more < 2 ^ 64 }
 {
     for count in counts {
@@ -195,7 +195,7 @@ fn can_take(counts: &[u64], ids: &[u32]) -> bool
     ensures numbers { IsTrue result → HaveCounters counts.now ids.now }
     ensures sums { IsTrue result → SumsFit counts.now ids.now }
 {
-    are_below(ids, counts.len()) && leave_room(counts, ids.len())
+    are_below(ids, counts.len()) && can_grow(counts, ids.len())
 }
 
 fn merge(rt: &impl Abort, table: &mut Table, partial: &Partial) {

@@ -171,72 +171,72 @@ level_parts s names words has below e =
 -- ---- an invariant of each use is one of an accepted walk
 
 module _ (P : Row → Type 0) (s : Shape) where
-  abbrev Keeps : Rule → Type 0
-  Keeps a = (values : List Text) (rows : List Row) → use_fault s.args_override_self a values rows ≡ [] → Each P rows → Each P (used a values rows)
+  abbrev Preserves : Rule → Type 0
+  Preserves a = (values : List Text) (rows : List Row) → use_fault s.args_override_self a values rows ≡ [] → Each P rows → Each P (used a values rows)
 
-  abbrev KeepsIf : Option Rule → Type 0
-  KeepsIf o = (a : Rule) → o ≡ Some a → Keeps a
+  abbrev PreservesIf : Option Rule → Type 0
+  PreservesIf o = (a : Rule) → o ≡ Some a → Preserves a
 
-  abbrev KeepsDefault : Rule → Type 0
-  KeepsDefault a = (rows : List Row) → Each P rows → Each P (with_default rows a)
+  abbrev PreservesDefault : Rule → Type 0
+  PreservesDefault a = (rows : List Row) → Each P rows → Each P (with_default rows a)
 
-  defaults_keep : (cs : List Rule) (rows : List Row) → Each KeepsDefault cs → Each P rows → Each P (fold with_default rows cs)
-  defaults_keep [] rows k r = r
-  defaults_keep (a ∷ rest) rows k r = defaults_keep rest (with_default rows a) k.1 (k.0 rows r)
+  defaults_preserve : (cs : List Rule) (rows : List Row) → Each PreservesDefault cs → Each P rows → Each P (fold with_default rows cs)
+  defaults_preserve [] rows k r = r
+  defaults_preserve (a ∷ rest) rows k r = defaults_preserve rest (with_default rows a) k.1 (k.0 rows r)
 
-  by_rule : (o : Option Rule) (values : List Text) (rows : List Row) → KeepsIf o
+  by_rule : (o : Option Rule) (values : List Text) (rows : List Row) → PreservesIf o
       → option_map_or (λ a. use_fault s.args_override_self a values rows) o [] ≡ [] → Each P rows → Each P (used_by_id o values rows)
   by_rule None values rows k e r = r
   by_rule (Some a) values rows k e r = k a refl values rows e r
 
-  module _ (rules : Each Keeps s.rules) where
+  module _ (rules : Each Preserves s.rules) where
     settles : (o : Option (Text × List Text)) (rows : List Row)
         → option_map_or (λ p. option_map_or (λ a. use_fault s.args_override_self a p.1 rows) (arg_by_id s.rules p.0) []) o [] ≡ [] → Each P rows → Each P (settled_rows s.rules o rows)
     settles None rows e r = r
-    settles (Some p) rows e r = by_rule (arg_by_id s.rules p.0) p.1 rows (λ a is. (found_is Keeps _ s.rules a rules is).0) e r
+    settles (Some p) rows e r = by_rule (arg_by_id s.rules p.0) p.1 rows (λ a is. (found_is Preserves _ s.rules a rules is).0) e r
 
-    reacts : (a : Rule) → Keeps a → (values : List Text) (h : Held) → react_fault s.rules s.args_override_self a values h ≡ [] → Each P h.rows → Each P (reacted s.rules a values h).rows
+    reacts : (a : Rule) → Preserves a → (values : List Text) (h : Held) → react_fault s.rules s.args_override_self a values h ≡ [] → Each P h.rows → Each P (reacted s.rules a values h).rows
     reacts a k values h e r =
         let parts = none_of _ _ e in
         k values (settled s.rules h).rows parts.1 (settles h.pending h.rows parts.0 r)
 
-    option_keeps : (a : Rule) → Keeps a → (v : Option Text) (h : Held) → option_fault s.rules s.args_override_self a v h ≡ [] → Each P h.rows → Each P (option_met s.rules a v h).0.rows
-    option_keeps a k (Some v) h e r = reacts a k (v ∷ []) h e r
-    option_keeps a k None h e r = settles h.pending h.rows e r
+    option_preserves : (a : Rule) → Preserves a → (v : Option Text) (h : Held) → option_fault s.rules s.args_override_self a v h ≡ [] → Each P h.rows → Each P (option_met s.rules a v h).0.rows
+    option_preserves a k (Some v) h e r = reacts a k (v ∷ []) h e r
+    option_preserves a k None h e r = settles h.pending h.rows e r
 
-    flag_keeps : (a : Rule) → Keeps a → (v : Option Text) (h : Held) → cond (is_some v) (kind.TooManyValues ∷ []) (react_fault s.rules s.args_override_self a [] h) ≡ []
+    flag_preserves : (a : Rule) → Preserves a → (v : Option Text) (h : Held) → cond (is_some v) (kind.TooManyValues ∷ []) (react_fault s.rules s.args_override_self a [] h) ≡ []
         → Each P h.rows → Each P (flag_met s.rules a v h).0.rows
-    flag_keeps a k (Some v) h e r = r
-    flag_keeps a k None h e r = reacts a k [] h e r
+    flag_preserves a k (Some v) h e r = r
+    flag_preserves a k None h e r = reacts a k [] h e r
 
-    long_keeps : (o : Option Rule) → KeepsIf o → (v : Option Text) (h : Held) → long_fault s.rules s.args_override_self o v h ≡ [] → Each P h.rows → Each P (long_met s.rules o v h).0.rows
-    long_keeps None k v h e r = absurd (some_kind _ _ e)
-    long_keeps (Some a) k v h e r = go (takes_values a) e
+    long_preserves : (o : Option Rule) → PreservesIf o → (v : Option Text) (h : Held) → long_fault s.rules s.args_override_self o v h ≡ [] → Each P h.rows → Each P (long_met s.rules o v h).0.rows
+    long_preserves None k v h e r = absurd (some_kind _ _ e)
+    long_preserves (Some a) k v h e r = go (takes_values a) e
       where
         go : (b : Bool) → cond b (option_fault s.rules s.args_override_self a v h) (cond (is_some v) (kind.TooManyValues ∷ []) (react_fault s.rules s.args_override_self a [] h)) ≡ []
             → Each P (cond b (option_met s.rules a v h) (flag_met s.rules a v h)).0.rows
-        go true e = option_keeps a (k a refl) v h e r
-        go false e = flag_keeps a (k a refl) v h e r
+        go true e = option_preserves a (k a refl) v h e r
+        go false e = flag_preserves a (k a refl) v h e r
 
-    short_keeps : (o : Option Rule) → KeepsIf o → (rest : Text) (h : Held) (met : Held → Held × Outcome) (fault : Held → Kinds)
+    short_preserves : (o : Option Rule) → PreservesIf o → (rest : Text) (h : Held) (met : Held → Held × Outcome) (fault : Held → Kinds)
         → ((g : Held) → fault g ≡ [] → Each P g.rows → Each P (met g).0.rows)
         → short_fault s.rules s.args_override_self o rest h fault ≡ [] → Each P h.rows → Each P (short_met s.rules o rest h met).0.rows
-    short_keeps None k rest h met fault more e r = absurd (some_kind _ _ e)
-    short_keeps (Some a) k rest h met fault more e r = go (takes_values a) e
+    short_preserves None k rest h met fault more e r = absurd (some_kind _ _ e)
+    short_preserves (Some a) k rest h met fault more e r = go (takes_values a) e
       where
         go : (b : Bool) → cond b (option_fault s.rules s.args_override_self a (attached_value rest) h)
             (or_else (react_fault s.rules s.args_override_self a [] h) (fault (reacted s.rules a [] h))) ≡ []
             → Each P (cond b (option_met s.rules a (attached_value rest) h) (met (reacted s.rules a [] h))).0.rows
-        go true e = option_keeps a (k a refl) (attached_value rest) h e r
+        go true e = option_preserves a (k a refl) (attached_value rest) h e r
         go false e =
             let parts = none_of _ _ e in
             more (reacted s.rules a [] h) parts.1 (reacts a (k a refl) [] h parts.0 r)
 
-    bundle_keeps : (n : ℕ) (flags : Text) (skip : ℕ) (so_far : Outcome) (h : Held) → flags_fault s.rules s.args_override_self n flags skip h ≡ [] → Each P h.rows
+    bundle_preserves : (n : ℕ) (flags : Text) (skip : ℕ) (so_far : Outcome) (h : Held) → flags_fault s.rules s.args_override_self n flags skip h ≡ [] → Each P h.rows
         → Each P (bundle_met s.rules n flags skip so_far h).0.rows
     unfolding bundle_met flags_fault
-    bundle_keeps zero flags skip so_far h e r = r
-    bundle_keeps (suc n) flags skip so_far h e r = go (slice_get (chars flags) 0) skip e (bundle_keeps n)
+    bundle_preserves zero flags skip so_far h e r = r
+    bundle_preserves (suc n) flags skip so_far h e r = go (slice_get (chars flags) 0) skip e (bundle_preserves n)
       where
         go : (x : Option ℕ) (skip : ℕ) → bundle_step_fault s.rules s.args_override_self x flags skip h (flags_fault s.rules s.args_override_self n) ≡ []
             → ((flags : Text) (skip : ℕ) (so_far : Outcome) (h : Held) → flags_fault s.rules s.args_override_self n flags skip h ≡ [] → Each P h.rows
@@ -245,14 +245,14 @@ module _ (P : Row → Type 0) (s : Shape) where
         go None skip e more = r
         go (Some x) zero e more =
             let rest = drop (length (encode_utf8 x)) flags in
-            short_keeps (arg_by_short s.rules x) (λ a is. (found_is Keeps _ s.rules a rules is).0) rest h (bundle_met s.rules n rest 0 done)
+            short_preserves (arg_by_short s.rules x) (λ a is. (found_is Preserves _ s.rules a rules is).0) rest h (bundle_met s.rules n rest 0 done)
             (flags_fault s.rules s.args_override_self n rest 0) (λ g f q. more rest 0 done g f q) e r
         go (Some x) (suc k) e more = more (drop (length (encode_utf8 x)) flags) k so_far h e r
 
-    plain_keeps : (w : Waiting) (word : Text) (h : Held) → Each P h.rows → Each P (plain_word s.rules w word h).0.rows
-    plain_keeps idle word h r = r
-    plain_keeps positional word h r = r
-    plain_keeps (option id) word h r = go (arg_by_id s.rules id)
+    plain_preserves : (w : Waiting) (word : Text) (h : Held) → Each P h.rows → Each P (plain_word s.rules w word h).0.rows
+    plain_preserves idle word h r = r
+    plain_preserves positional word h r = r
+    plain_preserves (option id) word h r = go (arg_by_id s.rules id)
       where
         go : (o : Option Rule) → Each P (option_word o id word h).0.rows
         go None = r
@@ -261,73 +261,73 @@ module _ (P : Row → Type 0) (s : Shape) where
     flag_rows : (o : Outcome) (w : Waiting) (word : Text) (h : Held) → Each P h.rows → Each P (after_flag s.rules w word h o).0.rows
     flag_rows done w word h r = r
     flag_rows (waits id) w word h r = r
-    flag_rows plain w word h r = plain_keeps w word h r
-    flag_rows refused w word h r = plain_keeps w word h r
+    flag_rows plain w word h r = plain_preserves w word h r
+    flag_rows refused w word h r = plain_preserves w word h r
 
-    other_keeps : (o : Option (Text × Option Text)) (w : Waiting) (word : Text) (h : Held) → flag_word_fault s.rules s.args_override_self o word h ≡ [] → Each P h.rows
+    other_preserves : (o : Option (Text × Option Text)) (w : Waiting) (word : Text) (h : Held) → flag_word_fault s.rules s.args_override_self o word h ≡ [] → Each P h.rows
         → Each P (long_or_other s.rules w word o h).0.rows
-    other_keeps (Some p) w word h e r =
-        flag_rows (long_met s.rules (arg_by_long s.rules p.0) p.1 h).1 w word _ (long_keeps (arg_by_long s.rules p.0) (λ a is. (found_is Keeps _ s.rules a rules is).0) p.1 h e r)
-    other_keeps None w word h e r = go (short_of word) e
+    other_preserves (Some p) w word h e r =
+        flag_rows (long_met s.rules (arg_by_long s.rules p.0) p.1 h).1 w word _ (long_preserves (arg_by_long s.rules p.0) (λ a is. (found_is Preserves _ s.rules a rules is).0) p.1 h e r)
+    other_preserves None w word h e r = go (short_of word) e
       where
         go : (o : Option Text) → option_map_or (λ flags. bundle_fault s.rules s.args_override_self flags h) o [] ≡ [] → Each P (short_or_plain s.rules w word o h).0.rows
-        go None e = plain_keeps w word h r
+        go None e = plain_preserves w word h r
         go (Some flags) e =
-            flag_rows (bundle s.rules flags h).1 w word _ (bundle_keeps (length flags) flags h.skip plain (record h { skip = 0 }) e r)
+            flag_rows (bundle s.rules flags h).1 w word _ (bundle_preserves (length flags) flags h.skip plain (record h { skip = 0 }) e r)
 
-    named_keeps : (o : Option Text) (w : Waiting) (position : ℕ) (word : Text) (h : Held) → other_fault s o word h ≡ [] → Each P h.rows
+    named_preserves : (o : Option Text) (w : Waiting) (position : ℕ) (word : Text) (h : Held) → other_fault s o word h ≡ [] → Each P h.rows
         → Each P (subcommand_or_other s.rules o w position word h).0.rows
-    named_keeps (Some name) w position word h e r = r
-    named_keeps None w position word h e r = go (bytes_eq word (45 ∷ 45 ∷ [])) e
+    named_preserves (Some name) w position word h e r = r
+    named_preserves None w position word h e r = go (bytes_eq word (45 ∷ 45 ∷ [])) e
       where
         go : (b : Bool) → cond b [] (flag_word_fault s.rules s.args_override_self (long_of word) word h) ≡ []
             → Each P (cond b (h, trailing position) (long_or_other s.rules w word (long_of word) h)).0.rows
         go true e = r
-        go false e = other_keeps (long_of word) w word h e r
+        go false e = other_preserves (long_of word) w word h e r
 
-    word_keeps : (is_trailing : Bool) (names : Names) (w : Waiting) (position : ℕ) (word : Text) (h : Held) → word_fault s names is_trailing w word h ≡ [] → Each P h.rows
+    word_preserves : (is_trailing : Bool) (names : Names) (w : Waiting) (position : ℕ) (word : Text) (h : Held) → word_fault s names is_trailing w word h ≡ [] → Each P h.rows
         → Each P (word_met s.rules names is_trailing w position word h).0.rows
-    word_keeps true names w position word h e r = r
-    word_keeps false names w position word h e r = named_keeps (subcommand_met names w word) w position word h e r
+    word_preserves true names w position word h e r = r
+    word_preserves false names w position word h e r = named_preserves (subcommand_met names w word) w position word h e r
 
-    positional_keeps : (o : Option Rule) (w : Walk) (word : Text) (h : Held) → option_map_or (λ a. positional_fault s.rules s.args_override_self a h) o (stray_fault s) ≡ [] → Each P h.rows
+    positional_preserves : (o : Option Rule) (w : Walk) (word : Text) (h : Held) → option_map_or (λ a. positional_fault s.rules s.args_override_self a h) o (stray_fault s) ≡ [] → Each P h.rows
         → Each P (to_positional s.rules o word w h).held.rows
-    positional_keeps None w word h e r = r
-    positional_keeps (Some a) w word h e r = go (is_pending a h.pending && takes_several a) e
+    positional_preserves None w word h e r = r
+    positional_preserves (Some a) w word h e r = go (is_pending a h.pending && takes_several a) e
       where
         go : (b : Bool) → cond b [] (settle_fault s.rules s.args_override_self h) ≡ [] → Each P (cond b h (settled s.rules h)).rows
         go true e = r
         go false e = settles h.pending h.rows e r
 
-    step_keeps : (step : Step) (w : Walk) (word : Text) (h : Held) → step_fault s w.position h step ≡ [] → Each P h.rows → Each P (after_step s.rules word w h step).held.rows
-    step_keeps (next waiting) w word h e r = r
-    step_keeps (trailing position) w word h e r = r
-    step_keeps (subcommand name) w word h e r = r
-    step_keeps value w word h e r = positional_keeps (arg_by_index s.rules w.position) w word h e r
+    step_preserves : (step : Step) (w : Walk) (word : Text) (h : Held) → step_fault s w.position h step ≡ [] → Each P h.rows → Each P (after_step s.rules word w h step).held.rows
+    step_preserves (next waiting) w word h e r = r
+    step_preserves (trailing position) w word h e r = r
+    step_preserves (subcommand name) w word h e r = r
+    step_preserves value w word h e r = positional_preserves (arg_by_index s.rules w.position) w word h e r
 
-    turn_keeps : (names : Names) (o : Option (Text × List Text)) (w : Walk) (word : Text)
+    turn_preserves : (names : Names) (o : Option (Text × List Text)) (w : Walk) (word : Text)
         → cond (is_some o) [] (or_else (word_fault s names w.is_trailing w.waiting word w.held)
         (step_fault s w.position (word_met s.rules names w.is_trailing w.waiting w.position word w.held).0 (word_met s.rules names w.is_trailing w.waiting w.position word w.held).1)) ≡ []
         → Each P w.held.rows → Each P (walked_from s.rules names o w word).held.rows
-    turn_keeps names (Some p) w word e r = r
-    turn_keeps names None w word e r =
+    turn_preserves names (Some p) w word e r = r
+    turn_preserves names None w word e r =
         let parts = none_of _ _ e in
-        step_keeps _ w word _ parts.1 (word_keeps w.is_trailing names w.waiting w.position word w.held parts.0 r)
+        step_preserves _ w word _ parts.1 (word_preserves w.is_trailing names w.waiting w.position word w.held parts.0 r)
 
-    walk_keeps : (names : Names) (words : List Text) (w : Walk) → walk_fault s names w words ≡ [] → Each P w.held.rows → Each P (fold (walked s.rules names) w words).held.rows
+    walk_preserves : (names : Names) (words : List Text) (w : Walk) → walk_fault s names w words ≡ [] → Each P w.held.rows → Each P (fold (walked s.rules names) w words).held.rows
     unfolding walk_fault walked
-    walk_keeps names [] w e r = r
-    walk_keeps names (word ∷ rest) w e r =
+    walk_preserves names [] w e r = r
+    walk_preserves names (word ∷ rest) w e r =
         let parts = none_of _ _ e in
-        walk_keeps names rest (walked s.rules names w word) parts.1 (turn_keeps names w.stopped w word parts.0 r)
+        walk_preserves names rest (walked s.rules names w word) parts.1 (turn_preserves names w.stopped w word parts.0 r)
 
-    level_keeps : (words : List Text) (has : Bool) (below : Kinds) → Each KeepsDefault s.rules → level_fault s [] nothing_held words has below ≡ [] → Each P (rows_after s.rules [] words)
-    level_keeps words has below defaults e =
+    level_preserves : (words : List Text) (has : Bool) (below : Kinds) → Each PreservesDefault s.rules → level_fault s [] nothing_held words has below ≡ [] → Each P (rows_after s.rules [] words)
+    level_preserves words has below defaults e =
         let walk_ok = none_of _ _ e in
         let below_ok = none_of below _ walk_ok.1 in
         let settle_ok = none_of _ _ below_ok.1 in
         let end = (walk s.rules [] nothing_held words).held in
-        defaults_keep s.rules _ defaults (settles end.pending end.rows settle_ok.0 (walk_keeps [] words (walk_from nothing_held) walk_ok.0 tt))
+        defaults_preserve s.rules _ defaults (settles end.pending end.rows settle_ok.0 (walk_preserves [] words (walk_from nothing_held) walk_ok.0 tt))
 
 -- ---- where the walk of the program stops
 
@@ -441,72 +441,72 @@ replay_rule k = unwrap_or (slice_get replay_shape.rules k) (path (codes "file"))
 other : {A : Type 0} → false ≡ true → A
 other e = absurd (true≢false (sym e))
 
-abbrev KeepsRows : Rule → Type 0
-KeepsRows = Keeps RowPasses count_shape
+abbrev PreservesRows : Rule → Type 0
+PreservesRows = Preserves RowPasses count_shape
 
-file_keeps : KeepsRows (count_rule 0)
-file_keeps [] rows e r = absurd (some_kind _ _ e)
-file_keeps (v ∷ vs) rows e r = set_use RowPasses (count_rule 0) v vs rows (none_of _ _ e).1 (λ ok. (refl, (λ f. other f), (λ f. other f), (λ f. other f), (λ f. other f))) r
+file_preserves : PreservesRows (count_rule 0)
+file_preserves [] rows e r = absurd (some_kind _ _ e)
+file_preserves (v ∷ vs) rows e r = set_use RowPasses (count_rule 0) v vs rows (none_of _ _ e).1 (λ ok. (refl, (λ f. other f), (λ f. other f), (λ f. other f), (λ f. other f))) r
 
-script_keeps : KeepsRows (replay_rule 1)
-script_keeps [] rows e r = absurd (some_kind _ _ e)
-script_keeps (v ∷ vs) rows e r = set_use RowPasses (replay_rule 1) v vs rows (none_of _ _ e).1 (λ ok. (refl, (λ f. other f), (λ f. other f), (λ f. other f), (λ f. other f))) r
+script_preserves : PreservesRows (replay_rule 1)
+script_preserves [] rows e r = absurd (some_kind _ _ e)
+script_preserves (v ∷ vs) rows e r = set_use RowPasses (replay_rule 1) v vs rows (none_of _ _ e).1 (λ ok. (refl, (λ f. other f), (λ f. other f), (λ f. other f), (λ f. other f))) r
 
-partitions_keeps : KeepsRows (count_rule 1)
-partitions_keeps [] rows e r = absurd (some_kind _ _ e)
-partitions_keeps (v ∷ vs) rows e r =
+partitions_preserves : PreservesRows (count_rule 1)
+partitions_preserves [] rows e r = absurd (some_kind _ _ e)
+partitions_preserves (v ∷ vs) rows e r =
     set_use RowPasses (count_rule 1) v vs rows (none_of _ _ e).1 (λ ok. (refl, (λ _. accepts-Accepts false (parser.Signed (pos 1) (pos 4096)) v ok), (λ f. other f), (λ f. other f), (λ f. other f))) r
 
-column_keeps : KeepsRows (count_rule 2)
-column_keeps [] rows e r = absurd (some_kind _ _ e)
-column_keeps (v ∷ vs) rows e r =
+column_preserves : PreservesRows (count_rule 2)
+column_preserves [] rows e r = absurd (some_kind _ _ e)
+column_preserves (v ∷ vs) rows e r =
     set_use RowPasses (count_rule 2) v vs rows (none_of _ _ e).1 (λ ok. (refl, (λ f. other f), (λ _. accepts-Accepts false (parser.Signed (pos 1) (pos 65535)) v ok), (λ f. other f), (λ f. other f))) r
 
-header_keeps : KeepsRows (count_rule 3)
-header_keeps [] rows e r = set_use RowPasses (count_rule 3) (codes "true") [] rows e (λ ok. (refl, (λ f. other f), (λ f. other f), (λ f. other f), (λ f. other f))) r
-header_keeps (v ∷ vs) rows e r = set_use RowPasses (count_rule 3) v vs rows (none_of _ _ e).1 (λ ok. (refl, (λ f. other f), (λ f. other f), (λ f. other f), (λ f. other f))) r
+header_preserves : PreservesRows (count_rule 3)
+header_preserves [] rows e r = set_use RowPasses (count_rule 3) (codes "true") [] rows e (λ ok. (refl, (λ f. other f), (λ f. other f), (λ f. other f), (λ f. other f))) r
+header_preserves (v ∷ vs) rows e r = set_use RowPasses (count_rule 3) v vs rows (none_of _ _ e).1 (λ ok. (refl, (λ f. other f), (λ f. other f), (λ f. other f), (λ f. other f))) r
 
-topics_keeps : KeepsRows (count_rule 4)
-topics_keeps [] rows e r = absurd (some_kind _ _ e)
-topics_keeps (v ∷ vs) rows e r = set_use RowPasses (count_rule 4) v vs rows (none_of _ _ e).1 (λ ok. (refl, (λ f. other f), (λ f. other f), (λ f. other f), (λ f. other f))) r
+topics_preserves : PreservesRows (count_rule 4)
+topics_preserves [] rows e r = absurd (some_kind _ _ e)
+topics_preserves (v ∷ vs) rows e r = set_use RowPasses (count_rule 4) v vs rows (none_of _ _ e).1 (λ ok. (refl, (λ f. other f), (λ f. other f), (λ f. other f), (λ f. other f))) r
 
-topic_column_keeps : KeepsRows (count_rule 5)
-topic_column_keeps [] rows e r = absurd (some_kind _ _ e)
-topic_column_keeps (v ∷ vs) rows e r =
+topic_column_preserves : PreservesRows (count_rule 5)
+topic_column_preserves [] rows e r = absurd (some_kind _ _ e)
+topic_column_preserves (v ∷ vs) rows e r =
     set_use RowPasses (count_rule 5) v vs rows (none_of _ _ e).1 (λ ok. (refl, (λ f. other f), (λ f. other f), (λ f. other f), (λ _. accepts-Accepts false (parser.Signed (pos 1) (pos 65535)) v ok))) r
 
-batch_keeps : KeepsRows (replay_rule 7)
-batch_keeps [] rows e r = absurd (some_kind _ _ e)
-batch_keeps (v ∷ vs) rows e r =
+batch_preserves : PreservesRows (replay_rule 7)
+batch_preserves [] rows e r = absurd (some_kind _ _ e)
+batch_preserves (v ∷ vs) rows e r =
     set_use RowPasses (replay_rule 7) v vs rows (none_of _ _ e).1 (λ ok. (refl, (λ f. other f), (λ f. other f), (λ _. accepts-Accepts false (parser.Signed (pos 1) (pos 1000000)) v ok), (λ f. other f))) r
 
-help_keeps : KeepsRows (count_rule 6)
-help_keeps values rows e r = absurd (some_kind _ _ (none_of _ _ e).1)
+help_preserves : PreservesRows (count_rule 6)
+help_preserves values rows e r = absurd (some_kind _ _ (none_of _ _ e).1)
 
-abbrev DefaultKeepsRows : Rule → Type 0
-DefaultKeepsRows = KeepsDefault RowPasses count_shape
+abbrev DefaultPreservesRows : Rule → Type 0
+DefaultPreservesRows = PreservesDefault RowPasses count_shape
 
 no_default : (b : Bool) (rows : List Row) → Each RowPasses rows → Each RowPasses (cond b rows rows)
 no_default true rows r = r
 no_default false rows r = r
 
-header_default : DefaultKeepsRows (count_rule 3)
+header_default : DefaultPreservesRows (count_rule 3)
 header_default rows r = go (has_row (codes "header") rows) refl
   where
     go : (b : Bool) → has_row (codes "header") rows ≡ b → Each RowPasses (cond b rows (default_rows (codes "header") (reading_by (count_rule 3)) (codes "false" ∷ []) rows))
     go true e = r
     go false e = joined RowPasses (codes "header") (more_values DefaultValue (codes "false" ∷ [])) (record { id = codes "header"; values = codes "false" ∷ []; count = None; source = Some DefaultValue; reading = reading_by (count_rule 3) } ∷ []) rows e r ((refl, (λ f. other f), (λ f. other f), (λ f. other f), (λ f. other f)), tt)
 
-count_keeps : Each (Keeps RowPasses count_shape) count_shape.rules
-count_keeps = (file_keeps, (partitions_keeps, (column_keeps, (header_keeps, (topics_keeps, (topic_column_keeps, (help_keeps, tt)))))))
+count_preserves : Each (Preserves RowPasses count_shape) count_shape.rules
+count_preserves = (file_preserves, (partitions_preserves, (column_preserves, (header_preserves, (topics_preserves, (topic_column_preserves, (help_preserves, tt)))))))
 
-replay_keeps : Each (Keeps RowPasses replay_shape) replay_shape.rules
-replay_keeps = (file_keeps, (script_keeps, (partitions_keeps, (column_keeps, (header_keeps, (topics_keeps, (topic_column_keeps, (batch_keeps, (help_keeps, tt)))))))))
+replay_preserves : Each (Preserves RowPasses replay_shape) replay_shape.rules
+replay_preserves = (file_preserves, (script_preserves, (partitions_preserves, (column_preserves, (header_preserves, (topics_preserves, (topic_column_preserves, (batch_preserves, (help_preserves, tt)))))))))
 
-count_defaults : Each (KeepsDefault RowPasses count_shape) count_shape.rules
+count_defaults : Each (PreservesDefault RowPasses count_shape) count_shape.rules
 count_defaults = ((λ rows r. no_default (has_row (codes "file") rows) rows r), ((λ rows r. no_default (has_row (codes "partitions") rows) rows r), ((λ rows r. no_default (has_row (codes "column") rows) rows r), (header_default, ((λ rows r. no_default (has_row (codes "topics") rows) rows r), ((λ rows r. no_default (has_row (codes "topic-column") rows) rows r), ((λ rows r. no_default (has_row (codes "help") rows) rows r), tt)))))))
 
-replay_defaults : Each (KeepsDefault RowPasses replay_shape) replay_shape.rules
+replay_defaults : Each (PreservesDefault RowPasses replay_shape) replay_shape.rules
 replay_defaults = ((λ rows r. no_default (has_row (codes "file") rows) rows r), ((λ rows r. no_default (has_row (codes "script") rows) rows r), ((λ rows r. no_default (has_row (codes "partitions") rows) rows r), ((λ rows r. no_default (has_row (codes "column") rows) rows r), (header_default, ((λ rows r. no_default (has_row (codes "topics") rows) rows r), ((λ rows r. no_default (has_row (codes "topic-column") rows) rows r), ((λ rows r. no_default (has_row (codes "batch") rows) rows r), ((λ rows r. no_default (has_row (codes "help") rows) rows r), tt)))))))))
 
 first_passes : (name : Text) (rows : List Row) → Each RowPasses rows → IsSome (find (λ r. bytes_eq r.id name) rows) → IsSome (first_of name rows)
@@ -559,19 +559,19 @@ count_taken : (words : List Text) → level_fault count_shape [] nothing_held wo
 count_taken words e =
     let parts = level_parts count_shape [] words false [] e in
     let rows = rows_after count_shape.rules [] words in
-    let all = level_keeps RowPasses count_shape count_keeps words false [] count_defaults e in
+    let all = level_preserves RowPasses count_shape count_preserves words false [] count_defaults e in
     record {
       file = path_passes (codes "file") rows all (file_given rows parts.2);
       options = options_pass rows all;
     }
 
-script_taken : (s : Shape) → Each (Keeps RowPasses s) s.rules → Each (KeepsDefault RowPasses s) s.rules
+script_taken : (s : Shape) → Each (Preserves RowPasses s) s.rules → Each (PreservesDefault RowPasses s) s.rules
     → ((rows : List Row) → check_fault s rows false ≡ [] → (is_given (codes "file") rows ≡ true) × (is_given (codes "script") rows ≡ true))
     → (words : List Text) → level_fault s [] nothing_held words false [] ≡ [] → AreScriptRows (rows_after s.rules [] words)
-script_taken s keeps defaults paths words e =
+script_taken s preserves defaults paths words e =
     let parts = level_parts s [] words false [] e in
     let rows = rows_after s.rules [] words in
-    let all = level_keeps RowPasses s keeps words false [] defaults e in
+    let all = level_preserves RowPasses s preserves words false [] defaults e in
     let given = paths rows parts.2 in
     record {
       file = path_passes (codes "file") rows all given.0;
@@ -581,10 +581,10 @@ script_taken s keeps defaults paths words e =
     }
 
 replay_taken : (words : List Text) → level_fault replay_shape [] nothing_held words false [] ≡ [] → AreScriptRows (rows_after replay_shape.rules [] words)
-replay_taken = script_taken replay_shape replay_keeps replay_defaults paths_given
+replay_taken = script_taken replay_shape replay_preserves replay_defaults paths_given
 
 run_taken : (words : List Text) → level_fault run_shape [] nothing_held words false [] ≡ [] → AreScriptRows (rows_after run_shape.rules [] words)
-run_taken = script_taken run_shape replay_keeps replay_defaults paths_given
+run_taken = script_taken run_shape replay_preserves replay_defaults paths_given
 
 -- what clap has checked of the words after the subcommand of this name
 abbrev Takes : Text → List Row → Type 0

@@ -30,29 +30,29 @@ no_topics = record {
 
 pub valid_with_next : (topics : List Topic) (topic : Topic) → MayBeTopics topics → MayFollow topics topic
     → is_name topic.name ≡ true → 1 ≤ topic.partitions → MayBeTopics (topics ++ topic ∷ [])
-valid_with_next topics topic known follows named some = record {
+valid_with_next topics topic valid follows named some = record {
   few = let e = length_push topics topic in let capacity = follows.capacity in omega (arith, e, capacity);
-  named = All-push (λ (t : Topic). is_name t.name ≡ true) topics topic known.named named;
-  distinct = all_pairs_push (λ (t u : Topic). t.name ≢ u.name) topics topic known.distinct (λ k d below. follows.named k d below);
-  each = All-push (λ (t : Topic). 1 ≤ t.partitions) topics topic known.each some;
+  named = All-push (λ (t : Topic). is_name t.name ≡ true) topics topic valid.named named;
+  distinct = all_pairs_push (λ (t u : Topic). t.name ≢ u.name) topics topic valid.distinct (λ k d below. follows.named k d below);
+  each = All-push (λ (t : Topic). 1 ≤ t.partitions) topics topic valid.each some;
   within = rw (sum_by_push (λ (t : Topic). t.partitions) topics topic) follows.within;
 }
 
 pub has_followed : (before : List Topic) (topic : Topic) (more : List Topic) → MayBeTopics (before ++ topic ∷ more)
     → MayFollow before topic
-has_followed before topic more known =
+has_followed before topic more valid =
     let sizes = length-append before (topic ∷ more) in
     record {
-      capacity = let few = known.few in omega (arith, sizes, few);
+      capacity = let few = valid.few in omega (arith, sizes, few);
       named = λ k d below same.
           let first : get_or (before ++ topic ∷ more) k d ≡ get_or before k d = get_or_append_left before (topic ∷ more) d k below in
           let second : get_or (before ++ topic ∷ more) (length before) d ≡ topic = get_or_at before topic more d (length before) refl in
-          known.distinct k (length before) d below (omega (arith, sizes))
+          valid.distinct k (length before) d below (omega (arith, sizes))
           (ap (λ (t : Topic). t.name) first ∙ same ∙ sym (ap (λ (t : Topic). t.name) second));
       within =
           let sums = sum_by-append (λ (t : Topic). t.partitions) before (topic ∷ more) in
           let rest = sum_by-cons (λ (t : Topic). t.partitions) topic more in
-          let all = known.within in
+          let all = valid.within in
           omega (arith, sums, rest, all);
     }
 
@@ -100,7 +100,7 @@ misfit_item_rejects list before item rest parsed topic there so_far is never top
     let next = next_parsed topic_of before item rest parsed topics so_far (ap (λ items. map topic_of items) (sym there) ∙ items_parse.items) in
     let parsed_item : topic_of item ≡ Some next.0 = next.2 in
     let same : next.0 ≡ topic = cc in
-    never (subst (λ t. MayFollow parsed t) same (has_followed parsed next.0 next.1 (subst MayBeTopics next.3 items_parse.rules.known)))
+    never (subst (λ t. MayFollow parsed t) same (has_followed parsed next.0 next.1 (subst MayBeTopics next.3 items_parse.rules.valid)))
 
 pub has_a_topic : (list : List ℕ) (topics : List Topic) → map topic_of (slice_split is_comma list) ≡ map Some topics
     → 1 ≤ length topics
@@ -144,7 +144,7 @@ no_colon_no_topic item e =
 
 pub may_be_topics : (list : Option (List ℕ)) (topics : List Topic) → AreTopicsOf list topics → MayBeTopics topics
 may_be_topics None topics none = rw none no_topics
-may_be_topics (Some list) topics items_parse = items_parse.rules.known
+may_be_topics (Some list) topics items_parse = items_parse.rules.valid
 
 refused : (b : Bool) (n : ℕ) → (b ≡ true → ⊥) → cond b (Some n) None ≡ None
 refused true n never = absurd (never refl)

@@ -9,7 +9,7 @@ use Rattle.keyed_table.proofs.Elements.{none-past, occurs-somewhere}
 use Rattle.keyed_table.proofs.Raised.{counter-raised, length-raised}
 use Rattle.partition_log.specs.Keys.{IsWithoutRepeats, is_interned, key_at, with_key}
 use Rattle.partition_log.specs.Logs.{IsPlaceOf, with_record_at}
-use Rattle.key_index.proofs.Growth.{among, fresh, grows, known, stays_apart}
+use Rattle.key_index.proofs.Growth.{among, fresh, grows, interned, stays_without_repeats}
 use Rattle.partition_log.proofs.History.{names-same}
 use Rattle.partition_log.proofs.Valid.{goes-below, log-other, log-same}
 use Rattle.partition_log.proofs.Numbered.{by_number}
@@ -127,13 +127,13 @@ counter-exact s capacity l e = record {
 }
 
 same-number : (ks : List Key) (k x : Key) → IsWithoutRepeats ks → is_interned ks x ≡ true → id_of (with_key ks k) x ≡ id_of ks x
-same-number ks k x apart h =
+same-number ks k x without_repeats h =
     let g = grows ks k in
-    let old = known ks x h in
+    let old = interned ks x h in
     let stands : key_at (with_key ks k) (id_of ks x) ≡ x = g.stays (id_of ks x) old.0 ∙ old.1 in
     let within : id_of ks x < length (with_key ks k) = omega (arith, old.0, g.longer) in
-    let new = known (with_key ks k) x (among (with_key ks k) x (id_of ks x) within stands) in
-    stays_apart ks k apart (id_of (with_key ks k) x) (id_of ks x) new.0 within (new.1 ∙ sym stands)
+    let new = interned (with_key ks k) x (among (with_key ks k) x (id_of ks x) within stands) in
+    stays_without_repeats ks k without_repeats (id_of (with_key ks k) x) (id_of ks x) new.0 within (new.1 ∙ sym stands)
 
 later-number : (ks : List Key) (k x : Key) → is_interned ks x ≡ false → length ks ≤ id_of (with_key ks k) x
 later-number ks k x h =
@@ -145,7 +145,7 @@ later-number ks k x h =
     at : (b : Bool) → is_interned (with_key ks k) x ≡ b → id_of (with_key ks k) x < length ks → ⊥
     at true e lt =
         let g = grows ks k in
-        let there = known (with_key ks k) x e in
+        let there = interned (with_key ks k) x e in
         let clash = among ks x (id_of (with_key ks k) x) lt (sym (g.stays (id_of (with_key ks k) x) lt) ∙ there.1) in cc (clash, h)
     at false e lt = let g = grows ks k in omega (arith, fresh (with_key ks k) x e, g.longer, lt)
 

@@ -17,7 +17,7 @@ use Rattle.consumer.specs.Consumer.{ConsumerState, IsValidConsumer, base_of, hel
 use Rattle.consumer.proofs.Valid.{slot_base, slot_position}
 
 -- the same member, lease and held partitions
-pub record KeepsHold (c new : ConsumerState) : Type 0 where
+pub record HasSameHold (c new : ConsumerState) : Type 0 where
   pub partitions : new.partitions ≡ c.partitions
   pub member : new.member ≡ c.member
   pub generation : new.generation ≡ c.generation
@@ -50,8 +50,8 @@ slot_with c p old h held q =
       | inr other ↦ inr (get_or-set_other c.held p q (Some h) None other)
     ]
 
-pub with_keeps : (c : ConsumerState) (p : ℕ) (old h : Held) → held_at c p ≡ Some old → KeepsHold c (with_held c p h)
-with_keeps c p old h held = record {
+pub with_same_hold : (c : ConsumerState) (p : ℕ) (old h : Held) → held_at c p ≡ Some old → HasSameHold c (with_held c p h)
+with_same_hold c p old h held = record {
   partitions = refl;
   member = refl;
   generation = refl;
@@ -118,7 +118,7 @@ held_if_polled c l p n count e = held_if c p (held_at c p) refl (go (hold_answer
 
 pub record PollLeaves (c new : ConsumerState) (l : PartitionLogs) : Type 0 where
   pub valid : IsValidConsumer new
-  pub hold : KeepsHold c new
+  pub hold : HasSameHold c new
   pub bases : (b : ℕ → ℕ) → ((q : ℕ) → base_of c q ≤ b q) → (q : ℕ) → base_of new q ≤ b q
   pub within : (q : ℕ) → position_of new q ≤ length (log_at l q)
 
@@ -128,7 +128,7 @@ poll_leaves c l p n count valid within answer =
     let h : Held = record { base = base_of c p; position = position_of c p + polled_count c l p n } in
     record {
       valid = with_valid c p held.0 h held.1 (omega (arith, valid.ordered p)) valid;
-      hold = with_keeps c p held.0 h held.1;
+      hold = with_same_hold c p held.0 h held.1;
       bases = λ b others. with_base c p held.0 h held.1 b (others p) others;
       within = with_position c p held.0 h held.1 (λ q. length (log_at l q)) (omega (arith, within p)) within;
     }
@@ -136,11 +136,11 @@ poll_leaves c l p n count valid within answer =
 -- ---- answers
 pub record RealignLeaves (c new : ConsumerState) (p committed : ℕ) : Type 0 where
   pub valid : IsValidConsumer new
-  pub hold : KeepsHold c new
+  pub hold : HasSameHold c new
   pub bases : (b : ℕ → ℕ) → committed ≤ b p → ((q : ℕ) → base_of c q ≤ b q) → (q : ℕ) → base_of new q ≤ b q
   pub positions : (b : ℕ → ℕ) → committed ≤ b p → ((q : ℕ) → position_of c q ≤ b q) → (q : ℕ) → position_of new q ≤ b q
 
-same_hold : (c : ConsumerState) → KeepsHold c c
+same_hold : (c : ConsumerState) → HasSameHold c c
 same_hold c = record { partitions = refl; member = refl; generation = refl; assigned = refl; held = λ q. refl }
 
 realigned_ordered : (h : Held) (k : ℕ) → (realigned_held h k).base ≤ (realigned_held h k).position
@@ -164,7 +164,7 @@ realign_leaves c p k valid = go (held_at c p) refl
     go None is = record { valid = valid; hold = same_hold c; bases = λ b this others. others; positions = λ b this others. others }
     go (Some h) is = record {
       valid = with_valid c p h (realigned_held h k) is (realigned_ordered h k) valid;
-      hold = with_keeps c p h (realigned_held h k) is;
+      hold = with_same_hold c p h (realigned_held h k) is;
       bases = λ b this others. with_base c p h (realigned_held h k) is b this others;
       positions = λ b this others. with_position c p h (realigned_held h k) is b
           (realigned_position h k (b p) (subst (λ (o : Option Held). slot_position o ≤ b p) is (others p)) this) others;

@@ -9,7 +9,7 @@ use Rattle.std.proofs.lemmas.List.FromFn.{fill_by_all}
 use Rattle.std.proofs.Math.ListN.{length-set}
 use Rattle.bit_planes.specs.PartitionSet.{PartitionSet, elements, is_in, minus, partitions_of, union}
 use Rattle.bit_planes.proofs.Sets.{both_true, in_minus, in_union, not_false, partitions_minus, partitions_union}
-use Rattle.bit_planes.proofs.Listed.{elements_tell, is_listed}
+use Rattle.bit_planes.proofs.Listed.{listed_elements, is_listed}
 use Rattle.group_machine.specs.Cluster.{LeaseTerms, start_of}
 use Rattle.consumer.specs.declared.held.Held.{Held}
 use Rattle.consumer.specs.Consumer.{leased_slot}
@@ -22,14 +22,14 @@ pub record AreWritten (f : ℕ → Option Held) (s : PartitionSet) (n : ℕ) (he
   pub within : (k : ℕ) → is_listed k left ≡ true → is_in s k ≡ true
 
 pub none_written : (f : ℕ → Option Held) (s : PartitionSet) (held : List (Option Held)) (left : List ℕ) → left ≡ elements s → ((k : ℕ) → is_in s k ≡ false → slice_index_or held k None ≡ f k) → AreWritten f s (length held) held left
-none_written f s held left all kept = record {
+none_written f s held left all retained = record {
   long = refl;
-  done = λ k h. kept k (sym (listed k) ∙ h);
+  done = λ k h. retained k (sym (listed k) ∙ h);
   within = λ k h. sym (listed k) ∙ h;
 }
   where
     listed : (k : ℕ) → is_listed k left ≡ is_in s k
-    listed k = ap (is_listed k) all ∙ elements_tell s k
+    listed k = ap (is_listed k) all ∙ listed_elements s k
 
 this : (p : ℕ) (b : Bool) → ((p == p) || b) ≡ true
 this p true = grind (arith, nat_tests)
@@ -70,8 +70,8 @@ no_first x true e h = absurd (cc h)
 no_first true false e h = e
 no_first false false e h = refl
 
-pub lease_keeps : (lease : LeaseTerms) (holding : PartitionSet) (held : List (Option Held)) → IsHolding holding held → (k : ℕ) → is_in (minus lease.assigned holding) k ≡ false → slice_index_or held k None ≡ leased_slot lease k (slice_index_or held k None)
-lease_keeps lease holding held holds k out = go (slice_index_or held k None) (holds.elements k)
+pub lease_same : (lease : LeaseTerms) (holding : PartitionSet) (held : List (Option Held)) → IsHolding holding held → (k : ℕ) → is_in (minus lease.assigned holding) k ≡ false → slice_index_or held k None ≡ leased_slot lease k (slice_index_or held k None)
+lease_same lease holding held holds k out = go (slice_index_or held k None) (holds.elements k)
   where
     go : (o : Option Held) → is_in holding k ≡ is_some o → o ≡ leased_slot lease k o
     go (Some h) e = refl
@@ -100,8 +100,8 @@ lease_holding lease holding new held held_new holds one_each long e slots = reco
     go k None false true e is = rw is refl
     go k None false false e is = rw is refl
 
-pub given_up_keeps : (assigned holding : PartitionSet) (held : List (Option Held)) → IsHolding holding held → (k : ℕ) → is_in (minus holding assigned) k ≡ false → slice_index_or held k None ≡ (if is_in assigned k then slice_index_or held k None else None)
-given_up_keeps assigned holding held holds k out = go (slice_index_or held k None) (is_in holding k) (is_in assigned k) (holds.elements k) (sym (in_minus holding assigned k) ∙ out)
+pub given_up_same : (assigned holding : PartitionSet) (held : List (Option Held)) → IsHolding holding held → (k : ℕ) → is_in (minus holding assigned) k ≡ false → slice_index_or held k None ≡ (if is_in assigned k then slice_index_or held k None else None)
+given_up_same assigned holding held holds k out = go (slice_index_or held k None) (is_in holding k) (is_in assigned k) (holds.elements k) (sym (in_minus holding assigned k) ∙ out)
   where
     go : (o : Option Held) (h a : Bool) → h ≡ is_some o → (h && not a) ≡ false → o ≡ (if a then o else None)
     go o h true e f = refl

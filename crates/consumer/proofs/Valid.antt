@@ -51,9 +51,9 @@ leased_valid c lease valid member over = record {
   out = λ none. cc;
 }
 
-kept_ordered : (b : Bool) (o : Option Held) → slot_base o ≤ slot_position o → slot_base (if b then o else None) ≤ slot_position (if b then o else None)
-kept_ordered true o le = le
-kept_ordered false o le = omega arith
+retained_ordered : (b : Bool) (o : Option Held) → slot_base o ≤ slot_position o → slot_base (if b then o else None) ≤ slot_position (if b then o else None)
+retained_ordered true o le = le
+retained_ordered false o le = omega arith
 
 none_if : (b : Bool) (o : Option Held) → o ≡ None → None ≡ (if b then o else None)
 none_if true o e = sym e
@@ -76,6 +76,6 @@ given_up_valid c valid = record {
   few_partitions = valid.few_partitions;
   one_each = length-map-range_with_len (λ p. if is_in c.assigned p then held_at c p else None) 0 (length c.held) ∙ valid.one_each;
   assigned_below = valid.assigned_below;
-  ordered = ordered_by (λ p. if is_in c.assigned p then held_at c p else None) (length c.held) (λ p lt. kept_ordered (is_in c.assigned p) (held_at c p) (valid.ordered p));
+  ordered = ordered_by (λ p. if is_in c.assigned p then held_at c p else None) (length c.held) (λ p lt. retained_ordered (is_in c.assigned p) (held_at c p) (valid.ordered p));
   out = λ none. ap given_up (valid.out none) ∙ given_up_out c.partitions;
 }

@@ -9,14 +9,14 @@ use Rattle.bit_planes.proofs.RowLaws.{same_rows}
 use Rattle.bit_planes.proofs.Walks.{stands_at}
 use Rattle.coop_rebalance.specs.Private.Final.{HasRowsOf}
 
-pub tells_lack : (r s : SetRows) (m : ℕ) (row : PartitionSet) → row_of s m ≡ Some row → (row_of r m ≡ Some row → ⊥)
+pub lacks_row : (r s : SetRows) (m : ℕ) (row : PartitionSet) → row_of s m ≡ Some row → (row_of r m ≡ Some row → ⊥)
     → IsTrue false ↔ HasRowsOf r s
-tells_lack r s m row there lacks = (λ no. absurd (cc no), λ has. absurd (lacks (has m row there)))
+lacks_row r s m row there lacks = (λ no. absurd (cc no), λ has. absurd (lacks (has m row there)))
 
-pub tells_all : (r s : SetRows)
+pub has_all_rows : (r s : SetRows)
     → ((i : ℕ) (d : ℕ × PartitionSet) → i < length s.rows → row_of r (get_or s.rows i d).0 ≡ Some (get_or s.rows i d).1)
     → IsTrue true ↔ HasRowsOf r s
-tells_all r s all = (
+has_all_rows r s all = (
   λ yes m row there.
       let at = stands_at s.rows m row there in
       let here : ℕ × PartitionSet = get_or s.rows at.0 (m, row) in
@@ -43,9 +43,9 @@ same_found (Some s) b there back = sym (there s refl)
 same_of : (r s : SetRows) → HasRowsOf r s → HasRowsOf s r → HaveSameRows r s
 same_of r s here there m = same_found (row_of r m) (row_of s m) (there m) (here m)
 
-pub tells_equal : (r s : SetRows) (b : Bool) → IsValidRows r → IsValidRows s → r.partitions ≡ s.partitions
+pub equal_iff : (r s : SetRows) (b : Bool) → IsValidRows r → IsValidRows s → r.partitions ≡ s.partitions
     → HasRowsOf r s → IsTrue b ↔ HasRowsOf s r → IsTrue b ↔ (r ≡ s)
-tells_equal r s b valid valid' below here there = (
+equal_iff r s b valid valid' below here there = (
   λ yes. same_rows r s valid valid' below (same_of r s here (there.0 yes)),
   λ same. there.1 (λ m row e. sym (ap (λ x. row_of x m) same) ∙ e),
 )

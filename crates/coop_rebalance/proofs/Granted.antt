@@ -58,15 +58,15 @@ own_or_not (row ∷ rows) p m q rising =
       | false ↦ λ e. omega (arith, own_or_not rows p m q (rising_rest row.0 names rising))
     ] refl
 
-tells_others : (o : ℕ) (x : Bool) → ((nat_lt 0 (o + one x) && not x) || nat_lt 1 (o + one x)) ≡ nat_lt 0 o
-tells_others o true = grind (arith, nat_tests)
-tells_others o false = grind (arith, nat_tests)
+counts_others : (o : ℕ) (x : Bool) → ((nat_lt 0 (o + one x) && not x) || nat_lt 1 (o + one x)) ≡ nat_lt 0 o
+counts_others o true = grind (arith, nat_tests)
+counts_others o false = grind (arith, nat_tests)
 
-pub others_beside : (some several own : PartitionSet) (r : SetRows) (m q : ℕ) → IsValidRows r → AreGrants some several r → find_row r.rows m ≡ Some own → ((is_in some q && not (is_in own q)) || is_in several q) ≡ granted_to_other r.rows m q
-others_beside some several own r m q valid grants found =
+pub others_granted : (some several own : PartitionSet) (r : SetRows) (m q : ℕ) → IsValidRows r → AreGrants some several r → find_row r.rows m ≡ Some own → ((is_in some q && not (is_in own q)) || is_in several q) ≡ granted_to_other r.rows m q
+others_granted some several own r m q valid grants found =
     let own_is : one (is_in (set_or_empty r.partitions (find_row r.rows m)) q) ≡ one (is_in own q) = ap (λ o. one (is_in (set_or_empty r.partitions o) q)) found in
     let times : times_granted r.rows q ≡ times_to_others r.rows m q + one (is_in own q) = own_or_not r.rows r.partitions m q valid.rising ∙ ap (λ n. times_to_others r.rows m q + n) own_is in
-    rw (grants.to_several q, grants.to_some q, times, to_other-counts r.rows m q) (tells_others (times_to_others r.rows m q) (is_in own q))
+    rw (grants.to_several q, grants.to_some q, times, to_other-counts r.rows m q) (counts_others (times_to_others r.rows m q) (is_in own q))
 
 pub others_alone : (some several : PartitionSet) (r : SetRows) (m q : ℕ) → IsValidRows r → AreGrants some several r → find_row r.rows m ≡ None → is_in some q ≡ granted_to_other r.rows m q
 others_alone some several r m q valid grants found =

@@ -58,16 +58,16 @@ off_twice true false = refl
 off_twice false y = refl
 
 withheld_again : (granted : Rows) (row : ℕ × PartitionSet) (others : PartitionSet) → ((q : ℕ) → is_in others q ≡ granted_to_other granted row.0 q) → (row.0, minus (withheld_row granted row).1 others) ≡ withheld_row granted row
-withheld_again granted row others known =
+withheld_again granted row others others_are =
     let w : PartitionSet = (withheld_row granted row).1 in
-    ap (λ s. (row.0, s)) (same_set (minus w others) w (partitions_minus w others) (λ q lt. in_minus w others q ∙ rw (in_withheld_row granted row q, known q) (off_twice (is_in row.1 q) (granted_to_other granted row.0 q))))
+    ap (λ s. (row.0, s)) (same_set (minus w others) w (partitions_minus w others) (λ q lt. in_minus w others q ∙ rw (in_withheld_row granted row q, others_are q) (off_twice (is_in row.1 q) (granted_to_other granted row.0 q))))
 
 after_turns_same : (granted done : Rows) (row : ℕ × PartitionSet) → (after_turns granted done row).0 ≡ row.0
 after_turns_same granted done row = elim (has_row done row.0) as (λ b. (cond b (withheld_row granted row) row).0 ≡ row.0) [ true ↦ refl | false ↦ refl ]
 
 less_after_turns : (granted done : Rows) (m : ℕ) (own others : PartitionSet) (row : ℕ × PartitionSet) → ((q : ℕ) → is_in others q ≡ granted_to_other granted m q)
     → less_row m others (after_turns granted done row) ≡ after_turns granted (done ++ (m, own) ∷ []) row
-less_after_turns granted done m own others row known =
+less_after_turns granted done m own others row others_are =
     let more : has_row (done ++ (m, own) ∷ []) row.0 ≡ (has_row done row.0 || (row.0 == m)) = has_more done (m, own) row.0 ∙ ap (λ b. has_row done row.0 || b) (eq_after_turns m row.0) in
     let t : ℕ × PartitionSet = after_turns granted done row in
     let number : (t.0 == m) ≡ (row.0 == m) = ap (λ n. n == m) (after_turns_same granted done row) in
@@ -75,7 +75,7 @@ less_after_turns granted done m own others row known =
     ∙ (ap (λ n. cond (row.0 == m) (n, minus t.1 others) t) (after_turns_same granted done row)
     ∙ (elim (row.0 == m) as (λ x. (row.0 == m) ≡ x → cond x (row.0, minus t.1 others) t ≡ cond (has_row done row.0 || x) (withheld_row granted row) row) [
       | true ↦ λ e.
-          let here : (q : ℕ) → is_in others q ≡ granted_to_other granted row.0 q = λ q. known q ∙ ap (λ n. granted_to_other granted n q) (sym (eq_says row.0 m e)) in
+          let here : (q : ℕ) → is_in others q ≡ granted_to_other granted row.0 q = λ q. others_are q ∙ ap (λ n. granted_to_other granted n q) (sym (eq_says row.0 m e)) in
           elim (has_row done row.0) as (λ b. (row.0, minus (cond b (withheld_row granted row) row).1 others) ≡ cond (b || true) (withheld_row granted row) row) [
             | true ↦ withheld_again granted row others here
             | false ↦ withheld_set granted row others here
@@ -85,15 +85,15 @@ less_after_turns granted done m own others row known =
 
 all_after_turns : (granted done rows : Rows) (m : ℕ) (own others : PartitionSet) → ((q : ℕ) → is_in others q ≡ granted_to_other granted m q)
     → map (less_row m others) (map (after_turns granted done) rows) ≡ map (after_turns granted (done ++ (m, own) ∷ [])) rows
-all_after_turns granted done [] m own others known = refl
-all_after_turns granted done (row ∷ rows) m own others known =
-    ap (λ r. r ∷ map (less_row m others) (map (after_turns granted done) rows)) (less_after_turns granted done m own others row known)
-    ∙ ap (λ rs. after_turns granted (done ++ (m, own) ∷ []) row ∷ rs) (all_after_turns granted done rows m own others known)
+all_after_turns granted done [] m own others others_are = refl
+all_after_turns granted done (row ∷ rows) m own others others_are =
+    ap (λ r. r ∷ map (less_row m others) (map (after_turns granted done) rows)) (less_after_turns granted done m own others row others_are)
+    ∙ ap (λ rs. after_turns granted (done ++ (m, own) ∷ []) row ∷ rs) (all_after_turns granted done rows m own others others_are)
 
 pub withheld_one : (target granted rows new : SetRows) (done : Rows) (row : ℕ × PartitionSet) (others : PartitionSet) → ((q : ℕ) → is_in others q ≡ granted_to_other granted.rows row.0 q)
     → rows ≡ withheld_of target granted done → new ≡ with_less rows row.0 others → new ≡ withheld_of target granted (done ++ row ∷ [])
-withheld_one target granted rows new done row others known so_far is =
-    is ∙ (ap (λ (r : SetRows). with_less r row.0 others) so_far ∙ ap (λ (rs : Rows). record target { rows = rs }) (all_after_turns granted.rows done target.rows row.0 row.1 others known))
+withheld_one target granted rows new done row others others_are so_far is =
+    is ∙ (ap (λ (r : SetRows). with_less r row.0 others) so_far ∙ ap (λ (rs : Rows). record target { rows = rs }) (all_after_turns granted.rows done target.rows row.0 row.1 others others_are))
 
 none_after_turns : (granted rows : Rows) → rows ≡ map (after_turns granted []) rows
 none_after_turns granted [] = refl

@@ -221,7 +221,7 @@ settles_paired p ms gs len rising some over disjoint =
     let goal : target_rows (record { partitions = p; rows = pair_up ms ws }) ≡ record { partitions = p; rows = pair_up ms us } = target_paired p ms ws n.long rising in
     let none : taken_off (pair_up ms ws) ms us ≡ us = nothing_off ms us ws (length_target p ws ∙ n.long) n.long rising whole ua in
     let settled : Settles (record { partitions = p; rows = pair_up ms ws }) = record {
-      keeps = subst (RowsWithin (record { partitions = p; rows = pair_up ms ws })) (sym goal) (within_paired p ms ws us whole);
+      retained = subst (RowsWithin (record { partitions = p; rows = pair_up ms ws })) (sym goal) (within_paired p ms ws us whole);
       all = next_paired p ms ws n.long rising ∙ ap (λ rows. record { partitions = p; rows = pair_up ms rows }) none ∙ sym goal;
     } in
     subst Settles (sym (next_paired p ms gs len rising)) settled

@@ -26,10 +26,10 @@ in_withheld_row granted row q =
     ]
 
 pub withheld_set : (granted : Rows) (row : ℕ × PartitionSet) (others : PartitionSet) → ((q : ℕ) → is_in others q ≡ granted_to_other granted row.0 q) → (row.0, minus row.1 others) ≡ withheld_row granted row
-withheld_set granted row others known =
+withheld_set granted row others others_are =
     let f : ℕ → Bool = λ n. is_in row.1 n && not (granted_to_other granted row.0 n) in
     let same : minus row.1 others ≡ set_where (partitions_of row.1) f = same_set (minus row.1 others) (set_where (partitions_of row.1) f) (partitions_minus row.1 others ∙ sym (partitions_where (partitions_of row.1) f))
-    (λ q lt. in_minus row.1 others q ∙ ap (λ b. is_in row.1 q && not b) (known q) ∙ sym (in_withheld_row granted row q)) in
+    (λ q lt. in_minus row.1 others q ∙ ap (λ b. is_in row.1 q && not b) (others_are q) ∙ sym (in_withheld_row granted row q)) in
     ap (λ s. (row.0, s)) same
 
 numbers_withheld : (granted rows : Rows) → map (λ row. row.0) (map (withheld_row granted) rows) ≡ map (λ row. row.0) rows
@@ -79,9 +79,9 @@ earlier_below granted items i item rising lt at j few =
 pub withheld_more : (target granted : SetRows) (items : Rows) (i : ℕ) (item : ℕ × PartitionSet) (others : PartitionSet) (rows new : SetRows)
     → IsValidRows target → items ≡ target.rows → i < length items → item ≡ get_or items i item → ((q : ℕ) → is_in others q ≡ granted_to_other granted.rows item.0 q)
     → rows ≡ withheld_first target granted items i → new ≡ with_row rows item.0 (minus item.1 others) → new ≡ withheld_first target granted items (i + 1)
-withheld_more target granted items i item others rows new valid same lt at known so_far put =
+withheld_more target granted items i item others rows new valid same lt at others_are so_far put =
     let w : Rows = map (withheld_row granted.rows) (take i items) in
     let rising : IsRising (map (λ row. row.0) items) = subst (λ (xs : Rows). IsRising (map (λ row. row.0) xs)) (sym same) valid.rising in
-    let last : put_row w item.0 (minus item.1 others) ≡ w ++ withheld_row granted.rows item ∷ [] = put_last w item.0 (minus item.1 others) (earlier_below granted.rows items i item rising lt at) ∙ ap (λ row. w ++ row ∷ []) (withheld_set granted.rows item others known) in
+    let last : put_row w item.0 (minus item.1 others) ≡ w ++ withheld_row granted.rows item ∷ [] = put_last w item.0 (minus item.1 others) (earlier_below granted.rows items i item rising lt at) ∙ ap (λ row. w ++ row ∷ []) (withheld_set granted.rows item others others_are) in
     let more : w ++ withheld_row granted.rows item ∷ [] ≡ map (withheld_row granted.rows) (take (i + 1) items) = sym (map-append (withheld_row granted.rows) (take i items) (item ∷ [])) ∙ ap (λ (xs : Rows). map (withheld_row granted.rows) xs) (sym (items_more items i item lt at)) in
     put ∙ ap (λ (r : SetRows). with_row r item.0 (minus item.1 others)) so_far ∙ ap (λ (xs : Rows). record target { rows = xs }) (last ∙ more)

@@ -17,7 +17,7 @@ RowsWithin rows others = (m : ℕ) → IsTrue (is_within (set_of rows m) (set_of
 
 -- the next round retains all of these rows, and withholds nothing
 pub record Settles (rows : SetRows) : Type 0 where
-  pub keeps : RowsWithin rows (target_rows rows)
+  pub retained : RowsWithin rows (target_rows rows)
   pub all : next_rows rows ≡ target_rows rows
 
 -- the next rows have the same members and partitions, are disjoint, and lie within the target,

@@ -30,9 +30,9 @@ pub in-range : (l : PartitionLogs) (p : ℕ) (counts : List ℕ) → IsValidLogs
 in-range l p counts a h lt x =
     let some = count_by-le-length (λ y. x == y) (log_at l p) in
     elim (cases_lt x (length l.keys)) [
-      | inl known ↦
+      | inl interned ↦
           let most : p * (2 ^ 32 - 1) ≤ 4096 * (2 ^ 32 - 1) = mul-le p (2 ^ 32 - 1) 4096 (2 ^ 32 - 1) (omega (arith, lt, a.few_partitions)) (omega arith) in
-          omega (arith, h.counted x known, most-so-far l p x a, most, some, a.few_records p)
+          omega (arith, h.counted x interned, most-so-far l p x a, most, some, a.few_records p)
       | inr past ↦ omega (arith, get_or_past counts x 0 (omega (arith, h.one_each, past)), some, a.few_records p)
     ]
 

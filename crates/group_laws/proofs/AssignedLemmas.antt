@@ -33,8 +33,8 @@ HasPartitions g = (1 ≤ g.partitions) × (g.partitions ≤ MOST_PARTITIONS)
 pub has_partitions : (g : GroupState) → IsSized g → HasPartitions g
 has_partitions g sized = (sized.some_partitions, sized.few_partitions)
 
-assigned_kept : (g : GroupState) → HasPartitions g → AreConsistentSeats g → IsValidRows (assigned_rows g)
-assigned_kept g has consistent = record {
+assigned_rows_valid : (g : GroupState) → HasPartitions g → AreConsistentSeats g → IsValidRows (assigned_rows g)
+assigned_rows_valid g has consistent = record {
   some = has.0;
   few = has.1;
   rising = rising 1 (rows.members (assigned_rows g)) (subst (RisesFrom 1) (sym (members_assigned g)) (members_rise g));
@@ -50,7 +50,7 @@ assigned_in_granted g consistent m q e = granted_within g.partitions (member_of 
 
 pub assigned_owned : (g : GroupState) → HasPartitions g → AreConsistentSeats g → IsDisjoint g → is_anybody g ≡ true → AreGranted (assigned_rows g)
 assigned_owned g has consistent disjoint any = record {
-  valid = assigned_kept g has consistent;
+  valid = assigned_rows_valid g has consistent;
   some = omega (arith, any_count g.slots any, length_map {B = ℕ × PartitionSet} (λ (m : ℕ × Seat). (m.0, m.1.assigned)) (present g.slots));
   disjoint = rows_disjoint (assigned_rows g) (subst (RisesFrom 1) (sym (members_assigned g)) (members_rise g)) (λ m n q e h.
       disjoint m n q (assigned_in_granted g consistent m q (ap (λ s. is_in s q) (sym (set_assigned g m)) ∙ e)) (assigned_in_granted g consistent n q (ap (λ s. is_in s q) (sym (set_assigned g n)) ∙ h)));
@@ -63,4 +63,4 @@ pub second_all : (r : SetRows) → AreGranted r → next_rows (next_rows r) ≡ 
 second_all r owned = (second r owned).all
 
 pub second_within : (r : SetRows) → AreGranted r → (m : ℕ) → IsTrue (is_within (set_of (next_rows r) m) (set_of (target_rows (next_rows r)) m))
-second_within r owned m = (second r owned).keeps m
+second_within r owned m = (second r owned).retained m

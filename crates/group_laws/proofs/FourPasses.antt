@@ -20,7 +20,7 @@ use Rattle.group_machine.proofs.StepLemmas.{any_of_present, rejoining_consistent
 use Rattle.group_laws.specs.Rounds.{round}
 use Rattle.group_machine.specs.NextSteps.{has_to_rejoin}
 use Rattle.group_laws.specs.Passes.{is_settled_and_synced, synced_if_new, rejoined_if_due, after_turn, after_pass}
-use Rattle.group_laws.proofs.PassLemmas.{present_listed, rejoining_present, new_same, new_valid, new_present, settled_same, settled_not_due, after_pass_keeps, after_pass_valid, after_pass_any}
+use Rattle.group_laws.proofs.PassLemmas.{present_listed, rejoining_present, new_same, new_valid, new_present, settled_same, settled_not_due, after_pass_preserves, after_pass_valid, after_pass_any}
 use Rattle.group_laws.proofs.AssignedLemmas.{has_partitions}
 use Rattle.group_laws.proofs.StepLemmas.{synced_same, settled_synced}
 use Rattle.group_laws.proofs.OtherLemmas.{rejoining_at, rejoining_here, synced_at, sync_marks}
@@ -145,11 +145,11 @@ abbrev EndsOrWaits : GroupState → List ℕ → Type 0
 EndsOrWaits s rest = EndsNext s ⊎ IsWaiting s rest
 
 pub pass_ends : (g : GroupState) → IsValidGroup g → is_anybody g ≡ true → EndsNext (after_pass g)
-pass_ends g valid any = elim (after_pass_keeps EndsOrWaits is_static g valid first) [ inl ends ↦ ends | inr waits ↦ absurd (waits_none (after_pass g) (after_pass_valid g valid) waits) ]
+pass_ends g valid any = elim (after_pass_preserves EndsOrWaits is_preserved g valid first) [ inl ends ↦ ends | inr waits ↦ absurd (waits_none (after_pass g) (after_pass_valid g valid) waits) ]
   where
-    is_static : (s : GroupState) (m : ℕ) (rest : List ℕ) → IsValidGroup s → is_present s m ≡ true → EndsOrWaits s (m ∷ rest) → EndsOrWaits (after_turn s m) rest
-    is_static s m rest v here (inl ends) = inl (after_turn_ends s m v here ends)
-    is_static s m rest v here (inr waits) = after_turn_waits EndsNext s m rest v here waits (rounds_settle s m v here)
+    is_preserved : (s : GroupState) (m : ℕ) (rest : List ℕ) → IsValidGroup s → is_present s m ≡ true → EndsOrWaits s (m ∷ rest) → EndsOrWaits (after_turn s m) rest
+    is_preserved s m rest v here (inl ends) = inl (after_turn_ends s m v here ends)
+    is_preserved s m rest v here (inr waits) = after_turn_waits EndsNext s m rest v here waits (rounds_settle s m v here)
 
     first : EndsOrWaits g (members g)
     first = elim (which_phase g valid any) [ inl phase ↦ inr (waits_all g phase) | inr stable ↦ inl (stable_round g valid stable any) ]
@@ -207,10 +207,10 @@ abbrev HasBegunLast : GroupState → List ℕ → Type 0
 HasBegunLast s rest = EndsNext s × HasBegun s rest
 
 pub pass_begins : (g : GroupState) → IsValidGroup g → is_anybody g ≡ true → EndsNext g → IsLast (after_pass g)
-pass_begins g valid any ends = let last = after_pass_keeps HasBegunLast is_static g valid (ends, first) in elim last.1 [ inl phase ↦ inr (phase, last.0) | inr gives ↦ inl (gives_settled (after_pass g) gives) ]
+pass_begins g valid any ends = let last = after_pass_preserves HasBegunLast is_preserved g valid (ends, first) in elim last.1 [ inl phase ↦ inr (phase, last.0) | inr gives ↦ inl (gives_settled (after_pass g) gives) ]
   where
-    is_static : (s : GroupState) (m : ℕ) (rest : List ℕ) → IsValidGroup s → is_present s m ≡ true → HasBegunLast s (m ∷ rest) → HasBegunLast (after_turn s m) rest
-    is_static s m rest v here h = (after_turn_ends s m v here h.0, after_turn_begun s m rest v h.0 h.1)
+    is_preserved : (s : GroupState) (m : ℕ) (rest : List ℕ) → IsValidGroup s → is_present s m ≡ true → HasBegunLast s (m ∷ rest) → HasBegunLast (after_turn s m) rest
+    is_preserved s m rest v here h = (after_turn_ends s m v here h.0, after_turn_begun s m rest v h.0 h.1)
 
     first : HasBegun g (members g)
     first = elim (which_phase g valid any) [ inl phase ↦ inl phase | inr stable ↦ inr (record { phase = stable; listed = λ n p e. all_listed g n p }) ]
@@ -221,11 +221,11 @@ abbrev SettlesOrWaits : GroupState → List ℕ → Type 0
 SettlesOrWaits s rest = (is_settled s ≡ true) ⊎ (EndsNext s × IsWaiting s rest)
 
 pub pass_settles : (g : GroupState) → IsValidGroup g → IsLast g → is_settled (after_pass g) ≡ true
-pass_settles g valid last = elim (after_pass_keeps SettlesOrWaits is_static g valid (first last)) [ inl settled ↦ settled | inr waits ↦ absurd (waits_none (after_pass g) (after_pass_valid g valid) waits.1) ]
+pass_settles g valid last = elim (after_pass_preserves SettlesOrWaits is_preserved g valid (first last)) [ inl settled ↦ settled | inr waits ↦ absurd (waits_none (after_pass g) (after_pass_valid g valid) waits.1) ]
   where
-    is_static : (s : GroupState) (m : ℕ) (rest : List ℕ) → IsValidGroup s → is_present s m ≡ true → SettlesOrWaits s (m ∷ rest) → SettlesOrWaits (after_turn s m) rest
-    is_static s m rest v here (inl settled) = inl (after_turn_settled s m v settled)
-    is_static s m rest v here (inr h) = elim (after_turn_waits (λ t. is_settled t ≡ true) s m rest v here h.1 h.0) [ inl settled ↦ inl settled | inr waits ↦ inr (after_turn_ends s m v here h.0, waits) ]
+    is_preserved : (s : GroupState) (m : ℕ) (rest : List ℕ) → IsValidGroup s → is_present s m ≡ true → SettlesOrWaits s (m ∷ rest) → SettlesOrWaits (after_turn s m) rest
+    is_preserved s m rest v here (inl settled) = inl (after_turn_settled s m v settled)
+    is_preserved s m rest v here (inr h) = elim (after_turn_waits (λ t. is_settled t ≡ true) s m rest v here h.1 h.0) [ inl settled ↦ inl settled | inr waits ↦ inr (after_turn_ends s m v here h.0, waits) ]
 
     first : IsLast g → SettlesOrWaits g (members g)
     first (inl settled) = inl settled
@@ -283,10 +283,10 @@ abbrev IsSettledBut : GroupState → List ℕ → Type 0
 IsSettledBut s rest = (is_settled s ≡ true) × AreUnsynced s rest
 
 pub pass_sync : (g : GroupState) → IsValidGroup g → is_settled g ≡ true → is_settled_and_synced (after_pass g) ≡ true
-pass_sync g valid settled = let last = after_pass_keeps IsSettledBut is_static g valid (settled, λ n p e. all_listed g n p) in rw last.0 (all_synced (after_pass g) last.1)
+pass_sync g valid settled = let last = after_pass_preserves IsSettledBut is_preserved g valid (settled, λ n p e. all_listed g n p) in rw last.0 (all_synced (after_pass g) last.1)
   where
-    is_static : (s : GroupState) (m : ℕ) (rest : List ℕ) → IsValidGroup s → is_present s m ≡ true → IsSettledBut s (m ∷ rest) → IsSettledBut (after_turn s m) rest
-    is_static s m rest v here h = (after_turn_settled s m v h.0, after_turn_unsynced s m rest v here h.0 h.1)
+    is_preserved : (s : GroupState) (m : ℕ) (rest : List ℕ) → IsValidGroup s → is_present s m ≡ true → IsSettledBut s (m ∷ rest) → IsSettledBut (after_turn s m) rest
+    is_preserved s m rest v here h = (after_turn_settled s m v h.0, after_turn_unsynced s m rest v here h.0 h.1)
 
 -- ---- all four
 pub four_passes : (g : GroupState) → IsValidGroup g → is_anybody g ≡ true → is_settled_and_synced (after_pass (after_pass (after_pass (after_pass g)))) ≡ true

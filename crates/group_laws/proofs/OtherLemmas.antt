@@ -17,7 +17,7 @@ use Rattle.group_machine.specs.Valid.{IsConsistentSeat, IsValidGroup}
 use Rattle.group_machine.specs.Private.Changes.{IsChanged}
 use Rattle.group_machine.proofs.SlotsLemmas.{same_id, other_id, seat_each, seat_without, one_is_each, at_only}
 use Rattle.group_machine.proofs.Rows.{set_over}
-use Rattle.group_machine.proofs.Below.{next_kept, next_below}
+use Rattle.group_machine.proofs.Below.{next_rows_valid, next_below}
 use Rattle.group_machine.proofs.GroupLemmas.{granted_owned}
 use Rattle.group_machine.proofs.StepLemmas.{joining_changed, rejoining_changed, leaving_changed}
 use Rattle.group_machine.proofs.PresentLemmas.{some_on}
@@ -39,7 +39,7 @@ completion_leaves g c ready n =
     let any : is_anybody g ≡ true = (both_true (is_anybody g) (all_joined g) ready).0 in
     let next : SetRows = next_rows (granted_rows g) in
     let owned : AreGranted (granted_rows g) = granted_owned g c.sized c.consistent c.disjoint any in
-    let over : partitions_of (set_of next n) ≡ g.partitions = set_over next n (next_kept (granted_rows g) owned) ∙ next_below (granted_rows g) owned in
+    let over : partitions_of (set_of next n) ≡ g.partitions = set_over next n (next_rows_valid (granted_rows g) owned) ∙ next_below (granted_rows g) owned in
     let at : member_of (complete g) n ≡ option_map (completed_seat next n) (member_of g n) = seat_each (completed_seat next) g.slots n in
     let flags = no_flags next n (member_of g n) in
     record {
@@ -151,8 +151,8 @@ rejoined_either g new member x was is (inl b) = inl (record {
 })
 rejoined_either g new member x was is (inr b) = inr (record { generation = b.generation; joined = b.joined; synced = b.synced })
 
-pub rejoin_keeps : (g : GroupState) (member generation : ℕ) (claim : PartitionSet) → IsValidGroup g → rejoin_answer g member generation claim ≡ Ok tt → LeavesRejoined g (rejoined_by g member) member
-rejoin_keeps g member generation claim valid ok =
+pub rejoin_leaves_rejoined : (g : GroupState) (member generation : ℕ) (claim : PartitionSet) → IsValidGroup g → rejoin_answer g member generation claim ≡ Ok tt → LeavesRejoined g (rejoined_by g member) member
+rejoin_leaves_rejoined g member generation claim valid ok =
     let a = accepted g member generation claim ok in
     let here : member_of (rejoining g member) member ≡ Some (rejoined_seat a.0) = rejoining_here g member ∙ ap (option_map rejoined_seat) a.1 in
     let l = completed_leaves (rejoining g member) (rejoining_changed g member valid (ap is_some a.1)) member in

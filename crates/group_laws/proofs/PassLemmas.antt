@@ -168,21 +168,21 @@ pub after_pass_any : (g : GroupState) → is_anybody (after_pass g) ≡ is_anybo
 after_pass_any g = after_pass_same is_anybody after_turn_any g
 
 -- what each turn keeps, by the members that are left, a pass keeps
-abbrev pub IsKept : (GroupState → List ℕ → Type 0) → Type 0
-IsKept holds = (g : GroupState) (member : ℕ) (rest : List ℕ) → IsValidGroup g → is_present g member ≡ true → holds g (member ∷ rest) → holds (after_turn g member) rest
+abbrev pub IsPreserved : (GroupState → List ℕ → Type 0) → Type 0
+IsPreserved holds = (g : GroupState) (member : ℕ) (rest : List ℕ) → IsValidGroup g → is_present g member ≡ true → holds g (member ∷ rest) → holds (after_turn g member) rest
 
-each_keeps : (holds : GroupState → List ℕ → Type 0) → IsKept holds → (g : GroupState) (ms : List ℕ) → IsValidGroup g → ArePresent g ms → holds g ms → holds (after_turns g ms) []
-each_keeps holds is_static g [] valid here first = first
-each_keeps holds is_static g (m ∷ ms) valid here first =
+each_preserves : (holds : GroupState → List ℕ → Type 0) → IsPreserved holds → (g : GroupState) (ms : List ℕ) → IsValidGroup g → ArePresent g ms → holds g ms → holds (after_turns g ms) []
+each_preserves holds is_preserved g [] valid here first = first
+each_preserves holds is_preserved g (m ∷ ms) valid here first =
     let at : is_present g m ≡ true = here m (inl refl) in
-    each_keeps holds is_static (after_turn g m) ms (after_turn_valid g m valid at) (present_behind g m ms here) (is_static g m ms valid at first)
+    each_preserves holds is_preserved (after_turn g m) ms (after_turn_valid g m valid at) (present_behind g m ms here) (is_preserved g m ms valid at first)
 
-pub after_pass_keeps : (holds : GroupState → List ℕ → Type 0) → IsKept holds → (g : GroupState) → IsValidGroup g → holds g (members g) → holds (after_pass g) []
+pub after_pass_preserves : (holds : GroupState → List ℕ → Type 0) → IsPreserved holds → (g : GroupState) → IsValidGroup g → holds g (members g) → holds (after_pass g) []
 unfolding after_pass
-after_pass_keeps holds is_static g valid first = each_keeps holds is_static g (members g) valid (members_present g) first
+after_pass_preserves holds is_preserved g valid first = each_preserves holds is_preserved g (members g) valid (members_present g) first
 
 pub after_pass_valid : (g : GroupState) → IsValidGroup g → IsValidGroup (after_pass g)
-after_pass_valid g valid = after_pass_keeps (λ s rest. IsValidGroup s) (λ s m rest v here held. after_turn_valid s m v here) g valid valid
+after_pass_valid g valid = after_pass_preserves (λ s rest. IsValidGroup s) (λ s m rest v here held. after_turn_valid s m v here) g valid valid
 
 pub after_pass_result : (g : GroupState) → IsValidGroup g → rebalance_result (after_pass g) ≡ rebalance_result g
-after_pass_result g valid = after_pass_keeps (λ s rest. rebalance_result s ≡ rebalance_result g) (λ s m rest v here same. after_turn_result s m v here ∙ same) g valid refl
+after_pass_result g valid = after_pass_preserves (λ s rest. rebalance_result s ≡ rebalance_result g) (λ s m rest v here same. after_turn_result s m v here ∙ same) g valid refl

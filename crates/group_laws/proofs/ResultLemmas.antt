@@ -25,7 +25,7 @@ use Rattle.group_machine.specs.Valid.{IsDisjoint, AreConsistentSeats, IsValidGro
 use Rattle.group_machine.proofs.SlotsLemmas.{seat_each, one_is_each, at_only}
 use Rattle.group_machine.proofs.PresentLemmas.{present_each, numbers_each, any_each, any_of, all_of, all_says}
 use Rattle.group_machine.proofs.Rows.{set_over}
-use Rattle.group_machine.proofs.Below.{next_kept, next_below, next_members, target_kept, target_below}
+use Rattle.group_machine.proofs.Below.{next_rows_valid, next_below, next_members, target_rows_valid, target_below}
 use Rattle.group_machine.proofs.CompletionLemmas.{seat_behind}
 use Rattle.group_machine.proofs.StepLemmas.{with_slots, only_same, any_rejoining, rejoining_consistent, rejoining_disjoint}
 use Rattle.group_laws.specs.Rounds.{assigned_rows, seat_without_flags, without_flags, revoked_seat, after_revocation, round, rebalance_result}
@@ -75,7 +75,7 @@ round_assigned g owned same =
     ∙ number_map (set_of w) (present slots)
     ∙ ap (λ ms. sets_by (set_of w) ms) (numbers_each (λ m. revoked_seat) g.slots ∙ sym same ∙ sym (next_members (assigned_rows g) owned)))
     ∙ ap (λ p. record { partitions = p; rows = sets_by (set_of w) (rows.members w) }) (sym (next_below (assigned_rows g) owned))
-    ∙ sym (rows_by_members w (next_kept (assigned_rows g) owned))
+    ∙ sym (rows_by_members w (next_rows_valid (assigned_rows g) owned))
 
 -- ---- after two rounds a group is settled
 implies_or : (a b : Bool) → (a ≡ true → b ≡ true) → (a || b) ≡ b
@@ -96,11 +96,11 @@ two_rounds g has any consistent disjoint =
     let w : SetRows = next_rows (assigned_rows g) in
     let one : assigned_rows (round g) ≡ w = round_assigned g owned (members_assigned g) in
     let all : next_rows w ≡ target_rows w = second_all (assigned_rows g) owned in
-    let valid : IsValidRows w = next_kept (assigned_rows g) owned in
+    let valid : IsValidRows w = next_rows_valid (assigned_rows g) owned in
     let t : SetRows = target_rows w in
     let now : next_rows (granted_rows (after_revocation (round g))) ≡ t = ap next_rows (granted_after_revocation (round g) ∙ one) ∙ all in
     let first : next_rows (granted_rows (after_revocation g)) ≡ w = ap next_rows (granted_after_revocation g) in
-    let over : (m : ℕ) → partitions_of (set_of w m) ≡ partitions_of (set_of t m) = λ m. set_over w m valid ∙ sym (set_over t m (target_kept w valid) ∙ target_below w) in
+    let over : (m : ℕ) → partitions_of (set_of w m) ≡ partitions_of (set_of t m) = λ m. set_over w m valid ∙ sym (set_over t m (target_rows_valid w valid) ∙ target_below w) in
     let settled_by : (n : SetRows) → next_rows (granted_rows (after_revocation (round g))) ≡ n → n ≡ t → (m : ℕ) (x : Seat) → seat_of (each_changed (completed_seat n) (after_revocation (round g)).slots) m ≡ Some x → agrees x ≡ true = λ n is_n is_t m x is.
     let b = seat_behind (completed_seat n m) (seat_of (after_revocation (round g)).slots m) x (sym (seat_each (completed_seat n) (after_revocation (round g)).slots m) ∙ is) in
     let c = seat_behind revoked_seat (seat_of (round g).slots m) b.0 (sym (seat_each (λ k. revoked_seat) (round g).slots m) ∙ b.1) in

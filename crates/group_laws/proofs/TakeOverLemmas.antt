@@ -19,7 +19,7 @@ use Rattle.group_machine.specs.Steps.{join_answer, joined_by, static_seat, made_
 use Rattle.group_machine.specs.Valid.{IsValidGroup}
 use Rattle.group_machine.proofs.SlotsLemmas.{slot_with, seat_each, at_only, one_is_each, same_id}
 use Rattle.group_machine.proofs.PresentLemmas.{length_reseated}
-use Rattle.group_machine.proofs.StepLemmas.{flag_same, keep_valid}
+use Rattle.group_machine.proofs.StepLemmas.{flag_same, static_valid}
 use Rattle.group_machine.proofs.JoinLemmas.{accepted_join}
 use Rattle.group_machine.proofs.SeatMoves.{handed_new, handed_gone, handed_other, handed_has, handed_settled, handed_valid}
 use Rattle.group_machine.proofs.TakeOverLemmas.{keeper, keeper_present}
@@ -113,13 +113,13 @@ position_same p m f same (s ∷ slots) =
     ap (λ b. cond (not b) (1 + position_or_len p (reseated_from (suc m) f slots)) 0) (same m s)
     ∙ ap (λ k. cond (not (p s)) (1 + k) 0) (position_same p (suc m) f same slots)
 
-kept_on : (o : Option Seat) → seat_is_static (option_map seat_without_flags o) ≡ seat_is_static o
-kept_on None = refl
-kept_on (Some x) = refl
+static_on : (o : Option Seat) → seat_is_static (option_map seat_without_flags o) ≡ seat_is_static o
+static_on None = refl
+static_on (Some x) = refl
 
-kept_without_flags : (g : GroupState) (name : List ℕ) → static_member (without_flags g) name ≡ static_member g name
-kept_without_flags g name =
-    let at : position_or_len (is_static_as name) (without_flags g).slots ≡ position_or_len (is_static_as name) g.slots = position_same (is_static_as name) 1 (λ m. option_map seat_without_flags) (λ n s. ap (λ b. bytes_eq s.name name && b) (kept_on s.seat)) g.slots in
+static_without_flags : (g : GroupState) (name : List ℕ) → static_member (without_flags g) name ≡ static_member g name
+static_without_flags g name =
+    let at : position_or_len (is_static_as name) (without_flags g).slots ≡ position_or_len (is_static_as name) g.slots = position_same (is_static_as name) 1 (λ m. option_map seat_without_flags) (λ n s. ap (λ b. bytes_eq s.name name && b) (static_on s.seat)) g.slots in
     ap (λ o. option_map (λ k. k + 1) o)
     (ap (λ k. cond (nat_lt k (length (without_flags g).slots)) (Some k) None) at
     ∙ ap (λ n. cond (nat_lt (position_or_len (is_static_as name) g.slots) n) (Some (position_or_len (is_static_as name) g.slots)) None) (length_reseated (λ m. option_map seat_without_flags) g.slots))
@@ -146,7 +146,7 @@ without_flags_handed g name m =
     ∙ ap (λ s. record g { slots = (handing_on (without_flags g) name m).slots; last = held_by (length (without_flags g).slots + 1) s g.last }) granted
 
 pub taken_without_flags : (g : GroupState) (name : List ℕ) → without_flags (taken_over_by g name) ≡ taken_over_by (without_flags g) name
-taken_without_flags g name = go (static_member g name) ∙ ap (λ o. option_map_or (handing_on (without_flags g) name) o (without_flags g)) (sym (kept_without_flags g name))
+taken_without_flags g name = go (static_member g name) ∙ ap (λ o. option_map_or (handing_on (without_flags g) name) o (without_flags g)) (sym (static_without_flags g name))
   where
     go : (o : Option ℕ) → without_flags (option_map_or (handing_on g name) o g) ≡ option_map_or (handing_on (without_flags g) name) o (without_flags g)
     go None = refl
@@ -167,63 +167,63 @@ taken_end g name settled =
     ∙ ap (λ h. taken_over_by h name) (sym (settled_end g settled))
 
 -- ---- a join of a static member
-keep_same : {X : Type 0} (h : Option Seat → X) → ((x : Seat) → h (Some (static_seat x)) ≡ h (Some x)) → (g : GroupState) (member m : ℕ) → h (member_of (made_static g member) m) ≡ h (member_of g m)
-keep_same h same g member m = flag_same static_seat h same g member m
+static_same : {X : Type 0} (h : Option Seat → X) → ((x : Seat) → h (Some (static_seat x)) ≡ h (Some x)) → (g : GroupState) (member m : ℕ) → h (member_of (made_static g member) m) ≡ h (member_of g m)
+static_same h same g member m = flag_same static_seat h same g member m
 
-keep_either : (old g : GroupState) (member n : ℕ) → (IsAsBefore old g n) ⊎ (IsInNextGeneration old g n) → (IsAsBefore old (made_static g member) n) ⊎ (IsInNextGeneration old (made_static g member) n)
-keep_either old g member n (inl b) = inl (record {
+static_either : (old g : GroupState) (member n : ℕ) → (IsAsBefore old g n) ⊎ (IsInNextGeneration old g n) → (IsAsBefore old (made_static g member) n) ⊎ (IsInNextGeneration old (made_static g member) n)
+static_either old g member n (inl b) = inl (record {
   generation = b.generation;
-  joined = keep_same seat_joined (λ x. refl) g member n ∙ b.joined;
-  synced = keep_same seat_synced (λ x. refl) g member n ∙ b.synced;
-  granted = keep_same (seat_granted g.partitions) (λ x. refl) g member n ∙ b.granted;
-  assigned = keep_same (seat_assigned g.partitions) (λ x. refl) g member n ∙ b.assigned;
+  joined = static_same seat_joined (λ x. refl) g member n ∙ b.joined;
+  synced = static_same seat_synced (λ x. refl) g member n ∙ b.synced;
+  granted = static_same (seat_granted g.partitions) (λ x. refl) g member n ∙ b.granted;
+  assigned = static_same (seat_assigned g.partitions) (λ x. refl) g member n ∙ b.assigned;
 })
-keep_either old g member n (inr b) = inr (record {
+static_either old g member n (inr b) = inr (record {
   generation = b.generation;
-  joined = keep_same seat_joined (λ x. refl) g member n ∙ b.joined;
-  synced = keep_same seat_synced (λ x. refl) g member n ∙ b.synced;
+  joined = static_same seat_joined (λ x. refl) g member n ∙ b.joined;
+  synced = static_same seat_synced (λ x. refl) g member n ∙ b.synced;
 })
 
-keep_leaves : (old g : GroupState) (member n : ℕ) → LeavesMember old g n → LeavesMember old (made_static g member) n
-keep_leaves old g member n l = record {
-  present = keep_same is_some (λ x. refl) g member n ∙ l.present;
-  granted = λ q e. ap (λ s. is_in s q) (keep_same (seat_granted g.partitions) (λ x. refl) g member n) ∙ l.granted q e;
-  either = keep_either old g member n l.either;
+static_leaves : (old g : GroupState) (member n : ℕ) → LeavesMember old g n → LeavesMember old (made_static g member) n
+static_leaves old g member n l = record {
+  present = static_same is_some (λ x. refl) g member n ∙ l.present;
+  granted = λ q e. ap (λ s. is_in s q) (static_same (seat_granted g.partitions) (λ x. refl) g member n) ∙ l.granted q e;
+  either = static_either old g member n l.either;
 }
 
-pub kept_join_leaves : (g : GroupState) (name : List ℕ) (n : ℕ) → IsValidGroup g → join_answer g name ≡ Ok n → LeavesOthers g (joined_static_by g name) n
-kept_join_leaves g name n valid ok =
+pub static_join_leaves : (g : GroupState) (name : List ℕ) (n : ℕ) → IsValidGroup g → join_answer g name ≡ Ok n → LeavesOthers g (joined_static_by g name) n
+static_join_leaves g name n valid ok =
     let l = join_leaves g name n valid ok in
     record {
       partitions = l.partitions;
       rises = l.rises;
-      others = λ k ne. keep_leaves g (joined_by g name) (length g.slots + 1) k (l.others k ne);
+      others = λ k ne. static_leaves g (joined_by g name) (length g.slots + 1) k (l.others k ne);
     }
 
-pub kept_join_brings : (g : GroupState) (name : List ℕ) (n : ℕ) → IsValidGroup g → join_answer g name ≡ Ok n → IsNewcomer g (joined_static_by g name) n
-kept_join_brings g name n valid ok =
+pub static_join_brings : (g : GroupState) (name : List ℕ) (n : ℕ) → IsValidGroup g → join_answer g name ≡ Ok n → IsNewcomer g (joined_static_by g name) n
+static_join_brings g name n valid ok =
     let b = join_brings g name n valid ok in
     record {
       new_number = b.new_number;
-      present = keep_same is_some (λ x. refl) (joined_by g name) (length g.slots + 1) n ∙ b.present;
-      unsynced = keep_same seat_synced (λ x. refl) (joined_by g name) (length g.slots + 1) n ∙ b.unsynced;
+      present = static_same is_some (λ x. refl) (joined_by g name) (length g.slots + 1) n ∙ b.present;
+      unsynced = static_same seat_synced (λ x. refl) (joined_by g name) (length g.slots + 1) n ∙ b.unsynced;
     }
 
-keeps_it : (o : Option Seat) → is_some o ≡ true → seat_is_static (option_map static_seat o) ≡ true
-keeps_it None e = absurd (false≢true e)
-keeps_it (Some x) e = refl
+static_seat_is_static : (o : Option Seat) → is_some o ≡ true → seat_is_static (option_map static_seat o) ≡ true
+static_seat_is_static None e = absurd (false≢true e)
+static_seat_is_static (Some x) e = refl
 
-kept_here : (g : GroupState) (member : ℕ) → is_present g member ≡ true → is_kept (made_static g member) member ≡ true
-kept_here g member here =
+static_here : (g : GroupState) (member : ℕ) → is_present g member ≡ true → is_kept (made_static g member) member ≡ true
+static_here g member here =
     ap (λ slots. seat_is_static (seat_of slots member)) (one_is_each static_seat g.slots member)
     ∙ ap seat_is_static (seat_each (at_only member static_seat) g.slots member)
     ∙ ap (λ (b : Bool). seat_is_static (option_map (λ x. cond b (static_seat x) x) (member_of g member))) (same_id member)
-    ∙ keeps_it (member_of g member) here
+    ∙ static_seat_is_static (member_of g member) here
 
-pub kept_join_keeps : (g : GroupState) (name : List ℕ) (n : ℕ) → IsValidGroup g → join_answer g name ≡ Ok n → is_kept (joined_static_by g name) n ≡ true
-kept_join_keeps g name n valid ok =
+pub static_join_is_static : (g : GroupState) (name : List ℕ) (n : ℕ) → IsValidGroup g → join_answer g name ≡ Ok n → is_kept (joined_static_by g name) n ≡ true
+static_join_is_static g name n valid ok =
     let number = (accepted_join g name n ok).1 in
-    ap (λ k. is_kept (made_static (joined_by g name) k) n) (sym number) ∙ kept_here (joined_by g name) n (join_brings g name n valid ok).present
+    ap (λ k. is_kept (made_static (joined_by g name) k) n) (sym number) ∙ static_here (joined_by g name) n (join_brings g name n valid ok).present
 
-pub kept_join_valid : (g : GroupState) (name : List ℕ) → IsValidGroup g → length g.slots < MOST_MEMBERS → IsValidGroup (joined_static_by g name)
-kept_join_valid g name valid capacity = keep_valid (joined_by g name) (length g.slots + 1) (join_valid g name valid capacity)
+pub static_join_valid : (g : GroupState) (name : List ℕ) → IsValidGroup g → length g.slots < MOST_MEMBERS → IsValidGroup (joined_static_by g name)
+static_join_valid g name valid capacity = static_valid (joined_by g name) (length g.slots + 1) (join_valid g name valid capacity)

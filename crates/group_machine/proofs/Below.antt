@@ -18,8 +18,8 @@ use Rattle.group_machine.proofs.Rows.{disjoint_says, balanced_disjoint, member_l
 pub target_members : (r : SetRows) → members (target_rows r) ≡ members r
 target_members r = members_assigned r.partitions (members r) r
 
-pub target_kept : (r : SetRows) → IsValidRows r → IsValidRows (target_rows r)
-target_kept r valid = assigned_retained (members r) r valid valid.rising
+pub target_rows_valid : (r : SetRows) → IsValidRows r → IsValidRows (target_rows r)
+target_rows_valid r valid = assigned_retained (members r) r valid valid.rising
 
 pub target_below : (r : SetRows) → (target_rows r).partitions ≡ r.partitions
 target_below r = below_assigned r.partitions (members r) r
@@ -36,8 +36,8 @@ next_members r owned = (next_lies r owned).same_members
 pub next_below : (r : SetRows) → AreGranted r → (next_rows r).partitions ≡ r.partitions
 next_below r owned = (next_lies r owned).below
 
-pub next_kept : (r : SetRows) → AreGranted r → IsValidRows (next_rows r)
-next_kept r owned = (next_lies r owned).valid
+pub next_rows_valid : (r : SetRows) → AreGranted r → IsValidRows (next_rows r)
+next_rows_valid r owned = (next_lies r owned).valid
 
 pub next_in : (r : SetRows) (m q : ℕ) → is_in (set_of (next_rows r) m) q ≡ (is_in (set_of (target_rows r) m) q && not (granted_to_other r.rows m q))
 next_in r m q = set_withheld (target_rows r) r m q
@@ -106,7 +106,7 @@ pub target_disjoint : (r : SetRows) → AreGranted r → (m n q : ℕ) → is_in
 target_disjoint r owned m n q e h =
     let ms = members (target_rows r) in
     let same : ms ≡ members r = target_members r in
-    let below : AreBelow r.partitions (sets_of (target_rows r) (members r)) = subst (λ (p : ℕ). AreBelow p (sets_of (target_rows r) (members r))) (target_below r) (sets_below (target_rows r) (members r) (target_kept r owned.valid)) in
+    let below : AreBelow r.partitions (sets_of (target_rows r) (members r)) = subst (λ (p : ℕ). AreBelow p (sets_of (target_rows r) (members r))) (target_below r) (sets_below (target_rows r) (members r) (target_rows_valid r owned.valid)) in
     disjoint_says (set_of (target_rows r)) (members r) (balanced_disjoint r.partitions (sets_of (target_rows r) (members r)) below (target_balanced r owned)) m n q (subst (Listed m) same (member_listed (target_rows r) m q e)) (subst (Listed n) same (member_listed (target_rows r) n q h)) e h
 
 pub next_disjoint : (r : SetRows) → AreGranted r → (m n q : ℕ) → is_in (set_of (next_rows r) m) q ≡ true → is_in (set_of (next_rows r) n) q ≡ true → m ≡ n
@@ -114,7 +114,7 @@ next_disjoint r owned m n q e h = target_disjoint r owned m n q (next_in_target 
 
 pub next_is_target : (r : SetRows) → AreGranted r → ((m q : ℕ) → is_in (set_of r m) q ≡ true → is_in (set_of (next_rows r) m) q ≡ true) → (m : ℕ) → set_of (next_rows r) m ≡ set_of (target_rows r) m
 next_is_target r owned stays m =
-    same_set (set_of (next_rows r) m) (set_of (target_rows r) m) (set_over (next_rows r) m (next_kept r owned) ∙ next_below r owned ∙ sym (set_over (target_rows r) m (target_kept r owned.valid) ∙ target_below r)) (λ q lt.
+    same_set (set_of (next_rows r) m) (set_of (target_rows r) m) (set_over (next_rows r) m (next_rows_valid r owned) ∙ next_below r owned ∙ sym (set_over (target_rows r) m (target_rows_valid r owned.valid) ∙ target_below r)) (λ q lt.
     next_in r m q ∙ go q (is_in (set_of (target_rows r) m) q) refl (granted_to_other r.rows m q) refl)
   where
     go : (q : ℕ) (t : Bool) → is_in (set_of (target_rows r) m) q ≡ t → (o : Bool) → granted_to_other r.rows m q ≡ o → (is_in (set_of (target_rows r) m) q && not (granted_to_other r.rows m q)) ≡ is_in (set_of (target_rows r) m) q

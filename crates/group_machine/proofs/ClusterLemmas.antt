@@ -63,15 +63,15 @@ append-valid s at key c goes logs = record {
   a_counter_each = counters-at (is_interned s.logs.keys key) s.logs key s.store refl c.a_counter_each;
 }
 
-known-at : (b : Bool) (l : PartitionLogs) (key : Key) → length (if b then l.keys else l.keys ++ key ∷ []) ≤ length l.keys → b ≡ true
-known-at true l key few = refl
-known-at false l key few = absurd (omega (arith, length-append l.keys (key ∷ []), few))
+interned-at : (b : Bool) (l : PartitionLogs) (key : Key) → length (if b then l.keys else l.keys ++ key ∷ []) ≤ length l.keys → b ≡ true
+interned-at true l key few = refl
+interned-at false l key few = absurd (omega (arith, length-append l.keys (key ∷ []), few))
 
-pub known-appended : (s : ClusterState) (at : ℕ) (key : Key) (logs : PartitionLogs) (store : Commits) → logs ≡ with_record_at s.logs at key → store ≡ s.store → length (with_key s.logs.keys key) ≤ length s.logs.keys
+pub interned-appended : (s : ClusterState) (at : ℕ) (key : Key) (logs : PartitionLogs) (store : Commits) → logs ≡ with_record_at s.logs at key → store ≡ s.store → length (with_key s.logs.keys key) ≤ length s.logs.keys
     → ◌≡◌ {A = ClusterState} (record { group = s.group; logs = logs; store = store }) (appended_at s at key)
-known-appended s at key logs store ls ss few =
-    let known : is_interned s.logs.keys key ≡ true = known-at (is_interned s.logs.keys key) s.logs key few in
-    rw (ls, ss, known) refl
+interned-appended s at key logs store ls ss few =
+    let interned : is_interned s.logs.keys key ≡ true = interned-at (is_interned s.logs.keys key) s.logs key few in
+    rw (ls, ss, interned) refl
 
 passes : (present current granted : Bool)
     → ◌≡◌ {A = Result (Unit {0}) Refusal} (if not present then Err r.UnknownMember else if not current then Err r.StaleGeneration else if not granted then Err r.NotOwner else Ok tt) (Ok tt)

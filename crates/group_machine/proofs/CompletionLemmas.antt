@@ -19,7 +19,7 @@ use Rattle.group_machine.specs.Private.Changes.{IsChanged}
 use Rattle.group_machine.proofs.SlotsLemmas.{seat_each}
 use Rattle.group_machine.proofs.PresentLemmas.{Listed, listed_present, numbers_each, length_reseated, any_each, all_says, some_not}
 use Rattle.group_machine.proofs.Rows.{map_same, member_listed, set_over}
-use Rattle.group_machine.proofs.Below.{target_kept, target_below, target_balanced, next_members, next_kept, next_below, next_in_target, next_not_other, next_disjoint, next_is_target, or_second, or_either}
+use Rattle.group_machine.proofs.Below.{target_rows_valid, target_below, target_balanced, next_members, next_rows_valid, next_below, next_in_target, next_not_other, next_disjoint, next_is_target, or_second, or_either}
 use Rattle.group_machine.proofs.GroupLemmas.{members_granted, set_granted, granted_owned, granted_over}
 use Rattle.group_machine.proofs.TakerLemmas.{held_after}
 
@@ -116,7 +116,7 @@ complete_valid g n e =
     let r : SetRows = granted_rows g in
     let next : SetRows = next_rows r in
     let owned : AreGranted r = granted_owned g n.sized n.consistent n.disjoint any in
-    let valid : IsValidRows next = next_kept r owned in
+    let valid : IsValidRows next = next_rows_valid r owned in
     let over : (m : ℕ) → partitions_of (set_of next m) ≡ p = λ m. set_over next m valid ∙ next_below r owned in
     let at : (m : ℕ) → member_of (complete g) m ≡ option_map (completed_seat next m) (member_of g m) = λ m. seat_each (completed_seat next) g.slots m in
     let same : members (complete g) ≡ members g = numbers_each (completed_seat next) g.slots in
@@ -165,7 +165,7 @@ complete_valid g n e =
       within_balanced = λ s. (
         set_of (target_rows r),
         record {
-          below = λ m. set_over (target_rows r) m (target_kept r owned.valid) ∙ target_below r;
+          below = λ m. set_over (target_rows r) m (target_rows_valid r owned.valid) ∙ target_below r;
           balanced = subst (λ (ms : List ℕ). IsBalanced p (map (set_of (target_rows r)) ms)) (sym same) target;
           within = λ m. ap (λ o. is_within (seat_assigned p o) (set_of (target_rows r) m)) (at m) ∙ assigned_within p next (set_of (target_rows r) m) m (member_of g m) (next_in_target r m);
         },

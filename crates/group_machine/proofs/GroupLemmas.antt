@@ -40,8 +40,8 @@ pub over_from : (p : ℕ) (h : Seat → PartitionSet) (m : ℕ) (slots : List Sl
 over_from p h m [] each = tt
 over_from p h m (s ∷ slots) each = over_and p h m s.seat (present_from (suc m) slots) (λ x is. each 0 x is) (over_from p h (suc m) slots (λ k x is. each (suc k) x is))
 
-pub granted_kept : (g : GroupState) → IsSized g → AreConsistentSeats g → IsValidRows (granted_rows g)
-granted_kept g sized consistent = record {
+pub granted_rows_valid : (g : GroupState) → IsSized g → AreConsistentSeats g → IsValidRows (granted_rows g)
+granted_rows_valid g sized consistent = record {
   some = sized.some_partitions;
   few = sized.few_partitions;
   rising = rising 1 (rows.members (granted_rows g)) (subst (RisesFrom 1) (sym (members_granted g)) (members_rise g));
@@ -57,7 +57,7 @@ rows_disjoint r up alone = disjoint_of (set_of r) 1 (rows.members r) up alone
 
 pub granted_owned : (g : GroupState) → IsSized g → AreConsistentSeats g → IsDisjoint g → is_anybody g ≡ true → AreGranted (granted_rows g)
 granted_owned g sized consistent disjoint any = record {
-  valid = granted_kept g sized consistent;
+  valid = granted_rows_valid g sized consistent;
   some = omega (arith, any_count g.slots any, length_map {B = ℕ × PartitionSet} (λ (m : ℕ × Seat). (m.0, m.1.granted)) (present g.slots));
   disjoint = rows_disjoint (granted_rows g) (subst (RisesFrom 1) (sym (members_granted g)) (members_rise g)) (λ m n q e h.
       disjoint m n q (ap (λ s. is_in s q) (sym (set_granted g m)) ∙ e) (ap (λ s. is_in s q) (sym (set_granted g n)) ∙ h));

@@ -184,12 +184,12 @@ listed_present slots member at =
     let is : member ≡ suc r.0 = omega (arith, r.1) in
     (r.2, ap (λ n. seat_of slots n) is ∙ r.3)
 
-numbers_kept : (f : ℕ → Seat → Seat) (xs : List (ℕ × Seat)) → map {A = ℕ × Seat} (λ r. r.0) (map (λ r. (r.0, f r.0 r.1)) xs) ≡ map (λ r. r.0) xs
-numbers_kept f [] = refl
-numbers_kept f (x ∷ xs) = ap (λ r. x.0 ∷ r) (numbers_kept f xs)
+numbers_same : (f : ℕ → Seat → Seat) (xs : List (ℕ × Seat)) → map {A = ℕ × Seat} (λ r. r.0) (map (λ r. (r.0, f r.0 r.1)) xs) ≡ map (λ r. r.0) xs
+numbers_same f [] = refl
+numbers_same f (x ∷ xs) = ap (λ r. x.0 ∷ r) (numbers_same f xs)
 
 pub numbers_each : (f : ℕ → Seat → Seat) (slots : List Slot) → map (λ r. r.0) (present (each_changed f slots)) ≡ map (λ r. r.0) (present slots)
-numbers_each f slots = ap (λ xs. map {A = ℕ × Seat} (λ r. r.0) xs) (present_each f slots) ∙ numbers_kept f (present slots)
+numbers_each f slots = ap (λ xs. map {A = ℕ × Seat} (λ r. r.0) xs) (present_each f slots) ∙ numbers_same f (present slots)
 
 pub length_changed : (m : ℕ) (f : ℕ → Option Seat → Option Seat) (slots : List Slot) → length (reseated_from m f slots) ≡ length slots
 length_changed m f [] = refl

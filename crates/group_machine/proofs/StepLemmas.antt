@@ -26,9 +26,9 @@ abbrev pub with_slots : GroupState → List Slot → GroupState
 with_slots g slots = record g { slots = slots }
 
 pub consistent_each : (g : GroupState) (f : ℕ → Seat → Seat) → ((m : ℕ) (x : Seat) → IsConsistentSeat g.partitions x → IsConsistentSeat g.partitions (f m x)) → AreConsistentSeats g → AreConsistentSeats (with_slots g (each_changed f g.slots))
-consistent_each g f keeps consistent m y is =
+consistent_each g f preserves consistent m y is =
     let b = seat_behind (f m) (member_of g m) y (sym (seat_each f g.slots m) ∙ is) in
-    subst (IsConsistentSeat g.partitions) (sym b.2) (keeps m b.0 (consistent m b.0 b.1))
+    subst (IsConsistentSeat g.partitions) (sym b.2) (preserves m b.0 (consistent m b.0 b.1))
 
 less_seat : (p : ℕ) (f : Seat → Seat) (o : Option Seat) (q : ℕ) → ((x : Seat) → o ≡ Some x → is_in (f x).granted q ≡ true → is_in x.granted q ≡ true) → is_in (seat_granted p (option_map f o)) q ≡ true → is_in (seat_granted p o) q ≡ true
 less_seat p f None q less e = e
@@ -43,10 +43,10 @@ disjoint_each g f less consistent disjoint m n q e h = disjoint m n q (granted_e
 
 -- ---- one member's seat
 pub only_consistent : (p : ℕ) (f : Seat → Seat) → ((x : Seat) → IsConsistentSeat p x → IsConsistentSeat p (f x)) → (member m : ℕ) (x : Seat) → IsConsistentSeat p x → IsConsistentSeat p (at_only member f m x)
-only_consistent p f keeps member m x consistent = go (m == member)
+only_consistent p f preserves member m x consistent = go (m == member)
   where
     go : (b : Bool) → IsConsistentSeat p (cond b (f x) x)
-    go true = keeps x consistent
+    go true = preserves x consistent
     go false = consistent
 
 pub only_less : (f : Seat → Seat) (x : Seat) (q : ℕ) (member m : ℕ) → (is_in (f x).granted q ≡ true → is_in x.granted q ≡ true) → is_in (at_only member f m x).granted q ≡ true → is_in x.granted q ≡ true
@@ -307,11 +307,11 @@ pub sync_valid : (g : GroupState) (member : ℕ) → IsValidGroup g → IsValidG
 sync_valid g member good = flag_valid synced_seat sync_flag g member good
 
 -- ---- becoming static
-keep_flag : IsFlag static_seat
-keep_flag = record { joined = λ x. refl; granted = λ x. refl; assigned = λ x. refl }
+static_flag : IsFlag static_seat
+static_flag = record { joined = λ x. refl; granted = λ x. refl; assigned = λ x. refl }
 
-pub keep_valid : (g : GroupState) (member : ℕ) → IsValidGroup g → IsValidGroup (made_static g member)
-keep_valid g member good = flag_valid static_seat keep_flag g member good
+pub static_valid : (g : GroupState) (member : ℕ) → IsValidGroup g → IsValidGroup (made_static g member)
+static_valid g member good = flag_valid static_seat static_flag g member good
 
 -- ---- nobody
 nobody_at : (m : ℕ) → seat_of [] m ≡ None

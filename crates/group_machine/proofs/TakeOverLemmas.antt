@@ -19,9 +19,9 @@ slot_got [] k d lt = absurd (omega arith)
 slot_got (s ∷ slots) zero d lt = refl
 slot_got (s ∷ slots) (suc k) d lt = slot_got slots k d (omega arith)
 
-kept_seat_of : (o : Option Seat) → seat_is_static o ≡ true → (x : Seat) × (o ≡ Some x) × (x.is_static ≡ true)
-kept_seat_of None e = absurd (false≢true e)
-kept_seat_of (Some x) e = (x, refl, e)
+static_seat_of : (o : Option Seat) → seat_is_static o ≡ true → (x : Seat) × (o ≡ Some x) × (x.is_static ≡ true)
+static_seat_of None e = absurd (false≢true e)
+static_seat_of (Some x) e = (x, refl, e)
 
 one_more : (o : Option ℕ) (m : ℕ) → option_map (λ k. k + 1) o ≡ Some m → (k : ℕ) × (o ≡ Some k) × (m ≡ suc k)
 one_more None m e = cc
@@ -41,7 +41,7 @@ keeper g name m e =
     let at = position-Some (is_static_as name) g.slots k.0 d k.1 in
     let s : Slot = get_or g.slots k.0 d in
     let both = both_true (bytes_eq s.name name) (seat_is_static s.seat) at.1 in
-    let x = kept_seat_of s.seat both.1 in
+    let x = static_seat_of s.seat both.1 in
     let got : slice_get g.slots k.0 ≡ Some s = slot_got g.slots k.0 d at.0 in
     record {
       seat = x.0;

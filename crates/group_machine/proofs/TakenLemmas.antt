@@ -6,7 +6,7 @@ use Rattle.std.proofs.lemmas.Bool.Decides.{nat_tests}
 use Rattle.std.proofs.lemmas.List.{get_or-set_other, get_or-set_same}
 use Rattle.std.proofs.Math.ListN.{length-set}
 use Rattle.bit_planes.specs.PartitionSet.{PartitionSet, elements, is_in}
-use Rattle.bit_planes.proofs.Listed.{elements_tell, is_listed}
+use Rattle.bit_planes.proofs.Listed.{listed_elements, is_listed}
 use Rattle.group_machine.specs.Private.Walks.{taken_by}
 
 -- partitions that are left are in the set and as they were; all others are as after the loop
@@ -26,7 +26,7 @@ none_taken member added old left all = record {
 }
   where
     listed : (q : ℕ) → is_listed q left ≡ is_in added q
-    listed q = ap (is_listed q) all ∙ elements_tell added q
+    listed q = ap (is_listed q) all ∙ listed_elements added q
 
 this : (p : ℕ) (b : Bool) → ((p == p) || b) ≡ true
 this p true = grind (arith, nat_tests)

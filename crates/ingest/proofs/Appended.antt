@@ -73,15 +73,15 @@ of-topics counts l records same h = subst (λ cs. AreOfTopics cs records) (sym s
 pub all_appended : (counts : List ℕ) (l l2 : PartitionLogs) (records : List Keyed) → IsValidLogs l → AreLogsOf [] l → l.counts ≡ counts → AreOfTopics counts records → AreAppended l (placed l records) l2
     → AreLogsOf records l2 × (l2.counts ≡ counts) × (first_fault counts [] records ≡ None)
 all_appended counts l l2 records v h same topics done =
-    let known = grown counts l l2 records v h same (of-topics counts l records same topics) done in (
-      known.logs,
-      known.counts_are,
-      ap (first_fault counts []) (sym (append-nil records)) ∙ known.faults [] ∙ first_fault-nil counts records,
+    let appended = grown counts l l2 records v h same (of-topics counts l records same topics) done in (
+      appended.logs,
+      appended.counts_are,
+      ap (first_fault counts []) (sym (append-nil records)) ∙ appended.faults [] ∙ first_fault-nil counts records,
     )
 
 appends_stopped : (counts : List ℕ) (l l2 : PartitionLogs) (records : List Keyed) (i : ℕ) (why : Refusal) → IsValidLogs l → AreLogsOf [] l → l.counts ≡ counts → All (IsOfTopic l) records → AreStoppedAfter i why l (map (at_partition l) records) l2
     → IsKeyFault why × ((why ≡ r.Memory) ⊎ (first_fault counts [] records ≡ Some why))
-appends_stopped counts l l2 records i why v h same topics stop = (record_fault-kind l2 keyed why told, go told)
+appends_stopped counts l l2 records i why v h same topics stop = (record_fault-kind l2 keyed why refusal_is, go refusal_is)
   where
     keyed : Keyed
     keyed = get_or records i (0, [])
@@ -89,17 +89,17 @@ appends_stopped counts l l2 records i why v h same topics stop = (record_fault-k
     among : i < length records
     among = omega (arith, stop.among, length-map records (at_partition l))
 
-    known : AreGrown counts [] (take i records) l2
-    known = grown counts l l2 (take i records) v h same (All-take (IsOfTopic l) i records topics) (subst (λ (rs : List Placed). AreAppended l rs l2) (take-map (at_partition l) i records) stop.appended)
+    appended : AreGrown counts [] (take i records) l2
+    appended = grown counts l l2 (take i records) v h same (All-take (IsOfTopic l) i records topics) (subst (λ (rs : List Placed). AreAppended l rs l2) (take-map (at_partition l) i records) stop.appended)
 
     topic : IsOfTopic l2 keyed
-    topic = subst (λ (cs : List ℕ). keyed.0 < length cs) (same ∙ sym known.counts_are) (All-get_or (IsOfTopic l) records i (0, []) among topics)
+    topic = subst (λ (cs : List ℕ). keyed.0 < length cs) (same ∙ sym appended.counts_are) (All-get_or (IsOfTopic l) records i (0, []) among topics)
 
     one : get_or (map (at_partition l) records) i (0, []) ≡ at_partition l2 keyed
-    one = get_or-map (at_partition l) records i (0, []) (0, []) among ∙ ap (λ cs. let pair : Placed = (partition_of_record cs keyed, keyed.1) in pair) (same ∙ sym known.counts_are)
+    one = get_or-map (at_partition l) records i (0, []) (0, []) among ∙ ap (λ cs. let pair : Placed = (partition_of_record cs keyed, keyed.1) in pair) (same ∙ sym appended.counts_are)
 
-    told : (why ≡ r.Memory) ⊎ (append_answer l2 keyed ≡ Err why)
-    told = refused_as_expected (append_answer l2 keyed) why (subst (λ (x : Placed). Answers (answer_at l2 x.0 x.1) (Err why)) one stop.refused)
+    refusal_is : (why ≡ r.Memory) ⊎ (append_answer l2 keyed ≡ Err why)
+    refusal_is = refused_as_expected (append_answer l2 keyed) why (subst (λ (x : Placed). Answers (answer_at l2 x.0 x.1) (Err why)) one stop.refused)
 
     left : drop i records ≡ keyed ∷ drop (suc i) records
     left = drop-cons records i (0, []) among
@@ -107,8 +107,8 @@ appends_stopped counts l l2 records i why v h same topics stop = (record_fault-k
     go : (why ≡ r.Memory) ⊎ (append_answer l2 keyed ≡ Err why) → (why ≡ r.Memory) ⊎ (first_fault counts [] records ≡ Some why)
     go (inl e) = inl e
     go (inr e) =
-        let now : record_fault counts (take i records) keyed ≡ Some why = refused counts l2 (take i records) keyed why known.valid known.logs known.counts_are topic e in
-        inr (ap (first_fault counts []) (sym (take-append-drop i records)) ∙ known.faults (drop i records) ∙ ap (first_fault counts (take i records)) left ∙ first_fault-now counts (take i records) keyed (drop (suc i) records) why now)
+        let now : record_fault counts (take i records) keyed ≡ Some why = refused counts l2 (take i records) keyed why appended.valid appended.logs appended.counts_are topic e in
+        inr (ap (first_fault counts []) (sym (take-append-drop i records)) ∙ appended.faults (drop i records) ∙ ap (first_fault counts (take i records)) left ∙ first_fault-now counts (take i records) keyed (drop (suc i) records) why now)
 
 pub appends_ended : (counts : List ℕ) (l l2 : PartitionLogs) (records : List Keyed) (why : Refusal) → IsValidLogs l → AreLogsOf [] l → l.counts ≡ counts → AreOfTopics counts records → EndsAppends l records l2 why
     → IsKeyFault why × ((why ≡ r.Memory) ⊎ (first_fault counts [] records ≡ Some why))

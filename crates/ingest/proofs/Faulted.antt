@@ -16,10 +16,10 @@ abbrev pub fault_in : {T : Type 0} → Result T Refusal → Option Refusal
 fault_in (Ok v) = None
 fault_in (Err fault) = Some fault
 
-told : {T : Type 0} (a b : Bool) (v : T) → fault_in (if a then Err r.KeyTooLong else if b then Err r.LogFull else Ok v) ≡ (if a then Some r.KeyTooLong else if b then Some r.LogFull else None)
-told true b v = refl
-told false true v = refl
-told false false v = refl
+by_cases : {T : Type 0} (a b : Bool) (v : T) → fault_in (if a then Err r.KeyTooLong else if b then Err r.LogFull else Ok v) ≡ (if a then Some r.KeyTooLong else if b then Some r.LogFull else None)
+by_cases true b v = refl
+by_cases false true v = refl
+by_cases false false v = refl
 
 -- the answer of an append to the logs of these records has the record's fault
 pub record_fault-is : (counts : List ℕ) (l : PartitionLogs) (before : List Keyed) (keyed : Keyed) → IsValidLogs l → AreLogsOf before l → l.counts ≡ counts → IsOfTopic l keyed
@@ -29,7 +29,7 @@ record_fault-is counts l before keyed a h same topic =
     let key = keyed.1 in
     let records : length (log_at l place) ≡ records_in_its_partition counts before keyed =
     log-long l counts before place same h (place-below l keyed a topic) ∙ ap (λ p. length (filter (λ other. partition_of_record counts other == p) before)) (partition-is l counts keyed same) in
-    told (nat_lt LONGEST_KEY (length key)) (exceeds_limits l.keys (length (log_at l place)) key) _
+    by_cases (nat_lt LONGEST_KEY (length key)) (exceeds_limits l.keys (length (log_at l place)) key) _
     ∙ ap (λ m. if nat_lt LONGEST_KEY (length key) then Some r.KeyTooLong else if exceeds_limits l.keys m key then Some r.LogFull else None) records
     ∙ ap (λ keys. if nat_lt LONGEST_KEY (length key) then Some r.KeyTooLong else if exceeds_limits keys (records_in_its_partition counts before keyed) key then Some r.LogFull else None) h.numbers
 
@@ -71,6 +71,6 @@ pub refused_as_expected : {T : Type 0} (expected : Result T Refusal) (fault : Re
 refused_as_expected expected fault (inl e) = inr (sym e)
 refused_as_expected expected fault (inr e) = inl (cc e)
 
-pub fault_told : (fault : Option Refusal) (text : List ℕ) (e : Refusal) → (e ≡ r.Memory) ⊎ (fault ≡ Some e) → (e ≡ r.Memory) ⊎ (fault_or fault text ≡ Err e)
-fault_told fault text e (inl m) = inl m
-fault_told fault text e (inr h) = inr (ap (λ f. fault_or f text) h)
+pub fault_or_is : (fault : Option Refusal) (text : List ℕ) (e : Refusal) → (e ≡ r.Memory) ⊎ (fault ≡ Some e) → (e ≡ r.Memory) ⊎ (fault_or fault text ≡ Err e)
+fault_or_is fault text e (inl m) = inl m
+fault_or_is fault text e (inr h) = inr (ap (λ f. fault_or f text) h)

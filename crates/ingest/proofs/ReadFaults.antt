@@ -45,9 +45,9 @@ line_stop e k = absurd k
 abbrev pub HasLineFaultsAlone : {T : Type 0} → (List ℕ → Result T Refusal) → Type 0
 HasLineFaultsAlone answer = (bytes : List ℕ) (e : Refusal) → answer bytes ≡ Err e → IsLineFault e
 
-module _ {T : Type 0} (answer : List ℕ → Result T Refusal) (tells : HasLineFaultsAlone answer) where
+module _ {T : Type 0} (answer : List ℕ → Result T Refusal) (line_faults : HasLineFaultsAlone answer) where
   answer_fault : (P : Refusal → Type 0) → P r.Memory → ((e : Refusal) → IsLineFault e → P e) → (bytes : List ℕ) (e : Refusal) → Answers (answer bytes) (Err e) → P e
-  answer_fault P memory line bytes e (inl h) = line e (tells bytes e (sym h))
+  answer_fault P memory line bytes e (inl h) = line e (line_faults bytes e (sym h))
   answer_fault P memory line bytes e (inr h) = let is : r.Memory ≡ e = cc h in subst P is memory
 
   answer_as_expected : (bytes : List ℕ) (e : Refusal) → Answers (answer bytes) (Err e) → (e ≡ r.Memory) ⊎ (answer bytes ≡ Err e)

@@ -10,9 +10,9 @@ use Rattle.std.proofs.lemmas.List.Sums.{fold-append}
 use Rattle.key_index.specs.Keys.{Key, distinct, is_interned, key_at, id_of, with_key}
 use Rattle.key_index.specs.Private.Sharded.{of_shard}
 use Rattle.key_index.specs.Private.Sharded.{AreGlobal, is_first, next_after, with_first}
-use Rattle.key_index.proofs.Growth.{fresh, known}
-use Rattle.key_index.proofs.Filtered.{filter-distinct, known-filter}
-use Rattle.key_index.proofs.Firsts.{first_in_shard, known-there, number-there}
+use Rattle.key_index.proofs.Growth.{fresh, interned}
+use Rattle.key_index.proofs.Filtered.{filter-distinct, interned-filter}
+use Rattle.key_index.proofs.Firsts.{first_in_shard, interned-there, number-there}
 
 -- what is assigned after the records of xs, the first ones of all
 pub record AreAssigned (shard : Key → ℕ) (all xs : List Key) (globals : List (List ℕ)) (next : ℕ) : Type 0 where
@@ -23,15 +23,15 @@ pub one-more : (xs : List Key) (x : Key) → distinct (xs ++ x ∷ []) ≡ with_
 unfolding distinct
 one-more xs x = fold-append with_key [] xs (x ∷ [])
 
-pub more-known : (xs : List Key) (x : Key) → is_interned (distinct xs) x ≡ true → distinct (xs ++ x ∷ []) ≡ distinct xs
-more-known xs x e = one-more xs x ∙ ap (λ b. if b then distinct xs else distinct xs ++ x ∷ []) e
+pub more-interned : (xs : List Key) (x : Key) → is_interned (distinct xs) x ≡ true → distinct (xs ++ x ∷ []) ≡ distinct xs
+more-interned xs x e = one-more xs x ∙ ap (λ b. if b then distinct xs else distinct xs ++ x ∷ []) e
 
 pub more-new : (xs : List Key) (x : Key) → is_interned (distinct xs) x ≡ false → distinct (xs ++ x ∷ []) ≡ distinct xs ++ x ∷ []
 more-new xs x e = one-more xs x ∙ ap (λ b. if b then distinct xs else distinct xs ++ x ∷ []) e
 
-assigned-known : (shard : Key → ℕ) (all xs : List Key) (x : Key) (globals : List (List ℕ)) (next : ℕ) → is_interned (distinct xs) x ≡ true → AreAssigned shard all xs globals next → AreAssigned shard all (xs ++ x ∷ []) globals next
-assigned-known shard all xs x globals next e w =
-    let same = more-known xs x e in record {
+assigned-interned : (shard : Key → ℕ) (all xs : List Key) (x : Key) (globals : List (List ℕ)) (next : ℕ) → is_interned (distinct xs) x ≡ true → AreAssigned shard all xs globals next → AreAssigned shard all (xs ++ x ∷ []) globals next
+assigned-interned shard all xs x globals next e w =
+    let same = more-interned xs x e in record {
       counted = w.counted ∙ ap length (sym same);
       numbers = λ s lt. w.numbers s lt ∙ ap (λ ks. map (id_of (distinct all)) (of_shard shard s ks)) (sym same);
     }
@@ -78,7 +78,7 @@ assigned-one shard all xs ys x globals next local_id is lt at w =
     elim (cases_Bool (is_interned (distinct xs) x)) [
       | inl e ↦
           let test : is_first old local_id ≡ false = ne_eqb local_id (length old) (λ h. both_ways (is_interned (distinct xs) x) (first.0 (sym here ∙ h ∙ long)) e) in
-          rw test (subst (λ gs. AreAssigned shard all (xs ++ x ∷ []) gs next) (sym (set-get_or globals (shard x) [])) (assigned-known shard all xs x globals next e w))
+          rw test (subst (λ gs. AreAssigned shard all (xs ++ x ∷ []) gs next) (sym (set-get_or globals (shard x) [])) (assigned-interned shard all xs x globals next e w))
       | inr e ↦
           let test : is_first old local_id ≡ true = eq-eqb local_id (length old) (here ∙ first.1 e ∙ sym long) in
           rw test (assigned-new shard all xs ys x globals next is e lt w)
@@ -113,13 +113,13 @@ assigned-all shard keys n globals next le w = λ s lt.
     let whole : take n keys ≡ keys = take_all n keys le in
     w.numbers s lt ∙ ap (λ ks. map (id_of (distinct keys)) (of_shard shard s (distinct ks))) whole ∙ ap (map (id_of (distinct keys))) (filter-distinct (λ k. shard k == s) keys)
 
-pub own-known : (shard : Key → ℕ) (keys : List Key) (i : ℕ) → i < length keys → is_interned (distinct (of_shard shard (shard (get_or keys i [])) keys)) (get_or keys i []) ≡ true
-own-known shard keys i lt =
+pub own-interned : (shard : Key → ℕ) (keys : List Key) (i : ℕ) → i < length keys → is_interned (distinct (of_shard shard (shard (get_or keys i [])) keys)) (get_or keys i []) ≡ true
+own-interned shard keys i lt =
     let x = get_or keys i [] in
     let seam : keys ≡ take i keys ++ x ∷ drop (i + 1) keys = sym (take-append-drop i keys) ∙ ap (λ ks. take i keys ++ ks) (drop_more keys i [] lt) in
     let p : Key → Bool = λ k. shard k == shard x in
     let px : p x ≡ true = eq-eqb (shard x) (shard x) refl in
-    ap (λ ks. is_interned ks x) (sym (filter-distinct p keys)) ∙ known-filter p x px (distinct keys) ∙ ap (λ ks. is_interned (distinct ks) x) seam ∙ known-there (take i keys) (drop (i + 1) keys) x
+    ap (λ ks. is_interned ks x) (sym (filter-distinct p keys)) ∙ interned-filter p x px (distinct keys) ∙ ap (λ ks. is_interned (distinct ks) x) seam ∙ interned-there (take i keys) (drop (i + 1) keys) x
 
 -- the number of record i in its shard is that of a key, and its key number is stored there
 pub of_record : (shard : Key → ℕ) (keys : List Key) (i s local_id : ℕ) (globals : List (List ℕ)) → i < length keys → s ≡ shard (get_or keys i []) → s < length globals
@@ -128,8 +128,8 @@ pub of_record : (shard : Key → ℕ) (keys : List Key) (i s local_id : ℕ) (gl
 of_record shard keys i s local_id globals lt at below is all =
     let x = get_or keys i [] in
     let own = distinct (of_shard shard s keys) in
-    let is_located : is_interned own x ≡ true = ap (λ t. is_interned (distinct (of_shard shard t keys)) x) at ∙ own-known shard keys i lt in
-    let there = known own x is_located in
+    let is_located : is_interned own x ≡ true = ap (λ t. is_interned (distinct (of_shard shard t keys)) x) at ∙ own-interned shard keys i lt in
+    let there = interned own x is_located in
     let row : get_or globals s [] ≡ map (id_of (distinct keys)) own = all s below in
     let long : length (get_or globals s []) ≡ length own = ap length row ∙ length-map own (id_of (distinct keys)) in (
       omega (arith, there.0, is, long),

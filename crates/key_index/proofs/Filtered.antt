@@ -13,12 +13,12 @@ differs : (p : Key → Bool) (x y : Key) → p x ≡ true → p y ≡ false → 
 differs p x y px py = false_from_ne_true (bytes_eq x y) (λ e. both_ways (p x) (ap p ((bytes_eq-Decides x y).0 e) ∙ py) px)
 
 -- a key that passes is interned among all keys if and only if it is among those that pass
-pub known-filter : (p : Key → Bool) (x : Key) → p x ≡ true → (ks : List Key) → is_interned (filter p ks) x ≡ is_interned ks x
-known-filter p x px [] = refl
-known-filter p x px (y ∷ ks) =
+pub interned-filter : (p : Key → Bool) (x : Key) → p x ≡ true → (ks : List Key) → is_interned (filter p ks) x ≡ is_interned ks x
+interned-filter p x px [] = refl
+interned-filter p x px (y ∷ ks) =
     elim (cases_Bool (p y)) [
-      | inl py ↦ rw py (ap (λ b. bytes_eq x y || b) (known-filter p x px ks))
-      | inr py ↦ let other = differs p x y px py in rw (py, other) (known-filter p x px ks)
+      | inl py ↦ rw py (ap (λ b. bytes_eq x y || b) (interned-filter p x px ks))
+      | inr py ↦ let other = differs p x y px py in rw (py, other) (interned-filter p x px ks)
     ]
 
 retained-at : (b : Bool) (p : Key → Bool) (ks : List Key) (x : Key) → p x ≡ true
@@ -30,7 +30,7 @@ retained-at false p ks x px =
 
 pub with_key-retained : (p : Key → Bool) (ks : List Key) (x : Key) → p x ≡ true → filter p (with_key ks x) ≡ with_key (filter p ks) x
 with_key-retained p ks x px =
-    retained-at (is_interned ks x) p ks x px ∙ ap (λ b. if b then filter p ks else filter p ks ++ x ∷ []) (sym (known-filter p x px ks))
+    retained-at (is_interned ks x) p ks x px ∙ ap (λ b. if b then filter p ks else filter p ks ++ x ∷ []) (sym (interned-filter p x px ks))
 
 dropped-at : (b : Bool) (p : Key → Bool) (ks : List Key) (x : Key) → p x ≡ false → filter p (if b then ks else ks ++ x ∷ []) ≡ filter p ks
 dropped-at true p ks x px = refl

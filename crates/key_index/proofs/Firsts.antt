@@ -9,17 +9,17 @@ use Rattle.std.proofs.lemmas.List.Sums.{fold-append}
 use Rattle.std.proofs.lemmas.Slice.Eq.{bytes_eq-Decides}
 use Rattle.key_index.specs.Keys.{Key, distinct, is_interned, id_of, with_key}
 use Rattle.key_index.specs.Private.Sharded.{of_shard}
-use Rattle.key_index.proofs.Growth.{fresh, grows, known}
-use Rattle.key_index.proofs.Filtered.{filter-distinct, known-filter}
+use Rattle.key_index.proofs.Growth.{fresh, grows, interned}
+use Rattle.key_index.proofs.Filtered.{filter-distinct, interned-filter}
 
-pub known-append : (ks zs : List Key) (x : Key) → is_interned ks x ≡ true → (is_interned (ks ++ zs) x ≡ true) × (id_of (ks ++ zs) x ≡ id_of ks x)
-known-append [] zs x h = absurd (cc h)
-known-append (k ∷ ks) zs x h =
+pub interned-append : (ks zs : List Key) (x : Key) → is_interned ks x ≡ true → (is_interned (ks ++ zs) x ≡ true) × (id_of (ks ++ zs) x ≡ id_of ks x)
+interned-append [] zs x h = absurd (cc h)
+interned-append (k ∷ ks) zs x h =
     elim (cases_Bool (bytes_eq x k)) [
       | inl e ↦ rw e (refl, refl)
       | inr e ↦
           let later : is_interned ks x ≡ true = rw e at h in
-          let there = known-append ks zs x later in
+          let there = interned-append ks zs x later in
           rw e (there.0, ap (λ n. 1 + n) there.1)
     ]
 
@@ -43,7 +43,7 @@ own ks x = own-at (is_interned ks x) ks x refl
 
 stays-at : (b : Bool) (ks : List Key) (x y : Key) → is_interned ks x ≡ true → (let ws = if b then ks else ks ++ y ∷ [] in (is_interned ws x ≡ true) × (id_of ws x ≡ id_of ks x))
 stays-at true ks x y h = (h, refl)
-stays-at false ks x y h = known-append ks (y ∷ []) x h
+stays-at false ks x y h = interned-append ks (y ∷ []) x h
 
 -- an interned key stays interned and keeps its number
 pub stays : (ks zs : List Key) (x : Key) → is_interned ks x ≡ true → (is_interned (fold with_key ks zs) x ≡ true) × (id_of (fold with_key ks zs) x ≡ id_of ks x)
@@ -59,9 +59,9 @@ number-there xs ys x =
     let ks = distinct xs in
     ap (λ ws. id_of ws x) (fold-append with_key [] xs (x ∷ ys)) ∙ (stays (with_key ks x) ys x (own ks x).0).1 ∙ (own ks x).1
 
-pub known-there : (xs ys : List Key) (x : Key) → is_interned (distinct (xs ++ x ∷ ys)) x ≡ true
+pub interned-there : (xs ys : List Key) (x : Key) → is_interned (distinct (xs ++ x ∷ ys)) x ≡ true
 unfolding distinct
-known-there xs ys x =
+interned-there xs ys x =
     let ks = distinct xs in
     ap (λ ws. is_interned ws x) (fold-append with_key [] xs (x ∷ ys)) ∙ (stays (with_key ks x) ys x (own ks x).0).0
 
@@ -69,7 +69,7 @@ known-there xs ys x =
 pub new_is_next : (ks : List Key) (x : Key) → (id_of ks x ≡ length ks) ↔ (is_interned ks x ≡ false)
 new_is_next ks x =
     elim (cases_Bool (is_interned ks x)) [
-      | inl e ↦ (λ h. absurd (let there = known ks x e in omega (arith, there.0, h)), λ f. absurd (both_ways (is_interned ks x) f e))
+      | inl e ↦ (λ h. absurd (let there = interned ks x e in omega (arith, there.0, h)), λ f. absurd (both_ways (is_interned ks x) f e))
       | inr e ↦ (λ h. e, λ f. fresh ks x e)
     ]
 
@@ -82,7 +82,7 @@ first_in_shard shard xs ys x =
     let number : id_of (distinct (filter p (xs ++ x ∷ ys))) x ≡ id_of (distinct (filter p xs)) x =
     ap (λ ks. id_of (distinct ks) x) (filter-append p xs (x ∷ ys) ∙ ap (λ ks. filter p xs ++ ks) ends) ∙ number-there (filter p xs) (filter p ys) x in
     let same : is_interned (distinct (filter p xs)) x ≡ is_interned (distinct xs) x =
-    ap (λ ks. is_interned ks x) (sym (filter-distinct p xs)) ∙ known-filter p x px (distinct xs) in
+    ap (λ ks. is_interned ks x) (sym (filter-distinct p xs)) ∙ interned-filter p x px (distinct xs) in
     let local_id = new_is_next (distinct (filter p xs)) x in
     (λ h. sym same ∙ local_id.0 (sym number ∙ h), λ f. number ∙ local_id.1 (same ∙ f))
 

@@ -8,19 +8,19 @@ use Rattle.std.proofs.lemmas.Slice.Eq.{bytes_eq-Decides}
 use Rattle.std.proofs.Math.Seq.{get_or-append_seam}
 use Rattle.key_index.specs.Keys.{Key, IsWithoutRepeats, is_interned, key_at, id_of, with_key}
 
-known-at : (b : Bool) (x k : Key) (ks : List Key) → bytes_eq k x ≡ b
+interned-at : (b : Bool) (x k : Key) (ks : List Key) → bytes_eq k x ≡ b
     → (is_interned ks k ≡ true → (id_of ks k < length ks) × (key_at ks (id_of ks k) ≡ k))
     → (b || is_interned ks k) ≡ true
     → (cond (not b) (1 + id_of ks k) 0 < suc (length ks)) × (key_at (x ∷ ks) (cond (not b) (1 + id_of ks k) 0) ≡ k)
-known-at true x k ks e ih h = (omega arith, sym ((bytes_eq-Decides k x).0 e))
-known-at false x k ks e ih h =
+interned-at true x k ks e ih h = (omega arith, sym ((bytes_eq-Decides k x).0 e))
+interned-at false x k ks e ih h =
     let next : 1 + id_of ks k ≡ suc (id_of ks k) = omega arith in
     let there = ih h in
     rw next (omega (arith, there.0), there.1)
 
-pub known : (ks : List Key) (k : Key) → is_interned ks k ≡ true → (id_of ks k < length ks) × (key_at ks (id_of ks k) ≡ k)
-known [] k h = absurd (cc h)
-known (x ∷ ks) k h = known-at (bytes_eq k x) x k ks refl (known ks k) h
+pub interned : (ks : List Key) (k : Key) → is_interned ks k ≡ true → (id_of ks k < length ks) × (key_at ks (id_of ks k) ≡ k)
+interned [] k h = absurd (cc h)
+interned (x ∷ ks) k h = interned-at (bytes_eq k x) x k ks refl (interned ks k) h
 
 fresh-at : (b : Bool) (n m : ℕ) (rest : Bool) → (rest ≡ false → n ≡ m) → (b || rest) ≡ false → cond (not b) (1 + n) 0 ≡ suc m
 fresh-at true n m rest ih h = absurd (cc h)
@@ -51,7 +51,7 @@ pub record Grows (ks ws : List Key) (k : Key) (n : ℕ) : Type 0 where
 
 grows-at : (b : Bool) (ks : List Key) (k : Key) → is_interned ks k ≡ b → Grows ks (if b then ks else ks ++ k ∷ []) k (id_of ks k)
 grows-at true ks k e =
-    let there = known ks k e in record {
+    let there = interned ks k e in record {
       longer = omega arith;
       by_one = omega arith;
       numbered = there.0;
@@ -76,14 +76,14 @@ grows-at false ks k e =
 pub grows : (ks : List Key) (k : Key) → Grows ks (with_key ks k) k (id_of ks k)
 grows ks k = grows-at (is_interned ks k) ks k refl
 
-apart-at : (b : Bool) (ks : List Key) (k : Key) → is_interned ks k ≡ b → IsWithoutRepeats ks → IsWithoutRepeats (if b then ks else ks ++ k ∷ [])
-apart-at true ks k e apart = apart
-apart-at false ks k e apart = λ (m n : ℕ) (m_in : m < length (ks ++ k ∷ [])) (n_in : n < length (ks ++ k ∷ [])) (same : key_at (ks ++ k ∷ []) m ≡ key_at (ks ++ k ∷ []) n).
+without_repeats-at : (b : Bool) (ks : List Key) (k : Key) → is_interned ks k ≡ b → IsWithoutRepeats ks → IsWithoutRepeats (if b then ks else ks ++ k ∷ [])
+without_repeats-at true ks k e without_repeats = without_repeats
+without_repeats-at false ks k e without_repeats = λ (m n : ℕ) (m_in : m < length (ks ++ k ∷ [])) (n_in : n < length (ks ++ k ∷ [])) (same : key_at (ks ++ k ∷ []) m ≡ key_at (ks ++ k ∷ []) n).
     let one_more : length (ks ++ k ∷ []) ≡ length ks + 1 = length-append ks (k ∷ []) in
     let last : key_at (ks ++ k ∷ []) (length ks) ≡ k = get_or-append_seam ks k [] [] in
     elim (cases_lt m (length ks)) [
       | inl m_old ↦ elim (cases_lt n (length ks)) [
-        | inl n_old ↦ apart m n m_old n_old (sym (get_or_append_left ks (k ∷ []) [] m m_old) ∙ same ∙ get_or_append_left ks (k ∷ []) [] n n_old)
+        | inl n_old ↦ without_repeats m n m_old n_old (sym (get_or_append_left ks (k ∷ []) [] m m_old) ∙ same ∙ get_or_append_left ks (k ∷ []) [] n n_old)
         | inr n_new ↦
             let n_last : n ≡ length ks = omega (arith, one_more, n_in, n_new) in
             let stands : key_at ks m ≡ k = sym (get_or_append_left ks (k ∷ []) [] m m_old) ∙ same ∙ ap (key_at (ks ++ k ∷ [])) n_last ∙ last in
@@ -99,5 +99,5 @@ apart-at false ks k e apart = λ (m n : ℕ) (m_in : m < length (ks ++ k ∷ [])
           ]
     ]
 
-pub stays_apart : (ks : List Key) (k : Key) → IsWithoutRepeats ks → IsWithoutRepeats (with_key ks k)
-stays_apart ks k apart = apart-at (is_interned ks k) ks k refl apart
+pub stays_without_repeats : (ks : List Key) (k : Key) → IsWithoutRepeats ks → IsWithoutRepeats (with_key ks k)
+stays_without_repeats ks k without_repeats = without_repeats-at (is_interned ks k) ks k refl without_repeats

@@ -3,7 +3,7 @@ use Rattle.std.proofs.Common.{◌≡◌, ◌∙◌, ◌+◌, true, false, List, 
 use Rattle.std.specs.Str.{bytes_eq}
 use Rattle.std.proofs.lemmas.Bool.{cases_Bool}
 use Rattle.key_index.specs.Keys.{Key, is_interned, id_of, with_key}
-use Rattle.key_index.proofs.Firsts.{known-append}
+use Rattle.key_index.proofs.Firsts.{interned-append}
 
 pub behind : (ks zs : List Key) (x : Key) → is_interned ks x ≡ false → (is_interned (ks ++ zs) x ≡ is_interned zs x) × (id_of (ks ++ zs) x ≡ length ks + id_of zs x)
 behind [] zs x h = (refl, omega arith)
@@ -19,7 +19,7 @@ behind (k ∷ ks) zs x h =
 pub new-in-both : (ks zs : List Key) (x : Key) → is_interned (ks ++ zs) x ≡ false → (is_interned ks x ≡ false) × (is_interned zs x ≡ false)
 new-in-both ks zs x h =
     elim (cases_Bool (is_interned ks x)) [
-      | inl e ↦ absurd (let there = (known-append ks zs x e).0 in cc (there, h))
+      | inl e ↦ absurd (let there = (interned-append ks zs x e).0 in cc (there, h))
       | inr e ↦ (e, sym (behind ks zs x e).0 ∙ h)
     ]
 

@@ -7,18 +7,18 @@ use Rattle.std.proofs.lemmas.List.Elements.{All-append, All-cons, All-nil}
 use Rattle.key_index.specs.Keys.{Key, distinct, is_interned, key_at, id_of}
 use Rattle.key_index.specs.Private.Sharded.{AreOrdered, is_first, next_after, of_shard, with_first_at}
 use Rattle.key_index.specs.declared.shards.KeyLocation.{KeyLocation}
-use Rattle.key_index.proofs.Growth.{known}
-use Rattle.key_index.proofs.Filtered.{filter-distinct, known-filter}
-use Rattle.key_index.proofs.Firsts.{first_in_shard, known-there}
-use Rattle.key_index.proofs.Assigned.{AreAssigned, more-known, more-new}
+use Rattle.key_index.proofs.Growth.{interned}
+use Rattle.key_index.proofs.Filtered.{filter-distinct, interned-filter}
+use Rattle.key_index.proofs.Firsts.{first_in_shard, interned-there}
+use Rattle.key_index.proofs.Assigned.{AreAssigned, more-interned, more-new}
 
 pub ordered-none : (shard : Key → ℕ) (all : List Key) (count : ℕ) → AreOrdered shard all (distinct []) count []
 unfolding distinct
 ordered-none shard all count = record { named = refl; there = All-nil _ }
 
-ordered-known : (shard : Key → ℕ) (all xs : List Key) (x : Key) (count : ℕ) (order : List KeyLocation) → is_interned (distinct xs) x ≡ true → AreOrdered shard all (distinct xs) count order
+ordered-interned : (shard : Key → ℕ) (all xs : List Key) (x : Key) (count : ℕ) (order : List KeyLocation) → is_interned (distinct xs) x ≡ true → AreOrdered shard all (distinct xs) count order
     → AreOrdered shard all (distinct (xs ++ x ∷ [])) count order
-ordered-known shard all xs x count order e h = subst (λ ks. AreOrdered shard all ks count order) (sym (more-known xs x e)) h
+ordered-interned shard all xs x count order e h = subst (λ ks. AreOrdered shard all ks count order) (sym (more-interned xs x e)) h
 
 ordered-new : (shard : Key → ℕ) (all xs ys : List Key) (x : Key) (count local_id : ℕ) (order : List KeyLocation) → all ≡ xs ++ x ∷ ys → shard x < count
     → local_id ≡ id_of (distinct (of_shard shard (shard x) all)) x → is_interned (distinct xs) x ≡ false → AreOrdered shard all (distinct xs) count order
@@ -30,8 +30,8 @@ ordered-new shard all xs ys x count local_id order is lt at e h =
     let goes_x : goes x ≡ true = eq-eqb (shard x) (shard x) refl in
     let own = distinct (of_shard shard (shard x) all) in
     let is_located : is_interned own x ≡ true =
-    ap (λ ks. is_interned ks x) (sym (filter-distinct goes all)) ∙ known-filter goes x goes_x (distinct all) ∙ ap (λ ks. is_interned (distinct ks) x) is ∙ known-there xs ys x in
-    let there = known own x is_located in
+    ap (λ ks. is_interned ks x) (sym (filter-distinct goes all)) ∙ interned-filter goes x goes_x (distinct all) ∙ ap (λ ks. is_interned (distinct ks) x) is ∙ interned-there xs ys x in
+    let there = interned own x is_located in
     let named_x : name here ≡ x = ap (key_at own) at ∙ there.1 in
     let within : local_id < length own = rw at there.0 in
     let stands : KeyLocation → Type 0 = λ (where_it : KeyLocation). (where_it.shard < count) × (where_it.number < length (distinct (of_shard shard where_it.shard all))) in
@@ -52,7 +52,7 @@ ordered-one shard all xs ys x ids next local_id count order is lt below at w h =
     elim (cases_Bool (is_interned (distinct xs) x)) [
       | inl e ↦
           let test : is_first old local_id ≡ false = ne_eqb local_id (length old) (λ same. both_ways (is_interned (distinct xs) x) (first.0 (sym here ∙ same ∙ long)) e) in
-          rw test (ordered-known shard all xs x count order e h)
+          rw test (ordered-interned shard all xs x count order e h)
       | inr e ↦
           let test : is_first old local_id ≡ true = eq-eqb local_id (length old) (here ∙ first.1 e ∙ sym long) in
           rw test (ordered-new shard all xs ys x count local_id order is below at e h)

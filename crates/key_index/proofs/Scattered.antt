@@ -80,10 +80,10 @@ row-numbered shard s keys xs ys zs table local_ids seam so =
     let f = id_of (distinct (of_shard shard s keys)) in
     let more : of_shard shard s (xs ++ ys) ≡ before ++ row = filter-append p xs ys in
     let whole : of_shard shard s keys ≡ (before ++ row) ++ behind = ap (of_shard shard s) seam ∙ filter-append p (xs ++ ys) zs ∙ ap (λ ks. ks ++ behind) more in
-    let known : distinct (before ++ row) ≡ with_keys table row = fold-append with_key [] before row ∙ ap (λ ks. with_keys ks row) (sym so.keys_of) in
-    let all : distinct (of_shard shard s keys) ≡ with_keys (with_keys table row) behind = ap distinct whole ∙ fold-append with_key [] (before ++ row) behind ∙ ap (λ ks. with_keys ks behind) known in
+    let before_is : distinct (before ++ row) ≡ with_keys table row = fold-append with_key [] before row ∙ ap (λ ks. with_keys ks row) (sym so.keys_of) in
+    let all : distinct (of_shard shard s keys) ≡ with_keys (with_keys table row) behind = ap distinct whole ∙ fold-append with_key [] (before ++ row) behind ∙ ap (λ ks. with_keys ks behind) before_is in
     let numbers : map f row ≡ map (id_of (with_keys table row)) row = ap (λ ks. map (id_of ks) row) all ∙ ids-stay table row behind in record {
-      keys_of = sym known ∙ ap distinct (sym more);
+      keys_of = sym before_is ∙ ap distinct (sym more);
       local_ids_of = ap₂ (λ ms ns. ms ++ ns) so.local_ids_of (sym numbers) ∙ sym (map-append f before row) ∙ ap (map f) (sym more);
     }
 

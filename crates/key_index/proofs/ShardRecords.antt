@@ -61,8 +61,8 @@ pub few-filtered : (p : Key → Bool) (keys : List Key) → length (filter p key
 few-filtered p [] = omega arith
 few-filtered p (x ∷ keys) = filtered-at (p x) x (filter p keys) keys (few-filtered p keys)
 
-pub passed-none : (shard : Key → ℕ) (count : ℕ) (keys : List Key) → AreSeenCounts shard count keys 0 (replicate count 0)
-passed-none shard count keys = record { each = length-replicate count 0; passed = λ s lt. zero-at count s }
+pub seen_counts-none : (shard : Key → ℕ) (count : ℕ) (keys : List Key) → AreSeenCounts shard count keys 0 (replicate count 0)
+seen_counts-none shard count keys = record { each = length-replicate count 0; seen_counts = λ s lt. zero-at count s }
   where
     zero-at : (n s : ℕ) → get_or {A = ℕ} (replicate n 0) s 0 ≡ 0
     zero-at zero s = refl
@@ -80,7 +80,7 @@ next-local_id shard count keys i seen local_ids s lt at below are so =
     let f = id_of (distinct (of_shard shard s keys)) in
     let parted : of_shard shard s keys ≡ xs ++ x ∷ ys = shard-parted shard s keys i lt (sym at) in
     let long : length local_ids ≡ length xs + length (x ∷ ys) = ap length are ∙ length-map (of_shard shard s keys) f ∙ ap length parted ∙ length-append xs (x ∷ ys) in
-    let here : get_or seen s 0 ≡ length xs = so.passed s below in
+    let here : get_or seen s 0 ≡ length xs = so.seen_counts s below in
     let within : get_or seen s 0 < length local_ids = omega (arith, long, here) in
     let within_all : get_or seen s 0 < length (of_shard shard s keys) = omega (arith, within, ap length are, length-map (of_shard shard s keys) f) in (
       within,
@@ -88,27 +88,27 @@ next-local_id shard count keys i seen local_ids s lt at below are so =
           ∙ ap f (ap (λ ks. get_or ks (get_or seen s 0) []) parted ∙ ap (λ n. get_or (xs ++ x ∷ ys) n []) here ∙ get_or-append_seam xs x ys []),
     )
 
-pub passed-more : (shard : Key → ℕ) (count : ℕ) (keys : List Key) (i : ℕ) (seen : List ℕ) (s : ℕ) → i < length keys → s ≡ shard (get_or keys i []) → s < count → AreSeenCounts shard count keys i seen
+pub seen_counts-more : (shard : Key → ℕ) (count : ℕ) (keys : List Key) (i : ℕ) (seen : List ℕ) (s : ℕ) → i < length keys → s ≡ shard (get_or keys i []) → s < count → AreSeenCounts shard count keys i seen
     → AreSeenCounts shard count keys (i + 1) (slice_set seen s (get_or seen s 0 + 1))
-passed-more shard count keys i seen s lt at below so =
+seen_counts-more shard count keys i seen s lt at below so =
     let x = get_or keys i [] in record {
       each = length-set seen s (get_or seen s 0 + 1) ∙ so.each;
-      passed = λ t t_in. elim (cases_eq s t) [
+      seen_counts = λ t t_in. elim (cases_eq s t) [
         | inl same ↦
             let own = shard-own shard s keys i lt (sym at) in
             let more : length (of_shard shard s (take (i + 1) keys)) ≡ length (of_shard shard s (take i keys)) + 1 = ap length own ∙ length-append (of_shard shard s (take i keys)) (x ∷ []) in
             let set : get_or (slice_set seen s (get_or seen s 0 + 1)) s 0 ≡ get_or seen s 0 + 1 = get_or-set_same seen s (get_or seen s 0 + 1) 0 (omega (arith, below, so.each)) in
             subst (λ u. get_or (slice_set seen s (get_or seen s 0 + 1)) u 0 ≡ length (of_shard shard u (take (i + 1) keys))) same
-            (omega (arith, more, set, so.passed s below))
+            (omega (arith, more, set, so.seen_counts s below))
         | inr ne ↦
             let other = shard-other shard t keys i lt (λ e. ne (at ∙ e)) in
-            get_or-set_other seen s t (get_or seen s 0 + 1) 0 (λ e. ne (sym e)) ∙ so.passed t t_in ∙ ap length (sym other)
+            get_or-set_other seen s t (get_or seen s 0 + 1) 0 (λ e. ne (sym e)) ∙ so.seen_counts t t_in ∙ ap length (sym other)
       ];
     }
 
-pub passed-few : (shard : Key → ℕ) (count : ℕ) (keys : List Key) (i : ℕ) (seen : List ℕ) (s : ℕ) → s < count → i ≤ length keys → AreSeenCounts shard count keys i seen → get_or seen s 0 ≤ i
-passed-few shard count keys i seen s below le so =
-    omega (arith, so.passed s below, few-filtered (λ k. shard k == s) (take i keys), length-take i keys, le)
+pub seen_counts-few : (shard : Key → ℕ) (count : ℕ) (keys : List Key) (i : ℕ) (seen : List ℕ) (s : ℕ) → s < count → i ≤ length keys → AreSeenCounts shard count keys i seen → get_or seen s 0 ≤ i
+seen_counts-few shard count keys i seen s below le so =
+    omega (arith, so.seen_counts s below, few-filtered (λ k. shard k == s) (take i keys), length-take i keys, le)
 
 pub shards-long : (shard : Key → ℕ) (keys : List Key) (shards : List ℕ) → shards ≡ map shard keys → length shards ≡ length keys
 shards-long shard keys shards are = ap length are ∙ length-map keys shard
@@ -132,6 +132,6 @@ lent-key keys i d lt = get_or-map (λ (key : Bor (List ℕ)). key.now) keys i d 
 pub lent-long : (keys : List (Bor (List ℕ))) → length (lent keys) ≡ length keys
 lent-long keys = length-map keys (λ (key : Bor (List ℕ)). key.now)
 
-pub lent-placed : (place : Key → ℕ) (keys : List (Bor (List ℕ))) → map (λ (key : Bor (List ℕ)). place key.now) keys ≡ map place (lent keys)
-lent-placed place [] = refl
-lent-placed place (key ∷ keys) = ap (λ ps. place key.now ∷ ps) (lent-placed place keys)
+pub lent-mapped : (of_key : Key → ℕ) (keys : List (Bor (List ℕ))) → map (λ (key : Bor (List ℕ)). of_key key.now) keys ≡ map of_key (lent keys)
+lent-mapped of_key [] = refl
+lent-mapped of_key (key ∷ keys) = ap (λ ps. of_key key.now ∷ ps) (lent-mapped of_key keys)

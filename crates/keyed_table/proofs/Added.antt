@@ -70,18 +70,18 @@ sum-at cells counts from at k i le le' lt =
 
 -- the counters of consecutive blocks are the plain counts of consecutive numbers
 pub run-counts : (ids blocks counts : List ℕ) (start end from at i : ℕ) → AreBlocksOf ids blocks counts → AreConsecutive blocks start end → end ≤ length blocks → from ≡ 8 * get_or blocks start 0 → at ≡ 8 * start → i < 8 * (end - start) → get_or counts (at + i) 0 ≡ plain ids (from + i)
-run-counts ids blocks counts start end from at i h near le from_is at_is lt =
+run-counts ids blocks counts start end from at i h consecutive le from_is at_is lt =
     let x = from + i in
     let within : start + i / 8 < end = omega (arith, lt) in
-    let its : get_or blocks (start + i / 8) 0 ≡ x / 8 = near (i / 8) within ∙ omega (arith, from_is) in
-    let place : at + i ≡ 8 * (start + i / 8) + x % 8 = omega (arith, from_is, at_is) in
-    ap (λ n. get_or counts n 0) place ∙ count-in-block ids blocks counts (start + i / 8) x h.have (omega (arith, within, le)) its
+    let its : get_or blocks (start + i / 8) 0 ≡ x / 8 = consecutive (i / 8) within ∙ omega (arith, from_is) in
+    let index_is : at + i ≡ 8 * (start + i / 8) + x % 8 = omega (arith, from_is, at_is) in
+    ap (λ n. get_or counts n 0) index_is ∙ count-in-block ids blocks counts (start + i / 8) x h.have (omega (arith, within, le)) its
 
 -- consecutive blocks lie within the counters, which fill whole blocks and cover all numbers
 pub run-within : (ids blocks counts old : List ℕ) (start end : ℕ) → AreBlocksOf ids blocks counts → AreConsecutive blocks start end → start < end → end ≤ length blocks → HaveCounters old ids → length old % 8 ≡ 0 → 8 * get_or blocks start 0 + 8 * (end - start) ≤ length old
-run-within ids blocks counts old start end h near some le have whole =
+run-within ids blocks counts old start end h consecutive some le have whole =
     let n = end - start - 1 in
-    let last = near n (omega (arith, some)) in
+    let last = consecutive n (omega (arith, some)) in
     let found = h.touched (start + n) (omega (arith, some, le)) in
     let lt : found.0 < length old = have found.0 found.1 in
     omega (arith, last, found.2, lt, whole, some)
@@ -89,13 +89,13 @@ run-within ids blocks counts old start end h near some le have whole =
 pub run-fits : (ids blocks counts old cells : List ℕ) (start end from at k m : ℕ) → AreBlocksOf ids blocks counts → AreAdded ids blocks old cells start → AreConsecutive blocks start end → start < end → end ≤ length blocks → SumsFit old ids
     → from ≡ 8 * get_or blocks start 0 → at ≡ 8 * start → k ≡ 8 * (end - start) → m ≡ k
     → (i : ℕ) → get_or (take k (drop from cells)) i 0 + get_or (take m (drop at counts)) i 0 < 2 ^ 64
-run-fits ids blocks counts old cells start end from at k m h added near some le fit from_is at_is k_is m_is i =
+run-fits ids blocks counts old cells start end from at k m h added consecutive some le fit from_is at_is k_is m_is i =
     elim (cases_lt i k) [
       | inl lt ↦
           let mine = element cells from k i lt in
           let theirs = element counts at m i (omega (arith, lt, m_is)) in
           let was : get_or cells (from + i) 0 ≡ get_or old (from + i) 0 = added.rest (from + i) (omega (arith, some, le)) (omega (arith, from_is)) in
-          let counted = run-counts ids blocks counts start end from at i h near le from_is at_is (omega (arith, lt, k_is)) in
+          let counted = run-counts ids blocks counts start end from at i h consecutive le from_is at_is (omega (arith, lt, k_is)) in
           omega (arith, mine, theirs, was, counted, fit (from + i))
       | inr past ↦
           let none = get_or_past (take k (drop from cells)) i 0 (omega (arith, past, length-take k (drop from cells))) in
@@ -107,7 +107,7 @@ pub added-run : (ids blocks counts old cells ys : List ℕ) (start end from at k
     → from + k ≤ length cells → from ≡ 8 * get_or blocks start 0 → at ≡ 8 * start → k ≡ 8 * (end - start) → m ≡ k
     → ys ≡ zip2 (λ x y. x + y) (take k (drop from cells)) (take m (drop at counts))
     → AreAdded ids blocks old (put_mid from k cells ys) end
-added-run ids blocks counts old cells ys start end from at k m h added near some le within from_is at_is k_is m_is ys_is =
+added-run ids blocks counts old cells ys start end from at k m h added consecutive some le within from_is at_is k_is m_is ys_is =
     let b = get_or blocks start 0 in
     let counts_there : at + k ≤ length counts = omega (arith, at_is, k_is, h.have.whole, some, le) in
     let are : ys ≡ sums cells counts from at k = rw m_is at ys_is in
@@ -121,7 +121,7 @@ added-run ids blocks counts old cells ys start end from at k m h added near some
     let now : get_or new (from + i) 0 ≡ get_or ys i 0 = in-part from k cells ys i (omega (arith, within)) (omega (arith, size, lt)) in
     let sum : get_or ys i 0 ≡ get_or cells (from + i) 0 + get_or counts (at + i) 0 = ap (λ zs. get_or zs i 0) are ∙ sum-at cells counts from at k i within counts_there lt in
     let was : get_or cells (from + i) 0 ≡ get_or old (from + i) 0 = added.rest (from + i) start_in (omega (arith, from_is)) in
-    let counted = run-counts ids blocks counts start end from at i h near le from_is at_is (omega (arith, lt, k_is)) in
+    let counted = run-counts ids blocks counts start end from at i h consecutive le from_is at_is (omega (arith, lt, k_is)) in
     let whole : get_or new (from + i) 0 ≡ get_or old (from + i) 0 + plain ids (from + i) = now ∙ sum ∙ omega (arith, was, counted) in
     rw e at whole in
     record {
@@ -136,9 +136,9 @@ added-run ids blocks counts old cells ys start end from at k m h added near some
                 | inl first ↦ absurd (omega (arith, below_later blocks h.have.increasing j start first start_in, same, lower, from_is))
                 | inr past ↦ elim (cases_lt j end) [
                   | inl run ↦
-                      let near_j = near (j - start) (omega (arith, past, run)) in
+                      let consecutive_j = consecutive (j - start) (omega (arith, past, run)) in
                       let e : start + (j - start) ≡ j = omega (arith, past) in
-                      let its : get_or blocks j 0 ≡ b + (j - start) = rw e at near_j in
+                      let its : get_or blocks j 0 ≡ b + (j - start) = rw e at consecutive_j in
                       absurd (omega (arith, its, same, above, from_is, k_is, run, past))
                   | inr later ↦
                       let step = not-falling blocks h.have.increasing end j later lt in
@@ -149,7 +149,7 @@ added-run ids blocks counts old cells ys start end from at k m h added near some
         ]
       ];
       rest = λ x lt past.
-          let last = near (end - start - 1) (omega (arith, some)) in
+          let last = consecutive (end - start - 1) (omega (arith, some)) in
           let step = below_later blocks h.have.increasing (start + (end - start - 1)) end (omega (arith, some)) lt in
           let above : from + k ≤ x = omega (arith, last, step, past, from_is, k_is, some) in
           above-part from k cells ys x (omega (arith, within)) size above ∙ added.rest x start_in (omega (arith, above, from_is));

@@ -20,7 +20,7 @@ run-counted ids numbers counts start n v end to le some equal below h =
     let all = counts ++ n ∷ [] in
     let old : (j : ℕ) → j < length numbers → get_or more j 0 ≡ get_or numbers j 0 = λ j lt. get_or_append_left numbers (v ∷ []) 0 j lt in
     let own : (j : ℕ) → j < length more → length numbers ≤ j → get_or more j 0 ≡ v = λ j lt past. get_or_push numbers v 0 j (omega (arith, lt, past, size)) in
-    let kept : (j : ℕ) → j < length numbers → get_or all j 0 ≡ get_or counts j 0 = λ j lt. get_or_append_left counts (n ∷ []) 0 j (omega (arith, lt, h.whole)) in
+    let unchanged : (j : ℕ) → j < length numbers → get_or all j 0 ≡ get_or counts j 0 = λ j lt. get_or_append_left counts (n ∷ []) 0 j (omega (arith, lt, h.whole)) in
     let last : (j : ℕ) → j < length more → length numbers ≤ j → get_or all j 0 ≡ n = λ j lt past. get_or_push counts n 0 j (omega (arith, lt, past, size, h.whole)) in
     let in_run : (j : ℕ) → start ≤ j → j < start + n → get_or ids j 0 ≡ v = λ j from before. equal j from (omega (arith, before, to)) in
     let none : plain (take start ids) v ≡ 0 = none-before ids start v (omega (arith, le, to)) below in
@@ -42,7 +42,7 @@ run-counted ids numbers counts start n v end to le some equal below h =
             rw (own j lt past, old i within) (less i within)
       ]);
       counted = λ j lt. elim (cases_lt j (length numbers)) [
-        | inl within ↦ rw (old j within) (kept j within ∙ h.counted j within ∙ sym (as_before j within))
+        | inl within ↦ rw (old j within) (unchanged j within ∙ h.counted j within ∙ sym (as_before j within))
         | inr past ↦ rw (own j lt past) (last j lt past ∙ sym its)
       ];
       there = λ j lt. elim (cases_lt j (length numbers)) [

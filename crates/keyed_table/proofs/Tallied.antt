@@ -53,9 +53,9 @@ part-of b n tallies e le = record {
 part-counts : (b : ℕ) (ids tallies part : List ℕ) → AreTallies ids tallies → IsPart b tallies part → (k : ℕ) → k < 8 → get_or part k 0 ≡ plain ids (8 * b + k)
 part-counts b ids tallies part all is k small = is.same k small ∙ all (8 * b + k)
 
-pub passed-over : (b : ℕ) (ids tallies part blocks counts : List ℕ) → IsPart b tallies part → ((i : ℕ) → get_or part i 0 ≡ 0) → AreTallies ids tallies
+pub skipped : (b : ℕ) (ids tallies part blocks counts : List ℕ) → IsPart b tallies part → ((i : ℕ) → get_or part i 0 ≡ 0) → AreTallies ids tallies
     → AreBlocksBelow b ids blocks counts → AreBlocksBelow (b + 1) ids blocks counts
-passed-over b ids tallies part blocks counts is zeros all h = record {
+skipped b ids tallies part blocks counts is zeros all h = record {
   whole = h.whole;
   increasing = h.increasing;
   below = λ j lt. omega (arith, h.below j lt);

@@ -104,9 +104,9 @@ fn both_give<R: Threads + Sync>(
     keys: &[&[u8]],
     answer: Answer,
 ) -> bool {
-    let told = logs.append_all(rt, keys);
-    let plainly_told = one_by_one(plain, keys);
-    told == answer && plainly_told == answer && are_same(logs, plain)
+    let returned = logs.append_all(rt, keys);
+    let returned_plainly = one_by_one(plain, keys);
+    returned == answer && returned_plainly == answer && are_same(logs, plain)
 }
 
 /// Whether lists give this result and these logs.
@@ -254,8 +254,8 @@ fn windows(
 {
     let mut keys = Vec::with_capacity(alloc, count)?;
     for number in 0..count {
-        let place = number % period;
-        keys.push(window(bytes, place * 7 % 900, place / 3 % 41))?;
+        let remainder = number % period;
+        keys.push(window(bytes, remainder * 7 % 900, remainder / 3 % 41))?;
     }
     Ok(keys)
 }

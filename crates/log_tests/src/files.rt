@@ -195,8 +195,8 @@ fn a_file_has_its_topics_or_its_first_fault(rt: HostRuntime) -> Result<(), Fail>
     let text = topics_in(&rt, rt.alloc(), file, 2, false)?;
     assert_eq!(rt; text.as_slice(), b"021;1abc;121;04;14;".as_slice());
     for (file, topic_column, header, fault) in TOPIC_FAULTS {
-        let told = topic_fault_of(&rt, rt.alloc(), file, topic_column, header);
-        assert_eq!(rt; told, Some(fault));
+        let reported = topic_fault_of(&rt, rt.alloc(), file, topic_column, header);
+        assert_eq!(rt; reported, Some(fault));
     }
     Ok(())
 }

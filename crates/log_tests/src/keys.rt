@@ -16,7 +16,7 @@ fn is_interned_alike(
         (None, None) if keys.count() < 1000 && plain.count() < 1000 => {
             Ok(keys.add(key)? == plain.add(key)?)
         }
-        (found, known) => Ok(found == known),
+        (found, expected) => Ok(found == expected),
     }
 }
 

@@ -106,9 +106,9 @@ fn are_placed_alike<R: Threads + Sync>(
 ) -> Result<bool, Fail> {
     let partitions = Partitions::new(4096);
     let places = partitions.place_all(rt, alloc, keys)?;
-    let in_turn = reference_places::place_sequential(partitions, rt, alloc, keys)?;
+    let sequential = reference_places::place_sequential(partitions, rt, alloc, keys)?;
     let plain = reference_places::place_all(partitions, alloc, keys)?;
-    Ok(places == plain && in_turn == plain)
+    Ok(places == plain && sequential == plain)
 }
 
 #[test]

@@ -194,7 +194,7 @@ fn sums_of_the_last_alone(rt: HostRuntime) -> Result<(), Fail> {
 
 /// Whether a list in which only the last word has a bit, if it has a word, differs from one of the
 /// same length without bits.
-fn is_told(one: &[u64], none: &[u64], some: bool) -> bool
+fn kernels_agree(one: &[u64], none: &[u64], some: bool) -> bool
     requires { length one.now ≡ length none.now }
 {
     any_and(one, one) == some
@@ -210,7 +210,7 @@ fn the_last_word_alone_differs(rt: HostRuntime) -> Result<(), Fail> {
         let none = vec![in rt.alloc(); 0; len]?;
         let one = with_last(rt.alloc(), &none, 1)?;
         assert!(rt;
-            one.len() == none.len() && is_told(&one, &none, len > 0),
+            one.len() == none.len() && kernels_agree(&one, &none, len > 0),
             "{len}"
         );
         assert!(rt;

@@ -16,7 +16,7 @@ use Rattle.lane_words.specs.declared.Refusal.TheVariants as r
 use Rattle.partitioner.proofs.Counts.{place_in_topic-below, some_partitions}
 use Rattle.partition_log.specs.Keys.{Key, Keyed, distinct, is_interned, key_at, id_of, with_key}
 use Rattle.partition_log.specs.Logs.{AreCounts, AreLogsOf, IsEntryOf, IsOfTopic, IsPlaceOf, IsUsed, IsValidLogs, PartitionLogs, answer_at, exceeds_limits, is_full_for, log_at, place_in, with_record_at}
-use Rattle.key_index.proofs.Growth.{grows, stays_apart}
+use Rattle.key_index.proofs.Growth.{grows, stays_without_repeats}
 
 pub log-same : (l : PartitionLogs) (at : ℕ) (key : Key) → at < length l.logs
     → log_at (with_record_at l at key) (at) ≡ log_at l (at) ++ id_of l.keys key ∷ []
@@ -55,7 +55,7 @@ keys_fit : (keys : List Key) (records : ℕ) (key : Key) → exceeds_limits keys
 keys_fit keys records key h few =
     let g = grows keys key in
     elim (interned_or_new (is_interned keys key)) [
-      | inl known ↦ let same = g.same_count known in rw same few
+      | inl interned ↦ let same = g.same_count interned in rw same few
       | inr new ↦ let capacity : length keys < MOST_RECORDS = below MOST_RECORDS (length keys) (capacity-keys (nat_le MOST_RECORDS records) (is_interned keys key) (nat_le MOST_RECORDS (length keys)) h new) in omega (arith, g.by_one, capacity)
     ]
 
@@ -143,7 +143,7 @@ valid l at key a goes within short capacity =
       some_partitions = a.some_partitions;
       few_partitions = a.few_partitions;
       a_log_each = length-set l.logs at _ ∙ a.a_log_each;
-      without_repeats = stays_apart l.keys key a.without_repeats;
+      without_repeats = stays_without_repeats l.keys key a.without_repeats;
       short = short-more l key a short;
       entries = entries-more l at key a goes lt;
       used = used-more l at key a within;

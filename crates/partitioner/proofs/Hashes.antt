@@ -44,11 +44,11 @@ places_of_keys counts topic keys hashes places is p k d lt =
 pub batch_placed : (counts : List ℕ) (topic local : ℕ → ℕ) (keys : List (Bor (List ℕ))) (from n : ℕ) (hashes places : List ℕ) → from + n ≤ length keys
     → hashes ≡ map (λ key. positive_hash key.now) (take (from + n - from) (drop from keys)) → ArePlaces counts local hashes places → ((k : ℕ) → k < n → local k ≡ topic (from + k))
     → ArePlacedFrom counts topic keys from n places
-batch_placed counts topic local keys from n hashes places fits is p told k d lt =
+batch_placed counts topic local keys from n hashes places fits is p topics_are k d lt =
     let batch = take (from + n - from) (drop from keys) in
     let long : length batch ≡ n = length-take-le (from + n - from) (drop from keys) (omega (arith, fits, length-drop from keys)) ∙ omega arith in
     places_of_keys counts local batch hashes places is p k d (omega (arith, long, lt))
-    ∙ ap (λ t. place_in_topic counts t (get_or batch k d).now) (told k lt)
+    ∙ ap (λ t. place_in_topic counts t (get_or batch k d).now) (topics_are k lt)
     ∙ ap (λ (key : Bor (List ℕ)). place_in_topic counts (topic (from + k)) key.now) (get_or-take (from + n - from) (drop from keys) k d (omega (arith, lt)) ∙ get_or-drop from keys k d)
 
 pub batch_topic : (topics : List ℕ) (from n k : ℕ) → k < n → get_or (take (from + n - from) (drop from topics)) k 0 ≡ get_or topics (from + k) 0

@@ -22,7 +22,7 @@ pub record MayBeTopics (topics : List Topic) : Type 0 where
 -- at least one topic
 pub record AreTopics (topics : List Topic) : Type 0 where
   pub some : 1 ≤ length topics
-  pub known : MayBeTopics topics
+  pub valid : MayBeTopics topics
 
 -- the number of partitions of the topic of this index
 abbrev pub partitions_at : List Topic → ℕ → ℕ

@@ -46,11 +46,11 @@ pub rows_written : (topics : List Topic) (Written : List ℕ → Type 0) (text r
 unfolding rows_of_line
 rows_written topics Written text rows line from w w2 s outcome answer goes s_is from_is rows_is h =
     let after : s ≡ outcome.after.cluster = s_is ∙ ap (λ (x : WorldState). x.cluster) goes.after_is in
-    let told : rows ≡ rows_of_answer line outcome.answer = rows_is ∙ ap (rows_of_answer line) goes.answer_is in
+    let reported : rows ≡ rows_of_answer line outcome.answer = rows_is ∙ ap (rows_of_answer line) goes.answer_is in
     subst Written (append_assoc text (move_rows topics s.group (drop from s.group.moves)) rows
     ∙ ap (λ (x : ClusterState). text ++ (move_rows topics x.group (drop from x.group.moves) ++ rows)) after
     ∙ ap (λ n. text ++ (move_rows topics outcome.after.cluster.group (drop n outcome.after.cluster.group.moves) ++ rows)) from_is
-    ∙ ap (λ rs. text ++ (move_rows topics outcome.after.cluster.group (drop (length w.cluster.group.moves) outcome.after.cluster.group.moves) ++ rs)) told) h
+    ∙ ap (λ rs. text ++ (move_rows topics outcome.after.cluster.group (drop (length w.cluster.group.moves) outcome.after.cluster.group.moves) ++ rs)) reported) h
 
 -- ---- one of many lines
 next_line : (lines : List Line) (i : ℕ) (line : Line) → i < length lines → line ≡ get_or lines i line → drop i lines ≡ line ∷ drop (i + 1) lines
@@ -68,9 +68,9 @@ text_step now rows left before after step h = sym (text_before-both now rows aft
 
 pub lines_fault : (topics : List Topic) (batch : ℕ) (w : WorldState) (lines : List Line) (i : ℕ) (line : Line) (whole : Result (List ℕ) Refusal) (e : Refusal) → i < length lines → line ≡ get_or lines i line
     → ((x : Refusal) → text_of_lines topics batch w (drop i lines) ≡ Err x → whole ≡ Err x) → (e ≡ r.Memory) ⊎ IsOver e (outcome_of_line batch w line.action).answer → (e ≡ r.Memory) ⊎ (whole ≡ Err e)
-lines_fault topics batch w lines i line whole e lt is told (inl m) = inl m
-lines_fault topics batch w lines i line whole e lt is told (inr over) =
-    inr (told e (ap (text_of_lines topics batch w) (next_line lines i line lt is) ∙ text_of_lines-over topics batch w line (drop (i + 1) lines) over.1 ∙ ap Err (sym over.0)))
+lines_fault topics batch w lines i line whole e lt is reported (inl m) = inl m
+lines_fault topics batch w lines i line whole e lt is reported (inr over) =
+    inr (reported e (ap (text_of_lines topics batch w) (next_line lines i line lt is) ∙ text_of_lines-over topics batch w line (drop (i + 1) lines) over.1 ∙ ap Err (sym over.0)))
 
 pub lines_end : (topics : List Topic) (batch : ℕ) (w : WorldState) (s : ClusterState) (lines : List Line) (i : ℕ) (now text : List ℕ) (whole : Result (List ℕ) Refusal) (Written : List ℕ → Type 0) → length lines ≤ i → s ≡ w.cluster
     → text_before now (text_of_lines topics batch w (drop i lines)) ≡ text_before text whole → Written (now ++ closing_rows topics s) → WritesText whole text Written

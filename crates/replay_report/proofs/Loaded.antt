@@ -35,11 +35,11 @@ record IsAppended (w : WorldState) (keyed : Keyed) (w2 : WorldState) : Type 0 wh
 in_topic : (w : WorldState) (keyed : Keyed) → IsOfTopic w.cluster.logs keyed → append_in_event w keyed ≡ append_event w keyed
 in_topic w keyed topic = rw (lt-ltb keyed.0 (length w.cluster.logs.counts) topic) refl
 
-append_step : (w : WorldState) (e : Event) (keyed : Keyed) (told : Reply) (w2 : WorldState) → IsAppendOf e keyed → IsOfTopic w.cluster.logs keyed → Step w e told w2 → MayCome w (append_event w keyed) told w2
-append_step w (event.Append key) keyed told w2 is topic step = subst (λ k. MayCome w (append_event w k) told w2) (sym is) step
-append_step w (event.AppendIn t key) keyed told w2 is topic step =
-    subst (λ (o : Outcome). MayCome w o told w2) (in_topic w keyed topic) (subst (λ k. MayCome w (append_in_event w k) told w2) (sym is) step)
-append_step w e keyed told w2 is topic step = absurd is
+append_step : (w : WorldState) (e : Event) (keyed : Keyed) (answer : Reply) (w2 : WorldState) → IsAppendOf e keyed → IsOfTopic w.cluster.logs keyed → Step w e answer w2 → MayCome w (append_event w keyed) answer w2
+append_step w (event.Append key) keyed answer w2 is topic step = subst (λ k. MayCome w (append_event w k) answer w2) (sym is) step
+append_step w (event.AppendIn t key) keyed answer w2 is topic step =
+    subst (λ (o : Outcome). MayCome w o answer w2) (in_topic w keyed topic) (subst (λ k. MayCome w (append_in_event w k) answer w2) (sym is) step)
+append_step w e keyed answer w2 is topic step = absurd is
 
 appended_step : (w : WorldState) (keyed : Keyed) (p offset : ℕ) (w2 : WorldState) → MayCome w (append_event w keyed) (reply.Appended p offset) w2 → IsAppended w keyed w2
 appended_step w keyed p offset w2 (inr comes) = absurd (cc comes.0)
@@ -58,7 +58,7 @@ refused_step w keyed why (inr comes) = inl (cc comes.0)
 refused_step w keyed why (inl comes) = go (append_answer w.cluster.logs keyed) refl comes
   where
     go : (a : Result (ℕ × ℕ) Refusal) → append_answer w.cluster.logs keyed ≡ a → Comes (append_outcome w keyed a) (reply.Refused why) w → (why ≡ r.Memory) ⊎ (append_answer w.cluster.logs keyed ≡ Err why)
-    go (Err told) is c = inr (is ∙ (let same : told ≡ why = cc c.0 in ap Err same))
+    go (Err answer) is c = inr (is ∙ (let same : answer ≡ why = cc c.0 in ap Err same))
     go (Ok at) is c = absurd (cc c.0)
 
 appends-one : (e : Event) (keyed : Keyed) (p offset : ℕ) → IsAppendOf e keyed → appended_by e (reply.Appended p offset) ≡ keyed ∷ []
@@ -96,7 +96,7 @@ runs_loaded counts before w [] [] [] w2 v h same are topics run all = record {
   counts_are = ap (λ (x : WorldState). x.cluster.logs.counts) run ∙ same;
   faults = λ rest. ap (λ b. first_fault counts b rest) (sym (append-nil before));
 }
-runs_loaded counts before w [] [] (told ∷ replies) w2 v h same are topics run all = absurd run
+runs_loaded counts before w [] [] (answer ∷ replies) w2 v h same are topics run all = absurd run
 runs_loaded counts before w [] (keyed ∷ records) replies w2 v h same are topics run all = absurd are
 runs_loaded counts before w (e ∷ events) [] replies w2 v h same are topics run all = absurd are
 runs_loaded counts before w (e ∷ events) (keyed ∷ records) [] w2 v h same are topics run all = absurd run
@@ -116,19 +116,19 @@ runs_loaded counts before w (e ∷ events) (keyed ∷ records) (reply.Appended p
       counts_are = rest.counts_are;
       faults = λ others. first_fault-later counts before keyed (records ++ others) fine ∙ rest.faults others ∙ ap (λ b. first_fault counts b others) joined;
     }
-runs_loaded counts before w (e ∷ events) (keyed ∷ records) (told ∷ replies) w2 v h same are topics run all = absurd all
+runs_loaded counts before w (e ∷ events) (keyed ∷ records) (answer ∷ replies) w2 v h same are topics run all = absurd all
 
 next_refused : (counts : List ℕ) (before : List Keyed) (w : WorldState) (events : List Event) (records : List Keyed) (why : Refusal) → IsValidWorld w → AreLogsOf before w.cluster.logs → w.cluster.logs.counts ≡ counts
     → AreAppendsOf events records → AreOfTopics counts records → IsRefusedNext w events why → IsKeyFault why × ((why ≡ r.Memory) ⊎ (first_fault counts before records ≡ Some why))
 next_refused counts before w [] records why v h same are topics stop = absurd stop
 next_refused counts before w (e ∷ events) [] why v h same are topics stop = absurd are
-next_refused counts before w (e ∷ events) (keyed ∷ records) why v h same are topics stop = (record_fault-kind w.cluster.logs keyed why told, go told)
+next_refused counts before w (e ∷ events) (keyed ∷ records) why v h same are topics stop = (record_fault-kind w.cluster.logs keyed why answer, go answer)
   where
     topic : IsOfTopic w.cluster.logs keyed
     topic = of-topic counts w keyed same (All-head (λ (k : Keyed). k.0 < length counts) keyed records topics)
 
-    told : (why ≡ r.Memory) ⊎ (append_answer w.cluster.logs keyed ≡ Err why)
-    told = refused_step w keyed why (append_step w e keyed (reply.Refused why) w are.0 topic stop)
+    answer : (why ≡ r.Memory) ⊎ (append_answer w.cluster.logs keyed ≡ Err why)
+    answer = refused_step w keyed why (append_step w e keyed (reply.Refused why) w are.0 topic stop)
 
     go : (why ≡ r.Memory) ⊎ (append_answer w.cluster.logs keyed ≡ Err why) → (why ≡ r.Memory) ⊎ (first_fault counts before (keyed ∷ records) ≡ Some why)
     go (inl e) = inl e
@@ -151,18 +151,18 @@ drop_appends (suc n) (e ∷ events) (keyed ∷ records) h = drop_appends n event
 pub load_done : (counts : List ℕ) (w : WorldState) (records : List Keyed) (w2 : WorldState) → IsValidWorld w → AreLogsOf [] w.cluster.logs → w.cluster.logs.counts ≡ counts → AreOfTopics counts records
     → LoadsRecords w records (Ok tt) w2 → (w2 ≡ loaded w records) × (first_fault counts [] records ≡ None)
 load_done counts w records w2 v h same topics done =
-    let known = runs_loaded counts [] w done.0 records done.2.0 w2 v h same done.1 topics done.2.1 done.2.2 in (
-      known.after,
-      ap (first_fault counts []) (sym (append-nil records)) ∙ known.faults [] ∙ first_fault-nil counts records,
+    let ran = runs_loaded counts [] w done.0 records done.2.0 w2 v h same done.1 topics done.2.1 done.2.2 in (
+      ran.after,
+      ap (first_fault counts []) (sym (append-nil records)) ∙ ran.faults [] ∙ first_fault-nil counts records,
     )
 
 load_stopped-at : (counts : List ℕ) (w : WorldState) (events : List Event) (records : List Keyed) (n : ℕ) (why : Refusal) (w2 : WorldState) → IsValidWorld w → AreLogsOf [] w.cluster.logs → w.cluster.logs.counts ≡ counts
     → AreAppendsOf events records → AreOfTopics counts records → Appends w (take n events) w2 → StopsLoad w2 (drop n events) n why → IsKeyFault why × ((why ≡ r.Memory) ⊎ (first_fault counts [] records ≡ Some why))
 load_stopped-at counts w events records n why w2 v h same are topics done (inr none) = (subst IsKeyFault (sym none.1) tt, inl none.1)
 load_stopped-at counts w events records n why w2 v h same are topics done (inl stop) =
-    let known = runs_loaded counts [] w (take n events) (take n records) done.0 w2 v h same (take_appends n events records are) (All-take (λ (k : Keyed). k.0 < length counts) n records topics) done.1 done.2 in
-    let next = next_refused counts (take n records) w2 (drop n events) (drop n records) why known.valid known.logs known.counts_are (drop_appends n events records are) (All-drop (λ (k : Keyed). k.0 < length counts) n records topics) stop in
-    (next.0, go (take-append-drop n records) (known.faults (drop n records)) next.1)
+    let ran = runs_loaded counts [] w (take n events) (take n records) done.0 w2 v h same (take_appends n events records are) (All-take (λ (k : Keyed). k.0 < length counts) n records topics) done.1 done.2 in
+    let next = next_refused counts (take n records) w2 (drop n events) (drop n records) why ran.valid ran.logs ran.counts_are (drop_appends n events records are) (All-drop (λ (k : Keyed). k.0 < length counts) n records topics) stop in
+    (next.0, go (take-append-drop n records) (ran.faults (drop n records)) next.1)
   where
     go : take n records ++ drop n records ≡ records → first_fault counts [] (take n records ++ drop n records) ≡ first_fault counts (take n records) (drop n records)
         → (why ≡ r.Memory) ⊎ (first_fault counts (take n records) (drop n records) ≡ Some why) → (why ≡ r.Memory) ⊎ (first_fault counts [] records ≡ Some why)

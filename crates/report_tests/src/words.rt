@@ -219,7 +219,7 @@ fn are_topics(topics: &[Topic], wanted: Topics) -> bool {
 
 /// Whether the answer has these topics and this topic column, or, if there are none, is the error
 /// of an invalid list.
-fn tells(answer: &Result<Job, Usage>, wanted: Option<Topics>, column: u32) -> bool {
+fn has_topics(answer: &Result<Job, Usage>, wanted: Option<Topics>, column: u32) -> bool {
     match (answer, wanted) {
         (
             Ok(Job::Count { options, .. } | Job::Replay { options, .. } | Job::Run { options, .. }),
@@ -233,7 +233,7 @@ fn tells(answer: &Result<Job, Usage>, wanted: Option<Topics>, column: u32) -> bo
 /// Whether the arguments are answered so.
 fn are_reported(alloc: Global, words: &[&str], wanted: Option<Topics>, column: u32) -> bool {
     let answer = read_words(alloc, words);
-    tells(&answer, wanted, column)
+    has_topics(&answer, wanted, column)
 }
 
 /// Lists of topics, each with its topics if it is valid.

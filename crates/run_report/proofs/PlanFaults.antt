@@ -43,8 +43,8 @@ unfolding plan_of with_a_line
 plan_fault_kind lines e h = go (first_fault [] lines) (first_fault_kind [] lines) h
   where
     go : (o : Option Refusal) → ((x : Refusal) → o ≡ Some x → IsLineFault x) → option_map_or Err o (with_a_line (changes_in lines)) ≡ Err e → IsLineFault e
-    go (Some fault) told h = told e (let is : fault ≡ e = cc h in ap Some is)
-    go None told h = none (length (changes_in lines) == 0) h
+    go (Some fault) reported h = reported e (let is : fault ≡ e = cc h in ap Some is)
+    go None reported h = none (length (changes_in lines) == 0) h
       where
         none : (b : Bool) → cond b (Err (r.NobodyLeft 0)) (Ok (changes_in lines)) ≡ Err e → IsLineFault e
         none true h = let is : r.NobodyLeft 0 ≡ e = cc h in subst IsLineFault is tt

@@ -175,9 +175,9 @@ one_more seen x k h = go (is_interned seen x) h
     go true e = inl e
     go false e = last (is_interned seen k) (bytes_eq k x) (sym (list_any-append (bytes_eq k) seen (x ∷ [])) ∙ e)
 
-known_there : (seen keys : List Key) (k : Key) → is_interned (fold with_key seen keys) k ≡ true → (is_interned seen k ≡ true) ⊎ (is_interned keys k ≡ true)
-known_there seen [] k h = inl h
-known_there seen (x ∷ keys) k h = go (known_there (with_key seen x) keys k h)
+interned_there : (seen keys : List Key) (k : Key) → is_interned (fold with_key seen keys) k ≡ true → (is_interned seen k ≡ true) ⊎ (is_interned keys k ≡ true)
+interned_there seen [] k h = inl h
+interned_there seen (x ∷ keys) k h = go (interned_there (with_key seen x) keys k h)
   where
     or_left : (b d : Bool) → b ≡ true → (b || d) ≡ true
     or_left true d e = refl
@@ -205,7 +205,7 @@ counted_there (x ∷ keys) k h e = go (bytes_eq k x) (counted_there keys k) h (s
 
 distinct_counted : (keys : List Key) (k : Key) → is_interned (distinct keys) k ≡ true → plain keys k ≡ 0 → ⊥
 unfolding distinct
-distinct_counted keys k h = elim (known_there [] keys k h) [
+distinct_counted keys k h = elim (interned_there [] keys k h) [
   | inl e ↦ absurd (cc e)
   | inr e ↦ counted_there keys k e
 ]
@@ -285,10 +285,10 @@ key_ends_run options records plan e k (inr h) = key_ends (report_of_plan options
 pub refusal_ends_run : (options : Options) (records : List Keyed) (plan : List Change) (e : Refusal) → first_fault (partition_counts options) [] records ≡ None → IsRunRefusal e → EndsRun (report_of_plan options records plan) e
 refusal_ends_run options records plan e none h = go h
   where
-    told : IsOk (report_of_plan options records plan)
-    told = is_ok (report_of_plan options records plan) _ (text_reported options records plan _ none refl)
+    reported : IsOk (report_of_plan options records plan)
+    reported = is_ok (report_of_plan options records plan) _ (text_reported options records plan _ none refl)
 
     go : IsRunRefusal e → EndsRun (report_of_plan options records plan) e
     go (inl m) = subst (EndsRun (report_of_plan options records plan)) (sym m) tt
-    go (inr (inl m)) = subst (EndsRun (report_of_plan options records plan)) (sym m) told
-    go (inr (inr m)) = subst (EndsRun (report_of_plan options records plan)) (sym m) told
+    go (inr (inl m)) = subst (EndsRun (report_of_plan options records plan)) (sym m) reported
+    go (inr (inr m)) = subst (EndsRun (report_of_plan options records plan)) (sym m) reported

@@ -7,7 +7,7 @@ use Rattle.partitioner.specs.Name.{is_name}
 use Rattle.script.proofs.Parts.{split-parts}
 use Rattle.script.proofs.TopicLemmas.{in-parsed}
 use Rattle.script.specs.Forms.{◌⎵◌, IsNamed, IsNumbered, IsTextIn, IsWritten}
-use Rattle.script.specs.Grammar.{action_of, append_action, appended, bare_action, command_action, mail_action, member_action, name_of, number_of, poll_action, send_action, single_action, split_word, parse_topic}
+use Rattle.script.specs.Grammar.{action_of, append_action, appended, nullary_action, command_action, mail_action, member_action, name_of, number_of, poll_action, send_action, single_action, split_word, parse_topic}
 use Rattle.partitioner.specs.declared.topic.Topic.{Topic}
 
 module _ {A : Type 0} (P : A → Type 0) where
@@ -39,10 +39,10 @@ module _ {A : Type 0} (P : A → Type 0) where
 same : (word text : List ℕ) → bytes_eq word text ≡ true → word ≡ text
 same word text e = (bytes_eq-Decides word text).0 e
 
-bare_parsed : (topics : List Topic) (command line : List ℕ) → line ≡ command
-    → IfSome (bare_action command) (λ action. IsWritten topics action line)
-unfolding bare_action
-bare_parsed topics command line e =
+nullary_parsed : (topics : List Topic) (command line : List ℕ) → line ≡ command
+    → IfSome (nullary_action command) (λ action. IsWritten topics action line)
+unfolding nullary_action
+nullary_parsed topics command line e =
     if_some (λ action. IsWritten topics action line) _ _ _ (λ t. e ∙ same command (codes "settle") t)
     (if_some (λ action. IsWritten topics action line) _ _ _ (λ t. e ∙ same command (codes "drain") t)
     tt)
@@ -162,8 +162,8 @@ read_is_written topics line = go (split_word line) refl
   where
     go : (parts : Option (List ℕ × List ℕ)) → split_word line ≡ parts
         → IfSome
-        (option_map_or (λ parts. command_action topics parts.0 parts.1) parts (bare_action line))
+        (option_map_or (λ parts. command_action topics parts.0 parts.1) parts (nullary_action line))
         (λ action. IsWritten topics action line)
-    go None cut = bare_parsed topics line line refl
+    go None cut = nullary_parsed topics line line refl
     go (Some parts) cut =
         command_parsed topics parts.0 parts.1 line (split-parts line parts cut)

@@ -35,7 +35,7 @@ untrue false h = refl
 pub topic-named : (topics : List Topic) (i : ℕ) (topic : Topic) → MayBeTopics topics
     → slice_get topics i ≡ Some topic → topic_named topics topic.name ≡ Some i
 unfolding topic_named
-topic-named topics i topic known e =
+topic-named topics i topic valid e =
     let within = slice_get_within topics i topic e in
     let is = get_or_from_slice_get topics i topic no_topic e in
     let at =
@@ -43,7 +43,7 @@ topic-named topics i topic known e =
     (λ k below.
     untrue (bytes_eq (get_or topics k no_topic).name topic.name)
     (λ same.
-    known.distinct k i no_topic below within
+    valid.distinct k i no_topic below within
     ((bytes_eq-Decides (get_or topics k no_topic).name topic.name).0 same ∙ ap (λ t. t.name) (sym is))))
     (λ below.
     (bytes_eq-Decides (get_or topics i no_topic).name topic.name).1 (ap (λ t. t.name) is)) in
@@ -63,23 +63,23 @@ named-before first more text = at (length (first ∷ more) == 0) refl
 before-in : (topics : List Topic) (i : ℕ) (parsed text : List ℕ) → MayBeTopics topics
     → IsInTopic topics i parsed text → topic_before topics text ≡ Some (Some i, parsed)
 unfolding topic_before
-before-in topics i parsed text known h =
-    let name = known.named i h.topic (slice_get_within topics i h.topic h.at) in
+before-in topics i parsed text valid h =
+    let name = valid.named i h.topic (slice_get_within topics i h.topic h.at) in
     let same = get_or_from_slice_get topics i h.topic h.topic h.at in
     let named : is_name h.topic.name ≡ true = sym (ap (λ t. is_name t.name) same) ∙ name in
     rw (
       h.text_is,
       split-there h.topic.name parsed (name-word h.topic.name named),
-      topic-named topics i h.topic known h.at,
+      topic-named topics i h.topic valid h.at,
     ) refl
 
 pub parsed-in : (topics : List Topic) (topic : Option ℕ) (parsed text : List ℕ) → MayBeTopics topics
     → IsTextIn topics topic parsed text → parse_topic topics text ≡ Some (topic, parsed)
 unfolding parse_topic
-parsed-in topics None parsed text known h = rw (h.0, h.1) refl
-parsed-in [] (Some i) parsed text known h = absurd (cc h.at)
-parsed-in (first ∷ more) (Some i) parsed text known h =
-    named-before first more text ∙ before-in (first ∷ more) i parsed text known h
+parsed-in topics None parsed text valid h = rw (h.0, h.1) refl
+parsed-in [] (Some i) parsed text valid h = absurd (cc h.at)
+parsed-in (first ∷ more) (Some i) parsed text valid h =
+    named-before first more text ∙ before-in (first ∷ more) i parsed text valid h
 
 in-before : (topics : List Topic) (text : List ℕ) (o : Option ℕ × List ℕ)
     → topic_before topics text ≡ Some o → IsTextIn topics o.0 o.1 text

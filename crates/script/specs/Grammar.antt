@@ -74,8 +74,8 @@ append_action topics text = do
   Some (appended parsed.0 parsed.1)
 
 -- settle, drain
-unfoldable pub bare_action : List ℕ → Option Action
-bare_action command =
+unfoldable pub nullary_action : List ℕ → Option Action
+nullary_action command =
     if bytes_eq command (codes "settle") then Some Settle
     else if bytes_eq command (codes "drain") then Some Drain
     else None
@@ -140,4 +140,4 @@ action_of topics line =
     option_map_or
     (λ parts. command_action topics parts.0 parts.1)
     (split_word line)
-    (bare_action line)
+    (nullary_action line)

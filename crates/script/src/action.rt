@@ -1,7 +1,7 @@
 //! The actions of a script, and the grammar of their lines.
 
 ghost use Rattle.std.specs.Prelude.{◌≡◌, Some, IfOk};
-ghost use Rattle.script.specs.Grammar.{action_of, append_action, bare_action, command_action, mail_action, member_action, poll_action, send_action, single_action};
+ghost use Rattle.script.specs.Grammar.{action_of, append_action, nullary_action, command_action, mail_action, member_action, poll_action, send_action, single_action};
 ghost use Rattle.partitioner.specs.Topic.{MayBeTopics};
 
 use crate::{topics, words};
@@ -102,7 +102,7 @@ pub fn action_of(alloc: Global, topics: &[Topic], line: &[u8]) -> Result<Option<
 {
     match words::split_word(line) {
         Some((command, text)) => command_action(alloc, topics, command, text),
-        None => Ok(bare_action(line)),
+        None => Ok(nullary_action(line)),
     }
 }
 
@@ -145,9 +145,9 @@ fn append_action(alloc: Global, topics: &[Topic], text: &[u8]) -> Result<Option<
 }
 
 /// `settle` and `drain`.
-#[tactic(auto, unfolding(crate::specs::Grammar::bare_action))]
-fn bare_action(command: &[u8]) -> Option<Action>
-    ensures { result ≡ bare_action command.now }
+#[tactic(auto, unfolding(crate::specs::Grammar::nullary_action))]
+fn nullary_action(command: &[u8]) -> Option<Action>
+    ensures { result ≡ nullary_action command.now }
 {
     if command == b"settle".as_slice() {
         Some(Action::Settle)

@@ -1,7 +1,7 @@
 pub mod AssignedLaws
 pub mod Balance
 pub mod Even
-pub mod Keeps
+pub mod Retains
 pub mod Most
 pub mod Ranks
 pub mod Rows

@@ -11,7 +11,7 @@ use Rattle.sticky_assignor.specs.Retained.{in_both, retained}
 use Rattle.sticky_assignor.proofs.Rows.{how_many-most}
 use Rattle.sticky_assignor.proofs.Balance.{total, Within, heavies_cons, length_shares, length_gaps, retaining_fits, partitions_free}
 use Rattle.sticky_assignor.proofs.Ranks.{length_retaining}
-use Rattle.sticky_assignor.proofs.Keeps.{overs, total_overs}
+use Rattle.sticky_assignor.proofs.Retains.{overs, total_overs}
 use Rattle.sticky_assignor.proofs.Even.{sizes_of, length_sizes, total_sizes, sizes_sum, balanced_within}
 
 -- what can stay within quotas

@@ -7,7 +7,7 @@ use Rattle.sticky_assignor.specs.Private.Filling.{quotas, retaining, free_of, ga
 use Rattle.sticky_assignor.specs.Target.{rows_by, target}
 use Rattle.sticky_assignor.proofs.Rows.{how_many-most}
 use Rattle.sticky_assignor.proofs.Balance.{Within, Fits, partitions_free, length_gaps, retaining_over}
-use Rattle.sticky_assignor.proofs.Keeps.{retaining_all, fits_quotas}
+use Rattle.sticky_assignor.proofs.Retains.{retaining_all, fits_quotas}
 use Rattle.sticky_assignor.proofs.Even.{sizes_of, length_sizes, total_sizes, sizes_sum, balanced_within}
 use Rattle.sticky_assignor.proofs.Ranks.{filling_is_target}
 

@@ -6,7 +6,7 @@ use Rattle.sticky_assignor.specs.Balanced.{AreBelow, IsBalanced}
 use Rattle.sticky_assignor.specs.Private.Filling.{quotas, free_of, gaps, filled, filling}
 use Rattle.sticky_assignor.proofs.Rows.{size_beyond}
 use Rattle.sticky_assignor.proofs.Balance.{Fits, length_gaps, partitions_free}
-use Rattle.sticky_assignor.proofs.Keeps.{retaining_all, fits_quotas}
+use Rattle.sticky_assignor.proofs.Retains.{retaining_all, fits_quotas}
 use Rattle.sticky_assignor.proofs.Even.{sizes_of, length_sizes, total_sizes, sizes_sum, balanced_within, nothing_free}
 
 or_false : (x y : Bool) → y ≡ false → (x || y) ≡ x

@@ -6,7 +6,7 @@ use Rattle.std.proofs.lemmas.Bool.Decides.{nat_tests}
 use Rattle.lane_words.specs.declared.Refusal.{Refusal}
 use Rattle.lane_words.specs.declared.Refusal.TheVariants as r
 use Rattle.bit_planes.specs.PartitionSet.{elements, is_in}
-use Rattle.bit_planes.proofs.Listed.{elements_tell, is_listed}
+use Rattle.bit_planes.proofs.Listed.{listed_elements, is_listed}
 use Rattle.partition_log.specs.Logs.{PartitionLogs, log_at}
 use Rattle.group_machine.specs.Cluster.{LeaseTerms, start_of}
 use Rattle.consumer.specs.declared.held.Held.{Held}
@@ -28,7 +28,7 @@ none_begun lease l left all = record {
 }
   where
     listed : (k : ℕ) → is_listed k left ≡ is_in lease.assigned k
-    listed k = ap (is_listed k) all ∙ elements_tell lease.assigned k
+    listed k = ap (is_listed k) all ∙ listed_elements lease.assigned k
 
 this : (p : ℕ) (b : Bool) → ((p == p) || b) ≡ true
 this p true = grind (arith, nat_tests)

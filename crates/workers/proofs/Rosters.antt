@@ -143,18 +143,18 @@ left_roster : (g : GroupState) (r : Roster) (name : List ℕ) → HasRoster g r 
 left_roster g r name has e = record {
   names_are = left_names g (number_of g name) ∙ has.names_are;
   there = λ i other at gone.
-      let apart = neither r.gone name other gone in
-      left_others g (number_of g name) (i + 1) (λ same. another i other at apart.1 same) ∙ has.there i other at apart.0;
+      let not_either = neither r.gone name other gone in
+      left_others g (number_of g name) (i + 1) (λ same. another i other at not_either.1 same) ∙ has.there i other at not_either.0;
 }
   where
     n : HasNumber g name
     n = number_there g r name has e
 
     another : (i : ℕ) (other : List ℕ) → slice_get r.joined i ≡ Some other → bytes_eq name other ≡ false → i + 1 ≡ number_of g name → ⊥
-    another i other at apart same =
+    another i other at not_either same =
         let index : i ≡ n.index = omega (arith, same, number_is g name n) in
         let named : Some other ≡ Some name = sym at ∙ ap (λ xs. slice_get xs i) (sym has.names_are) ∙ ap (λ k. slice_get (names g) k) index ∙ n.named in
-        false≢true (sym apart ∙ (bytes_eq-Decides name other).1 (sym (some_same other name named)))
+        false≢true (sym not_either ∙ (bytes_eq-Decides name other).1 (sym (some_same other name named)))
 
 changed_roster : (g : GroupState) (r : Roster) (line : Change) → HasRoster g r → is_allowed r line ≡ true → HasRoster (changed_by g line) (entered r line)
 unfolding is_allowed

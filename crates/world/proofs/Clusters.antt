@@ -26,20 +26,20 @@ use Rattle.group_machine.proofs.JoinLemmas.{accepted_join}
 use Rattle.group_laws.proofs.OtherLemmas.{accepted_leave, join_leaves, leave_leaves, rejoin_leaves}
 use Rattle.group_laws.proofs.StepLemmas.{join_valid, leave_valid, rejoin_valid}
 use Rattle.group_machine.proofs.StepLemmas.{sync_valid}
-use Rattle.group_laws.proofs.TakeOverLemmas.{handed_leaves, kept_join_valid, kept_join_leaves, take_over_valid, take_over_hands}
+use Rattle.group_laws.proofs.TakeOverLemmas.{handed_leaves, static_join_valid, static_join_leaves, take_over_valid, take_over_hands}
 
 -- ---- steps of the group
 pub joined_valid : (s : ClusterState) (name : List ℕ) (n : ℕ) → IsValidCluster s → join_answer s.group name ≡ Ok n → IsValidCluster (with_group s (joined_by s.group name))
 joined_valid s name n v ok =
     regrouped s (joined_by s.group name) v (join_valid s.group name v.good (accepted_join s.group name n ok).0) (join_leaves s.group name n v.good ok).partitions
 
-pub joined_kept_valid : (s : ClusterState) (name : List ℕ) (n : ℕ) → IsValidCluster s → join_answer s.group name ≡ Ok n → IsValidCluster (with_group s (joined_static_by s.group name))
-joined_kept_valid s name n v ok =
-    regrouped s (joined_static_by s.group name) v (kept_join_valid s.group name v.good (accepted_join s.group name n ok).0) (kept_join_leaves s.group name n v.good ok).partitions
+pub joined_static_valid : (s : ClusterState) (name : List ℕ) (n : ℕ) → IsValidCluster s → join_answer s.group name ≡ Ok n → IsValidCluster (with_group s (joined_static_by s.group name))
+joined_static_valid s name n v ok =
+    regrouped s (joined_static_by s.group name) v (static_join_valid s.group name v.good (accepted_join s.group name n ok).0) (static_join_leaves s.group name n v.good ok).partitions
 
 pub taken_over_valid : (s : ClusterState) (name : List ℕ) (m n : ℕ) → IsValidCluster s → static_member s.group name ≡ Some m → take_over_answer s.group name ≡ Ok n → IsValidCluster (with_group s (taken_over_by s.group name))
-taken_over_valid s name m n v kept ok =
-    regrouped s (taken_over_by s.group name) v (take_over_valid s.group name m n v.good kept ok) (take_over_hands s.group name m n kept ok).partitions
+taken_over_valid s name m n v is_static ok =
+    regrouped s (taken_over_by s.group name) v (take_over_valid s.group name m n v.good is_static ok) (take_over_hands s.group name m n is_static ok).partitions
 
 pub rejoined_valid : (s : ClusterState) (m generation : ℕ) (claim : PartitionSet) → IsValidCluster s → rejoin_answer s.group m generation claim ≡ Ok tt → IsValidCluster (with_group s (rejoined_by s.group m))
 rejoined_valid s m generation claim v ok =

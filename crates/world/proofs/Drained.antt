@@ -83,7 +83,7 @@ record IsReader (g : GroupState) (m p : ℕ) : Type 0 where
 
 record HoldsAt (w : WorldState) (m p : ℕ) (h : Held) : Type 0 where
   pub c : ConsumerState
-  pub known : consumer_of w m ≡ Some c
+  pub is_consumer : consumer_of w m ≡ Some c
   pub member : c.member ≡ Some m
   pub held : held_at c p ≡ Some h
 
@@ -106,16 +106,16 @@ some_held (Some h) e = (h, refl)
 
 reader_holds : (w : WorldState) (m p : ℕ) → IsValidWorld w → IsReader w.cluster.group m p → (h : Held) × HoldsAt w m p h
 reader_holds w m p v reads =
-    let known = present_has_consumer w m v reads.present in
-    let step = v.present m known.0 reads.present known.1 in
-    let held = some_held (held_at known.0 p) (step.held reads.synced p reads.assigned) in
-    (held.0, record { c = known.0; known = known.1; member = step.member; held = held.1 })
+    let is_consumer = present_has_consumer w m v reads.present in
+    let step = v.present m is_consumer.0 reads.present is_consumer.1 in
+    let held = some_held (held_at is_consumer.0 p) (step.held reads.synced p reads.assigned) in
+    (held.0, record { c = is_consumer.0; is_consumer = is_consumer.1; member = step.member; held = held.1 })
 
 abbrev base_in : WorldState → ℕ → ℕ → ℕ
 base_in w m p = option_map_or (λ c. base_of c p) (consumer_of w m) 0
 
 base_held : (w : WorldState) (m p : ℕ) (h : Held) → HoldsAt w m p h → base_in w m p ≡ h.base
-base_held w m p h at = ap (λ o. option_map_or (λ c. base_of c p) o 0) at.known ∙ ap slot_base at.held
+base_held w m p h at = ap (λ o. option_map_or (λ c. base_of c p) o 0) at.is_consumer ∙ ap slot_base at.held
 
 base_committed : (w : WorldState) (m p : ℕ) → IsValidWorld w → base_in w m p ≤ committed_at w.cluster.store p
 base_committed w m p v = go (consumer_of w m) refl
@@ -131,7 +131,7 @@ hold_ok c m p h member held = rw (member, held) refl
 poll_accepted : (w : WorldState) (m p n : ℕ) (h : Held) (at : HoldsAt w m p h) → (poll_event w m p n).after ≡ on_consumer w m (λ x. polled x w.cluster.logs p n)
 poll_accepted w m p n h at =
     let ok = hold_ok at.c m p h at.member at.held in
-    ap (λ o. (poll_by_consumer w m p n o).after) at.known ∙ ap (λ a. (poll_outcome w m p n at.c (result_and a (Ok (polled_count at.c w.cluster.logs p n)))).after) ok
+    ap (λ o. (poll_by_consumer w m p n o).after) at.is_consumer ∙ ap (λ a. (poll_outcome w m p n at.c (result_and a (Ok (polled_count at.c w.cluster.logs p n)))).after) ok
 
 abbrev polled_held : WorldState → ℕ → ℕ → Held → Held
 polled_held w p n h = record { base = h.base; position = h.position + min n (length (log_at w.cluster.logs p) - h.position) }
@@ -143,7 +143,7 @@ poll_moves w m p n h at =
     let offsets : Option Held → Held = λ o. record { base = slot_base o; position = slot_position o + min n (length (log_at w.cluster.logs p) - slot_position o) } in
     record {
       c = f at.c;
-      known = ap (λ x. consumer_of x m) (poll_accepted w m p n h at) ∙ changed_existing w m at.c f at.known;
+      is_consumer = ap (λ x. consumer_of x m) (poll_accepted w m p n h at) ∙ changed_existing w m at.c f at.is_consumer;
       member = at.member;
       held = held_there at.c p h (offsets (held_at at.c p)) at.held ∙ ap (λ o. Some (offsets o)) at.held;
     }
@@ -171,7 +171,7 @@ sendable c m p h member held lt =
     rw (ok, some) refl
 
 holds_pending : (w : WorldState) (m p : ℕ) (h : Held) → HoldsAt w m p h → h.base < h.position → is_pending w m p ≡ true
-holds_pending w m p h at lt = ap (λ o. option_map_or (λ c. is_ok (sendable_answer c p)) o false) at.known ∙ ap is_ok (sendable at.c m p h at.member at.held lt)
+holds_pending w m p h at lt = ap (λ o. option_map_or (λ c. is_ok (sendable_answer c p)) o false) at.is_consumer ∙ ap is_ok (sendable at.c m p h at.member at.held lt)
 
 -- the world with the commit in its mail
 abbrev sent_by : WorldState → ConsumerState → ℕ → WorldState
@@ -181,7 +181,7 @@ send_is : (w : WorldState) (m p : ℕ) (h : Held) (at : HoldsAt w m p h) → h.b
     → send_event w m p ≡ send_outcome w p at.c (let a : Result (Unit {0}) Refusal = if full then Err r.MailFull else Ok tt in a)
 send_is w m p h at lt full is =
     let ok = sendable at.c m p h at.member at.held lt in
-    ap (send_by_consumer w p) at.known ∙ ap (λ a. send_outcome w p at.c (result_and a (let x : Result (Unit {0}) Refusal = if nat_le MOST_COMMITS (length w.mail) then Err r.MailFull else Ok tt in x))) ok
+    ap (send_by_consumer w p) at.is_consumer ∙ ap (λ a. send_outcome w p at.c (result_and a (let x : Result (Unit {0}) Refusal = if nat_le MOST_COMMITS (length w.mail) then Err r.MailFull else Ok tt in x))) ok
     ∙ ap (λ b. send_outcome w p at.c (let x : Result (Unit {0}) Refusal = if b then Err r.MailFull else Ok tt in x)) is
 
 last_sent : (w : WorldState) (c : ConsumerState) (p : ℕ) → commit_at (sent_by w c p) (length (sent_by w c p).mail) ≡ Some (commit_of c w.cluster.logs p)
@@ -201,11 +201,11 @@ answer_raises w m p h at v (Ok end) is ok =
 answer_raises w m p h at v (Err (r.OffsetMismatch k)) is ok =
     let t = commit_of at.c w.cluster.logs p in
     let replied = commit_mismatch w.cluster t k is in
-    let known = (v.consumers m at.c at.known).committed p in
+    let is_consumer = (v.consumers m at.c at.is_consumer).committed p in
     let other = commit_elsewhere w.cluster t k is in
     elim (cases_lt (base_of at.c p) (committed_at w.cluster.store p)) [
       | inl lt ↦ omega (arith, lt, replied, realigned_base at.c p k h at.held, ap slot_base at.held)
-      | inr le ↦ absurd (other (omega (arith, le, known)))
+      | inr le ↦ absurd (other (omega (arith, le, is_consumer)))
     ]
 answer_raises w m p h at v (Err why) is ok = absurd (cc ok)
 
@@ -218,9 +218,9 @@ delivered_base w m p h at a =
     let w1 = sent_by w at.c p in
     let w2 = with_cluster w1 (given w.cluster t a) in
     let mine : t.member ≡ m = ap (λ o. unwrap_or o 0) at.member in
-    let known : consumer_of w2 m ≡ Some at.c = same_consumers w w2 m refl ∙ at.known in
+    let is_consumer : consumer_of w2 m ≡ Some at.c = same_consumers w w2 m refl ∙ at.is_consumer in
     let f : ConsumerState → ConsumerState = λ x. answered_by x p a in
-    ap (λ n. base_in (on_consumer w2 n f) m p) mine ∙ ap (λ o. option_map_or (λ c. base_of c p) o 0) (changed_existing w2 m at.c f known)
+    ap (λ n. base_in (on_consumer w2 n f) m p) mine ∙ ap (λ o. option_map_or (λ c. base_of c p) o 0) (changed_existing w2 m at.c f is_consumer)
 
 commit_raises : (w : WorldState) (m p : ℕ) (h : Held) → IsValidWorld w → HoldsAt w m p h → h.base < h.position → (forgiven (commit_pending m p w)).answer ≡ Ok tt
     → h.base < base_in (commit_pending m p w).after m p
@@ -253,11 +253,11 @@ is_up : (b n : ℕ) → (b == n) ≡ true → b ≡ n
 is_up b n e = grind (arith, nat_tests)
 
 read_up_is : (w : WorldState) (m p : ℕ) (h : Held) → HoldsAt w m p h → is_read_up w m p ≡ (h.base == length (log_at w.cluster.logs p))
-read_up_is w m p h at = ap (λ o. option_map_or (λ c. base_of c p == length (log_at w.cluster.logs p)) o false) at.known ∙ ap (λ o. slot_base o == length (log_at w.cluster.logs p)) at.held
+read_up_is w m p h at = ap (λ o. option_map_or (λ c. base_of c p == length (log_at w.cluster.logs p)) o false) at.is_consumer ∙ ap (λ o. slot_base o == length (log_at w.cluster.logs p)) at.held
 
 holds_within : (w : WorldState) (m p : ℕ) (h : Held) → IsValidWorld w → HoldsAt w m p h → (h.base ≤ h.position) × (h.position ≤ length (log_at w.cluster.logs p))
 holds_within w m p h v at =
-    let was = v.consumers m at.c at.known in
+    let was = v.consumers m at.c at.is_consumer in
     (omega (arith, was.valid.ordered p, ap slot_base at.held, ap slot_position at.held), omega (arith, was.within p, ap slot_position at.held))
 
 read_on_raises : (batch m p : ℕ) (w : WorldState) → 1 ≤ batch → IsValidWorld w → IsReader w.cluster.group m p → is_read_up w m p ≡ false → (read_on batch m p w).answer ≡ Ok tt
@@ -289,8 +289,8 @@ reader_stays w w2 m p left reads = subst (λ g. IsReader g m p) (sym left.group)
 read_up_drains : (n batch m p : ℕ) (w : WorldState) → 1 ≤ batch → IsValidWorld w → IsReader w.cluster.group m p → length (log_at w.cluster.logs p) ≤ base_in w m p + n → (read_up n batch m p w).answer ≡ Ok tt
     → IsDrained (read_up n batch m p w).after p
 unfolding read_up
-read_up_drains zero batch m p w some v reads near ok = omega (arith, near, base_committed w m p v)
-read_up_drains (suc n) batch m p w some v reads near ok = go (read_up_drains n batch m p (read_on batch m p w).after some v2 (reader_stays w (read_on batch m p w).after m p left reads)) (is_read_up w m p) refl ok
+read_up_drains zero batch m p w some v reads enough ok = omega (arith, enough, base_committed w m p v)
+read_up_drains (suc n) batch m p w some v reads enough ok = go (read_up_drains n batch m p (read_on batch m p w).after some v2 (reader_stays w (read_on batch m p w).after m p left reads)) (is_read_up w m p) refl ok
   where
     v2 : IsValidWorld (read_on batch m p w).after
     v2 = valid_course w (read_on batch m p w) (read_on_course batch m p w) v
@@ -307,7 +307,7 @@ read_up_drains (suc n) batch m p w some v reads near ok = go (read_up_drains n b
     go later false is done_so =
         let d = chain_done (read_on batch m p w) (read_up n batch m p) done_so in
         let raised = read_on_raises batch m p w some v reads is d.first_ok in
-        subst (λ (x : WorldState). IsDrained x p) (sym d.after_is) (later (omega (arith, near, raised, ap (λ l. length (log_at l p)) left.logs)) d.next_ok)
+        subst (λ (x : WorldState). IsDrained x p) (sym d.after_is) (later (omega (arith, enough, raised, ap (λ l. length (log_at l p)) left.logs)) d.next_ok)
 
 log_drains : (batch m p : ℕ) (w : WorldState) → 1 ≤ batch → IsValidWorld w → IsReader w.cluster.group m p → (drain_log batch m p w).answer ≡ Ok tt → IsDrained (drain_log batch m p w).after p
 unfolding drain_log
@@ -366,7 +366,7 @@ elements_listed s q e = where_listed (partitions_of s) (is_in s) q (in_below s q
 reader_listed : (w : WorldState) (m p : ℕ) → IsValidWorld w → IsReader w.cluster.group m p → Listed p (elements (held_by w m))
 reader_listed w m p v reads =
     let at = (reader_holds w m p v reads).1 in
-    elements_listed (held_by w m) p (ap (λ s. is_in s p) (holds_some w m at.c at.known) ∙ in_where w.cluster.group.partitions (is_held at.c) p reads.below ∙ ap is_some at.held)
+    elements_listed (held_by w m) p (ap (λ s. is_in s p) (holds_some w m at.c at.is_consumer) ∙ in_where w.cluster.group.partitions (is_held at.c) p reads.below ∙ ap is_some at.held)
 
 member_drains : (batch m p : ℕ) (w : WorldState) → 1 ≤ batch → IsValidWorld w → IsReader w.cluster.group m p → (drain_member batch m w).answer ≡ Ok tt → IsDrained (drain_member batch m w).after p
 unfolding drain_member
@@ -407,9 +407,9 @@ all_listed f (x ∷ ms) m all at =
     ]
 
 settled_and_synced_reader : (w : WorldState) (p : ℕ) → IsValidWorld w → is_settled_and_synced w.cluster.group ≡ true → p < w.cluster.group.partitions → (m : ℕ) × Listed m (members w.cluster.group) × IsReader w.cluster.group m p
-settled_and_synced_reader w p v calm lt =
+settled_and_synced_reader w p v settled_and_synced lt =
     let g = w.cluster.group in
-    let settled = settled_and_synced_is_settled g calm in
+    let settled = settled_and_synced_is_settled g settled_and_synced in
     let once : rows_with (map (λ m. granted_of g m) (members g)) p ≡ 1 = (v.cluster.good.balanced settled).once p lt in
     let found = some_row (λ m. granted_of g m) p (members g) (omega (arith, once)) in
     let m = found.0 in
@@ -418,7 +418,7 @@ settled_and_synced_reader w p v calm lt =
       found.1,
       record {
         present = ap is_some (listed_present g.slots m found.1).1;
-        synced = all_listed (is_synced g) (members g) m (both_true (is_settled g) _ calm).1 found.1;
+        synced = all_listed (is_synced g) (members g) m (both_true (is_settled g) _ settled_and_synced).1 found.1;
         assigned = ap (λ s. is_in s p) (sym same) ∙ found.2;
         below = lt;
       },
@@ -427,14 +427,14 @@ settled_and_synced_reader w p v calm lt =
 -- ---- all logs
 all_drained : (batch : ℕ) (w : WorldState) → 1 ≤ batch → IsValidWorld w → is_settled_and_synced w.cluster.group ≡ true → (drain_members batch w).answer ≡ Ok tt
     → AreEndsCommitted (drain_members batch w).after.cluster.store (drain_members batch w).after.cluster.logs
-all_drained batch w some v calm ok p lt =
+all_drained batch w some v settled_and_synced ok p lt =
     let c = drain_members batch w in
     let v2 = valid_course w c (drain_members_course batch w) v in
     let left = preserved_course IsReading LeavesGroup preserves_group w c (drain_members_course batch w) (drain_members_events IsReading reading_open batch w) in
-    let reader = settled_and_synced_reader w p v calm (omega (arith, lt, ap (λ (g : GroupState). g.partitions) left.group, v2.cluster.logs_partitions)) in
+    let reader = settled_and_synced_reader w p v settled_and_synced (omega (arith, lt, ap (λ (g : GroupState). g.partitions) left.group, v2.cluster.logs_partitions)) in
     omega (arith, members_drain batch reader.0 p w some v reader.2 reader.1 ok, v2.cluster.exact.within p)
 
 pub drained_committed : (batch : ℕ) (w w2 : WorldState) (result : Result (Unit {0}) Refusal) → 1 ≤ batch → IsValidWorld w → is_settled_and_synced w.cluster.group ≡ true → Follows w (drain_members batch w) result w2 → result ≡ Ok tt
     → AreEndsCommitted w2.cluster.store w2.cluster.logs
-drained_committed batch w w2 result some v calm (inl replied) ok = subst (λ (x : WorldState). AreEndsCommitted x.cluster.store x.cluster.logs) (sym replied.1) (all_drained batch w some v calm (sym replied.0 ∙ ok))
-drained_committed batch w w2 result some v calm (inr way) ok = absurd (cc (way.0, ok))
+drained_committed batch w w2 result some v settled_and_synced (inl replied) ok = subst (λ (x : WorldState). AreEndsCommitted x.cluster.store x.cluster.logs) (sym replied.1) (all_drained batch w some v settled_and_synced (sym replied.0 ∙ ok))
+drained_committed batch w w2 result some v settled_and_synced (inr way) ok = absurd (cc (way.0, ok))

@@ -20,7 +20,7 @@ use Rattle.group_machine.specs.Cluster.{ClusterState, CommitTerms, LeaseTerms, a
 use Rattle.group_machine.proofs.JoinLemmas.{accepted_join}
 use Rattle.group_laws.proofs.OtherLemmas.{join_brings, join_leaves, leave_leaves, leave_takes_out, rejoin_leaves, sync_leaves}
 use Rattle.group_machine.proofs.StepLemmas.{any_of_present}
-use Rattle.group_laws.proofs.TakeOverLemmas.{accepted_take_over, kept_join_brings, kept_join_leaves, take_over_hands}
+use Rattle.group_laws.proofs.TakeOverLemmas.{accepted_take_over, static_join_brings, static_join_leaves, take_over_hands}
 use Rattle.consumer.specs.Consumer.{ConsumerState, answered_by, base_of, commit_of, given_up, hold_answer, joined_as, leased, out_of_group, poll_answer, polled, position_of, sendable_answer}
 use Rattle.consumer.proofs.Changed.{poll_leaves, realign_leaves}
 use Rattle.world.specs.declared.event.Event.{Event}
@@ -34,14 +34,14 @@ use Rattle.world.specs.Valid.{IsSent, IsValidWorld}
 use Rattle.std.proofs.lemmas.Bool.Decides.{nat_tests}
 use Rattle.partition_log.specs.Logs.{IsOfTopic}
 use Rattle.partition_log.proofs.Stored.{first-topic}
-use Rattle.world.proofs.Clusters.{Leaves, append_leaves, commit_leaves, committed_valid, is_it, joined_kept_valid, joined_valid, leaves_by_group, leaves_handed_on, left_valid, nothing_leaves, rejoined_valid, synced_valid, taken_over_valid}
+use Rattle.world.proofs.Clusters.{Leaves, append_leaves, commit_leaves, committed_valid, is_it, joined_static_valid, joined_valid, leaves_by_group, leaves_handed_on, left_valid, nothing_leaves, rejoined_valid, synced_valid, taken_over_valid}
 use Rattle.world.proofs.SoundConsumers.{join_sound, rejoin_sound, sync_sound}
 use Rattle.world.proofs.Groups.{in_step_same}
 use Rattle.world.proofs.Lists.{get_push}
 use Rattle.world.proofs.Lookups.{consumer_more}
 use Rattle.world.proofs.Outcomes.{leased_to}
 use Rattle.world.proofs.Refusals.{commit_mismatch, commit_never_faults, commit_unknown, leave_unknown, rejoin_accepted, rejoin_never_faults, rejoin_unknown, sync_present, sync_unknown}
-use Rattle.world.proofs.Slots.{joined_kept_slots, joined_slots, left_slots, rejoined_slots, synced_slots, taken_over_slots}
+use Rattle.world.proofs.Slots.{joined_static_slots, joined_slots, left_slots, rejoined_slots, synced_slots, taken_over_slots}
 use Rattle.world.proofs.Stays.{IsSoundConsumer, both_stay, consumer_stays, out_sound, stays}
 
 alone_stays : (w : WorldState) (new : ClusterState) (m : ℕ) → IsValidWorld w → Leaves w.cluster new m → length new.group.slots ≡ length w.cluster.group.slots
@@ -57,7 +57,7 @@ alone_stays w new m v leaves slots sound =
     same_lookup (suc i) c e = e
 
 sound_before : (w : WorldState) (m : ℕ) (c : ConsumerState) → IsValidWorld w → consumer_of w m ≡ Some c → IsSoundConsumer w.cluster m c
-sound_before w m c v e = record { known = v.consumers m c e; step = λ here. v.present m c here e }
+sound_before w m c v e = record { is_consumer = v.consumers m c e; step = λ here. v.present m c here e }
 
 same_consumer : (w : WorldState) (m : ℕ) (c x : ConsumerState) → consumer_of w m ≡ Some c → consumer_of w m ≡ Some x → c ≡ x
 same_consumer w m c x a b = cc
@@ -121,8 +121,8 @@ join_kept_stays w name v = go (join_answer w.cluster.group name) refl
     go : (a : Result ℕ Refusal) → join_answer w.cluster.group name ≡ a → IsValidWorld (joined_outcome (joined_static_by w.cluster.group name) w a).after
     go (Ok m) is =
         let g = w.cluster.group in
-        let leaves = leaves_by_group w.cluster (joined_static_by g name) m (joined_kept_valid w.cluster name m v.cluster is) (kept_join_leaves g name m v.cluster.good is) in
-        entered_world (λ n. reply.Joined n) (joined_static_by g name) w m v leaves (kept_join_brings g name m v.cluster.good is) (accepted_join g name m is).1 (joined_kept_slots g name)
+        let leaves = leaves_by_group w.cluster (joined_static_by g name) m (joined_static_valid w.cluster name m v.cluster is) (static_join_leaves g name m v.cluster.good is) in
+        entered_world (λ n. reply.Joined n) (joined_static_by g name) w m v leaves (static_join_brings g name m v.cluster.good is) (accepted_join g name m is).1 (joined_static_slots g name)
     go (Err why) is = v
 
 -- ---- take-overs
@@ -155,7 +155,7 @@ lose_stays w m v = go (leave_answer w.cluster.group m) refl
         let g = w.cluster.group in
         let leaves = leaves_by_group w.cluster (left_by g m) m (left_valid w.cluster m v.cluster is) (leave_leaves g m v.cluster.good is) in
         alone_stays w (with_group w.cluster (left_by g m)) m v leaves (left_slots g m) (λ c e. record {
-          known = consumer_stays w.cluster (with_group w.cluster (left_by g m)) m m c leaves (v.consumers m c e);
+          is_consumer = consumer_stays w.cluster (with_group w.cluster (left_by g m)) m m c leaves (v.consumers m c e);
           step = λ here. absurd (let gone = leave_takes_out g m v.cluster.good is in cc);
         })
     go (Err why) is = v
@@ -178,7 +178,7 @@ asked_stays w m f v each = go (consumer_of w m) refl
     go (Some c) is = out_or_in c (is_none c.member) (each c is)
 
 sync_stays : (w : WorldState) (m : ℕ) → IsValidWorld w → IsValidWorld (sync_event w m).after
-sync_stays w m v = asked_stays w m (λ c. sync_outcome w m (cluster_sync_answer w.cluster m)) v (λ c known. go (cluster_sync_answer w.cluster m) refl)
+sync_stays w m v = asked_stays w m (λ c. sync_outcome w m (cluster_sync_answer w.cluster m)) v (λ c is_consumer. go (cluster_sync_answer w.cluster m) refl)
   where
     go : (a : Result LeaseTerms Refusal) → cluster_sync_answer w.cluster m ≡ a → IsValidWorld (sync_outcome w m a).after
     go (Ok lease) is =
@@ -192,20 +192,20 @@ sync_stays w m v = asked_stays w m (λ c. sync_outcome w m (cluster_sync_answer 
     go (Err why) is = refused_stays w m why v (λ e. sync_unknown w.cluster m (is ∙ ap (λ x. Err x) e))
 
 rejoin_stays : (w : WorldState) (m : ℕ) → IsValidWorld w → IsValidWorld (rejoin_event w m).after
-rejoin_stays w m v = asked_stays w m (λ c. rejoin_outcome w m (rejoin_answer w.cluster.group m c.generation c.assigned)) v (λ c known. go c known (rejoin_answer w.cluster.group m c.generation c.assigned) refl)
+rejoin_stays w m v = asked_stays w m (λ c. rejoin_outcome w m (rejoin_answer w.cluster.group m c.generation c.assigned)) v (λ c is_consumer. go c is_consumer (rejoin_answer w.cluster.group m c.generation c.assigned) refl)
   where
     go : (c : ConsumerState) → consumer_of w m ≡ Some c → (a : Result (Unit {0}) Refusal) → rejoin_answer w.cluster.group m c.generation c.assigned ≡ a → IsValidWorld (rejoin_outcome w m a).after
-    go c known (Ok u) is =
+    go c is_consumer (Ok u) is =
         let g = w.cluster.group in
         let here = (rejoin_accepted g m c.generation c.assigned is).present in
         both_stay w (with_group w.cluster (rejoined_by g m)) m given_up v
         (leaves_by_group w.cluster (rejoined_by g m) m (rejoined_valid w.cluster m c.generation c.assigned v.cluster is) (rejoin_leaves g m c.generation c.assigned v.cluster.good is)) (rejoined_slots g m)
-        (λ x e. subst (λ y. IsSoundConsumer (with_group w.cluster (rejoined_by g m)) m (given_up y)) (same_consumer w m c x known e)
-        (rejoin_sound w.cluster m c v.cluster (v.consumers m c known) (v.present m c here known) is))
-    go c known (Err why) is = refused_stays w m why v (λ e. rejoin_unknown w.cluster.group m c.generation c.assigned (is ∙ ap (λ x. Err x) e))
+        (λ x e. subst (λ y. IsSoundConsumer (with_group w.cluster (rejoined_by g m)) m (given_up y)) (same_consumer w m c x is_consumer e)
+        (rejoin_sound w.cluster m c v.cluster (v.consumers m c is_consumer) (v.present m c here is_consumer) is))
+    go c is_consumer (Err why) is = refused_stays w m why v (λ e. rejoin_unknown w.cluster.group m c.generation c.assigned (is ∙ ap (λ x. Err x) e))
 
 leave_stays : (w : WorldState) (m : ℕ) → IsValidWorld w → IsValidWorld (leave_event w m).after
-leave_stays w m v = asked_stays w m (λ c. leave_outcome w m (leave_answer w.cluster.group m)) v (λ c known. go (leave_answer w.cluster.group m) refl)
+leave_stays w m v = asked_stays w m (λ c. leave_outcome w m (leave_answer w.cluster.group m)) v (λ c is_consumer. go (leave_answer w.cluster.group m) refl)
   where
     go : (a : Result (Unit {0}) Refusal) → leave_answer w.cluster.group m ≡ a → IsValidWorld (leave_outcome w m a).after
     go (Ok u) is =
@@ -219,13 +219,13 @@ leave_stays w m v = asked_stays w m (λ c. leave_outcome w m (leave_answer w.clu
 -- ---- polls
 poll_sound : (s : ClusterState) (m p n count : ℕ) (c : ConsumerState) → IsSoundConsumer s m c → poll_answer c s.logs p n ≡ Ok count → IsSoundConsumer s m (polled c s.logs p n)
 poll_sound s m p n count c was ok =
-    let left = poll_leaves c s.logs p n count was.known.valid was.known.within ok in
+    let left = poll_leaves c s.logs p n count was.is_consumer.valid was.is_consumer.within ok in
     record {
-      known = record {
+      is_consumer = record {
         valid = left.valid;
-        partitions = left.hold.partitions ∙ was.known.partitions;
-        number = λ k e. was.known.number k (sym left.hold.member ∙ e);
-        committed = left.bases (committed_at s.store) was.known.committed;
+        partitions = left.hold.partitions ∙ was.is_consumer.partitions;
+        number = λ k e. was.is_consumer.number k (sym left.hold.member ∙ e);
+        committed = left.bases (committed_at s.store) was.is_consumer.committed;
         within = left.within;
       };
       step = λ here. in_step_same s.group m c (polled c s.logs p n) left.hold (was.step here);
@@ -235,10 +235,10 @@ poll_stays : (w : WorldState) (m p n : ℕ) → IsValidWorld w → IsValidWorld 
 poll_stays w m p n v = go (consumer_of w m) refl
   where
     polls : (c : ConsumerState) → consumer_of w m ≡ Some c → (a : Result ℕ Refusal) → poll_answer c w.cluster.logs p n ≡ a → IsValidWorld (poll_outcome w m p n c a).after
-    polls c known (Ok count) is =
+    polls c is_consumer (Ok count) is =
         both_stay w w.cluster m (λ x. polled x w.cluster.logs p n) v (nothing_leaves w.cluster m v.cluster) refl
-        (λ x e. subst (λ y. IsSoundConsumer w.cluster m (polled y w.cluster.logs p n)) (same_consumer w m c x known e) (poll_sound w.cluster m p n count c (sound_before w m c v known) is))
-    polls c known (Err why) is = v
+        (λ x e. subst (λ y. IsSoundConsumer w.cluster m (polled y w.cluster.logs p n)) (same_consumer w m c x is_consumer e) (poll_sound w.cluster m p n count c (sound_before w m c v is_consumer) is))
+    polls c is_consumer (Err why) is = v
 
     go : (o : Option ConsumerState) → consumer_of w m ≡ o → IsValidWorld (poll_by_consumer w m p n o).after
     go None is = v
@@ -286,8 +286,8 @@ send_stays : (w : WorldState) (m p : ℕ) → IsValidWorld w → IsValidWorld (s
 send_stays w m p v = go (consumer_of w m) refl
   where
     sends : (c : ConsumerState) → consumer_of w m ≡ Some c → (a : Result (Unit {0}) Refusal) → mail_answer w c p ≡ a → IsValidWorld (send_outcome w p c a).after
-    sends c known (Ok u) is =
-        let was = v.consumers m c known in
+    sends c is_consumer (Ok u) is =
+        let was = v.consumers m c is_consumer in
         let passed = sendable (sendable_answer c p) (nat_le MOST_COMMITS (length w.mail)) is in
         let some = differ (base_of c p) (position_of c p) (pending_some (hold_answer c p) (base_of c p == position_of c p) passed.0) in
         let sent = commit_is_sent w.cluster.logs c p (was.valid.ordered p) (was.within p) some in
@@ -306,7 +306,7 @@ send_stays w m p v = go (consumer_of w m) refl
         lookup : (c : ConsumerState) (n : ℕ) (x : ConsumerState) → consumer_of (record w { mail = w.mail ++ commit_of c w.cluster.logs p ∷ [] }) n ≡ Some x → consumer_of w n ≡ Some x
         lookup c zero x e = e
         lookup c (suc i) x e = e
-    sends c known (Err why) is = v
+    sends c is_consumer (Err why) is = v
 
     go : (o : Option ConsumerState) → consumer_of w m ≡ o → IsValidWorld (send_by_consumer w p o).after
     go None is = v
@@ -315,15 +315,15 @@ send_stays w m p v = go (consumer_of w m) refl
 -- ---- deliveries
 realign_sound : (s : ClusterState) (m p k : ℕ) (c : ConsumerState) → IsSoundConsumer s m c → k ≤ committed_at s.store p → k ≤ length (log_at s.logs p) → IsSoundConsumer s m (answered_by c p (Ok k))
 realign_sound s m p k c was base position =
-    let left = realign_leaves c p k was.known.valid in
+    let left = realign_leaves c p k was.is_consumer.valid in
     let new = answered_by c p (Ok k) in
     record {
-      known = record {
+      is_consumer = record {
         valid = left.valid;
-        partitions = left.hold.partitions ∙ was.known.partitions;
-        number = λ n e. was.known.number n (sym left.hold.member ∙ e);
-        committed = left.bases (committed_at s.store) base was.known.committed;
-        within = left.positions (λ q. length (log_at s.logs q)) position was.known.within;
+        partitions = left.hold.partitions ∙ was.is_consumer.partitions;
+        number = λ n e. was.is_consumer.number n (sym left.hold.member ∙ e);
+        committed = left.bases (committed_at s.store) base was.is_consumer.committed;
+        within = left.positions (λ q. length (log_at s.logs q)) position was.is_consumer.within;
       };
       step = λ here. in_step_same s.group m c new left.hold (was.step here);
     }
@@ -347,7 +347,7 @@ delivered_stays w c (Ok end) v is =
     let there : committed_at new.store c.partition ≡ committed_at w.cluster.store c.partition + length c.ids = get_or-set_same w.cluster.store.offsets c.partition (committed_at w.cluster.store c.partition + length c.ids) 0 taken.below in
     both_stay w new c.member (λ x. answered_by x c.partition (Ok end)) v leaves refl
     (λ x e. realign_sound new c.member c.partition end x
-    (record { known = consumer_stays w.cluster new c.member c.member x leaves (v.consumers c.member x e); step = λ here. v.present c.member x here e })
+    (record { is_consumer = consumer_stays w.cluster new c.member c.member x leaves (v.consumers c.member x e); step = λ here. v.present c.member x here e })
     (omega (arith, taken.end_is, taken.fits.next, there)) (omega (arith, taken.end_is, taken.fits.within)))
 delivered_stays w c (Err why) v is = refused_delivery w c why v is
 
@@ -397,15 +397,15 @@ never_faults w (event.Join name) v = tt
 never_faults w (event.JoinKept name) v = tt
 never_faults w (event.TakeOver name) v = tt
 never_faults w (event.Sync m) v = tt
-never_faults w (event.Rejoin m) v = λ c known. rejoin_never_faults w.cluster.group m c.generation c.assigned
-    (λ here same. (v.present m c here known).synced.0 same)
-    (λ here same. let step = v.present m c here known in step.assigned (step.synced.0 same))
+never_faults w (event.Rejoin m) v = λ c is_consumer. rejoin_never_faults w.cluster.group m c.generation c.assigned
+    (λ here same. (v.present m c here is_consumer).synced.0 same)
+    (λ here same. let step = v.present m c here is_consumer in step.assigned (step.synced.0 same))
 never_faults w (event.Leave m) v = tt
 never_faults w (event.Lose m) v = tt
 never_faults w (event.Poll m p n) v = tt
 never_faults w (event.Send m p) v = tt
-never_faults w (event.Deliver k) v = λ c known. commit_never_faults w.cluster c (commit_sent w k c v known)
-never_faults w (event.DeliverUnanswered k) v = λ c known. commit_never_faults w.cluster c (commit_sent w k c v known)
+never_faults w (event.Deliver k) v = λ c is_consumer. commit_never_faults w.cluster c (commit_sent w k c v is_consumer)
+never_faults w (event.DeliverUnanswered k) v = λ c is_consumer. commit_never_faults w.cluster c (commit_sent w k c v is_consumer)
 
 pub appended_world : (w : WorldState) (keyed : Keyed) (at : ℕ × ℕ) (s : ClusterState) → IsValidWorld w → IsOfTopic w.cluster.logs keyed → Answers (append_answer w.cluster.logs keyed) (Ok at) → s ≡ appended_to w.cluster keyed → IsValidWorld (with_cluster w s)
 appended_world w keyed at s v topic (inr wrong) is = absurd (cc wrong)

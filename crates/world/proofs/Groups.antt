@@ -4,10 +4,10 @@ use Rattle.bit_planes.specs.PartitionSet.{is_in}
 use Rattle.group_machine.specs.State.{GroupState, granted_of, is_synced}
 use Rattle.group_laws.specs.Others.{IsAsBefore, LeavesMember}
 use Rattle.consumer.specs.Consumer.{ConsumerState, is_held}
-use Rattle.consumer.proofs.Changed.{KeepsHold}
+use Rattle.consumer.proofs.Changed.{HasSameHold}
 use Rattle.world.specs.Valid.{IsInStep}
 
-pub in_step_same : (g : GroupState) (m : ℕ) (c new : ConsumerState) → KeepsHold c new → IsInStep g m c → IsInStep g m new
+pub in_step_same : (g : GroupState) (m : ℕ) (c new : ConsumerState) → HasSameHold c new → IsInStep g m c → IsInStep g m new
 in_step_same g m c new same was = record {
   member = same.member ∙ was.member;
   granted = λ p h. was.granted p (sym (same.held p) ∙ h);

@@ -30,7 +30,7 @@ pub consumer_at : (w : WorldState) (m i : ℕ) (c : ConsumerState) → m ≡ suc
 consumer_at w m i c number lt at = rw number (consumer_there w i c lt at)
 
 pub changed_at : (w : WorldState) (m i : ℕ) (f : ConsumerState → ConsumerState) (c : ConsumerState) → m ≡ suc i → consumer_of w m ≡ Some c → on_consumer w m f ≡ put w i (f c)
-changed_at w m i f c number known = rw known (rw number refl)
+changed_at w m i f c number is_consumer = rw is_consumer (rw number refl)
 
 pub put_same : (w : WorldState) (i : ℕ) (c : ConsumerState) → c ≡ slice_index_or w.consumers i c → put w i c ≡ w
 put_same w i c at =
@@ -38,21 +38,21 @@ put_same w i c at =
 
 pub poll_ok : (w : WorldState) (m i p n count : ℕ) (c new : ConsumerState) → m ≡ suc i → consumer_of w m ≡ Some c
     → Ok count ≡ poll_answer c w.cluster.logs p n → new ≡ polled c w.cluster.logs p n → Comes (poll_event w m p n) (reply.Polled count) (put w i new)
-poll_ok w m i p n count c new number known answer is =
-    let event : poll_event w m p n ≡ poll_outcome w m p n c (Ok count) = ap (poll_by_consumer w m p n) known ∙ ap (poll_outcome w m p n c) (sym answer) in
-    let after : put w i new ≡ on_consumer w m (λ x. polled x w.cluster.logs p n) = ap (put w i) is ∙ sym (changed_at w m i (λ x. polled x w.cluster.logs p n) c number known) in
+poll_ok w m i p n count c new number is_consumer answer is =
+    let event : poll_event w m p n ≡ poll_outcome w m p n c (Ok count) = ap (poll_by_consumer w m p n) is_consumer ∙ ap (poll_outcome w m p n c) (sym answer) in
+    let after : put w i new ≡ on_consumer w m (λ x. polled x w.cluster.logs p n) = ap (put w i) is ∙ sym (changed_at w m i (λ x. polled x w.cluster.logs p n) c number is_consumer) in
     (ap (λ (o : Outcome). o.reply) (sym event), after ∙ ap (λ (o : Outcome). o.after) (sym event))
 
 pub poll_err : (w : WorldState) (m i p n : ℕ) (why : Refusal) (c new : ConsumerState) → consumer_of w m ≡ Some c → c ≡ slice_index_or w.consumers i c
     → Err why ≡ poll_answer c w.cluster.logs p n → new ≡ c → Comes (poll_event w m p n) (reply.Refused why) (put w i new)
-poll_err w m i p n why c new known at answer is =
-    let event : poll_event w m p n ≡ poll_outcome w m p n c (Err why) = ap (poll_by_consumer w m p n) known ∙ ap (poll_outcome w m p n c) (sym answer) in
+poll_err w m i p n why c new is_consumer at answer is =
+    let event : poll_event w m p n ≡ poll_outcome w m p n c (Err why) = ap (poll_by_consumer w m p n) is_consumer ∙ ap (poll_outcome w m p n c) (sym answer) in
     (ap (λ (o : Outcome). o.reply) (sym event), ap (put w i) is ∙ put_same w i c at ∙ ap (λ (o : Outcome). o.after) (sym event))
 
 pub asks : (w : WorldState) (m i : ℕ) (c : ConsumerState) (f : ConsumerState → Outcome) → IsAsking w m i → slice_get w.consumers i ≡ Some c → asked w (consumer_of w m) f ≡ f c
 asks w m i c f asking there =
-    let known : consumer_of w m ≡ Some c = rw asking.number there in
-    ap (λ o. asked w o f) known ∙ ap (λ b. if b then refused w r.OutOfGroup else f c) (asking.present c there)
+    let is_consumer : consumer_of w m ≡ Some c = rw asking.number there in
+    ap (λ o. asked w o f) is_consumer ∙ ap (λ b. if b then refused w r.OutOfGroup else f c) (asking.present c there)
 
 pub refused_ok : (w w2 : WorldState) (m i : ℕ) (event : Outcome) (why : Refusal) (replied : Reply) → m ≡ suc i → (event ≡ refused_by_cluster w m why) ⊎ (why ≡ r.Memory)
     → Comes (refused_by_cluster w (suc i) why) replied w2 → MayCome w event replied w2
@@ -64,11 +64,11 @@ pub sync_ok : (w : WorldState) (m i : ℕ) (c new : ConsumerState) (s : ClusterS
     → MayCome w (sync_event w m) (reply.Leased generation) (put (with_cluster w s) i new)
 sync_ok w m i c new s lease generation asking there (inr wrong) stepped is same = absurd (cc wrong)
 sync_ok w m i c new s lease generation asking there (inl answer) stepped is same =
-    let known : consumer_of w m ≡ Some c = rw asking.number there in
+    let is_consumer : consumer_of w m ≡ Some c = rw asking.number there in
     let event : sync_event w m ≡ sync_outcome w m (Ok lease) = asks w m i c (λ x. sync_outcome w m (cluster_sync_answer w.cluster m)) asking there ∙ ap (sync_outcome w m) (sym answer) in
     let after : put (with_cluster w s) i new ≡ both w m (with_group w.cluster (synced_by w.cluster.group m)) (λ x. leased x lease) =
     ap (put (with_cluster w s) i) is ∙ ap (λ t. put (with_cluster w t) i (leased c lease)) stepped
-    ∙ sym (changed_at (with_cluster w (with_group w.cluster (synced_by w.cluster.group m))) m i (λ x. leased x lease) c asking.number known) in
+    ∙ sym (changed_at (with_cluster w (with_group w.cluster (synced_by w.cluster.group m))) m i (λ x. leased x lease) c asking.number is_consumer) in
     inl (ap (λ n. reply.Leased n) same ∙ ap (λ (o : Outcome). o.reply) (sym event), after ∙ ap (λ (o : Outcome). o.after) (sym event))
 
 refused_is : {A : Type 0} (expected : Result A Refusal) (why : Refusal) (f : Result A Refusal → Outcome) (event g : Outcome) → Answers expected (Err why) → event ≡ f expected → f (Err why) ≡ g → (event ≡ g) ⊎ (why ≡ r.Memory)
@@ -96,9 +96,9 @@ send_is w p c some capacity = rw (some, capacity) refl
 pub send_ok : (w : WorldState) (m p sent : ℕ) (c : ConsumerState) (commit : CommitTerms) (mail : List CommitTerms) → consumer_of w m ≡ Some c
     → sendable_answer c p ≡ Ok tt → nat_le MOST_COMMITS (length w.mail) ≡ false → Answers (send_answer c w.cluster.logs p) (Ok commit) → sent ≡ length w.mail + 1 → mail ≡ w.mail ++ commit ∷ []
     → MayCome w (send_event w m p) (reply.Sent sent) (record w { mail = mail })
-send_ok w m p sent c commit mail known some capacity (inr wrong) count grown = absurd (cc wrong)
-send_ok w m p sent c commit mail known some capacity (inl answer) count grown =
-    let event : send_event w m p ≡ send_outcome w p c (Ok tt) = ap (send_by_consumer w p) known ∙ send_is w p c some capacity in
+send_ok w m p sent c commit mail is_consumer some capacity (inr wrong) count grown = absurd (cc wrong)
+send_ok w m p sent c commit mail is_consumer some capacity (inl answer) count grown =
+    let event : send_event w m p ≡ send_outcome w p c (Ok tt) = ap (send_by_consumer w p) is_consumer ∙ send_is w p c some capacity in
     let is : commit ≡ commit_of c w.cluster.logs p = let e = rw some at answer in cc in
     let after : record w { mail = mail } ≡ record w { mail = w.mail ++ commit_of c w.cluster.logs p ∷ [] } =
     ap (λ (x : List CommitTerms). record w { mail = x }) grown ∙ ap (λ x. record w { mail = w.mail ++ x ∷ [] }) is in

@@ -160,26 +160,26 @@ leaves_cluster : (w w2 : WorldState) → w2.cluster ≡ w.cluster → LeavesGrou
 leaves_cluster w w2 same = record { group = ap (λ (s : ClusterState). s.group) same; logs = ap (λ (s : ClusterState). s.logs) same }
 
 pub poll_cluster : (w : WorldState) (m p n : ℕ) → (poll_event w m p n).after.cluster ≡ w.cluster
-poll_cluster w m p n = known (consumer_of w m)
+poll_cluster w m p n = by_consumer (consumer_of w m)
   where
     replied : (c : ConsumerState) (a : Result ℕ Refusal) → (poll_outcome w m p n c a).after.cluster ≡ w.cluster
     replied c (Ok count) = on_cluster w m (λ x. polled x w.cluster.logs p n) (consumer_of w m)
     replied c (Err why) = refl
 
-    known : (o : Option ConsumerState) → (poll_by_consumer w m p n o).after.cluster ≡ w.cluster
-    known None = refl
-    known (Some c) = replied c (poll_answer c w.cluster.logs p n)
+    by_consumer : (o : Option ConsumerState) → (poll_by_consumer w m p n o).after.cluster ≡ w.cluster
+    by_consumer None = refl
+    by_consumer (Some c) = replied c (poll_answer c w.cluster.logs p n)
 
 pub send_cluster : (w : WorldState) (m p : ℕ) → (send_event w m p).after.cluster ≡ w.cluster
-send_cluster w m p = known (consumer_of w m)
+send_cluster w m p = by_consumer (consumer_of w m)
   where
     replied : (c : ConsumerState) (a : Result (Unit {0}) Refusal) → (send_outcome w p c a).after.cluster ≡ w.cluster
     replied c (Ok u) = refl
     replied c (Err why) = refl
 
-    known : (o : Option ConsumerState) → (send_by_consumer w p o).after.cluster ≡ w.cluster
-    known None = refl
-    known (Some c) = replied c (mail_answer w c p)
+    by_consumer : (o : Option ConsumerState) → (send_by_consumer w p o).after.cluster ≡ w.cluster
+    by_consumer None = refl
+    by_consumer (Some c) = replied c (mail_answer w c p)
 
 given_leaves : (s : ClusterState) (c : CommitTerms) (a : Result ℕ Refusal) → ((given s c a).group ≡ s.group) × ((given s c a).logs ≡ s.logs)
 given_leaves s c (Ok end) = (refl, refl)

@@ -133,13 +133,13 @@ chain_cases : (first : Course) (next : WorldState → Course) → ((a : Result (
 unfolding chain
 chain_cases first next h = h first.answer refl
 
-abbrev passed_times : ℕ → GroupState → GroupState
-passed_times zero g = g
-passed_times (suc n) g = passed_times n (after_pass g)
+abbrev after_passes : ℕ → GroupState → GroupState
+after_passes zero g = g
+after_passes (suc n) g = after_passes n (after_pass g)
 
 -- passes end in a settled and synced group, in which the rebalance had to end
 pub record IsEnd (g g2 : GroupState) : Type 0 where
-  pub calm : is_settled_and_synced g2 ≡ true
+  pub settled_and_synced : is_settled_and_synced g2 ≡ true
   pub end : rebalance_result g2 ≡ rebalance_result g
 
 passes_end : (n : ℕ) (w : WorldState) → IsValidWorld w → (passes n w).answer ≡ Ok tt → IsEnd w.cluster.group (passes n w).after.cluster.group
@@ -147,23 +147,23 @@ unfolding passes
 passes_end zero w v e = go (is_settled_and_synced w.cluster.group) refl e
   where
     go : (b : Bool) → is_settled_and_synced w.cluster.group ≡ b → (cond b (nothing w) (answered_at_once (Err r.NotSettled) w)).answer ≡ Ok tt → IsEnd w.cluster.group (cond b (nothing w) (answered_at_once (Err r.NotSettled) w)).after.cluster.group
-    go true is e = record { calm = is; end = refl }
+    go true is e = record { settled_and_synced = is; end = refl }
     go false is e = absurd (cc e)
 passes_end (suc n) w v e = go (passes_end n (pass w).after (valid_course w (pass w) (pass_course w) v)) (is_settled_and_synced w.cluster.group) refl e
   where
     go : ((passes n (pass w).after).answer ≡ Ok tt → IsEnd (pass w).after.cluster.group (passes n (pass w).after).after.cluster.group) → (b : Bool) → is_settled_and_synced w.cluster.group ≡ b
         → (cond b (nothing w) (chain (pass w) (passes n))).answer ≡ Ok tt → IsEnd w.cluster.group (cond b (nothing w) (chain (pass w) (passes n))).after.cluster.group
-    go more true is e = record { calm = is; end = refl }
+    go more true is e = record { settled_and_synced = is; end = refl }
     go more false is e =
         let d = chain_done (pass w) (passes n) e in
         let later = more d.next_ok in
         let group = pass_group w d.first_ok in
         record {
-          calm = ap (λ (x : WorldState). is_settled_and_synced x.cluster.group) d.after_is ∙ later.calm;
+          settled_and_synced = ap (λ (x : WorldState). is_settled_and_synced x.cluster.group) d.after_is ∙ later.settled_and_synced;
           end = ap (λ (x : WorldState). rebalance_result x.cluster.group) d.after_is ∙ later.end ∙ ap rebalance_result group ∙ after_pass_result w.cluster.group v.cluster.good;
         }
 
-passes_never : (n : ℕ) (w : WorldState) → is_settled_and_synced (passed_times n w.cluster.group) ≡ true → IsNever (passes n w).answer
+passes_never : (n : ℕ) (w : WorldState) → is_settled_and_synced (after_passes n w.cluster.group) ≡ true → IsNever (passes n w).answer
 unfolding passes
 passes_never zero w h e = go (is_settled_and_synced w.cluster.group) h e
   where
@@ -172,11 +172,11 @@ passes_never zero w h e = go (is_settled_and_synced w.cluster.group) h e
     go false is e = cc is
 passes_never (suc n) w h e = go (passes_never n (pass w).after) (is_settled_and_synced w.cluster.group) e
   where
-    more_passes : (is_settled_and_synced (passed_times n (pass w).after.cluster.group) ≡ true → IsNever (passes n (pass w).after).answer) → (a : Result (Unit {0}) Refusal) → (pass w).answer ≡ a → (goes_on (pass w) (passes n (pass w).after) a).answer ≡ Err r.NotSettled → ⊥
-    more_passes more (Ok u) same e = more (ap (λ g. is_settled_and_synced (passed_times n g)) (pass_group w same) ∙ h) e
+    more_passes : (is_settled_and_synced (after_passes n (pass w).after.cluster.group) ≡ true → IsNever (passes n (pass w).after).answer) → (a : Result (Unit {0}) Refusal) → (pass w).answer ≡ a → (goes_on (pass w) (passes n (pass w).after) a).answer ≡ Err r.NotSettled → ⊥
+    more_passes more (Ok u) same e = more (ap (λ g. is_settled_and_synced (after_passes n g)) (pass_group w same) ∙ h) e
     more_passes more (Err why) same e = pass_never w e
 
-    go : (is_settled_and_synced (passed_times n (pass w).after.cluster.group) ≡ true → IsNever (passes n (pass w).after).answer) → (b : Bool) → (cond b (nothing w) (chain (pass w) (passes n))).answer ≡ Err r.NotSettled → ⊥
+    go : (is_settled_and_synced (after_passes n (pass w).after.cluster.group) ≡ true → IsNever (passes n (pass w).after).answer) → (b : Bool) → (cond b (nothing w) (chain (pass w) (passes n))).answer ≡ Err r.NotSettled → ⊥
     go more true e = cc e
     go more false e = chain_cases (pass w) (passes n) (more_passes more) e
 
@@ -213,14 +213,14 @@ pub settled_and_synced_is_settled : (g : GroupState) → is_settled_and_synced g
 settled_and_synced_is_settled g e = settled_part (is_settled g) _ e
 
 pub record HasSettled (w w2 : WorldState) : Type 0 where
-  pub calm : is_settled_and_synced w2.cluster.group ≡ true
+  pub settled_and_synced : is_settled_and_synced w2.cluster.group ≡ true
   pub end : without_flags w2.cluster.group ≡ rebalance_result w.cluster.group
 
 pub settled_by : (w w2 : WorldState) (result : Result (Unit {0}) Refusal) → IsValidWorld w → Follows w (settling w) result w2 → result ≡ Ok tt → HasSettled w w2
 settled_by w w2 result v (inl replied) ok =
     let i = settling_end w v (sym replied.0 ∙ ok) in
-    let calm = ap (λ (x : WorldState). is_settled_and_synced x.cluster.group) replied.1 ∙ i.calm in
-    record { calm = calm; end = sym (result_if_settled_and_synced w2.cluster.group calm) ∙ ap (λ (x : WorldState). rebalance_result x.cluster.group) replied.1 ∙ i.end }
+    let settled_and_synced = ap (λ (x : WorldState). is_settled_and_synced x.cluster.group) replied.1 ∙ i.settled_and_synced in
+    record { settled_and_synced = settled_and_synced; end = sym (result_if_settled_and_synced w2.cluster.group settled_and_synced) ∙ ap (λ (x : WorldState). rebalance_result x.cluster.group) replied.1 ∙ i.end }
 settled_by w w2 result v (inr way) ok = absurd (cc (way.0, ok))
 
 pub never_unsettled : (w w2 : WorldState) (c : Course) (result : Result (Unit {0}) Refusal) → IsNever c.answer → Follows w c result w2 → result ≡ Err r.NotSettled → ⊥

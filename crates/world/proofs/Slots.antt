@@ -32,10 +32,10 @@ left_slots g m = completed_slots (leaving g m) ∙ length-reseated 1 _ g.slots
 pub synced_slots : (g : GroupState) (m : ℕ) → length (synced_by g m).slots ≡ length g.slots
 synced_slots g m = length-reseated 1 _ g.slots
 
-pub joined_kept_slots : (g : GroupState) (name : List ℕ) → length (joined_static_by g name).slots ≡ length g.slots + 1
-joined_kept_slots g name = length-reseated 1 _ (joined_by g name).slots ∙ joined_slots g name
+pub joined_static_slots : (g : GroupState) (name : List ℕ) → length (joined_static_by g name).slots ≡ length g.slots + 1
+joined_static_slots g name = length-reseated 1 _ (joined_by g name).slots ∙ joined_slots g name
 
 pub taken_over_slots : (g : GroupState) (name : List ℕ) (m : ℕ) → static_member g name ≡ Some m → length (taken_over_by g name).slots ≡ length g.slots + 1
-taken_over_slots g name m kept =
-    let same : taken_over_by g name ≡ handing_on g name m = ap (λ o. option_map_or (handing_on g name) o g) kept in
+taken_over_slots g name m is_static =
+    let same : taken_over_by g name ≡ handing_on g name m = ap (λ o. option_map_or (handing_on g name) o g) is_static in
     ap (λ (h : GroupState). length h.slots) same ∙ length-append (without_seat g.slots m) (successor g name m ∷ []) ∙ ap (λ n. n + 1) (length-reseated 1 _ g.slots)

@@ -12,7 +12,7 @@ use Rattle.group_machine.specs.Steps.{rejoin_answer, rejoined_by, synced_by}
 use Rattle.group_machine.specs.Cluster.{ClusterState, IsValidCluster, LeaseTerms, lease_of, start_of, with_group}
 use Rattle.group_machine.proofs.ClusterLemmas.{assigned_over}
 use Rattle.group_laws.proofs.AssignedLemmas.{assigned_in_granted}
-use Rattle.group_laws.proofs.OtherLemmas.{rejoin_keeps, rejoin_leaves, sync_marks}
+use Rattle.group_laws.proofs.OtherLemmas.{rejoin_leaves_rejoined, rejoin_leaves, sync_marks}
 use Rattle.consumer.specs.declared.held.Held.{Held}
 use Rattle.consumer.specs.Consumer.{ConsumerState, given_up, held_at, is_held, joined_as, leased, leased_slot, out_of_group}
 use Rattle.consumer.proofs.Changed.{base_out, joined_valid, nothing_held, position_out}
@@ -69,7 +69,7 @@ sync_sound s m c v was step here =
     let over : partitions_of lease.assigned ≡ c.partitions = assigned_over g v.good.consistent m ∙ sym was.partitions in
     let inside : (p : ℕ) → is_in (assigned_of g m) p ≡ true → p < length c.held = λ p h. omega (arith, in_below (assigned_of g m) p h, over, was.valid.one_each) in
     record {
-      known = record {
+      is_consumer = record {
         valid = leased_valid c lease was.valid step.member over;
         partitions = was.partitions;
         number = was.number;
@@ -154,10 +154,10 @@ rejoined_step g new m c was r inside left =
 
 pub rejoin_sound : (s : ClusterState) (m : ℕ) (c : ConsumerState) → IsValidCluster s → IsConsumerOf s m c → IsInStep s.group m c → rejoin_answer s.group m c.generation c.assigned ≡ Ok tt → IsSoundConsumer (with_group s (rejoined_by s.group m)) m (given_up c)
 rejoin_sound s m c v was step ok =
-    let left = rejoin_keeps s.group m c.generation c.assigned v.good ok in
+    let left = rejoin_leaves_rejoined s.group m c.generation c.assigned v.good ok in
     let inside : (p : ℕ) → is_in c.assigned p ≡ true → p < length c.held = λ p h. omega (arith, in_below c.assigned p h, was.valid.assigned_below, was.valid.one_each) in
     record {
-      known = record {
+      is_consumer = record {
         valid = given_up_valid c was.valid;
         partitions = was.partitions ∙ sym (same_partitions s m c v ok);
         number = was.number;
@@ -181,7 +181,7 @@ pub join_sound : (s new : ClusterState) (m : ℕ) → IsValidCluster new → new
 join_sound s new m v same newcomer counted =
     let n = s.group.partitions in
     record {
-      known = record {
+      is_consumer = record {
         valid = joined_valid n m (omega (arith, v.good.sized.some_partitions, same)) (omega (arith, v.good.sized.few_partitions, same));
         partitions = sym same;
         number = λ k e. cc;

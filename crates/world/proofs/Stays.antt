@@ -39,7 +39,7 @@ consumer_stays s new about n c leaves was = record {
 
 -- what is required of a consumer of a world
 pub record IsSoundConsumer (s : ClusterState) (m : ℕ) (c : ConsumerState) : Type 0 where
-  pub known : IsConsumerOf s m c
+  pub is_consumer : IsConsumerOf s m c
   pub step : is_present s.group m ≡ true → IsInStep s.group m c
 
 -- a consumer after a step: that of the member which made the step, or another one from before
@@ -52,7 +52,7 @@ stays w w2 m v leaves mail each from = record {
   cluster = leaves.valid;
   a_consumer_each = each;
   consumers = λ n c e. elim (from n c e) [
-    | inl about ↦ subst (λ k. IsConsumerOf w2.cluster k c) (sym about.0) about.1.known
+    | inl about ↦ subst (λ k. IsConsumerOf w2.cluster k c) (sym about.0) about.1.is_consumer
     | inr other ↦ consumer_stays w.cluster w2.cluster m n c leaves (v.consumers n c other.1)
   ];
   present = λ n c here e. elim (from n c e) [
@@ -67,11 +67,11 @@ stays w w2 m v leaves mail each from = record {
 
 on_lookup : (w : WorldState) (m n : ℕ) (f : ConsumerState → ConsumerState) (o : Option ConsumerState) → consumer_of w m ≡ o → (c : ConsumerState) → consumer_of (changed w m f o) n ≡ Some c
     → ((n ≡ m) × (old : ConsumerState) × (consumer_of w m ≡ Some old) × (c ≡ f old)) ⊎ ((n ≡ m → ⊥) × (consumer_of w n ≡ Some c))
-on_lookup w m n f None known c e = inr ((λ same. let none = ap (consumer_of w) same ∙ known in cc), e)
-on_lookup w zero n f (Some old) known c e = absurd (cc known)
-on_lookup w (suc i) n f (Some old) known c e =
+on_lookup w m n f None is_consumer c e = inr ((λ same. let none = ap (consumer_of w) same ∙ is_consumer in cc), e)
+on_lookup w zero n f (Some old) is_consumer c e = absurd (cc is_consumer)
+on_lookup w (suc i) n f (Some old) is_consumer c e =
     elim (consumer_put w i n (f old) c e) [
-      | inl at ↦ inl (at.0, old, known, at.1)
+      | inl at ↦ inl (at.0, old, is_consumer, at.1)
       | inr other ↦ inr other
     ]
 
@@ -109,7 +109,7 @@ both_stay w new m f v leaves slots sound =
 
 pub out_sound : (s : ClusterState) (m : ℕ) (c : ConsumerState) → IsConsumerOf s m c → is_present s.group m ≡ false → IsSoundConsumer s m (out_of_group c.partitions)
 out_sound s m c was gone = record {
-  known = record {
+  is_consumer = record {
     valid = out_valid c.partitions was.valid.some_partitions was.valid.few_partitions;
     partitions = was.partitions;
     number = λ n none. absurd (cc none);

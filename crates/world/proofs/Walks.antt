@@ -81,13 +81,13 @@ pub held_partitions : (w : WorldState) (m : ℕ) → partitions_of (held_by w m)
 unfolding held_by
 held_partitions w m = held_partitions_of w m (consumer_of w m)
 
-passed_all : (q p : ℕ) (b : Bool) → q < p → (nat_lt q p && b) ≡ b
-passed_all q p b lt = grind (arith, nat_tests)
+below_and : (q p : ℕ) (b : Bool) → q < p → (nat_lt q p && b) ≡ b
+below_and q p b lt = grind (arith, nat_tests)
 
 pub held_whole : (s : PartitionSet) (w : WorldState) (m p : ℕ) (c : ConsumerState) → consumer_of w m ≡ Some c → partitions_of s ≡ w.cluster.group.partitions → w.cluster.group.partitions ≤ p
     → ((q : ℕ) → is_in s q ≡ (nat_lt q p && is_held c q)) → s ≡ held_by w m
-held_whole s w m p c known partitions over each =
+held_whole s w m p c is_consumer partitions over each =
     let whole = set_where w.cluster.group.partitions (is_held c) in
     same_set s whole (partitions ∙ sym (partitions_where w.cluster.group.partitions (is_held c)))
-    (λ q lt. each q ∙ passed_all q p (is_held c q) (omega (arith, lt, partitions)) ∙ sym (in_where w.cluster.group.partitions (is_held c) q (omega (arith, lt, partitions))))
-    ∙ sym (holds_some w m c known)
+    (λ q lt. each q ∙ below_and q p (is_held c q) (omega (arith, lt, partitions)) ∙ sym (in_where w.cluster.group.partitions (is_held c) q (omega (arith, lt, partitions))))
+    ∙ sym (holds_some w m c is_consumer)

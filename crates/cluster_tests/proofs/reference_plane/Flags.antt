@@ -50,8 +50,8 @@ marked_one old f n flags x lt e m =
       left = λ q le. let other : q ≢ n = omega arith in get_or-set_other flags n q x false other ∙ m.left q (omega arith);
     }
 
-pub marked_kept : (old : List Bool) (f : ℕ → Bool) (n : ℕ) (flags : List Bool) → get_or flags n false ≡ f n → AreMarked old f n flags → AreMarked old f (n + 1) flags
-marked_kept old f n flags e m = record {
+pub marked_same : (old : List Bool) (f : ℕ → Bool) (n : ℕ) (flags : List Bool) → get_or flags n false ≡ f n → AreMarked old f n flags → AreMarked old f (n + 1) flags
+marked_same old f n flags e m = record {
   len = m.len;
   done = λ q below. elim (cases_lt q n) [
     | inl before ↦ m.done q before
@@ -140,13 +140,13 @@ pub record AreTrimmed (old : List Bool) (s : PartitionSet) (k n : ℕ) (flags : 
 pub trimmed_none : (old : List Bool) (s : PartitionSet) (k : ℕ) → length old ≡ 4096 → AreTrimmed old s k 0 old k
 trimmed_none old s k len = record { marked = marked_none old _ len; counted = omega (arith, rank_is s 0) }
 
-keeps_in : (x : Bool) (r k left : ℕ) → x ≡ true → left ≡ k - r → nat_lt 0 left ≡ (x && nat_lt r k)
-keeps_in true r k left e l = grind (arith, nat_tests)
-keeps_in false r k left e l = absurd (grind (arith, e))
+retains_in : (x : Bool) (r k left : ℕ) → x ≡ true → left ≡ k - r → nat_lt 0 left ≡ (x && nat_lt r k)
+retains_in true r k left e l = grind (arith, nat_tests)
+retains_in false r k left e l = absurd (grind (arith, e))
 
 pub trimmed_in : (old : List Bool) (s : PartitionSet) (k n : ℕ) (flags : List Bool) (left : ℕ) → n < 4096 → is_in s n ≡ true → AreTrimmed old s k n flags left → AreTrimmed old s k (n + 1) (slice_set flags n (nat_lt 0 left)) (left - 1)
 trimmed_in old s k n flags left lt e t = record {
-  marked = marked_one old _ n flags (nat_lt 0 left) lt (keeps_in (is_in s n) (rank s n) k left e t.counted) t.marked;
+  marked = marked_one old _ n flags (nat_lt 0 left) lt (retains_in (is_in s n) (rank s n) k left e t.counted) t.marked;
   counted = omega (arith, t.counted, rank_in s n e);
 }
 
@@ -156,7 +156,7 @@ leaves_out false b e = refl
 
 pub trimmed_out : (old : List Bool) (s : PartitionSet) (k n : ℕ) (flags : List Bool) (left : ℕ) → get_or flags n false ≡ false → is_in s n ≡ false → AreTrimmed old s k n flags left → AreTrimmed old s k (n + 1) flags left
 trimmed_out old s k n flags left at e t = record {
-  marked = marked_kept old _ n flags (at ∙ leaves_out (is_in s n) (nat_lt (rank s n) k) e) t.marked;
+  marked = marked_same old _ n flags (at ∙ leaves_out (is_in s n) (nat_lt (rank s n) k) e) t.marked;
   counted = omega (arith, t.counted, rank_out s n e);
 }
 
@@ -166,27 +166,27 @@ tested_at R a b x a' b' x' e f g h = subst (λ v. R v b' x') e (subst (λ v. R a
 
 pub tested_more : (R : Bool → Bool → Bool → Type 0) (s t : PartitionSet) (n : ℕ) (flags : List Bool) (a b x : Bool) → n < length flags → a ≡ is_in s n → b ≡ is_in t n → R a b x
     → ((q : ℕ) → q < n → R (is_in s q) (is_in t q) (get_or flags q false)) → (q : ℕ) → q < n + 1 → R (is_in s q) (is_in t q) (get_or (slice_set flags n x) q false)
-tested_more R s t n flags a b x lt mine theirs told before q below = elim (cases_lt q n) [
+tested_more R s t n flags a b x lt mine theirs holds before q below = elim (cases_lt q n) [
   | inl earlier ↦ let other : q ≢ n = omega arith in subst (R (is_in s q) (is_in t q)) (sym (get_or-set_other flags n q x false other)) (before q earlier)
   | inr late ↦
       let same : q ≡ n = omega arith in
-      rw same (tested_at R a b x (is_in s n) (is_in t n) (get_or (slice_set flags n x) n false) mine theirs (sym (get_or-set_same flags n x false lt)) told)
+      rw same (tested_at R a b x (is_in s n) (is_in t n) (get_or (slice_set flags n x) n false) mine theirs (sym (get_or-set_same flags n x false lt)) holds)
 ]
 
 pub failed_more : (R : Bool → Bool → Bool → Type 0) (s t : PartitionSet) (n : ℕ) (a b x : Bool) → a ≡ is_in s n → b ≡ is_in t n → x ≡ false → R a b x
     → ((q : ℕ) → q < n → R (is_in s q) (is_in t q) false) → (q : ℕ) → q < n + 1 → R (is_in s q) (is_in t q) false
-failed_more R s t n a b x mine theirs fails told before q below = elim (cases_lt q n) [
+failed_more R s t n a b x mine theirs fails holds before q below = elim (cases_lt q n) [
   | inl earlier ↦ before q earlier
-  | inr late ↦ let same : q ≡ n = omega arith in rw same (tested_at R a b x (is_in s n) (is_in t n) false mine theirs fails told)
+  | inr late ↦ let same : q ≡ n = omega arith in rw same (tested_at R a b x (is_in s n) (is_in t n) false mine theirs fails holds)
 ]
 
 abbrev pub HasPassed : (Bool → Bool → Bool → Type 0) → PartitionSet → PartitionSet → ℕ → Bool → Type 0
 HasPassed R s t n passed = MatchBool passed ((q : ℕ) × (q < n) × R (is_in s q) (is_in t q) true) ((q : ℕ) → q < n → R (is_in s q) (is_in t q) false)
 
 pub passed_more : (R : Bool → Bool → Bool → Type 0) (s t : PartitionSet) (n : ℕ) (a b x passed : Bool) → a ≡ is_in s n → b ≡ is_in t n → R a b x → HasPassed R s t n passed → HasPassed R s t (n + 1) (passed || x)
-passed_more R s t n a b x true mine theirs told h = (h.0, omega (arith, h.1), h.2)
-passed_more R s t n a b true false mine theirs told h = (n, omega arith, tested_at R a b true (is_in s n) (is_in t n) true mine theirs refl told)
-passed_more R s t n a b false false mine theirs told h = failed_more R s t n a b false mine theirs refl told h
+passed_more R s t n a b x true mine theirs holds h = (h.0, omega (arith, h.1), h.2)
+passed_more R s t n a b true false mine theirs holds h = (n, omega arith, tested_at R a b true (is_in s n) (is_in t n) true mine theirs refl holds)
+passed_more R s t n a b false false mine theirs holds h = failed_more R s t n a b false mine theirs refl holds h
 
 pub passed_none : (R : Bool → Bool → Bool → Type 0) (s t : PartitionSet) → HasPassed R s t 0 false
 passed_none R s t q lt = absurd (omega (arith, lt))

@@ -81,11 +81,11 @@ pub fn hand_out(slots: &mut [Slot], member: u32) -> Option<Seat>
     ensures seat { result ≡ option_map handed_seat (seat_of slots.old member) }
     ensures slots { slots.new ≡ without_seat slots.old member }
 {
-    let mut place = slots[member as usize - 1].seat.take();
-    if let Some(seat) = &mut place {
+    let mut taken = slots[member as usize - 1].seat.take();
+    if let Some(seat) = &mut taken {
         seat.synced = false;
     }
-    place
+    taken
 }
 
 /// Whether a slot is of a present static member of this name.

@@ -118,7 +118,7 @@ local_ids_in records = map vec_items records.local_ids.now
 pub record AreSeenCounts (shard : Key → ℕ) (count : ℕ) (keys : List Key) (i : ℕ) (seen : List ℕ)
     : Type 0 where
   pub each : length seen ≡ count
-  pub passed : (s : ℕ) → s < count → slice_index_or seen s 0
+  pub seen_counts : (s : ℕ) → s < count → slice_index_or seen s 0
       ≡ length (of_shard shard s (take i keys))
 
 -- the key numbers of the records can be read from the numbers in their shards

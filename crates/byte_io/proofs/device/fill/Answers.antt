@@ -1,5 +1,5 @@
 use Rattle.std.proofs.Common.{rules, ap, arith, length, length-drop, ◌-◌}
-use Rattle.byte_io.proofs.KeyCache.{consumes_more, buffer-filled, buffer-long, slice_end}
+use Rattle.byte_io.proofs.ConsecutiveCalls.{consumes_more, buffer-filled, buffer-long, slice_end}
 use Rattle.byte_io.proofs.device.fill.Goals as goal
 
 pub loop-filled-preserved : goal.loop-filled-preserved

@@ -1,6 +1,6 @@
 use Rattle.std.proofs.Common.{◌≡◌, ◌∙◌, refl, rules, arith, true, length, length-append, length-take, ap, take}
 use Rattle.std.specs.Prelude.{is_ok, not}
-use Rattle.byte_io.proofs.KeyCache.{consumes_more, grown, whole_read}
+use Rattle.byte_io.proofs.ConsecutiveCalls.{consumes_more, grown, whole_read}
 use Rattle.byte_io.proofs.device.read_through.Goals as goal
 
 pub returns-in-Ok-eq0-clause-value : goal.returns-in-Ok-eq0-clause-value

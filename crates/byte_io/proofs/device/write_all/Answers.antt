@@ -1,5 +1,5 @@
 use Rattle.std.proofs.Common.{rules, arith, length-drop}
-use Rattle.byte_io.proofs.KeyCache.{appends_more, slice_end}
+use Rattle.byte_io.proofs.ConsecutiveCalls.{appends_more, slice_end}
 use Rattle.byte_io.proofs.device.write_all.Goals as goal
 
 pub loop-taken-preserved : goal.loop-taken-preserved

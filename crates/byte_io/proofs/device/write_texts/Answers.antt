@@ -1,5 +1,5 @@
 use Rattle.std.proofs.Common.{vec_items}
-use Rattle.byte_io.proofs.KeyCache.{err_holds, texts_prefix}
+use Rattle.byte_io.proofs.ConsecutiveCalls.{err_holds, texts_prefix}
 use Rattle.byte_io.proofs.device.write_texts.Goals as goal
 
 pub returns-in_err-write_all-clause-err : goal.returns-in_err-write_all-clause-err

@@ -9,6 +9,6 @@ have-below ids bound below x more =
     omega (arith, below found.0 found.1, found.2)
 
 pub returns-then-are_below-clause-numbers : goal.returns-then-are_below-clause-numbers
-returns-then-are_below-clause-numbers c told x more =
+returns-then-are_below-clause-numbers c can x more =
     let below = have-below c.args.ids.now (length c.args.counts.now) (c.are_below.ensures c.if-are_below.true) x more in
     omega (arith, below)

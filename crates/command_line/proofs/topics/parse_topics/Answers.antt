@@ -41,7 +41,7 @@ loop-item-preserved c =
     let may = rw c.as_slice.ensures.value at c.may_follow.ensures.0 reported in
     record {
       parsed = rw (pushed, map_push (λ (item : Bor (List ℕ)). item.now) c.loop-item.yielded c.in-Some.item, map_push topic_of (map (λ (item : Bor (List ℕ)). item.now) c.loop-item.yielded) c.in-Some.item.now, map_push (λ (t : Topic). Some t) c.loop-item.topics.items c.in-Some-topic_of.topic, c.loop-item.invariant.parsed, ← c.in-Some-topic_of.ensures) refl;
-      known = rw pushed (valid_with_next c.loop-item.topics.items c.in-Some-topic_of.topic c.loop-item.invariant.known may items_parse.0 items_parse.1);
+      valid = rw pushed (valid_with_next c.loop-item.topics.items c.in-Some-topic_of.topic c.loop-item.invariant.valid may items_parse.0 items_parse.1);
     }
 
 pub returns : goal.returns
@@ -51,5 +51,5 @@ returns c =
     let items_parse = ap (λ items. map topic_of items) (sym end.0) ∙ c.loop-item.invariant.parsed in
     record {
       items = items_parse;
-      rules = record { some = has_a_topic c.args.list.now c.loop-item.topics.items items_parse; known = c.loop-item.invariant.known };
+      rules = record { some = has_a_topic c.args.list.now c.loop-item.topics.items items_parse; valid = c.loop-item.invariant.valid };
     }

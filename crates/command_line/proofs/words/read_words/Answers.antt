@@ -29,44 +29,44 @@ count_job-requires c =
     let words = map (λ (w : Bor Text). w.now) c.args.words.now in
     let found = c.in-Ok-try_get_matches_from.ensures in
     let job = matches_are c.in-Ok.command words _ c.in-Ok.ensures found.matches found.kinds in
-    let met = entered_rows _ _ _ _ _ job.entered c.in-Some.ensures.name c.in-Some.ensures.rows in
-    subst AreCountRows met.1 (takes_count _ _ job.tested (met.0 ∙ c.in-count.is))
+    let entered = entered_rows _ _ _ _ _ job.entered c.in-Some.ensures.name c.in-Some.ensures.rows in
+    subst AreCountRows entered.1 (takes_count _ _ job.tested (entered.0 ∙ c.in-count.is))
 
 pub replay_job-requires : goal.replay_job-requires
 replay_job-requires c =
     let words = map (λ (w : Bor Text). w.now) c.args.words.now in
     let found = c.in-Ok-try_get_matches_from.ensures in
     let job = matches_are c.in-Ok.command words _ c.in-Ok.ensures found.matches found.kinds in
-    let met = entered_rows _ _ _ _ _ job.entered c.in-Some.ensures.name c.in-Some.ensures.rows in
-    subst AreScriptRows met.1 (takes_replay _ _ job.tested (met.0 ∙ c.in-replay.is))
+    let entered = entered_rows _ _ _ _ _ job.entered c.in-Some.ensures.name c.in-Some.ensures.rows in
+    subst AreScriptRows entered.1 (takes_replay _ _ job.tested (entered.0 ∙ c.in-replay.is))
 
 pub run_job-requires : goal.run_job-requires
 run_job-requires c =
     let words = map (λ (w : Bor Text). w.now) c.args.words.now in
     let found = c.in-Ok-try_get_matches_from.ensures in
     let job = matches_are c.in-Ok.command words _ c.in-Ok.ensures found.matches found.kinds in
-    let met = entered_rows _ _ _ _ _ job.entered c.in-Some.ensures.name c.in-Some.ensures.rows in
-    subst AreScriptRows met.1 (takes_run _ _ job.tested (met.0 ∙ c.in-run.is))
+    let entered = entered_rows _ _ _ _ _ job.entered c.in-Some.ensures.name c.in-Some.ensures.rows in
+    subst AreScriptRows entered.1 (takes_run _ _ job.tested (entered.0 ∙ c.in-run.is))
 
 pub unreachable-requires-in_default-name : goal.unreachable-requires-in_default-name
 unreachable-requires-in_default-name c =
     let words = map (λ (w : Bor Text). w.now) c.args.words.now in
     let found = c.in-Ok-try_get_matches_from.ensures in
     let job = matches_are c.in-Ok.command words _ c.in-Ok.ensures found.matches found.kinds in
-    let met = entered_rows _ _ _ _ _ job.entered c.in-Some.ensures.name c.in-Some.ensures.rows in
-    takes_none _ _ job.tested (λ e. c.in_default-name.not-count (sym met.0 ∙ e)) (λ e. c.in_default-name.not-replay (sym met.0 ∙ e)) (λ e. c.in_default-name.not-run (sym met.0 ∙ e))
+    let entered = entered_rows _ _ _ _ _ job.entered c.in-Some.ensures.name c.in-Some.ensures.rows in
+    takes_none _ _ job.tested (λ e. c.in_default-name.not-count (sym entered.0 ∙ e)) (λ e. c.in_default-name.not-replay (sym entered.0 ∙ e)) (λ e. c.in_default-name.not-run (sym entered.0 ∙ e))
 
 pub returns-in-count-clause-job : goal.returns-in-count-clause-job
 returns-in-count-clause-job c =
     let words = map (λ (w : Bor Text). w.now) c.args.words.now in
     let found = c.in-Ok-try_get_matches_from.ensures in
     let job = matches_are c.in-Ok.command words _ c.in-Ok.ensures found.matches found.kinds in
-    let met = entered_rows _ _ _ _ _ job.entered c.in-Some.ensures.name c.in-Some.ensures.rows in
+    let entered = entered_rows _ _ _ _ _ job.entered c.in-Some.ensures.name c.in-Some.ensures.rows in
     IfOk-weaker c.count_job.result _ _
     (λ r is. record {
       rows = rows_of (found_of c.in-Some.given.now);
       taken = job.taken;
-      subcommand = job.subcommand ∙ ap₂ (λ (n : Text) (xs : List Row). Some (n, xs)) (met.0 ∙ c.in-count.is ∙ sym is.0) met.1;
+      subcommand = job.subcommand ∙ ap₂ (λ (n : Text) (xs : List Row). Some (n, xs)) (entered.0 ∙ c.in-count.is ∙ sym is.0) entered.1;
       found = is.1;
     })
     c.count_job.ensures.job
@@ -76,9 +76,9 @@ returns-in-count-clause-usage c =
     let words = map (λ (w : Bor Text). w.now) c.args.words.now in
     let found = c.in-Ok-try_get_matches_from.ensures in
     let job = matches_are c.in-Ok.command words _ c.in-Ok.ensures found.matches found.kinds in
-    let met = entered_rows _ _ _ _ _ job.entered c.in-Some.ensures.name c.in-Some.ensures.rows in
+    let entered = entered_rows _ _ _ _ _ job.entered c.in-Some.ensures.name c.in-Some.ensures.rows in
     IfErr-weaker c.count_job.result _ _
-    (λ usage reports. bad_list_is_refusal words job.name job.rows usage job.taken job.subcommand (subst (λ rows. ReportsBadList rows usage) (sym met.1) reports))
+    (λ usage reports. bad_list_is_refusal words job.name job.rows usage job.taken job.subcommand (subst (λ rows. ReportsBadList rows usage) (sym entered.1) reports))
     c.count_job.ensures.fault
 
 pub returns-in-replay-clause-job : goal.returns-in-replay-clause-job
@@ -86,12 +86,12 @@ returns-in-replay-clause-job c =
     let words = map (λ (w : Bor Text). w.now) c.args.words.now in
     let found = c.in-Ok-try_get_matches_from.ensures in
     let job = matches_are c.in-Ok.command words _ c.in-Ok.ensures found.matches found.kinds in
-    let met = entered_rows _ _ _ _ _ job.entered c.in-Some.ensures.name c.in-Some.ensures.rows in
+    let entered = entered_rows _ _ _ _ _ job.entered c.in-Some.ensures.name c.in-Some.ensures.rows in
     IfOk-weaker c.replay_job.result _ _
     (λ r is. record {
       rows = rows_of (found_of c.in-Some.given.now);
       taken = job.taken;
-      subcommand = job.subcommand ∙ ap₂ (λ (n : Text) (xs : List Row). Some (n, xs)) (met.0 ∙ c.in-replay.is ∙ sym is.0) met.1;
+      subcommand = job.subcommand ∙ ap₂ (λ (n : Text) (xs : List Row). Some (n, xs)) (entered.0 ∙ c.in-replay.is ∙ sym is.0) entered.1;
       found = is.1;
     })
     c.replay_job.ensures.job
@@ -101,9 +101,9 @@ returns-in-replay-clause-usage c =
     let words = map (λ (w : Bor Text). w.now) c.args.words.now in
     let found = c.in-Ok-try_get_matches_from.ensures in
     let job = matches_are c.in-Ok.command words _ c.in-Ok.ensures found.matches found.kinds in
-    let met = entered_rows _ _ _ _ _ job.entered c.in-Some.ensures.name c.in-Some.ensures.rows in
+    let entered = entered_rows _ _ _ _ _ job.entered c.in-Some.ensures.name c.in-Some.ensures.rows in
     IfErr-weaker c.replay_job.result _ _
-    (λ usage reports. bad_list_is_refusal words job.name job.rows usage job.taken job.subcommand (subst (λ rows. ReportsBadList rows usage) (sym met.1) reports))
+    (λ usage reports. bad_list_is_refusal words job.name job.rows usage job.taken job.subcommand (subst (λ rows. ReportsBadList rows usage) (sym entered.1) reports))
     c.replay_job.ensures.fault
 
 pub returns-in-run-clause-job : goal.returns-in-run-clause-job
@@ -111,12 +111,12 @@ returns-in-run-clause-job c =
     let words = map (λ (w : Bor Text). w.now) c.args.words.now in
     let found = c.in-Ok-try_get_matches_from.ensures in
     let job = matches_are c.in-Ok.command words _ c.in-Ok.ensures found.matches found.kinds in
-    let met = entered_rows _ _ _ _ _ job.entered c.in-Some.ensures.name c.in-Some.ensures.rows in
+    let entered = entered_rows _ _ _ _ _ job.entered c.in-Some.ensures.name c.in-Some.ensures.rows in
     IfOk-weaker c.run_job.result _ _
     (λ r is. record {
       rows = rows_of (found_of c.in-Some.given.now);
       taken = job.taken;
-      subcommand = job.subcommand ∙ ap₂ (λ (n : Text) (xs : List Row). Some (n, xs)) (met.0 ∙ c.in-run.is ∙ sym is.0) met.1;
+      subcommand = job.subcommand ∙ ap₂ (λ (n : Text) (xs : List Row). Some (n, xs)) (entered.0 ∙ c.in-run.is ∙ sym is.0) entered.1;
       found = is.1;
     })
     c.run_job.ensures.job
@@ -126,9 +126,9 @@ returns-in-run-clause-usage c =
     let words = map (λ (w : Bor Text). w.now) c.args.words.now in
     let found = c.in-Ok-try_get_matches_from.ensures in
     let job = matches_are c.in-Ok.command words _ c.in-Ok.ensures found.matches found.kinds in
-    let met = entered_rows _ _ _ _ _ job.entered c.in-Some.ensures.name c.in-Some.ensures.rows in
+    let entered = entered_rows _ _ _ _ _ job.entered c.in-Some.ensures.name c.in-Some.ensures.rows in
     IfErr-weaker c.run_job.result _ _
-    (λ usage reports. bad_list_is_refusal words job.name job.rows usage job.taken job.subcommand (subst (λ rows. ReportsBadList rows usage) (sym met.1) reports))
+    (λ usage reports. bad_list_is_refusal words job.name job.rows usage job.taken job.subcommand (subst (λ rows. ReportsBadList rows usage) (sym entered.1) reports))
     c.run_job.ensures.fault
 
 pub returns-in-Err-clause-topics : goal.returns-in-Err-clause-topics

@@ -1,13 +1,13 @@
 use Rattle.std.proofs.Common.{rules, ◌≡◌, ◌∙◌, [], ap, arith}
 use Rattle.bit_planes.specs.PartitionSet.{elements, minus}
 use Rattle.bit_planes.proofs.Sets.{in_below}
-use Rattle.consumer.proofs.Slots.{all_written, given_up_drops, given_up_holding, given_up_keeps, in_first, next_in, none_written, one_written, slot_written}
+use Rattle.consumer.proofs.Slots.{all_written, given_up_drops, given_up_holding, given_up_same, in_first, next_in, none_written, one_written, slot_written}
 use Rattle.consumer.proofs.held.give_up.Goals as goal
 
 pub loop-p-init : goal.loop-p-init
 loop-p-init c =
     let all : c.into_iter-p-iterator.result ≡ elements (minus c.args.holding.now c.args.assigned.now) = c.into_iter-p-iterator.ensures.into_iter_gives ∙ c.iter-p-items.ensures.value ∙ ap elements c.minus-dropped.ensures.value in
-    none_written _ _ _ _ all (given_up_keeps c.args.assigned.now c.args.holding.now c.args.held.now c.requires.holding)
+    none_written _ _ _ _ all (given_up_same c.args.assigned.now c.args.holding.now c.args.held.now c.requires.holding)
 
 pub bounds-held-p : goal.bounds-held-p
 bounds-held-p c =

@@ -1,14 +1,14 @@
 use Rattle.std.proofs.Common.{rules, ◌≡◌, ◌∙◌, [], Some, ap, sym, arith}
 use Rattle.bit_planes.specs.PartitionSet.{elements, minus, union}
 use Rattle.bit_planes.proofs.Sets.{in_below}
-use Rattle.consumer.proofs.Slots.{all_written, in_first, lease_holding, lease_keeps, lease_starts, next_in, none_written, one_written, slot_written}
+use Rattle.consumer.proofs.Slots.{all_written, in_first, lease_holding, lease_same, lease_starts, next_in, none_written, one_written, slot_written}
 use Rattle.consumer.proofs.held.lease.Goals as goal
 
 pub loop-p-init : goal.loop-p-init
 loop-p-init c =
     let new : c.minus.result ≡ minus c.args.lease.now.assigned c.args.holding.now = c.minus.ensures.value ∙ ap (λ s. minus s c.args.holding.now) c.assigned.ensures in
     let all : c.into_iter-p-iterator.result ≡ elements (minus c.args.lease.now.assigned c.args.holding.now) = c.into_iter-p-iterator.ensures.into_iter_gives ∙ c.iter-p-items.ensures.value ∙ ap elements new in
-    none_written _ _ _ _ all (lease_keeps c.args.lease.now c.args.holding.now c.args.held.now c.requires.holding)
+    none_written _ _ _ _ all (lease_same c.args.lease.now c.args.holding.now c.args.held.now c.requires.holding)
 
 pub start-start-requires : goal.start-start-requires
 start-start-requires c =

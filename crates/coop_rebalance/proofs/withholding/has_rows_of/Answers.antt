@@ -1,13 +1,13 @@
 use Rattle.std.proofs.Common.{◌≡◌, ◌∙◌, ap, sym, arith, length, Some}
 use Rattle.std.proofs.lemmas.List.{length_push}
 use Rattle.bit_planes.proofs.Walks.{row_turn, row_end}
-use Rattle.coop_rebalance.proofs.Final.{tells_lack, tells_all, one_more}
+use Rattle.coop_rebalance.proofs.Final.{lacks_row, has_all_rows, one_more}
 use Rattle.coop_rebalance.proofs.withholding.has_rows_of.Goals as goal
 
 pub returns-in_default : goal.returns-in_default
 returns-in_default c =
     let turn = row_turn c.args.others.now _ _ _ c.loop-member.yielded _ (c.in-Some.member, c.in-Some.row) c.iter-member-items.ensures.valid (cc) c.loop-member.yielded_by c.in-Some.is c.next.ensures.steps in
-    record { rows = tells_lack c.args.rows.now c.args.others.now c.in-Some.member c.in-Some.row.now turn.found (λ e. cc (e, c.in_default.ensures.value)); valid = c.iter-member-items.ensures.valid }
+    record { rows = lacks_row c.args.rows.now c.args.others.now c.in-Some.member c.in-Some.row.now turn.found (λ e. cc (e, c.in_default.ensures.value)); valid = c.iter-member-items.ensures.valid }
 
 pub same-requires : goal.same-requires
 same-requires c =
@@ -17,7 +17,7 @@ same-requires c =
 pub returns-then-not-same : goal.returns-then-not-same
 returns-then-not-same c =
     let turn = row_turn c.args.others.now _ _ _ c.loop-member.yielded _ (c.in-Some.member, c.in-Some.row) c.iter-member-items.ensures.valid (cc) c.loop-member.yielded_by c.in-Some.is c.next.ensures.steps in
-    record { rows = tells_lack c.args.rows.now c.args.others.now c.in-Some.member c.in-Some.row.now turn.found (λ e. let same : c.in-Some-get.own.now ≡ c.in-Some.row.now = cc (e, c.in-Some-get.ensures.value) in cc (c.same.ensures.iff.1 same, c.if-not-same.true)); valid = c.iter-member-items.ensures.valid }
+    record { rows = lacks_row c.args.rows.now c.args.others.now c.in-Some.member c.in-Some.row.now turn.found (λ e. let same : c.in-Some-get.own.now ≡ c.in-Some.row.now = cc (e, c.in-Some-get.ensures.value) in cc (c.same.ensures.iff.1 same, c.if-not-same.true)); valid = c.iter-member-items.ensures.valid }
 
 pub loop-member-preserved : goal.loop-member-preserved
 loop-member-preserved c =
@@ -32,4 +32,4 @@ loop-member-preserved c =
 pub returns : goal.returns
 returns c =
     let all = row_end c.args.others.now _ _ _ c.loop-member.yielded _ (cc) c.loop-member.yielded_by c.in-None.is c.next.ensures.steps in
-    record { rows = tells_all c.args.rows.now c.args.others.now (λ i d lt. c.loop-member.invariant.so_far i d (omega (arith, all, lt))); valid = c.iter-member-items.ensures.valid }
+    record { rows = has_all_rows c.args.rows.now c.args.others.now (λ i d lt. c.loop-member.invariant.so_far i d (omega (arith, all, lt))); valid = c.iter-member-items.ensures.valid }

@@ -2,7 +2,7 @@ use Rattle.std.proofs.Common.{◌≡◌, ◌∙◌, length, ap, sym, take}
 use Rattle.std.proofs.lemmas.List.{length_push}
 use Rattle.bit_planes.specs.SetRows.{SetRows, members, set_of}
 use Rattle.bit_planes.proofs.Walks.{row_turn, row_end}
-use Rattle.coop_rebalance.proofs.Granted.{others_beside}
+use Rattle.coop_rebalance.proofs.Granted.{others_granted}
 use Rattle.bit_planes.specs.PartitionSet.{is_in}
 use Rattle.coop_rebalance.specs.Withheld.{withheld}
 use Rattle.coop_rebalance.proofs.WithheldRows.{members_withheld, set_withheld}
@@ -35,7 +35,7 @@ loop-member-preserved c =
       next = tt;
       ends = tt;
       so_far = rw (next, turn.more) (withheld_one c.args.rows.now c.args.granted.now c.loop-member.rows c.remove_from.new.self (take (length c.loop-member.yielded) c.args.granted.now.rows) (c.in-Some.member, c.in-Some.own.now) c.to_others.result
-          (λ q. c.to_others.ensures.elements q ∙ others_beside c.of-grants.result.some c.of-grants.result.several c.in-Some.own.now c.args.granted.now c.in-Some.member q c.iter-member-items.ensures.valid c.of-grants.ensures turn.found)
+          (λ q. c.to_others.ensures.elements q ∙ others_granted c.of-grants.result.some c.of-grants.result.several c.in-Some.own.now c.args.granted.now c.in-Some.member q c.iter-member-items.ensures.valid c.of-grants.ensures turn.found)
           c.loop-member.invariant.so_far c.remove_from.ensures.value);
     }
 

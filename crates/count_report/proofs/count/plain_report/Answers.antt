@@ -5,7 +5,7 @@ use Rattle.report_rows.specs.CountRows.{count_rows, counts_of, plain_text}
 use Rattle.report_rows.specs.Rows.{total_row}
 use Rattle.ingest.specs.RecordFaults.{fault_or, first_fault}
 use Rattle.ingest.specs.Records.{partition_counts, records_in}
-use Rattle.ingest.proofs.Faulted.{fault_told}
+use Rattle.ingest.proofs.Faulted.{fault_or_is}
 use Rattle.ingest.proofs.ReadFaults.{as_answer}
 use Rattle.count_report.specs.CountReport.{report_of_records}
 use Rattle.report_rows.proofs.Counts.{counts-are}
@@ -32,4 +32,4 @@ returns-in_err-logs-clause-answer g c =
     let counts = partition_counts c.args.options.now in
     let fault = c.in_err-logs.field-0.0 in
     let same : c.from_residual.result ≡ Err fault = search rules in
-    rw same (as_answer (report_of_records counts records) fault (fault_told (first_fault counts [] records) (plain_text (keys_in records)) fault c.in_err-logs.ensures.answer.1))
+    rw same (as_answer (report_of_records counts records) fault (fault_or_is (first_fault counts [] records) (plain_text (keys_in records)) fault c.in_err-logs.ensures.answer.1))

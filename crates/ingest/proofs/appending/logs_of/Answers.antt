@@ -7,7 +7,7 @@ pub returns-in_err-append_records-clause-answer : goal.returns-in_err-append_rec
 returns-in_err-append_records-clause-answer g c =
     let new = c.in_ok-logs.ensures in
     let same = new.counts ∙ c.as_slice.ensures.value ∙ c.in_ok-counts.ensures.value in
-    let known = appends_ended (partition_counts c.args.options.now) c.in_ok-logs.logs c.append_records.new.logs (records_in c.args.records.now) c.in_err-append_records.field-0.0 new.valid new.empty same c.requires.topics c.in_err-append_records.ensures.err in
+    let ended = appends_ended (partition_counts c.args.options.now) c.in_ok-logs.logs c.append_records.new.logs (records_in c.args.records.now) c.in_err-append_records.field-0.0 new.valid new.empty same c.requires.topics c.in_err-append_records.ensures.err in
     search rules
 
 pub returns-clause-logs : goal.returns-clause-logs

@@ -6,7 +6,7 @@ use Rattle.key_index.specs.Private.Sharded.{AreOrdered, next_after, of_shard, sh
 use Rattle.key_index.specs.declared.shards.KeyLocation.{KeyLocation}
 use Rattle.key_index.specs.declared.shards.TheConstants.{SHARDS}
 use Rattle.key_index.proofs.Ordered.{next-ordered, ordered-more, ordered-none}
-use Rattle.key_index.proofs.ShardRecords.{few-distinct, next-local_id, passed-few, passed-more, passed-none, shard-at, shard-below, shards-long}
+use Rattle.key_index.proofs.ShardRecords.{few-distinct, next-local_id, seen_counts-few, seen_counts-more, seen_counts-none, shard-at, shard-below, shards-long}
 use Rattle.key_index.proofs.Assigned.{AreAssigned, assigned-all, assigned-more, assigned-none}
 use Rattle.key_index.proofs.interning.assign_in_order.Goals as goal
 
@@ -17,7 +17,7 @@ loop-i-init c =
     subst (λ (ids : List (List ℕ)). AreAssigned (shard_of c.args.records.now.hasher) all [] ids 0) (sym c.in_ok-ids.ensures) (assigned-none (shard_of c.args.records.now.hasher) all SHARDS) in
     let none : List ℕ = [] in record {
       len = sym (length-map c.in_ok-ids.ids.items vec_items) ∙ ap length c.in_ok-ids.ensures ∙ length-replicate SHARDS none;
-      passed = passed-none (shard_of c.args.records.now.hasher) SHARDS all;
+      seen_counts = seen_counts-none (shard_of c.args.records.now.hasher) SHARDS all;
       assigned = rw c.in_ok-order.ensures.items start;
       ordered = rw c.in_ok-order.ensures.items (ordered-none (shard_of c.args.records.now.hasher) all SHARDS);
     }
@@ -57,7 +57,7 @@ index-local_id-requires c =
     let below : shard < SHARDS = shard-below c.args.records.now.hasher all shards i c.requires.shards i_in in
     let in_local_ids : shard < length local_ids = omega (arith, below, c.requires.local_ids.each, length-map local_ids vec_items) in
     let next = next-local_id (shard_of c.args.records.now.hasher) SHARDS all i c.loop-i.seen (get_or (map vec_items local_ids) shard []) shard i_in (shard-at (shard_of c.args.records.now.hasher) all shards i c.requires.shards i_in) below
-    (c.requires.local_ids.are shard below) c.loop-i.invariant.passed in
+    (c.requires.local_ids.are shard below) c.loop-i.invariant.seen_counts in
     let row = get_or-map vec_items local_ids shard c.index-local_ids-shard.result [] in_local_ids ∙ ap vec_items (sym c.index-local_ids-shard.is) in
     let counted : vec_len c.index-local_ids-shard.result ≡ length c.index-local_ids-shard.result.items = search rules in
     omega (arith, next.0, ap length row, counted)
@@ -70,7 +70,7 @@ overflow_add-seen c =
     let i_le : i ≤ length all = omega (arith, i_in) in
     let shard = get_or c.args.records.now.shards.now i 0 in
     let below : shard < SHARDS = shard-below c.args.records.now.hasher all c.args.records.now.shards.now i c.requires.shards i_in in
-    omega (arith, passed-few (shard_of c.args.records.now.hasher) SHARDS all i c.loop-i.seen shard below i_le c.loop-i.invariant.passed, c.loop-i-test.true)
+    omega (arith, seen_counts-few (shard_of c.args.records.now.hasher) SHARDS all i c.loop-i.seen shard below i_le c.loop-i.invariant.seen_counts, c.loop-i-test.true)
 
 pub assign_id-requires-clause-capacity : goal.assign_id-requires-clause-capacity
 assign_id-requires-clause-capacity c =
@@ -103,7 +103,7 @@ loop-i-preserved c =
     let long : length ids ≡ SHARDS = length-map c.loop-i.ids.items vec_items ∙ inv.len in
     let below : shard < length ids = rw long within in
     let in_local_ids : shard < length local_ids = omega (arith, within, c.requires.local_ids.each, length-map local_ids vec_items) in
-    let next_is = next-local_id (shard_of hasher) SHARDS all i seen (get_or (map vec_items local_ids) shard []) shard i_in at within (c.requires.local_ids.are shard within) inv.passed in
+    let next_is = next-local_id (shard_of hasher) SHARDS all i seen (get_or (map vec_items local_ids) shard []) shard i_in at within (c.requires.local_ids.are shard within) inv.seen_counts in
     let row = get_or-map vec_items local_ids shard c.index-local_ids-shard.result [] in_local_ids ∙ ap vec_items (sym c.index-local_ids-shard.is) in
     let seen_in : get_or seen shard 0 < length c.index-local_ids-shard.result.items = omega (arith, next_is.0, ap length row) in
     let read = get_or_read c.index-local_ids-shard.result.items (get_or seen shard 0) local_id seen_in c.index-local_id.ensures 0 in
@@ -115,7 +115,7 @@ loop-i-preserved c =
     let next : length c.assign_id.new.order.items ≡ next_after old local_id (length order) = ap length stands ∙ next-ordered order old shard local_id in
     record {
       len = sym (length-map c.assign_id.new.ids.items vec_items) ∙ ap length filled ∙ length-set ids shard (with_first old local_id (length order)) ∙ long;
-      passed = passed-more (shard_of hasher) SHARDS all i seen shard i_in at within inv.passed;
+      seen_counts = seen_counts-more (shard_of hasher) SHARDS all i seen shard i_in at within inv.seen_counts;
       assigned = subst (λ (gs : List (List ℕ)). AreAssigned (shard_of hasher) all (take (i + 1) all) gs (length c.assign_id.new.order.items)) (sym filled)
           (subst (λ (n : ℕ). AreAssigned (shard_of hasher) all (take (i + 1) all) (slice_set ids shard (with_first old local_id (length order))) n) (sym next)
           (assigned-more (shard_of hasher) all i shard local_id ids (length order) i_in at below local_id_is inv.assigned));

@@ -5,7 +5,7 @@ use Rattle.key_index.specs.Keys.{distinct, id_of, lent_lists}
 use Rattle.key_index.specs.Private.Sharded.{AreSeenCounts, shard_of}
 use Rattle.key_index.specs.declared.shards.TheConstants.{SHARDS}
 use Rattle.key_index.proofs.ReadBack.{from-more, read-record}
-use Rattle.key_index.proofs.ShardRecords.{passed-few, passed-more, shard-at, shard-below, shards-long}
+use Rattle.key_index.proofs.ShardRecords.{seen_counts-few, seen_counts-more, shard-at, shard-below, shards-long}
 use Rattle.key_index.proofs.interning.read_numbers.Goals as goal
 
 pub bounds-local_ids-shard : goal.bounds-local_ids-shard
@@ -51,7 +51,7 @@ overflow_add-seen c =
     let i_le : i ≤ length all = omega (arith, i_in) in
     let shard = get_or c.args.records.now.shards.now i 0 in
     let below = shard-below c.args.records.now.hasher all c.args.records.now.shards.now i c.requires.valid.sharded i_in in
-    omega (arith, passed-few (shard_of c.args.records.now.hasher) SHARDS all i c.loop-k.seen shard below i_le c.loop-k.invariant.passed, c.loop-k-test.true, c.requires.range, shards-long (shard_of c.args.records.now.hasher) all c.args.records.now.shards.now c.requires.valid.sharded)
+    omega (arith, seen_counts-few (shard_of c.args.records.now.hasher) SHARDS all i c.loop-k.seen shard below i_le c.loop-k.invariant.seen_counts, c.loop-k-test.true, c.requires.range, shards-long (shard_of c.args.records.now.hasher) all c.args.records.now.shards.now c.requires.valid.sharded)
 
 pub index-local_id-requires : goal.index-local_id-requires
 index-local_id-requires c =
@@ -65,7 +65,7 @@ index-local_id-requires c =
     let shard = get_or shards i 0 in
     let seen = get_or c.loop-k.seen shard 0 in
     let below = shard-below hasher all shards i c.requires.valid.sharded i_in in
-    let there = read-record hasher all shards (map vec_items local_ids) (map vec_items ids) i c.loop-k.seen c.requires.valid i_in c.loop-k.invariant.passed in
+    let there = read-record hasher all shards (map vec_items local_ids) (map vec_items ids) i c.loop-k.seen c.requires.valid i_in c.loop-k.invariant.seen_counts in
     let in_local_ids : shard < length local_ids = omega (arith, below, c.requires.valid.numbered.each, length-map local_ids vec_items) in
     let row = get_or-map vec_items local_ids shard c.index-local_ids-shard.result [] in_local_ids ∙ ap vec_items (sym c.index-local_ids-shard.is) in
     let counted : vec_len c.index-local_ids-shard.result ≡ length c.index-local_ids-shard.result.items = search rules in
@@ -83,7 +83,7 @@ index-requires c =
     let shard = get_or shards i 0 in
     let seen = get_or c.loop-k.seen shard 0 in
     let below = shard-below hasher all shards i c.requires.valid.sharded i_in in
-    let there = read-record hasher all shards (map vec_items local_ids) (map vec_items ids) i c.loop-k.seen c.requires.valid i_in c.loop-k.invariant.passed in
+    let there = read-record hasher all shards (map vec_items local_ids) (map vec_items ids) i c.loop-k.seen c.requires.valid i_in c.loop-k.invariant.seen_counts in
     let in_local_ids : shard < length local_ids = omega (arith, below, c.requires.valid.numbered.each, length-map local_ids vec_items) in
     let row = get_or-map vec_items local_ids shard c.index-local_ids-shard.result [] in_local_ids ∙ ap vec_items (sym c.index-local_ids-shard.is) in
     let seen_in : seen < length c.index-local_ids-shard.result.items = omega (arith, there.seen_in, ap length row) in
@@ -107,7 +107,7 @@ loop-k-preserved c =
     let shard = get_or shards i 0 in
     let seen = get_or c.loop-k.seen shard 0 in
     let below = shard-below hasher all shards i c.requires.valid.sharded i_in in
-    let there = read-record hasher all shards (map vec_items local_ids) (map vec_items ids) i c.loop-k.seen c.requires.valid i_in c.loop-k.invariant.passed in
+    let there = read-record hasher all shards (map vec_items local_ids) (map vec_items ids) i c.loop-k.seen c.requires.valid i_in c.loop-k.invariant.seen_counts in
     let in_local_ids : shard < length local_ids = omega (arith, below, c.requires.valid.numbered.each, length-map local_ids vec_items) in
     let row = get_or-map vec_items local_ids shard c.index-local_ids-shard.result [] in_local_ids ∙ ap vec_items (sym c.index-local_ids-shard.is) in
     let seen_in : seen < length c.index-local_ids-shard.result.items = omega (arith, there.seen_in, ap length row) in
@@ -120,9 +120,9 @@ loop-k-preserved c =
     let number : c.index.result.now ≡ id_of (distinct all) (get_or all i []) =
     read_number ∙ ap (λ ns. get_or ns c.index-local_id.result.now 0) (sym ids_row) ∙ ap (λ l. get_or (get_or (map vec_items ids) shard []) l 0) local_id ∙ there.number in
     let next : i + 1 ≡ c.args.from + (c.loop-k.k + 1) = omega arith in
-    let more = passed-more (shard_of hasher) SHARDS all i c.loop-k.seen shard i_in (shard-at (shard_of hasher) all shards i c.requires.valid.sharded i_in) below c.loop-k.invariant.passed in
+    let more = seen_counts-more (shard_of hasher) SHARDS all i c.loop-k.seen shard i_in (shard-at (shard_of hasher) all shards i c.requires.valid.sharded i_in) below c.loop-k.invariant.seen_counts in
     record {
-      passed = subst (λ n. AreSeenCounts (shard_of hasher) SHARDS all n (slice_set c.loop-k.seen shard (seen + 1))) next more;
+      seen_counts = subst (λ n. AreSeenCounts (shard_of hasher) SHARDS all n (slice_set c.loop-k.seen shard (seen + 1))) next more;
       read = from-more (id_of (distinct all)) all c.args.from c.loop-k.k c.loop-k.numbers c.index.result.now c.loop-k.invariant.read (omega (arith, c.loop-k-test.true)) number;
     }
 

@@ -6,6 +6,6 @@ use Rattle.key_index.proofs.interning.read_numbers.Given as goal
 
 abbrev pub invariant-loop-k : goal.invariant-loop-k
 invariant-loop-k l = record {
-  passed : AreSeenCounts (shard_of l.records.hasher) SHARDS (lent_lists l.records.lists.now) (l.from + l.k) l.seen;
+  seen_counts : AreSeenCounts (shard_of l.records.hasher) SHARDS (lent_lists l.records.lists.now) (l.from + l.k) l.seen;
   read : AreFrom (id_of (distinct (lent_lists l.records.lists.now))) (lent_lists l.records.lists.now) l.from l.k l.numbers;
 }

@@ -3,11 +3,11 @@ use Rattle.std.proofs.lemmas.List.{length-map}
 use Rattle.key_index.specs.Keys.{lent_lists}
 use Rattle.key_index.specs.Private.Sharded.{shard_of}
 use Rattle.key_index.specs.declared.shards.TheConstants.{SHARDS}
-use Rattle.key_index.proofs.ShardRecords.{passed-few, passed-more, passed-none, shard-at, shard-below}
+use Rattle.key_index.proofs.ShardRecords.{seen_counts-few, seen_counts-more, seen_counts-none, shard-at, shard-below}
 use Rattle.key_index.proofs.interning.seen_before.Goals as goal
 
 pub loop-i-init : goal.loop-i-init
-loop-i-init c = passed-none (shard_of c.args.hasher) SHARDS (lent_lists c.args.lists.now)
+loop-i-init c = seen_counts-none (shard_of c.args.hasher) SHARDS (lent_lists c.args.lists.now)
 
 pub bounds-shards-i : goal.bounds-shards-i
 bounds-shards-i c =
@@ -34,7 +34,7 @@ overflow_add-seen c =
     let i_le : i ≤ length all = omega (arith, i_in) in
     let shard = get_or c.args.shards.now i 0 in
     let below : shard < SHARDS = shard-below c.args.hasher all c.args.shards.now i c.requires.shards i_in in
-    omega (arith, passed-few (shard_of c.args.hasher) SHARDS all i c.loop-i.seen shard below i_le c.loop-i.invariant, c.loop-i-test.true)
+    omega (arith, seen_counts-few (shard_of c.args.hasher) SHARDS all i c.loop-i.seen shard below i_le c.loop-i.invariant, c.loop-i-test.true)
 
 pub loop-i-preserved : goal.loop-i-preserved
 loop-i-preserved c =
@@ -44,4 +44,4 @@ loop-i-preserved c =
     let i_in : i < length all = omega (arith, c.loop-i-test.true, c.requires.range) in
     let shard = get_or shards i 0 in
     let below : shard < SHARDS = shard-below c.args.hasher all shards i c.requires.shards i_in in
-    passed-more (shard_of c.args.hasher) SHARDS all i c.loop-i.seen shard i_in (shard-at (shard_of c.args.hasher) all shards i c.requires.shards i_in) below c.loop-i.invariant
+    seen_counts-more (shard_of c.args.hasher) SHARDS all i c.loop-i.seen shard i_in (shard-at (shard_of c.args.hasher) all shards i c.requires.shards i_in) below c.loop-i.invariant

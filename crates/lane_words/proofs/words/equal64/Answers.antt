@@ -11,8 +11,8 @@ loop-at-preserved c = record {
 
 pub returns-then-found-eq0 : goal.returns-then-found-eq0
 returns-then-found-eq0 c =
-    let told = equal_by_bits _ _ c.equal64.result (rests c.loop-at.at c.args.a.now c.args.b.now c.requires) c.equal64.ensures in
-    equal_is c.args.a.now c.args.b.now _ c.requires (told ∙ ap not (lanes_none bit_xor c.loop-at.at c.loop-at.found c.args.a.now c.args.b.now c.requires c.loop-at.invariant.within c.loop-at.invariant.so_far (is_set-zero _ c.if-found-eq0.true)))
+    let bits_equal = equal_by_bits _ _ c.equal64.result (rests c.loop-at.at c.args.a.now c.args.b.now c.requires) c.equal64.ensures in
+    equal_is c.args.a.now c.args.b.now _ c.requires (bits_equal ∙ ap not (lanes_none bit_xor c.loop-at.at c.loop-at.found c.args.a.now c.args.b.now c.requires c.loop-at.invariant.within c.loop-at.invariant.so_far (is_set-zero _ c.if-found-eq0.true)))
 
 pub returns-else-found-eq0 : goal.returns-else-found-eq0
 returns-else-found-eq0 c =

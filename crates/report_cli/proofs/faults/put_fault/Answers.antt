@@ -8,8 +8,8 @@ use Rattle.report_cli.proofs.faults.put_fault.Goals as goal
 last_set : (xs : List ℕ) (n v : ℕ) → length xs ≡ n + 1 → drop n (slice_set xs n v) ≡ v ∷ []
 last_set xs n v h = drop-set xs n v (omega arith) ∙ ap (λ t. v ∷ t) (drop_all (n + 1) xs (omega arith))
 
-concatenated : (a b c d end number place all : List ℕ) → end ≡ d → place ≡ c ++ end → number ≡ b ++ place → all ≡ a ++ number → all ≡ a ++ b ++ c ++ d
-concatenated a b c d end number place all h i j k = rw (k, j, i, h) (simp append_assoc)
+concatenated : (a b c d end number location all : List ℕ) → end ≡ d → location ≡ c ++ end → number ≡ b ++ location → all ≡ a ++ number → all ≡ a ++ b ++ c ++ d
+concatenated a b c d end number location all h i j k = rw (k, j, i, h) (simp append_assoc)
 
 pub write_digits-code-requires : goal.write_digits-code-requires
 write_digits-code-requires c =

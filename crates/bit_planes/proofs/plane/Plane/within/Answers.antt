@@ -1,7 +1,7 @@
 use Rattle.std.proofs.Common.{◌∙◌, ◌&&◌, not, refl, arith}
 use Rattle.bit_planes.specs.PartitionSet.{is_in}
 use Rattle.bit_planes.proofs.Seen.{IsShown, below_is, shown_front, some_shown, not_first}
-use Rattle.bit_planes.proofs.Sets.{within_told, tells_within}
+use Rattle.bit_planes.proofs.Sets.{within_of_any, within_elements}
 use Rattle.bit_planes.proofs.plane.Plane.within.Goals as goal
 
 pub returns-clause-value : goal.returns-clause-value
@@ -11,7 +11,7 @@ returns-clause-value c =
     let p = below_is _ _ _ c.self.view_is in
     let p2 = below_is _ _ _ c.other.view_is in
     let theirs : IsShown c.other.inside.partitions n c.other.inside.words c.args.other.now = record { view = c.other.view_is; clear = c.other.invariant.clear; long = c.other.told; few = c.other.invariant.few; enough = omega (arith, p, p2, c.requires, mine.enough); used = omega (arith, p, p2, c.requires, mine.used) } in
-    c.is_within.ensures ∙ within_told c.args.self.now c.args.other.now _ (some_shown _ n _ _ c.args.self.now _ (λ q. is_in c.args.self.now q && not (is_in c.args.other.now q)) mine refl (λ q. rw (shown_front _ n _ _ mine q, shown_front _ n _ _ theirs q) refl) (λ q none. not_first (is_in c.args.self.now q) (not (is_in c.args.other.now q)) none))
+    c.is_within.ensures ∙ within_of_any c.args.self.now c.args.other.now _ (some_shown _ n _ _ c.args.self.now _ (λ q. is_in c.args.self.now q && not (is_in c.args.other.now q)) mine refl (λ q. rw (shown_front _ n _ _ mine q, shown_front _ n _ _ theirs q) refl) (λ q none. not_first (is_in c.args.self.now q) (not (is_in c.args.other.now q)) none))
 
 pub returns-clause-elements : goal.returns-clause-elements
-returns-clause-elements c = tells_within c.args.self.now c.args.other.now c.is_within.result (returns-clause-value c)
+returns-clause-elements c = within_elements c.args.self.now c.args.other.now c.is_within.result (returns-clause-value c)

@@ -2,7 +2,7 @@ use Rattle.std.proofs.Common.{◌≡◌, ◌≤◌, length, ap, arith, rules, sy
 use Rattle.partition_log.specs.Keys.{with_key}
 use Rattle.group_machine.specs.Cluster.{ClusterState, IsValidLogs, IsValidCluster, IsPlaceOf, appended_at, without_capacity}
 use Rattle.group_machine.specs.Private.ClusterView.{cluster_view}
-use Rattle.group_machine.proofs.ClusterLemmas.{append-valid, known-appended}
+use Rattle.group_machine.proofs.ClusterLemmas.{append-valid, interned-appended}
 use Rattle.group_machine.proofs.cluster.Cluster.append_at.Goals as goal
 
 pub invariant_of-self-then-keys : goal.invariant_of-self-then-keys
@@ -25,7 +25,7 @@ invariant_of-self-else-keys c =
     let counters = ap (λ s. length s.counts) c.reserve_key.ensures.same in
     let keys = ap (λ l. length l.keys) c.in_ok-at.ensures.ok in
     let few : length (with_key old.logs.keys key) ≤ length old.logs.keys = omega (arith, c.keys.ensures, c.keys-2.ensures, c.if-keys.false, counters, keys, c.self.invariant.a_counter_each) in
-    let new = known-appended old at key c.append_at.new.self (without_capacity c.reserve_key.new.self) c.in_ok-at.ensures.ok (ap without_capacity c.reserve_key.ensures.same) few in
+    let new = interned-appended old at key c.append_at.new.self (without_capacity c.reserve_key.new.self) c.in_ok-at.ensures.ok (ap without_capacity c.reserve_key.ensures.same) few in
     subst IsValidCluster (sym new) (append-valid old at key c.self.invariant goes logs)
 
 pub returns-then-keys-clause-valid : goal.returns-then-keys-clause-valid

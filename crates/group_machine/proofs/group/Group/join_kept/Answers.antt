@@ -10,7 +10,7 @@ use Rattle.group_machine.specs.Private.GroupView.{group_view}
 use Rattle.group_machine.proofs.PresentLemmas.{length_reseated}
 use Rattle.group_machine.proofs.JoinLemmas.{joined_newcomer}
 use Rattle.group_machine.proofs.JoinLemmas.{accepted_join}
-use Rattle.group_machine.proofs.StepLemmas.{keep_valid, with_slots}
+use Rattle.group_machine.proofs.StepLemmas.{static_valid, with_slots}
 use Rattle.group_machine.proofs.group.Group.join_kept.Goals as goal
 
 next_number : (g : GroupState) (name : List ℕ) (n : ℕ) → Answers (join_answer g name) (Ok n) → n ≡ length g.slots + 1
@@ -31,7 +31,7 @@ returns-clause-valid c =
     let g : GroupState = group_view c.join.new.self in
     let long = ap length c.make_static.ensures ∙ length_reseated (only_of c.in_ok-number.number (option_map static_seat)) c.deref_mut.result.now ∙ c.deref_mut.ensures.len in
     let slots = with_items_is c.join.new.self.slots c.make_static.new.slots long ∙ c.make_static.ensures ∙ ap (λ s. one_changed static_seat s c.in_ok-number.number) c.deref_mut.ensures.value in
-    subst IsValidGroup (sym (ap (with_slots g) slots)) (keep_valid g c.in_ok-number.number c.join.ensures.valid)
+    subst IsValidGroup (sym (ap (with_slots g) slots)) (static_valid g c.in_ok-number.number c.join.ensures.valid)
 
 pub returns-clause-answer : goal.returns-clause-answer
 returns-clause-answer c = search rules

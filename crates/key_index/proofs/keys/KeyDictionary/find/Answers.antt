@@ -1,6 +1,6 @@
 use Rattle.std.proofs.Common.{◌≡◌, ◌∙◌, ◌+◌, ◌++◌, ◌<◌, false, length, ap, sym, arith, rules, subst, length-append}
 use Rattle.key_index.specs.Keys.{IsIdOf, id_of, is_interned}
-use Rattle.key_index.proofs.Firsts.{known-append}
+use Rattle.key_index.proofs.Firsts.{interned-append}
 use Rattle.key_index.proofs.Joined.{behind}
 use Rattle.key_index.proofs.keys.KeyDictionary.find.Goals as goal
 
@@ -10,7 +10,7 @@ returns-in-Some-clause-found c =
     let last = c.self.inside.table in
     let key = c.args.key.now in
     let there : IsIdOf first key c.in-Some.number = rw c.in-Some.is at c.in_ok-number.ensures.found in
-    let stays = known-append first last key there.2 in
+    let stays = interned-append first last key there.2 in
     let within : c.in-Some.number < length (first ++ last) = omega (arith, there.1, length-append first last) in
     subst (λ ks. IsIdOf ks key c.in-Some.number) c.self.view_is (there.0 ∙ sym stays.1, within, stays.0)
 

@@ -2,7 +2,7 @@ use Rattle.std.proofs.Common.{◌≡◌, ◌∙◌, ◌<◌, [], false, get_or, 
 use Rattle.std.proofs.lemmas.List.{get_or-map, get_or_read, length-map}
 use Rattle.key_index.specs.Keys.{IsIdOf, id_of, is_interned}
 use Rattle.key_index.specs.Private.Sharded.{key_at_location, of_shard, shard_of}
-use Rattle.key_index.proofs.InShards.{id-in_shard, known-in_shard}
+use Rattle.key_index.proofs.InShards.{id-in_shard, interned-in_shard}
 use Rattle.key_index.proofs.shards.ShardedMap.find.Goals as goal
 
 pub returns-in_default-clause-absent : goal.returns-in_default-clause-absent
@@ -16,7 +16,7 @@ returns-in_default-clause-absent c =
     let some : 0 < length c.self.inside.order.items = search rules in
     let below : shard < length tables = omega (arith, c.shard_of-shard.ensures.bound, c.self.invariant.a_table_each some) in
     let unknown : is_interned (get_or tables shard []) key ≡ false = search rules in
-    ap (λ ks. is_interned ks key) (sym c.self.view_is) ∙ sym (known-in_shard (shard_of hasher) shard keys (get_or tables shard []) key at (c.self.invariant.keys_of shard below)) ∙ unknown
+    ap (λ ks. is_interned ks key) (sym c.self.view_is) ∙ sym (interned-in_shard (shard_of hasher) shard keys (get_or tables shard []) key at (c.self.invariant.keys_of shard below)) ∙ unknown
 
 pub returns-clause-found : goal.returns-clause-found
 returns-clause-found c =

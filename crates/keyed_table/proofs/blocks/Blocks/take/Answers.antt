@@ -1,12 +1,12 @@
 use Rattle.std.proofs.Common.{◌≡◌, ◌+◌, ◌-◌, ◌*◌, ◌++◌, ◌∷◌, [], take, drop, rules, arith}
-use Rattle.keyed_table.proofs.Tallied.{part-of, passed-over, taken-over}
+use Rattle.keyed_table.proofs.Tallied.{part-of, skipped, taken-over}
 use Rattle.keyed_table.proofs.blocks.Blocks.take.Goals as goal
 
 pub returns-then-are_zeros : goal.returns-then-are_zeros
 returns-then-are_zeros c ids all h =
     let old = c.args.self.now in
     let is = part-of c.args.block _ c.args.tallies.now (omega arith) c.requires.bound in
-    passed-over c.args.block ids c.args.tallies.now _ old.numbers.items old.counts.items is (c.are_zeros.ensures.if_true c.if-are_zeros.true) all h
+    skipped c.args.block ids c.args.tallies.now _ old.numbers.items old.counts.items is (c.are_zeros.ensures.if_true c.if-are_zeros.true) all h
 
 pub returns : goal.returns
 returns c ids all h =

@@ -7,7 +7,7 @@ use Rattle.replay_report.proofs.replay.lines.write_lines.Goals as goal
 pub returns-in_err-write_line-clause-fault : goal.returns-in_err-write_line-clause-fault
 returns-in_err-write_line-clause-fault c =
     let fault = c.in_err-write_line.field-0.0 in
-    let told = lines_fault c.args.topics.now c.args.batch c.loop-line.world c.args.lines.now c.loop-line.line-index c.line-item.result (text_of_lines c.args.topics.now c.args.batch c.args.world.now c.args.lines.now) fault (omega arith) c.line-item.is
+    let reported = lines_fault c.args.topics.now c.args.batch c.loop-line.world c.args.lines.now c.loop-line.line-index c.line-item.result (text_of_lines c.args.topics.now c.args.batch c.args.world.now c.args.lines.now) fault (omega arith) c.line-item.is
     c.loop-line.invariant.fault c.in_err-write_line.ensures.fault in
     search rules
 

@@ -14,9 +14,9 @@ pub take_lease-requires-clause-member : goal.take_lease-requires-clause-member
 take_lease-requires-clause-member c =
     let w = world_view c.args.self.now in
     let asking = c.in-Ok.ensures.value in
-    let known = consumer_at w c.args.member c.in-Ok.index c.index_mut.result.now asking.number asking.below c.index_mut.ensures.value in
+    let is_consumer = consumer_at w c.args.member c.in-Ok.index c.index_mut.result.now asking.number asking.below c.index_mut.ensures.value in
     let there = consumer_there w c.in-Ok.index c.index_mut.result.now asking.below c.index_mut.ensures.value in
-    let consumer = c.requires.consumers c.args.member c.index_mut.result.now known in
+    let consumer = c.requires.consumers c.args.member c.index_mut.result.now is_consumer in
     is_in_as c.index_mut.result.now.member c.args.member (asking.present c.index_mut.result.now there) consumer.number
     ∙ ap (λ (l : LeaseTerms). Some l.member) (sym (leased_to c.args.self.now.cluster c.args.member c.in-Ok-sync.lease c.in-Ok-sync.ensures.answer))
 
@@ -24,8 +24,8 @@ pub take_lease-requires-clause-partitions : goal.take_lease-requires-clause-part
 take_lease-requires-clause-partitions c =
     let w = world_view c.args.self.now in
     let asking = c.in-Ok.ensures.value in
-    let known = consumer_at w c.args.member c.in-Ok.index c.index_mut.result.now asking.number asking.below c.index_mut.ensures.value in
-    let consumer = c.requires.consumers c.args.member c.index_mut.result.now known in
+    let is_consumer = consumer_at w c.args.member c.in-Ok.index c.index_mut.result.now asking.number asking.below c.index_mut.ensures.value in
+    let consumer = c.requires.consumers c.args.member c.index_mut.result.now is_consumer in
     ap (λ (l : LeaseTerms). partitions_of l.assigned) (leased_to c.args.self.now.cluster c.args.member c.in-Ok-sync.lease c.in-Ok-sync.ensures.answer)
     ∙ assigned_over c.args.self.now.cluster.group c.requires.cluster.good.consistent c.args.member ∙ sym consumer.partitions
 

@@ -51,13 +51,13 @@ returns-clause-settled c =
     let w = c.settle.new.self in
     let w2 = c.drain_members.new.self in
     let same = (drained_leaves c.args.batch w w2 c.drain_members.result c.drain_members.ensures).group in
-    let calm = if_ok c.settle.result _ c.in_ok-settle.was c.settle.ensures.settled in
-    on_ok (is_settled w2.cluster.group ≡ true) c.drain_members.result (λ ok. ap is_settled same ∙ settled_and_synced_is_settled w.cluster.group calm)
+    let settled_and_synced = if_ok c.settle.result _ c.in_ok-settle.was c.settle.ensures.settled in
+    on_ok (is_settled w2.cluster.group ≡ true) c.drain_members.result (λ ok. ap is_settled same ∙ settled_and_synced_is_settled w.cluster.group settled_and_synced)
 
 pub returns-clause-committed : goal.returns-clause-committed
 returns-clause-committed c =
     let w = c.settle.new.self in
     let w2 = c.drain_members.new.self in
-    let calm = if_ok c.settle.result _ c.in_ok-settle.was c.settle.ensures.settled in
+    let settled_and_synced = if_ok c.settle.result _ c.in_ok-settle.was c.settle.ensures.settled in
     on_ok (AreEndsCommitted w2.cluster.store w2.cluster.logs) c.drain_members.result
-    (λ ok. drained_committed c.args.batch w w2 c.drain_members.result c.requires c.settle.ensures.valid calm c.drain_members.ensures ok)
+    (λ ok. drained_committed c.args.batch w w2 c.drain_members.result c.requires c.settle.ensures.valid settled_and_synced c.drain_members.ensures ok)

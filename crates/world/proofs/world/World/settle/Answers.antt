@@ -25,7 +25,7 @@ returns-in-Preparing c =
     record {
       step = follows;
       kind = never_unsettled w w2 (settling w) result (settling_never w v) follows;
-      settled = on_ok (is_settled_and_synced w2.cluster.group ≡ true) result (λ ok. (settled_by w w2 result v follows ok).calm);
+      settled = on_ok (is_settled_and_synced w2.cluster.group ≡ true) result (λ ok. (settled_by w w2 result v follows ok).settled_and_synced);
       end = on_ok (without_flags w2.cluster.group ≡ rebalance_result w.cluster.group) result (λ ok. (settled_by w w2 result v follows ok).end);
       valid = valid_following w c.make_passes.new.self (passes 4 w) c.make_passes.result (passes_course 4 w) c.make_passes.ensures c.cluster.ensures.valid;
     }
