@@ -9,7 +9,7 @@ use Rattle.std.proofs.lemmas.List.FromFn.{fill_by_all}
 use Rattle.std.proofs.Math.ListN.{length-set}
 use Rattle.bit_planes.specs.PartitionSet.{PartitionSet, elements, is_in, minus, partitions_of, union}
 use Rattle.bit_planes.proofs.Sets.{both_true, in_minus, in_union, not_false, partitions_minus, partitions_union}
-use Rattle.bit_planes.proofs.Listed.{listed_elements, is_listed}
+use Rattle.bit_planes.proofs.Listed.{is_listed, listed_elements}
 use Rattle.group_machine.specs.Cluster.{LeaseTerms, start_of}
 use Rattle.consumer.specs.declared.held.Held.{Held}
 use Rattle.consumer.specs.Consumer.{leased_slot}

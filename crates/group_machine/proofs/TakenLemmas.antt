@@ -6,7 +6,7 @@ use Rattle.std.proofs.lemmas.Bool.Decides.{nat_tests}
 use Rattle.std.proofs.lemmas.List.{get_or-set_other, get_or-set_same}
 use Rattle.std.proofs.Math.ListN.{length-set}
 use Rattle.bit_planes.specs.PartitionSet.{PartitionSet, elements, is_in}
-use Rattle.bit_planes.proofs.Listed.{listed_elements, is_listed}
+use Rattle.bit_planes.proofs.Listed.{is_listed, listed_elements}
 use Rattle.group_machine.specs.Private.Walks.{taken_by}
 
 -- partitions that are left are in the set and as they were; all others are as after the loop

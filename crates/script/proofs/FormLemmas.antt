@@ -7,7 +7,7 @@ use Rattle.script.proofs.Parts.{split-there}
 use Rattle.script.proofs.TopicLemmas.{parsed-in}
 use Rattle.script.proofs.WordLemmas.{command-word, name-word, number-word}
 use Rattle.script.specs.Forms.{◌⎵◌, IsAppend, IsNumbered, IsPoll, IsSend, IsWritten}
-use Rattle.script.specs.Grammar.{action_of, append_action, appended, nullary_action, command_action, is_space, mail_action, member_action, name_of, poll_action, send_action, single_action, split_word}
+use Rattle.script.specs.Grammar.{action_of, append_action, appended, command_action, is_space, mail_action, member_action, name_of, nullary_action, poll_action, send_action, single_action, split_word}
 use Rattle.partitioner.specs.Topic.{MayBeTopics}
 use Rattle.script.specs.declared.action.Action.{Action}
 use Rattle.script.specs.declared.action.Action.TheVariants.{Append, AppendIn, Join, Keep, Return, Rejoin, Sync, Leave, Lose, Poll, Send, Deliver, Unanswered, Settle, Drain}

@@ -1,7 +1,7 @@
 //! The actions of a script, and the grammar of their lines.
 
 ghost use Rattle.std.specs.Prelude.{◌≡◌, Some, IfOk};
-ghost use Rattle.script.specs.Grammar.{action_of, append_action, nullary_action, command_action, mail_action, member_action, poll_action, send_action, single_action};
+ghost use Rattle.script.specs.Grammar.{action_of, append_action, command_action, mail_action, member_action, nullary_action, poll_action, send_action, single_action};
 ghost use Rattle.partitioner.specs.Topic.{MayBeTopics};
 
 use crate::{topics, words};

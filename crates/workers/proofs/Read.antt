@@ -6,7 +6,7 @@ use Rattle.std.proofs.lemmas.Bool.Decides.{nat_tests}
 use Rattle.lane_words.specs.declared.Refusal.{Refusal}
 use Rattle.lane_words.specs.declared.Refusal.TheVariants as r
 use Rattle.bit_planes.specs.PartitionSet.{elements, is_in}
-use Rattle.bit_planes.proofs.Listed.{listed_elements, is_listed}
+use Rattle.bit_planes.proofs.Listed.{is_listed, listed_elements}
 use Rattle.partition_log.specs.Logs.{PartitionLogs, log_at}
 use Rattle.group_machine.specs.Cluster.{LeaseTerms, start_of}
 use Rattle.consumer.specs.declared.held.Held.{Held}

@@ -41,7 +41,7 @@ use Rattle.world.proofs.Lists.{get_push}
 use Rattle.world.proofs.Lookups.{consumer_more}
 use Rattle.world.proofs.Outcomes.{leased_to}
 use Rattle.world.proofs.Refusals.{commit_mismatch, commit_never_faults, commit_unknown, leave_unknown, rejoin_accepted, rejoin_never_faults, rejoin_unknown, sync_present, sync_unknown}
-use Rattle.world.proofs.Slots.{joined_static_slots, joined_slots, left_slots, rejoined_slots, synced_slots, taken_over_slots}
+use Rattle.world.proofs.Slots.{joined_slots, joined_static_slots, left_slots, rejoined_slots, synced_slots, taken_over_slots}
 use Rattle.world.proofs.Stays.{IsSoundConsumer, both_stay, consumer_stays, out_sound, stays}
 
 alone_stays : (w : WorldState) (new : ClusterState) (m : ℕ) → IsValidWorld w → Leaves w.cluster new m → length new.group.slots ≡ length w.cluster.group.slots

@@ -12,7 +12,7 @@ use Rattle.group_machine.specs.Steps.{rejoin_answer, rejoined_by, synced_by}
 use Rattle.group_machine.specs.Cluster.{ClusterState, IsValidCluster, LeaseTerms, lease_of, start_of, with_group}
 use Rattle.group_machine.proofs.ClusterLemmas.{assigned_over}
 use Rattle.group_laws.proofs.AssignedLemmas.{assigned_in_granted}
-use Rattle.group_laws.proofs.OtherLemmas.{rejoin_leaves_rejoined, rejoin_leaves, sync_marks}
+use Rattle.group_laws.proofs.OtherLemmas.{rejoin_leaves, rejoin_leaves_rejoined, sync_marks}
 use Rattle.consumer.specs.declared.held.Held.{Held}
 use Rattle.consumer.specs.Consumer.{ConsumerState, given_up, held_at, is_held, joined_as, leased, leased_slot, out_of_group}
 use Rattle.consumer.proofs.Changed.{base_out, joined_valid, nothing_held, position_out}

@@ -1,7 +1,7 @@
 use Rattle.std.proofs.Common.{◌∙◌, ◌&&◌, refl, arith}
 use Rattle.bit_planes.specs.PartitionSet.{is_in}
 use Rattle.bit_planes.proofs.Seen.{IsShown, below_is, shown_front, some_shown, not_first}
-use Rattle.bit_planes.proofs.Sets.{meets_of_any, disjoint_elements}
+use Rattle.bit_planes.proofs.Sets.{disjoint_elements, meets_of_any}
 use Rattle.bit_planes.proofs.plane.Plane.meets.Goals as goal
 
 pub returns-clause-value : goal.returns-clause-value

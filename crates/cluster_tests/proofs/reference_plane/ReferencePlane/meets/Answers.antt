@@ -1,5 +1,5 @@
 use Rattle.std.proofs.Common.{rules, tests, ◌&&◌}
-use Rattle.bit_planes.proofs.Sets.{any_below_of_match, meets_of_any, disjoint_elements}
+use Rattle.bit_planes.proofs.Sets.{any_below_of_match, disjoint_elements, meets_of_any}
 use Rattle.cluster_tests.proofs.reference_plane.ReferencePlane.meets.Goals as goal
 
 pub returns-clause-value : goal.returns-clause-value
