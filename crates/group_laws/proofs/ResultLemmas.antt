@@ -220,7 +220,7 @@ rejoining_result g member any un =
     same_end (is_anybody g) (is_anybody (rejoining g member)) (is_settled g) (is_settled (round g)) (is_settled (round (rejoining g member))) (without_flags g) (without_flags (rejoining g member)) (round g) (round (rejoining g member)) (round (round g)) (round (round (rejoining g member))) any (any_rejoining g member) un (ap is_settled same) same (ap round same)
 
 pub rejoin_result : (g : GroupState) (member generation : ℕ) (claim : PartitionSet) → IsValidGroup g → rejoin_answer g member generation claim ≡ Ok tt → rebalance_result (rejoined_by g member) ≡ rebalance_result g
-rejoin_result g member generation claim good ok =
+rejoin_result g member generation claim valid ok =
     let a = accepted g member generation claim ok in
-    completed_result (rejoining g member) (has_partitions g good.sized) (rejoining_consistent g member good.consistent) (rejoining_disjoint g member good.consistent good.disjoint) refl
+    completed_result (rejoining g member) (has_partitions g valid.sized) (rejoining_consistent g member valid.consistent) (rejoining_disjoint g member valid.consistent valid.disjoint) refl
     ∙ rejoining_result g member (any_of g.slots member a.0 a.1) (unsettled_by g member a.0 a.1 a.2)

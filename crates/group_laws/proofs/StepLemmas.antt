@@ -19,13 +19,13 @@ completed_valid g n = go (is_ready g) refl
     go false e = next_valid g n e
 
 pub join_valid : (g : GroupState) (name : List ℕ) → IsValidGroup g → length g.slots < MOST_MEMBERS → IsValidGroup (joined_by g name)
-join_valid g name good capacity = completed_valid (joining g name) (joining_changed g name good capacity)
+join_valid g name valid capacity = completed_valid (joining g name) (joining_changed g name valid capacity)
 
 pub rejoin_valid : (g : GroupState) (member : ℕ) → IsValidGroup g → is_present g member ≡ true → IsValidGroup (rejoined_by g member)
-rejoin_valid g member good here = completed_valid (rejoining g member) (rejoining_changed g member good here)
+rejoin_valid g member valid here = completed_valid (rejoining g member) (rejoining_changed g member valid here)
 
 pub leave_valid : (g : GroupState) (member : ℕ) → IsValidGroup g → is_present g member ≡ true → IsValidGroup (left_by g member)
-leave_valid g member good here = completed_valid (leaving g member) (leaving_changed g member good here)
+leave_valid g member valid here = completed_valid (leaving g member) (leaving_changed g member valid here)
 
 pub synced_same : {X : Type 0} (h : Option Seat → X) → ((x : Seat) → h (Some (synced_seat x)) ≡ h (Some x)) → (g : GroupState) (member m : ℕ) → h (member_of (synced_by g member) m) ≡ h (member_of g m)
 synced_same h same g member m = flag_same synced_seat h same g member m

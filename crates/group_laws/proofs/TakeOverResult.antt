@@ -95,14 +95,14 @@ one_truth false true h k = k refl
 one_truth false false h k = refl
 
 handed_round : (g : GroupState) (name : List ℕ) (m : ℕ) → IsValidGroup g → is_present g m ≡ true → length g.slots < MOST_MEMBERS → is_settled (round (handing_on g name m)) ≡ is_settled (round g)
-handed_round g name m good here capacity =
+handed_round g name m is_valid here capacity =
     let now : GroupState = handing_on g name m in
-    let valid : IsValidGroup now = handed_valid g name m good here capacity in
+    let valid : IsValidGroup now = handed_valid g name m is_valid here capacity in
     let some : is_anybody now ≡ true = handed_any g name m here in
     let any : is_anybody g ≡ true = any_of_present g m here in
     one_truth (is_settled (round now)) (is_settled (round g))
-    (λ s. let n = round_lying now valid some s in let w = within_balanced_before g name m n.0 here n.1 in lying_round g good any w.0 w.1)
-    (λ s. let n = round_lying g good any s in let w = handed_within_balanced g name m n.0 good here n.1 in lying_round now valid some w.0 w.1)
+    (λ s. let n = round_lying now valid some s in let w = within_balanced_before g name m n.0 here n.1 in lying_round g is_valid any w.0 w.1)
+    (λ s. let n = round_lying g is_valid any s in let w = handed_within_balanced g name m n.0 is_valid here n.1 in lying_round now valid some w.0 w.1)
 
 -- ---- so the generation of the result is the same
 end_generation : (any now once : Bool) (here one two : GroupState) → (end_of any now once here one two).generation ≡ cond any (cond now here.generation (cond once one.generation two.generation)) here.generation
@@ -122,7 +122,7 @@ same_ends : (a0 a1 s0 s1 o0 o1 : Bool) (n : ℕ) → a1 ≡ a0 → s1 ≡ s0 →
 same_ends a0 a1 s0 s1 o0 o1 n a s o = cc
 
 pub taken_generation : (g : GroupState) (name : List ℕ) (n : ℕ) → IsValidGroup g → take_over_answer g name ≡ Ok n → (rebalance_result (taken_over_by g name)).generation ≡ (rebalance_result g).generation
-taken_generation g name n good ok = go (static_member g name) refl
+taken_generation g name n is_valid ok = go (static_member g name) refl
   where
     go : (o : Option ℕ) → static_member g name ≡ o → (rebalance_result (option_map_or (handing_on g name) o g)).generation ≡ (rebalance_result g).generation
     go None e = refl
@@ -131,5 +131,5 @@ taken_generation g name n good ok = go (static_member g name) refl
         let here : is_present g m ≡ true = keeper_present g name m e in
         let capacity : length g.slots < MOST_MEMBERS = (accepted_take_over g name n ok).0 in
         result_generation now
-        ∙ same_ends (is_anybody g) (is_anybody now) (is_settled g) (is_settled now) (is_settled (round g)) (is_settled (round now)) g.generation (handed_any g name m here ∙ sym (any_of_present g m here)) (handed_settled g name m here) (handed_round g name m good here capacity)
+        ∙ same_ends (is_anybody g) (is_anybody now) (is_settled g) (is_settled now) (is_settled (round g)) (is_settled (round now)) g.generation (handed_any g name m here ∙ sym (any_of_present g m here)) (handed_settled g name m here) (handed_round g name m is_valid here capacity)
         ∙ sym (result_generation g)

@@ -31,8 +31,8 @@ stepped_partitions old new before (Ok v) ok err same = ap (λ g. g.partitions) o
 stepped_partitions old new before (Err why) ok err same = ap (λ g. g.partitions) err
 
 pub regrouped : (s : ClusterState) (g : GroupState) → IsValidCluster s → IsValidGroup g → g.partitions ≡ s.group.partitions → IsValidCluster (with_group s g)
-regrouped s g c good same = record {
-  good = good;
+regrouped s g c group same = record {
+  group = group;
   logs = c.logs;
   exact = record { within = c.exact.within; counted = c.exact.counted; spare = c.exact.spare };
   logs_partitions = c.logs_partitions ∙ sym same;
@@ -55,7 +55,7 @@ offsets-at false store = refl
 
 pub append-valid : (s : ClusterState) (at : ℕ) (key : Key) → IsValidCluster s → IsPlaceOf s.logs key at → IsValidLogs (with_record_at s.logs at key) → IsValidCluster (appended_at s at key)
 append-valid s at key c goes logs = record {
-  good = c.good;
+  group = c.group;
   logs = logs;
   exact = exact-at (is_interned s.logs.keys key) (with_record_at s.logs at key) s.store (append-exact s.store s.logs at key c.logs goes c.exact);
   logs_partitions = c.logs_partitions;
@@ -96,7 +96,7 @@ let_through g c e =
 pub partition-below : (s : ClusterState) (c : CommitTerms) → IsValidCluster s → fence s.group c ≡ Ok tt → (c.partition < length s.store.offsets) × (c.partition < s.logs.partitions)
 partition-below s c k e =
     let below = in_below (granted_of s.group c.member) c.partition (let_through s.group c e).2 in
-    let over = granted_over s.group k.good.consistent c.member in
+    let over = granted_over s.group k.group.consistent c.member in
     (omega (arith, below, over, k.store_partitions), omega (arith, below, over, k.logs_partitions))
 
 store-lengths : {A : Type 0} (old new : Commits) (p : ℕ) (ids : List ℕ) (answer : Result A Refusal) → OnOk answer (new ≡ with_commit old p ids) → OnErr answer (new ≡ old)
@@ -112,7 +112,7 @@ commit-valid g l old new p ids answer k ok err exact =
     let same = store-lengths old new p ids answer ok err in
     let now = exact (record { within = k.exact.within; counted = k.exact.counted; spare = k.exact.spare }) in
     record {
-      good = k.good;
+      group = k.group;
       logs = k.logs;
       exact = record { within = now.within; counted = now.counted; spare = now.spare };
       logs_partitions = k.logs_partitions;
@@ -132,7 +132,7 @@ pub over-consistent : (g : GroupState) (l : PartitionLogs) (store : Commits) →
 over-consistent g l store group logs offsets counts exact =
     let same : g.partitions ≡ l.partitions = ap (λ h. h.partitions) group in
     record {
-      good = subst IsValidGroup (sym group) (opening_valid l.partitions logs.some_partitions logs.few_partitions);
+      group = subst IsValidGroup (sym group) (opening_valid l.partitions logs.some_partitions logs.few_partitions);
       logs = logs;
       exact = record { within = exact.within; counted = exact.counted; spare = exact.spare };
       logs_partitions = sym same;

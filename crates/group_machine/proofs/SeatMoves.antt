@@ -253,7 +253,7 @@ holder_handed g name m q lt = get_or-map-range_with_len (λ k. cond (is_in (gran
 
 -- ---- what lies in balanced rows still does
 pub handed_within_balanced : (g : GroupState) (name : List ℕ) (m : ℕ) (rows : ℕ → PartitionSet) → IsValidGroup g → is_present g m ≡ true → LieInBalanced g rows → (rows : ℕ → PartitionSet) × LieInBalanced (handing_on g name m) rows
-handed_within_balanced g name m rows good here lie =
+handed_within_balanced g name m rows valid here lie =
     let new : ℕ = suc (length g.slots) in
     let now : ℕ → PartitionSet = λ n. cond (n == new) (rows m) (rows n) in
     let at_new : now new ≡ rows m = ap (λ b. cond b (rows m) (rows new)) (same_id new) in
@@ -277,7 +277,7 @@ handed_within_balanced g name m rows good here lie =
 
 -- ---- a valid group stays one
 pub handed_valid : (g : GroupState) (name : List ℕ) (m : ℕ) → IsValidGroup g → is_present g m ≡ true → length g.slots < MOST_MEMBERS → IsValidGroup (handing_on g name m)
-handed_valid g name m good here capacity =
+handed_valid g name m valid here capacity =
     let p : ℕ = g.partitions in
     let now : GroupState = handing_on g name m in
     let new : ℕ = suc (length g.slots) in
@@ -287,48 +287,48 @@ handed_valid g name m good here capacity =
     let some : is_anybody now ≡ true = any_of now.slots new (handed_seat x.0) (handed_new g name m ∙ ap (option_map handed_seat) x.1) in
     record {
       sized = record {
-        some_partitions = good.sized.some_partitions;
-        few_partitions = good.sized.few_partitions;
+        some_partitions = valid.sized.some_partitions;
+        few_partitions = valid.sized.few_partitions;
         few_members = omega (arith, length-append (without_seat g.slots m) (successor g name m ∷ []), length_left g m, capacity);
-        a_holder_each = length-map-range_with_len (λ k. cond (is_in (granted_of g m) k) (Some (length g.slots + 1)) (last_holder g k)) 0 (length g.last) ∙ good.sized.a_holder_each;
+        a_holder_each = length-map-range_with_len (λ k. cond (is_in (granted_of g m) k) (Some (length g.slots + 1)) (last_holder g k)) 0 (length g.last) ∙ valid.sized.a_holder_each;
       };
       disjoint = λ a b q e h. elim (handed_granted g name m a q here e) [
         | inl na ↦ elim (handed_granted g name m b q here h) [
           | inl nb ↦ na.0 ∙ sym nb.0
-          | inr ob ↦ absurd (ob.0 (good.disjoint b m q ob.1 na.1))
+          | inr ob ↦ absurd (ob.0 (valid.disjoint b m q ob.1 na.1))
         ]
         | inr oa ↦ elim (handed_granted g name m b q here h) [
-          | inl nb ↦ absurd (oa.0 (good.disjoint a m q oa.1 nb.1))
-          | inr ob ↦ good.disjoint a b q oa.1 ob.1
+          | inl nb ↦ absurd (oa.0 (valid.disjoint a m q oa.1 nb.1))
+          | inr ob ↦ valid.disjoint a b q oa.1 ob.1
         ]
       ];
       consistent = λ n y is. elim (cases_eq n new) [
         | inl same ↦ (
             let b = seat_behind handed_seat (member_of g m) y (sym (handed_new g name m) ∙ ap (member_of now) (sym same) ∙ is) in
-            subst (IsConsistentSeat p) (sym b.2) (consistent_flag p handed_seat hand_flag b.0 (good.consistent m b.0 b.1)))
+            subst (IsConsistentSeat p) (sym b.2) (consistent_flag p handed_seat hand_flag b.0 (valid.consistent m b.0 b.1)))
         | inr old ↦ elim (cases_eq n m) [
           | inl same ↦ (let none : None ≡ Some y = sym (handed_gone g name m here) ∙ ap (member_of now) (sym same) ∙ is in cc)
-          | inr other ↦ good.consistent n y (sym (handed_other g name m n other old) ∙ is)
+          | inr other ↦ valid.consistent n y (sym (handed_other g name m n other old) ∙ is)
         ]
       ];
       held = λ n q e.
-          let lt : (k : ℕ) → is_in (granted_of g k) q ≡ true → q < length g.last = λ k h. omega (arith, in_below (granted_of g k) q h, granted_over g good.consistent k, good.sized.a_holder_each) in
+          let lt : (k : ℕ) → is_in (granted_of g k) q ≡ true → q < length g.last = λ k h. omega (arith, in_below (granted_of g k) q h, granted_over g valid.consistent k, valid.sized.a_holder_each) in
           elim (handed_granted g name m n q here e) [
             | inl h ↦ holder_handed g name m q (lt m h.1) ∙ ap (λ b. cond b (Some (length g.slots + 1)) (last_holder g q)) h.1 ∙ ap (λ (k : ℕ). Some k) (sym number ∙ sym h.0)
-            | inr h ↦ holder_handed g name m q (lt n h.1) ∙ ap (λ b. cond b (Some (length g.slots + 1)) (last_holder g q)) (not_both g m n q good h.0 h.1) ∙ good.held n q h.1
+            | inr h ↦ holder_handed g name m q (lt n h.1) ∙ ap (λ b. cond b (Some (length g.slots + 1)) (last_holder g q)) (not_both g m n q valid h.0 h.1) ∙ valid.held n q h.1
           ];
       balanced = λ s.
-          handed_balanced g name m (granted_of g) (granted_of now) here (λ k other old. ap (seat_granted p) (handed_other g name m k other old), handed_has (seat_granted p) (λ y. refl) g name m) (good.balanced (sym (handed_settled g name m here) ∙ s));
+          handed_balanced g name m (granted_of g) (granted_of now) here (λ k other old. ap (seat_granted p) (handed_other g name m k other old), handed_has (seat_granted p) (λ y. refl) g name m) (valid.balanced (sym (handed_settled g name m here) ∙ s));
       stable = λ s n. elim (cases_eq n new) [
-        | inl same ↦ ap (is_joined now) same ∙ handed_has seat_joined (λ y. refl) g name m ∙ good.stable s m
+        | inl same ↦ ap (is_joined now) same ∙ handed_has seat_joined (λ y. refl) g name m ∙ valid.stable s m
         | inr old ↦ elim (cases_eq n m) [
           | inl same ↦ ap (is_joined now) same ∙ ap seat_joined (handed_gone g name m here)
-          | inr other ↦ ap seat_joined (handed_other g name m n other old) ∙ good.stable s n
+          | inr other ↦ ap seat_joined (handed_other g name m n other old) ∙ valid.stable s n
         ]
       ];
-      within_balanced = λ s. (let was = good.within_balanced s in handed_within_balanced g name m was.0 good here was.1);
+      within_balanced = λ s. (let was = valid.within_balanced s in handed_within_balanced g name m was.0 valid here was.1);
       preparing = λ s.
-          let was = good.preparing s in
+          let was = valid.preparing s in
           elim (cases_eq was.0 m) [
             | inl same ↦ (new, handed_has is_some (λ y. refl) g name m ∙ here, handed_has seat_joined (λ y. refl) g name m ∙ ap (is_joined g) (sym same) ∙ was.2)
             | inr other ↦ (
@@ -336,13 +336,13 @@ handed_valid g name m good here capacity =
                 let at = handed_other g name m was.0 other (λ e. omega (arith, given.1, e)) in
                 (was.0, ap is_some at ∙ was.1, ap seat_joined at ∙ was.2))
           ];
-      empty = (λ s. absurd (false≢true (sym (good.empty.0 s) ∙ any)), λ s. absurd (false≢true (sym s ∙ some)));
-      counted = λ a. good.counted any;
+      empty = (λ s. absurd (false≢true (sym (valid.empty.0 s) ∙ any)), λ s. absurd (false≢true (sym s ∙ some)));
+      counted = λ a. valid.counted any;
     }
   where
     not_both : (g : GroupState) (m n q : ℕ) → IsValidGroup g → (n ≡ m → ⊥) → is_in (granted_of g n) q ≡ true → is_in (granted_of g m) q ≡ false
-    not_both g m n q good other e = go (is_in (granted_of g m) q) refl
+    not_both g m n q valid other e = go (is_in (granted_of g m) q) refl
       where
         go : (b : Bool) → is_in (granted_of g m) q ≡ b → is_in (granted_of g m) q ≡ false
-        go true h = absurd (other (good.disjoint n m q e h))
+        go true h = absurd (other (valid.disjoint n m q e h))
         go false h = h

@@ -113,25 +113,25 @@ pub joining_disjoint : (g : GroupState) (name : List ℕ) → IsDisjoint g → I
 joining_disjoint g name disjoint m n q e h = disjoint m n q (joined_granted g name m q e) (joined_granted g name n q h)
 
 pub joining_changed : (g : GroupState) (name : List ℕ) → IsValidGroup g → length g.slots < MOST_MEMBERS → IsChanged (joining g name)
-joining_changed g name good capacity =
+joining_changed g name valid capacity =
     let any : is_anybody (joining g name) ≡ true = any_more g.slots (newcomer g.partitions name) refl in
     record {
       sized = record {
-        some_partitions = good.sized.some_partitions;
-        few_partitions = good.sized.few_partitions;
+        some_partitions = valid.sized.some_partitions;
+        few_partitions = valid.sized.few_partitions;
         few_members = omega (arith, length-append g.slots (newcomer g.partitions name ∷ []), capacity);
-        a_holder_each = good.sized.a_holder_each;
+        a_holder_each = valid.sized.a_holder_each;
       };
-      disjoint = joining_disjoint g name good.disjoint;
-      consistent = joining_consistent g name good.consistent;
-      held = λ m q e. good.held m q (joined_granted g name m q e);
+      disjoint = joining_disjoint g name valid.disjoint;
+      consistent = joining_consistent g name valid.consistent;
+      held = λ m q e. valid.held m q (joined_granted g name m q e);
       some = λ e. refl;
       gone = λ e. absurd (false≢true (sym e ∙ any));
       counted = λ e h. counts (is_anybody g) refl h;
     }
   where
     counts : (b : Bool) → is_anybody g ≡ b → all_joined (joining g name) ≡ false → 0 < g.generation
-    counts true e h = good.counted e
+    counts true e h = valid.counted e
     counts false e h = absurd (false≢true (sym h ∙ alone_joined g name e))
 
 -- ---- rejoining
@@ -158,21 +158,21 @@ pub any_rejoining : (g : GroupState) (member : ℕ) → is_anybody (rejoining g 
 any_rejoining g member = ap (λ slots. list_any (λ s. is_some s.seat) slots) (one_is_each rejoined_seat g.slots member) ∙ any_each (at_only member rejoined_seat) g.slots
 
 pub rejoining_changed : (g : GroupState) (member : ℕ) → IsValidGroup g → is_present g member ≡ true → IsChanged (rejoining g member)
-rejoining_changed g member good here =
+rejoining_changed g member valid here =
     let any : is_anybody g ≡ true = any_of_present g member here in
     record {
       sized = record {
-        some_partitions = good.sized.some_partitions;
-        few_partitions = good.sized.few_partitions;
-        few_members = omega (arith, length_reseated (only_of member (option_map rejoined_seat)) g.slots, good.sized.few_members);
-        a_holder_each = good.sized.a_holder_each;
+        some_partitions = valid.sized.some_partitions;
+        few_partitions = valid.sized.few_partitions;
+        few_members = omega (arith, length_reseated (only_of member (option_map rejoined_seat)) g.slots, valid.sized.few_members);
+        a_holder_each = valid.sized.a_holder_each;
       };
-      disjoint = rejoining_disjoint g member good.consistent good.disjoint;
-      consistent = rejoining_consistent g member good.consistent;
-      held = λ m q e. good.held m q (rejoining_granted g member good.consistent m q e);
+      disjoint = rejoining_disjoint g member valid.consistent valid.disjoint;
+      consistent = rejoining_consistent g member valid.consistent;
+      held = λ m q e. valid.held m q (rejoining_granted g member valid.consistent m q e);
       some = λ e. refl;
       gone = λ e. absurd (false≢true (sym e ∙ any_rejoining g member ∙ any));
-      counted = λ e h. good.counted any;
+      counted = λ e h. valid.counted any;
     }
 
 -- ---- leaving
@@ -194,21 +194,21 @@ pub leaving_disjoint : (g : GroupState) (member : ℕ) → IsDisjoint g → IsDi
 leaving_disjoint g member disjoint m n q e h = disjoint m n q (leaving_granted g member m q e) (leaving_granted g member n q h)
 
 pub leaving_changed : (g : GroupState) (member : ℕ) → IsValidGroup g → is_present g member ≡ true → IsChanged (leaving g member)
-leaving_changed g member good here =
+leaving_changed g member valid here =
     let any : is_anybody g ≡ true = any_of_present g member here in
     record {
       sized = record {
-        some_partitions = good.sized.some_partitions;
-        few_partitions = good.sized.few_partitions;
-        few_members = omega (arith, length_reseated (only_of member (λ before. None)) g.slots, good.sized.few_members);
-        a_holder_each = good.sized.a_holder_each;
+        some_partitions = valid.sized.some_partitions;
+        few_partitions = valid.sized.few_partitions;
+        few_members = omega (arith, length_reseated (only_of member (λ before. None)) g.slots, valid.sized.few_members);
+        a_holder_each = valid.sized.a_holder_each;
       };
-      disjoint = leaving_disjoint g member good.disjoint;
-      consistent = leaving_consistent g member good.consistent;
-      held = λ m q e. good.held m q (leaving_granted g member m q e);
+      disjoint = leaving_disjoint g member valid.disjoint;
+      consistent = leaving_consistent g member valid.consistent;
+      held = λ m q e. valid.held m q (leaving_granted g member m q e);
       some = λ e. rw e refl;
       gone = λ e. rw e refl;
-      counted = λ e h. good.counted any;
+      counted = λ e h. valid.counted any;
     }
 
 -- ---- flags
@@ -262,7 +262,7 @@ consistent_flag p f flag x consistent = record {
 }
 
 pub flag_valid : (f : Seat → Seat) → IsFlag f → (g : GroupState) (member : ℕ) → IsValidGroup g → IsValidGroup (flagged g f member)
-flag_valid f flag g member good =
+flag_valid f flag g member valid =
     let p : ℕ = g.partitions in
     let now : GroupState = flagged g f member in
     let granted : (m : ℕ) → granted_of now m ≡ granted_of g m = λ m. flag_same f (seat_granted p) (λ x. flag.granted x) g member m in
@@ -272,21 +272,21 @@ flag_valid f flag g member good =
     let same : members now ≡ members g = members_flag f g member in
     record {
       sized = record {
-        some_partitions = good.sized.some_partitions;
-        few_partitions = good.sized.few_partitions;
-        few_members = omega (arith, length_reseated (only_of member (option_map f)) g.slots, good.sized.few_members);
-        a_holder_each = good.sized.a_holder_each;
+        some_partitions = valid.sized.some_partitions;
+        few_partitions = valid.sized.few_partitions;
+        few_members = omega (arith, length_reseated (only_of member (option_map f)) g.slots, valid.sized.few_members);
+        a_holder_each = valid.sized.a_holder_each;
       };
-      disjoint = λ m n q e h. good.disjoint m n q (ap (λ s. is_in s q) (sym (granted m)) ∙ e) (ap (λ s. is_in s q) (sym (granted n)) ∙ h);
-      consistent = subst (λ (slots : List Slot). AreConsistentSeats (with_slots g slots)) (sym (one_is_each f g.slots member)) (consistent_each g (at_only member f) (only_consistent p f (consistent_flag p f flag) member) good.consistent);
-      held = λ m q e. good.held m q (ap (λ s. is_in s q) (sym (granted m)) ∙ e);
+      disjoint = λ m n q e h. valid.disjoint m n q (ap (λ s. is_in s q) (sym (granted m)) ∙ e) (ap (λ s. is_in s q) (sym (granted n)) ∙ h);
+      consistent = subst (λ (slots : List Slot). AreConsistentSeats (with_slots g slots)) (sym (one_is_each f g.slots member)) (consistent_each g (at_only member f) (only_consistent p f (consistent_flag p f flag) member) valid.consistent);
+      held = λ m q e. valid.held m q (ap (λ s. is_in s q) (sym (granted m)) ∙ e);
       balanced = λ s.
-          let was = good.balanced (sym (settled_flag f flag g member) ∙ s) in
+          let was = valid.balanced (sym (settled_flag f flag g member) ∙ s) in
           let rows : map (granted_of g) (members g) ≡ map (granted_of now) (members g) = map_same (granted_of g) (granted_of now) (members g) (λ m listed. sym (granted m)) in
           subst (λ (ms : List ℕ). IsBalanced p (map (granted_of now) ms)) (sym same) (subst (IsBalanced p) rows was);
-      stable = λ s m. joined m ∙ good.stable s m;
+      stable = λ s m. joined m ∙ valid.stable s m;
       within_balanced = λ s.
-          let was = good.within_balanced s in (
+          let was = valid.within_balanced s in (
             was.0,
             record {
               below = was.1.below;
@@ -294,9 +294,9 @@ flag_valid f flag g member good =
               within = λ m. ap (λ t. is_within t (was.0 m)) (assigned m) ∙ was.1.within m;
             },
           );
-      preparing = λ s. let was = good.preparing s in (was.0, here was.0 ∙ was.1, joined was.0 ∙ was.2);
-      empty = (λ s. any_flag f g member ∙ good.empty.0 s, λ s. good.empty.1 (sym (any_flag f g member) ∙ s));
-      counted = λ a. good.counted (sym (any_flag f g member) ∙ a);
+      preparing = λ s. let was = valid.preparing s in (was.0, here was.0 ∙ was.1, joined was.0 ∙ was.2);
+      empty = (λ s. any_flag f g member ∙ valid.empty.0 s, λ s. valid.empty.1 (sym (any_flag f g member) ∙ s));
+      counted = λ a. valid.counted (sym (any_flag f g member) ∙ a);
     }
 
 -- ---- syncing
@@ -304,14 +304,14 @@ pub sync_flag : IsFlag synced_seat
 sync_flag = record { joined = λ x. refl; granted = λ x. refl; assigned = λ x. refl }
 
 pub sync_valid : (g : GroupState) (member : ℕ) → IsValidGroup g → IsValidGroup (synced_by g member)
-sync_valid g member good = flag_valid synced_seat sync_flag g member good
+sync_valid g member valid = flag_valid synced_seat sync_flag g member valid
 
 -- ---- becoming static
 static_flag : IsFlag static_seat
 static_flag = record { joined = λ x. refl; granted = λ x. refl; assigned = λ x. refl }
 
 pub static_valid : (g : GroupState) (member : ℕ) → IsValidGroup g → IsValidGroup (made_static g member)
-static_valid g member good = flag_valid static_seat static_flag g member good
+static_valid g member valid = flag_valid static_seat static_flag g member valid
 
 -- ---- nobody
 nobody_at : (m : ℕ) → seat_of [] m ≡ None

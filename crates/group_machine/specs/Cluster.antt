@@ -45,7 +45,7 @@ without_capacity s = record s { capacity = 0 }
 -- The invariant of a cluster: its group is valid, its store is exact over its logs, all three have
 -- the same number of partitions, and each key has a counter
 pub record IsValidCluster (s : ClusterState) : Type 0 where
-  pub good : IsValidGroup s.group
+  pub group : IsValidGroup s.group
   pub logs : IsValidLogs s.logs
   pub exact : IsExact s.store s.logs
   pub logs_partitions : s.logs.partitions ≡ s.group.partitions

@@ -6,7 +6,7 @@ pub mod Gathered
 pub mod Growth
 pub mod Hashed
 pub mod InShards
-pub mod Joined
+pub mod Concatenated
 pub mod Numbers
 pub mod Ordered
 pub mod ReadBack

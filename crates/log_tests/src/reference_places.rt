@@ -9,7 +9,7 @@ use std::alloc::Global;
 use std::thread::Threads;
 
 /// The number of keys in a batch, which is too few to start a thread.
-const PIECE: usize = 4096;
+const BATCH: usize = 4096;
 
 /// The partition of each of some keys, in their order.
 pub fn place_all(
@@ -30,9 +30,9 @@ pub fn place_sequential<R: Threads + Sync>(
     let mut places = Vec::with_capacity(alloc, keys.len())?;
     let mut from = 0;
     while from < keys.len() {
-        let to = keys.len().min(from + PIECE);
-        let piece = partitions.place_all(rt, alloc, &keys[from..to])?;
-        places.extend_from_slice(&piece)?;
+        let to = keys.len().min(from + BATCH);
+        let batch = partitions.place_all(rt, alloc, &keys[from..to])?;
+        places.extend_from_slice(&batch)?;
         from = to;
     }
     Ok(places)

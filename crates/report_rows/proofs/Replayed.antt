@@ -96,7 +96,7 @@ sum-most (suc n) most f few =
 
 sum-fits : (s : ClusterState) (n : ℕ) (f : ℕ → ℕ) → IsValidCluster s → n < s.group.partitions → ((k : ℕ) → f k ≤ 2 ^ 32 - 1) → sum_below n f + f n < 2 ^ 64
 sum-fits s n f valid below few =
-    let most : n * (2 ^ 32 - 1) ≤ 4096 * (2 ^ 32 - 1) = mul-le n (2 ^ 32 - 1) 4096 (2 ^ 32 - 1) (omega (arith, below, valid.good.sized.few_partitions)) (omega arith) in
+    let most : n * (2 ^ 32 - 1) ≤ 4096 * (2 ^ 32 - 1) = mul-le n (2 ^ 32 - 1) 4096 (2 ^ 32 - 1) (omega (arith, below, valid.group.sized.few_partitions)) (omega arith) in
     omega (arith, most, sum-most n (2 ^ 32 - 1) f few, few n)
 
 pub appended-fits : (s : ClusterState) (n : ℕ) → IsValidCluster s → n < s.group.partitions → sum_below n (end_of s.logs) + end_of s.logs n < 2 ^ 64

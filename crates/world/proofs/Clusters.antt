@@ -31,26 +31,26 @@ use Rattle.group_laws.proofs.TakeOverLemmas.{handed_leaves, static_join_valid, s
 -- ---- steps of the group
 pub joined_valid : (s : ClusterState) (name : List ℕ) (n : ℕ) → IsValidCluster s → join_answer s.group name ≡ Ok n → IsValidCluster (with_group s (joined_by s.group name))
 joined_valid s name n v ok =
-    regrouped s (joined_by s.group name) v (join_valid s.group name v.good (accepted_join s.group name n ok).0) (join_leaves s.group name n v.good ok).partitions
+    regrouped s (joined_by s.group name) v (join_valid s.group name v.group (accepted_join s.group name n ok).0) (join_leaves s.group name n v.group ok).partitions
 
 pub joined_static_valid : (s : ClusterState) (name : List ℕ) (n : ℕ) → IsValidCluster s → join_answer s.group name ≡ Ok n → IsValidCluster (with_group s (joined_static_by s.group name))
 joined_static_valid s name n v ok =
-    regrouped s (joined_static_by s.group name) v (static_join_valid s.group name v.good (accepted_join s.group name n ok).0) (static_join_leaves s.group name n v.good ok).partitions
+    regrouped s (joined_static_by s.group name) v (static_join_valid s.group name v.group (accepted_join s.group name n ok).0) (static_join_leaves s.group name n v.group ok).partitions
 
 pub taken_over_valid : (s : ClusterState) (name : List ℕ) (m n : ℕ) → IsValidCluster s → static_member s.group name ≡ Some m → take_over_answer s.group name ≡ Ok n → IsValidCluster (with_group s (taken_over_by s.group name))
 taken_over_valid s name m n v is_static ok =
-    regrouped s (taken_over_by s.group name) v (take_over_valid s.group name m n v.good is_static ok) (take_over_hands s.group name m n is_static ok).partitions
+    regrouped s (taken_over_by s.group name) v (take_over_valid s.group name m n v.group is_static ok) (take_over_hands s.group name m n is_static ok).partitions
 
 pub rejoined_valid : (s : ClusterState) (m generation : ℕ) (claim : PartitionSet) → IsValidCluster s → rejoin_answer s.group m generation claim ≡ Ok tt → IsValidCluster (with_group s (rejoined_by s.group m))
 rejoined_valid s m generation claim v ok =
-    regrouped s (rejoined_by s.group m) v (rejoin_valid s.group m v.good (ap is_some (rebalance_result.accepted s.group m generation claim ok).1)) (rejoin_leaves s.group m generation claim v.good ok).partitions
+    regrouped s (rejoined_by s.group m) v (rejoin_valid s.group m v.group (ap is_some (rebalance_result.accepted s.group m generation claim ok).1)) (rejoin_leaves s.group m generation claim v.group ok).partitions
 
 pub left_valid : (s : ClusterState) (m : ℕ) → IsValidCluster s → leave_answer s.group m ≡ Ok tt → IsValidCluster (with_group s (left_by s.group m))
 left_valid s m v ok =
-    regrouped s (left_by s.group m) v (leave_valid s.group m v.good (accepted_leave (is_present s.group m) _ ok)) (leave_leaves s.group m v.good ok).partitions
+    regrouped s (left_by s.group m) v (leave_valid s.group m v.group (accepted_leave (is_present s.group m) _ ok)) (leave_leaves s.group m v.group ok).partitions
 
 pub synced_valid : (s : ClusterState) (m : ℕ) → IsValidCluster s → IsValidCluster (with_group s (synced_by s.group m))
-synced_valid s m v = regrouped s (synced_by s.group m) v (sync_valid s.group m v.good) refl
+synced_valid s m v = regrouped s (synced_by s.group m) v (sync_valid s.group m v.group) refl
 
 -- ---- appends
 accepted_append : (long full : Bool) (a b : ℕ × ℕ) → ◌≡◌ {A = Result (ℕ × ℕ) Refusal} (if long then Err r.KeyTooLong else if full then Err r.LogFull else Ok a) (Ok b) → (long ≡ false) × (full ≡ false)
@@ -91,7 +91,7 @@ committed_valid s c end v ok =
       end_is = taken.1;
       below = below.0;
       valid = record {
-        good = v.good;
+        group = v.group;
         logs = v.logs;
         exact = commit-exact s.store s.logs c.partition c.from c.ids v.logs below.1 below.0 (omega (arith, v.a_counter_each)) taken.0 v.exact;
         logs_partitions = v.logs_partitions;

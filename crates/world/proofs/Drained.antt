@@ -410,7 +410,7 @@ settled_and_synced_reader : (w : WorldState) (p : ℕ) → IsValidWorld w → is
 settled_and_synced_reader w p v settled_and_synced lt =
     let g = w.cluster.group in
     let settled = settled_and_synced_is_settled g settled_and_synced in
-    let once : rows_with (map (λ m. granted_of g m) (members g)) p ≡ 1 = (v.cluster.good.balanced settled).once p lt in
+    let once : rows_with (map (λ m. granted_of g m) (members g)) p ≡ 1 = (v.cluster.group.balanced settled).once p lt in
     let found = some_row (λ m. granted_of g m) p (members g) (omega (arith, once)) in
     let m = found.0 in
     let same = same_says (granted_of g m) (assigned_of g m) (settled_same g m settled) in (

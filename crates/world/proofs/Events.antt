@@ -90,7 +90,7 @@ entered_world : (replied : ℕ → Reply) (group : GroupState) (w : WorldState) 
 entered_world replied group w m v leaves brings next slots =
     let g = w.cluster.group in
     let new : ClusterState = with_group w.cluster group in
-    let sound = join_sound w.cluster new m leaves.valid leaves.partitions brings (leaves.valid.good.counted (any_of_present group m brings.present)) in
+    let sound = join_sound w.cluster new m leaves.valid leaves.partitions brings (leaves.valid.group.counted (any_of_present group m brings.present)) in
     let number : m ≡ length w.consumers + 1 = omega (arith, next, v.a_consumer_each) in
     let newcomer : ConsumerState = joined_as (out_of_group g.partitions) m in
     stays w (entry_outcome replied group w (Ok m)).after m v leaves refl
@@ -111,8 +111,8 @@ join_stays w name v = go (join_answer w.cluster.group name) refl
     go : (a : Result ℕ Refusal) → join_answer w.cluster.group name ≡ a → IsValidWorld (joined_outcome (joined_by w.cluster.group name) w a).after
     go (Ok m) is =
         let g = w.cluster.group in
-        let leaves = leaves_by_group w.cluster (joined_by g name) m (joined_valid w.cluster name m v.cluster is) (join_leaves g name m v.cluster.good is) in
-        entered_world (λ n. reply.Joined n) (joined_by g name) w m v leaves (join_brings g name m v.cluster.good is) (accepted_join g name m is).1 (joined_slots g name)
+        let leaves = leaves_by_group w.cluster (joined_by g name) m (joined_valid w.cluster name m v.cluster is) (join_leaves g name m v.cluster.group is) in
+        entered_world (λ n. reply.Joined n) (joined_by g name) w m v leaves (join_brings g name m v.cluster.group is) (accepted_join g name m is).1 (joined_slots g name)
     go (Err why) is = v
 
 join_kept_stays : (w : WorldState) (name : List ℕ) → IsValidWorld w → IsValidWorld (join_kept_event w name).after
@@ -121,8 +121,8 @@ join_kept_stays w name v = go (join_answer w.cluster.group name) refl
     go : (a : Result ℕ Refusal) → join_answer w.cluster.group name ≡ a → IsValidWorld (joined_outcome (joined_static_by w.cluster.group name) w a).after
     go (Ok m) is =
         let g = w.cluster.group in
-        let leaves = leaves_by_group w.cluster (joined_static_by g name) m (joined_static_valid w.cluster name m v.cluster is) (static_join_leaves g name m v.cluster.good is) in
-        entered_world (λ n. reply.Joined n) (joined_static_by g name) w m v leaves (static_join_brings g name m v.cluster.good is) (accepted_join g name m is).1 (joined_static_slots g name)
+        let leaves = leaves_by_group w.cluster (joined_static_by g name) m (joined_static_valid w.cluster name m v.cluster is) (static_join_leaves g name m v.cluster.group is) in
+        entered_world (λ n. reply.Joined n) (joined_static_by g name) w m v leaves (static_join_brings g name m v.cluster.group is) (accepted_join g name m is).1 (joined_static_slots g name)
     go (Err why) is = v
 
 -- ---- take-overs
@@ -153,10 +153,10 @@ lose_stays w m v = go (leave_answer w.cluster.group m) refl
     go : (a : Result (Unit {0}) Refusal) → leave_answer w.cluster.group m ≡ a → IsValidWorld (lose_outcome w m a).after
     go (Ok u) is =
         let g = w.cluster.group in
-        let leaves = leaves_by_group w.cluster (left_by g m) m (left_valid w.cluster m v.cluster is) (leave_leaves g m v.cluster.good is) in
+        let leaves = leaves_by_group w.cluster (left_by g m) m (left_valid w.cluster m v.cluster is) (leave_leaves g m v.cluster.group is) in
         alone_stays w (with_group w.cluster (left_by g m)) m v leaves (left_slots g m) (λ c e. record {
           is_consumer = consumer_stays w.cluster (with_group w.cluster (left_by g m)) m m c leaves (v.consumers m c e);
-          step = λ here. absurd (let gone = leave_takes_out g m v.cluster.good is in cc);
+          step = λ here. absurd (let gone = leave_takes_out g m v.cluster.group is in cc);
         })
     go (Err why) is = v
 
@@ -199,7 +199,7 @@ rejoin_stays w m v = asked_stays w m (λ c. rejoin_outcome w m (rejoin_answer w.
         let g = w.cluster.group in
         let here = (rejoin_accepted g m c.generation c.assigned is).present in
         both_stay w (with_group w.cluster (rejoined_by g m)) m given_up v
-        (leaves_by_group w.cluster (rejoined_by g m) m (rejoined_valid w.cluster m c.generation c.assigned v.cluster is) (rejoin_leaves g m c.generation c.assigned v.cluster.good is)) (rejoined_slots g m)
+        (leaves_by_group w.cluster (rejoined_by g m) m (rejoined_valid w.cluster m c.generation c.assigned v.cluster is) (rejoin_leaves g m c.generation c.assigned v.cluster.group is)) (rejoined_slots g m)
         (λ x e. subst (λ y. IsSoundConsumer (with_group w.cluster (rejoined_by g m)) m (given_up y)) (same_consumer w m c x is_consumer e)
         (rejoin_sound w.cluster m c v.cluster (v.consumers m c is_consumer) (v.present m c here is_consumer) is))
     go c is_consumer (Err why) is = refused_stays w m why v (λ e. rejoin_unknown w.cluster.group m c.generation c.assigned (is ∙ ap (λ x. Err x) e))
@@ -211,9 +211,9 @@ leave_stays w m v = asked_stays w m (λ c. leave_outcome w m (leave_answer w.clu
     go (Ok u) is =
         let g = w.cluster.group in
         let new : ClusterState = with_group w.cluster (left_by g m) in
-        let leaves = leaves_by_group w.cluster (left_by g m) m (left_valid w.cluster m v.cluster is) (leave_leaves g m v.cluster.good is) in
+        let leaves = leaves_by_group w.cluster (left_by g m) m (left_valid w.cluster m v.cluster is) (leave_leaves g m v.cluster.group is) in
         both_stay w new m dropped v leaves (left_slots g m)
-        (λ c e. out_sound new m c (consumer_stays w.cluster new m m c leaves (v.consumers m c e)) (leave_takes_out g m v.cluster.good is))
+        (λ c e. out_sound new m c (consumer_stays w.cluster new m m c leaves (v.consumers m c e)) (leave_takes_out g m v.cluster.group is))
     go (Err why) is = refused_stays w m why v (λ e. leave_unknown w.cluster.group m (is ∙ ap (λ x. Err x) e))
 
 -- ---- polls

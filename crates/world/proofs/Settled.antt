@@ -160,7 +160,7 @@ passes_end (suc n) w v e = go (passes_end n (pass w).after (valid_course w (pass
         let group = pass_group w d.first_ok in
         record {
           settled_and_synced = ap (λ (x : WorldState). is_settled_and_synced x.cluster.group) d.after_is ∙ later.settled_and_synced;
-          end = ap (λ (x : WorldState). rebalance_result x.cluster.group) d.after_is ∙ later.end ∙ ap rebalance_result group ∙ after_pass_result w.cluster.group v.cluster.good;
+          end = ap (λ (x : WorldState). rebalance_result x.cluster.group) d.after_is ∙ later.end ∙ ap rebalance_result group ∙ after_pass_result w.cluster.group v.cluster.group;
         }
 
 passes_never : (n : ℕ) (w : WorldState) → is_settled_and_synced (after_passes n w.cluster.group) ≡ true → IsNever (passes n w).answer
@@ -194,7 +194,7 @@ unfolding settling
 settling_never w v e = go (is_anybody w.cluster.group) refl e
   where
     go : (b : Bool) → is_anybody w.cluster.group ≡ b → (cond b (passes 4 w) (answered_at_once (Err r.NobodyPresent) w)).answer ≡ Err r.NotSettled → ⊥
-    go true any e = passes_never 4 w (four_passes w.cluster.group v.cluster.good any) e
+    go true any e = passes_never 4 w (four_passes w.cluster.group v.cluster.group any) e
     go false any e = cc e
 
 -- ---- calls that settle

@@ -66,7 +66,7 @@ sync_sound s m c v was step here =
     let g = s.group in
     let lease : LeaseTerms = lease_of s m in
     let marks = sync_marks g m in
-    let over : partitions_of lease.assigned ≡ c.partitions = assigned_over g v.good.consistent m ∙ sym was.partitions in
+    let over : partitions_of lease.assigned ≡ c.partitions = assigned_over g v.group.consistent m ∙ sym was.partitions in
     let inside : (p : ℕ) → is_in (assigned_of g m) p ≡ true → p < length c.held = λ p h. omega (arith, in_below (assigned_of g m) p h, over, was.valid.one_each) in
     record {
       is_consumer = record {
@@ -87,7 +87,7 @@ sync_sound s m c v was step here =
         granted = λ p h. elim (leased_at c lease p) [
           | inl at ↦ elim (leased_from lease p (held_at c p) (sym (ap is_some at) ∙ h)) [
             | inl held ↦ ap (λ x. is_in x p) marks.granted ∙ step.granted p held
-            | inr new ↦ ap (λ x. is_in x p) marks.granted ∙ assigned_in_granted g v.good.consistent m p new
+            | inr new ↦ ap (λ x. is_in x p) marks.granted ∙ assigned_in_granted g v.group.consistent m p new
           ]
           | inr none ↦ absurd (let wrong = sym (ap is_some none) ∙ h in cc)
         ];
@@ -154,7 +154,7 @@ rejoined_step g new m c was r inside left =
 
 pub rejoin_sound : (s : ClusterState) (m : ℕ) (c : ConsumerState) → IsValidCluster s → IsConsumerOf s m c → IsInStep s.group m c → rejoin_answer s.group m c.generation c.assigned ≡ Ok tt → IsSoundConsumer (with_group s (rejoined_by s.group m)) m (given_up c)
 rejoin_sound s m c v was step ok =
-    let left = rejoin_leaves_rejoined s.group m c.generation c.assigned v.good ok in
+    let left = rejoin_leaves_rejoined s.group m c.generation c.assigned v.group ok in
     let inside : (p : ℕ) → is_in c.assigned p ≡ true → p < length c.held = λ p h. omega (arith, in_below c.assigned p h, was.valid.assigned_below, was.valid.one_each) in
     record {
       is_consumer = record {
@@ -174,7 +174,7 @@ rejoin_sound s m c v was step ok =
     }
   where
     same_partitions : (s : ClusterState) (m : ℕ) (c : ConsumerState) → IsValidCluster s → rejoin_answer s.group m c.generation c.assigned ≡ Ok tt → (rejoined_by s.group m).partitions ≡ s.group.partitions
-    same_partitions s m c v ok = (rejoin_leaves s.group m c.generation c.assigned v.good ok).partitions
+    same_partitions s m c v ok = (rejoin_leaves s.group m c.generation c.assigned v.group ok).partitions
 
 -- ---- joining
 pub join_sound : (s new : ClusterState) (m : ℕ) → IsValidCluster new → new.group.partitions ≡ s.group.partitions → IsNewcomer s.group new.group m → 0 < new.group.generation → IsSoundConsumer new m (joined_as (out_of_group s.group.partitions) m)
@@ -182,7 +182,7 @@ join_sound s new m v same newcomer counted =
     let n = s.group.partitions in
     record {
       is_consumer = record {
-        valid = joined_valid n m (omega (arith, v.good.sized.some_partitions, same)) (omega (arith, v.good.sized.few_partitions, same));
+        valid = joined_valid n m (omega (arith, v.group.sized.some_partitions, same)) (omega (arith, v.group.sized.few_partitions, same));
         partitions = sym same;
         number = λ k e. cc;
         committed = λ p. omega (arith, base_out n p);

@@ -8,4 +8,4 @@ pub invariant_of-result : goal.invariant_of-result
 invariant_of-result c =
     let offsets = c.in_ok-starts.ensures.items ∙ c.offsets.ensures in
     let assigned = c.copy-assigned.ensures ∙ c.in_ok-leasable.ensures.ok.1 in
-    ap length offsets ∙ c.self.invariant.store_partitions ∙ sym (ap partitions_of assigned ∙ assigned_over (group_view c.self.inside.group) c.self.invariant.good.consistent c.args.member)
+    ap length offsets ∙ c.self.invariant.store_partitions ∙ sym (ap partitions_of assigned ∙ assigned_over (group_view c.self.inside.group) c.self.invariant.group.consistent c.args.member)

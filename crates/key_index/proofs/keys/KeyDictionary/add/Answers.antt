@@ -1,7 +1,7 @@
 use Rattle.std.proofs.Common.{◌≡◌, ◌∙◌, ◌+◌, ◌++◌, false, length, ap, arith, length-append}
 use Rattle.key_index.specs.Keys.{id_of, is_interned, with_key}
 use Rattle.key_index.proofs.Growth.{fresh}
-use Rattle.key_index.proofs.Joined.{added-behind, behind, new-in-both}
+use Rattle.key_index.proofs.Concatenated.{added-behind, behind, new-in-both}
 use Rattle.key_index.proofs.keys.KeyDictionary.add.Goals as goal
 
 pub overflow_add-result : goal.overflow_add-result

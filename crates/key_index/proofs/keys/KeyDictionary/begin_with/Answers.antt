@@ -1,6 +1,6 @@
 use Rattle.std.proofs.Common.{◌∙◌, ◌++◌, arith, ap, length, length-append}
 use Rattle.std.proofs.lemmas.List.{append-nil}
-use Rattle.key_index.proofs.Joined.{none-behind}
+use Rattle.key_index.proofs.Concatenated.{none-behind}
 use Rattle.key_index.proofs.keys.KeyDictionary.begin_with.Goals as goal
 
 pub invariant_of-self : goal.invariant_of-self

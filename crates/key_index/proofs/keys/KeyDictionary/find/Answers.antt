@@ -1,7 +1,7 @@
 use Rattle.std.proofs.Common.{◌≡◌, ◌∙◌, ◌+◌, ◌++◌, ◌<◌, false, length, ap, sym, arith, rules, subst, length-append}
 use Rattle.key_index.specs.Keys.{IsIdOf, id_of, is_interned}
 use Rattle.key_index.proofs.Firsts.{interned-append}
-use Rattle.key_index.proofs.Joined.{behind}
+use Rattle.key_index.proofs.Concatenated.{behind}
 use Rattle.key_index.proofs.keys.KeyDictionary.find.Goals as goal
 
 pub returns-in-Some-clause-found : goal.returns-in-Some-clause-found

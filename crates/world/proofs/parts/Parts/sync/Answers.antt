@@ -27,7 +27,7 @@ take_lease-requires-clause-partitions c =
     let is_consumer = consumer_at w c.args.member c.in-Ok.index c.index_mut.result.now asking.number asking.below c.index_mut.ensures.value in
     let consumer = c.requires.consumers c.args.member c.index_mut.result.now is_consumer in
     ap (λ (l : LeaseTerms). partitions_of l.assigned) (leased_to c.args.self.now.cluster c.args.member c.in-Ok-sync.lease c.in-Ok-sync.ensures.answer)
-    ∙ assigned_over c.args.self.now.cluster.group c.requires.cluster.good.consistent c.args.member ∙ sym consumer.partitions
+    ∙ assigned_over c.args.self.now.cluster.group c.requires.cluster.group.consistent c.args.member ∙ sym consumer.partitions
 
 pub returns-in-Ok-sync : goal.returns-in-Ok-sync
 returns-in-Ok-sync c =

@@ -12,7 +12,7 @@ pub returns-in-Empty-clause-step : goal.returns-in-Empty-clause-step
 returns-in-Empty-clause-step c =
     let w = c.args.self.now in
     let empty : w.cluster.group.phase ≡ phase.Empty = search rules in
-    nobody_settles w (c.cluster.ensures.valid.cluster.good.empty.0 empty)
+    nobody_settles w (c.cluster.ensures.valid.cluster.group.empty.0 empty)
 
 pub returns-in-Preparing : goal.returns-in-Preparing
 returns-in-Preparing c =
@@ -21,7 +21,7 @@ returns-in-Preparing c =
     let v = c.cluster.ensures.valid in
     let result = c.make_passes.result in
     let w2 = c.make_passes.new.self in
-    let follows = somebody_settles w (somebody w.cluster.group v.cluster.good (elim c.in-Preparing.is [ inl p ↦ inl (at ∙ p) | inr p ↦ inr (at ∙ p) ])) result w2 c.make_passes.ensures in
+    let follows = somebody_settles w (somebody w.cluster.group v.cluster.group (elim c.in-Preparing.is [ inl p ↦ inl (at ∙ p) | inr p ↦ inr (at ∙ p) ])) result w2 c.make_passes.ensures in
     record {
       step = follows;
       kind = never_unsettled w w2 (settling w) result (settling_never w v) follows;
