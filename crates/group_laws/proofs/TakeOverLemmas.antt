@@ -22,7 +22,7 @@ use Rattle.group_machine.proofs.PresentLemmas.{length_reseated}
 use Rattle.group_machine.proofs.StepLemmas.{flag_same, static_valid}
 use Rattle.group_machine.proofs.JoinLemmas.{accepted_join}
 use Rattle.group_machine.proofs.SeatMoves.{handed_new, handed_gone, handed_other, handed_has, handed_settled, handed_valid}
-use Rattle.group_machine.proofs.TakeOverLemmas.{keeper, keeper_present}
+use Rattle.group_machine.proofs.TakeOverLemmas.{static_member_is, static_member_present}
 use Rattle.group_laws.specs.Rounds.{seat_without_flags, without_flags, round, rebalance_result}
 use Rattle.group_laws.specs.Others.{IsAsBefore, IsInNextGeneration, LeavesMember, LeavesOthers, IsNewcomer, IsTakenOver}
 use Rattle.group_laws.proofs.StepLemmas.{join_valid}
@@ -48,7 +48,7 @@ accepted_take_over g name n ok =
 
 pub take_over_valid : (g : GroupState) (name : List ℕ) (m n : ℕ) → IsValidGroup g → static_member g name ≡ Some m → take_over_answer g name ≡ Ok n → IsValidGroup (taken_over_by g name)
 take_over_valid g name m n valid is_static ok =
-    subst IsValidGroup (sym (taken_over_is g name m is_static)) (handed_valid g name m valid (keeper_present g name m is_static) (accepted_take_over g name n ok).0)
+    subst IsValidGroup (sym (taken_over_is g name m is_static)) (handed_valid g name m valid (static_member_present g name m is_static) (accepted_take_over g name n ok).0)
 
 name_last : (slots : List Slot) (s : Slot) → option_map (λ (t : Slot). t.name) (slice_get (slots ++ s ∷ []) (length slots)) ≡ Some s.name
 name_last [] s = refl
@@ -66,7 +66,7 @@ not_synced (Some x) = refl
 
 handed_on : (g : GroupState) (name : List ℕ) (m : ℕ) → static_member g name ≡ Some m → IsTakenOver g (handing_on g name m) m (suc (length g.slots))
 handed_on g name m is_static =
-    let k = keeper g name m is_static in
+    let k = static_member_is g name m is_static in
     let here : is_present g m ≡ true = ap is_some k.here in
     record {
       partitions = refl;
@@ -105,7 +105,7 @@ taken_settled g name = go (static_member g name) refl
   where
     go : (o : Option ℕ) → static_member g name ≡ o → is_settled (option_map_or (handing_on g name) o g) ≡ is_settled g
     go None e = refl
-    go (Some m) e = handed_settled g name m (keeper_present g name m e)
+    go (Some m) e = handed_settled g name m (static_member_present g name m e)
 
 position_same : (p : Slot → Bool) (m : ℕ) (f : ℕ → Option Seat → Option Seat) → ((n : ℕ) (s : Slot) → p (slot_with s.name (f n s.seat)) ≡ p s) → (slots : List Slot) → position_or_len p (reseated_from m f slots) ≡ position_or_len p slots
 position_same p m f same [] = refl

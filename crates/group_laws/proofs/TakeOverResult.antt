@@ -16,7 +16,7 @@ use Rattle.group_machine.proofs.SlotsLemmas.{same_id, other_id}
 use Rattle.group_machine.proofs.PresentLemmas.{any_of}
 use Rattle.group_machine.proofs.CompletionLemmas.{some_of}
 use Rattle.group_machine.proofs.StepLemmas.{any_of_present}
-use Rattle.group_machine.proofs.TakeOverLemmas.{keeper_present}
+use Rattle.group_machine.proofs.TakeOverLemmas.{static_member_present}
 use Rattle.group_laws.specs.Rounds.{without_flags, round, rebalance_result}
 use Rattle.group_laws.proofs.OtherLemmas.{seat_past}
 use Rattle.group_laws.proofs.ResultLemmas.{end_of}
@@ -128,7 +128,7 @@ taken_generation g name n is_valid ok = go (static_member g name) refl
     go None e = refl
     go (Some m) e =
         let now : GroupState = handing_on g name m in
-        let here : is_present g m ≡ true = keeper_present g name m e in
+        let here : is_present g m ≡ true = static_member_present g name m e in
         let capacity : length g.slots < MOST_MEMBERS = (accepted_take_over g name n ok).0 in
         result_generation now
         ∙ same_ends (is_anybody g) (is_anybody now) (is_settled g) (is_settled now) (is_settled (round g)) (is_settled (round now)) g.generation (handed_any g name m here ∙ sym (any_of_present g m here)) (handed_settled g name m here) (handed_round g name m is_valid here capacity)

@@ -28,14 +28,14 @@ one_more None m e = cc
 one_more (Some k) m e = let same : k + 1 ≡ m = cc in (k, refl, omega (arith, same))
 
 -- the static member of a name is present, is static, and has the name
-pub record IsKeeper (g : GroupState) (name : List ℕ) (m : ℕ) : Type 0 where
+pub record IsStaticMember (g : GroupState) (name : List ℕ) (m : ℕ) : Type 0 where
   pub seat : Seat
   pub here : member_of g m ≡ Some seat
   pub is_static : seat.is_static ≡ true
   pub named : name_of g m ≡ Some name
 
-pub keeper : (g : GroupState) (name : List ℕ) (m : ℕ) → static_member g name ≡ Some m → IsKeeper g name m
-keeper g name m e =
+pub static_member_is : (g : GroupState) (name : List ℕ) (m : ℕ) → static_member g name ≡ Some m → IsStaticMember g name m
+static_member_is g name m e =
     let d : Slot = slot_with name None in
     let k = one_more (position (is_static_as name) g.slots) m e in
     let at = position-Some (is_static_as name) g.slots k.0 d k.1 in
@@ -50,5 +50,5 @@ keeper g name m e =
       named = ap (name_of g) k.2 ∙ ap (option_map (λ (t : Slot). t.name)) got ∙ ap (λ n. Some n) ((bytes_eq-Decides s.name name).0 both.0);
     }
 
-pub keeper_present : (g : GroupState) (name : List ℕ) (m : ℕ) → static_member g name ≡ Some m → is_present g m ≡ true
-keeper_present g name m e = ap is_some (keeper g name m e).here
+pub static_member_present : (g : GroupState) (name : List ℕ) (m : ℕ) → static_member g name ≡ Some m → is_present g m ≡ true
+static_member_present g name m e = ap is_some (static_member_is g name m e).here

@@ -80,9 +80,9 @@ pub held_after : (g : GroupState) (next : SetRows) → ((m n q : ℕ) → is_in 
     → length g.last ≡ g.partitions → (m q : ℕ) → q < g.partitions → (is_in (granted_of g m) q ≡ true → last_holder g q ≡ Some m) → (is_in (granted_of g m) q ≡ true) ⊎ (is_in (set_of next m) q ≡ true) → slice_index_or (last_after g next) q None ≡ Some m
 held_after g next disjoint listed others long m q lt held now = holder_after g next q long lt ∙ go (is_in (granted_of g m) q) refl
   where
-    is_static : is_in (granted_of g m) q ≡ true → (o : Option ℕ) → taker g next q ≡ o → option_or o (last_holder g q) ≡ Some m
-    is_static own None e = held own
-    is_static own (Some n) e =
+    stays : is_in (granted_of g m) q ≡ true → (o : Option ℕ) → taker g next q ≡ o → option_or o (last_holder g q) ≡ Some m
+    stays own None e = held own
+    stays own (Some n) e =
         let t = both_true (is_in (set_of next n) q) (not (is_in (granted_of g n) q)) (find_says (takes g next q) (members g) n (sym (taker_is g next q) ∙ e)) in
         let same : m ≡ n = sym (others n m q t.0 own) in
         let mine : is_in (granted_of g n) q ≡ true = ap (λ k. is_in (granted_of g k) q) (sym same) ∙ own in
@@ -93,5 +93,5 @@ held_after g next disjoint listed others long m q lt held now = holder_after g n
     given out (inr row) = rw (row, out) refl
 
     go : (b : Bool) → is_in (granted_of g m) q ≡ b → option_or (taker g next q) (last_holder g q) ≡ Some m
-    go true own = is_static own (taker g next q) refl
+    go true own = stays own (taker g next q) refl
     go false out = ap (λ o. option_or o (last_holder g q)) (one_taker g next disjoint listed q m (given out now))

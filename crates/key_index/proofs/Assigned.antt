@@ -128,8 +128,8 @@ pub of_record : (shard : Key → ℕ) (keys : List Key) (i s local_id : ℕ) (gl
 of_record shard keys i s local_id globals lt at below is all =
     let x = get_or keys i [] in
     let own = distinct (of_shard shard s keys) in
-    let is_located : is_interned own x ≡ true = ap (λ t. is_interned (distinct (of_shard shard t keys)) x) at ∙ own-interned shard keys i lt in
-    let there = interned own x is_located in
+    let was_interned : is_interned own x ≡ true = ap (λ t. is_interned (distinct (of_shard shard t keys)) x) at ∙ own-interned shard keys i lt in
+    let there = interned own x was_interned in
     let row : get_or globals s [] ≡ map (id_of (distinct keys)) own = all s below in
     let long : length (get_or globals s []) ≡ length own = ap length row ∙ length-map own (id_of (distinct keys)) in (
       omega (arith, there.0, is, long),

@@ -18,9 +18,9 @@ interned-in_shard shard s keys table key at is =
 pub id-in_shard : (shard : Key → ℕ) (s : ℕ) (keys table : List Key) (ids : List ℕ) (key : Key) (local_id : ℕ) → s ≡ shard key → table ≡ of_shard shard s keys → ids ≡ map (id_of keys) (of_shard shard s keys)
     → IsIdOf table key local_id → IsIdOf keys key (get_or ids local_id 0)
 id-in_shard shard s keys table ids key local_id at is are there =
-    let is_located : is_interned keys key ≡ true = sym (interned-in_shard shard s keys table key at is) ∙ there.2 in
+    let was_interned : is_interned keys key ≡ true = sym (interned-in_shard shard s keys table key at is) ∙ there.2 in
     let own = interned table key there.2 in
     let read : get_or ids local_id 0 ≡ id_of keys key =
     ap (λ ns. get_or ns local_id 0) (are ∙ ap (map (id_of keys)) (sym is)) ∙ get_or-map (id_of keys) table local_id [] 0 there.1
     ∙ ap (λ n. id_of keys (get_or table n [])) there.0 ∙ ap (id_of keys) own.1 in
-    (read, rw read (interned keys key is_located).0, is_located)
+    (read, rw read (interned keys key was_interned).0, was_interned)

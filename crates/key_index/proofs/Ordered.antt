@@ -29,9 +29,9 @@ ordered-new shard all xs ys x count local_id order is lt at e h =
     let goes : Key → Bool = λ k. shard k == shard x in
     let goes_x : goes x ≡ true = eq-eqb (shard x) (shard x) refl in
     let own = distinct (of_shard shard (shard x) all) in
-    let is_located : is_interned own x ≡ true =
+    let was_interned : is_interned own x ≡ true =
     ap (λ ks. is_interned ks x) (sym (filter-distinct goes all)) ∙ interned-filter goes x goes_x (distinct all) ∙ ap (λ ks. is_interned (distinct ks) x) is ∙ interned-there xs ys x in
-    let there = interned own x is_located in
+    let there = interned own x was_interned in
     let named_x : name here ≡ x = ap (key_at own) at ∙ there.1 in
     let within : local_id < length own = rw at there.0 in
     let stands : KeyLocation → Type 0 = λ (where_it : KeyLocation). (where_it.shard < count) × (where_it.number < length (distinct (of_shard shard where_it.shard all))) in

@@ -140,10 +140,10 @@ take_over_stays w name v = go (take_over_answer w.cluster.group name) refl
     go : (a : Result ℕ Refusal) → take_over_answer w.cluster.group name ≡ a → IsValidWorld (entry_outcome (λ n. reply.TakenOver n) (taken_over_by w.cluster.group name) w a).after
     go (Ok n) is =
         let g = w.cluster.group in
-        let keeper = static_member_of g name n is in
-        let hands = take_over_hands g name keeper.0 n keeper.1 is in
-        let leaves = leaves_handed_on w.cluster (taken_over_by g name) keeper.0 n (taken_over_valid w.cluster name keeper.0 n v.cluster keeper.1 is) hands in
-        entered_world (λ k. reply.TakenOver k) (taken_over_by g name) w n v leaves hands.newcomer (omega (arith, (accepted_take_over g name n is).1)) (taken_over_slots g name keeper.0 keeper.1)
+        let found = static_member_of g name n is in
+        let hands = take_over_hands g name found.0 n found.1 is in
+        let leaves = leaves_handed_on w.cluster (taken_over_by g name) found.0 n (taken_over_valid w.cluster name found.0 n v.cluster found.1 is) hands in
+        entered_world (λ k. reply.TakenOver k) (taken_over_by g name) w n v leaves hands.newcomer (omega (arith, (accepted_take_over g name n is).1)) (taken_over_slots g name found.0 found.1)
     go (Err why) is = v
 
 -- ---- losses
