@@ -201,11 +201,11 @@ answer_raises w m p h at v (Ok end) is ok =
 answer_raises w m p h at v (Err (r.OffsetMismatch k)) is ok =
     let t = commit_of at.c w.cluster.logs p in
     let replied = commit_mismatch w.cluster t k is in
-    let is_consumer = (v.consumers m at.c at.is_consumer).committed p in
+    let committed = (v.consumers m at.c at.is_consumer).committed p in
     let other = commit_elsewhere w.cluster t k is in
     elim (cases_lt (base_of at.c p) (committed_at w.cluster.store p)) [
       | inl lt ↦ omega (arith, lt, replied, realigned_base at.c p k h at.held, ap slot_base at.held)
-      | inr le ↦ absurd (other (omega (arith, le, is_consumer)))
+      | inr le ↦ absurd (other (omega (arith, le, committed)))
     ]
 answer_raises w m p h at v (Err why) is ok = absurd (cc ok)
 

@@ -404,8 +404,8 @@ never_faults w (event.Leave m) v = tt
 never_faults w (event.Lose m) v = tt
 never_faults w (event.Poll m p n) v = tt
 never_faults w (event.Send m p) v = tt
-never_faults w (event.Deliver k) v = λ c is_consumer. commit_never_faults w.cluster c (commit_sent w k c v is_consumer)
-never_faults w (event.DeliverUnanswered k) v = λ c is_consumer. commit_never_faults w.cluster c (commit_sent w k c v is_consumer)
+never_faults w (event.Deliver k) v = λ c is_sent. commit_never_faults w.cluster c (commit_sent w k c v is_sent)
+never_faults w (event.DeliverUnanswered k) v = λ c is_sent. commit_never_faults w.cluster c (commit_sent w k c v is_sent)
 
 pub appended_world : (w : WorldState) (keyed : Keyed) (at : ℕ × ℕ) (s : ClusterState) → IsValidWorld w → IsOfTopic w.cluster.logs keyed → Answers (append_answer w.cluster.logs keyed) (Ok at) → s ≡ appended_to w.cluster keyed → IsValidWorld (with_cluster w s)
 appended_world w keyed at s v topic (inr wrong) is = absurd (cc wrong)
