@@ -15,7 +15,7 @@ use Rattle.record_batch.specs.Lists.{AreEncoded, AreCodes, IsEncoded, concatenat
 use Rattle.record_batch.specs.Private.BatchDictionary.{TakesCode}
 use Rattle.record_batch.specs.declared.encoding.EncodedBatch.{EncodedBatch}
 use Rattle.key_index.proofs.Firsts.{own, stays}
-use Rattle.key_index.proofs.Growth.{among, grows, known}
+use Rattle.key_index.proofs.Growth.{among, grows, interned}
 use Rattle.key_index.proofs.Assigned.{one-more}
 
 more-at : (b : Bool) (table : List Key) (x : Key) → is_interned table x ≡ b → b ≡ false → with_key table x ≡ table ++ x ∷ []
@@ -24,23 +24,23 @@ more-at b table x is new = ap (λ c. if c then table else table ++ x ∷ []) (is
 same-at : (table : List Key) (x : Key) → is_interned table x ≡ true → with_key table x ≡ table
 same-at table x is = ap (λ c. if c then table else table ++ x ∷ []) is
 
-known-added : (ks zs : List Key) (x : Key) → is_interned zs x ≡ true → is_interned (fold with_key ks zs) x ≡ true
-known-added ks [] x h = absurd (cc h)
-known-added ks (z ∷ zs) x h =
+interned-added : (ks zs : List Key) (x : Key) → is_interned zs x ≡ true → is_interned (fold with_key ks zs) x ≡ true
+interned-added ks [] x h = absurd (cc h)
+interned-added ks (z ∷ zs) x h =
     elim (cases_Bool (bytes_eq x z)) [
       | inl e ↦
           let same : x ≡ z = (bytes_eq-Decides x z).0 e in
           let there : is_interned (with_key ks z) x ≡ true = ap (is_interned (with_key ks z)) same ∙ (own ks z).0 in
           (stays (with_key ks z) zs x there).0
-      | inr e ↦ let later : is_interned zs x ≡ true = rw e at h in known-added (with_key ks z) zs x later
+      | inr e ↦ let later : is_interned zs x ≡ true = rw e at h in interned-added (with_key ks z) zs x later
     ]
 
 -- ---- one more record
-pub code-known : (keys : List Key) (key : Key) (code : ℕ) → IsIdOf keys key code → TakesCode keys keys key code
-code-known keys key code id = record { grown = inl refl; within = id.1; there = ap (key_at keys) id.0 ∙ (known keys key id.2).1 }
+pub code-interned : (keys : List Key) (key : Key) (code : ℕ) → IsIdOf keys key code → TakesCode keys keys key code
+code-interned keys key code id = record { grown = inl refl; within = id.1; there = ap (key_at keys) id.0 ∙ (interned keys key id.2).1 }
 
 pub code-found : (found : Result (Option ℕ) Memory) (old new : List Key) (key : Key) → IfOk found (λ f. IfSome f (IsIdOf old key)) → new ≡ old → IfOk found (λ f. IfSome f (TakesCode old new key))
-code-found (Ok (Some code)) old new key is same = rw same (code-known old key code is)
+code-found (Ok (Some code)) old new key is same = rw same (code-interned old key code is)
 code-found (Ok None) old new key is same = tt
 code-found (Err e) old new key is same = tt
 
@@ -70,7 +70,7 @@ goes xs old new x code same takes =
       | inl is ↦
           let at : code < length old = omega (arith, takes.within, ap length is) in
           let there : key_at old code ≡ x = ap (λ ks. key_at ks code) (sym is) ∙ takes.there in
-          let old_one : is_interned (distinct old) x ≡ true = known-added [] old x (among old x code at there) in record {
+          let old_one : is_interned (distinct old) x ≡ true = interned-added [] old x (among old x code at there) in record {
             longer = omega (arith, ap length is);
             by_one = omega (arith, ap length is);
             keys_are = ap distinct is ∙ sym (same-at (distinct old) x old_one) ∙ ap (λ ks. with_key ks x) same ∙ sym (one-more xs x);
@@ -146,7 +146,7 @@ found-all {A} P found all is h = λ k d lt.
 added-more : (ks zs : List Key) (z : Key) → fold with_key ks (with_key zs z) ≡ with_key (fold with_key ks zs) z
 added-more ks zs z =
     elim (cases_Bool (is_interned zs z)) [
-      | inl known ↦ ap (fold with_key ks) (same-at zs z known) ∙ sym (same-at (fold with_key ks zs) z (known-added ks zs z known))
+      | inl interned ↦ ap (fold with_key ks) (same-at zs z interned) ∙ sym (same-at (fold with_key ks zs) z (interned-added ks zs z interned))
       | inr new ↦ ap (fold with_key ks) (more-at (is_interned zs z) zs z refl new) ∙ fold-append with_key ks zs (z ∷ [])
     ]
 
