@@ -320,8 +320,8 @@ fn assign_in_order(
     Ok((ids, order))
 }
 
-/// Runs `assign_in_order` while another thread drops the scattered keys, allocates a number for each
-/// record, and runs `overlapped`.
+/// Runs `assign_in_order` while another thread drops the scattered keys, allocates a number for
+/// each record, and runs `overlapped`.
 fn assign_global_ids<R: Threads + Sync, T: Send, F: FnOnce() -> T + Send>(
     rt: &R,
     alloc: Global,

@@ -76,8 +76,8 @@ impl KeyDictionary {
     /// the dictionary. Fails only if memory runs out. `capacity` is the number of distinct keys for
     /// which it reserves memory up front.
     ///
-    /// While one thread assigns the key numbers, another runs `overlapped`, whose result is returned
-    /// as well.
+    /// While one thread assigns the key numbers, another runs `overlapped`, whose result is
+    /// returned as well.
     pub fn intern_all<R: Threads + Sync, T: Send + Drop, F: FnOnce() -> T + Send + Drop>(
         &self,
         rt: &R,

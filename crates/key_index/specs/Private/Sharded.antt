@@ -77,29 +77,23 @@ abbrev pub ids_after : List (List ℕ) → ℕ → ℕ → ℕ → List (List �
 ids_after ids s local_id next =
     slice_set ids s (with_first (slice_index_or ids s []) local_id next)
 
--- the locations of the keys after one more record, of this shard
-abbrev pub with_first_at : List KeyLocation → List ℕ → ℕ → ℕ → List KeyLocation
-with_first_at order ids shard local_id =
-    if is_first ids local_id then order ++ (record { shard = shard; number = local_id }) ∷ []
-    else order
-
--- the same from the key numbers of all shards
+-- the locations of the keys after one more record of shard s
 abbrev pub order_after : List KeyLocation → List (List ℕ) → ℕ → ℕ → List KeyLocation
-order_after order ids s local_id = with_first_at order (slice_index_or ids s []) s local_id
+order_after order ids s local_id =
+    if is_first (slice_index_or ids s []) local_id
+    then order ++ (record { shard = s; number = local_id }) ∷ []
+    else order
 
 -- the next key number after one more record
 abbrev pub next_after : List ℕ → ℕ → ℕ → ℕ
 next_after ids local_id next = if is_first ids local_id then next + 1 else next
 
--- the keys of a shard, and the numbers there of its records
-abbrev pub AreInternedIn : (Key → ℕ) → ℕ → List Key → List Key → List ℕ → Type 0
-AreInternedIn shard s keys table local_ids =
-    (table ≡ distinct (of_shard shard s keys))
-    × (local_ids ≡ map (id_of (distinct (of_shard shard s keys))) (of_shard shard s keys))
-
--- shard s, interned
+-- the keys of shard s, and the numbers there of its records
 abbrev pub IsInternedShard : (Key → ℕ) → List Key → ℕ → InternedShard → Type 0
-IsInternedShard shard keys s found = AreInternedIn shard s keys found.table found.local_ids.items
+IsInternedShard shard keys s found =
+    (found.table ≡ distinct (of_shard shard s keys))
+    × (found.local_ids.items
+    ≡ map (id_of (distinct (of_shard shard s keys))) (of_shard shard s keys))
 
 -- the shards from one on, interned; each result may be an error
 abbrev pub AreInternedFrom : {E : Type 0} → (Key → ℕ) → List Key → ℕ → ℕ
