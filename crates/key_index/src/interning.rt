@@ -1,6 +1,6 @@
 //! Keys interned shard by shard, in parallel.
 
-ghost use Rattle.std.specs.Prelude.{◌≡◌, ◌≤◌, ◌<◌, ◌+◌, ◌++◌, ℕ, [], List, IfOk, OnOk, flat_map, length, map, replicate, vec_items, vec_len};
+ghost use Rattle.std.specs.Prelude.{◌≡◌, ◌≤◌, ◌<◌, ◌+◌, ◌++◌, [], IfOk, OnOk, flat_map, length, map, replicate, vec_items, vec_len};
 ghost use Rattle.parallel.specs.Results.{AreResults};
 ghost use Rattle.key_index.specs.Keys.{distinct, id_of, lent_lists};
 ghost use Rattle.key_index.specs.Private.Sharded.{AreAssignable, AreScattered, AreFrom, AreGlobal, AreLocalIds, AreInternedInGroup, AreOrdered, AreSeenCounts, AreTables, HaveReadableIds, IsAssignment, IsInternedGroup, IsInternedShard, ids_after, is_first, keys_in, local_ids_in, order_after, shard_by, shard_of, with_first, with_keys};

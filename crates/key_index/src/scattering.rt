@@ -1,6 +1,6 @@
 //! Keys scattered to their shards, each list in a thread of its own.
 
-ghost use Rattle.std.specs.Prelude.{◌≡◌, ◌<◌, ◌≤◌, ◌+◌, ℕ, [], IfOk, length, map, replicate, vec_items, vec_len};
+ghost use Rattle.std.specs.Prelude.{◌≡◌, ◌≤◌, ◌+◌, [], IfOk, length, map, replicate, vec_items, vec_len};
 ghost use Rattle.key_index.specs.Keys.{lent, lent_lists};
 ghost use Rattle.key_index.specs.Private.Sharded.{AreScattered, AreScatteredResults, IsScattered, shard_of, start_of};
 

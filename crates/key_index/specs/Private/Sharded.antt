@@ -157,7 +157,7 @@ pub record AreReadable (shard : Key → ℕ) (keys : List Key) (shards : List �
   pub each : length ids ≡ SHARDS
   pub are : AreGlobal shard keys ids
 
--- the same of records with these key numbers
+-- the key numbers of these records can be read from those of the shards
 abbrev pub HaveReadableIds : ShardedRecords → List (List ℕ) → Type 0
 HaveReadableIds records ids =
     AreReadable (shard_by records) (keys_in records) records.shards.now (local_ids_in records) ids
