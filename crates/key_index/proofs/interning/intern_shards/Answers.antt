@@ -1,4 +1,4 @@
-use Rattle.std.proofs.Common.{◌≡◌, ◌+◌, ◌<◌, arith, rules, ap, flat_map, get_or, length, subst, sym, vec_items, vec_len}
+use Rattle.std.proofs.Common.{◌≡◌, ◌+◌, arith, rules, ap, flat_map, get_or, length, subst, sym, vec_items, vec_len}
 use Rattle.std.specs.Prelude.{IfOk}
 use Rattle.std.proofs.lemmas.Result.{IfOk-weaker}
 use Rattle.parallel.specs.Results.{AreResults}
