@@ -1,7 +1,7 @@
 -- What a search finds among rising members, and what is put there.
 use Rattle.std.proofs.Common.{ℕ, zero, suc, ◌≡◌, ◌≢◌, ◌<◌, ◌≤◌, ◌==◌, true, false, List, [], ◌∷◌, ◌++◌, ◌+◌, ◌-◌, length, map, Some, None, Result, Ok, Err, IfOk, IfErr, get_or, set, refl, ap, sym, subst, ◌∙◌, arith, inl, inr}
 use Rattle.std.specs.List.{insert, slice_get}
-use Rattle.std.specs.List.Sorted.{IsBinarySearchResult}
+use Rattle.std.specs.List.Sorted.{IsBinarySearchResult, IsStrictlyIncreasing}
 use Rattle.std.specs.Ordering.{nat_cmp, ordering_index}
 use Rattle.std.proofs.lemmas.List.{length-map}
 use Rattle.std.proofs.lemmas.List.Edits.{insert_end}
@@ -10,9 +10,9 @@ use Rattle.std.proofs.lemmas.List.Sorted.{searched}
 use Rattle.std.proofs.lemmas.Bool.{cases_lt, lt-ltb, le-ltb}
 use Rattle.std.proofs.lemmas.Bool.Decides.{nat_tests}
 use Rattle.bit_planes.specs.PartitionSet.{PartitionSet, partitions_of, empty_set}
-use Rattle.bit_planes.specs.SetRows.{SetRows, IsValidRows, row_of, with_row, IsRising, find_row, put_row}
+use Rattle.bit_planes.specs.SetRows.{SetRows, IsValidRows, row_of, with_row, find_row, put_row}
 use Rattle.bit_planes.specs.Private.Indices.{IsIndexOf, IsGapFor, member_at}
-use Rattle.bit_planes.proofs.RowLaws.{rising_rest, row_of-this, row_of-other, are_rows-with}
+use Rattle.bit_planes.proofs.RowLaws.{below_later, rising_first, rising_rest, row_of-this, row_of-other, are_rows-with}
 
 abbrev Rows : Type 0
 Rows = List (ℕ × PartitionSet)
@@ -27,12 +27,12 @@ earlier : (m n : ℕ) → n < m → (m == n) ≡ false
 earlier m n lt = grind (arith, nat_tests)
 
 -- ---- look-up and put at an index
-pub found_at : (rows : Rows) (m i : ℕ) (d : ℕ × PartitionSet) → IsRising (map (λ row. row.0) rows) → i < length rows → member_at rows i ≡ m → find_row rows m ≡ Some (get_or rows i d).1
+pub found_at : (rows : Rows) (m i : ℕ) (d : ℕ × PartitionSet) → IsStrictlyIncreasing (map (λ row. row.0) rows) → i < length rows → member_at rows i ≡ m → find_row rows m ≡ Some (get_or rows i d).1
 found_at [] m i d rising lt e = absurd (omega arith)
 found_at (row ∷ rows) m zero d rising lt e = rw e (rw (here m) refl)
 found_at (row ∷ rows) m (suc i) d rising lt e =
     let long = length-map rows (λ (row : ℕ × PartitionSet). row.0) in
-    let above = rising 0 (suc i) (omega arith) (omega arith) in
+    let above = rising_first row.0 (map (λ row. row.0) rows) rising i (omega arith) in
     let other = later row.0 m (omega (arith, above, e)) in
     rw other (found_at rows m i d (rising_rest row.0 (map (λ row. row.0) rows) rising) (omega arith) e)
 
@@ -42,12 +42,12 @@ found_none (row ∷ rows) m none =
     let other : (row.0 == m) ≡ false = elim (cases_lt row.0 m) [ inl lt ↦ later row.0 m lt | inr ge ↦ let ne = none 0 (omega arith) in earlier row.0 m (omega (arith, ge, ne)) ] in
     rw other (found_none rows m (λ i lt. none (suc i) (omega arith)))
 
-put_at : (rows : Rows) (m i : ℕ) (s : PartitionSet) → IsRising (map (λ row. row.0) rows) → i < length rows → member_at rows i ≡ m → put_row rows m s ≡ set rows i (m, s)
+put_at : (rows : Rows) (m i : ℕ) (s : PartitionSet) → IsStrictlyIncreasing (map (λ row. row.0) rows) → i < length rows → member_at rows i ≡ m → put_row rows m s ≡ set rows i (m, s)
 put_at [] m i s rising lt e = absurd (omega arith)
 put_at (row ∷ rows) m zero s rising lt e = let same : (row.0 == m) ≡ true = ap (λ n. n == m) e ∙ here m in rw same refl
 put_at (row ∷ rows) m (suc i) s rising lt e =
     let long = length-map rows (λ (row : ℕ × PartitionSet). row.0) in
-    let above = rising 0 (suc i) (omega arith) (omega arith) in
+    let above = rising_first row.0 (map (λ row. row.0) rows) rising i (omega arith) in
     let other = later row.0 m (omega (arith, above, e)) in
     let not_before = le-ltb m row.0 (omega (arith, above, e)) in
     rw (other, not_before) (ap (λ rest. row ∷ rest) (put_at rows m i s (rising_rest row.0 (map (λ row. row.0) rows) rising) (omega arith) e))
@@ -67,7 +67,7 @@ put_in_gap (row ∷ rows) m (suc i) s le before after =
     let not_before = le-ltb m row.0 (omega (arith, above)) in
     rw (other, not_before) (ap (λ rest. row ∷ rest) (put_in_gap rows m i s (omega arith) (λ j lt. before (suc j) (omega arith)) (λ j ge lt. after (suc j) (omega arith) (omega arith))))
 
-pub found : (rows : Rows) (m i : ℕ) (d : ℕ × PartitionSet) → IsRising (map (λ row. row.0) rows) → IsIndexOf rows m i → find_row rows m ≡ Some (get_or rows i d).1
+pub found : (rows : Rows) (m i : ℕ) (d : ℕ × PartitionSet) → IsStrictlyIncreasing (map (λ row. row.0) rows) → IsIndexOf rows m i → find_row rows m ≡ Some (get_or rows i d).1
 found rows m i d rising index = found_at rows m i d rising index.within index.there
 
 pub not_found : (rows : Rows) (m i : ℕ) → IsGapFor rows m i → find_row rows m ≡ None
@@ -76,7 +76,7 @@ not_found rows m i gap = found_none rows m (λ j lt. elim (cases_lt j i) [
   | inr after ↦ let above = gap.after j after lt in λ e. omega (arith, above, e)
 ])
 
-pub put_there : (rows : Rows) (m i : ℕ) (s : PartitionSet) → IsRising (map (λ row. row.0) rows) → IsIndexOf rows m i → put_row rows m s ≡ set rows i (m, s)
+pub put_there : (rows : Rows) (m i : ℕ) (s : PartitionSet) → IsStrictlyIncreasing (map (λ row. row.0) rows) → IsIndexOf rows m i → put_row rows m s ≡ set rows i (m, s)
 put_there rows m i s rising index = put_at rows m i s rising index.within index.there
 
 pub put_between : (rows : Rows) (m i : ℕ) (s : PartitionSet) → IsGapFor rows m i → put_row rows m s ≡ insert rows i (m, s)
@@ -88,9 +88,9 @@ member_or [] k d = refl
 member_or (row ∷ rows) zero d = refl
 member_or (row ∷ rows) (suc k) d = member_or rows k d
 
-never_falls : (ms : List ℕ) → IsRising ms → (i j : ℕ) → i ≤ j → j < length ms → get_or ms i 0 ≤ get_or ms j 0
+never_falls : (ms : List ℕ) → IsStrictlyIncreasing ms → (i j : ℕ) → i ≤ j → j < length ms → get_or ms i 0 ≤ get_or ms j 0
 never_falls ms rising i j le lt = elim (cases_lt i j) [
-  | inl below ↦ let rises = rising i j below lt in omega (arith, rises)
+  | inl below ↦ let rises = below_later ms rising i j below lt in omega (arith, rises)
   | inr ge ↦ let e : i ≡ j = omega arith in rw e (omega arith)
 ]
 
@@ -104,7 +104,7 @@ by_member rows m (Err i) h = λ rises.
       λ k d ge lt. ap (λ n. nat_cmp n m) (member_or rows k (d, empty_set 0)) ∙ parted.1 k (d, empty_set 0) ge (omega arith),
     )
 
-pub search_indices : (rows : Rows) (m : ℕ) (r : Result ℕ ℕ) → IsRising (map (λ row. row.0) rows) → IsBinarySearchResult (λ y. nat_cmp y.0 m) rows r → IfOk r (IsIndexOf rows m) × IfErr r (IsGapFor rows m)
+pub search_indices : (rows : Rows) (m : ℕ) (r : Result ℕ ℕ) → IsStrictlyIncreasing (map (λ row. row.0) rows) → IsBinarySearchResult (λ y. nat_cmp y.0 m) rows r → IfOk r (IsIndexOf rows m) × IfErr r (IsGapFor rows m)
 search_indices rows m (Ok i) rising h =
     let long = length-map rows (λ (row : ℕ × PartitionSet). row.0) in
     let s = searched (map (λ row. row.0) rows) m (Ok i) (by_member rows m (Ok i) h) (never_falls (map (λ row. row.0) rows) rising) in
@@ -115,7 +115,7 @@ search_indices rows m (Err i) rising h =
     (tt, record { within = omega (arith, s.0); before = s.1; after = λ j ge lt. s.2 j ge (omega (arith, lt)) })
 
 -- ---- a member above the last one
-above_last : (rows : Rows) (m i : ℕ) (last : ℕ × PartitionSet) → IsRising (map (λ row. row.0) rows) → i < length rows → length rows ≡ i + 1 → last ≡ get_or rows i (0, empty_set 0) → last.0 < m → IsGapFor rows m (length rows)
+above_last : (rows : Rows) (m i : ℕ) (last : ℕ × PartitionSet) → IsStrictlyIncreasing (map (λ row. row.0) rows) → i < length rows → length rows ≡ i + 1 → last ≡ get_or rows i (0, empty_set 0) → last.0 < m → IsGapFor rows m (length rows)
 above_last rows m i last rising lt end at above =
     let long = length-map rows (λ (row : ℕ × PartitionSet). row.0) in
     let there : get_or (map (λ row. row.0) rows) i 0 ≡ last.0 = member_or rows i (0, empty_set 0) ∙ ap (λ (row : ℕ × PartitionSet). row.0) (sym at) in
@@ -125,7 +125,7 @@ above_last rows m i last rising lt end at above =
       after = λ j le less. absurd (omega arith);
     }
 
-pub above_all : (rows : Rows) (m : ℕ) (last : ℕ × PartitionSet) → IsRising (map (λ row. row.0) rows) → Some last ≡ slice_get rows (length rows - 1) → last.0 < m → IsGapFor rows m (length rows)
+pub above_all : (rows : Rows) (m : ℕ) (last : ℕ × PartitionSet) → IsStrictlyIncreasing (map (λ row. row.0) rows) → Some last ≡ slice_get rows (length rows - 1) → last.0 < m → IsGapFor rows m (length rows)
 above_all [] m last rising is above = absurd (cc is)
 above_all (row ∷ rows) m last rising is above =
     let i : ℕ = length (row ∷ rows) - 1 in

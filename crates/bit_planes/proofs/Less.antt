@@ -5,10 +5,11 @@ use Rattle.std.proofs.lemmas.Bool.{cases_lt}
 use Rattle.std.proofs.lemmas.Bool.Decides.{nat_tests}
 use Rattle.std.proofs.lemmas.List.{length-map}
 use Rattle.bit_planes.specs.PartitionSet.{PartitionSet, partitions_of, minus}
-use Rattle.bit_planes.specs.SetRows.{SetRows, IsValidRows, AreOver, IsRising, find_row, row_of, less_row, with_less}
+use Rattle.std.specs.List.Sorted.{IsStrictlyIncreasing}
+use Rattle.bit_planes.specs.SetRows.{SetRows, IsValidRows, AreOver, find_row, row_of, less_row, with_less}
 use Rattle.bit_planes.specs.Private.Indices.{IsIndexOf, IsGapFor, member_at}
 use Rattle.bit_planes.proofs.Sets.{partitions_minus}
-use Rattle.bit_planes.proofs.RowLaws.{rising_rest, over_at}
+use Rattle.bit_planes.proofs.RowLaws.{rising_first, rising_rest, over_at}
 
 abbrev Rows : Type 0
 Rows = List (ℕ × PartitionSet)
@@ -33,15 +34,15 @@ no_less [] m s none = refl
 no_less (row ∷ rows) m s none =
     ap (λ r. r ∷ map (less_row m s) rows) (other_row m s row (none 0 (omega arith))) ∙ ap (λ rs. row ∷ rs) (no_less rows m s (λ i lt. none (suc i) (omega arith)))
 
-less_at : (rows : Rows) (m i : ℕ) (s : PartitionSet) (d : ℕ × PartitionSet) → IsRising (map (λ row. row.0) rows) → i < length rows → member_at rows i ≡ m → set rows i ((get_or rows i d).0, minus (get_or rows i d).1 s) ≡ map (less_row m s) rows
+less_at : (rows : Rows) (m i : ℕ) (s : PartitionSet) (d : ℕ × PartitionSet) → IsStrictlyIncreasing (map (λ row. row.0) rows) → i < length rows → member_at rows i ≡ m → set rows i ((get_or rows i d).0, minus (get_or rows i d).1 s) ≡ map (less_row m s) rows
 less_at [] m i s d rising lt e = absurd (omega arith)
 less_at (row ∷ rows) m zero s d rising lt e =
     let long = length-map rows (λ (row : ℕ × PartitionSet). row.0) in
-    let rest : map (less_row m s) rows ≡ rows = no_less rows m s (λ i below. let above = rising 0 (suc i) (omega arith) (omega arith) in omega (arith, above, e)) in
+    let rest : map (less_row m s) rows ≡ rows = no_less rows m s (λ i below. let above = rising_first row.0 (map (λ row. row.0) rows) rising i (omega arith) in omega (arith, above, e)) in
     ap (λ r. r ∷ rows) (sym (this_row m s row e)) ∙ ap (λ rs. less_row m s row ∷ rs) (sym rest)
 less_at (row ∷ rows) m (suc i) s d rising lt e =
     let long = length-map rows (λ (row : ℕ × PartitionSet). row.0) in
-    let above = rising 0 (suc i) (omega arith) (omega arith) in
+    let above = rising_first row.0 (map (λ row. row.0) rows) rising i (omega arith) in
     ap (λ rs. row ∷ rs) (less_at rows m i s d (rising_rest row.0 (map (λ row. row.0) rows) rising) (omega arith) e) ∙ ap (λ r. r ∷ map (less_row m s) rows) (sym (other_row m s row (omega (arith, above, e))))
 
 -- ---- what stays
@@ -93,7 +94,7 @@ less old new m s valid e = record {
   valid = subst IsValidRows (sym e) (record {
     some = valid.some;
     few = valid.few;
-    rising = subst IsRising (sym (less_numbers old.rows m s)) valid.rising;
+    rising = subst IsStrictlyIncreasing (sym (less_numbers old.rows m s)) valid.rising;
     over = less_over old.partitions old.rows m s valid.over;
   });
 }

@@ -1,10 +1,11 @@
 -- The laws of sets by member, by look-up.
-use Rattle.std.proofs.Common.{ℕ, zero, suc, ◌≡◌, ◌≢◌, ◌<◌, ◌≤◌, ◌==◌, true, false, List, [], ◌∷◌, ◌++◌, length, map, Some, None, get_or, refl, ap, sym, ◌∙◌, arith, inl, inr}
+use Rattle.std.proofs.Common.{ℕ, zero, suc, ◌≡◌, ◌≢◌, ◌+◌, ◌<◌, ◌≤◌, ◌==◌, true, false, List, [], ◌∷◌, ◌++◌, length, map, Some, None, get_or, refl, ap, sym, ◌∙◌, arith, inl, inr}
 use Rattle.std.specs.Prelude.{nat_lt, if◌then◌else◌}
+use Rattle.std.specs.List.Sorted.{IsStrictlyIncreasing}
 use Rattle.std.proofs.lemmas.Bool.{cases_lt, cases_eq, le-ltb}
 use Rattle.std.proofs.lemmas.Bool.Decides.{nat_tests}
 use Rattle.bit_planes.specs.PartitionSet.{PartitionSet, partitions_of}
-use Rattle.bit_planes.specs.SetRows.{SetRows, IsValidRows, AreOver, IsRising, find_row, row_of, put_row, with_row}
+use Rattle.bit_planes.specs.SetRows.{SetRows, IsValidRows, AreOver, find_row, row_of, put_row, with_row}
 
 eq_self : (n : ℕ) → (n == n) ≡ true
 eq_self n = grind (arith, nat_tests)
@@ -83,17 +84,33 @@ over_at p (row ∷ rows) zero d over lt = over.0
 over_at p (row ∷ rows) (suc i) d over lt = over_at p rows i d over.1 (omega arith)
 
 -- ---- numbers that rise
+-- each is below any later one
+pub below_later : (ms : List ℕ) → IsStrictlyIncreasing ms → (i j : ℕ) → i < j → j < length ms → get_or ms i 0 < get_or ms j 0
+below_later ms rising i zero less lt = absurd (omega (arith, less))
+below_later ms rising i (suc j) less lt =
+    let e : suc j ≡ j + 1 = omega arith in
+    let step : get_or ms j 0 < get_or ms (suc j) 0 = rw e (rising j (omega (arith, lt))) in
+    elim (cases_lt i j) [
+      | inl more ↦ omega (arith, below_later ms rising i j more (omega (arith, lt)), step)
+      | inr past ↦ let same : i ≡ j = omega (arith, less, past) in rw same step
+    ]
 
-rising_first : (x : ℕ) (ms : List ℕ) → IsRising (x ∷ ms) → (i : ℕ) → i < length ms → x < get_or ms i 0
-rising_first x ms rising i lt = rising 0 (suc i) (omega arith) (omega arith)
+pub rising_from : (ms : List ℕ) → ((i j : ℕ) → i < j → j < length ms → get_or ms i 0 < get_or ms j 0) → IsStrictlyIncreasing ms
+rising_from ms below k lt = below k (k + 1) (omega arith) lt
 
-pub rising_rest : (x : ℕ) (ms : List ℕ) → IsRising (x ∷ ms) → IsRising ms
-rising_rest x ms rising i j lt few = rising (suc i) (suc j) (omega arith) (omega arith)
+pub rising_first : (x : ℕ) (ms : List ℕ) → IsStrictlyIncreasing (x ∷ ms) → (i : ℕ) → i < length ms → x < get_or ms i 0
+rising_first x ms rising i lt = below_later (x ∷ ms) rising 0 (suc i) (omega arith) (omega arith)
 
-pub rising_more : (x : ℕ) (ms : List ℕ) → ((i : ℕ) → i < length ms → x < get_or ms i 0) → IsRising ms → IsRising (x ∷ ms)
-rising_more x ms above rising i zero lt few = absurd (omega arith)
-rising_more x ms above rising zero (suc j) lt few = above j (omega arith)
-rising_more x ms above rising (suc i) (suc j) lt few = rising i j (omega arith) (omega arith)
+pub rising_rest : (x : ℕ) (ms : List ℕ) → IsStrictlyIncreasing (x ∷ ms) → IsStrictlyIncreasing ms
+rising_rest x ms rising = rising_from ms (λ i j lt few. below_later (x ∷ ms) rising (suc i) (suc j) (omega arith) (omega arith))
+
+below_more : (x : ℕ) (ms : List ℕ) → ((i : ℕ) → i < length ms → x < get_or ms i 0) → IsStrictlyIncreasing ms → (i j : ℕ) → i < j → j < length (x ∷ ms) → get_or (x ∷ ms) i 0 < get_or (x ∷ ms) j 0
+below_more x ms above rising i zero lt few = absurd (omega arith)
+below_more x ms above rising zero (suc j) lt few = above j (omega arith)
+below_more x ms above rising (suc i) (suc j) lt few = below_later ms rising i j (omega arith) (omega arith)
+
+pub rising_more : (x : ℕ) (ms : List ℕ) → ((i : ℕ) → i < length ms → x < get_or ms i 0) → IsStrictlyIncreasing ms → IsStrictlyIncreasing (x ∷ ms)
+rising_more x ms above rising = rising_from (x ∷ ms) (below_more x ms above rising)
 
 first_above : (x y : ℕ) (ms : List ℕ) → x < y → ((i : ℕ) → i < length ms → x < get_or ms i 0) → (i : ℕ) → i < length (y ∷ ms) → x < get_or (y ∷ ms) i 0
 first_above x y ms lt above zero few = lt
@@ -116,13 +133,13 @@ all_above : (m x : ℕ) (ms : List ℕ) → m < x → ((i : ℕ) → i < length 
 all_above m x ms lt above zero few = lt
 all_above m x ms lt above (suc i) few = let over = above i (omega arith) in omega (arith, lt, over)
 
-pub rising_put : (rows : List (ℕ × PartitionSet)) (m : ℕ) (s : PartitionSet) → IsRising (map (λ row. row.0) rows) → IsRising (map (λ row. row.0) (put_row rows m s))
+pub rising_put : (rows : List (ℕ × PartitionSet)) (m : ℕ) (s : PartitionSet) → IsStrictlyIncreasing (map (λ row. row.0) rows) → IsStrictlyIncreasing (map (λ row. row.0) (put_row rows m s))
 rising_put [] m s rising = rising_more m [] (λ i lt. absurd (omega arith)) rising
 rising_put (row ∷ rows) m s rising =
     let names : List ℕ = map (λ row. row.0) rows in
-    elim (row.0 == m) as (λ h. (row.0 == m) ≡ h → IsRising (map (λ row. row.0) (if h then (m, s) ∷ rows else if nat_lt m row.0 then (m, s) ∷ row ∷ rows else row ∷ put_row rows m s))) [
+    elim (row.0 == m) as (λ h. (row.0 == m) ≡ h → IsStrictlyIncreasing (map (λ row. row.0) (if h then (m, s) ∷ rows else if nat_lt m row.0 then (m, s) ∷ row ∷ rows else row ∷ put_row rows m s))) [
       | true ↦ λ e. let same = eq_says row.0 m e in rising_more m names (λ i lt. let above = rising_first row.0 names rising i lt in omega (arith, same, above)) (rising_rest row.0 names rising)
-      | false ↦ λ e. elim (nat_lt m row.0) as (λ b. nat_lt m row.0 ≡ b → IsRising (map (λ row. row.0) (if b then (m, s) ∷ row ∷ rows else row ∷ put_row rows m s))) [
+      | false ↦ λ e. elim (nat_lt m row.0) as (λ b. nat_lt m row.0 ≡ b → IsStrictlyIncreasing (map (λ row. row.0) (if b then (m, s) ∷ row ∷ rows else row ∷ put_row rows m s))) [
         | true ↦ λ f. let lt = lt_says m row.0 f in rising_more m (row.0 ∷ names) (all_above m row.0 names lt (rising_first row.0 names rising)) rising
         | false ↦ λ f. let ge = lt_denies m row.0 f in let ne = eq_denies row.0 m e in rising_more row.0 (map (λ row. row.0) (put_row rows m s)) (above_put rows m s row.0 (omega arith) (rising_first row.0 names rising)) (rising_put rows m s (rising_rest row.0 names rising))
       ] refl
@@ -152,7 +169,7 @@ found_none_below (row ∷ rows) m above =
     let other : row.0 ≢ m = omega (arith, first) in
     found_later row rows m other ∙ found_none_below rows m (λ i lt. above (suc i) (omega arith))
 
-same_found : (rs ts : List (ℕ × PartitionSet)) → IsRising (map (λ row. row.0) rs) → IsRising (map (λ row. row.0) ts) → ((m : ℕ) → find_row rs m ≡ find_row ts m) → rs ≡ ts
+same_found : (rs ts : List (ℕ × PartitionSet)) → IsStrictlyIncreasing (map (λ row. row.0) rs) → IsStrictlyIncreasing (map (λ row. row.0) ts) → ((m : ℕ) → find_row rs m ≡ find_row ts m) → rs ≡ ts
 same_found [] [] up up' same = refl
 same_found [] (t ∷ ts) up up' same = let one = found_first t ts t.0 refl in let none = same t.0 in absurd (cc (one, none))
 same_found (r ∷ rs) [] up up' same = let one = found_first r rs r.0 refl in let none = same r.0 in absurd (cc (one, none))

@@ -1,5 +1,6 @@
 -- Tables of sets of partitions by member number.
-use Rattle.std.specs.Prelude.{◌≡◌, ℕ, ◌<◌, ◌≤◌, ◌==◌, nat_lt, List, [], ◌∷◌, Option, Some, None, length, map, if◌then◌else◌, slice_index_or}
+use Rattle.std.specs.Prelude.{◌≡◌, ℕ, ◌≤◌, ◌==◌, nat_lt, List, [], ◌∷◌, Option, Some, None, map, if◌then◌else◌}
+use Rattle.std.specs.List.Sorted.{IsStrictlyIncreasing}
 use Rattle.lane_words.specs.declared.limits.TheConstants.{MOST_PARTITIONS}
 use Rattle.bit_planes.specs.PartitionSet.{PartitionSet, partitions_of, empty_set, minus}
 
@@ -59,10 +60,6 @@ sets_of r ms = map (set_of r) ms
 abbrev pub HaveSameRows : SetRows → SetRows → Type 0
 HaveSameRows r s = (m : ℕ) → row_of r m ≡ row_of s m
 
--- strictly increasing numbers
-abbrev pub IsRising : List ℕ → Type 0
-IsRising ms = (i j : ℕ) → i < j → j < length ms → slice_index_or ms i 0 < slice_index_or ms j 0
-
 -- each set is over this many partitions
 abbrev pub AreOver : ℕ → List (ℕ × PartitionSet) → Type 0
 AreOver partitions [] = Unit {0}
@@ -72,5 +69,5 @@ AreOver partitions (row ∷ rows) = (partitions_of row.1 ≡ partitions) × AreO
 pub record IsValidRows (r : SetRows) : Type 0 where
   pub some : 1 ≤ r.partitions
   pub few : r.partitions ≤ MOST_PARTITIONS
-  pub rising : IsRising (members r)
+  pub rising : IsStrictlyIncreasing (members r)
   pub over : AreOver r.partitions r.rows

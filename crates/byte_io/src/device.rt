@@ -36,7 +36,8 @@ pub trait Source {
         requires { CanStillFail (failures self.old) }
         ensures bound { ReadsAtMost result buf.new }
         ensures bytes { ReadConsumes (left self.old) (left self.new) result buf.new }
-        ensures failures { failures self.new ≡ failures self.old + (if is_ok result then 0 else 1) };
+        ensures failures { failures self.new
+            ≡ failures self.old + (if is_ok result then 0 else 1) };
 }
 
 /// A sink of bytes. It must not be written to again once 2^64 - 1 writes have failed.
@@ -54,7 +55,8 @@ pub trait Sink {
         ensures bound { WritesAtMost result bytes.now }
         ensures progress { IfOk result (λ n. 0 < length bytes.now → 0 < n) }
         ensures bytes { WriteAppends (written self.old) (written self.new) result bytes.now }
-        ensures failures { failures self.new ≡ failures self.old + (if is_ok result then 0 else 1) };
+        ensures failures { failures self.new
+            ≡ failures self.old + (if is_ok result then 0 else 1) };
 }
 
 /// A source over any reader of std. Every error of the reader counts as a failed read.

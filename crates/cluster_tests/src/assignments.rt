@@ -1,8 +1,9 @@
 //! The sticky assignor. An assignment is a list of owners, 0 for a partition that nobody owns.
 
 ghost use Rattle.std.specs.Prelude.{◌≡◌, ◌<◌, ◌≤◌, length, IfOk, IsTrue};
+ghost use Rattle.std.specs.List.Sorted.{IsStrictlyIncreasing};
 ghost use Rattle.bit_planes.specs.PartitionSet.{partitions_of};
-ghost use Rattle.bit_planes.specs.SetRows.{IsRising, sets_of};
+ghost use Rattle.bit_planes.specs.SetRows.{sets_of};
 ghost use Rattle.sticky_assignor.specs.Assigned.{HaveRows};
 ghost use Rattle.sticky_assignor.specs.Balanced.{AreDisjoint};
 
@@ -62,7 +63,7 @@ fn owners_by(alloc: Global, rows: &PlaneRows) -> Result<Vec<u32>, Memory> {
 }
 
 fn is_rising(members: &[u32]) -> bool
-    ensures { IsTrue result → IsRising members.now }
+    ensures { IsTrue result → IsStrictlyIncreasing members.now }
 {
     for i in 1..members.len() {
         if members[i] <= members[i - 1] {
@@ -101,7 +102,7 @@ fn are_disjoint(owned: &PlaneRows, members: &[u32]) -> bool
 /// Whether these members and rows meet what `assign` requires.
 fn can_assign(members: &[u32], owned: &PlaneRows) -> bool
     ensures nonempty { IsTrue result → 0 < length members.now }
-    ensures sorted { IsTrue result → IsRising members.now }
+    ensures sorted { IsTrue result → IsStrictlyIncreasing members.now }
     ensures rows { IsTrue result → HaveRows owned.now members.now }
     ensures disjoint { IsTrue result → AreDisjoint (sets_of owned.now members.now) }
 {
@@ -114,7 +115,7 @@ fn can_assign(members: &[u32], owned: &PlaneRows) -> bool
 /// The owners by `assign`.
 fn owners_assigned(alloc: Global, members: &[u32], owned: &PlaneRows) -> Result<Vec<u32>, Memory>
     requires nonempty { 0 < length members.now }
-    requires sorted { IsRising members.now }
+    requires sorted { IsStrictlyIncreasing members.now }
     requires rows { HaveRows owned.now members.now }
     requires disjoint { AreDisjoint (sets_of owned.now members.now) }
 {
@@ -125,7 +126,7 @@ fn owners_assigned(alloc: Global, members: &[u32], owned: &PlaneRows) -> Result<
 /// The owners by the reference implementation.
 fn reference_owners(alloc: Global, members: &[u32], owned: &PlaneRows) -> Result<Vec<u32>, Memory>
     requires nonempty { 0 < length members.now }
-    requires sorted { IsRising members.now }
+    requires sorted { IsStrictlyIncreasing members.now }
     requires rows { HaveRows owned.now members.now }
 {
     let rows = reference_assign::assign(alloc, owned.partitions(), members, owned)?;
@@ -141,7 +142,7 @@ fn check_reference(
     given: &[u32],
 ) -> Result<(), Memory>
     requires nonempty { 0 < length members.now }
-    requires sorted { IsRising members.now }
+    requires sorted { IsStrictlyIncreasing members.now }
     requires rows { HaveRows owned.now members.now }
 {
     let reference = reference_owners(alloc, members, owned)?;

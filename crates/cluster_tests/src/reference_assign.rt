@@ -1,8 +1,9 @@
 //! Reference implementation of the assignor: each step makes new sets and counts anew.
 
 ghost use Rattle.std.specs.Prelude.{◌≡◌, ◌<◌, ◌≤◌, length, IfOk, IsSome};
+ghost use Rattle.std.specs.List.Sorted.{IsStrictlyIncreasing};
 ghost use Rattle.bit_planes.specs.PartitionSet.{partitions_of};
-ghost use Rattle.bit_planes.specs.SetRows.{IsRising, row_of, set_of, sets_of};
+ghost use Rattle.bit_planes.specs.SetRows.{row_of, set_of, sets_of};
 ghost use Rattle.sticky_assignor.specs.Assigned.{assigned, HaveRows};
 ghost use Rattle.sticky_assignor.specs.Private.Filling.{filled_rows, free_of, retaining, one_of, quotas, shares};
 ghost use Rattle.sticky_assignor.specs.Target.{heavies};
@@ -20,7 +21,7 @@ pub fn assign(
 ) -> Result<PlaneRows, Memory>
     requires partitions { owned.now.partitions ≡ partitions }
     requires nonempty { 0 < length members.now }
-    requires sorted { IsRising members.now }
+    requires sorted { IsStrictlyIncreasing members.now }
     requires rows { HaveRows owned.now members.now }
     ensures { IfOk result (λ rows. rows ≡ assigned partitions members.now owned.now) }
 {
@@ -112,7 +113,7 @@ fn fill(
 ) -> Result<PlaneRows, Memory>
     requires partitions { partitions_of all_free ≡ owned.now.partitions }
     requires len { length quotas.now ≡ length members.now }
-    requires sorted { IsRising members.now }
+    requires sorted { IsStrictlyIncreasing members.now }
     requires rows { HaveRows owned.now members.now }
     ensures { IfOk result (λ rows. rows ≡ filled_rows all_free quotas.now members.now owned.now) }
 {

@@ -1,12 +1,12 @@
 //! Parses the words of a command line: a subcommand, its options and its files.
 
 ghost use Rattle.std.specs.Prelude.{◌≡◌, ◌≤◌, ◌-◌, ◌^◌, false, IfOk, IfErr, IsErrAnd, IsSome, Some, map, codes};
-ghost use Rattle.clap.specs.Words.{app_of, fault_of, first_of, found_of, kind_of, rows_of, rule_of};
+ghost use Rattle.clap.specs.Words.{fault_of, first_of, found_of, kind_of, rows_of, rule_of};
 ghost use Rattle.clap.specs.Simple.{App, with_rule, with_subcommand};
 ghost use Rattle.clap.specs.Walk.{Rule};
 ghost use Rattle.command_line.specs.CommandLine.{HasOptions, HasScript, HaveBadList, IsBadListReport, IsJobOf, IsNumber, IsRefusal};
 ghost use Rattle.command_line.specs.Topics.{AreTopicsOf};
-ghost use Rattle.command_line.specs.Private.CommandLine.{IsCommand, IsJobOfRows, IsOptionalNumber, AreCountRows, AreOptionRows, AreScriptRows, IsUsageOf, ReportsBadList};
+ghost use Rattle.command_line.specs.Private.CommandLine.{IsCommand, IsJobOfRows, IsOptionalNumber, IsReadAs, AreCountRows, AreOptionRows, AreScriptRows, IsUsageOf, ReportsBadList};
 ghost use Rattle.command_line.specs.CommandLine.{count_app, flag, keycount_app, keycount_top, number_option, path, replay_app, run_app, text_option, with_options, with_script};
 
 use crate::help::{AFTER_COUNT, AFTER_KEYCOUNT, AFTER_REPLAY, AFTER_RUN};
@@ -142,9 +142,9 @@ fn with_subcommand<'a>(
     command: Result<Command<'a>, AllocError>,
     added: Result<Command<'a>, AllocError>,
 ) -> Result<Command<'a>, AllocError>
-    ensures { (app sub : App) → IfOk command.entry (λ c. app_of c ≡ app)
+    ensures { (app sub : App) → IfOk command.entry (IsReadAs app)
         → IfOk added.entry (IsCommand sub)
-        → IfOk result (λ c. app_of c ≡ with_subcommand app sub.top) }
+        → IfOk result (IsReadAs (with_subcommand app sub.top)) }
 {
     command?.subcommand(added?)
 }
@@ -219,7 +219,7 @@ fn run_command<'a>(alloc: Global) -> Result<Command<'a>, AllocError>
 
 /// The program, without its subcommands.
 fn top_command<'a>(alloc: Global) -> Result<Command<'a>, AllocError>
-    ensures { IfOk result (λ c. app_of c ≡ keycount_top) }
+    ensures { IfOk result (IsReadAs keycount_top) }
 {
     Command::new(alloc, "keycount")
         .about("Count the keys of a CSV file in a cluster whose members join and leave")
@@ -232,7 +232,7 @@ fn top_command<'a>(alloc: Global) -> Result<Command<'a>, AllocError>
 
 /// The program, with its subcommands.
 fn keycount_command<'a>(alloc: Global) -> Result<Command<'a>, AllocError>
-    ensures { IfOk result (λ c. app_of c ≡ keycount_app) }
+    ensures { IfOk result (IsReadAs keycount_app) }
 {
     let command = with_subcommand(top_command(alloc), count_command(alloc));
     let command = with_subcommand(command, replay_command(alloc));

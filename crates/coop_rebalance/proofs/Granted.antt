@@ -2,11 +2,12 @@
 use Rattle.std.proofs.Common.{ℕ, suc, ◌≡◌, ◌≢◌, ◌+◌, ◌<◌, ◌==◌, Bool, true, false, ◌||◌, ◌&&◌, not, List, [], ◌∷◌, ◌++◌, length, map, take, get_or, Some, None, cond, refl, ap, sym, subst, ◌∙◌, arith}
 use Rattle.std.proofs.lemmas.List.{take_all}
 use Rattle.std.specs.Prelude.{nat_lt}
+use Rattle.std.specs.List.Sorted.{IsStrictlyIncreasing}
 use Rattle.std.proofs.lemmas.Bool.Decides.{nat_tests}
 use Rattle.bit_planes.specs.PartitionSet.{PartitionSet, partitions_of, is_in, one, union, minus}
-use Rattle.bit_planes.specs.SetRows.{SetRows, IsValidRows, IsRising, find_row, set_or_empty}
+use Rattle.bit_planes.specs.SetRows.{SetRows, IsValidRows, find_row, set_or_empty}
 use Rattle.bit_planes.proofs.Sets.{in_empty, in_minus, in_union, partitions_minus, partitions_union}
-use Rattle.bit_planes.proofs.RowLaws.{rising_rest}
+use Rattle.bit_planes.proofs.RowLaws.{rising_first, rising_rest}
 use Rattle.coop_rebalance.specs.Private.Grants.{times_granted, AreGrants}
 use Rattle.coop_rebalance.specs.Withheld.{granted_to_other}
 
@@ -45,7 +46,7 @@ above_are_others (row ∷ rows) m q above =
     let other = eq_other row.0 m (omega (arith, first)) in
     rw (other, above_are_others rows m q (λ i lt. above (suc i) (omega arith))) refl
 
-own_or_not : (rows : Rows) (p m q : ℕ) → IsRising (map (λ row. row.0) rows) → times_granted rows q ≡ times_to_others rows m q + one (is_in (set_or_empty p (find_row rows m)) q)
+own_or_not : (rows : Rows) (p m q : ℕ) → IsStrictlyIncreasing (map (λ row. row.0) rows) → times_granted rows q ≡ times_to_others rows m q + one (is_in (set_or_empty p (find_row rows m)) q)
 unfolding times_to_others
 own_or_not [] p m q rising = rw (in_empty p q) refl
 own_or_not (row ∷ rows) p m q rising =
@@ -53,7 +54,7 @@ own_or_not (row ∷ rows) p m q rising =
     elim (row.0 == m) as (λ b. (row.0 == m) ≡ b → one (is_in row.1 q) + times_granted rows q ≡ (one (not b && is_in row.1 q) + times_to_others rows m q) + one (is_in (set_or_empty p (cond b (Some row.1) (find_row rows m))) q)) [
       | true ↦ λ e.
           let here = eq_says row.0 m e in
-          let rest = above_are_others rows m q (λ i lt. let above = rising 0 (suc i) (omega arith) (omega arith) in omega (arith, here, above)) in
+          let rest = above_are_others rows m q (λ i lt. let above = rising_first row.0 names rising i lt in omega (arith, here, above)) in
           omega (arith, rest)
       | false ↦ λ e. omega (arith, own_or_not rows p m q (rising_rest row.0 names rising))
     ] refl

@@ -1,11 +1,12 @@
 -- What a round assigns, and that the next one settles.
 use Rattle.std.proofs.Common.{ℕ, zero, suc, ◌≡◌, ◌+◌, ◌<◌, ◌≤◌, ◌==◌, Bool, true, false, ◌||◌, ◌&&◌, not, List, [], ◌∷◌, length, map, get_or, refl, ap, sym, ◌∙◌, subst, arith, inl, inr}
 use Rattle.std.specs.Prelude.{Some, cond}
+use Rattle.std.specs.List.Sorted.{IsStrictlyIncreasing}
 use Rattle.std.proofs.lemmas.Bool.{cases_lt}
 use Rattle.bit_planes.specs.PartitionSet.{PartitionSet, partitions_of, is_in, one, empty_set, union, is_within}
-use Rattle.bit_planes.specs.SetRows.{SetRows, members, find_row, set_or_empty, set_of, sets_of, IsRising, IsValidRows}
+use Rattle.bit_planes.specs.SetRows.{SetRows, members, find_row, set_or_empty, set_of, sets_of, IsValidRows}
 use Rattle.bit_planes.proofs.Sets.{one_le, same_set, partitions_where, in_where, past_where, past, in_union, within_of}
-use Rattle.bit_planes.proofs.RowLaws.{rising_rest}
+use Rattle.bit_planes.proofs.RowLaws.{rising_first, rising_rest}
 use Rattle.sticky_assignor.specs.Balanced.{holders, IsBalanced, AreDisjoint, AreBelow}
 use Rattle.sticky_assignor.specs.Target.{row_at, target}
 use Rattle.sticky_assignor.specs.Assigned.{pair_up, target_rows}
@@ -59,13 +60,13 @@ all_others (n ∷ ms) (row ∷ rows) m q len below =
     let lt : m < n = below 0 (omega arith) in
     rw (not_eq_back m n lt) (omega (arith, all_others ms rows m q (omega arith) (λ i l. below (suc i) (omega arith))))
 
-mine_and_others : (ms : List ℕ) (rows : List PartitionSet) (i q : ℕ) → length rows ≡ length ms → IsRising ms → i < length ms → one (is_in (row_at rows i) q) + others ms rows (get_or ms i 0) q ≡ holders rows q
+mine_and_others : (ms : List ℕ) (rows : List PartitionSet) (i q : ℕ) → length rows ≡ length ms → IsStrictlyIncreasing ms → i < length ms → one (is_in (row_at rows i) q) + others ms rows (get_or ms i 0) q ≡ holders rows q
 mine_and_others [] rows i q len rising lt = absurd (omega arith)
 mine_and_others (m ∷ ms) [] i q len rising lt = absurd (omega arith)
 mine_and_others (m ∷ ms) (row ∷ rows) zero q len rising lt =
-    rw (eq_self m) (omega (arith, all_others ms rows m q (omega arith) (λ i l. rising 0 (suc i) (omega arith) (omega arith))))
+    rw (eq_self m) (omega (arith, all_others ms rows m q (omega arith) (rising_first m ms rising)))
 mine_and_others (m ∷ ms) (row ∷ rows) (suc i) q len rising lt =
-    let below : m < get_or ms i 0 = rising 0 (suc i) (omega arith) (omega arith) in
+    let below : m < get_or ms i 0 = rising_first m ms rising i (omega arith) in
     rw (not_eq m (get_or ms i 0) below) (omega (arith, mine_and_others ms rows i q (omega arith) (rising_rest m ms rising) (omega arith)))
 
 -- ---- rows without what others are granted
@@ -145,7 +146,7 @@ rows_equal [] (b ∷ bs) len same = absurd (omega arith)
 rows_equal (row ∷ rows) [] len same = absurd (omega arith)
 rows_equal (row ∷ rows) (b ∷ bs) len same = rw (same 0 (omega arith)) (ap (λ rs. b ∷ rs) (rows_equal rows bs (omega arith) (λ i lt. same (suc i) (omega arith))))
 
-nothing_off : (ms : List ℕ) (ts gs : List PartitionSet) → length ts ≡ length ms → length gs ≡ length ms → IsRising ms → Lies gs ts → AreDisjoint ts → taken_off (pair_up ms gs) ms ts ≡ ts
+nothing_off : (ms : List ℕ) (ts gs : List PartitionSet) → length ts ≡ length ms → length gs ≡ length ms → IsStrictlyIncreasing ms → Lies gs ts → AreDisjoint ts → taken_off (pair_up ms gs) ms ts ≡ ts
 nothing_off ms ts gs lt lg rising lies disjoint =
     let granted : List (ℕ × PartitionSet) = pair_up ms gs in
     let lo : length (taken_off granted ms ts) ≡ length ms = length_off granted ms ts lt in
@@ -161,7 +162,7 @@ nothing_off ms ts gs lt lg rising lies disjoint =
     in_off granted m t q ∙ and_not_none (is_in t q) (granted_to_other granted m q) clear))
 
 -- ---- the next rows, as lists of sets
-next_paired : (p : ℕ) (ms : List ℕ) (gs : List PartitionSet) → length gs ≡ length ms → IsRising ms
+next_paired : (p : ℕ) (ms : List ℕ) (gs : List PartitionSet) → length gs ≡ length ms → IsStrictlyIncreasing ms
     → next_rows (record { partitions = p; rows = pair_up ms gs }) ≡ record { partitions = p; rows = pair_up ms (taken_off (pair_up ms gs) ms (target p gs)) }
 unfolding withheld
 next_paired p ms gs len rising =
@@ -206,7 +207,7 @@ are_next p ms gs len some over disjoint =
       balanced = is_balanced p gs some over disjoint;
     }
 
-settles_paired : (p : ℕ) (ms : List ℕ) (gs : List PartitionSet) → length gs ≡ length ms → IsRising ms → 0 < length gs → AreBelow p gs → AreDisjoint gs → Settles (next_rows (record { partitions = p; rows = pair_up ms gs }))
+settles_paired : (p : ℕ) (ms : List ℕ) (gs : List PartitionSet) → length gs ≡ length ms → IsStrictlyIncreasing ms → 0 < length gs → AreBelow p gs → AreDisjoint gs → Settles (next_rows (record { partitions = p; rows = pair_up ms gs }))
 settles_paired p ms gs len rising some over disjoint =
     let ts : List PartitionSet = target p gs in
     let ws : List PartitionSet = taken_off (pair_up ms gs) ms ts in
@@ -238,15 +239,15 @@ settles g valid some disjoint =
     subst (λ r. Settles (next_rows r)) (sym (paired g valid.rising)) (settles_paired g.partitions ms gs len valid.rising (omega (arith, length_members g.rows)) (sets_over g ms valid) disjoint)
 
 -- ---- where the next rows lie
-rows_paired : (p : ℕ) (ms : List ℕ) (rows : List PartitionSet) → 1 ≤ p → p ≤ 4096 → length rows ≡ length ms → IsRising ms → AreBelow p rows → IsValidRows (record { partitions = p; rows = pair_up ms rows })
+rows_paired : (p : ℕ) (ms : List ℕ) (rows : List PartitionSet) → 1 ≤ p → p ≤ 4096 → length rows ≡ length ms → IsStrictlyIncreasing ms → AreBelow p rows → IsValidRows (record { partitions = p; rows = pair_up ms rows })
 rows_paired p ms rows some few len rising over = record {
   some = some;
   few = few;
-  rising = subst IsRising (sym (members_paired ms rows len)) rising;
+  rising = subst IsStrictlyIncreasing (sym (members_paired ms rows len)) rising;
   over = over_paired p ms rows over;
 }
 
-next_within_paired : (p : ℕ) (ms : List ℕ) (gs : List PartitionSet) → 1 ≤ p → p ≤ 4096 → length gs ≡ length ms → IsRising ms → 0 < length gs → AreBelow p gs → AreDisjoint gs
+next_within_paired : (p : ℕ) (ms : List ℕ) (gs : List PartitionSet) → 1 ≤ p → p ≤ 4096 → length gs ≡ length ms → IsStrictlyIncreasing ms → 0 < length gs → AreBelow p gs → AreDisjoint gs
     → LiesInTarget (record { partitions = p; rows = pair_up ms gs }) (next_rows (record { partitions = p; rows = pair_up ms gs }))
 next_within_paired p ms gs lo hi len rising some over disjoint =
     let ts : List PartitionSet = target p gs in
@@ -304,7 +305,7 @@ holders_le (row ∷ rows) (b ∷ bs) q len le =
     let first : one (is_in row q) ≤ one (is_in b q) = le 0 (omega arith) in
     omega (arith, holders_le rows bs q (omega arith) (λ i l. le (suc i) (omega arith)))
 
-given_disjoint_lists : (p : ℕ) (ms : List ℕ) (gs ts : List PartitionSet) → length gs ≡ length ms → length ts ≡ length ms → IsRising ms → AreBelow p gs → AreBelow p ts → AreDisjoint gs → AreDisjoint ts
+given_disjoint_lists : (p : ℕ) (ms : List ℕ) (gs ts : List PartitionSet) → length gs ≡ length ms → length ts ≡ length ms → IsStrictlyIncreasing ms → AreBelow p gs → AreBelow p ts → AreDisjoint gs → AreDisjoint ts
     → AreDisjoint (unions gs (taken_off (pair_up ms gs) ms ts))
 given_disjoint_lists p ms gs ts lg lt rising og ot ga ta q =
     let granted : List (ℕ × PartitionSet) = pair_up ms gs in
@@ -346,7 +347,7 @@ map_unions : (f g : ℕ → PartitionSet) (ms : List ℕ) → map (λ m. union (
 map_unions f g [] = refl
 map_unions f g (m ∷ ms) = ap (λ rows. union (f m) (g m) ∷ rows) (map_unions f g ms)
 
-given_disjoint_paired : (p : ℕ) (ms : List ℕ) (gs : List PartitionSet) → length gs ≡ length ms → IsRising ms → 0 < length gs → AreBelow p gs → AreDisjoint gs
+given_disjoint_paired : (p : ℕ) (ms : List ℕ) (gs : List PartitionSet) → length gs ≡ length ms → IsStrictlyIncreasing ms → 0 < length gs → AreBelow p gs → AreDisjoint gs
     → AreDisjoint (together (record { partitions = p; rows = pair_up ms gs }) (next_rows (record { partitions = p; rows = pair_up ms gs })))
 given_disjoint_paired p ms gs len rising some over disjoint =
     let ts : List PartitionSet = target p gs in

@@ -1,12 +1,13 @@
 -- What is withheld, row by row.
 use Rattle.std.proofs.Common.{ℕ, ◌≡◌, ◌+◌, ◌<◌, ◌≤◌, ◌==◌, ◌∙◌, Bool, true, false, ◌&&◌, not, List, [], ◌∷◌, ◌++◌, length, take, get_or, map, Some, None, cond, refl, ap, sym, subst, arith, inl, inr}
+use Rattle.std.specs.List.Sorted.{IsStrictlyIncreasing}
 use Rattle.std.proofs.lemmas.Bool.{cases_lt}
 use Rattle.std.proofs.lemmas.Bool.Decides.{nat_tests}
 use Rattle.std.proofs.lemmas.List.{length-map, length-take-le, get_or-take, get_or-map, map-append, take_all}
 use Rattle.bit_planes.specs.PartitionSet.{PartitionSet, partitions_of, is_in, set_where, minus}
-use Rattle.bit_planes.specs.SetRows.{SetRows, IsValidRows, IsRising, members, find_row, set_or_empty, set_of, put_row, with_row}
+use Rattle.bit_planes.specs.SetRows.{SetRows, IsValidRows, members, find_row, set_or_empty, set_of, put_row, with_row}
 use Rattle.bit_planes.proofs.Sets.{in_empty, in_minus, in_where, past, past_where, partitions_minus, partitions_where, same_set}
-use Rattle.bit_planes.proofs.RowLaws.{put_last}
+use Rattle.bit_planes.proofs.RowLaws.{below_later, put_last}
 use Rattle.coop_rebalance.proofs.Items.{items_more}
 use Rattle.coop_rebalance.specs.Withheld.{granted_to_other, withheld_row, withheld}
 
@@ -62,7 +63,7 @@ pub withheld_all : (target granted : SetRows) (items : Rows) (i : ℕ) → items
 unfolding withheld
 withheld_all target granted items i same le = ap (λ (rows : Rows). record target { rows = map (withheld_row granted.rows) rows }) (take_all i items le ∙ same)
 
-earlier_below : (granted items : Rows) (i : ℕ) (item : ℕ × PartitionSet) → IsRising (map (λ row. row.0) items) → i < length items → item ≡ get_or items i item
+earlier_below : (granted items : Rows) (i : ℕ) (item : ℕ × PartitionSet) → IsStrictlyIncreasing (map (λ row. row.0) items) → i < length items → item ≡ get_or items i item
     → (j : ℕ) → j < length (map (λ row. row.0) (map (withheld_row granted) (take i items))) → get_or (map (λ row. row.0) (map (withheld_row granted) (take i items))) j 0 < item.0
 earlier_below granted items i item rising lt at j few =
     let w : Rows = map (withheld_row granted) (take i items) in
@@ -73,7 +74,7 @@ earlier_below granted items i item rising lt at j few =
     let there : get_or (map (λ (row : ℕ × PartitionSet). row.0) w) j 0 ≡ get_or (map (λ (row : ℕ × PartitionSet). row.0) items) j 0 =
     ap (λ ms. get_or ms j 0) (numbers_withheld granted (take i items)) ∙ get_or-map (λ (row : ℕ × PartitionSet). row.0) (take i items) j item 0 (let l = length-take-le i items (omega arith) in omega (arith, l, before)) ∙ ap (λ (row : ℕ × PartitionSet). row.0) (get_or-take i items j item before) ∙ sym (number j (omega (arith, before))) in
     let here : get_or (map (λ (row : ℕ × PartitionSet). row.0) items) i 0 ≡ item.0 = number i lt ∙ ap (λ (row : ℕ × PartitionSet). row.0) (sym at) in
-    let rises = rising j i before (omega (arith, items_long, lt)) in
+    let rises = below_later (map (λ (row : ℕ × PartitionSet). row.0) items) rising j i before (omega (arith, items_long, lt)) in
     omega (arith, rises, there, here)
 
 pub withheld_more : (target granted : SetRows) (items : Rows) (i : ℕ) (item : ℕ × PartitionSet) (others : PartitionSet) (rows new : SetRows)
@@ -81,7 +82,7 @@ pub withheld_more : (target granted : SetRows) (items : Rows) (i : ℕ) (item : 
     → rows ≡ withheld_first target granted items i → new ≡ with_row rows item.0 (minus item.1 others) → new ≡ withheld_first target granted items (i + 1)
 withheld_more target granted items i item others rows new valid same lt at others_are so_far put =
     let w : Rows = map (withheld_row granted.rows) (take i items) in
-    let rising : IsRising (map (λ row. row.0) items) = subst (λ (xs : Rows). IsRising (map (λ row. row.0) xs)) (sym same) valid.rising in
+    let rising : IsStrictlyIncreasing (map (λ row. row.0) items) = subst (λ (xs : Rows). IsStrictlyIncreasing (map (λ row. row.0) xs)) (sym same) valid.rising in
     let last : put_row w item.0 (minus item.1 others) ≡ w ++ withheld_row granted.rows item ∷ [] = put_last w item.0 (minus item.1 others) (earlier_below granted.rows items i item rising lt at) ∙ ap (λ row. w ++ row ∷ []) (withheld_set granted.rows item others others_are) in
     let more : w ++ withheld_row granted.rows item ∷ [] ≡ map (withheld_row granted.rows) (take (i + 1) items) = sym (map-append (withheld_row granted.rows) (take i items) (item ∷ [])) ∙ ap (λ (xs : Rows). map (withheld_row granted.rows) xs) (sym (items_more items i item lt at)) in
     put ∙ ap (λ (r : SetRows). with_row r item.0 (minus item.1 others)) so_far ∙ ap (λ (xs : Rows). record target { rows = xs }) (last ∙ more)

@@ -1,5 +1,5 @@
 -- The result of a rebalance, by rounds.
-use Rattle.std.specs.Prelude.{◌≡◌, map, true, false, if◌then◌else◌}
+use Rattle.std.specs.Prelude.{◌≡◌, ℕ, map, true, false, if◌then◌else◌}
 use Rattle.bit_planes.specs.SetRows.{SetRows}
 use Rattle.group_machine.specs.declared.group.Seat.{Seat}
 use Rattle.group_machine.specs.State.{GroupState, is_anybody}
@@ -51,3 +51,7 @@ rebalance_result g =
     else if is_settled (round g) then round g
     else round (round g))
     else without_flags g
+
+-- the generation in which a rebalance ends
+abbrev pub final_generation : GroupState → ℕ
+final_generation g = (rebalance_result g).generation

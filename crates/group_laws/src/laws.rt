@@ -8,7 +8,7 @@ ghost use Rattle.group_machine.specs.Settled.{is_settled};
 ghost use Rattle.group_machine.specs.Steps.{joined_by, joined_static_by, leave_answer, left_by, rejoined_by, synced_by, taken_over_by};
 ghost use Rattle.group_machine.specs.Valid.{IsValidGroup};
 ghost use Rattle.group_laws.specs.Names.{HasNumber, names};
-ghost use Rattle.group_laws.specs.Rounds.{without_flags, round, rebalance_result, IsSound};
+ghost use Rattle.group_laws.specs.Rounds.{final_generation, without_flags, round, rebalance_result, IsSound};
 ghost use Rattle.group_laws.specs.Passes.{after_turn, after_pass, is_settled_and_synced};
 ghost use Rattle.group_laws.specs.Others.{IsAcceptedJoin, IsAcceptedRejoin, IsAcceptedTakeOver, IsTakenOver, IsNewcomer, LeavesOthers, LeavesRejoined, LeavesSynced};
 
@@ -92,7 +92,7 @@ pub fn take_over_preserves_result()
     ensures settled { (g : GroupState) (name : List ℕ) → is_settled g ≡ true
         → rebalance_result (taken_over_by g name) ≡ taken_over_by (rebalance_result g) name }
     ensures generation { (g : GroupState) (name : List ℕ) → IsAcceptedTakeOver g name
-        → (rebalance_result (taken_over_by g name)).generation ≡ (rebalance_result g).generation }
+        → final_generation (taken_over_by g name) ≡ final_generation g }
 {}
 
 /// An accepted rejoin leaves all other members.
@@ -145,8 +145,8 @@ pub fn leave_result_ignores_flags()
 
 /// A rebalance never lowers the generation, and adds at most two.
 pub fn rebalance_adds_at_most_two_generations()
-    ensures sorted { (g : GroupState) → g.generation ≤ (rebalance_result g).generation }
-    ensures bound { (g : GroupState) → (rebalance_result g).generation ≤ g.generation + 2 }
+    ensures sorted { (g : GroupState) → g.generation ≤ final_generation g }
+    ensures bound { (g : GroupState) → final_generation g ≤ g.generation + 2 }
 {}
 
 /// A rebalance changes neither who is present nor any name.

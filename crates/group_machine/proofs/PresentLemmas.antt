@@ -3,8 +3,10 @@ use Rattle.std.proofs.Common.{ℕ, zero, suc, ◌≡◌, ◌+◌, ◌<◌, ◌�
 use Rattle.std.proofs.lemmas.Bool.{false≢true}
 use Rattle.std.specs.List.{list_any, list_all}
 use Rattle.std.specs.Option.{option_map}
+use Rattle.std.specs.List.Sorted.{IsStrictlyIncreasing}
 use Rattle.bit_planes.specs.PartitionSet.{PartitionSet}
-use Rattle.bit_planes.specs.SetRows.{find_row, IsRising}
+use Rattle.bit_planes.specs.SetRows.{find_row}
+use Rattle.bit_planes.proofs.RowLaws.{rising_first, rising_from, rising_more, rising_rest}
 use Rattle.group_machine.specs.declared.group.Slot.{Slot}
 use Rattle.group_machine.specs.declared.group.Seat.{Seat}
 use Rattle.group_machine.specs.Slots.{seat_in, seat_of, and_member, present_from, present, reseated_from, each_changed}
@@ -24,19 +26,13 @@ rises_at m [] i up lt = absurd (omega arith)
 rises_at m (x ∷ xs) zero up lt = up.0
 rises_at m (x ∷ xs) (suc i) up lt = omega (arith, up.0, rises_at (suc x) xs i up.1 (omega arith))
 
-pub rising : (m : ℕ) (xs : List ℕ) → RisesFrom m xs → IsRising xs
-rising m [] up i j lt within = absurd (omega arith)
-rising m (x ∷ xs) up zero zero lt within = absurd (omega arith)
-rising m (x ∷ xs) up zero (suc j) lt within = omega (arith, rises_at (suc x) xs j up.1 (omega arith))
-rising m (x ∷ xs) up (suc i) zero lt within = absurd (omega arith)
-rising m (x ∷ xs) up (suc i) (suc j) lt within = rising (suc x) xs up.1 i j (omega arith) (omega arith)
+pub rising : (m : ℕ) (xs : List ℕ) → RisesFrom m xs → IsStrictlyIncreasing xs
+rising m [] up = rising_from [] (λ i j less lt. absurd (omega arith))
+rising m (x ∷ xs) up = rising_more x xs (λ i lt. omega (arith, rises_at (suc x) xs i up.1 lt)) (rising (suc x) xs up.1)
 
-rising_rest : (x : ℕ) (xs : List ℕ) → IsRising (x ∷ xs) → IsRising xs
-rising_rest x xs up i j lt within = up (suc i) (suc j) (omega arith) (omega arith)
-
-pub rises : (m : ℕ) (xs : List ℕ) → ((i : ℕ) → i < length xs → m ≤ get_or xs i 0) → IsRising xs → RisesFrom m xs
+pub rises : (m : ℕ) (xs : List ℕ) → ((i : ℕ) → i < length xs → m ≤ get_or xs i 0) → IsStrictlyIncreasing xs → RisesFrom m xs
 rises m [] above up = tt
-rises m (x ∷ xs) above up = (above 0 (omega arith), rises (suc x) xs (λ i lt. let h : x < get_or xs i 0 = up 0 (suc i) (omega arith) (omega arith) in omega arith) (rising_rest x xs up))
+rises m (x ∷ xs) above up = (above 0 (omega arith), rises (suc x) xs (λ i lt. let h : x < get_or xs i 0 = rising_first x xs up i lt in omega arith) (rising_rest x xs up))
 
 numbers_and : (m : ℕ) (o : Option Seat) (rows : List (ℕ × Seat)) → RisesFrom (suc m) (map (λ r. r.0) rows) → RisesFrom m (map (λ r. r.0) (and_member m o rows))
 numbers_and m None rows up = rises_later m (suc m) (map (λ r. r.0) rows) (omega arith) up

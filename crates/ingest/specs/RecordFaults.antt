@@ -19,14 +19,16 @@ IsKeyFault _ = ⊥
 -- partitions
 abbrev pub records_in_its_partition : List ℕ → List Keyed → Keyed → ℕ
 records_in_its_partition counts records keyed =
-    length (filter (λ other. partition_of_record counts other == partition_of_record counts keyed) records)
+    length (filter (λ other. partition_of_record counts other == partition_of_record counts keyed)
+    records)
 
 -- why a record can't be appended after these, if it can't: its key is too long, or its log or the
 -- table of keys is full
 abbrev pub record_fault : List ℕ → List Keyed → Keyed → Option Refusal
 record_fault counts before keyed =
     if nat_lt LONGEST_KEY (length keyed.1) then Some r.KeyTooLong
-    else if exceeds_limits (distinct (keys_in before)) (records_in_its_partition counts before keyed) keyed.1
+    else if exceeds_limits (distinct (keys_in before))
+    (records_in_its_partition counts before keyed) keyed.1
     then Some r.LogFull
     else None
 

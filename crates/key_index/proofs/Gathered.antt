@@ -4,8 +4,9 @@ use Rattle.std.specs.Prelude.{IfOk, Result}
 use Rattle.std.proofs.lemmas.Bool.{cases_lt}
 use Rattle.std.proofs.lemmas.List.{get_or-map, get_or_append_left, get_or-append_right, length-map}
 use Rattle.std.proofs.Math.Seq.{get_or-append_seam}
+use Rattle.parallel.specs.Results.{AreResults}
 use Rattle.key_index.specs.Keys.{Key, distinct, id_of}
-use Rattle.key_index.specs.Private.Sharded.{AreLocalIds, AreInternedFrom, AreInternedIn, AreTables, of_shard}
+use Rattle.key_index.specs.Private.Sharded.{AreLocalIds, AreInternedFrom, AreTables, IsInternedGroup, IsInternedShard, of_shard}
 use Rattle.key_index.specs.declared.interning.InternedShard.{InternedShard}
 use Rattle.key_index.specs.declared.shards.TheConstants.{SHARDS_PER_GROUP, SHARDS}
 
@@ -47,7 +48,7 @@ local_ids-more shard keys local_ids n m more up h is =
 numbered-joined : {E : Type 0} (shard : Key → ℕ) (keys : List Key) (from m n : ℕ) (front back : List (Result InternedShard E)) → length front ≡ m → AreInternedFrom shard keys from m front
     → AreInternedFrom shard keys (from + m) n back → AreInternedFrom shard keys from (m + n) (front ++ back)
 numbered-joined {E} shard keys from m n front back long a b = λ k d lt.
-    let IsShard : ℕ → Result InternedShard E → Type 0 = λ s one. IfOk one (λ x. AreInternedIn shard s keys x.table x.local_ids.items) in
+    let IsShard : ℕ → Result InternedShard E → Type 0 = λ s one. IfOk one (IsInternedShard shard keys s) in
     elim (cases_lt k m) [
       | inl low ↦ subst (IsShard (from + k)) (sym (get_or_append_left front back d k (omega (arith, low, long)))) (a k d low)
       | inr high ↦
@@ -56,9 +57,9 @@ numbered-joined {E} shard keys from m n front back long a b = λ k d lt.
     ]
 
 pub numbered-more : {E : Type 0} (shard : Key → ℕ) (keys : List Key) (from n : ℕ) (found : List (Result InternedShard E)) (one : Result InternedShard E) → length found ≡ n → AreInternedFrom shard keys from n found
-    → IfOk one (λ x. AreInternedIn shard (from + n) keys x.table x.local_ids.items) → AreInternedFrom shard keys from (n + 1) (found ++ one ∷ [])
+    → IfOk one (IsInternedShard shard keys (from + n)) → AreInternedFrom shard keys from (n + 1) (found ++ one ∷ [])
 numbered-more {E} shard keys from n found one long before own = λ k d lt.
-    let IsShard : ℕ → Result InternedShard E → Type 0 = λ s r. IfOk r (λ x. AreInternedIn shard s keys x.table x.local_ids.items) in
+    let IsShard : ℕ → Result InternedShard E → Type 0 = λ s r. IfOk r (IsInternedShard shard keys s) in
     elim (cases_lt k n) [
       | inl low ↦ subst (IsShard (from + k)) (sym (get_or_append_left found (one ∷ []) d k (omega (arith, low, long)))) (before k d low)
       | inr high ↦
@@ -84,12 +85,12 @@ groups-numbered {E} shard keys from (x ∷ xs) h =
     )
 
 pub all-groups : {E F : Type 0} (shard : Key → ℕ) (keys : List Key) (found : List (Result (Vec (Result InternedShard E) Global) F)) (groups : List (Vec (Result InternedShard E) Global)) → found ≡ map Ok groups → length found ≡ 8
-    → ((g : ℕ) (d : Result (Vec (Result InternedShard E) Global) F) → g < 8 → IfOk (get_or found g d) (λ group. (length group.items ≡ SHARDS_PER_GROUP) × AreInternedFrom shard keys (g * SHARDS_PER_GROUP) SHARDS_PER_GROUP group.items))
+    → AreResults (IsInternedGroup shard keys) 8 found
     → (length (flat_map vec_items groups) ≡ SHARDS) × AreInternedFrom shard keys 0 SHARDS (flat_map vec_items groups)
 all-groups {E} {F} shard keys found groups is long h =
     let eight : length groups ≡ 8 = sym (length-map {B = Result (Vec (Result InternedShard E) Global) F} groups Ok) ∙ ap length (sym is) ∙ long in
     let whole = groups-numbered shard keys 0 groups (λ g d lt.
-    let own = subst (λ r. IfOk r (λ group. (length group.items ≡ SHARDS_PER_GROUP) × AreInternedFrom shard keys (g * SHARDS_PER_GROUP) SHARDS_PER_GROUP group.items)) (ap (λ xs. get_or xs g (Ok d)) is ∙ get_or-map Ok groups g d (Ok d) lt) (h g (Ok d) (omega (arith, lt, eight))) in
+    let own = subst (λ r. IfOk r (IsInternedGroup shard keys g)) (ap (λ xs. get_or xs g (Ok d)) is ∙ get_or-map Ok groups g d (Ok d) lt) (h g (Ok d) (omega (arith, lt, eight))) in
     let at : g * SHARDS_PER_GROUP ≡ 0 + g * SHARDS_PER_GROUP = omega arith in (own.0, subst (λ s. AreInternedFrom shard keys s SHARDS_PER_GROUP (get_or groups g d).items) at own.1)) in
     let many : length groups * SHARDS_PER_GROUP ≡ SHARDS = omega (arith, eight) in
     (whole.0 ∙ many, subst (λ n. AreInternedFrom shard keys 0 n (flat_map vec_items groups)) many whole.1)

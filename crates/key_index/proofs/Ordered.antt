@@ -5,7 +5,7 @@ use Rattle.std.proofs.lemmas.Bool.{cases_Bool, eq-eqb, ne_eqb, both_ways}
 use Rattle.std.proofs.lemmas.List.{length-map, map-append, take-append-drop, drop_more, take_more}
 use Rattle.std.proofs.lemmas.List.Elements.{All-append, All-cons, All-nil}
 use Rattle.key_index.specs.Keys.{Key, distinct, is_interned, key_at, id_of}
-use Rattle.key_index.specs.Private.Sharded.{AreOrdered, is_first, next_after, of_shard, with_first_at}
+use Rattle.key_index.specs.Private.Sharded.{AreOrdered, is_first, next_after, of_shard, order_after}
 use Rattle.key_index.specs.declared.shards.KeyLocation.{KeyLocation}
 use Rattle.key_index.proofs.Growth.{interned}
 use Rattle.key_index.proofs.Filtered.{filter-distinct, interned-filter}
@@ -42,7 +42,7 @@ ordered-new shard all xs ys x count local_id order is lt at e h =
 
 ordered-one : (shard : Key → ℕ) (all xs ys : List Key) (x : Key) (ids : List (List ℕ)) (next local_id count : ℕ) (order : List KeyLocation) → all ≡ xs ++ x ∷ ys → shard x < length ids → shard x < count
     → local_id ≡ id_of (distinct (of_shard shard (shard x) all)) x → AreAssigned shard all xs ids next → AreOrdered shard all (distinct xs) count order
-    → AreOrdered shard all (distinct (xs ++ x ∷ [])) count (with_first_at order (get_or ids (shard x) []) (shard x) local_id)
+    → AreOrdered shard all (distinct (xs ++ x ∷ [])) count (order_after order ids (shard x) local_id)
 ordered-one shard all xs ys x ids next local_id count order is lt below at w h =
     let old = get_or ids (shard x) [] in
     let long : length old ≡ length (distinct (of_shard shard (shard x) xs)) =
@@ -60,21 +60,21 @@ ordered-one shard all xs ys x ids next local_id count order is lt below at w h =
 
 pub ordered-more : (shard : Key → ℕ) (keys : List Key) (i s local_id : ℕ) (ids : List (List ℕ)) (next count : ℕ) (order : List KeyLocation) → i < length keys → s ≡ shard (get_or keys i [])
     → s < length ids → s < count → local_id ≡ id_of (distinct (of_shard shard s keys)) (get_or keys i []) → AreAssigned shard keys (take i keys) ids next → AreOrdered shard keys (distinct (take i keys)) count order
-    → AreOrdered shard keys (distinct (take (i + 1) keys)) count (with_first_at order (get_or ids s []) s local_id)
+    → AreOrdered shard keys (distinct (take (i + 1) keys)) count (order_after order ids s local_id)
 ordered-more shard keys i s local_id ids next count order lt at below within is w h =
     let x = get_or keys i [] in
     let seam : keys ≡ take i keys ++ x ∷ drop (i + 1) keys = sym (take-append-drop i keys) ∙ ap (λ ks. take i keys ++ ks) (drop_more keys i [] lt) in
     let below_x : shard x < length ids = subst (λ t. t < length ids) at below in
     let within_x : shard x < count = subst (λ t. t < count) at within in
     let is_x : local_id ≡ id_of (distinct (of_shard shard (shard x) keys)) x = is ∙ ap (λ t. id_of (distinct (of_shard shard t keys)) x) at in
-    subst (λ t. AreOrdered shard keys (distinct (take (i + 1) keys)) count (with_first_at order (get_or ids t []) t local_id)) (sym at)
-    (subst (λ xs. AreOrdered shard keys (distinct xs) count (with_first_at order (get_or ids (shard x) []) (shard x) local_id)) (sym (take_more keys i [] lt))
+    subst (λ t. AreOrdered shard keys (distinct (take (i + 1) keys)) count (order_after order ids t local_id)) (sym at)
+    (subst (λ xs. AreOrdered shard keys (distinct xs) count (order_after order ids (shard x) local_id)) (sym (take_more keys i [] lt))
     (ordered-one shard keys (take i keys) (drop (i + 1) keys) x ids next local_id count order seam below_x within_x is_x w h))
 
 -- there are as many locations as key numbers
-pub next-ordered : (order : List KeyLocation) (ids : List ℕ) (s local_id : ℕ) → length (with_first_at order ids s local_id) ≡ next_after ids local_id (length order)
+pub next-ordered : (order : List KeyLocation) (ids : List (List ℕ)) (s local_id : ℕ) → length (order_after order ids s local_id) ≡ next_after (get_or ids s []) local_id (length order)
 next-ordered order ids s local_id =
-    elim (cases_Bool (is_first ids local_id)) [
+    elim (cases_Bool (is_first (get_or ids s []) local_id)) [
       | inl e ↦ rw e (length-append order ((record { shard = s; number = local_id }) ∷ []))
       | inr e ↦ rw e refl
     ]

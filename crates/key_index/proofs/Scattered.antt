@@ -12,7 +12,7 @@ use Rattle.std.proofs.lemmas.List.Sums.{fold-append}
 use Rattle.key_index.specs.Keys.{Key, distinct, id_of, lent, lent_lists, with_key}
 use Rattle.lane_words.specs.declared.Memory.{Memory}
 use Rattle.key_index.specs.declared.scattering.Scattered.{Scattered}
-use Rattle.key_index.specs.Private.Sharded.{AreScattered, AreRows, IsScattered, of_shard, start_of, with_keys}
+use Rattle.key_index.specs.Private.Sharded.{AreScattered, AreScatteredResults, AreRows, IsScattered, of_shard, start_of, with_keys}
 use Rattle.key_index.proofs.Firsts.{own, stays}
 use Rattle.key_index.proofs.ShardRecords.{IsInternedUpTo, few-distinct, few-filtered, shard-other, shard-own}
 
@@ -95,7 +95,7 @@ row-capacity shard s keys xs ys zs table local_ids seam so =
     omega (arith, ap length so.keys_of, few-distinct (of_shard shard s xs), few-filtered p xs, few-filtered p ys, ap length seam, length-append (xs ++ ys) zs, length-append xs ys)
 
 pub found-scattered : (shard : Key → ℕ) (lists : List (Bor (List (Bor Key)))) (found : List (Result Scattered Memory)) (scattered : List Scattered) → found ≡ map Ok scattered → length found ≡ length lists
-    → ((i : ℕ) (d : Result Scattered Memory) (e : Bor (List (Bor Key))) → i < length lists → IfOk (get_or found i d) (IsScattered shard (lent (get_or lists i e).now))) → AreScattered shard lists scattered
+    → AreScatteredResults shard lists found → AreScattered shard lists scattered
 found-scattered shard lists found scattered is as_many each =
     let long : length scattered ≡ length lists = sym (length-map scattered Ok) ∙ ap length (sym is) ∙ as_many in record {
       as_many = long;

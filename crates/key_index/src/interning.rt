@@ -1,8 +1,9 @@
 //! Keys interned shard by shard, in parallel.
 
-ghost use Rattle.std.specs.Prelude.{◌≡◌, ◌≤◌, ◌<◌, ◌+◌, ◌*◌, ◌++◌, ℕ, [], List, IfOk, OnOk, flat_map, length, map, replicate, slice_index_or, slice_set, vec_items, vec_len};
+ghost use Rattle.std.specs.Prelude.{◌≡◌, ◌≤◌, ◌<◌, ◌+◌, ◌++◌, [], IfOk, OnOk, flat_map, length, map, replicate, vec_items, vec_len};
+ghost use Rattle.parallel.specs.Results.{AreResults};
 ghost use Rattle.key_index.specs.Keys.{distinct, id_of, lent_lists};
-ghost use Rattle.key_index.specs.Private.Sharded.{AreScattered, AreFrom, AreGlobal, AreLocalIds, AreInternedFrom, AreInternedIn, AreOrdered, AreSeenCounts, AreReadable, AreTables, is_first, keys_in, local_ids_in, shard_by, shard_of, with_first, with_first_at, with_keys};
+ghost use Rattle.key_index.specs.Private.Sharded.{AreAssignable, AreScattered, AreFrom, AreGlobal, AreLocalIds, AreInternedInGroup, AreOrdered, AreSeenCounts, AreTables, HaveReadableIds, IsAssignment, IsInternedGroup, IsInternedShard, ids_after, is_first, keys_in, local_ids_in, order_after, shard_by, shard_of, with_first, with_keys};
 
 use crate::key_hash::KeyHash;
 use crate::key_map::KeyMap;
@@ -114,8 +115,7 @@ fn intern_shard(
     requires bound { length (lent_lists lists.now) ≤ MOST_RECORDS }
     requires shard { shard < SHARDS }
     requires scattered { AreScattered (shard_of hasher) lists.now scattered.now }
-    ensures { IfOk result (λ n.
-        AreInternedIn (shard_of hasher) shard (lent_lists lists.now) n.table n.local_ids.items) }
+    ensures { IfOk result (IsInternedShard (shard_of hasher) (lent_lists lists.now) shard) }
 {
     let mut table = KeyMap::hashed_by(alloc, hasher);
     table.reserve(capacity)?;
@@ -141,8 +141,7 @@ fn intern_group(
     requires scattered { AreScattered (shard_of hasher) lists.now scattered.now }
     ensures len { IfOk result (λ found. length found.items ≡ SHARDS_PER_GROUP) }
     ensures found { IfOk result (λ found.
-        AreInternedFrom (shard_of hasher) (lent_lists lists.now) (group * SHARDS_PER_GROUP) SHARDS_PER_GROUP
-        found.items) }
+        AreInternedInGroup (shard_of hasher) (lent_lists lists.now) group found.items) }
 {
     let from = group as u8 * SHARDS_PER_GROUP;
     let mut found = Vec::with_capacity(alloc, SHARDS_PER_GROUP as usize)?;
@@ -164,10 +163,8 @@ fn intern_groups<R: Threads + Sync>(
     requires bound { length (lent_lists lists.now) ≤ MOST_RECORDS }
     requires scattered { AreScattered (shard_of hasher) lists.now scattered.now }
     ensures len { IfOk result (λ groups. vec_len groups ≡ GROUPS) }
-    ensures found { IfOk result (λ groups. (g : ℕ) (d : _) → g < GROUPS
-        → IfOk (slice_index_or groups.items g d) (λ found. (length found.items ≡ SHARDS_PER_GROUP)
-        × AreInternedFrom (shard_of hasher) (lent_lists lists.now) (g * SHARDS_PER_GROUP) SHARDS_PER_GROUP
-        found.items)) }
+    ensures found { IfOk result (λ groups. AreResults
+        (IsInternedGroup (shard_of hasher) (lent_lists lists.now)) GROUPS groups.items) }
 {
     let groups = thread::map_indices(
         rt,
@@ -205,9 +202,8 @@ fn intern_shards<R: Threads + Sync>(
     requires bound { length (lent_lists lists.now) ≤ MOST_RECORDS }
     requires scattered { AreScattered (shard_of hasher) lists.now scattered.now }
     ensures len { IfOk result (λ found. vec_len found ≡ SHARDS) }
-    ensures found { IfOk result (λ found. (s : ℕ) (d : _) → s < SHARDS
-        → IfOk (slice_index_or found.items s d)
-        (λ n. AreInternedIn (shard_of hasher) s (lent_lists lists.now) n.table n.local_ids.items)) }
+    ensures found { IfOk result (λ found. AreResults
+        (IsInternedShard (shard_of hasher) (lent_lists lists.now)) SHARDS found.items) }
 {
     // Slightly more than the average shard gets.
     let each = capacity / (SHARDS as usize - 1);
@@ -222,8 +218,8 @@ fn tables_of(
     lists: &[&[&[u8]]],
     found: Vec<Result<InternedShard, Memory>>,
 ) -> Result<(Vec<KeyMap>, Vec<Vec<u32>>), Memory>
-    requires found { (s : ℕ) (d : _) → s < vec_len found → IfOk (slice_index_or found.items s d)
-        (λ n. AreInternedIn (shard_of hasher) s (lent_lists lists.now) n.table n.local_ids.items) }
+    requires found { AreResults (IsInternedShard (shard_of hasher) (lent_lists lists.now))
+        (vec_len found) found.items }
     ensures tables { IfOk result (λ r.
         AreTables (shard_of hasher) (vec_len found) (lent_lists lists.now) r.0.items) }
     ensures local_ids { IfOk result (λ r.
@@ -249,11 +245,10 @@ fn assign_id(
 ) -> Result<(), Memory>
     requires shard { shard < vec_len ids.old }
     requires capacity { vec_len order.old < MOST_RECORDS }
-    ensures ids { let old = slice_index_or (map vec_items ids.old.items) shard [] in
-        OnOk result (map vec_items ids.new.items ≡ slice_set (map vec_items ids.old.items) shard
-        (with_first old local_id (vec_len order.old))) }
-    ensures order { let old = slice_index_or (map vec_items ids.old.items) shard [] in
-        OnOk result (order.new.items ≡ with_first_at order.old.items old shard local_id) }
+    ensures ids { OnOk result (map vec_items ids.new.items
+        ≡ ids_after (map vec_items ids.old.items) shard local_id (vec_len order.old)) }
+    ensures order { OnOk result (order.new.items
+        ≡ order_after order.old.items (map vec_items ids.old.items) shard local_id) }
 {
     let next = order.len() as u32;
     let of_shard = &mut ids[shard as usize];
@@ -325,8 +320,8 @@ fn assign_in_order(
     Ok((ids, order))
 }
 
-/// Runs `assign_in_order` while another thread drops the scattered keys, allocates a number for each record,
-/// and runs `overlapped`.
+/// Runs `assign_in_order` while another thread drops the scattered keys, allocates a number for
+/// each record, and runs `overlapped`.
 fn assign_global_ids<R: Threads + Sync, T: Send, F: FnOnce() -> T + Send>(
     rt: &R,
     alloc: Global,
@@ -368,15 +363,9 @@ fn assign_global_ids<R: Threads + Sync, T: Send, F: FnOnce() -> T + Send>(
                 × F.post overlapped result.1 }
         { (zeros_after(alloc, scattered, len), overlapped()) },
         || -> Result<(Vec<Vec<u32>>, Vec<KeyLocation>), Memory>
-            requires { (length (lent_lists lists.now) ≤ MOST_RECORDS)
-                × (shards.now ≡ map (shard_of hasher) (lent_lists lists.now))
-                × (length tables.now ≡ SHARDS)
-                × AreLocalIds (shard_of hasher) SHARDS (lent_lists lists.now)
-                (map vec_items local_ids.now) }
-            ensures { IfOk result (λ w. (vec_len w.0 ≡ SHARDS)
-                × AreGlobal (shard_of hasher) (lent_lists lists.entry.now) (map vec_items w.0.items)
-                × AreOrdered (shard_of hasher) (lent_lists lists.entry.now)
-                (distinct (lent_lists lists.entry.now)) SHARDS w.1.items) }
+            requires { AreAssignable (shard_of hasher) (lent_lists lists.now) shards.now
+                (map vec_items local_ids.now) tables.now }
+            ensures { IfOk result (IsAssignment (shard_of hasher) (lent_lists lists.entry.now)) }
         {
             let records = ShardedRecords {
                 hasher,
@@ -432,8 +421,7 @@ fn read_slices<R: Threads + Sync>(
     numbers: &mut [u32],
 )
     requires len { length numbers.old ≡ length (keys_in records.now) }
-    requires valid { AreReadable (shard_by records.now) (keys_in records.now)
-        records.now.shards.now (local_ids_in records.now) (map vec_items ids.now) }
+    requires valid { HaveReadableIds records.now (map vec_items ids.now) }
     ensures { numbers.new ≡ map (id_of (distinct (keys_in records.now))) (keys_in records.now) }
 {
     thread::for_each_chunk_mut(
@@ -442,8 +430,7 @@ fn read_slices<R: Threads + Sync>(
         records.shards.len() / SLICES + 1,
         &|from: usize, slice: &mut [u32]|
             requires { (from + length slice.now ≤ length (keys_in records.now))
-                × AreReadable (shard_by records.now) (keys_in records.now) records.now.shards.now
-                (local_ids_in records.now) (map vec_items ids.now) }
+                × HaveReadableIds records.now (map vec_items ids.now) }
             ensures { AreFrom (id_of (distinct (keys_in records.entry.now)))
                 (keys_in records.entry.now) from (length slice.entry.now) slice.exit.now }
         { read_numbers(from, records, ids, slice) },
@@ -453,8 +440,7 @@ fn read_slices<R: Threads + Sync>(
 /// Fills in the key numbers of the records from this index on.
 fn read_numbers(from: usize, records: &ShardedRecords<'_>, ids: &[Vec<u32>], numbers: &mut [u32])
     requires range { from + length numbers.old ≤ length (keys_in records.now) }
-    requires valid { AreReadable (shard_by records.now) (keys_in records.now)
-        records.now.shards.now (local_ids_in records.now) (map vec_items ids.now) }
+    requires valid { HaveReadableIds records.now (map vec_items ids.now) }
     ensures { AreFrom (id_of (distinct (keys_in records.now))) (keys_in records.now) from
         (length numbers.old) numbers.new }
 {

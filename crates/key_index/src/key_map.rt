@@ -81,7 +81,8 @@ impl KeyMap {
     /// `LONGEST_INLINE` can need memory, and only if it is longer than any sought before.
     pub fn find(&mut self, key: &[u8]) -> Result<Option<u32>, Memory>
         ensures found { IfOk result (λ found. IfSome found (IsIdOf self.old key.now)) }
-        ensures absent { IfOk result (λ found. IfNone found (is_interned self.old key.now ≡ false)) }
+        ensures absent { IfOk result
+            (λ found. IfNone found (is_interned self.old key.now ≡ false)) }
         ensures infallible { length key.now ≤ LONGEST_INLINE → IsOk result }
         ensures same { self.new ≡ self.old }
     {

@@ -76,8 +76,8 @@ impl KeyDictionary {
     /// the dictionary. Fails only if memory runs out. `capacity` is the number of distinct keys for
     /// which it reserves memory up front.
     ///
-    /// While one thread assigns the key numbers, another runs `overlapped`, whose result is returned as
-    /// well.
+    /// While one thread assigns the key numbers, another runs `overlapped`, whose result is
+    /// returned as well.
     pub fn intern_all<R: Threads + Sync, T: Send + Drop, F: FnOnce() -> T + Send + Drop>(
         &self,
         rt: &R,
@@ -147,7 +147,8 @@ impl KeyDictionary {
     /// `LONGEST_INLINE` can need memory, and only if it is longer than any sought before.
     pub fn find(&mut self, key: &[u8]) -> Result<Option<u32>, Memory>
         ensures found { IfOk result (λ found. IfSome found (IsIdOf self.old key.now)) }
-        ensures absent { IfOk result (λ found. IfNone found (is_interned self.old key.now ≡ false)) }
+        ensures absent { IfOk result
+            (λ found. IfNone found (is_interned self.old key.now ≡ false)) }
         ensures infallible { length key.now ≤ LONGEST_INLINE → IsOk result }
         ensures same { self.new ≡ self.old }
     {

@@ -1,8 +1,8 @@
 //! The key index: keys interned as 32-bit key numbers, in the order of their first appearance.
 //!
 //! It promises:
-//! - `KeyDictionary` is a dictionary of distinct keys. Its `intern_all` interns whole lists in parallel,
-//!   shard by shard, with the same result as one record after another.
+//! - `KeyDictionary` is a dictionary of distinct keys. Its `intern_all` interns whole lists in
+//!   parallel, shard by shard, with the same result as one record after another.
 //! - `KeyMap` is the map below it: at most as many distinct keys as there are key numbers.
 //! - `KeyHash` is a keyed hash: multilinear for short keys, SipHash for long ones. No contract of
 //!   another crate depends on it.

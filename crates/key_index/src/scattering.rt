@@ -1,8 +1,8 @@
 //! Keys scattered to their shards, each list in a thread of its own.
 
-ghost use Rattle.std.specs.Prelude.{◌≡◌, ◌<◌, ◌≤◌, ◌+◌, ℕ, [], IfOk, length, map, replicate, slice_index_or, vec_items, vec_len};
+ghost use Rattle.std.specs.Prelude.{◌≡◌, ◌≤◌, ◌+◌, [], IfOk, length, map, replicate, vec_items, vec_len};
 ghost use Rattle.key_index.specs.Keys.{lent, lent_lists};
-ghost use Rattle.key_index.specs.Private.Sharded.{AreScattered, IsScattered, shard_of, start_of};
+ghost use Rattle.key_index.specs.Private.Sharded.{AreScattered, AreScatteredResults, IsScattered, shard_of, start_of};
 
 use crate::key_hash::KeyHash;
 use crate::scattered_key::ScatteredKey;
@@ -60,9 +60,8 @@ fn scatter_parallel<'a, R: Threads + Sync>(
     lists: &'a [&'a [&'a [u8]]],
 ) -> Result<Vec<Result<Scattered<'a>, Memory>>, Memory>
     ensures len { IfOk result (λ found. vec_len found ≡ length lists.now) }
-    ensures found { IfOk result (λ found. (i : ℕ) (d e : _) → i < length lists.now
-        → IfOk (slice_index_or found.items i d)
-        (IsScattered (shard_of hasher) (lent (slice_index_or lists.now i e).now))) }
+    ensures found { IfOk result
+        (λ found. AreScatteredResults (shard_of hasher) lists.now found.items) }
 {
     let found = thread::map_indices(
         rt,

@@ -79,8 +79,8 @@ impl Model for ShardedMap {
     ghost view = { λ k. map (key_at_location k.tables.items) k.order.items };
 
     ghost invariant = { λ k. AreShards (shard_of k.hasher)
-        (map (key_at_location k.tables.items) k.order.items) k.tables.items (map vec_items k.ids.items)
-        k.order.items };
+        (map (key_at_location k.tables.items) k.order.items) k.tables.items
+        (map vec_items k.ids.items) k.order.items };
 }
 
 impl ShardedMap {
@@ -96,8 +96,8 @@ impl ShardedMap {
         }
     }
 
-    /// Interns the keys of these lists, as `KeyDictionary::intern_all` describes it, each group of shards
-    /// in a thread of its own, or by the calling thread if none can be started.
+    /// Interns the keys of these lists, as `KeyDictionary::intern_all` describes it, each group of
+    /// shards in a thread of its own, or by the calling thread if none can be started.
     pub(crate) fn of<R: Threads + Sync, T: Send + Drop, F: FnOnce() -> T + Send + Drop>(
         rt: &R,
         alloc: Global,
@@ -151,7 +151,8 @@ impl ShardedMap {
     /// `LONGEST_INLINE` can need memory, and only if it is longer than any sought before.
     pub(crate) fn find(&mut self, key: &[u8]) -> Result<Option<u32>, Memory>
         ensures found { IfOk result (λ found. IfSome found (IsIdOf self.old key.now)) }
-        ensures absent { IfOk result (λ found. IfNone found (is_interned self.old key.now ≡ false)) }
+        ensures absent { IfOk result
+            (λ found. IfNone found (is_interned self.old key.now ≡ false)) }
         ensures infallible { length key.now ≤ LONGEST_INLINE → IsOk result }
         ensures same { self.new ≡ self.old }
     {

@@ -1,7 +1,7 @@
 //! Blocks of eight consecutive key numbers, and how often a list has each of their numbers.
 
 ghost use Rattle.std.specs.Prelude.{◌≡◌, ◌+◌, ◌*◌, ◌<◌, ◌≤◌, ◌^◌, ℕ, List, IfOk, OnOk, false, true, length, slice_index_or};
-ghost use Rattle.keyed_table.specs.Private.Blocks.{AreBlocksBelow, AreBlocksOf, AreTallies, AreWithin};
+ghost use Rattle.keyed_table.specs.Private.Blocks.{AreBlocksOf, AreTallies, AreWithin, HasBlocksBelow};
 
 use lane_words::Memory;
 use std::alloc::Global;
@@ -44,10 +44,8 @@ impl Blocks {
     fn take(&mut self, tallies: &[u64], block: usize) -> Result<(), Memory>
         requires bound { 8 * block + 8 ≤ length tallies.now }
         requires range { block < 2 ^ 32 }
-        ensures { OnOk result ((ids : List ℕ)
-            → AreTallies ids tallies.now
-            → AreBlocksBelow block ids self.old.numbers.items self.old.counts.items
-            → AreBlocksBelow (block + 1) ids self.new.numbers.items self.new.counts.items) }
+        ensures { OnOk result ((ids : List ℕ) → AreTallies ids tallies.now
+            → HasBlocksBelow block ids self.old → HasBlocksBelow (block + 1) ids self.new) }
     {
         let counts = &tallies[BLOCK * block..BLOCK * block + BLOCK];
         if are_zeros(counts) {

@@ -3,7 +3,7 @@
 //! It promises:
 //! - `collected` turns a list of results into the list of their values, in order. It fails where
 //!   one of them, or the new list, ran out of memory.
-//! - `drop_each` drops every item, and changes nothing else.
+//! - `drop_each` drops every item, which no contract can say.
 //! - The thresholds (`LEAST_KEYS`, `LEAST_BYTES`, `LEAST_DROPS`) decide how long a call takes,
 //!   never what it returns: below them, starting threads takes longer than the work itself.
 //!
@@ -40,6 +40,9 @@ pub fn collected<T: Drop>(alloc: Global, results: Vec<Result<T, Memory>>) -> Res
 }
 
 /// Drops each item on a thread of its own.
+///
+/// It has no contract. A clause speaks of values: the items are gone when it returns, and that
+/// their memory was freed is no value. A body that leaks them would be proved as well.
 pub fn drop_each<R: Threads + Sync, T: Send + Drop>(rt: &R, items: Vec<T>) {
     // If the list of results cannot be allocated, the items that are left are dropped here.
     let _ = thread::map_vec(rt, items, &|item: T| drop(item));

@@ -1,14 +1,15 @@
 -- The assigned rows under their members' numbers.
 use Rattle.std.proofs.Common.{ℕ, suc, ◌≡◌, ◌<◌, ◌≤◌, ◌==◌, true, false, List, [], ◌∷◌, length, map, get_or, cond, refl, ap, sym, ◌∙◌, subst, arith}
 use Rattle.std.specs.Prelude.{Some}
+use Rattle.std.specs.List.Sorted.{IsStrictlyIncreasing}
 use Rattle.bit_planes.specs.PartitionSet.{PartitionSet, partitions_of}
-use Rattle.bit_planes.specs.SetRows.{SetRows, members, find_row, set_or_empty, sets_of, IsRising, AreOver, IsValidRows}
+use Rattle.bit_planes.specs.SetRows.{SetRows, members, find_row, set_or_empty, sets_of, AreOver, IsValidRows}
 use Rattle.bit_planes.proofs.Sets.{partitions_empty}
 use Rattle.sticky_assignor.specs.Balanced.{AreDisjoint, AreBelow, IsBalanced}
 use Rattle.sticky_assignor.specs.Private.Filling.{quotas, quotas_by, sizes, retaining, free_of, gaps, filled}
 use Rattle.sticky_assignor.specs.Retained.{retained, RetainsMost}
 use Rattle.sticky_assignor.specs.Target.{target}
-use Rattle.bit_planes.proofs.RowLaws.{rising_rest}
+use Rattle.bit_planes.proofs.RowLaws.{rising_first, rising_rest}
 use Rattle.sticky_assignor.proofs.Rows.{eq_self, not_eq}
 use Rattle.sticky_assignor.proofs.TargetLaws.{is_balanced, retains_most}
 use Rattle.sticky_assignor.proofs.Ranks.{filling_is_target, length_quotas}
@@ -25,14 +26,14 @@ map_same : (f g : ℕ → PartitionSet) (ms : List ℕ) → ((i : ℕ) → i < l
 map_same f g [] same = refl
 map_same f g (m ∷ ms) same = rw (same 0 (omega arith)) (ap (λ ss. g m ∷ ss) (map_same f g ms (λ i lt. same (suc i) (omega arith))))
 
-pub sets_paired : (p : ℕ) (ms : List ℕ) (rows : List PartitionSet) → length rows ≡ length ms → IsRising ms → map (λ m. set_or_empty p (find_row (pair_up ms rows) m)) ms ≡ rows
+pub sets_paired : (p : ℕ) (ms : List ℕ) (rows : List PartitionSet) → length rows ≡ length ms → IsStrictlyIncreasing ms → map (λ m. set_or_empty p (find_row (pair_up ms rows) m)) ms ≡ rows
 sets_paired p [] [] len rising = refl
 sets_paired p [] (row ∷ rows) len rising = absurd (omega arith)
 sets_paired p (m ∷ ms) [] len rising = absurd (omega arith)
 sets_paired p (m ∷ ms) (row ∷ rows) len rising =
     let first : set_or_empty p (cond (m == m) (Some row) (find_row (pair_up ms rows) m)) ≡ row = rw (eq_self m) refl in
     let later : map (λ n. set_or_empty p (cond (m == n) (Some row) (find_row (pair_up ms rows) n))) ms ≡ map (λ n. set_or_empty p (find_row (pair_up ms rows) n)) ms =
-    map_same (λ n. set_or_empty p (cond (m == n) (Some row) (find_row (pair_up ms rows) n))) (λ n. set_or_empty p (find_row (pair_up ms rows) n)) ms (λ i lt. rw (not_eq m (get_or ms i 0) (rising 0 (suc i) (omega arith) (omega arith))) refl) in
+    map_same (λ n. set_or_empty p (cond (m == n) (Some row) (find_row (pair_up ms rows) n))) (λ n. set_or_empty p (find_row (pair_up ms rows) n)) ms (λ i lt. rw (not_eq m (get_or ms i 0) (rising_first m ms rising i lt)) refl) in
     rw (first, later) (ap (λ ss. row ∷ ss) (sets_paired p ms rows (omega arith) (rising_rest m ms rising)))
 
 pub over_paired : (p : ℕ) (ms : List ℕ) (rows : List PartitionSet) → AreBelow p rows → AreOver p (pair_up ms rows)
@@ -68,17 +69,17 @@ pub members_assigned : (p : ℕ) (ms : List ℕ) (owned : SetRows) → members (
 members_assigned p ms owned =
     ap (λ rows. map (λ row. row.0) rows) (rows_assigned p ms owned) ∙ members_paired ms (target p (sets_of owned ms)) (length_target p (sets_of owned ms) ∙ length_sets owned ms)
 
-pub sets_assigned : (p : ℕ) (ms : List ℕ) (owned : SetRows) → IsRising ms → sets_of (assigned p ms owned) ms ≡ target p (sets_of owned ms)
+pub sets_assigned : (p : ℕ) (ms : List ℕ) (owned : SetRows) → IsStrictlyIncreasing ms → sets_of (assigned p ms owned) ms ≡ target p (sets_of owned ms)
 unfolding assigned
 sets_assigned p ms owned rising =
     sets_paired p ms (target p (sets_of owned ms)) (length_target p (sets_of owned ms) ∙ length_sets owned ms) rising
 
-pub assigned_retained : (ms : List ℕ) (owned : SetRows) → IsValidRows owned → IsRising ms → IsValidRows (assigned owned.partitions ms owned)
+pub assigned_retained : (ms : List ℕ) (owned : SetRows) → IsValidRows owned → IsStrictlyIncreasing ms → IsValidRows (assigned owned.partitions ms owned)
 unfolding assigned
 assigned_retained ms owned retained rising = record {
   some = retained.some;
   few = retained.few;
-  rising = subst IsRising (sym (members_assigned owned.partitions ms owned)) rising;
+  rising = subst IsStrictlyIncreasing (sym (members_assigned owned.partitions ms owned)) rising;
   over = over_paired owned.partitions ms (target owned.partitions (sets_of owned ms)) (target_over owned.partitions (sets_of owned ms) (sets_over owned ms retained));
 }
 
@@ -90,17 +91,17 @@ length_seconds : (rows : List (ℕ × PartitionSet)) → length (map (λ row. ro
 length_seconds [] = refl
 length_seconds (row ∷ rows) = ap (λ n. suc n) (length_seconds rows)
 
-pub sets_all : (r : SetRows) → IsRising (members r) → sets_of r (members r) ≡ map (λ row. row.1) r.rows
+pub sets_all : (r : SetRows) → IsStrictlyIncreasing (members r) → sets_of r (members r) ≡ map (λ row. row.1) r.rows
 sets_all r rising =
     let seconds : List PartitionSet = map (λ row. row.1) r.rows in
     ap (λ rows. map (λ m. set_or_empty r.partitions (find_row rows m)) (members r)) (pairs_are r.rows)
     ∙ sets_paired r.partitions (members r) seconds (length_seconds r.rows) rising
 
-pub paired : (r : SetRows) → IsRising (members r) → r ≡ record { partitions = r.partitions; rows = pair_up (members r) (sets_of r (members r)) }
+pub paired : (r : SetRows) → IsStrictlyIncreasing (members r) → r ≡ record { partitions = r.partitions; rows = pair_up (members r) (sets_of r (members r)) }
 paired r rising =
     ap (λ rows. record { partitions = r.partitions; rows = rows }) (pairs_are r.rows ∙ ap (λ sets. pair_up (members r) sets) (sym (sets_all r rising)))
 
-pub target_paired : (p : ℕ) (ms : List ℕ) (rows : List PartitionSet) → length rows ≡ length ms → IsRising ms → target_rows (record { partitions = p; rows = pair_up ms rows }) ≡ record { partitions = p; rows = pair_up ms (target p rows) }
+pub target_paired : (p : ℕ) (ms : List ℕ) (rows : List PartitionSet) → length rows ≡ length ms → IsStrictlyIncreasing ms → target_rows (record { partitions = p; rows = pair_up ms rows }) ≡ record { partitions = p; rows = pair_up ms (target p rows) }
 unfolding assigned
 target_paired p ms rows len rising =
     ap (λ ns. assigned p ns (record { partitions = p; rows = pair_up ms rows })) (members_paired ms rows len)
@@ -129,13 +130,13 @@ is_assigned p ms owned qs ns ks free rows below eq en ek ef er =
     ∙ ap (λ t. record { partitions = owned.partitions; rows = pair_up ms t }) (filling_is_target owned.partitions sets)
     ∙ ap (λ m. record { partitions = m; rows = pair_up ms (target m sets) }) below
 
-pub balanced_assigned : (p : ℕ) (ms : List ℕ) (owned : SetRows) → owned.partitions ≡ p → IsValidRows owned → 0 < length ms → IsRising ms → AreDisjoint (sets_of owned ms) → IsBalanced p (sets_of (assigned p ms owned) ms)
+pub balanced_assigned : (p : ℕ) (ms : List ℕ) (owned : SetRows) → owned.partitions ≡ p → IsValidRows owned → 0 < length ms → IsStrictlyIncreasing ms → AreDisjoint (sets_of owned ms) → IsBalanced p (sets_of (assigned p ms owned) ms)
 balanced_assigned p ms owned below retained some rising disjoint =
     let over : AreBelow p (sets_of owned ms) = subst (λ n. AreBelow n (sets_of owned ms)) below (sets_over owned ms retained) in
     let many : 0 < length (sets_of owned ms) = omega (arith, length_sets owned ms) in
     subst (IsBalanced p) (sym (sets_assigned p ms owned rising)) (is_balanced p (sets_of owned ms) many over disjoint)
 
-pub most_assigned : (p : ℕ) (ms : List ℕ) (owned : SetRows) → owned.partitions ≡ p → IsValidRows owned → IsRising ms
+pub most_assigned : (p : ℕ) (ms : List ℕ) (owned : SetRows) → owned.partitions ≡ p → IsValidRows owned → IsStrictlyIncreasing ms
     → RetainsMost p (sets_of owned ms) (sets_of (assigned p ms owned) ms)
 most_assigned p ms owned below is rising others len over balanced =
     let mine : AreBelow p (sets_of owned ms) = subst (λ n. AreBelow n (sets_of owned ms)) below (sets_over owned ms is) in

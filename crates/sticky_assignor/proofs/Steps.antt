@@ -1,13 +1,14 @@
 -- The steps of the loops.
 use Rattle.std.proofs.Common.{ℕ, zero, suc, ◌≡◌, ◌+◌, ◌-◌, ◌/◌, ◌%◌, ◌<◌, ◌≤◌, Bool, true, false, ◌&&◌, ◌||◌, not, List, [], ◌∷◌, ◌++◌, length, map, drop, take, get_or, cond, min, append_assoc, refl, ap, sym, ◌∙◌, arith}
 use Rattle.std.specs.Prelude.{nat_lt}
+use Rattle.std.specs.List.Sorted.{IsStrictlyIncreasing}
 use Rattle.std.proofs.lemmas.Bool.{lt-ltb, le-ltb}
 use Rattle.std.proofs.lemmas.Bool.Decides.{nat_tests}
 use Rattle.std.proofs.lemmas.List.Sums.{sum_by-cons}
 use Rattle.bit_planes.specs.PartitionSet.{PartitionSet, partitions_of, is_in, rank, size, full_set, union, minus, lowest}
-use Rattle.bit_planes.specs.SetRows.{SetRows, members, put_row, with_row, set_of, sets_of, IsRising}
+use Rattle.bit_planes.specs.SetRows.{SetRows, members, put_row, with_row, set_of, sets_of}
 use Rattle.bit_planes.proofs.Sets.{same_set, in_union, in_minus, in_lowest, partitions_union, partitions_minus, partitions_lowest, size_lowest, lowest_all}
-use Rattle.bit_planes.proofs.RowLaws.{put_last}
+use Rattle.bit_planes.proofs.RowLaws.{below_later, put_last}
 use Rattle.sticky_assignor.specs.Assigned.{pair_up}
 use Rattle.sticky_assignor.specs.Private.Filling.{one_of, shares, quotas, sizes, heavies_by, shares_by, quotas_by, retaining, free_of, gaps, filled, given_of}
 use Rattle.sticky_assignor.specs.Target.{is_heavy, heavies}
@@ -212,7 +213,7 @@ any_default [] i m d lt e = absurd (omega arith)
 any_default (x ∷ ms) zero m d lt e = e
 any_default (x ∷ ms) (suc i) m d lt e = any_default ms i m d (omega arith) e
 
-pub fill_step : (owned rows new : SetRows) (ms qs : List ℕ) (i m n count gap : ℕ) (free own retained given row next : PartitionSet) → IsRising ms → i < length ms → i < length qs → m ≡ get_or ms i m → n ≡ get_or qs i n
+pub fill_step : (owned rows new : SetRows) (ms qs : List ℕ) (i m n count gap : ℕ) (free own retained given row next : PartitionSet) → IsStrictlyIncreasing ms → i < length ms → i < length qs → m ≡ get_or ms i m → n ≡ get_or qs i n
     → own ≡ set_of owned m → retained ≡ lowest n own → count ≡ size retained → gap ≡ n - count → given ≡ lowest gap free → row ≡ union retained given → next ≡ minus free given → new ≡ with_row rows m row → members rows ≡ take i ms
     → (new.partitions ≡ rows.partitions) × (members new ≡ take (i + 1) ms) × (new.rows ++ filled_from owned next ms qs (i + 1) ≡ rows.rows ++ filled_from owned free ms qs i)
 fill_step owned rows new ms qs i m n count gap free own retained given row next rising lm lq em en eo ek ec eg egiven er enext enew numbers =
@@ -224,7 +225,7 @@ fill_step owned rows new ms qs i m n count gap free own retained given row next 
     let short : length (map (λ row. row.0) rows.rows) ≡ length (take i ms) = ap length numbers in
     let lj : j < i = omega (arith, length_take ms i) in
     let here : get_or (map (λ row. row.0) rows.rows) j 0 ≡ get_or ms j 0 = ap (λ ns. get_or ns j 0) numbers ∙ take_at ms i j lj in
-    let up : get_or ms j 0 < get_or ms i 0 = rising j i lj lm in
+    let up : get_or ms j 0 < get_or ms i 0 = below_later ms rising j i lj lm in
     let mine : m ≡ get_or ms i 0 = any_default ms i m 0 lm em in
     omega arith) in
     let is : new.rows ≡ rows.rows ++ (m, row) ∷ [] = ap (λ x. x.rows) enew ∙ last in

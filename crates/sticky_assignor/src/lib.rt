@@ -7,8 +7,9 @@
 #![tactic(auto)]
 
 ghost use Rattle.std.specs.Prelude.{◌≡◌, ◌<◌, ◌≤◌, length, IfOk, IsSome};
+ghost use Rattle.std.specs.List.Sorted.{IsStrictlyIncreasing};
 ghost use Rattle.bit_planes.specs.PartitionSet.{partitions_of, size, union, minus, lowest};
-ghost use Rattle.bit_planes.specs.SetRows.{IsValidRows, IsRising, members as members_of, row_of, set_of, sets_of};
+ghost use Rattle.bit_planes.specs.SetRows.{IsValidRows, members as members_of, row_of, set_of, sets_of};
 ghost use Rattle.sticky_assignor.specs.Assigned.{assigned, HaveRows};
 ghost use Rattle.sticky_assignor.specs.Balanced.{AreDisjoint, IsBalanced};
 ghost use Rattle.sticky_assignor.specs.Retained.{RetainsMost};
@@ -34,7 +35,7 @@ pub fn assign(
 ) -> Result<PlaneRows, Memory>
     requires partitions { owned.now.partitions ≡ partitions }
     requires nonempty { 0 < length members.now }
-    requires sorted { IsRising members.now }
+    requires sorted { IsStrictlyIncreasing members.now }
     requires rows { HaveRows owned.now members.now }
     requires disjoint { AreDisjoint (sets_of owned.now members.now) }
     ensures value { IfOk result (λ rows. rows ≡ assigned partitions members.now owned.now) }
@@ -166,7 +167,7 @@ fn fill(
     requires partitions { partitions_of all_free ≡ owned.now.partitions }
     requires counts { counts.now ≡ sizes (sets_of owned.now members.now) }
     requires len { length quotas.now ≡ length members.now }
-    requires sorted { IsRising members.now }
+    requires sorted { IsStrictlyIncreasing members.now }
     requires rows { HaveRows owned.now members.now }
     ensures { IfOk result (λ rows. rows ≡ filled_rows all_free quotas.now members.now owned.now) }
 {

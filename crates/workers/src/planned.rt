@@ -2,12 +2,14 @@
 
 ghost use Rattle.std.specs.Prelude.{◌≡◌, ℕ, Ok, Err, IfErr, IfOk, IsTrue, OnErr, OnOk, length, replicate};
 ghost use Rattle.lane_words.specs.Answers.{Answers};
+ghost use Rattle.lane_words.specs.declared.Refusal.TheVariants as refusal;
 ghost use Rattle.commit_store.specs.Commits.{AreEndsCommitted};
 ghost use Rattle.group_machine.specs.State.{opening};
 ghost use Rattle.group_machine.specs.Steps.{rejoin_answer, rejoined_by, synced_by};
 ghost use Rattle.group_machine.specs.Cluster.{IsValidCluster, cluster_commit_answer, cluster_sync_answer, committed_at, committed_by, with_group};
 ghost use Rattle.workers.specs.Plans.{changed_by, number_of};
 ghost use Rattle.workers.specs.Private.Applied.{IsFinished, change_answer};
+ghost use Rattle.workers.specs.Private.Turns.{IsTaskOf};
 ghost use Rattle.workers.specs.Progress.{IsValidProgress, advanced, is_at_rest, is_due, regrouped};
 ghost use Rattle.workers.specs.Runs.{IsRunOf};
 
@@ -174,7 +176,14 @@ pub enum IdleStep {
 
 impl Planned {
     /// Starts a turn of a member's worker: applies the next line of the plan if it is due.
-    pub(crate) fn start_turn(&mut self, member: u32) -> Result<TurnStart, Refusal> {
+    pub(crate) fn start_turn(&mut self, member: u32) -> Result<TurnStart, Refusal>
+        ensures is_advanced { IfOk result (λ start. start.is_advanced ≡ is_due self.old) }
+        ensures task { IfOk result
+            (λ start. IsTaskOf self.new.cluster.group member start.task) }
+        ensures kind { IfErr result (λ why. why ≡ refusal.Memory) }
+        ensures ok { OnOk result (self.new ≡ advanced self.old) }
+        ensures err { OnErr result (self.new ≡ self.old) }
+    {
         let is_advanced = self.advance()?;
         Ok(TurnStart {
             is_advanced,
@@ -184,7 +193,9 @@ impl Planned {
     }
 
     /// What a member's worker does next.
-    fn task(&self, member: u32) -> Task {
+    fn task(&self, member: u32) -> Task
+        ensures { IsTaskOf self.now.cluster.group member result }
+    {
         if self.end.is_some() {
             Task::End
         } else if self.cluster.is_present(member) {

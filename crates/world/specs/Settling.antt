@@ -70,7 +70,8 @@ pass w = for_each (members w.cluster.group) turn w
 -- passes until the group is settled and synced, at most n
 unfoldable pub passes : ℕ → WorldState → Course
 passes zero w =
-    if is_settled_and_synced w.cluster.group then nothing w else answered_at_once (Err r.NotSettled) w
+    if is_settled_and_synced w.cluster.group then nothing w
+    else answered_at_once (Err r.NotSettled) w
 passes (suc n) w =
     if is_settled_and_synced w.cluster.group then nothing w else chain (pass w) (passes n)
 

@@ -38,9 +38,13 @@ pub record AreScriptRows (rows : List Row) : Type 0 where
   pub options : AreOptionRows rows
   pub batch : IsOptionalNumber (first_of (codes "batch") rows) MOST_BATCH
 
--- clap parses by this command as by `app`, and it has no global argument
+-- clap parses by this command as by `app`
+abbrev pub IsReadAs : App → Command → Type 0
+IsReadAs app c = app_of c ≡ app
+
+-- the same, and the command has no global argument
 pub record IsCommand (app : App) (c : Command) : Type 0 where
-  pub read_as : app_of c ≡ app
+  pub read_as : IsReadAs app c
   pub local : (out-Command c).has_globals ≡ false
 
 -- what an error of clap becomes: a request for help or for the version `Help`, any other `Bad`

@@ -1,13 +1,15 @@
 -- Keys interned shard by shard, and their key numbers.
-use Rattle.std.specs.Prelude.{◌≡◌, ◌<◌, ◌≤◌, ◌+◌, ◌*◌, ◌/◌, ◌==◌, ◌%◌, ◌^◌, ℕ, IfOk, List, Result, [], ◌∷◌, ◌++◌, All, Bool, filter, fold, length, map, min, if◌then◌else◌, slice_index_or, take, vec_items}
+use Rattle.std.specs.Prelude.{◌≡◌, ◌<◌, ◌≤◌, ◌+◌, ◌*◌, ◌/◌, ◌==◌, ◌%◌, ◌^◌, ℕ, IfOk, List, Result, [], ◌∷◌, ◌++◌, All, Bool, Vec, filter, fold, length, map, min, if◌then◌else◌, slice_index_or, slice_set, take, vec_items, vec_len}
 use Rattle.lane_words.specs.declared.limits.TheConstants.{MOST_RECORDS}
+use Rattle.parallel.specs.Results.{AreResults}
 use Rattle.std.specs.Borrow.{Bor}
+use Rattle.std.specs.Global.{Global}
 use Rattle.key_index.specs.Keys.{Key, distinct, id_of, key_at, lent, lent_lists, with_key}
 use Rattle.key_index.specs.Private.KeyHash.{hash_of}
 use Rattle.key_index.specs.declared.key_hash.KeyHash.{KeyHash}
 use Rattle.key_index.specs.declared.scattering.TheConstants.{SLICES}
 use Rattle.key_index.specs.declared.scattering.Scattered.{Scattered}
-use Rattle.key_index.specs.declared.shards.TheConstants.{SHARDS}
+use Rattle.key_index.specs.declared.shards.TheConstants.{SHARDS, SHARDS_PER_GROUP}
 use Rattle.key_index.specs.declared.shards.KeyLocation.{KeyLocation}
 use Rattle.key_index.specs.declared.interning.InternedShard.{InternedShard}
 use Rattle.key_index.specs.declared.interning.ShardedRecords.{ShardedRecords}
@@ -40,11 +42,18 @@ pub record IsScattered (shard : Key → ℕ) (keys : List Key) (scattered : Scat
   pub rows : AreRows shard SHARDS keys (rows_in scattered)
 
 -- the keys of each list, scattered to their shards
-pub record AreScattered (shard : Key → ℕ) (lists : List (Bor (List (Bor Key)))) (scattered : List Scattered)
-    : Type 0 where
+pub record AreScattered (shard : Key → ℕ) (lists : List (Bor (List (Bor Key))))
+    (scattered : List Scattered) : Type 0 where
   pub as_many : length scattered ≡ length lists
   pub are : (i : ℕ) (d : Scattered) (e : Bor (List (Bor Key))) → i < length lists
       → IsScattered shard (lent (slice_index_or lists i e).now) (slice_index_or scattered i d)
+
+-- the same of results, each of which may be an error
+abbrev pub AreScatteredResults : {E : Type 0} → (Key → ℕ) → List (Bor (List (Bor Key)))
+    → List (Result Scattered E) → Type 0
+AreScatteredResults {E} shard lists found =
+    (i : ℕ) (d : Result Scattered E) (e : Bor (List (Bor Key))) → i < length lists
+    → IfOk (slice_index_or found i d) (IsScattered shard (lent (slice_index_or lists i e).now))
 
 -- the keys of a shard after more records
 abbrev pub with_keys : List Key → List Key → List Key
@@ -63,27 +72,46 @@ is_first ids local_id = local_id == length ids
 abbrev pub with_first : List ℕ → ℕ → ℕ → List ℕ
 with_first ids local_id next = if is_first ids local_id then ids ++ next ∷ [] else ids
 
--- the locations of the keys after one more record, of this shard
-abbrev pub with_first_at : List KeyLocation → List ℕ → ℕ → ℕ → List KeyLocation
-with_first_at order ids shard local_id =
-    if is_first ids local_id then order ++ (record { shard = shard; number = local_id }) ∷ [] else order
+-- the key numbers of all shards after one more record of shard s
+abbrev pub ids_after : List (List ℕ) → ℕ → ℕ → ℕ → List (List ℕ)
+ids_after ids s local_id next =
+    slice_set ids s (with_first (slice_index_or ids s []) local_id next)
+
+-- the locations of the keys after one more record of shard s
+abbrev pub order_after : List KeyLocation → List (List ℕ) → ℕ → ℕ → List KeyLocation
+order_after order ids s local_id =
+    if is_first (slice_index_or ids s []) local_id
+    then order ++ (record { shard = s; number = local_id }) ∷ []
+    else order
 
 -- the next key number after one more record
 abbrev pub next_after : List ℕ → ℕ → ℕ → ℕ
 next_after ids local_id next = if is_first ids local_id then next + 1 else next
 
--- the keys of a shard, and the numbers there of its records
-abbrev pub AreInternedIn : (Key → ℕ) → ℕ → List Key → List Key → List ℕ → Type 0
-AreInternedIn shard s keys table local_ids =
-    (table ≡ distinct (of_shard shard s keys))
-    × (local_ids ≡ map (id_of (distinct (of_shard shard s keys))) (of_shard shard s keys))
+-- the keys of shard s, and the numbers there of its records
+abbrev pub IsInternedShard : (Key → ℕ) → List Key → ℕ → InternedShard → Type 0
+IsInternedShard shard keys s found =
+    (found.table ≡ distinct (of_shard shard s keys))
+    × (found.local_ids.items
+    ≡ map (id_of (distinct (of_shard shard s keys))) (of_shard shard s keys))
 
--- the shards from one on, interned, if memory was not refused
+-- the shards from one on, interned; each result may be an error
 abbrev pub AreInternedFrom : {E : Type 0} → (Key → ℕ) → List Key → ℕ → ℕ
     → List (Result InternedShard E) → Type 0
-AreInternedFrom {E} shard keys from count found =
-    (k : ℕ) (d : Result InternedShard E) → k < count → IfOk (slice_index_or found k d)
-    (λ n. AreInternedIn shard (from + k) keys n.table n.local_ids.items)
+AreInternedFrom shard keys from count found =
+    AreResults (λ k. IsInternedShard shard keys (from + k)) count found
+
+-- the shards of group g, interned; each result may be an error
+abbrev pub AreInternedInGroup : {E : Type 0} → (Key → ℕ) → List Key → ℕ
+    → List (Result InternedShard E) → Type 0
+AreInternedInGroup shard keys g found =
+    AreInternedFrom shard keys (g * SHARDS_PER_GROUP) SHARDS_PER_GROUP found
+
+-- a result for each shard of group g, interned
+abbrev pub IsInternedGroup : {E : Type 0} → (Key → ℕ) → List Key → ℕ
+    → Vec (Result InternedShard E) Global → Type 0
+IsInternedGroup shard keys g found =
+    (length found.items ≡ SHARDS_PER_GROUP) × AreInternedInGroup shard keys g found.items
 
 -- the keys of each of count shards
 pub record AreTables (shard : Key → ℕ) (count : ℕ) (keys : List Key) (tables : List (List Key))
@@ -129,6 +157,11 @@ pub record AreReadable (shard : Key → ℕ) (keys : List Key) (shards : List �
   pub each : length ids ≡ SHARDS
   pub are : AreGlobal shard keys ids
 
+-- the key numbers of these records can be read from those of the shards
+abbrev pub HaveReadableIds : ShardedRecords → List (List ℕ) → Type 0
+HaveReadableIds records ids =
+    AreReadable (shard_by records) (keys_in records) records.shards.now (local_ids_in records) ids
+
 -- count numbers are those that f gives for the keys from an index on
 abbrev pub AreFrom : (Key → ℕ) → List Key → ℕ → ℕ → List ℕ → Type 0
 AreFrom f keys from count numbers =
@@ -137,10 +170,25 @@ AreFrom f keys from count numbers =
 -- the location of each of these keys, if those of a shard are numbered by their records
 pub record AreOrdered (shard : Key → ℕ) (all keys : List Key) (count : ℕ) (order : List KeyLocation)
     : Type 0 where
-  pub named : map (λ (at : KeyLocation). key_at (distinct (of_shard shard at.shard all)) at.number) order
+  pub named :
+      map (λ (at : KeyLocation). key_at (distinct (of_shard shard at.shard all)) at.number) order
       ≡ keys
   pub there : All (λ (at : KeyLocation). (at.shard < count)
       × (at.number < length (distinct (of_shard shard at.shard all)))) order
+
+-- key numbers can be assigned to records that are interned in their shards
+abbrev pub AreAssignable : (Key → ℕ) → List Key → List ℕ → List (List ℕ) → List (List Key)
+    → Type 0
+AreAssignable shard keys shards local_ids tables =
+    (length keys ≤ MOST_RECORDS) × (shards ≡ map shard keys) × (length tables ≡ SHARDS)
+    × AreLocalIds shard SHARDS keys local_ids
+
+-- the key numbers of each shard, and the location of each key
+abbrev pub IsAssignment : (Key → ℕ) → List Key
+    → Vec (Vec ℕ Global) Global × Vec KeyLocation Global → Type 0
+IsAssignment shard keys assigned =
+    (vec_len assigned.0 ≡ SHARDS) × AreGlobal shard keys (map vec_items assigned.0.items)
+    × AreOrdered shard keys (distinct keys) SHARDS assigned.1.items
 
 -- there is a key at a location
 abbrev pub IsLocated : List (List Key) → KeyLocation → Type 0

@@ -2,6 +2,7 @@
 use Rattle.std.specs.Prelude.{◌≡◌, ◌≢◌, ◌+◌, ◌*◌, ◌/◌, ◌<◌, ℕ, List, length, slice_index_or}
 use Rattle.std.specs.List.Sorted.{IsStrictlyIncreasing}
 use Rattle.keyed_table.specs.Counts.{plain}
+use Rattle.keyed_table.specs.declared.blocks.Blocks.{Blocks}
 
 -- block b has a number of the list
 abbrev pub IsTouched : List ℕ → ℕ → Type 0
@@ -44,3 +45,7 @@ pub record AreBlocksBelow (b : ℕ) (ids blocks counts : List ℕ) : Type 0 wher
   pub touched : (j : ℕ) → j < length blocks → IsTouched ids (slice_index_or blocks j 0)
   pub others : (x : ℕ) → x / 8 < b
       → ((j : ℕ) → j < length blocks → slice_index_or blocks j 0 ≢ x / 8) → plain ids x ≡ 0
+
+-- the same as a value of the code
+abbrev pub HasBlocksBelow : ℕ → List ℕ → Blocks → Type 0
+HasBlocksBelow b ids blocks = AreBlocksBelow b ids blocks.numbers.items blocks.counts.items

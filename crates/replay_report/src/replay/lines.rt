@@ -26,7 +26,8 @@ fn number_named(world: &World, name: &Name) -> u32
 
 /// Applies an event, and returns its refusal if it is refused.
 fn apply_event(world: &mut World, event: Event<'_>) -> Result<(), Refusal>
-    ensures { IsOutcomeOrMemory (outcome_of_event (outcome_of world.old event.entry)) result world.new }
+    ensures { IsOutcomeOrMemory (outcome_of_event (outcome_of world.old event.entry)) result
+        world.new }
 {
     match world.step(event) {
         Reply::Refused(why) => Err(why),

@@ -26,7 +26,8 @@ impl World {
         requires { 1 ≤ batch }
         ensures step { Follows self.old (draining batch self.old) result self.new }
         ensures kind { result ≢ Err refusal.NotSettled }
-        ensures end { OnOk result (without_flags self.new.cluster.group ≡ rebalance_result self.old.cluster.group) }
+        ensures end { OnOk result (without_flags self.new.cluster.group
+            ≡ rebalance_result self.old.cluster.group) }
         ensures settled { OnOk result (is_settled self.new.cluster.group ≡ true) }
         ensures committed { OnOk result (AreEndsCommitted self.new.cluster.store
             self.new.cluster.logs) }

@@ -34,7 +34,8 @@ impl World {
         ensures step { Follows self.old (settling self.old) result self.new }
         ensures kind { result ≢ Err refusal.NotSettled }
         ensures settled { OnOk result (is_settled_and_synced self.new.cluster.group ≡ true) }
-        ensures end { OnOk result (without_flags self.new.cluster.group ≡ rebalance_result self.old.cluster.group) }
+        ensures end { OnOk result (without_flags self.new.cluster.group
+            ≡ rebalance_result self.old.cluster.group) }
         ensures valid { IsValidWorld self.new }
     {
         match self.cluster().phase() {

@@ -2,7 +2,7 @@ use Rattle.std.proofs.Common.{◌≡◌, ◌∙◌, ◌<◌, ◌≤◌, ◌+◌,
 use Rattle.std.specs.Prelude.{slice_set}
 use Rattle.std.proofs.lemmas.List.{get_or-map, get_or_read, length-map, length-replicate, length-set, length-take, take_all}
 use Rattle.key_index.specs.Keys.{distinct, id_of, lent_lists}
-use Rattle.key_index.specs.Private.Sharded.{AreOrdered, next_after, of_shard, shard_of, with_first, with_first_at}
+use Rattle.key_index.specs.Private.Sharded.{AreOrdered, next_after, of_shard, order_after, shard_of, with_first}
 use Rattle.key_index.specs.declared.shards.KeyLocation.{KeyLocation}
 use Rattle.key_index.specs.declared.shards.TheConstants.{SHARDS}
 use Rattle.key_index.proofs.Ordered.{next-ordered, ordered-more, ordered-none}
@@ -111,8 +111,8 @@ loop-i-preserved c =
     let counted : vec_len c.loop-i.order ≡ length order = search rules in
     let filled : map vec_items c.assign_id.new.ids.items ≡ slice_set ids shard (with_first old local_id (length order)) =
     c.in_ok-assign_id.ensures.ids ∙ ap (λ n. slice_set ids shard (with_first old local_id n)) counted in
-    let stands : c.assign_id.new.order.items ≡ with_first_at order old shard local_id = c.in_ok-assign_id.ensures.order in
-    let next : length c.assign_id.new.order.items ≡ next_after old local_id (length order) = ap length stands ∙ next-ordered order old shard local_id in
+    let stands : c.assign_id.new.order.items ≡ order_after order ids shard local_id = c.in_ok-assign_id.ensures.order in
+    let next : length c.assign_id.new.order.items ≡ next_after old local_id (length order) = ap length stands ∙ next-ordered order ids shard local_id in
     record {
       len = sym (length-map c.assign_id.new.ids.items vec_items) ∙ ap length filled ∙ length-set ids shard (with_first old local_id (length order)) ∙ long;
       seen_counts = seen_counts-more (shard_of hasher) SHARDS all i seen shard i_in at within inv.seen_counts;

@@ -1,7 +1,7 @@
 use Rattle.std.proofs.Common.{◌≡◌, ◌+◌, ◌-◌, ◌*◌, ◌∙◌, ◌∷◌, ◌++◌, [], ap, arith, length, length-append, subst, sym}
 use Rattle.std.specs.Prelude.{IfOk}
 use Rattle.key_index.specs.Keys.{lent_lists}
-use Rattle.key_index.specs.Private.Sharded.{AreInternedFrom, AreInternedIn, shard_of}
+use Rattle.key_index.specs.Private.Sharded.{AreInternedFrom, IsInternedShard, shard_of}
 use Rattle.key_index.specs.declared.shards.TheConstants.{SHARDS_PER_GROUP}
 use Rattle.key_index.proofs.Gathered.{numbered-more}
 use Rattle.key_index.proofs.interning.intern_group.Goals as goal
@@ -31,7 +31,7 @@ loop-s-preserved c =
     let n = c.loop-s.s - from in
     let at : c.loop-s.s ≡ from + n = omega (arith, c.loop-s.auto.s) in
     let up : n + 1 ≡ (c.loop-s.s + 1) - from = omega (arith, c.loop-s.auto.s) in
-    let own = subst (λ s. IfOk one (λ x. AreInternedIn shard s keys x.table x.local_ids.items)) at c.intern_shard.ensures in
+    let own = subst (λ s. IfOk one (IsInternedShard shard keys s)) at c.intern_shard.ensures in
     let all = subst (λ m. AreInternedFrom shard keys from m (found ++ one ∷ [])) up (numbered-more shard keys from n found one c.loop-s.invariant.len c.loop-s.invariant.found own) in
     let grown = c.in_ok-push.ensures.items in record {
       len = ap length grown ∙ length-append found (one ∷ []) ∙ ap (λ m. m + 1) c.loop-s.invariant.len ∙ up;

@@ -1,8 +1,9 @@
-use Rattle.std.proofs.Common.{◌≡◌, ◌+◌, ◌<◌, arith, rules, ap, flat_map, get_or, length, subst, sym, vec_items, vec_len}
+use Rattle.std.proofs.Common.{◌≡◌, ◌+◌, arith, rules, ap, flat_map, get_or, length, subst, sym, vec_items, vec_len}
 use Rattle.std.specs.Prelude.{IfOk}
 use Rattle.std.proofs.lemmas.Result.{IfOk-weaker}
+use Rattle.parallel.specs.Results.{AreResults}
 use Rattle.key_index.specs.Keys.{lent_lists}
-use Rattle.key_index.specs.Private.Sharded.{AreInternedIn, shard_of}
+use Rattle.key_index.specs.Private.Sharded.{IsInternedShard, shard_of}
 use Rattle.key_index.specs.declared.shards.TheConstants.{SHARDS}
 use Rattle.key_index.proofs.Gathered.{all-groups}
 use Rattle.key_index.proofs.interning.intern_shards.Goals as goal
@@ -24,8 +25,8 @@ returns-clause-found g c =
     let groups = c.in_ok-collected.field-0.items in
     let counted : vec_len c.in_ok-groups.groups ≡ length c.in_ok-groups.groups.items = search rules in
     let whole = all-groups shard keys c.in_ok-groups.groups.items groups c.in_ok-collected.ensures (omega (arith, counted, c.in_ok-groups.ensures.len)) c.in_ok-groups.ensures.found in
-    IfOk-weaker c.flattened.result (λ all. all.items ≡ flat_map vec_items groups) (λ all. (s : _) (d : _) → s < SHARDS → IfOk (get_or all.items s d) (λ n. AreInternedIn shard s keys n.table n.local_ids.items))
+    IfOk-weaker c.flattened.result (λ all. all.items ≡ flat_map vec_items groups) (λ all. AreResults (IsInternedShard shard keys) SHARDS all.items)
     (λ all are s d lt.
     let at : 0 + s ≡ s = omega arith in
-    subst (λ n. IfOk (get_or all.items s d) (λ one. AreInternedIn shard n keys one.table one.local_ids.items)) at
-    (subst (λ xs. IfOk (get_or xs s d) (λ one. AreInternedIn shard (0 + s) keys one.table one.local_ids.items)) (sym are) (whole.1 s d lt))) c.flattened.ensures
+    subst (λ n. IfOk (get_or all.items s d) (IsInternedShard shard keys n)) at
+    (subst (λ xs. IfOk (get_or xs s d) (IsInternedShard shard keys (0 + s))) (sym are) (whole.1 s d lt))) c.flattened.ensures

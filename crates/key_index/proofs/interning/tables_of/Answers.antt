@@ -1,7 +1,7 @@
 use Rattle.std.proofs.Common.{◌≡◌, ◌+◌, ◌∙◌, ◌∷◌, ◌++◌, [], ℕ, arith, rules, ap, drop, length, length-append, map, subst, sym, vec_items, vec_len}
 use Rattle.std.specs.Vec.Iter.{into_iter_items}
 use Rattle.std.proofs.lemmas.List.{map-append}
-use Rattle.key_index.specs.Private.Sharded.{AreLocalIds, AreInternedIn, AreTables, shard_of}
+use Rattle.key_index.specs.Private.Sharded.{AreLocalIds, AreTables, IsInternedShard, shard_of}
 use Rattle.key_index.specs.Keys.{lent_lists}
 use Rattle.parallel.proofs.Iterated.{drop_last, drop_next}
 use Rattle.key_index.proofs.Gathered.{local_ids-more, local_ids-none, tables-more, tables-none}
@@ -28,7 +28,7 @@ loop-shard-preserved c =
     let steps = c.in-Some.ensures.steps in
     let next = drop_next c.args.found.items (into_iter_items c.next.new.self) n c.in-Some.shard (sym inv.rest ∙ steps.0) in
     let long : length (tables ++ c.in_ok-shard.shard.table ∷ []) ≡ n + 1 = length-append tables (c.in_ok-shard.shard.table ∷ []) in
-    let numbered : AreInternedIn (shard_of c.args.hasher) n keys c.in_ok-shard.shard.table c.in_ok-shard.shard.local_ids.items =
+    let numbered : IsInternedShard (shard_of c.args.hasher) keys n c.in_ok-shard.shard =
     rw (next.1 ∙ c.in_ok-shard.was) at (c.requires.found n c.in-Some.shard (omega (arith, next.0))) in
     let grown = c.in_ok-push.ensures.items in
     let was = inv.len in

@@ -1,5 +1,5 @@
-use Rattle.keyed_table.specs.Private.Blocks.{AreBlocksBelow}
+use Rattle.keyed_table.specs.Private.Blocks.{HasBlocksBelow}
 use Rattle.keyed_table.proofs.blocks.Blocks.of.Given as goal
 
 abbrev pub invariant-loop-block : goal.invariant-loop-block
-invariant-loop-block l = AreBlocksBelow l.block l.ids l.blocks.numbers.items l.blocks.counts.items
+invariant-loop-block l = HasBlocksBelow l.block l.ids l.blocks
