@@ -49,7 +49,6 @@ fn without_carriage_return(line: &[u8]) -> &[u8]
 
 /// Parses the line of this number. A comment or an empty line has no action; a line that is not
 /// valid is refused with `BadLine`.
-#[tactic(auto, unfolding(crate::specs::Private::Answers::parse_action_answer, crate::specs::Replay::is_bad, crate::specs::Replay::parse_action))]
 pub fn parse_action(
     alloc: Global,
     topics: &[Topic],

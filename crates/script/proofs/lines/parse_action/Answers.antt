@@ -10,3 +10,11 @@ returns c = search rules
 pub returns-then-is_empty : goal.returns-then-is_empty
 unfolding parse_action_answer is_bad parse_action
 returns-then-is_empty c = search rules
+
+pub returns-then-line-gt-LONGEST_LINE : goal.returns-then-line-gt-LONGEST_LINE
+unfolding parse_action_answer is_bad parse_action
+returns-then-line-gt-LONGEST_LINE c = search rules
+
+pub returns-in_default : goal.returns-in_default
+unfolding parse_action_answer is_bad parse_action
+returns-in_default c = search rules
