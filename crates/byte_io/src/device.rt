@@ -53,7 +53,7 @@ pub trait Sink {
     fn write(&mut self, bytes: &[u8]) -> Result<usize, DeviceFailed>
         requires { CanStillFail (failures self.old) }
         ensures bound { WritesAtMost result bytes.now }
-        ensures progress { IfOk result (λ n. 0 < length bytes.now → 0 < n) }
+        ensures nonempty { IfOk result (λ n. 0 < length bytes.now → 0 < n) }
         ensures bytes { WriteAppends (written self.old) (written self.new) result bytes.now }
         ensures failures { failures self.new
             ≡ failures self.old + (if is_ok result then 0 else 1) };

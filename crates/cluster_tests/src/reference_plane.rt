@@ -200,7 +200,7 @@ impl ReferencePlane {
 
     /// The partitions for which a test holds, of whether they are in this set and in the other.
     fn combined<F: Fn(bool, bool) -> bool>(&self, other: &ReferencePlane, test: F) -> ReferencePlane
-        requires callable { F.IsAlwaysCallable test }
+        requires test { F.IsAlwaysCallable test }
         requires partitions { partitions_of self.now ≡ partitions_of other.now }
         ensures elements { IsCombined (F.post test) self.now other.now result }
         ensures partitions { partitions_of result ≡ partitions_of self.now }
@@ -218,7 +218,7 @@ impl ReferencePlane {
     /// Whether a test holds for some partition, of whether it is in this set and in the other. It
     /// tests all of them, since the compiler does not vectorize a loop that can exit early.
     fn some_pass<F: Fn(bool, bool) -> bool>(&self, other: &ReferencePlane, test: F) -> bool
-        requires callable { F.IsAlwaysCallable test }
+        requires test { F.IsAlwaysCallable test }
         requires partitions { partitions_of self.now ≡ partitions_of other.now }
         ensures { IsSomePass (F.post test) self.now other.now result }
     {

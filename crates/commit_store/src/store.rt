@@ -40,7 +40,7 @@ impl Store {
         ensures partitions { IfOk result (λ store. length store.offsets ≡ partitions) }
         ensures offsets { IfOk result (λ store. (p : ℕ) → committed_at store p ≡ 0) }
         ensures counts { IfOk result (λ store. store.counts ≡ []) }
-        ensures exact { IfOk result (λ store. (l : PartitionLogs) → IsExact store l) }
+        ensures valid { IfOk result (λ store. (l : PartitionLogs) → IsExact store l) }
     {
         Store::over(alloc, partitions, 0)
     }
@@ -51,7 +51,7 @@ impl Store {
         ensures partitions { IfOk result (λ store. length store.offsets ≡ partitions) }
         ensures offsets { IfOk result (λ store. (p : ℕ) → committed_at store p ≡ 0) }
         ensures counts { IfOk result (λ store. store.counts ≡ replicate keys 0) }
-        ensures exact { IfOk result (λ store. (l : PartitionLogs) → IsExact store l) }
+        ensures valid { IfOk result (λ store. (l : PartitionLogs) → IsExact store l) }
     {
         let committed = zeros(alloc, partitions as usize)?;
         let counts = Table::zeros(alloc, keys)?;
@@ -72,7 +72,7 @@ impl Store {
         requires { 1 ≤ self.old.capacity }
         ensures value { self.new ≡ record self.old
             { counts = self.old.counts ++ 0 ∷ []; capacity = self.old.capacity - 1 } }
-        ensures exact { (l : PartitionLogs) → IsExact self.old l → IsExact self.new l }
+        ensures valid { (l : PartitionLogs) → IsExact self.old l → IsExact self.new l }
     {
         self.counts.add_key();
     }
@@ -101,7 +101,7 @@ impl Store {
         ensures accepted { OnOk result (Fits self.old (L.contents logs.now) p from partial.now) }
         ensures ok { OnOk result (self.new ≡ with_commit self.old p partial.now) }
         ensures err { OnErr result (self.new ≡ self.old) }
-        ensures exact { IsExact self.old (L.contents logs.now)
+        ensures valid { IsExact self.old (L.contents logs.now)
             → IsExact self.new (L.contents logs.now) }
     {
         let end = next_offset(logs, p, self.committed(p), from, partial.ids())?;

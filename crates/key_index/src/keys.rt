@@ -149,7 +149,7 @@ impl KeyDictionary {
         ensures found { IfOk result (λ found. IfSome found (IsIdOf self.old key.now)) }
         ensures absent { IfOk result
             (λ found. IfNone found (is_interned self.old key.now ≡ false)) }
-        ensures infallible { length key.now ≤ LONGEST_INLINE → IsOk result }
+        ensures accepts { length key.now ≤ LONGEST_INLINE → IsOk result }
         ensures same { self.new ≡ self.old }
     {
         if let Some(number) = self.shards.find(key)? {

@@ -153,7 +153,7 @@ impl ShardedMap {
         ensures found { IfOk result (λ found. IfSome found (IsIdOf self.old key.now)) }
         ensures absent { IfOk result
             (λ found. IfNone found (is_interned self.old key.now ≡ false)) }
-        ensures infallible { length key.now ≤ LONGEST_INLINE → IsOk result }
+        ensures accepts { length key.now ≤ LONGEST_INLINE → IsOk result }
         ensures same { self.new ≡ self.old }
     {
         if self.order.is_empty() {
@@ -174,7 +174,7 @@ fn find_in_shard(tables: &mut Vec<KeyMap>, shard: usize, key: &[u8]) -> Result<O
         (IsIdOf (slice_index_or tables.old.items shard []) key.now)) }
     ensures absent { IfOk result (λ found. IfNone found
         (is_interned (slice_index_or tables.old.items shard []) key.now ≡ false)) }
-    ensures infallible { length key.now ≤ LONGEST_INLINE → IsOk result }
+    ensures accepts { length key.now ≤ LONGEST_INLINE → IsOk result }
     ensures same { tables.new.items ≡ tables.old.items }
 {
     tables[shard].find(key)

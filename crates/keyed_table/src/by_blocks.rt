@@ -84,7 +84,7 @@ impl ByBlocks {
 fn run_end(numbers: &[u32], start: usize) -> usize
     requires increasing { IsStrictlyIncreasing numbers.now }
     requires start { start < length numbers.now }
-    ensures progress { start < result }
+    ensures range { start < result }
     ensures bound { result ≤ length numbers.now }
     ensures consecutive { AreConsecutive numbers.now start result }
 {

@@ -69,7 +69,7 @@ fn outcome_of<R: Threads + Wait + RandomSource + Sync, G: Gate + Sync>(
     requires topics { AreOfTopics (partition_counts options.now) (records_in records) }
     ensures value { IfOk result
         (IsRunOver (partition_counts options.now) (records_in records) plan.now) }
-    ensures accepted { OnOk result
+    ensures ok { OnOk result
         (first_fault (partition_counts options.now) [] (records_in records) ≡ None) }
     ensures kind { IfErr result IsNoDeviceFault }
     ensures fault { IfErr result

@@ -131,7 +131,7 @@ fn write_line(
         ≡ (outcome_of_line batch world.old line.now.action).after) }
     ensures rows { OnOk result
         (AddsRows writer.old writer.new (line_rows topics.now batch world.old line.now)) }
-    ensures accepted { OnOk result ((outcome_of_line batch world.old line.now.action).answer
+    ensures ok { OnOk result ((outcome_of_line batch world.old line.now.action).answer
         ≢ Err refusal.GenerationsOver) }
     ensures fault { IfErr result (λ e. (e ≡ refusal.Memory) ⊎ IsOver e
         (outcome_of_line batch world.old line.now.action).answer) }

@@ -42,8 +42,8 @@ invariant_of-self g c =
     let valid = subst IsValidStore c.self.view_is c.self.invariant in
     subst IsValidStore (sym new) (stays-commits old c.args.p ids valid c.requires.partition.0 have (omega (arith, taken.0.next, taken.0.within, logs.few_records c.args.p)))
 
-pub returns-clause-exact : goal.returns-clause-exact
-returns-clause-exact g c exact =
+pub returns-clause-valid : goal.returns-clause-valid
+returns-clause-valid g c exact =
     let l = g.L.LogRead.contents c.args.logs.now in
     let old = c.args.self.now in
     let ids = c.args.partial.now in

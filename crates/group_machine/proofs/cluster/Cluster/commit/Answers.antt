@@ -14,4 +14,4 @@ commit-requires-clause-partition c =
 pub invariant_of-self : goal.invariant_of-self
 invariant_of-self c =
     let step = c.commit.ensures in
-    commit-valid (group_view c.self.inside.group) c.self.inside.logs c.self.inside.store c.commit.new.self c.partition.result c.partial.result.now c.commit.result c.self.invariant step.ok step.err step.exact
+    commit-valid (group_view c.self.inside.group) c.self.inside.logs c.self.inside.store c.commit.new.self c.partition.result c.partial.result.now c.commit.result c.self.invariant step.ok step.err step.valid

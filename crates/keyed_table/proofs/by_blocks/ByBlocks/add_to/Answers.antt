@@ -12,22 +12,22 @@ pub slice_bounds-add_into-end : goal.slice_bounds-add_into-end
 slice_bounds-add_into-end c =
     let h : AreBlocksOf c.args.self.now c.as_slice-numbers.result.now c.as_slice-counts.result.now = rw (← c.self.view_is, c.as_slice-numbers.ensures.value, c.as_slice-counts.ensures.value) c.self.invariant in
     let run = c.run_end-end.ensures in
-    let within = run-within c.args.self.now c.as_slice-numbers.result.now c.as_slice-counts.result.now c.args.cells.now c.loop-start.start c.run_end-end.result h run.consecutive run.progress run.bound c.requires.numbers c.requires.len in
+    let within = run-within c.args.self.now c.as_slice-numbers.result.now c.as_slice-counts.result.now c.args.cells.now c.loop-start.start c.run_end-end.result h run.consecutive run.range run.bound c.requires.numbers c.requires.len in
     omega (arith, within, c.loop-start.invariant.same)
 
 pub add_into-requires-clause-sums : goal.add_into-requires-clause-sums
 add_into-requires-clause-sums c =
     let h : AreBlocksOf c.args.self.now c.as_slice-numbers.result.now c.as_slice-counts.result.now = rw (← c.self.view_is, c.as_slice-numbers.ensures.value, c.as_slice-counts.ensures.value) c.self.invariant in
     let run = c.run_end-end.ensures in
-    run-fits c.args.self.now c.as_slice-numbers.result.now c.as_slice-counts.result.now c.args.cells.now c.loop-start.cells c.loop-start.start c.run_end-end.result _ _ _ _ h c.loop-start.invariant run.consecutive run.progress run.bound c.requires.sums
+    run-fits c.args.self.now c.as_slice-numbers.result.now c.as_slice-counts.result.now c.args.cells.now c.loop-start.cells c.loop-start.start c.run_end-end.result _ _ _ _ h c.loop-start.invariant run.consecutive run.range run.bound c.requires.sums
     refl refl (omega arith) (omega arith)
 
 pub loop-start-preserved : goal.loop-start-preserved
 loop-start-preserved c =
     let h : AreBlocksOf c.args.self.now c.as_slice-numbers.result.now c.as_slice-counts.result.now = rw (← c.self.view_is, c.as_slice-numbers.ensures.value, c.as_slice-counts.ensures.value) c.self.invariant in
     let run = c.run_end-end.ensures in
-    let within = run-within c.args.self.now c.as_slice-numbers.result.now c.as_slice-counts.result.now c.args.cells.now c.loop-start.start c.run_end-end.result h run.consecutive run.progress run.bound c.requires.numbers c.requires.len in
-    added-run c.args.self.now c.as_slice-numbers.result.now c.as_slice-counts.result.now c.args.cells.now c.loop-start.cells c.add_into.new.a c.loop-start.start c.run_end-end.result _ _ _ _ h c.loop-start.invariant run.consecutive run.progress run.bound
+    let within = run-within c.args.self.now c.as_slice-numbers.result.now c.as_slice-counts.result.now c.args.cells.now c.loop-start.start c.run_end-end.result h run.consecutive run.range run.bound c.requires.numbers c.requires.len in
+    added-run c.args.self.now c.as_slice-numbers.result.now c.as_slice-counts.result.now c.args.cells.now c.loop-start.cells c.add_into.new.a c.loop-start.start c.run_end-end.result _ _ _ _ h c.loop-start.invariant run.consecutive run.range run.bound
     (omega (arith, within, c.loop-start.invariant.same)) refl refl (omega arith) (omega arith) c.add_into.ensures
 
 pub returns : goal.returns

@@ -18,7 +18,7 @@ loop-line-preserved c =
     let line = c.line-item.result in
     let ok = c.in_ok-write_line.ensures in
     let rows = rows_of_line c.args.topics.now line.number w (outcome_of_line batch w line.action) in
-    let step = lines_step c.args.topics.now batch w c.write_line.new.world c.args.lines.now c.loop-line.line-index line (omega arith) c.line-item.is ok.accepted ok.world in
+    let step = lines_step c.args.topics.now batch w c.write_line.new.world c.args.lines.now c.loop-line.line-index line (omega arith) c.line-item.is ok.ok ok.world in
     record {
       text = λ text begun.
           let now = c.loop-line.invariant.text text begun in
