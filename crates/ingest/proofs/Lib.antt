@@ -1,4 +1,5 @@
 pub mod Appended
+pub mod Empty
 pub mod Faulted
 pub mod Placed
 pub mod Taken

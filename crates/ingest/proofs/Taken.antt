@@ -1,5 +1,5 @@
 -- The records of a file, from the keys that are read.
-use Rattle.std.proofs.Common.{◌≡◌, ◌∙◌, ◌<◌, ◌+◌, ℕ, Bool, true, false, List, [], ◌∷◌, ◌++◌, length, map, cond, sym, ap, refl, arith, inl, inr, subst}
+use Rattle.std.proofs.Common.{◌≡◌, ◌∙◌, ◌<◌, ◌+◌, ℕ, Bool, true, false, List, [], ◌∷◌, length, map, cond, sym, ap, refl, arith, inl, inr, subst}
 use Rattle.std.specs.Prelude.{◌==◌, ◌≤◌, ◌⊎◌, All, Option, Some, None, Result, Ok, Err, zip}
 use Rattle.std.specs.Borrow.{Bor}
 use Rattle.std.specs.List.{position_from}

@@ -1,10 +1,11 @@
 -- The records of a file, and their partitions.
-use Rattle.std.specs.Prelude.{ℕ, ◌<◌, List, [], ◌∷◌, All, length, map, Result}
+use Rattle.std.specs.Prelude.{ℕ, ◌<◌, List, [], ◌∷◌, All, length, map, replicate, Result}
+use Rattle.std.specs.List.{sum}
 use Rattle.std.specs.Result.{result_map_both}
 use Rattle.lane_words.specs.declared.Refusal.{Refusal}
-use Rattle.partition_log.specs.Appends.{in_first}
+use Rattle.partition_log.specs.Appends.{AreAppended, in_first, placed}
 use Rattle.partition_log.specs.Keys.{Keyed}
-use Rattle.partition_log.specs.Logs.{place_in_topic}
+use Rattle.partition_log.specs.Logs.{PartitionLogs, place_in_topic}
 use Rattle.partitioner.specs.declared.topic.Topic.{Topic}
 use Rattle.command_line.specs.declared.options.Options.{Options}
 use Rattle.csv_ingest.specs.KeyFile.{key_behind, keys_of, topic_keys_of, topic_of}
@@ -50,6 +51,21 @@ records_seen answer = result_map_both records_in (λ fault. fault) answer
 -- each record is of one of the topics that have these numbers of partitions
 abbrev pub AreOfTopics : List ℕ → List Keyed → Type 0
 AreOfTopics counts records = All (λ keyed. keyed.0 < length counts) records
+
+-- logs of topics with these numbers of partitions, without records
+abbrev pub empty_logs : List ℕ → PartitionLogs
+empty_logs counts = record {
+  counts = counts;
+  partitions = sum counts;
+  keys = [];
+  logs = replicate (sum counts) [];
+}
+
+-- these are the logs of topics with these numbers of partitions, to which the records were appended
+-- one after another
+abbrev pub AreLogsWith : List ℕ → List Keyed → PartitionLogs → Type 0
+AreLogsWith counts records l =
+    AreAppended (empty_logs counts) (placed (empty_logs counts) records) l
 
 -- the partition of a record among topics with these numbers of partitions
 abbrev pub partition_of_record : List ℕ → Keyed → ℕ

@@ -5,7 +5,7 @@ ghost use Rattle.partition_log.specs.Appends.{AreAppended, in_first, placed};
 ghost use Rattle.partition_log.specs.Logs.{IsValidLogs, AreLogsOf};
 ghost use Rattle.ingest.specs.Private.Appending.{EndsAppends};
 ghost use Rattle.ingest.specs.RecordFaults.{TakesRecords};
-ghost use Rattle.ingest.specs.Records.{AreOfTopics, partition_counts, record_of, records_in};
+ghost use Rattle.ingest.specs.Records.{AreLogsWith, AreOfTopics, partition_counts, record_of, records_in};
 ghost use Rattle.ingest.specs.Reports.{AreInRange};
 
 use crate::reading::{FileRecords, partition_counts};
@@ -28,6 +28,8 @@ pub fn logs_of<R: Threads + Sync + RandomSource>(
 ) -> Result<Logs, Refusal>
     requires options { AreInRange options.now }
     requires topics { AreOfTopics (partition_counts options.now) (records_in records.now) }
+    ensures value { IfOk result
+        (AreLogsWith (partition_counts options.now) (records_in records.now)) }
     ensures logs { IfOk result (AreLogsOf (records_in records.now)) }
     ensures counts { IfOk result (λ logs. logs.counts ≡ partition_counts options.now) }
     ensures valid { IfOk result IsValidLogs }

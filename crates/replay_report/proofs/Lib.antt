@@ -1,4 +1,3 @@
 pub mod LineFaults
 pub mod Lines
 pub mod Loaded
-pub mod Opening

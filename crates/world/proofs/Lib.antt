@@ -11,6 +11,7 @@ pub mod Loading
 pub mod Lookups
 pub mod NextSteps
 pub mod Outcomes
+pub mod Over
 pub mod Refusals
 pub mod Runs
 pub mod Settled

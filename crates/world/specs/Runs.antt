@@ -1,10 +1,11 @@
 -- Schedules: events one after the other.
-use Rattle.std.specs.Prelude.{◌≡◌, ◌⊎◌, ◌≤◌, ℕ, List, [], ◌∷◌, ◌++◌, Result, Ok, Err, length, map, take, drop}
+use Rattle.std.specs.Prelude.{◌≡◌, ◌⊎◌, ◌≤◌, ℕ, List, [], ◌∷◌, ◌++◌, Result, Ok, Err, length, map, replicate, take, drop}
 use Rattle.std.specs.List.{zip}
 use Rattle.std.specs.Borrow.{Bor}
 use Rattle.lane_words.specs.declared.Refusal.{Refusal}
 use Rattle.lane_words.specs.declared.Refusal.TheVariants as r
 use Rattle.partition_log.specs.Keys.{Key, Keyed, of_first}
+use Rattle.partition_log.specs.Logs.{PartitionLogs}
 use Rattle.group_machine.specs.Cluster.{AreLogsOf, GrowByRecords}
 use Rattle.group_machine.specs.State.{opening}
 use Rattle.world.specs.declared.event.Event.{Event}
@@ -22,6 +23,22 @@ pub record IsOpening (partitions : ℕ) (w : WorldState) : Type 0 where
   pub capacity : w.cluster.store.capacity ≡ 0
   pub consumers : w.consumers ≡ []
   pub mail : w.mail ≡ []
+
+-- the world over these logs before its first event
+unfoldable pub world_over : PartitionLogs → WorldState
+world_over l = record {
+  cluster = record {
+    group = opening l.partitions;
+    logs = l;
+    store = record {
+      offsets = replicate l.partitions 0;
+      counts = replicate (length l.keys) 0;
+      capacity = 0;
+    };
+  };
+  consumers = [];
+  mail = [];
+}
 
 -- a schedule, the replies to its events, and the world after it
 abbrev pub Run : WorldState → List Event → List Reply → WorldState → Type 0

@@ -8,7 +8,7 @@ ghost use Rattle.partition_log.specs.Appends.{lent};
 ghost use Rattle.partition_log.specs.Keys.{of_first};
 ghost use Rattle.world.specs.World.{consumer_of};
 ghost use Rattle.world.specs.Steps.{NeverFaults, Step};
-ghost use Rattle.world.specs.Runs.{AppendsRecords, IsOpening, Loads, Run, appended_by, appended_in, appends_in, appends_of};
+ghost use Rattle.world.specs.Runs.{AppendsRecords, IsOpening, Loads, Run, appended_by, appended_in, appends_in, appends_of, world_over};
 ghost use Rattle.world.specs.Valid.{IsValidWorld};
 
 mod drain;
@@ -19,6 +19,7 @@ use crate::parts::{Parts, index_of};
 use consumer::Consumer;
 use group_machine::{Cluster, Commit};
 use lane_words::{MOST_PARTITIONS, Memory, Refusal};
+use partition_log::Logs;
 use std::alloc::Global;
 use std::marker::Model;
 use std::random::RandomSource;
@@ -58,15 +59,8 @@ impl World {
         ensures offsets { IfOk result (λ w. (p : ℕ) → committed_at w.cluster.store p ≡ 0) }
         ensures valid { IfOk result IsValidWorld }
     {
-        let cluster = Cluster::new(rt, alloc, partitions)?;
-        Ok(World {
-            alloc,
-            parts: Parts {
-                cluster,
-                consumers: Vec::new(alloc),
-                mail: Vec::new(alloc),
-            },
-        })
+        let logs = Logs::new(rt, alloc, partitions)?;
+        World::over(alloc, logs)
     }
 
     /// A world of 1 to 8 topics, with the number of partitions of each.
@@ -81,7 +75,17 @@ impl World {
         ensures offsets { IfOk result (λ w. (p : ℕ) → committed_at w.cluster.store p ≡ 0) }
         ensures valid { IfOk result IsValidWorld }
     {
-        let cluster = Cluster::with_topics(rt, alloc, counts)?;
+        let logs = Logs::with_topics(rt, alloc, counts)?;
+        World::over(alloc, logs)
+    }
+
+    /// A world over the given logs, with no members and nothing committed. It fails only when out
+    /// of memory.
+    pub fn over(alloc: Global, logs: Logs) -> Result<World, Memory>
+        ensures state { IfOk result (λ w. w ≡ world_over logs) }
+        ensures valid { IfOk result IsValidWorld }
+    {
+        let cluster = Cluster::over(alloc, logs)?;
         Ok(World {
             alloc,
             parts: Parts {
