@@ -17,4 +17,5 @@ returns g c =
     let k = watch g.O.Observer.Sees g.met.O.Observer.sees_nothing g.met.O.Observer.sees_more in
     let other : c.step-reply.result ≡ reply.Refused r.Memory → ⊥ = search rules in
     let seen : g.O.Observer.Sees c.args.observer.now (record { event = c.args.event; reply = c.step-reply.result; after = c.step-reply.new.self } ∷ []) c.see.new.self = search rules in
-    attempted k c.args.self.now c.step-reply.new.self c.args.observer.now c.see.new.self c.args.event c.step-reply.result c.step-reply.ensures.step other seen
+    subst (λ a. Follow g.O.Observer.Sees (scene c.args.self.now c.args.observer.now) (happens c.args.event c.args.self.now) a (scene c.step-reply.new.self c.see.new.self)) (sym c.answer.ensures)
+    (attempted k c.args.self.now c.step-reply.new.self c.args.observer.now c.see.new.self c.args.event c.step-reply.result c.step-reply.ensures.step other seen)
