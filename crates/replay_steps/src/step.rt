@@ -26,13 +26,9 @@ pub enum StepEvent {
     /// The member is lost.
     Lose,
     /// The member reads a partition.
-    Poll {
-        partition: u32,
-    },
+    Poll { partition: u32 },
     /// The member sends a commit of a partition.
-    Send {
-        partition: u32,
-    },
+    Send { partition: u32 },
     /// The sent commit of this number, from 1, is delivered.
     Deliver(u32),
     /// The sent commit of this number is delivered, and the reply is lost.

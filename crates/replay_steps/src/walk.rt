@@ -3,7 +3,7 @@
 ghost use Rattle.std.specs.Prelude.{◌≡◌, ◌+◌, ◌∷◌, [], length, OnOk};
 ghost use Rattle.replay_steps.specs.Private.Walks.{ShowsOfLine};
 ghost use Rattle.replay_steps.specs.Steps.{closing_step, member_of, name_of_member, sender_of, step_event, step_of, steps_of_seen};
-ghost use Rattle.replay_steps.proofs.Steps.{shows_of_none, shows_of_more};
+ghost use Rattle.replay_steps.specs.Private.ShownLaws.{shows_of_none, shows_of_more};
 
 use crate::step::{Step, StepEvent, StepObserver};
 use lane_words::{Memory, Refusal};
@@ -51,9 +51,11 @@ impl<O: StepObserver> Walk<O> {
         reply: Reply,
         world: &World,
     ) -> Result<(), Memory>
-        ensures { OnOk result (O.Shows self.old.observer
+        ensures shown { OnOk result (O.Shows self.old.observer
             (step_of self.old.line self.old.next event member name.now
             (record { reply = reply; after = world.now }) ∷ []) self.new.observer) }
+        ensures same_line { self.new.line ≡ self.old.line }
+        ensures same_next { self.new.next ≡ self.old.next }
     {
         let step = Step {
             line: self.line,

@@ -106,7 +106,7 @@ unfolding drain_members
 drain_members_course batch w = each_course (members w.cluster.group) (drain_member batch) (drain_member_course batch) w
 
 -- ---- one event
-step_comes : (w : WorldState) (e : Event) (replied : Reply) (w2 : WorldState) → Step w e replied w2 → Comes (outcome_of w e) replied w2 ⊎ Comes (refused w r.Memory) replied w2
+pub step_comes : (w : WorldState) (e : Event) (replied : Reply) (w2 : WorldState) → Step w e replied w2 → Comes (outcome_of w e) replied w2 ⊎ Comes (refused w r.Memory) replied w2
 step_comes w (event.Append key) replied w2 s = s
 step_comes w (event.AppendIn topic key) replied w2 s = s
 step_comes w (event.Join name) replied w2 s = s
@@ -185,8 +185,8 @@ second_follows {S = S} k s mid first second made here seen result s2 (inl replie
       replied.0,
       replied.1,
       subst (λ xs. S s.1 xs s2.1) (sym (seen_append s.0 first.events second.events))
-      (k.more s.1 mid.1 s2.1 (seen_of s.0 first.events) (seen_of (after_all s.0 first.events) second.events) seen
-      (subst (λ w. S mid.1 (seen_of w second.events) s2.1) (here ∙ made) replied.2)),
+          (k.more s.1 mid.1 s2.1 (seen_of s.0 first.events) (seen_of (after_all s.0 first.events) second.events) seen
+          (subst (λ w. S mid.1 (seen_of w second.events) s2.1) (here ∙ made) replied.2)),
     )
 second_follows {S = S} k s mid first second made here seen result s2 (inr way) =
     inr (

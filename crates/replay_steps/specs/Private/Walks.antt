@@ -1,7 +1,6 @@
 -- Walks over the steps of a line.
-use Rattle.std.specs.Prelude.{◌≡◌, ◌+◌, ◌⊎◌, ℕ, List, [], Result, Err, length, ⊤}
+use Rattle.std.specs.Prelude.{◌≡◌, ◌+◌, ℕ, List, [], Result, length, ⊤}
 use Rattle.lane_words.specs.declared.Refusal.{Refusal}
-use Rattle.lane_words.specs.declared.Refusal.TheVariants as r
 use Rattle.script.specs.declared.action.Action.{Action}
 use Rattle.script.specs.declared.action.Action.TheVariants.{Join, Keep, Return, Rejoin, Sync, Leave, Lose, Poll, Send, Deliver, Unanswered, Settle, Drain}
 use Rattle.world.specs.declared.event.Event.{Event}

@@ -1,4 +1,4 @@
-use Rattle.std.proofs.Common.{rules, ◌≡◌, ◌∙◌, Err, IfOk, OnOk, Ok, List, [], ◌∷◌, subst, sym}
+use Rattle.std.proofs.Common.{rules, ◌≡◌, Err, [], ◌∷◌, subst, sym}
 use Rattle.lane_words.specs.declared.Refusal.TheVariants as r
 use Rattle.world.specs.declared.event.Reply.TheVariants as reply
 use Rattle.world.specs.Courses.{happens}

@@ -1,4 +1,4 @@
-use Rattle.std.proofs.Common.{rules, ◌≡◌, ◌∙◌, Err}
+use Rattle.std.proofs.Common.{rules, ◌≡◌, Err}
 use Rattle.world.specs.declared.event.Event.TheVariants as event
 use Rattle.world.specs.Courses.{happens}
 use Rattle.world.specs.Settling.{commit_pending, forgiven}

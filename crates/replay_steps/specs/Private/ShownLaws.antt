@@ -1,18 +1,16 @@
--- The steps of events, one after the other.
+-- What was shown of events, one after the other: proofs that an impl gives of the laws of its trait.
 use Rattle.std.proofs.Common.{◌≡◌, ◌∙◌, ◌+◌, ℕ, suc, List, [], ◌∷◌, ◌++◌, length, length-append, arith, refl, sym, ap, subst}
 use Rattle.world.specs.Observing.{Seen}
 use Rattle.replay_steps.specs.Private.Walks.{ShowsOfLine}
 use Rattle.replay_steps.specs.Steps.{StepTaken, step_of_seen, steps_of_seen}
 
 pub steps_append : (line next : ℕ) (xs ys : List Seen) → steps_of_seen line next (xs ++ ys) ≡ steps_of_seen line next xs ++ steps_of_seen line (next + length xs) ys
-unfolding steps_of_seen
 steps_append line next [] ys = ap (λ n. steps_of_seen line n ys) (omega arith)
 steps_append line next (x ∷ xs) ys =
     let same : next + 1 + length xs ≡ next + suc (length xs) = omega arith in
     ap (λ rest. step_of_seen line next x ∷ rest) (steps_append line (next + 1) xs ys ∙ ap (λ n. steps_of_seen line (next + 1) xs ++ steps_of_seen line n ys) same)
 
 pub shows_of_none : {O : Type 0} (Shows : O → List StepTaken → O → Type 0) → ((o : O) → Shows o [] o) → (line next : ℕ) (o : O) → ShowsOfLine Shows line next o [] line next o
-unfolding steps_of_seen
 shows_of_none Shows none line next o = record { line_is = refl; next_is = omega arith; shown = none o }
 
 pub shows_of_more : {O : Type 0} (Shows : O → List StepTaken → O → Type 0) → ((a b c : O) (xs ys : List StepTaken) → Shows a xs b → Shows b ys c → Shows a (xs ++ ys) c) → (line next : ℕ) (a : O) (xs : List Seen) (line2 next2 : ℕ) (b : O) (ys : List Seen) (line3 next3 : ℕ) (c : O)
