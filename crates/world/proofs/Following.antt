@@ -13,7 +13,8 @@ use Rattle.group_machine.specs.NextSteps.{has_to_rejoin}
 use Rattle.group_laws.specs.Passes.{is_settled_and_synced}
 use Rattle.world.specs.Courses.{Course, Follows, after_all, answer_in, answered_at_once, chain, for_each, goes_on, happens, nothing, outcome_of}
 use Rattle.world.specs.Draining.{drain_log, drain_member, drain_members, draining, held_by, is_read_up, read_on, read_up}
-use Rattle.world.specs.Settling.{commit_pending, flush, forgiven, is_pending, pass, passes, rejoin_if_due, settling, sync_if_new, turn}
+use Rattle.world.specs.Observing.{FollowsObserved, Seen, seen_of}
+use Rattle.world.specs.Settling.{commit_pending, flush, forgiven, is_pending, unless_mismatch, pass, passes, rejoin_if_due, settling, sync_if_new, turn}
 use Rattle.world.specs.Steps.{Comes, Step, refused}
 use Rattle.world.specs.World.{WorldState}
 
@@ -105,7 +106,7 @@ unfolding drain_members
 drain_members_course batch w = each_course (members w.cluster.group) (drain_member batch) (drain_member_course batch) w
 
 -- ---- one event
-step_comes : (w : WorldState) (e : Event) (replied : Reply) (w2 : WorldState) → Step w e replied w2 → Comes (outcome_of w e) replied w2 ⊎ Comes (refused w r.Memory) replied w2
+pub step_comes : (w : WorldState) (e : Event) (replied : Reply) (w2 : WorldState) → Step w e replied w2 → Comes (outcome_of w e) replied w2 ⊎ Comes (refused w r.Memory) replied w2
 step_comes w (event.Append key) replied w2 s = s
 step_comes w (event.AppendIn topic key) replied w2 s = s
 step_comes w (event.Join name) replied w2 s = s
@@ -120,54 +121,100 @@ step_comes w (event.Send m p) replied w2 s = s
 step_comes w (event.Deliver k) replied w2 s = inl s
 step_comes w (event.DeliverUnanswered k) replied w2 s = inl s
 
-pub attempted : (w : WorldState) (e : Event) (replied : Reply) (w2 : WorldState) → Step w e replied w2 → Follows w (happens e w) (answer_in replied) w2
+-- ---- a world before an observer's eyes
+-- the laws of what an observer has seen
+pub record Watch {O : Type 0} (Sees : O → List Seen → O → Type 0) : Type 0 where
+  pub none : (o : O) → Sees o [] o
+  pub more : (a b c : O) (first second : List Seen) → Sees a first b → Sees b second c → Sees a (first ++ second) c
+
+pub watch : {O : Type 0} (Sees : O → List Seen → O → Type 0) → ((o : O) → Sees o [] o) → ((a b c : O) (first second : List Seen) → Sees a first b → Sees b second c → Sees a (first ++ second) c) → Watch Sees
+watch Sees none more = record { none = none; more = more }
+
+abbrev pub Scene : Type 0 → Type 0
+Scene O = WorldState × O
+
+abbrev pub scene : {O : Type 0} → WorldState → O → Scene O
+scene w o = (w, o)
+
+abbrev pub Follow : {O : Type 0} → (O → List Seen → O → Type 0) → Scene O → Course → Result (Unit {0}) Refusal → Scene O → Type 0
+Follow S s c result s2 = FollowsObserved S s.0 s.1 c result s2.0 s2.1
+
+-- an observed call follows its course
+pub unseen : {O : Type 0} {S : O → List Seen → O → Type 0} (k : Watch S) (s s2 : Scene O) (c : Course) (result : Result (Unit {0}) Refusal) → Follow S s c result s2 → Follows s.0 c result s2.0
+unseen k s s2 c result (inl replied) = inl (replied.0, replied.1)
+unseen k s s2 c result (inr way) = inr way
+
+pub attempted_refused : {O : Type 0} {S : O → List Seen → O → Type 0} (k : Watch S) (w w2 : WorldState) (o o2 : O) (e : Event) (replied : Reply) → Step w e replied w2 → Follow S (w, o) (happens e w) (Err r.Memory) (w2, o2)
 unfolding happens
-attempted w e replied w2 s =
+attempted_refused k w w2 o o2 e replied s =
     elim (step_comes w e replied w2 s) [
-      | inl comes ↦ inl (ap answer_in comes.0, comes.1)
-      | inr comes ↦ inr (ap answer_in comes.0, record { came = []; left = e ∷ []; events_are = refl; world_is = comes.1 })
+      | inl comes ↦ inr (refl, record { came = e ∷ []; left = []; events_are = refl; world_is = comes.1 })
+      | inr comes ↦ inr (refl, record { came = []; left = e ∷ []; events_are = refl; world_is = comes.1 })
+    ]
+
+seen_once : (w w2 : WorldState) (e : Event) (replied : Reply) → Comes (outcome_of w e) replied w2 → record { event = e; reply = replied; after = w2 } ∷ [] ≡ seen_of w (e ∷ [])
+seen_once w w2 e replied comes =
+    ap (λ x. record { event = e; reply = x; after = w2 } ∷ []) comes.0 ∙ ap (λ x. record { event = e; reply = (outcome_of w e).reply; after = x } ∷ []) comes.1
+
+pub attempted : {O : Type 0} {S : O → List Seen → O → Type 0} (k : Watch S) (w w2 : WorldState) (o o2 : O) (e : Event) (replied : Reply) → Step w e replied w2 → (replied ≡ reply.Refused r.Memory → ⊥) → S o (record { event = e; reply = replied; after = w2 } ∷ []) o2 → Follow S (w, o) (happens e w) (answer_in replied) (w2, o2)
+unfolding happens
+attempted {S = S} k w w2 o o2 e replied s other seen =
+    elim (step_comes w e replied w2 s) [
+      | inl comes ↦ inl (ap answer_in comes.0, comes.1, subst (λ xs. S o xs o2) (seen_once w w2 e replied comes) seen)
+      | inr comes ↦ absurd (other comes.0)
     ]
 
 -- ---- one course and then another
 -- a call that follows the one from here on follows the other from its start
-abbrev pub Continues : WorldState → Course → WorldState → Course → Type 0
-Continues w c mid rest = (result : Result (Unit {0}) Refusal) (w2 : WorldState) → Follows mid rest result w2 → Follows w c result w2
+abbrev pub Continues : {O : Type 0} → (O → List Seen → O → Type 0) → Scene O → Course → Scene O → Course → Type 0
+Continues {O} S s c mid rest = (result : Result (Unit {0}) Refusal) (s2 : Scene O) → Follow S mid rest result s2 → Follow S s c result s2
 
-pub begins : (w : WorldState) (c : Course) → Continues w c w c
-begins w c result w2 f = f
+pub begins : {O : Type 0} {S : O → List Seen → O → Type 0} (k : Watch S) (s : Scene O) (c : Course) → Continues S s c s c
+begins k s c result s2 f = f
 
 abbrev both : Course → Course → Course
 both first second = record { events = first.events ++ second.events; answer = second.answer; after = second.after }
 
-second_follows : (w mid : WorldState) (first second : Course) → IsCourse w first → mid ≡ first.after → Continues w (both first second) mid second
-second_follows w mid first second made here result w2 (inl replied) = inl replied
-second_follows w mid first second made here result w2 (inr way) =
+seen_append : (w : WorldState) (xs ys : List Event) → seen_of w (xs ++ ys) ≡ seen_of w xs ++ seen_of (after_all w xs) ys
+seen_append w [] ys = refl
+seen_append w (x ∷ xs) ys = ap (λ seen. record { event = x; reply = (outcome_of w x).reply; after = (outcome_of w x).after } ∷ seen) (seen_append (outcome_of w x).after xs ys)
+
+second_follows : {O : Type 0} {S : O → List Seen → O → Type 0} (k : Watch S) (s mid : Scene O) (first second : Course) → IsCourse s.0 first → mid.0 ≡ first.after → S s.1 (seen_of s.0 first.events) mid.1 → Continues S s (both first second) mid second
+second_follows {S = S} k s mid first second made here seen result s2 (inl replied) =
+    inl (
+      replied.0,
+      replied.1,
+      subst (λ xs. S s.1 xs s2.1) (sym (seen_append s.0 first.events second.events))
+          (k.more s.1 mid.1 s2.1 (seen_of s.0 first.events) (seen_of (after_all s.0 first.events) second.events) seen
+          (subst (λ w. S mid.1 (seen_of w second.events) s2.1) (here ∙ made) replied.2)),
+    )
+second_follows {S = S} k s mid first second made here seen result s2 (inr way) =
     inr (
       way.0,
       record {
         came = first.events ++ way.1.came;
         left = way.1.left;
         events_are = ap (λ es. first.events ++ es) way.1.events_are ∙ sym (append_assoc first.events way.1.came way.1.left);
-        world_is = way.1.world_is ∙ ap (λ x. after_all x way.1.came) (here ∙ made) ∙ sym (after_append w first.events way.1.came);
+        world_is = way.1.world_is ∙ ap (λ x. after_all x way.1.came) (here ∙ made) ∙ sym (after_append s.0 first.events way.1.came);
       },
     )
 
-pub chain_on : (w mid : WorldState) (first : Course) (next : WorldState → Course) (a : Result (Unit {0}) Refusal) → IsCourse w first → Follows w first a mid → a ≡ Ok tt → Continues w (chain first next) mid (next mid)
+pub chain_on : {O : Type 0} {S : O → List Seen → O → Type 0} (k : Watch S) (s mid : Scene O) (first : Course) (next : WorldState → Course) (a : Result (Unit {0}) Refusal) → IsCourse s.0 first → Follow S s first a mid → a ≡ Ok tt → Continues S s (chain first next) mid (next mid.0)
 unfolding chain
-chain_on w mid first next a made (inl replied) ok result w2 f =
+chain_on {S = S} k s mid first next a made (inl replied) ok result s2 f =
     let go : goes_on first (next first.after) first.answer ≡ both first (next first.after) = ap (goes_on first (next first.after)) (sym replied.0 ∙ ok) in
-    subst (λ c. Follows w c result w2) (sym go)
-    (second_follows w mid first (next first.after) made replied.1 result w2 (subst (λ x. Follows mid (next x) result w2) replied.1 f))
-chain_on w mid first next a made (inr way) ok result w2 f = absurd (cc (way.0, ok))
+    subst (λ c. Follow S s c result s2) (sym go)
+    (second_follows k s mid first (next first.after) made replied.1 replied.2 result s2 (subst (λ x. Follow S mid (next x) result s2) replied.1 f))
+chain_on {S = S} k s mid first next a made (inr way) ok result s2 f = absurd (cc (way.0, ok))
 
-pub chain_stop : (w mid : WorldState) (first : Course) (next : WorldState → Course) (a : Result (Unit {0}) Refusal) (why : Refusal) → IsCourse w first → Follows w first a mid → a ≡ Err why → Follows w (chain first next) (Err why) mid
+pub chain_stop : {O : Type 0} {S : O → List Seen → O → Type 0} (k : Watch S) (s mid : Scene O) (first : Course) (next : WorldState → Course) (a : Result (Unit {0}) Refusal) (why : Refusal) → IsCourse s.0 first → Follow S s first a mid → a ≡ Err why → Follow S s (chain first next) (Err why) mid
 unfolding chain
-chain_stop w mid first next a why made (inl replied) err =
+chain_stop {S = S} k s mid first next a why made (inl replied) err =
     let go : goes_on first (next first.after) first.answer ≡ first = ap (goes_on first (next first.after)) (sym replied.0 ∙ err) in
-    subst (λ c. Follows w c (Err why) mid) (sym go) (inl (sym err ∙ replied.0, replied.1))
-chain_stop w mid first next a why made (inr way) err = stopped first.answer
+    subst (λ c. Follow S s c (Err why) mid) (sym go) (inl (sym err ∙ replied.0, replied.1, replied.2))
+chain_stop {S = S} k s mid first next a why made (inr way) err = stopped first.answer
   where
-    stopped : (b : Result (Unit {0}) Refusal) → Follows w (goes_on first (next first.after) b) (Err why) mid
+    stopped : (b : Result (Unit {0}) Refusal) → Follow S s (goes_on first (next first.after) b) (Err why) mid
     stopped (Ok u) = inr (
       sym err ∙ way.0,
       record {
@@ -179,149 +226,141 @@ chain_stop w mid first next a why made (inr way) err = stopped first.answer
     )
     stopped (Err other) = inr (sym err ∙ way.0, way.1)
 
+pub chain_stops : {O : Type 0} {S : O → List Seen → O → Type 0} (k : Watch S) (s mid : Scene O) (first : Course) (next : WorldState → Course) (a result : Result (Unit {0}) Refusal) (why : Refusal) → IsCourse s.0 first → Follow S s first a mid → a ≡ Err why → result ≡ Err why → Follow S s (chain first next) result mid
+chain_stops {S = S} k s mid first next a result why made f err same = subst (λ x. Follow S s (chain first next) x mid) (sym same) (chain_stop k s mid first next a why made f err)
+
+pub goes_further : {O : Type 0} {S : O → List Seen → O → Type 0} (k : Watch S) (s mid far : Scene O) (c rest more : Course) → Continues S s c mid rest → Continues S mid rest far more → Continues S s c far more
+goes_further k s mid far c rest more one two result s2 f = one result s2 (two result s2 f)
+
+-- a call whose mismatch is forgiven
+pub forgives : {O : Type 0} {S : O → List Seen → O → Type 0} (k : Watch S) (s s2 : Scene O) (c : Course) (result : Result (Unit {0}) Refusal) → Follow S s c result s2 → Follow S s (forgiven c) (unless_mismatch result) s2
+forgives k s s2 c result (inl replied) = inl (ap unless_mismatch replied.0, replied.1, replied.2)
+forgives k s s2 c result (inr way) = inr (ap unless_mismatch way.0, record { came = way.1.came; left = way.1.left; events_are = way.1.events_are; world_is = way.1.world_is })
+
+pub same_scene : {O : Type 0} (S : O → List Seen → O → Type 0) (s : Scene O) (c : Course) (rest : WorldState → Course) {x y : WorldState} {o p : O} → x ≡ y → o ≡ p → Continues S s c (y, p) (rest y) → Continues S s c (x, o) (rest x)
+same_scene S s c rest {x = x} {y = y} {o = o} {p = p} same_world same_observer f =
+    subst (λ z. Continues S s c (z, o) (rest z)) (sym same_world) (subst (λ q. Continues S s c (y, q) (rest y)) (sym same_observer) f)
+
 -- ---- a course for each of some numbers
-pub each_on : (w mid : WorldState) (n : ℕ) (ns : List ℕ) (course : ℕ → WorldState → Course) (a : Result (Unit {0}) Refusal) → IsCourse w (course n w) → Follows w (course n w) a mid → a ≡ Ok tt → Continues w (for_each (n ∷ ns) course w) mid (for_each ns course mid)
+pub each_on : {O : Type 0} {S : O → List Seen → O → Type 0} (k : Watch S) (s mid : Scene O) (n : ℕ) (ns : List ℕ) (course : ℕ → WorldState → Course) (a : Result (Unit {0}) Refusal) → IsCourse s.0 (course n s.0) → Follow S s (course n s.0) a mid → a ≡ Ok tt → Continues S s (for_each (n ∷ ns) course s.0) mid (for_each ns course mid.0)
 unfolding for_each
-each_on w mid n ns course a made f ok = chain_on w mid (course n w) (for_each ns course) a made f ok
+each_on k s mid n ns course a made f ok = chain_on k s mid (course n s.0) (for_each ns course) a made f ok
 
-pub each_stop : (w mid : WorldState) (n : ℕ) (ns : List ℕ) (course : ℕ → WorldState → Course) (a : Result (Unit {0}) Refusal) (why : Refusal) → IsCourse w (course n w) → Follows w (course n w) a mid → a ≡ Err why → Follows w (for_each (n ∷ ns) course w) (Err why) mid
+pub each_stops : {O : Type 0} {S : O → List Seen → O → Type 0} (k : Watch S) (s mid : Scene O) (n : ℕ) (ns : List ℕ) (course : ℕ → WorldState → Course) (a result : Result (Unit {0}) Refusal) (why : Refusal) → IsCourse s.0 (course n s.0) → Follow S s (course n s.0) a mid → a ≡ Err why → result ≡ Err why → Follow S s (for_each (n ∷ ns) course s.0) result mid
 unfolding for_each
-each_stop w mid n ns course a why made f err = chain_stop w mid (course n w) (for_each ns course) a why made f err
+each_stops k s mid n ns course a result why made f err same = chain_stops k s mid (course n s.0) (for_each ns course) a result why made f err same
 
-pub each_done : (w : WorldState) (course : ℕ → WorldState → Course) → Follows w (for_each [] course w) (Ok tt) w
+pub each_done : {O : Type 0} {S : O → List Seen → O → Type 0} (k : Watch S) (s : Scene O) (course : ℕ → WorldState → Course) → Follow S s (for_each [] course s.0) (Ok tt) s
 unfolding for_each
-each_done w course = inl (refl, refl)
-
-pub goes_further : (w mid far : WorldState) (c rest more : Course) → Continues w c mid rest → Continues mid rest far more → Continues w c far more
-goes_further w mid far c rest more one two result w2 f = one result w2 (two result w2 f)
+each_done k s course = inl (refl, refl, k.none s.1)
 
 -- ---- the courses of settling and draining, step by step
-pub chain_stops : (w mid : WorldState) (first : Course) (next : WorldState → Course) (a result : Result (Unit {0}) Refusal) (why : Refusal) → IsCourse w first → Follows w first a mid → a ≡ Err why → result ≡ Err why → Follows w (chain first next) result mid
-chain_stops w mid first next a result why made f err same = subst (λ x. Follows w (chain first next) x mid) (sym same) (chain_stop w mid first next a why made f err)
+left_out : {O : Type 0} {S : O → List Seen → O → Type 0} (k : Watch S) (b : Bool) (c : Course) (s : Scene O) → b ≡ false → Follow S s (cond b c (nothing s.0)) (Ok tt) s
+left_out k true c s e = absurd (cc e)
+left_out k false c s e = inl (refl, refl, k.none s.1)
 
-pub each_stops : (w mid : WorldState) (n : ℕ) (ns : List ℕ) (course : ℕ → WorldState → Course) (a result : Result (Unit {0}) Refusal) (why : Refusal) → IsCourse w (course n w) → Follows w (course n w) a mid → a ≡ Err why → result ≡ Err why → Follows w (for_each (n ∷ ns) course w) result mid
-each_stops w mid n ns course a result why made f err same = subst (λ x. Follows w (for_each (n ∷ ns) course w) x mid) (sym same) (each_stop w mid n ns course a why made f err)
+at_once : {O : Type 0} {S : O → List Seen → O → Type 0} (k : Watch S) (b : Bool) (c : Course) (s : Scene O) → b ≡ true → Follow S s (cond b (nothing s.0) c) (Ok tt) s
+at_once k true c s e = inl (refl, refl, k.none s.1)
+at_once k false c s e = absurd (cc e)
 
-left_out : (b : Bool) (c : Course) (w : WorldState) → b ≡ false → Follows w (cond b c (nothing w)) (Ok tt) w
-left_out true c w e = absurd (cc e)
-left_out false c w e = inl (refl, refl)
+chosen : {O : Type 0} {S : O → List Seen → O → Type 0} (k : Watch S) (b : Bool) (c d : Course) (s : Scene O) → b ≡ true → Continues S s (cond b c d) s c
+chosen k true c d s e result s2 f = f
+chosen k false c d s e result s2 f = absurd (cc e)
 
-at_once : (b : Bool) (c : Course) (w : WorldState) → b ≡ true → Follows w (cond b (nothing w) c) (Ok tt) w
-at_once true c w e = inl (refl, refl)
-at_once false c w e = absurd (cc e)
+other_chosen : {O : Type 0} {S : O → List Seen → O → Type 0} (k : Watch S) (b : Bool) (c d : Course) (s : Scene O) → b ≡ false → Continues S s (cond b c d) s d
+other_chosen k true c d s e result s2 f = absurd (cc e)
+other_chosen k false c d s e result s2 f = f
 
-taken : (b : Bool) (c d : Course) (w : WorldState) → b ≡ true → Continues w (cond b c d) w c
-taken true c d w e result w2 f = f
-taken false c d w e result w2 f = absurd (cc e)
-
-other_taken : (b : Bool) (c d : Course) (w : WorldState) → b ≡ false → Continues w (cond b c d) w d
-other_taken true c d w e result w2 f = absurd (cc e)
-other_taken false c d w e result w2 f = f
-
-pub nothing_pending : (m p : ℕ) (w : WorldState) → is_pending w m p ≡ false → Follows w (commit_pending m p w) (Ok tt) w
+pub nothing_pending : {O : Type 0} {S : O → List Seen → O → Type 0} (k : Watch S) (m p : ℕ) (s : Scene O) → is_pending s.0 m p ≡ false → Follow S s (commit_pending m p s.0) (Ok tt) s
 unfolding commit_pending
-nothing_pending m p w e = left_out (is_pending w m p) _ w e
+nothing_pending k m p s e = left_out k (is_pending s.0 m p) _ s e
 
-pub something_pending : (m p : ℕ) (w : WorldState) → is_pending w m p ≡ true → Continues w (commit_pending m p w) w (chain (happens (event.Send m p) w) (λ sent. happens (event.Deliver (length sent.mail)) sent))
+pub something_pending : {O : Type 0} {S : O → List Seen → O → Type 0} (k : Watch S) (m p : ℕ) (s : Scene O) → is_pending s.0 m p ≡ true → Continues S s (commit_pending m p s.0) s (chain (happens (event.Send m p) s.0) (λ sent. happens (event.Deliver (length sent.mail)) sent))
 unfolding commit_pending
-something_pending m p w e = taken (is_pending w m p) _ (nothing w) w e
+something_pending k m p s e = chosen k (is_pending s.0 m p) _ (nothing s.0) s e
 
-pub flush_is : (m p : ℕ) (w : WorldState) → Continues w (flush m p w) w (chain (forgiven (commit_pending m p w)) (commit_pending m p))
+pub flush_is : {O : Type 0} {S : O → List Seen → O → Type 0} (k : Watch S) (m p : ℕ) (s : Scene O) → Continues S s (flush m p s.0) s (chain (forgiven (commit_pending m p s.0)) (commit_pending m p))
 unfolding flush
-flush_is m p w result w2 f = f
+flush_is k m p s result s2 f = f
 
-pub not_new : (m : ℕ) (w : WorldState) → (is_joined w.cluster.group m || is_synced w.cluster.group m) ≡ true → Follows w (sync_if_new m w) (Ok tt) w
+pub not_new : {O : Type 0} {S : O → List Seen → O → Type 0} (k : Watch S) (m : ℕ) (s : Scene O) → (is_joined s.0.cluster.group m || is_synced s.0.cluster.group m) ≡ true → Follow S s (sync_if_new m s.0) (Ok tt) s
 unfolding sync_if_new
-not_new m w e = at_once (is_joined w.cluster.group m || is_synced w.cluster.group m) (happens (event.Sync m) w) w e
+not_new k m s e = at_once k (is_joined s.0.cluster.group m || is_synced s.0.cluster.group m) (happens (event.Sync m) s.0) s e
 
-pub new_syncs : (m : ℕ) (w : WorldState) → (is_joined w.cluster.group m || is_synced w.cluster.group m) ≡ false → Continues w (sync_if_new m w) w (happens (event.Sync m) w)
+pub new_syncs : {O : Type 0} {S : O → List Seen → O → Type 0} (k : Watch S) (m : ℕ) (s : Scene O) → (is_joined s.0.cluster.group m || is_synced s.0.cluster.group m) ≡ false → Continues S s (sync_if_new m s.0) s (happens (event.Sync m) s.0)
 unfolding sync_if_new
-new_syncs m w e = other_taken (is_joined w.cluster.group m || is_synced w.cluster.group m) (nothing w) (happens (event.Sync m) w) w e
+new_syncs k m s e = other_chosen k (is_joined s.0.cluster.group m || is_synced s.0.cluster.group m) (nothing s.0) (happens (event.Sync m) s.0) s e
 
-pub not_due : (m : ℕ) (w : WorldState) → has_to_rejoin w.cluster.group m ≡ false → Follows w (rejoin_if_due m w) (Ok tt) w
+pub not_due : {O : Type 0} {S : O → List Seen → O → Type 0} (k : Watch S) (m : ℕ) (s : Scene O) → has_to_rejoin s.0.cluster.group m ≡ false → Follow S s (rejoin_if_due m s.0) (Ok tt) s
 unfolding rejoin_if_due
-not_due m w e = left_out (has_to_rejoin w.cluster.group m) _ w e
+not_due k m s e = left_out k (has_to_rejoin s.0.cluster.group m) _ s e
 
-pub due : (m : ℕ) (w : WorldState) → has_to_rejoin w.cluster.group m ≡ true
-    → Continues w (rejoin_if_due m w) w (chain (for_each (elements (minus (granted_of w.cluster.group m) (assigned_of w.cluster.group m))) (flush m) w) (happens (event.Rejoin m)))
+pub due : {O : Type 0} {S : O → List Seen → O → Type 0} (k : Watch S) (m : ℕ) (s : Scene O) → has_to_rejoin s.0.cluster.group m ≡ true
+    → Continues S s (rejoin_if_due m s.0) s (chain (for_each (elements (minus (granted_of s.0.cluster.group m) (assigned_of s.0.cluster.group m))) (flush m) s.0) (happens (event.Rejoin m)))
 unfolding rejoin_if_due
-due m w e = taken (has_to_rejoin w.cluster.group m) _ (nothing w) w e
+due k m s e = chosen k (has_to_rejoin s.0.cluster.group m) _ (nothing s.0) s e
 
 pub flushes_course : (ns : List ℕ) (m : ℕ) (w : WorldState) → IsCourse w (for_each ns (flush m) w)
 flushes_course ns m w = each_course ns (flush m) (flush_course m) w
 
-pub turn_is : (m : ℕ) (w : WorldState) → Continues w (turn m w) w (chain (sync_if_new m w) (rejoin_if_due m))
+pub turn_is : {O : Type 0} {S : O → List Seen → O → Type 0} (k : Watch S) (m : ℕ) (s : Scene O) → Continues S s (turn m s.0) s (chain (sync_if_new m s.0) (rejoin_if_due m))
 unfolding turn
-turn_is m w result w2 f = f
+turn_is k m s result s2 f = f
 
-pub pass_is : (w : WorldState) → Continues w (pass w) w (for_each (members w.cluster.group) turn w)
+pub pass_is : {O : Type 0} {S : O → List Seen → O → Type 0} (k : Watch S) (s : Scene O) → Continues S s (pass s.0) s (for_each (members s.0.cluster.group) turn s.0)
 unfolding pass
-pass_is w result w2 f = f
+pass_is k s result s2 f = f
 
-pub settled_and_synced_ends : (n : ℕ) (w : WorldState) → is_settled_and_synced w.cluster.group ≡ true → Follows w (passes n w) (Ok tt) w
+pub settled_and_synced_ends : {O : Type 0} {S : O → List Seen → O → Type 0} (k : Watch S) (n : ℕ) (s : Scene O) → is_settled_and_synced s.0.cluster.group ≡ true → Follow S s (passes n s.0) (Ok tt) s
 unfolding passes
-settled_and_synced_ends zero w e = at_once (is_settled_and_synced w.cluster.group) (answered_at_once (Err r.NotSettled) w) w e
-settled_and_synced_ends (suc n) w e = at_once (is_settled_and_synced w.cluster.group) _ w e
+settled_and_synced_ends k zero s e = at_once k (is_settled_and_synced s.0.cluster.group) (answered_at_once (Err r.NotSettled) s.0) s e
+settled_and_synced_ends k (suc n) s e = at_once k (is_settled_and_synced s.0.cluster.group) _ s e
 
-pub passes_run_out : (w : WorldState) → is_settled_and_synced w.cluster.group ≡ false → Follows w (passes 0 w) (Err r.NotSettled) w
+pub passes_run_out : {O : Type 0} {S : O → List Seen → O → Type 0} (k : Watch S) (s : Scene O) → is_settled_and_synced s.0.cluster.group ≡ false → Follow S s (passes 0 s.0) (Err r.NotSettled) s
 unfolding passes
-passes_run_out w e = other_taken (is_settled_and_synced w.cluster.group) (nothing w) (answered_at_once (Err r.NotSettled) w) w e (Err r.NotSettled) w (inl (refl, refl))
+passes_run_out k s e = other_chosen k (is_settled_and_synced s.0.cluster.group) (nothing s.0) (answered_at_once (Err r.NotSettled) s.0) s e (Err r.NotSettled) s (inl (refl, refl, k.none s.1))
 
-pub one_more_pass : (n : ℕ) (w : WorldState) → is_settled_and_synced w.cluster.group ≡ false → Continues w (passes (suc n) w) w (chain (pass w) (passes n))
+pub one_more_pass : {O : Type 0} {S : O → List Seen → O → Type 0} (k : Watch S) (n : ℕ) (s : Scene O) → is_settled_and_synced s.0.cluster.group ≡ false → Continues S s (passes (suc n) s.0) s (chain (pass s.0) (passes n))
 unfolding passes
-one_more_pass n w e = other_taken (is_settled_and_synced w.cluster.group) (nothing w) _ w e
+one_more_pass k n s e = other_chosen k (is_settled_and_synced s.0.cluster.group) (nothing s.0) _ s e
 
-pub somebody_settles : (w : WorldState) → is_anybody w.cluster.group ≡ true → Continues w (settling w) w (passes 4 w)
+pub somebody_settles : {O : Type 0} {S : O → List Seen → O → Type 0} (k : Watch S) (s : Scene O) → is_anybody s.0.cluster.group ≡ true → Continues S s (settling s.0) s (passes 4 s.0)
 unfolding settling
-somebody_settles w e = taken (is_anybody w.cluster.group) (passes 4 w) _ w e
+somebody_settles k s e = chosen k (is_anybody s.0.cluster.group) (passes 4 s.0) _ s e
 
-pub nobody_settles : (w : WorldState) → is_anybody w.cluster.group ≡ false → Follows w (settling w) (Err r.NobodyPresent) w
+pub nobody_settles : {O : Type 0} {S : O → List Seen → O → Type 0} (k : Watch S) (s : Scene O) → is_anybody s.0.cluster.group ≡ false → Follow S s (settling s.0) (Err r.NobodyPresent) s
 unfolding settling
-nobody_settles w e = other_taken (is_anybody w.cluster.group) (passes 4 w) (answered_at_once (Err r.NobodyPresent) w) w e (Err r.NobodyPresent) w (inl (refl, refl))
+nobody_settles k s e = other_chosen k (is_anybody s.0.cluster.group) (passes 4 s.0) (answered_at_once (Err r.NobodyPresent) s.0) s e (Err r.NobodyPresent) s (inl (refl, refl, k.none s.1))
 
-pub read_on_is : (batch m p : ℕ) (w : WorldState) → Continues w (read_on batch m p w) w (chain (happens (event.Poll m p batch) w) (λ read. forgiven (commit_pending m p read)))
+pub read_on_is : {O : Type 0} {S : O → List Seen → O → Type 0} (k : Watch S) (batch m p : ℕ) (s : Scene O) → Continues S s (read_on batch m p s.0) s (chain (happens (event.Poll m p batch) s.0) (λ read. forgiven (commit_pending m p read)))
 unfolding read_on
-read_on_is batch m p w result w2 f = f
+read_on_is k batch m p s result s2 f = f
 
-pub read_up_ends : (n batch m p : ℕ) (w : WorldState) → is_read_up w m p ≡ true → Follows w (read_up n batch m p w) (Ok tt) w
+pub read_up_ends : {O : Type 0} {S : O → List Seen → O → Type 0} (k : Watch S) (n batch m p : ℕ) (s : Scene O) → is_read_up s.0 m p ≡ true → Follow S s (read_up n batch m p s.0) (Ok tt) s
 unfolding read_up
-read_up_ends zero batch m p w e = inl (refl, refl)
-read_up_ends (suc n) batch m p w e = at_once (is_read_up w m p) _ w e
+read_up_ends k zero batch m p s e = inl (refl, refl, k.none s.1)
+read_up_ends k (suc n) batch m p s e = at_once k (is_read_up s.0 m p) _ s e
 
-pub read_up_more : (n batch m p : ℕ) (w : WorldState) → is_read_up w m p ≡ false → Continues w (read_up (suc n) batch m p w) w (chain (read_on batch m p w) (read_up n batch m p))
+pub read_up_more : {O : Type 0} {S : O → List Seen → O → Type 0} (k : Watch S) (n batch m p : ℕ) (s : Scene O) → is_read_up s.0 m p ≡ false → Continues S s (read_up (suc n) batch m p s.0) s (chain (read_on batch m p s.0) (read_up n batch m p))
 unfolding read_up
-read_up_more n batch m p w e = other_taken (is_read_up w m p) (nothing w) _ w e
+read_up_more k n batch m p s e = other_chosen k (is_read_up s.0 m p) (nothing s.0) _ s e
 
-pub read_up_done : (batch m p : ℕ) (w : WorldState) → Follows w (read_up 0 batch m p w) (Ok tt) w
+pub read_up_done : {O : Type 0} {S : O → List Seen → O → Type 0} (k : Watch S) (batch m p : ℕ) (s : Scene O) → Follow S s (read_up 0 batch m p s.0) (Ok tt) s
 unfolding read_up
-read_up_done batch m p w = inl (refl, refl)
+read_up_done k batch m p s = inl (refl, refl, k.none s.1)
 
-pub drain_log_is : (batch m p : ℕ) (w : WorldState) → Continues w (drain_log batch m p w) w (read_up (length (log_at w.cluster.logs p)) batch m p w)
+pub drain_log_is : {O : Type 0} {S : O → List Seen → O → Type 0} (k : Watch S) (batch m p : ℕ) (s : Scene O) → Continues S s (drain_log batch m p s.0) s (read_up (length (log_at s.0.cluster.logs p)) batch m p s.0)
 unfolding drain_log
-drain_log_is batch m p w result w2 f = f
+drain_log_is k batch m p s result s2 f = f
 
-pub drain_member_is : (batch m : ℕ) (w : WorldState) → Continues w (drain_member batch m w) w (for_each (elements (held_by w m)) (drain_log batch m) w)
+pub drain_member_is : {O : Type 0} {S : O → List Seen → O → Type 0} (k : Watch S) (batch m : ℕ) (s : Scene O) → Continues S s (drain_member batch m s.0) s (for_each (elements (held_by s.0 m)) (drain_log batch m) s.0)
 unfolding drain_member
-drain_member_is batch m w result w2 f = f
+drain_member_is k batch m s result s2 f = f
 
-pub drain_members_is : (batch : ℕ) (w : WorldState) → Continues w (drain_members batch w) w (for_each (members w.cluster.group) (drain_member batch) w)
+pub drain_members_is : {O : Type 0} {S : O → List Seen → O → Type 0} (k : Watch S) (batch : ℕ) (s : Scene O) → Continues S s (drain_members batch s.0) s (for_each (members s.0.cluster.group) (drain_member batch) s.0)
 unfolding drain_members
-drain_members_is batch w result w2 f = f
+drain_members_is k batch s result s2 f = f
 
-pub draining_is : (batch : ℕ) (w : WorldState) → Continues w (draining batch w) w (chain (settling w) (drain_members batch))
+pub draining_is : {O : Type 0} {S : O → List Seen → O → Type 0} (k : Watch S) (batch : ℕ) (s : Scene O) → Continues S s (draining batch s.0) s (chain (settling s.0) (drain_members batch))
 unfolding draining
-draining_is batch w result w2 f = f
-
-pub no_refusal : (replied : Reply) → ((why : Refusal) → replied ≡ reply.Refused why → ⊥) → answer_in replied ≡ Ok tt
-no_refusal (reply.Appended p o) h = refl
-no_refusal (reply.Joined m) h = refl
-no_refusal (reply.TakenOver m) h = refl
-no_refusal (reply.Leased g) h = refl
-no_refusal reply.Rejoined h = refl
-no_refusal reply.Left h = refl
-no_refusal reply.Lost h = refl
-no_refusal (reply.Polled n) h = refl
-no_refusal (reply.Sent k) h = refl
-no_refusal (reply.Committed o) h = refl
-no_refusal reply.Unanswered h = refl
-no_refusal (reply.Refused why) h = absurd (h why refl)
+draining_is k batch s result s2 f = f

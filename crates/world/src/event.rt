@@ -1,5 +1,8 @@
 //! The events of a world, and the replies to them.
 
+ghost use Rattle.std.specs.Prelude.{◌≡◌};
+ghost use Rattle.world.specs.Courses.{answer_in};
+
 use group_machine::Name;
 use lane_words::Refusal;
 
@@ -72,4 +75,16 @@ pub enum Reply {
     Unanswered,
     /// The event was refused.
     Refused(Refusal),
+}
+
+impl Reply {
+    /// The refusal, if the event was refused.
+    pub fn answer(self) -> Result<(), Refusal>
+        ensures { result ≡ answer_in self }
+    {
+        match self {
+            Reply::Refused(why) => Err(why),
+            _ => Ok(()),
+        }
+    }
 }

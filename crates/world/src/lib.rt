@@ -12,9 +12,11 @@
 
 mod event;
 mod laws;
+mod observer;
 mod parts;
 mod world;
 
 pub use event::{Event, MOST_COMMITS, Reply};
 pub use laws::full_commit_counts_all_records;
+pub use observer::{Observer, Unobserved};
 pub use world::World;

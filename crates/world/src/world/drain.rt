@@ -7,11 +7,13 @@ ghost use Rattle.commit_store.specs.Commits.{AreEndsCommitted};
 ghost use Rattle.group_laws.specs.Rounds.{without_flags, rebalance_result};
 ghost use Rattle.group_machine.specs.Settled.{is_settled};
 ghost use Rattle.world.specs.Courses.{Follows, for_each};
+ghost use Rattle.world.specs.Observing.{FollowsObserved};
 ghost use Rattle.world.specs.Draining.{drain_log, drain_member, drain_members, draining, held_by, is_read_up, read_on};
 ghost use Rattle.world.specs.Valid.{IsValidWorld};
 
 use super::World;
 use crate::event::Event;
+use crate::observer::{Observer, Unobserved};
 use bit_planes::Plane;
 use lane_words::Refusal;
 use partition_log::LogRead;
@@ -33,28 +35,55 @@ impl World {
             self.new.cluster.logs) }
         ensures valid { IsValidWorld self.new }
     {
-        self.settle()?;
-        self.drain_members(batch)
+        self.drain_observed(batch, &mut Unobserved)
+    }
+
+    /// The same. The observer sees each event, as that of `settle_observed` does.
+    pub fn drain_observed<O: Observer>(
+        &mut self,
+        batch: u32,
+        observer: &mut O,
+    ) -> Result<(), Refusal>
+        requires { 1 ≤ batch }
+        ensures step { FollowsObserved O.Sees self.old observer.old (draining batch self.old)
+            result self.new observer.new }
+        ensures kind { result ≢ Err refusal.NotSettled }
+        ensures end { OnOk result (without_flags self.new.cluster.group
+            ≡ rebalance_result self.old.cluster.group) }
+        ensures settled { OnOk result (is_settled self.new.cluster.group ≡ true) }
+        ensures committed { OnOk result (AreEndsCommitted self.new.cluster.store
+            self.new.cluster.logs) }
+        ensures valid { IsValidWorld self.new }
+    {
+        self.settle_observed(observer)?;
+        self.drain_members(batch, observer)
     }
 
     /// Each present member reads and commits the partitions that it holds.
-    fn drain_members(&mut self, batch: u32) -> Result<(), Refusal>
-        ensures { Follows self.old (drain_members batch self.old) result self.new }
+    fn drain_members<O: Observer>(&mut self, batch: u32, observer: &mut O) -> Result<(), Refusal>
+        ensures { FollowsObserved O.Sees self.old observer.old (drain_members batch self.old) result
+            self.new observer.new }
     {
         for index in 0..self.last_member() {
             if self.cluster().is_present(index + 1) {
-                self.drain_member(batch, index + 1)?;
+                self.drain_member(batch, index + 1, observer)?;
             }
         }
         Ok(())
     }
 
     /// One member reads and commits the partitions that it holds.
-    fn drain_member(&mut self, batch: u32, member: u32) -> Result<(), Refusal>
-        ensures { Follows self.old (drain_member batch member self.old) result self.new }
+    fn drain_member<O: Observer>(
+        &mut self,
+        batch: u32,
+        member: u32,
+        observer: &mut O,
+    ) -> Result<(), Refusal>
+        ensures { FollowsObserved O.Sees self.old observer.old (drain_member batch member self.old) result
+            self.new observer.new }
     {
         for p in self.held_by(member).iter() {
-            self.drain_log(batch, member, p)?;
+            self.drain_log(batch, member, p, observer)?;
         }
         Ok(())
     }
@@ -76,15 +105,22 @@ impl World {
     }
 
     /// Reads and commits a log to its end. Each round commits at least one more record.
-    fn drain_log(&mut self, batch: u32, member: u32, p: u32) -> Result<(), Refusal>
+    fn drain_log<O: Observer>(
+        &mut self,
+        batch: u32,
+        member: u32,
+        p: u32,
+        observer: &mut O,
+    ) -> Result<(), Refusal>
         requires { p < self.old.cluster.group.partitions }
-        ensures { Follows self.old (drain_log batch member p self.old) result self.new }
+        ensures { FollowsObserved O.Sees self.old observer.old (drain_log batch member p self.old) result
+            self.new observer.new }
     {
         for _ in 0..self.cluster().logs().len(p) {
             if self.is_read_up(member, p) {
                 return Ok(());
             }
-            self.read_on(batch, member, p)?;
+            self.read_on(batch, member, p, observer)?;
         }
         Ok(())
     }
@@ -100,14 +136,22 @@ impl World {
     }
 
     /// Polls once, and commits what is pending.
-    fn read_on(&mut self, batch: u32, member: u32, p: u32) -> Result<(), Refusal>
-        ensures { Follows self.old (read_on batch member p self.old) result self.new }
+    fn read_on<O: Observer>(
+        &mut self,
+        batch: u32,
+        member: u32,
+        p: u32,
+        observer: &mut O,
+    ) -> Result<(), Refusal>
+        ensures { FollowsObserved O.Sees self.old observer.old (read_on batch member p self.old) result
+            self.new observer.new }
     {
-        self.attempt(Event::Poll {
+        let poll = Event::Poll {
             member,
             partition: p,
             records: batch,
-        })?;
-        self.commit_or_realign(member, p)
+        };
+        self.attempt(poll, observer)?;
+        self.commit_or_realign(member, p, observer)
     }
 }

@@ -9,12 +9,14 @@ ghost use Rattle.group_machine.specs.State.{is_joined, is_present, is_synced, me
 ghost use Rattle.group_laws.specs.Rounds.{without_flags, rebalance_result};
 ghost use Rattle.group_laws.specs.Passes.{is_settled_and_synced};
 ghost use Rattle.world.specs.Courses.{Follows, for_each, happens};
+ghost use Rattle.world.specs.Observing.{FollowsObserved};
 ghost use Rattle.world.specs.Settling.{commit_pending, flush, forgiven, is_pending, pass, passes, rejoin_if_due, settling, sync_if_new, turn};
 ghost use Rattle.world.specs.Valid.{IsValidWorld};
 ghost use Rattle.world.specs.Private.Turns.{GivesUp};
 
 use super::World;
 use crate::event::{Event, Reply};
+use crate::observer::{Observer, Unobserved};
 use bit_planes::Plane;
 use group_machine::{NextStep, Phase};
 use lane_words::Refusal;
@@ -38,21 +40,36 @@ impl World {
             ≡ rebalance_result self.old.cluster.group) }
         ensures valid { IsValidWorld self.new }
     {
+        self.settle_observed(&mut Unobserved)
+    }
+
+    /// The same. The observer sees each event after it came about, a refused one too. If it fails,
+    /// so does the call, with `Memory`, and the events so far stand.
+    pub fn settle_observed<O: Observer>(&mut self, observer: &mut O) -> Result<(), Refusal>
+        ensures step { FollowsObserved O.Sees self.old observer.old (settling self.old) result
+            self.new observer.new }
+        ensures kind { result ≢ Err refusal.NotSettled }
+        ensures settled { OnOk result (is_settled_and_synced self.new.cluster.group ≡ true) }
+        ensures end { OnOk result (without_flags self.new.cluster.group
+            ≡ rebalance_result self.old.cluster.group) }
+        ensures valid { IsValidWorld self.new }
+    {
         match self.cluster().phase() {
             Phase::Empty => Err(Refusal::NobodyPresent),
-            Phase::Preparing | Phase::Stable => self.make_passes(),
+            Phase::Preparing | Phase::Stable => self.make_passes(observer),
         }
     }
 
     /// Makes passes until the group is settled and synced.
-    fn make_passes(&mut self) -> Result<(), Refusal>
-        ensures { Follows self.old (passes 4 self.old) result self.new }
+    fn make_passes<O: Observer>(&mut self, observer: &mut O) -> Result<(), Refusal>
+        ensures { FollowsObserved O.Sees self.old observer.old (passes 4 self.old) result
+            self.new observer.new }
     {
         for _ in 0..MOST_PASSES {
             if self.is_settled_and_synced() {
                 return Ok(());
             }
-            self.make_pass()?;
+            self.make_pass(observer)?;
         }
         if self.is_settled_and_synced() {
             return Ok(());
@@ -82,12 +99,13 @@ impl World {
     }
 
     /// Each present member takes a turn.
-    fn make_pass(&mut self) -> Result<(), Refusal>
-        ensures { Follows self.old (pass self.old) result self.new }
+    fn make_pass<O: Observer>(&mut self, observer: &mut O) -> Result<(), Refusal>
+        ensures { FollowsObserved O.Sees self.old observer.old (pass self.old) result
+            self.new observer.new }
     {
         for index in 0..self.last_member() {
             if self.cluster().is_present(index + 1) {
-                self.take_turn(index + 1)?;
+                self.take_turn(index + 1, observer)?;
             }
         }
         Ok(())
@@ -101,36 +119,39 @@ impl World {
     }
 
     /// One member takes a turn.
-    fn take_turn(&mut self, member: u32) -> Result<(), Refusal>
+    fn take_turn<O: Observer>(&mut self, member: u32, observer: &mut O) -> Result<(), Refusal>
         requires { is_present self.old.cluster.group member ≡ true }
-        ensures { Follows self.old (turn member self.old) result self.new }
+        ensures { FollowsObserved O.Sees self.old observer.old (turn member self.old) result
+            self.new observer.new }
     {
-        self.sync_if_new(member)?;
-        self.rejoin_if_due(member)
+        self.sync_if_new(member, observer)?;
+        self.rejoin_if_due(member, observer)
     }
 
     /// Syncs a member that has neither joined nor synced.
-    fn sync_if_new(&mut self, member: u32) -> Result<(), Refusal>
-        ensures { Follows self.old (sync_if_new member self.old) result self.new }
+    fn sync_if_new<O: Observer>(&mut self, member: u32, observer: &mut O) -> Result<(), Refusal>
+        ensures { FollowsObserved O.Sees self.old observer.old (sync_if_new member self.old) result
+            self.new observer.new }
     {
         match self.cluster().next_step(member) {
-            NextStep::Sync => self.attempt(Event::Sync(member)),
+            NextStep::Sync => self.attempt(Event::Sync(member), observer),
             NextStep::Rejoin | NextStep::Read => Ok(()),
         }
     }
 
     /// Rejoins a member that has to, after it committed what is pending of what it gives up.
-    fn rejoin_if_due(&mut self, member: u32) -> Result<(), Refusal>
+    fn rejoin_if_due<O: Observer>(&mut self, member: u32, observer: &mut O) -> Result<(), Refusal>
         requires present { is_present self.old.cluster.group member ≡ true }
         requires state { (is_joined self.old.cluster.group member
             || is_synced self.old.cluster.group member) ≡ true }
-        ensures { Follows self.old (rejoin_if_due member self.old) result self.new }
+        ensures { FollowsObserved O.Sees self.old observer.old (rejoin_if_due member self.old) result
+            self.new observer.new }
     {
         let Some(given) = self.given_up_by(member) else {
             return Ok(());
         };
-        self.flush_all(member, &given)?;
-        self.attempt(Event::Rejoin(member))
+        self.flush_all(member, &given, observer)?;
+        self.attempt(Event::Rejoin(member), observer)
     }
 
     /// The partitions that a present member gives up by its rejoin, if it has to rejoin.
@@ -152,47 +173,66 @@ impl World {
     }
 
     /// Commits what is pending of some partitions, one after the other.
-    fn flush_all(&mut self, member: u32, given: &Plane) -> Result<(), Refusal>
-        ensures { Follows self.old (for_each (elements given.now) (flush member) self.old) result
-            self.new }
+    fn flush_all<O: Observer>(
+        &mut self,
+        member: u32,
+        given: &Plane,
+        observer: &mut O,
+    ) -> Result<(), Refusal>
+        ensures { FollowsObserved O.Sees self.old observer.old (for_each (elements given.now) (flush member) self.old) result
+            self.new observer.new }
     {
         for p in given.iter() {
-            self.flush(member, p)?;
+            self.flush(member, p, observer)?;
         }
         Ok(())
     }
 
     /// Commits what is pending of a partition, and after a mismatch once more what is left.
-    fn flush(&mut self, member: u32, p: u32) -> Result<(), Refusal>
-        ensures { Follows self.old (flush member p self.old) result self.new }
+    fn flush<O: Observer>(&mut self, member: u32, p: u32, observer: &mut O) -> Result<(), Refusal>
+        ensures { FollowsObserved O.Sees self.old observer.old (flush member p self.old) result
+            self.new observer.new }
     {
-        self.commit_or_realign(member, p)?;
-        self.commit_pending(member, p)
+        self.commit_or_realign(member, p, observer)?;
+        self.commit_pending(member, p, observer)
     }
 
     /// Commits what is pending of a partition. Another committed offset is no failure: it realigns
     /// the consumer.
-    pub(super) fn commit_or_realign(&mut self, member: u32, p: u32) -> Result<(), Refusal>
-        ensures { Follows self.old (forgiven (commit_pending member p self.old)) result self.new }
+    pub(super) fn commit_or_realign<O: Observer>(
+        &mut self,
+        member: u32,
+        p: u32,
+        observer: &mut O,
+    ) -> Result<(), Refusal>
+        ensures { FollowsObserved O.Sees self.old observer.old (forgiven (commit_pending member p self.old)) result
+            self.new observer.new }
     {
-        match self.commit_pending(member, p) {
+        match self.commit_pending(member, p, observer) {
             Err(Refusal::OffsetMismatch { .. }) => Ok(()),
             answer => answer,
         }
     }
 
     /// Sends what is pending of a partition, and delivers the commit.
-    fn commit_pending(&mut self, member: u32, p: u32) -> Result<(), Refusal>
-        ensures { Follows self.old (commit_pending member p self.old) result self.new }
+    fn commit_pending<O: Observer>(
+        &mut self,
+        member: u32,
+        p: u32,
+        observer: &mut O,
+    ) -> Result<(), Refusal>
+        ensures { FollowsObserved O.Sees self.old observer.old (commit_pending member p self.old) result
+            self.new observer.new }
     {
         if !self.is_pending(member, p) {
             return Ok(());
         }
-        self.attempt(Event::Send {
+        let send = Event::Send {
             member,
             partition: p,
-        })?;
-        self.attempt(Event::Deliver(self.mail().len() as u32))
+        };
+        self.attempt(send, observer)?;
+        self.attempt(Event::Deliver(self.mail().len() as u32), observer)
     }
 
     /// Whether a member's consumer has something pending of a partition.
@@ -203,13 +243,20 @@ impl World {
             .is_some_and(|consumer| consumer.sendable(p).is_ok())
     }
 
-    /// Makes one event, and returns its refusal, if it is refused.
-    pub(super) fn attempt(&mut self, event: Event<'_>) -> Result<(), Refusal>
-        ensures { Follows self.old (happens event.entry self.old) result self.new }
+    /// Makes one event before the observer's eyes, and returns its refusal, if it is refused.
+    pub(super) fn attempt<O: Observer>(
+        &mut self,
+        event: Event<'_>,
+        observer: &mut O,
+    ) -> Result<(), Refusal>
+        ensures { FollowsObserved O.Sees self.old observer.old (happens event.entry self.old) result
+            self.new observer.new }
     {
-        match self.step(event) {
-            Reply::Refused(why) => Err(why),
-            _ => Ok(()),
+        let reply = self.step(event);
+        if reply == Reply::Refused(Refusal::Memory) {
+            return Err(Refusal::Memory);
         }
+        observer.see(event, reply, self)?;
+        reply.answer()
     }
 }

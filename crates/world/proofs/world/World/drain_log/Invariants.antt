@@ -4,7 +4,7 @@ use Rattle.world.proofs.Following.{Continues}
 use Rattle.world.proofs.world.World.drain_log.Given as goal
 
 abbrev pub invariant-loop : goal.invariant-loop
-invariant-loop l = record {
-  left : Continues l.fn.self (drain_log l.batch l.member l.p l.fn.self) l.self (read_up (l.end - l.counter) l.batch l.member l.p l.self);
+invariant-loop g l = record {
+  left : Continues g.O.Observer.Sees (l.fn.self, l.fn.observer) (drain_log l.batch l.member l.p l.fn.self) (l.self, l.observer) (read_up (l.end - l.counter) l.batch l.member l.p l.self);
   partitions : l.self.cluster.group.partitions ≡ l.fn.self.cluster.group.partitions;
 }

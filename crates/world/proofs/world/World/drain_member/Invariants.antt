@@ -6,8 +6,8 @@ use Rattle.world.proofs.Following.{Continues}
 use Rattle.world.proofs.world.World.drain_member.Given as goal
 
 abbrev pub invariant-loop-p : goal.invariant-loop-p
-invariant-loop-p l = record {
-  left : Continues l.fn.self (drain_member l.batch l.member l.fn.self) l.self (for_each l.p-iterator (drain_log l.batch l.member) l.self);
+invariant-loop-p g l = record {
+  left : Continues g.O.Observer.Sees (l.fn.self, l.fn.observer) (drain_member l.batch l.member l.fn.self) (l.self, l.observer) (for_each l.p-iterator (drain_log l.batch l.member) l.self);
   below : AreBelow l.fn.self.cluster.group.partitions l.p-iterator;
   partitions : l.self.cluster.group.partitions ≡ l.fn.self.cluster.group.partitions;
 }

@@ -5,4 +5,5 @@ use Rattle.world.proofs.Following.{Continues}
 use Rattle.world.proofs.world.World.flush_all.Given as goal
 
 abbrev pub invariant-loop-p : goal.invariant-loop-p
-invariant-loop-p l = Continues l.fn.self (for_each (elements l.fn.given) (flush l.member) l.fn.self) l.self (for_each l.p-iterator (flush l.member) l.self)
+invariant-loop-p g l =
+    Continues g.O.Observer.Sees (l.fn.self, l.fn.observer) (for_each (elements l.fn.given) (flush l.member) l.fn.self) (l.self, l.observer) (for_each l.p-iterator (flush l.member) l.self)

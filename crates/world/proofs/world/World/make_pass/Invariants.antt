@@ -6,7 +6,7 @@ use Rattle.world.proofs.Walks.{numbers_left}
 use Rattle.world.proofs.world.World.make_pass.Given as goal
 
 abbrev pub invariant-loop-index : goal.invariant-loop-index
-invariant-loop-index l = record {
-  left : Continues l.fn.self (pass l.fn.self) l.self (for_each (numbers_left l.fn.self.cluster.group.slots l.index) turn l.self);
+invariant-loop-index g l = record {
+  left : Continues g.O.Observer.Sees (l.fn.self, l.fn.observer) (pass l.fn.self) (l.self, l.observer) (for_each (numbers_left l.fn.self.cluster.group.slots l.index) turn l.self);
   present : SamePresent l.fn.self l.self;
 }

@@ -1,0 +1,41 @@
+-- The words of the refusals.
+use Rattle.std.specs.Prelude.{ℕ, List, codes}
+use Rattle.lane_words.specs.declared.Refusal.{Refusal}
+use Rattle.lane_words.specs.declared.Refusal.TheVariants as r
+
+-- why a step was refused, in a few words
+unfoldable pub reason_of : Refusal → List ℕ
+reason_of r.UnknownMember = codes "not a member"
+reason_of r.StaleGeneration = codes "stale generation"
+reason_of r.RebalanceInProgress = codes "rebalance in progress"
+reason_of r.NothingToGive = codes "nothing to give up"
+reason_of r.SyncFirst = codes "not synced"
+reason_of r.ClaimDiffers = codes "claim differs"
+reason_of r.AlreadyJoined = codes "already joined"
+reason_of r.NameUsed = codes "name used before"
+reason_of r.TooManyMembers = codes "too many members"
+reason_of r.NotOwner = codes "partition not granted"
+reason_of (r.OffsetMismatch committed) = codes "not the committed offset"
+reason_of r.PastEnd = codes "past the end of the log"
+reason_of r.WrongRecords = codes "not the records of the log"
+reason_of r.EmptyCommit = codes "nothing pending"
+reason_of r.NotHeld = codes "partition not held"
+reason_of r.OutOfGroup = codes "out of the group"
+reason_of r.NoSuchCommit = codes "no such commit"
+reason_of r.NotSettled = codes "not settled"
+reason_of r.NobodyPresent = codes "nobody present"
+reason_of r.KeyTooLong = codes "key too long"
+reason_of r.LogFull = codes "log full"
+reason_of (r.BadLine line) = codes "bad line"
+reason_of (r.NoSuchColumn nth) = codes "no such column"
+reason_of (r.BadCsv nth) = codes "bad record"
+reason_of r.ReadFailed = codes "read failed"
+reason_of r.WriteFailed = codes "write failed"
+reason_of (r.NobodyLeft line) = codes "nobody left"
+reason_of r.Differs = codes "differs"
+reason_of r.GateLimit = codes "gate limit"
+reason_of r.MailFull = codes "mail full"
+reason_of r.GenerationsOver = codes "generations over"
+reason_of (r.NoSuchTopic nth) = codes "no such topic"
+reason_of r.NotKept = codes "no static member of that name"
+reason_of r.Memory = codes "out of memory"
