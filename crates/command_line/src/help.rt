@@ -17,6 +17,32 @@ macro_rules! text {
             "  lose NAME                the group removes the member, which is not notified\n"
             $($rest)*)
     };
+    ($done:tt script_lines $($rest:tt)*) => {
+        text!($done
+            "Lines of a script:\n"
+            changes
+            "  keep NAME                a new static member joins: its seat can be taken over\n"
+            "  return NAME              a new member takes over the seat of the static member NAME\n"
+            "  sync NAME                the member fetches its assignment\n"
+            "  rejoin NAME              the member revokes what it has to give up, and rejoins\n"
+            "  poll NAME P N            the member reads at most N records of partition P\n"
+            "  send NAME P              the member sends a commit of what it has read of partition P\n"
+            "  deliver C                commit C is delivered and answered; commits count from 1\n"
+            "  unanswered C             as deliver, but the answer is lost\n"
+            "  append KEY               a record with this key is appended\n"
+            "  settle                   the members sync and rejoin until the rebalance is complete\n"
+            "  drain                    as settle; then the members read and commit all records\n"
+            comment
+            "With --topics: poll NAME TOPIC P N, send NAME TOPIC P, append TOPIC KEY\n\n"
+            $($rest)*)
+    };
+    ($done:tt script_faults $($rest:tt)*) => {
+        text!($done
+            faults_20_and_21 fault_22 faults_23_to_26
+            "  fault 31                 a line of the script would exceed generation 4,294,967,295\n"
+            faults_32_and_90
+            $($rest)*)
+    };
     ($done:tt comment $($rest:tt)*) => {
         text!($done
             "  # TEXT                   a comment; empty lines are skipped too\n"
@@ -102,36 +128,58 @@ pub const AFTER_COUNT: &str = text!([]
 
 /// Below the options of `replay`.
 pub const AFTER_REPLAY: &str = text!([]
-    "Lines of a script:\n"
-    changes
-    "  keep NAME                a new static member joins: its seat can be taken over\n"
-    "  return NAME              a new member takes over the seat of the static member NAME\n"
-    "  sync NAME                the member fetches its assignment\n"
-    "  rejoin NAME              the member revokes what it has to give up, and rejoins\n"
-    "  poll NAME P N            the member reads at most N records of partition P\n"
-    "  send NAME P              the member sends a commit of what it has read of partition P\n"
-    "  deliver C                commit C is delivered and answered; commits count from 1\n"
-    "  unanswered C             as deliver, but the answer is lost\n"
-    "  append KEY               a record with this key is appended\n"
-    "  settle                   the members sync and rejoin until the rebalance is complete\n"
-    "  drain                    as settle; then the members read and commit all records\n"
-    comment
-    "With --topics: poll NAME TOPIC P N, send NAME TOPIC P, append TOPIC KEY\n\n"
+    script_lines
     rows move_row
     "  refused,LINE,CODE        this line of the script was refused; the script continues\n"
     owner_row
     "  offset,P,COMMITTED,END   the committed offset and the end offset of partition P\n"
     "  count,KEY,N              the number of committed records with this key\n"
     "  total,COMMITTED,ALL      the number of committed records, and of all records\n"
-    topics_note
-    faults_20_and_21 fault_22 faults_23_to_26
-    "  fault 31                 a line of the script would exceed generation 4,294,967,295\n"
-    faults_32_and_90
+    topics_note script_faults
     "\nExamples:\n"
     "  printf '21\\n4\\nfoobar\\nabc\\n21\\n' > keys.csv\n"
     "  printf 'join A\\njoin B\\nsettle\\ndrain\\n' | keycount replay keys.csv -\n"
     "  printf '21,a\\nabc,b\\n21,b\\n4,a\\n4,b\\n' > topics.csv\n"
     "  printf 'join A\\nsettle\\njoin B\\ndrain\\n' | keycount replay --topics a:2,b:3 topics.csv -"
+);
+
+/// Below the options of `trace`.
+pub const AFTER_TRACE: &str = text!([]
+    script_lines
+    "Rows, as CSV on standard output: a header with these columns, and a row for each event:\n"
+    "  line,step                the line of the script, and which of its rows this is; a settle\n"
+    "                           or drain has a row for each event that it chooses, and a last one\n"
+    "  event                    the event, by its word in a script\n"
+    "  member                   the member that it is about; who sent a commit that is delivered\n"
+    "  partition                the partition of a poll, a commit or an accepted append\n"
+    "  from,to                  the positions before and after a poll, or a commit's offsets\n"
+    "  commit                   the number of the commit\n"
+    "  code,reason              why it was refused, by number and in words; else empty\n"
+    "  generation,phase         of the group afterwards, as are all further columns\n"
+    "  waiting                  the members that have not joined the rebalance\n"
+    "  granted                  each member, and the partitions granted to it: A 0-1 3;B 2\n"
+    "  unread                   the partitions that no member reads\n"
+    "  lag                      the number of records that are not committed\n"
+    "With --topics, partition follows a column topic, and each range of partitions a topic's name.\n"
+    script_faults
+    "\nExample:\n"
+    "  printf '21\\n4\\nfoobar\\nabc\\n21\\n' > keys.csv\n"
+    "  printf 'join A\\njoin B\\ndrain\\n' | keycount trace keys.csv - | column -ts,"
+);
+
+/// Below the options of `draw`.
+pub const AFTER_DRAW: &str = text!([]
+    script_lines
+    "The picture, as SVG on standard output: a lane for each range of partitions that had the\n"
+    "same owners and readers, in the readers' colours, and hatched red where nobody reads; a\n"
+    "column for each event that shows, under its line of the script; dashed lines where\n"
+    "generations begin; polls with their offsets; commits as arcs, from where they are sent to a\n"
+    "tick where they are accepted, or to a cross where they are refused, and why. Below: when\n"
+    "partitions had no reader, and how many records were read more than once.\n"
+    script_faults
+    "\nExample:\n"
+    "  printf '21\\n4\\nfoobar\\nabc\\n21\\n' > keys.csv\n"
+    "  printf 'join A\\nsettle\\nlose A\\njoin B\\ndrain\\n' | keycount draw keys.csv - > group.svg"
 );
 
 /// Below the options of `run`.

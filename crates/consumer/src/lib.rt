@@ -12,7 +12,7 @@
 
 ghost use Rattle.std.specs.Prelude.{◌≡◌, ◌≤◌, ℕ, Some, Ok, Err, IfOk, IfErr, OnOk, OnErr};
 ghost use Rattle.lane_words.specs.Answers.{Answers};
-ghost use Rattle.bit_planes.specs.PartitionSet.{partitions_of};
+ghost use Rattle.bit_planes.specs.PartitionSet.{is_in, partitions_of};
 ghost use Rattle.consumer.specs.Private.Hold.{IsHold};
 ghost use Rattle.consumer.specs.Consumer.{IsValidConsumer, IsWithinLogs, answered_by, base_of, given_up, held_at, hold_answer, is_held, joined_as, leased, out_of_group, poll_answer, polled, position_of, realigned, send_answer, sendable_answer};
 
@@ -209,6 +209,15 @@ impl Consumer {
         ensures { result ≡ is_held self.now p }
     {
         self.held_at(p).is_some()
+    }
+
+    /// The partitions that it holds.
+    pub fn holding(&self) -> &Plane
+        ensures partitions { partitions_of result.now ≡ self.now.partitions }
+        ensures elements { (p : ℕ) → is_in result.now p ≡ is_held self.now p }
+        ensures valid { IsValidConsumer self.now }
+    {
+        &self.holding
     }
 
     /// The base of a partition: all records below it are known to be committed. It is 0 if the

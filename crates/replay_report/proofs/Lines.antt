@@ -7,10 +7,12 @@ use Rattle.lane_words.specs.declared.Refusal.TheVariants as r
 use Rattle.script.specs.declared.replay.Line.{Line}
 use Rattle.partitioner.specs.declared.topic.Topic.{Topic}
 use Rattle.world.specs.World.{WorldState}
-use Rattle.replay_report.specs.ReplayReport.{LineOutcome, outcome_of_line, rows_of_answer, rows_of_line, text_before, text_of_lines, unless_over}
+use Rattle.replay_report.specs.ReplayReport.{rows_of_answer, rows_of_line, text_before, text_of_lines}
+use Rattle.replay_steps.specs.Lines.{LineOutcome, outcome_of_line, unless_over}
+use Rattle.replay_steps.specs.Shown.{IsLineFault}
 use Rattle.group_machine.specs.Cluster.{ClusterState}
 use Rattle.report_rows.specs.ReplayRows.{closing_rows, move_rows}
-use Rattle.replay_report.specs.Private.Replay.{IsNotFinal, IsOver, WritesText}
+use Rattle.replay_report.specs.Private.Replay.{WritesText}
 
 not_final : (answer : Result (Unit {0}) Refusal) (text : Result (List ℕ) Refusal) → answer ≢ Err r.GenerationsOver → unless_over answer text ≡ text
 not_final (Err r.GenerationsOver) text h = absurd (h refl)
@@ -20,12 +22,12 @@ pub text_of_lines-nil : (topics : List Topic) (batch : ℕ) (w : WorldState) →
 unfolding text_of_lines
 text_of_lines-nil topics batch w = refl
 
-pub text_of_lines-next : (topics : List Topic) (batch : ℕ) (w : WorldState) (line : Line) (lines : List Line) → (outcome_of_line batch w line.action).answer ≢ Err r.GenerationsOver
-    → text_of_lines topics batch w (line ∷ lines) ≡ text_before (rows_of_line topics line.number w (outcome_of_line batch w line.action)) (text_of_lines topics batch (outcome_of_line batch w line.action).after lines)
+pub text_of_lines-next : (topics : List Topic) (batch : ℕ) (w : WorldState) (line : Line) (lines : List Line) → (outcome_of_line batch w line).answer ≢ Err r.GenerationsOver
+    → text_of_lines topics batch w (line ∷ lines) ≡ text_before (rows_of_line topics line.number w (outcome_of_line batch w line)) (text_of_lines topics batch (outcome_of_line batch w line).after lines)
 unfolding text_of_lines
 text_of_lines-next topics batch w line lines h = not_final _ _ h
 
-pub text_of_lines-over : (topics : List Topic) (batch : ℕ) (w : WorldState) (line : Line) (lines : List Line) → (outcome_of_line batch w line.action).answer ≡ Err r.GenerationsOver → text_of_lines topics batch w (line ∷ lines) ≡ Err r.GenerationsOver
+pub text_of_lines-over : (topics : List Topic) (batch : ℕ) (w : WorldState) (line : Line) (lines : List Line) → (outcome_of_line batch w line).answer ≡ Err r.GenerationsOver → text_of_lines topics batch w (line ∷ lines) ≡ Err r.GenerationsOver
 unfolding text_of_lines
 text_of_lines-over topics batch w line lines h = rw h refl
 
@@ -41,12 +43,12 @@ written Written text now more (Ok rest) e h = let same : now ++ more ≡ text ++
 written Written text now more (Err fault) e h = absurd (cc e)
 
 -- ---- one line
-pub rows_written : (topics : List Topic) (Written : List ℕ → Type 0) (text rows : List ℕ) (line from : ℕ) (w w2 : WorldState) (s : ClusterState) (outcome : LineOutcome) (answer : Result (Unit {0}) Refusal) → IsNotFinal outcome answer w2 → s ≡ w2.cluster
+pub rows_written : (topics : List Topic) (Written : List ℕ → Type 0) (text rows : List ℕ) (line from : ℕ) (w w2 : WorldState) (s : ClusterState) (outcome : LineOutcome) (answer : Result (Unit {0}) Refusal) → answer ≡ outcome.answer → w2 ≡ outcome.after → s ≡ w2.cluster
     → from ≡ length w.cluster.group.moves → rows ≡ rows_of_answer line answer → Written ((text ++ move_rows topics s.group (drop from s.group.moves)) ++ rows) → Written (text ++ rows_of_line topics line w outcome)
 unfolding rows_of_line
-rows_written topics Written text rows line from w w2 s outcome answer goes s_is from_is rows_is h =
-    let after : s ≡ outcome.after.cluster = s_is ∙ ap (λ (x : WorldState). x.cluster) goes.after_is in
-    let reported : rows ≡ rows_of_answer line outcome.answer = rows_is ∙ ap (rows_of_answer line) goes.answer_is in
+rows_written topics Written text rows line from w w2 s outcome answer answer_is after_is s_is from_is rows_is h =
+    let after : s ≡ outcome.after.cluster = s_is ∙ ap (λ (x : WorldState). x.cluster) after_is in
+    let reported : rows ≡ rows_of_answer line outcome.answer = rows_is ∙ ap (rows_of_answer line) answer_is in
     subst Written (append_assoc text (move_rows topics s.group (drop from s.group.moves)) rows
     ∙ ap (λ (x : ClusterState). text ++ (move_rows topics x.group (drop from x.group.moves) ++ rows)) after
     ∙ ap (λ n. text ++ (move_rows topics outcome.after.cluster.group (drop n outcome.after.cluster.group.moves) ++ rows)) from_is
@@ -56,18 +58,18 @@ rows_written topics Written text rows line from w w2 s outcome answer goes s_is 
 next_line : (lines : List Line) (i : ℕ) (line : Line) → i < length lines → line ≡ get_or lines i line → drop i lines ≡ line ∷ drop (i + 1) lines
 next_line lines i line lt is = drop-cons lines i line lt ∙ ap (λ x. x ∷ drop (suc i) lines) (sym is) ∙ rw add-one refl
 
-pub lines_step : (topics : List Topic) (batch : ℕ) (w w2 : WorldState) (lines : List Line) (i : ℕ) (line : Line) → i < length lines → line ≡ get_or lines i line → (outcome_of_line batch w line.action).answer ≢ Err r.GenerationsOver
-    → w2 ≡ (outcome_of_line batch w line.action).after
-    → text_of_lines topics batch w (drop i lines) ≡ text_before (rows_of_line topics line.number w (outcome_of_line batch w line.action)) (text_of_lines topics batch w2 (drop (i + 1) lines))
+pub lines_step : (topics : List Topic) (batch : ℕ) (w w2 : WorldState) (lines : List Line) (i : ℕ) (line : Line) → i < length lines → line ≡ get_or lines i line → (outcome_of_line batch w line).answer ≢ Err r.GenerationsOver
+    → w2 ≡ (outcome_of_line batch w line).after
+    → text_of_lines topics batch w (drop i lines) ≡ text_before (rows_of_line topics line.number w (outcome_of_line batch w line)) (text_of_lines topics batch w2 (drop (i + 1) lines))
 lines_step topics batch w w2 lines i line lt is goes after =
     ap (text_of_lines topics batch w) (next_line lines i line lt is) ∙ text_of_lines-next topics batch w line (drop (i + 1) lines) goes
-    ∙ ap (λ x. text_before (rows_of_line topics line.number w (outcome_of_line batch w line.action)) (text_of_lines topics batch x (drop (i + 1) lines))) (sym after)
+    ∙ ap (λ x. text_before (rows_of_line topics line.number w (outcome_of_line batch w line)) (text_of_lines topics batch x (drop (i + 1) lines))) (sym after)
 
 pub text_step : (now rows : List ℕ) (left before after : Result (List ℕ) Refusal) → before ≡ text_before rows after → text_before now before ≡ left → text_before (now ++ rows) after ≡ left
 text_step now rows left before after step h = sym (text_before-both now rows after) ∙ ap (text_before now) (sym step) ∙ h
 
 pub lines_fault : (topics : List Topic) (batch : ℕ) (w : WorldState) (lines : List Line) (i : ℕ) (line : Line) (whole : Result (List ℕ) Refusal) (e : Refusal) → i < length lines → line ≡ get_or lines i line
-    → ((x : Refusal) → text_of_lines topics batch w (drop i lines) ≡ Err x → whole ≡ Err x) → (e ≡ r.Memory) ⊎ IsOver e (outcome_of_line batch w line.action).answer → (e ≡ r.Memory) ⊎ (whole ≡ Err e)
+    → ((x : Refusal) → text_of_lines topics batch w (drop i lines) ≡ Err x → whole ≡ Err x) → IsLineFault (outcome_of_line batch w line).answer e → (e ≡ r.Memory) ⊎ (whole ≡ Err e)
 lines_fault topics batch w lines i line whole e lt is reported (inl m) = inl m
 lines_fault topics batch w lines i line whole e lt is reported (inr over) =
     inr (reported e (ap (text_of_lines topics batch w) (next_line lines i line lt is) ∙ text_of_lines-over topics batch w line (drop (i + 1) lines) over.1 ∙ ap Err (sym over.0)))

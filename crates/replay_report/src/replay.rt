@@ -17,14 +17,16 @@ use command_line::Options;
 use ingest::{FileRecords, file_records};
 use lane_words::Refusal;
 use lines::text_of_lines;
-use loading::world_of;
+pub use loading::world_of;
 use script::{Line, Topic, read_replay, read_replay_topics};
 use std::alloc::Global;
 use std::random::RandomSource;
 use std::thread::Threads;
 
 /// The lines of a script with these topics, or without topics.
-fn read_lines(alloc: Global, topics: &[Topic], bytes: &[u8]) -> Result<Vec<Line>, Refusal>
+///
+/// Errors: `BadLine` for the first line that is not valid, and `Memory` if an allocation failed.
+pub fn read_lines(alloc: Global, topics: &[Topic], bytes: &[u8]) -> Result<Vec<Line>, Refusal>
     requires { MayBeTopics topics.now }
     ensures { Answers (read_answer_in topics.now bytes.now) (lines_seen result) }
 {
@@ -35,7 +37,11 @@ fn read_lines(alloc: Global, topics: &[Topic], bytes: &[u8]) -> Result<Vec<Line>
     }
 }
 
-fn script_lines<S: Source>(
+/// Reads a script to its end, and returns its lines.
+///
+/// Errors: `ReadFailed` if a read failed, `BadLine` for the first line that is not valid, and
+/// `Memory` if an allocation failed.
+pub fn script_lines<S: Source>(
     alloc: Global,
     topics: &[Topic],
     script: &mut S,

@@ -28,7 +28,7 @@ fn name_or_empty(cluster: &Cluster, member: Option<u32>) -> &[u8]
 
 /// The name of a partition's topic and the partition's number in it. Without topics there is no
 /// name, and the number is the partition's own.
-fn partition_among(topics: &[Topic], partition: u32) -> (Option<&[u8]>, u32)
+pub fn partition_among(topics: &[Topic], partition: u32) -> (Option<&[u8]>, u32)
     ensures found { IfSome result.0 (λ name. partition_fields topics.now partition
         ≡ name.now ∷ decimal result.1 ∷ []) }
     ensures none { IfNone result.0
@@ -200,7 +200,8 @@ fn write_committed_counts<L: LogRead>(
     Ok(())
 }
 
-fn committed_total(cluster: &Cluster) -> u64
+/// The number of records committed: the sum of the committed offsets.
+pub fn committed_total(cluster: &Cluster) -> u64
     ensures { result ≡ committed_total cluster.now }
 {
     let store = cluster.store();
@@ -211,7 +212,8 @@ fn committed_total(cluster: &Cluster) -> u64
     total
 }
 
-fn appended_total(cluster: &Cluster) -> u64
+/// The number of records appended: the sum of the lengths of the logs.
+pub fn appended_total(cluster: &Cluster) -> u64
     ensures { result ≡ appended_total cluster.now }
 {
     let logs = cluster.logs();

@@ -1,6 +1,7 @@
 use Rattle.std.proofs.Common.{◌∙◌, ◌++◌, arith, rules}
 use Rattle.report_rows.specs.Rows.{HasText}
-use Rattle.replay_report.specs.ReplayReport.{outcome_of_line, rows_of_line, text_of_lines}
+use Rattle.replay_report.specs.ReplayReport.{rows_of_line, text_of_lines}
+use Rattle.replay_steps.specs.Lines.{outcome_of_line}
 use Rattle.replay_report.proofs.Lines.{fault_before, lines_end, lines_fault, lines_step, text_step}
 use Rattle.replay_report.proofs.replay.lines.write_lines.Goals as goal
 
@@ -17,7 +18,7 @@ loop-line-preserved c =
     let w = c.loop-line.world in
     let line = c.line-item.result in
     let ok = c.in_ok-write_line.ensures in
-    let rows = rows_of_line c.args.topics.now line.number w (outcome_of_line batch w line.action) in
+    let rows = rows_of_line c.args.topics.now line.number w (outcome_of_line batch w line) in
     let step = lines_step c.args.topics.now batch w c.write_line.new.world c.args.lines.now c.loop-line.line-index line (omega arith) c.line-item.is ok.ok ok.world in
     record {
       text = λ text begun.
