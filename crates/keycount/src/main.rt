@@ -1,5 +1,5 @@
-//! `keycount`: counts the keys of a CSV file, replays a script over them, or runs a plan over them
-//! with a thread for each member. The program opens the files, lends the runtime's devices and
+//! `keycount`: counts the keys of a CSV file, replays, traces or draws a script over them, or runs a
+//! plan over them with a thread for each member. The program opens the files, lends the runtime's devices and
 //! threads to a call of `report_cli`, and prints the line of a fault. All that it reads and writes
 //! is a promise of `report_cli`.
 //!
@@ -10,8 +10,8 @@ ghost use Rattle.report_cli.specs.Reports.{AreInRange};
 
 use lane_words::Refusal;
 use report_cli::{
-    FromRead, FromWrite, Job, Options, Usage, count_text, fault_line, read_words,
-    reads_input_twice, replay_text, run_text, status,
+    FromRead, FromWrite, Job, Options, Usage, count_text, draw_text, fault_line, read_words,
+    reads_input_twice, replay_text, run_text, status, trace_text,
 };
 use std::alloc::AllocError;
 use std::env;
@@ -87,58 +87,6 @@ fn count_file<R: Threads + Sync + RandomSource>(
     }
 }
 
-fn replay<R: Threads + Sync + RandomSource, F: Read + Drop, S: Read + Drop>(
-    rt: &HostRuntime,
-    threads: &R,
-    file: Input<F>,
-    script: S,
-    options: &Options,
-) -> Result<(), Refusal>
-    requires { AreInRange options.now }
-{
-    let mut file = FromRead::expecting(file.reader, file.expected);
-    let mut script = FromRead::new(script);
-    let mut sink = FromWrite::new(rt.stdout());
-    replay_text(
-        threads,
-        rt.alloc(),
-        &mut file,
-        &mut script,
-        options,
-        &mut sink,
-    )
-}
-
-/// Replays the script at one path over the keys of the file at another. Both are opened before
-/// either is read. One of the paths can be `-`, which stands for standard input.
-fn replay_files<R: Threads + Sync + RandomSource>(
-    rt: &HostRuntime,
-    threads: &R,
-    file: &str,
-    script: &str,
-    options: &Options,
-) -> Result<(), Refusal>
-    requires { AreInRange options.now }
-{
-    match (file, script) {
-        ("-", _) => replay(
-            rt,
-            threads,
-            unsized_input(rt.stdin()),
-            open_file(rt, script)?,
-            options,
-        ),
-        (_, "-") => replay(rt, threads, input_at(rt, file)?, rt.stdin(), options),
-        _ => replay(
-            rt,
-            threads,
-            input_at(rt, file)?,
-            open_file(rt, script)?,
-            options,
-        ),
-    }
-}
-
 /// A gate that lets every worker commit at once.
 struct OpenGate;
 
@@ -148,33 +96,51 @@ impl Gate for OpenGate {
     }
 }
 
-fn run<R: Threads + Wait + RandomSource + Sync, F: Read + Drop, S: Read + Drop>(
+/// What a job with a script writes.
+#[derive(Clone, Copy)]
+enum Report {
+    Replay,
+    Trace,
+    Draw,
+    Run,
+}
+
+fn write_report<R: Threads + Wait + RandomSource + Sync, F: Read + Drop, S: Read + Drop>(
     rt: &HostRuntime,
     threads: &R,
+    report: Report,
     file: Input<F>,
     script: S,
     options: &Options,
 ) -> Result<(), Refusal>
     requires { AreInRange options.now }
 {
+    let alloc = rt.alloc();
     let mut file = FromRead::expecting(file.reader, file.expected);
     let mut script = FromRead::new(script);
     let mut sink = FromWrite::new(rt.stdout());
-    run_text(
-        threads,
-        rt.alloc(),
-        &mut file,
-        &mut script,
-        options,
-        &OpenGate,
-        &mut sink,
-    )
+    match report {
+        Report::Replay => replay_text(threads, alloc, &mut file, &mut script, options, &mut sink),
+        Report::Trace => trace_text(threads, alloc, &mut file, &mut script, options, &mut sink),
+        Report::Draw => draw_text(threads, alloc, &mut file, &mut script, options, &mut sink),
+        Report::Run => run_text(
+            threads,
+            alloc,
+            &mut file,
+            &mut script,
+            options,
+            &OpenGate,
+            &mut sink,
+        ),
+    }
 }
 
-/// Runs the plan at one path over the keys of the file at another, with paths as for a replay.
-fn run_files<R: Threads + Wait + RandomSource + Sync>(
+/// Writes a report of the script at one path over the keys of the file at another. Both are opened
+/// before either is read. One of the paths can be `-`, which stands for standard input.
+fn report_files<R: Threads + Wait + RandomSource + Sync>(
     rt: &HostRuntime,
     threads: &R,
+    report: Report,
     file: &str,
     script: &str,
     options: &Options,
@@ -182,17 +148,26 @@ fn run_files<R: Threads + Wait + RandomSource + Sync>(
     requires { AreInRange options.now }
 {
     match (file, script) {
-        ("-", _) => run(
+        ("-", _) => write_report(
             rt,
             threads,
+            report,
             unsized_input(rt.stdin()),
             open_file(rt, script)?,
             options,
         ),
-        (_, "-") => run(rt, threads, input_at(rt, file)?, rt.stdin(), options),
-        _ => run(
+        (_, "-") => write_report(
             rt,
             threads,
+            report,
+            input_at(rt, file)?,
+            rt.stdin(),
+            options,
+        ),
+        _ => write_report(
+            rt,
+            threads,
+            report,
             input_at(rt, file)?,
             open_file(rt, script)?,
             options,
@@ -238,14 +213,40 @@ fn run_job<R: Threads + Wait + RandomSource + Sync>(
                 script,
                 options,
             },
-        ) => exit_code(rt, replay_files(rt, threads, file, script, options)),
+        ) => exit_code(
+            rt,
+            report_files(rt, threads, Report::Replay, file, script, options),
+        ),
+        Ok(
+            Job::Trace {
+                file,
+                script,
+                options,
+            },
+        ) => exit_code(
+            rt,
+            report_files(rt, threads, Report::Trace, file, script, options),
+        ),
+        Ok(
+            Job::Draw {
+                file,
+                script,
+                options,
+            },
+        ) => exit_code(
+            rt,
+            report_files(rt, threads, Report::Draw, file, script, options),
+        ),
         Ok(
             Job::Run {
                 file,
                 script,
                 options,
             },
-        ) => exit_code(rt, run_files(rt, threads, file, script, options)),
+        ) => exit_code(
+            rt,
+            report_files(rt, threads, Report::Run, file, script, options),
+        ),
         Err(Usage::Help(text)) => {
             let _ = print!(rt; "{text}");
             ExitCode::SUCCESS
