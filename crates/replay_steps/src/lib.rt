@@ -20,3 +20,4 @@ pub use laws::a_line_ends_with_its_last_step;
 pub use perform::{perform_line, perform_lines};
 pub use reasons::reason_of;
 pub use step::{Step, StepEvent, StepObserver, Unshown};
+pub use walk::name_of_member;

@@ -1,0 +1,3 @@
+pub mod RowCells
+pub mod SetTexts
+pub mod Tellings
