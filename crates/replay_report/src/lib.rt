@@ -11,4 +11,4 @@
 
 mod replay;
 
-pub use replay::{replay_text, script_lines, world_of};
+pub use replay::{read_lines, replay_text, script_lines, world_of};

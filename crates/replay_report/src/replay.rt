@@ -24,7 +24,9 @@ use std::random::RandomSource;
 use std::thread::Threads;
 
 /// The lines of a script with these topics, or without topics.
-fn read_lines(alloc: Global, topics: &[Topic], bytes: &[u8]) -> Result<Vec<Line>, Refusal>
+///
+/// Errors: `BadLine` for the first line that is not valid, and `Memory` if an allocation failed.
+pub fn read_lines(alloc: Global, topics: &[Topic], bytes: &[u8]) -> Result<Vec<Line>, Refusal>
     requires { MayBeTopics topics.now }
     ensures { Answers (read_answer_in topics.now bytes.now) (lines_seen result) }
 {

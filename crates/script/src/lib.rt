@@ -22,6 +22,7 @@ mod words;
 pub use action::{Action, Key};
 pub use laws::{a_plan_is_short, forms_are_read, no_others_are_read};
 pub use limits::{LONGEST_LINE, MOST_DIGITS, NO_PARTITION};
+pub use lines::first_line;
 pub use partitioner::Topic;
 pub use plan::{Change, Plan, read_plan};
 pub use replay::{Line, read_replay, read_replay_topics};

@@ -1,0 +1,5 @@
+pub mod Courses
+pub mod Marks
+pub mod Private
+pub mod Reads
+pub mod Recording

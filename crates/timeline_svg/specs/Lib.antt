@@ -1,0 +1,11 @@
+pub mod Bands
+pub mod Columns
+pub mod Figures
+pub mod Headings
+pub mod Lanes
+pub mod Layout
+pub mod Markup
+pub mod Marks
+pub mod Picture
+pub mod Places
+pub mod Words
