@@ -37,7 +37,7 @@ use Rattle.command_line.specs.Private.CommandLine.{IsCommand, IsOptionalNumber, 
 use Rattle.command_line.specs.Topics.{AreTopicsOf, IsBadList}
 use Rattle.partitioner.specs.declared.topic.Topic.{Topic}
 use Rattle.command_line.specs.declared.words.Job.{Job}
-use Rattle.command_line.specs.declared.words.Job.TheVariants.{Count, Replay, Trace, Run}
+use Rattle.command_line.specs.declared.words.Job.TheVariants.{Count, Replay, Trace, Draw, Run}
 use Rattle.command_line.specs.declared.words.Usage.{Usage}
 use Rattle.command_line.specs.declared.words.Usage.TheVariants.{Help, Bad, Memory}
 
@@ -421,11 +421,14 @@ replay_shape = shape_at 1
 abbrev trace_shape : Shape
 trace_shape = shape_at 2
 
+abbrev draw_shape : Shape
+draw_shape = shape_at 3
+
 abbrev run_shape : Shape
-run_shape = shape_at 3
+run_shape = shape_at 4
 
 abbrev help_shape : Shape
-help_shape = shape_at 4
+help_shape = shape_at 5
 
 abbrev Named : Text → ℕ → Row → Type 0
 Named name most r = bytes_eq r.id name ≡ true → IsOptionalNumber (slice_get r.values 0) most
@@ -589,12 +592,15 @@ replay_taken = script_taken replay_shape replay_preserves replay_defaults paths_
 trace_taken : (words : List Text) → level_fault trace_shape [] nothing_held words false [] ≡ [] → AreScriptRows (rows_after trace_shape.rules [] words)
 trace_taken = script_taken trace_shape replay_preserves replay_defaults paths_given
 
+draw_taken : (words : List Text) → level_fault draw_shape [] nothing_held words false [] ≡ [] → AreScriptRows (rows_after draw_shape.rules [] words)
+draw_taken = script_taken draw_shape replay_preserves replay_defaults paths_given
+
 run_taken : (words : List Text) → level_fault run_shape [] nothing_held words false [] ≡ [] → AreScriptRows (rows_after run_shape.rules [] words)
 run_taken = script_taken run_shape replay_preserves replay_defaults paths_given
 
 -- the subcommands that take a script
 abbrev IsOfScript : Text → Type 0
-IsOfScript name = (name ≡ codes "replay") ⊎ ((name ≡ codes "trace") ⊎ (name ≡ codes "run"))
+IsOfScript name = (name ≡ codes "replay") ⊎ ((name ≡ codes "trace") ⊎ ((name ≡ codes "draw") ⊎ (name ≡ codes "run")))
 
 -- what clap has checked of the words after the subcommand of this name
 abbrev Takes : Text → List Row → Type 0
@@ -618,20 +624,23 @@ job_entered : (stop : Option (Text × List Text)) → StopsElsewhere stop → is
     → (name : Text) × (rows : List Row) × (entered keycount_built stop ≡ Some (name, rows)) × Takes name rows
 job_entered None help some e = absurd (true≢false (sym some))
 job_entered (Some p) help some e =
-    go (answers_to p.0 (label_of count_shape)) (answers_to p.0 (label_of replay_shape)) (answers_to p.0 (label_of trace_shape)) (answers_to p.0 (label_of run_shape)) (answers_to p.0 (label_of help_shape)) (not_named_help p.0 help) some e
+    go (answers_to p.0 (label_of count_shape)) (answers_to p.0 (label_of replay_shape)) (answers_to p.0 (label_of trace_shape)) (answers_to p.0 (label_of draw_shape)) (answers_to p.0 (label_of run_shape)) (answers_to p.0 (label_of help_shape)) (not_named_help p.0 help) some e
   where
-    found : (b d t r h : Bool) → Option Shape
-    found b d t r h = cond b (Some count_shape) (cond d (Some replay_shape) (cond t (Some trace_shape) (cond r (Some run_shape) (cond h (Some help_shape) None))))
+    found : (b d t q r h : Bool) → Option Shape
+    found b d t q r h =
+        cond b (Some count_shape)
+        (cond d (Some replay_shape) (cond t (Some trace_shape) (cond q (Some draw_shape) (cond r (Some run_shape) (cond h (Some help_shape) None)))))
 
-    go : (b d t r h : Bool) → h ≡ false → is_some (option_map (λ s. rows_at s p.1) (found b d t r h)) ≡ true
-        → option_map_or (λ s. level_fault s [] nothing_held p.1 false []) (found b d t r h) [] ≡ []
-        → (name : Text) × (rows : List Row) × (option_map (λ s. rows_at s p.1) (found b d t r h) ≡ Some (name, rows)) × Takes name rows
-    go true d t r h other_no given e = (codes "count", rows_after count_shape.rules [] p.1, refl, inl (refl, count_taken p.1 e))
-    go false true t r h other_no given e = (codes "replay", rows_after replay_shape.rules [] p.1, refl, inr (inl refl, replay_taken p.1 e))
-    go false false true r h other_no given e = (codes "trace", rows_after trace_shape.rules [] p.1, refl, inr (inr (inl refl), trace_taken p.1 e))
-    go false false false true h other_no given e = (codes "run", rows_after run_shape.rules [] p.1, refl, inr (inr (inr refl), run_taken p.1 e))
-    go false false false false true other_no given e = absurd (true≢false other_no)
-    go false false false false false other_no given e = absurd (true≢false (sym given))
+    go : (b d t q r h : Bool) → h ≡ false → is_some (option_map (λ s. rows_at s p.1) (found b d t q r h)) ≡ true
+        → option_map_or (λ s. level_fault s [] nothing_held p.1 false []) (found b d t q r h) [] ≡ []
+        → (name : Text) × (rows : List Row) × (option_map (λ s. rows_at s p.1) (found b d t q r h) ≡ Some (name, rows)) × Takes name rows
+    go true d t q r h other_no given e = (codes "count", rows_after count_shape.rules [] p.1, refl, inl (refl, count_taken p.1 e))
+    go false true t q r h other_no given e = (codes "replay", rows_after replay_shape.rules [] p.1, refl, inr (inl refl, replay_taken p.1 e))
+    go false false true q r h other_no given e = (codes "trace", rows_after trace_shape.rules [] p.1, refl, inr (inr (inl refl), trace_taken p.1 e))
+    go false false false true r h other_no given e = (codes "draw", rows_after draw_shape.rules [] p.1, refl, inr (inr (inr (inl refl)), draw_taken p.1 e))
+    go false false false false true h other_no given e = (codes "run", rows_after run_shape.rules [] p.1, refl, inr (inr (inr (inr refl)), run_taken p.1 e))
+    go false false false false false true other_no given e = absurd (true≢false other_no)
+    go false false false false false false other_no given e = absurd (true≢false (sym given))
 
 subcommand_given : (rows : List Row) (has : Bool) → check_fault keycount_built.top rows has ≡ [] → has ≡ true
 subcommand_given rows true e = refl
@@ -676,6 +685,7 @@ topics_of_job : (rows : List Row) (job : Job) → HasJob rows job → (topics : 
 topics_of_job rows (Count file options) has = (options.topics.items, has.1.topics)
 topics_of_job rows (Replay file script options) has = (options.topics.items, has.options_are.topics)
 topics_of_job rows (Trace file script options) has = (options.topics.items, has.options_are.topics)
+topics_of_job rows (Draw file script options) has = (options.topics.items, has.options_are.topics)
 topics_of_job rows (Run file script options) has = (options.topics.items, has.options_are.topics)
 
 pub bad_list_reported : (words : List Text) (answer : Result Job Usage) → IfOk answer (IsJobOf words) → IfErr answer (IsRefusal words)
@@ -734,7 +744,8 @@ not_count name other is = true≢false (sym (ap (λ t. bytes_eq t (codes "count"
 script_is_no_count : (name : Text) → IsOfScript name → name ≡ codes "count" → ⊥
 script_is_no_count name (inl named) is = not_count name (ap (λ t. bytes_eq t (codes "count")) named) is
 script_is_no_count name (inr (inl named)) is = not_count name (ap (λ t. bytes_eq t (codes "count")) named) is
-script_is_no_count name (inr (inr named)) is = not_count name (ap (λ t. bytes_eq t (codes "count")) named) is
+script_is_no_count name (inr (inr (inl named))) is = not_count name (ap (λ t. bytes_eq t (codes "count")) named) is
+script_is_no_count name (inr (inr (inr named))) is = not_count name (ap (λ t. bytes_eq t (codes "count")) named) is
 
 pub takes_count : (name : Text) (rows : List Row) → Takes name rows → name ≡ codes "count" → AreCountRows rows
 takes_count name rows (inl takes) is = takes.1
@@ -745,8 +756,9 @@ pub takes_script : (name : Text) (rows : List Row) → Takes name rows → bytes
 takes_script name rows (inl takes) other = absurd (not_count name other takes.0)
 takes_script name rows (inr takes) other = takes.1
 
-pub takes_none : (name : Text) (rows : List Row) → Takes name rows → (name ≡ codes "count" → ⊥) → (name ≡ codes "replay" → ⊥) → (name ≡ codes "trace" → ⊥) → (name ≡ codes "run" → ⊥) → ⊥
-takes_none name rows (inl takes) no_count no_replay no_trace no_run = no_count takes.0
-takes_none name rows (inr (inl named, has)) no_count no_replay no_trace no_run = no_replay named
-takes_none name rows (inr (inr (inl named), has)) no_count no_replay no_trace no_run = no_trace named
-takes_none name rows (inr (inr (inr named), has)) no_count no_replay no_trace no_run = no_run named
+pub takes_none : (name : Text) (rows : List Row) → Takes name rows → (name ≡ codes "count" → ⊥) → (name ≡ codes "replay" → ⊥) → (name ≡ codes "trace" → ⊥) → (name ≡ codes "draw" → ⊥) → (name ≡ codes "run" → ⊥) → ⊥
+takes_none name rows (inl takes) no_count no_replay no_trace no_draw no_run = no_count takes.0
+takes_none name rows (inr (inl named, has)) no_count no_replay no_trace no_draw no_run = no_replay named
+takes_none name rows (inr (inr (inl named), has)) no_count no_replay no_trace no_draw no_run = no_trace named
+takes_none name rows (inr (inr (inr (inl named)), has)) no_count no_replay no_trace no_draw no_run = no_draw named
+takes_none name rows (inr (inr (inr (inr named)), has)) no_count no_replay no_trace no_draw no_run = no_run named

@@ -12,7 +12,7 @@ use Rattle.clap.specs.declared.builder.value_parser.ValueParser.TheVariants as p
 use Rattle.clap.specs.declared.error.kind.ErrorKind.TheVariants as kind
 use Rattle.command_line.specs.declared.options.Options.{Options}
 use Rattle.command_line.specs.declared.words.Job.{Job}
-use Rattle.command_line.specs.declared.words.Job.TheVariants.{Count, Replay, Trace, Run}
+use Rattle.command_line.specs.declared.words.Job.TheVariants.{Count, Replay, Trace, Draw, Run}
 use Rattle.command_line.specs.declared.words.Usage.{Usage}
 use Rattle.command_line.specs.declared.words.Usage.TheVariants.{Help, Bad, Memory}
 use Rattle.command_line.specs.declared.options.TheConstants.{LAST_COLUMN, DEFAULT_BATCH, MOST_BATCH}
@@ -57,7 +57,7 @@ with_options app =
 abbrev pub count_app : App
 count_app = with_options (with_rule (new_app (codes "count")) (path (codes "file")))
 
--- what `replay`, `trace` and `run` have: a file, a script, the common options and `--batch`
+-- what `replay`, `trace`, `draw` and `run` have: a file, a script, the common options and `--batch`
 abbrev pub with_script : App → App
 with_script app =
     let file = with_rule app (path (codes "file")) in
@@ -71,6 +71,10 @@ replay_app = with_script (new_app (codes "replay"))
 -- the subcommand `trace`
 abbrev pub trace_app : App
 trace_app = with_script (new_app (codes "trace"))
+
+-- the subcommand `draw`
+abbrev pub draw_app : App
+draw_app = with_script (new_app (codes "draw"))
 
 -- the subcommand `run`
 abbrev pub run_app : App
@@ -90,7 +94,8 @@ abbrev pub keycount_app : App
 keycount_app =
     let count = with_subcommand keycount_top count_app.top in
     let replay = with_subcommand count replay_app.top in
-    with_subcommand (with_subcommand replay trace_app.top) run_app.top
+    let trace = with_subcommand replay trace_app.top in
+    with_subcommand (with_subcommand trace draw_app.top) run_app.top
 
 -- n is the number that the text denotes, or the default without one
 abbrev pub IsNumber : Option Text → ℕ → ℕ → Type 0
@@ -125,6 +130,7 @@ HasJob rows (Count file options) = (first_of (codes "file") rows ≡ Some file.n
     × HasOptions rows options × (options.batch ≡ DEFAULT_BATCH)
 HasJob rows (Replay file script options) = HasScript rows file.now script.now options
 HasJob rows (Trace file script options) = HasScript rows file.now script.now options
+HasJob rows (Draw file script options) = HasScript rows file.now script.now options
 HasJob rows (Run file script options) = HasScript rows file.now script.now options
 
 -- the name of the subcommand of a job
@@ -132,6 +138,7 @@ abbrev pub name_of : Job → Text
 name_of (Count file options) = codes "count"
 name_of (Replay file script options) = codes "replay"
 name_of (Trace file script options) = codes "trace"
+name_of (Draw file script options) = codes "draw"
 name_of (Run file script options) = codes "run"
 
 -- the job that the words ask for: clap accepts them, and finds its subcommand, files and options

@@ -167,6 +167,21 @@ pub const AFTER_TRACE: &str = text!([]
     "  printf 'join A\\njoin B\\ndrain\\n' | keycount trace keys.csv - | column -ts,"
 );
 
+/// Below the options of `draw`.
+pub const AFTER_DRAW: &str = text!([]
+    script_lines
+    "The picture, as SVG on standard output: a lane for each range of partitions that had the\n"
+    "same owners and readers, in the readers' colours, and hatched red where nobody reads; a\n"
+    "column for each event that shows, under its line of the script; dashed lines where\n"
+    "generations begin; polls with their offsets; commits as arcs, from where they are sent to a\n"
+    "tick where they are accepted, or to a cross where they are refused, and why. Below: when\n"
+    "partitions had no reader, and how many records were read more than once.\n"
+    script_faults
+    "\nExample:\n"
+    "  printf '21\\n4\\nfoobar\\nabc\\n21\\n' > keys.csv\n"
+    "  printf 'join A\\nsettle\\nlose A\\njoin B\\ndrain\\n' | keycount draw keys.csv - > group.svg"
+);
+
 /// Below the options of `run`.
 pub const AFTER_RUN: &str = text!([]
     "Lines of a plan; at least one member must remain after each:\n"

@@ -11,6 +11,6 @@ mod options;
 mod topics;
 mod words;
 
-pub use help::{AFTER_COUNT, AFTER_KEYCOUNT, AFTER_REPLAY, AFTER_RUN, AFTER_TRACE};
+pub use help::{AFTER_COUNT, AFTER_DRAW, AFTER_KEYCOUNT, AFTER_REPLAY, AFTER_RUN, AFTER_TRACE};
 pub use options::Options;
 pub use words::{Job, Usage, read_words};

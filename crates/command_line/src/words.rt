@@ -7,9 +7,9 @@ ghost use Rattle.clap.specs.Walk.{Rule};
 ghost use Rattle.command_line.specs.CommandLine.{HasOptions, HasScript, HaveBadList, IsBadListReport, IsJobOf, IsNumber, IsRefusal};
 ghost use Rattle.command_line.specs.Topics.{AreTopicsOf};
 ghost use Rattle.command_line.specs.Private.CommandLine.{IsCommand, IsJobOfRows, IsOptionalNumber, IsReadAs, AreCountRows, AreOptionRows, AreScriptRows, IsUsageOf, ReportsBadList};
-ghost use Rattle.command_line.specs.CommandLine.{count_app, flag, keycount_app, keycount_top, number_option, path, replay_app, run_app, text_option, trace_app, with_options, with_script};
+ghost use Rattle.command_line.specs.CommandLine.{count_app, draw_app, flag, keycount_app, keycount_top, number_option, path, replay_app, run_app, text_option, trace_app, with_options, with_script};
 
-use crate::help::{AFTER_COUNT, AFTER_KEYCOUNT, AFTER_REPLAY, AFTER_RUN, AFTER_TRACE};
+use crate::help::{AFTER_COUNT, AFTER_DRAW, AFTER_KEYCOUNT, AFTER_REPLAY, AFTER_RUN, AFTER_TRACE};
 use crate::options::{DEFAULT_BATCH, LAST_COLUMN, MOST_BATCH, Options};
 use crate::topics;
 use clap::error::ErrorKind;
@@ -34,6 +34,12 @@ pub enum Job<'a> {
     },
     /// Traces a script over the keys of a file, event by event.
     Trace {
+        file: &'a str,
+        script: &'a str,
+        options: Options,
+    },
+    /// Draws what a script does over the keys of a file, as a picture.
+    Draw {
         file: &'a str,
         script: &'a str,
         options: Options,
@@ -183,7 +189,7 @@ fn count_command<'a>(alloc: Global) -> Result<Command<'a>, AllocError>
     with_options(alloc, command)
 }
 
-/// Adds what `replay`, `trace` and `run` have: a file, a script, the common options and `--batch`.
+/// Adds what `replay`, `trace`, `draw` and `run` have: a file, a script, the common options and `--batch`.
 fn with_script<'a>(
     alloc: Global,
     command: Command<'a>,
@@ -219,6 +225,15 @@ fn trace_command<'a>(alloc: Global) -> Result<Command<'a>, AllocError>
     with_script(alloc, command, "Script to trace; - is standard input")
 }
 
+fn draw_command<'a>(alloc: Global) -> Result<Command<'a>, AllocError>
+    ensures { IfOk result (IsCommand draw_app) }
+{
+    let command = Command::new(alloc, "draw")
+        .about("Replay a script, and draw who reads which partition, as SVG")
+        .after_help(AFTER_DRAW);
+    with_script(alloc, command, "Script to draw; - is standard input")
+}
+
 fn run_command<'a>(alloc: Global) -> Result<Command<'a>, AllocError>
     ensures { IfOk result (IsCommand run_app) }
 {
@@ -252,6 +267,7 @@ fn keycount_command<'a>(alloc: Global) -> Result<Command<'a>, AllocError>
     let command = with_subcommand(top_command(alloc), count_command(alloc));
     let command = with_subcommand(command, replay_command(alloc));
     let command = with_subcommand(command, trace_command(alloc));
+    let command = with_subcommand(command, draw_command(alloc));
     with_subcommand(command, run_command(alloc))
 }
 
@@ -377,6 +393,19 @@ fn trace_job<'a>(alloc: Global, given: &ArgMatches<'a>) -> Result<Job<'a>, Usage
     })
 }
 
+fn draw_job<'a>(alloc: Global, given: &ArgMatches<'a>) -> Result<Job<'a>, Usage>
+    requires { AreScriptRows (rows_of (found_of given.now)) }
+    ensures job { IfOk result (IsJobOfRows (codes "draw") (rows_of (found_of given.now))) }
+    ensures fault { IfErr result (ReportsBadList (rows_of (found_of given.now))) }
+{
+    let (file, script, options) = paths_and_options(alloc, given)?;
+    Ok(Job::Draw {
+        file,
+        script,
+        options,
+    })
+}
+
 fn run_job<'a>(alloc: Global, given: &ArgMatches<'a>) -> Result<Job<'a>, Usage>
     requires { AreScriptRows (rows_of (found_of given.now)) }
     ensures job { IfOk result (IsJobOfRows (codes "run") (rows_of (found_of given.now))) }
@@ -429,6 +458,7 @@ pub fn read_words<'a>(alloc: Global, words: &'a [&'a str]) -> Result<Job<'a>, Us
         "count" => count_job(alloc, given),
         "replay" => replay_job(alloc, given),
         "trace" => trace_job(alloc, given),
+        "draw" => draw_job(alloc, given),
         "run" => run_job(alloc, given),
         _ => unreachable!(),
     }

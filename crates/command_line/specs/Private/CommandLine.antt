@@ -31,7 +31,7 @@ pub record AreCountRows (rows : List Row) : Type 0 where
   pub file : IsSome (first_of (codes "file") rows)
   pub options : AreOptionRows rows
 
--- what clap has checked of the words after `replay`, `trace` or `run`
+-- what clap has checked of the words after `replay`, `trace`, `draw` or `run`
 pub record AreScriptRows (rows : List Row) : Type 0 where
   pub file : IsSome (first_of (codes "file") rows)
   pub script : IsSome (first_of (codes "script") rows)

@@ -48,6 +48,14 @@ trace_job-requires c =
     let entered = entered_rows _ _ _ _ _ job.entered c.in-Some.ensures.name c.in-Some.ensures.rows in
     subst AreScriptRows entered.1 (takes_script _ _ job.tested (ap (λ t. bytes_eq t (codes "count")) (entered.0 ∙ c.in-trace.is)))
 
+pub draw_job-requires : goal.draw_job-requires
+draw_job-requires c =
+    let words = map (λ (w : Bor Text). w.now) c.args.words.now in
+    let found = c.in-Ok-try_get_matches_from.ensures in
+    let job = matches_are c.in-Ok.command words _ c.in-Ok.ensures found.matches found.kinds in
+    let entered = entered_rows _ _ _ _ _ job.entered c.in-Some.ensures.name c.in-Some.ensures.rows in
+    subst AreScriptRows entered.1 (takes_script _ _ job.tested (ap (λ t. bytes_eq t (codes "count")) (entered.0 ∙ c.in-draw.is)))
+
 pub run_job-requires : goal.run_job-requires
 run_job-requires c =
     let words = map (λ (w : Bor Text). w.now) c.args.words.now in
@@ -62,7 +70,7 @@ unreachable-requires-in_default-name c =
     let found = c.in-Ok-try_get_matches_from.ensures in
     let job = matches_are c.in-Ok.command words _ c.in-Ok.ensures found.matches found.kinds in
     let entered = entered_rows _ _ _ _ _ job.entered c.in-Some.ensures.name c.in-Some.ensures.rows in
-    takes_none _ _ job.tested (λ e. c.in_default-name.not-count (sym entered.0 ∙ e)) (λ e. c.in_default-name.not-replay (sym entered.0 ∙ e)) (λ e. c.in_default-name.not-trace (sym entered.0 ∙ e)) (λ e. c.in_default-name.not-run (sym entered.0 ∙ e))
+    takes_none _ _ job.tested (λ e. c.in_default-name.not-count (sym entered.0 ∙ e)) (λ e. c.in_default-name.not-replay (sym entered.0 ∙ e)) (λ e. c.in_default-name.not-trace (sym entered.0 ∙ e)) (λ e. c.in_default-name.not-draw (sym entered.0 ∙ e)) (λ e. c.in_default-name.not-run (sym entered.0 ∙ e))
 
 pub returns-in-count-clause-job : goal.returns-in-count-clause-job
 returns-in-count-clause-job c =
@@ -119,6 +127,21 @@ returns-in-trace-clause-job c =
     })
     c.trace_job.ensures.job
 
+pub returns-in-draw-clause-job : goal.returns-in-draw-clause-job
+returns-in-draw-clause-job c =
+    let words = map (λ (w : Bor Text). w.now) c.args.words.now in
+    let found = c.in-Ok-try_get_matches_from.ensures in
+    let job = matches_are c.in-Ok.command words _ c.in-Ok.ensures found.matches found.kinds in
+    let entered = entered_rows _ _ _ _ _ job.entered c.in-Some.ensures.name c.in-Some.ensures.rows in
+    IfOk-weaker c.draw_job.result _ _
+    (λ r is. record {
+      rows = rows_of (found_of c.in-Some.given.now);
+      taken = job.taken;
+      subcommand = job.subcommand ∙ ap₂ (λ (n : Text) (xs : List Row). Some (n, xs)) (entered.0 ∙ c.in-draw.is ∙ sym is.0) entered.1;
+      found = is.1;
+    })
+    c.draw_job.ensures.job
+
 pub returns-in-replay-clause-usage : goal.returns-in-replay-clause-usage
 returns-in-replay-clause-usage c =
     let words = map (λ (w : Bor Text). w.now) c.args.words.now in
@@ -138,6 +161,16 @@ returns-in-trace-clause-usage c =
     IfErr-weaker c.trace_job.result _ _
     (λ usage reports. bad_list_is_refusal words job.name job.rows usage job.taken job.subcommand (subst (λ rows. ReportsBadList rows usage) (sym entered.1) reports))
     c.trace_job.ensures.fault
+
+pub returns-in-draw-clause-usage : goal.returns-in-draw-clause-usage
+returns-in-draw-clause-usage c =
+    let words = map (λ (w : Bor Text). w.now) c.args.words.now in
+    let found = c.in-Ok-try_get_matches_from.ensures in
+    let job = matches_are c.in-Ok.command words _ c.in-Ok.ensures found.matches found.kinds in
+    let entered = entered_rows _ _ _ _ _ job.entered c.in-Some.ensures.name c.in-Some.ensures.rows in
+    IfErr-weaker c.draw_job.result _ _
+    (λ usage reports. bad_list_is_refusal words job.name job.rows usage job.taken job.subcommand (subst (λ rows. ReportsBadList rows usage) (sym entered.1) reports))
+    c.draw_job.ensures.fault
 
 pub returns-in-run-clause-job : goal.returns-in-run-clause-job
 returns-in-run-clause-job c =
@@ -179,6 +212,10 @@ returns-in-replay-clause-topics c =
 pub returns-in-trace-clause-topics : goal.returns-in-trace-clause-topics
 returns-in-trace-clause-topics c =
     bad_list_reported (map (λ (w : Bor Text). w.now) c.args.words.now) c.trace_job.result (returns-in-trace-clause-job c) (returns-in-trace-clause-usage c)
+
+pub returns-in-draw-clause-topics : goal.returns-in-draw-clause-topics
+returns-in-draw-clause-topics c =
+    bad_list_reported (map (λ (w : Bor Text). w.now) c.args.words.now) c.draw_job.result (returns-in-draw-clause-job c) (returns-in-draw-clause-usage c)
 
 pub returns-in-run-clause-topics : goal.returns-in-run-clause-topics
 returns-in-run-clause-topics c =
