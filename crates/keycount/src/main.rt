@@ -1,7 +1,7 @@
-//! `keycount`: counts the keys of a CSV file, replays a script over them, or runs a plan over them
-//! with a thread for each member. The program opens the files, lends the runtime's devices and
-//! threads to a call of `report_cli`, and prints the line of a fault. All that it reads and writes
-//! is a promise of `report_cli`.
+//! `keycount`: counts the keys of a CSV file, replays a script over them and reports rows, a trace
+//! or a picture, or runs a plan over them with a thread for each member. The program opens the
+//! files, lends the runtime's devices and threads to a call of `report_cli`, and prints the line of
+//! a fault. All that it reads and writes is a promise of `report_cli`.
 //!
 //! Tests: the example in `data`, `stdin` and `stdout`, `report_tests`, and the black-box tests.
 #![tactic(auto)]
@@ -10,8 +10,8 @@ ghost use Rattle.report_cli.specs.Reports.{AreInRange};
 
 use lane_words::Refusal;
 use report_cli::{
-    FromRead, FromWrite, Job, Options, Usage, count_text, fault_line, read_words,
-    reads_input_twice, replay_text, run_text, status,
+    FromRead, FromWrite, Job, Options, Usage, count_text, draw_text, fault_line, read_words,
+    reads_input_twice, replay_text, run_text, status, trace_text,
 };
 use std::alloc::AllocError;
 use std::env;
@@ -87,9 +87,21 @@ fn count_file<R: Threads + Sync + RandomSource>(
     }
 }
 
-fn replay<R: Threads + Sync + RandomSource, F: Read + Drop, S: Read + Drop>(
+/// What a job reports of a script.
+#[derive(Clone, Copy)]
+enum Report {
+    /// The rows of a replay.
+    Rows,
+    /// A row for each event.
+    Trace,
+    /// A picture.
+    Picture,
+}
+
+fn perform<R: Threads + Sync + RandomSource, F: Read + Drop, S: Read + Drop>(
     rt: &HostRuntime,
     threads: &R,
+    report: Report,
     file: Input<F>,
     script: S,
     options: &Options,
@@ -99,21 +111,20 @@ fn replay<R: Threads + Sync + RandomSource, F: Read + Drop, S: Read + Drop>(
     let mut file = FromRead::expecting(file.reader, file.expected);
     let mut script = FromRead::new(script);
     let mut sink = FromWrite::new(rt.stdout());
-    replay_text(
-        threads,
-        rt.alloc(),
-        &mut file,
-        &mut script,
-        options,
-        &mut sink,
-    )
+    let alloc = rt.alloc();
+    match report {
+        Report::Rows => { replay_text(threads, alloc, &mut file, &mut script, options, &mut sink) }
+        Report::Trace => { trace_text(threads, alloc, &mut file, &mut script, options, &mut sink) }
+        Report::Picture => { draw_text(threads, alloc, &mut file, &mut script, options, &mut sink) }
+    }
 }
 
-/// Replays the script at one path over the keys of the file at another. Both are opened before
+/// Performs the script at one path over the keys of the file at another. Both are opened before
 /// either is read. One of the paths can be `-`, which stands for standard input.
-fn replay_files<R: Threads + Sync + RandomSource>(
+fn perform_files<R: Threads + Sync + RandomSource>(
     rt: &HostRuntime,
     threads: &R,
+    report: Report,
     file: &str,
     script: &str,
     options: &Options,
@@ -121,17 +132,26 @@ fn replay_files<R: Threads + Sync + RandomSource>(
     requires { AreInRange options.now }
 {
     match (file, script) {
-        ("-", _) => replay(
+        ("-", _) => perform(
             rt,
             threads,
+            report,
             unsized_input(rt.stdin()),
             open_file(rt, script)?,
             options,
         ),
-        (_, "-") => replay(rt, threads, input_at(rt, file)?, rt.stdin(), options),
-        _ => replay(
+        (_, "-") => perform(
             rt,
             threads,
+            report,
+            input_at(rt, file)?,
+            rt.stdin(),
+            options,
+        ),
+        _ => perform(
+            rt,
+            threads,
+            report,
             input_at(rt, file)?,
             open_file(rt, script)?,
             options,
@@ -238,7 +258,30 @@ fn run_job<R: Threads + Wait + RandomSource + Sync>(
                 script,
                 options,
             },
-        ) => exit_code(rt, replay_files(rt, threads, file, script, options)),
+        ) => exit_code(
+            rt,
+            perform_files(rt, threads, Report::Rows, file, script, options),
+        ),
+        Ok(
+            Job::Trace {
+                file,
+                script,
+                options,
+            },
+        ) => exit_code(
+            rt,
+            perform_files(rt, threads, Report::Trace, file, script, options),
+        ),
+        Ok(
+            Job::Draw {
+                file,
+                script,
+                options,
+            },
+        ) => exit_code(
+            rt,
+            perform_files(rt, threads, Report::Picture, file, script, options),
+        ),
         Ok(
             Job::Run {
                 file,

@@ -18,8 +18,9 @@ pub fn reads_input_twice(job: &Job) -> bool
 {
     match job {
         Job::Count { .. } => false,
-        Job::Replay { file, script, .. } | Job::Run { file, script, .. } => {
-            is_standard_input(file) && is_standard_input(script)
-        }
+        Job::Replay { file, script, .. }
+        | Job::Trace { file, script, .. }
+        | Job::Draw { file, script, .. }
+        | Job::Run { file, script, .. } => is_standard_input(file) && is_standard_input(script),
     }
 }

@@ -3,7 +3,7 @@
 //! - `fault_line` writes the line of a fault and `status` returns its exit status; neither
 //!   allocates.
 //! - `reads_input_twice` says whether both files of a job are standard input.
-//! - The other calls are those of `command_line`, `byte_io` and the three reports.
+//! - The other calls are those of `command_line`, `byte_io` and the reports.
 //!
 //! Tests: `report_tests`, and the program's black-box tests.
 #![tactic(auto)]
@@ -14,7 +14,9 @@ mod input;
 pub use byte_io::{DeviceFailed, FromRead, FromWrite, Sink, Source};
 pub use command_line::{Job, Options, Usage, read_words};
 pub use count_report::count_text;
+pub use draw_report::draw_text;
 pub use faults::{fault_line, status};
 pub use input::reads_input_twice;
 pub use replay_report::replay_text;
 pub use run_report::run_text;
+pub use trace_report::trace_text;
