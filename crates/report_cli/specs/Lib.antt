@@ -4,6 +4,7 @@ pub use Rattle.command_line.specs.CommandLine
 pub use Rattle.command_line.specs.Options
 pub use Rattle.command_line.specs.Topics
 pub use Rattle.count_report.specs.CountReport
+pub use Rattle.draw_report.specs.DrawReport
 pub use Rattle.byte_io.specs.Devices
 pub use Rattle.ingest.specs.RecordFaults
 pub use Rattle.ingest.specs.Records
@@ -14,3 +15,4 @@ pub use Rattle.report_rows.specs.CountRows
 pub use Rattle.report_rows.specs.ReplayRows
 pub use Rattle.report_rows.specs.Rows
 pub use Rattle.run_report.specs.RunReport
+pub use Rattle.trace_report.specs.TraceReport

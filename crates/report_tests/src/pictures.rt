@@ -71,7 +71,7 @@ const EMPTY: &[u8] = b"<rect class=\"paper\" width=\"100%\" height=\"100%\"/>\n\
 const SCRIPT: &[u8] = b"join A\nsettle\npoll A 0 2\nsend A 0\ndeliver 1\nunanswered 1\nappend <\n";
 
 const OPENED: &[u8] = b"<svg xmlns=\"http://www.w3.org/2000/svg\" width=\"508\" height=\"462\" \
-    viewBox=\"0 0 508 462\" role=\"img\" aria-labelledby=\"title desc\">\n\
+    viewBox=\"0 0 508 462\" role=\"graphics-document document\" aria-labelledby=\"title desc\">\n\
     <title id=\"title\">Who reads which partition: 1 members, 1 partitions</title>\n";
 
 const HEADING: &[u8] = b"<g class=\"line\" data-line=\"7\" data-column=\"6\">\
@@ -79,7 +79,8 @@ const HEADING: &[u8] = b"<g class=\"line\" data-line=\"7\" data-column=\"6\">\
     <text transform=\"translate(176 148) rotate(-45)\"><tspan class=\"number\">7</tspan> \
     append &lt;</text></g>\n";
 
-const LANE: &[u8] = b"<rect class=\"span m1 unread\" data-from=\"0\" data-to=\"1\" data-member=\"A\" \
+const LANE: &[u8] =
+    b"<rect class=\"span m1 unread\" data-from=\"0\" data-to=\"1\" data-member=\"A\" \
     x=\"0\" y=\"168\" width=\"28\" height=\"20\"><title>nobody reads, granted to A</title></rect>\n\
     <text class=\"name on1 unread\" x=\"4\" y=\"182\">A</text>\n\
     <rect class=\"span m1\" data-from=\"1\" data-to=\"7\" data-member=\"A\" \
@@ -152,7 +153,11 @@ fn drawn_in_topics<R: Threads + Sync + RandomSource + Abort>(
     let options = options_of_two(rt, alloc)?;
     let mut text = Vec::new(alloc);
     let answer = drawn(rt, alloc, file, script, &options, &mut text);
-    Ok((answer, has_part(text.as_slice(), TOPIC_LANES), text.is_empty()))
+    Ok((
+        answer,
+        has_part(text.as_slice(), TOPIC_LANES),
+        text.is_empty(),
+    ))
 }
 
 /// A file, a script, and what is known of the picture.

@@ -1,2 +1,4 @@
 pub mod Counting
 pub mod Extending
+pub mod Owners
+pub mod Reading

@@ -30,8 +30,8 @@ picture_open wide high members partitions = concat (
     codes "<svg xmlns=\"http://www.w3.org/2000/svg\" width=\"" ∷ decimal wide
     ∷ codes "\" height=\"" ∷ decimal high
     ∷ codes "\" viewBox=\"0 0 " ∷ decimal wide ∷ codes " " ∷ decimal high
-    ∷ codes "\" role=\"img\" aria-labelledby=\"title desc\">\n<title id=\"title\">"
-    ∷ codes "Who reads which partition: "
+    ∷ codes "\" role=\"graphics-document document\" aria-labelledby=\"title desc\">\n"
+    ∷ codes "<title id=\"title\">Who reads which partition: "
     ∷ decimal members ∷ codes " members, " ∷ decimal partitions
     ∷ codes " partitions</title>\n" ∷ [])
 

@@ -53,12 +53,8 @@ fn put_picture_open(
             Number(wide),
             Text(b" "),
             Number(high),
-            Text(
-                b"\" role=\"img\" aria-labelledby=\"title desc\">\n<title id=\"title\">",
-            ),
-            Text(
-                b"Who reads which partition: ",
-            ),
+            Text(b"\" role=\"graphics-document document\" aria-labelledby=\"title desc\">\n"),
+            Text(b"<title id=\"title\">Who reads which partition: "),
             Number(members as u128),
             Text(b" members, "),
             Number(partitions as u128),
