@@ -21,8 +21,6 @@ pub fn reads_input_twice(job: &Job) -> bool
         Job::Replay { file, script, .. }
         | Job::Trace { file, script, .. }
         | Job::Draw { file, script, .. }
-        | Job::Run { file, script, .. } => {
-            is_standard_input(file) && is_standard_input(script)
-        }
+        | Job::Run { file, script, .. } => { is_standard_input(file) && is_standard_input(script) }
     }
 }

@@ -16,6 +16,8 @@ mod device_calls;
 #[cfg(test)]
 mod faults;
 #[cfg(test)]
+mod pictures;
+#[cfg(test)]
 mod replays;
 #[cfg(test)]
 mod runs;
@@ -23,6 +25,8 @@ mod runs;
 mod slow;
 #[cfg(test)]
 mod tallies;
+#[cfg(test)]
+mod traces;
 #[cfg(test)]
 mod two_topics;
 #[cfg(test)]

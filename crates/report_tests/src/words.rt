@@ -1,7 +1,8 @@
 //! Command lines, and the jobs that they ask for.
 
 use command_line::{
-    AFTER_COUNT, AFTER_KEYCOUNT, AFTER_REPLAY, AFTER_RUN, Job, Options, Usage, read_words,
+    AFTER_COUNT, AFTER_DRAW, AFTER_KEYCOUNT, AFTER_REPLAY, AFTER_RUN, AFTER_TRACE, Job, Options,
+    Usage, read_words,
 };
 use partitioner::Topic;
 use std::alloc::Global;
@@ -39,6 +40,16 @@ fn reported_of<'a>(job: &Job<'a>) -> (&'static str, Parsed<'a>) {
             script,
             options,
         } => ("replay", (*file, *script, plain(options))),
+        Job::Trace {
+            file,
+            script,
+            options,
+        } => ("trace", (*file, *script, plain(options))),
+        Job::Draw {
+            file,
+            script,
+            options,
+        } => ("draw", (*file, *script, plain(options))),
         Job::Run {
             file,
             script,
@@ -178,6 +189,38 @@ fn a_replay_has_two_paths_and_a_batch(rt: HostRuntime) {
     assert_eq!(rt; first_other(rt.alloc(), "replay", &REPLAYS), None);
 }
 
+/// Arguments of a trace, with its paths and its options.
+const TRACES: [Row; 2] = [
+    (&["trace", "f", "s"], ("f", "s", PLAIN)),
+    (
+        &[
+            "trace",
+            "--header",
+            "f",
+            "s",
+            "--batch=1",
+            "--partitions",
+            "7",
+        ],
+        ("f", "s", (7, 1, true, 1)),
+    ),
+];
+
+/// Arguments of a picture, with its paths and its options.
+const PICTURES: [Row; 2] = [
+    (&["draw", "f", "s"], ("f", "s", PLAIN)),
+    (
+        &["draw", "f", "--column=2", "s", "--batch", "1000000"],
+        ("f", "s", (4, 2, false, 1_000_000)),
+    ),
+];
+
+#[test]
+fn a_trace_and_a_picture_have_the_options_of_a_replay(rt: HostRuntime) {
+    assert_eq!(rt; first_other(rt.alloc(), "trace", &TRACES), None);
+    assert_eq!(rt; first_other(rt.alloc(), "draw", &PICTURES), None);
+}
+
 /// Arguments of a run, with its paths and its options.
 const RUNS: [Row; 4] = [
     (&["run", "f", "p"], ("f", "p", PLAIN)),
@@ -222,7 +265,13 @@ fn are_topics(topics: &[Topic], wanted: Topics) -> bool {
 fn has_topics(answer: &Result<Job, Usage>, wanted: Option<Topics>, column: u32) -> bool {
     match (answer, wanted) {
         (
-            Ok(Job::Count { options, .. } | Job::Replay { options, .. } | Job::Run { options, .. }),
+            Ok(
+                Job::Count { options, .. }
+                | Job::Replay { options, .. }
+                | Job::Trace { options, .. }
+                | Job::Draw { options, .. }
+                | Job::Run { options, .. },
+            ),
             Some(topics),
         ) => are_topics(options.topics.as_slice(), topics) && options.topic_column == column,
         (Err(Usage::Bad(text)), None) => text.as_str() == "bad topics\n",
@@ -394,12 +443,18 @@ fn is_asked(alloc: Global, words: &[&str], begin: &str, end: &str) -> bool {
 }
 
 /// Words that ask for help, with how its text begins and ends. The rows of blackbox have it whole.
-const HELPS: [(&[&str], &str, &str); 6] = [
+const HELPS: [(&[&str], &str, &str); 8] = [
     (&["--help"], "Count the keys of a CSV file", AFTER_KEYCOUNT),
     (&["-h"], "Count the keys of a CSV file", AFTER_KEYCOUNT),
     (&["help", "count"], "Count how often", AFTER_COUNT),
     (&["count", "--help"], "Count how often", AFTER_COUNT),
     (&["replay", "--help"], "Replay a script", AFTER_REPLAY),
+    (
+        &["trace", "--help"],
+        "Replay a script, and report",
+        AFTER_TRACE,
+    ),
+    (&["draw", "--help"], "Replay a script, and draw", AFTER_DRAW),
     (&["run", "-h"], "Count the keys with one thread", AFTER_RUN),
 ];
 

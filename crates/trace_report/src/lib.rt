@@ -1,7 +1,7 @@
 //! The report of a trace: what a script does, event by event. Promises:
 //! - `trace_text` appends to the sink the report that the bytes of both files and the options
-//!   define: all of it, a prefix of it after `WriteFailed`, and nothing after any other refusal. Its
-//!   faults, and their order, are those of a replay.
+//!   define: all of it, a prefix of it after `WriteFailed`, and nothing after any other refusal.
+//!   Its faults, and their order, are those of a replay.
 //! - The report is a header, and a row for each step of the script (`replay_steps`), those that
 //!   `settle` and `drain` choose included. By a law it ends in the world whose owners and offsets a
 //!   replay of the same script reports.

@@ -12,8 +12,8 @@ use Rattle.replay_steps.specs.Lines.{LineOutcome, outcome_of_action, outcome_of_
 use Rattle.replay_steps.specs.Steps.{StepTaken, member_of, name_of_member, step_event, steps_of_seen}
 
 -- the steps of these events were shown, in the line, from this number on
-pub record ShowsOfLine {O : Type 0} (Shows : O → List StepTaken → O → Type 0) (line next : ℕ) (o : O)
-    (seen : List Seen) (line2 next2 : ℕ) (o2 : O) : Type 0 where
+pub record ShowsOfLine {O : Type 0} (Shows : O → List StepTaken → O → Type 0)
+    (line next : ℕ) (o : O) (seen : List Seen) (line2 next2 : ℕ) (o2 : O) : Type 0 where
   pub line_is : line2 ≡ line
   pub next_is : next2 ≡ next + length seen
   pub shown : Shows o (steps_of_seen line next seen) o2
@@ -25,8 +25,8 @@ IsEvent Drain = ⊥
 IsEvent action = ⊤
 
 -- a line was performed, and all its steps were shown
-pub record IsPerformed {O : Type 0} (Shows : O → List StepTaken → O → Type 0) (outcome : LineOutcome)
-    (o : O) (answer : Result (Unit {0}) Refusal) (w2 : WorldState) (o2 : O) : Type 0 where
+pub record IsPerformed {O : Type 0} (Shows : O → List StepTaken → O → Type 0)
+    (outcome : LineOutcome) (o : O) (answer : Result (Unit {0}) Refusal) (w2 : WorldState) (o2 : O) : Type 0 where
   pub answer_is : answer ≡ outcome.answer
   pub after_is : w2 ≡ outcome.after
   pub shown : Shows o outcome.steps o2

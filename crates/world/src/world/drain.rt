@@ -61,8 +61,8 @@ impl World {
 
     /// Each present member reads and commits the partitions that it holds.
     fn drain_members<O: Observer>(&mut self, batch: u32, observer: &mut O) -> Result<(), Refusal>
-        ensures { FollowsObserved O.Sees self.old observer.old (drain_members batch self.old) result
-            self.new observer.new }
+        ensures { FollowsObserved O.Sees self.old observer.old (drain_members batch self.old)
+            result self.new observer.new }
     {
         for index in 0..self.last_member() {
             if self.cluster().is_present(index + 1) {
@@ -79,8 +79,8 @@ impl World {
         member: u32,
         observer: &mut O,
     ) -> Result<(), Refusal>
-        ensures { FollowsObserved O.Sees self.old observer.old (drain_member batch member self.old) result
-            self.new observer.new }
+        ensures { FollowsObserved O.Sees self.old observer.old (drain_member batch member self.old)
+            result self.new observer.new }
     {
         for p in self.held_by(member).iter() {
             self.drain_log(batch, member, p, observer)?;
@@ -113,8 +113,8 @@ impl World {
         observer: &mut O,
     ) -> Result<(), Refusal>
         requires { p < self.old.cluster.group.partitions }
-        ensures { FollowsObserved O.Sees self.old observer.old (drain_log batch member p self.old) result
-            self.new observer.new }
+        ensures { FollowsObserved O.Sees self.old observer.old (drain_log batch member p self.old)
+            result self.new observer.new }
     {
         for _ in 0..self.cluster().logs().len(p) {
             if self.is_read_up(member, p) {
@@ -143,8 +143,8 @@ impl World {
         p: u32,
         observer: &mut O,
     ) -> Result<(), Refusal>
-        ensures { FollowsObserved O.Sees self.old observer.old (read_on batch member p self.old) result
-            self.new observer.new }
+        ensures { FollowsObserved O.Sees self.old observer.old (read_on batch member p self.old)
+            result self.new observer.new }
     {
         let poll = Event::Poll {
             member,

@@ -62,8 +62,8 @@ impl World {
 
     /// Makes passes until the group is settled and synced.
     fn make_passes<O: Observer>(&mut self, observer: &mut O) -> Result<(), Refusal>
-        ensures { FollowsObserved O.Sees self.old observer.old (passes 4 self.old) result
-            self.new observer.new }
+        ensures { FollowsObserved O.Sees self.old observer.old (passes 4 self.old)
+            result self.new observer.new }
     {
         for _ in 0..MOST_PASSES {
             if self.is_settled_and_synced() {
@@ -100,8 +100,8 @@ impl World {
 
     /// Each present member takes a turn.
     fn make_pass<O: Observer>(&mut self, observer: &mut O) -> Result<(), Refusal>
-        ensures { FollowsObserved O.Sees self.old observer.old (pass self.old) result
-            self.new observer.new }
+        ensures { FollowsObserved O.Sees self.old observer.old (pass self.old)
+            result self.new observer.new }
     {
         for index in 0..self.last_member() {
             if self.cluster().is_present(index + 1) {
@@ -121,8 +121,8 @@ impl World {
     /// One member takes a turn.
     fn take_turn<O: Observer>(&mut self, member: u32, observer: &mut O) -> Result<(), Refusal>
         requires { is_present self.old.cluster.group member ≡ true }
-        ensures { FollowsObserved O.Sees self.old observer.old (turn member self.old) result
-            self.new observer.new }
+        ensures { FollowsObserved O.Sees self.old observer.old (turn member self.old)
+            result self.new observer.new }
     {
         self.sync_if_new(member, observer)?;
         self.rejoin_if_due(member, observer)
@@ -130,8 +130,8 @@ impl World {
 
     /// Syncs a member that has neither joined nor synced.
     fn sync_if_new<O: Observer>(&mut self, member: u32, observer: &mut O) -> Result<(), Refusal>
-        ensures { FollowsObserved O.Sees self.old observer.old (sync_if_new member self.old) result
-            self.new observer.new }
+        ensures { FollowsObserved O.Sees self.old observer.old (sync_if_new member self.old)
+            result self.new observer.new }
     {
         match self.cluster().next_step(member) {
             NextStep::Sync => self.attempt(Event::Sync(member), observer),
@@ -144,8 +144,8 @@ impl World {
         requires present { is_present self.old.cluster.group member ≡ true }
         requires state { (is_joined self.old.cluster.group member
             || is_synced self.old.cluster.group member) ≡ true }
-        ensures { FollowsObserved O.Sees self.old observer.old (rejoin_if_due member self.old) result
-            self.new observer.new }
+        ensures { FollowsObserved O.Sees self.old observer.old (rejoin_if_due member self.old)
+            result self.new observer.new }
     {
         let Some(given) = self.given_up_by(member) else {
             return Ok(());
@@ -179,8 +179,9 @@ impl World {
         given: &Plane,
         observer: &mut O,
     ) -> Result<(), Refusal>
-        ensures { FollowsObserved O.Sees self.old observer.old (for_each (elements given.now) (flush member) self.old) result
-            self.new observer.new }
+        ensures { FollowsObserved O.Sees self.old observer.old
+            (for_each (elements given.now) (flush member) self.old)
+            result self.new observer.new }
     {
         for p in given.iter() {
             self.flush(member, p, observer)?;
@@ -190,8 +191,8 @@ impl World {
 
     /// Commits what is pending of a partition, and after a mismatch once more what is left.
     fn flush<O: Observer>(&mut self, member: u32, p: u32, observer: &mut O) -> Result<(), Refusal>
-        ensures { FollowsObserved O.Sees self.old observer.old (flush member p self.old) result
-            self.new observer.new }
+        ensures { FollowsObserved O.Sees self.old observer.old (flush member p self.old)
+            result self.new observer.new }
     {
         self.commit_or_realign(member, p, observer)?;
         self.commit_pending(member, p, observer)
@@ -205,8 +206,9 @@ impl World {
         p: u32,
         observer: &mut O,
     ) -> Result<(), Refusal>
-        ensures { FollowsObserved O.Sees self.old observer.old (forgiven (commit_pending member p self.old)) result
-            self.new observer.new }
+        ensures { FollowsObserved O.Sees self.old observer.old
+            (forgiven (commit_pending member p self.old))
+            result self.new observer.new }
     {
         match self.commit_pending(member, p, observer) {
             Err(Refusal::OffsetMismatch { .. }) => Ok(()),
@@ -221,8 +223,8 @@ impl World {
         p: u32,
         observer: &mut O,
     ) -> Result<(), Refusal>
-        ensures { FollowsObserved O.Sees self.old observer.old (commit_pending member p self.old) result
-            self.new observer.new }
+        ensures { FollowsObserved O.Sees self.old observer.old (commit_pending member p self.old)
+            result self.new observer.new }
     {
         if !self.is_pending(member, p) {
             return Ok(());
@@ -243,14 +245,14 @@ impl World {
             .is_some_and(|consumer| consumer.sendable(p).is_ok())
     }
 
-    /// Makes one event before the observer's eyes, and returns its refusal, if it is refused.
+    /// Makes one event, which the observer sees, and returns its refusal, if it is refused.
     pub(super) fn attempt<O: Observer>(
         &mut self,
         event: Event<'_>,
         observer: &mut O,
     ) -> Result<(), Refusal>
-        ensures { FollowsObserved O.Sees self.old observer.old (happens event.entry self.old) result
-            self.new observer.new }
+        ensures { FollowsObserved O.Sees self.old observer.old (happens event.entry self.old)
+            result self.new observer.new }
     {
         let reply = self.step(event);
         if reply == Reply::Refused(Refusal::Memory) {
