@@ -74,18 +74,20 @@ class Ledger:
         """Checks the lines against the moves and refusals that were printed for them."""
         self.history = history[::-1]
         for number, line in lines_of(script):
-            verb, arguments = parts_of(line, self.options)
-            if verb in OF_A_MEMBER:
-                arguments[0] = self.group.member(arguments[0])
-            code = self.take_refusal(number)
-            wanted = getattr(self, f"answer_to_{verb}")(*arguments)
-            require(code == wanted, "line {}, {}, is answered by {}, not by {}", number, line, code, wanted)
-            after = getattr(self, f"after_{verb}" if code == ACCEPTED else f"after_refused_{verb}", None)
-            if after and code == ACCEPTED:
-                after(*arguments)
-            elif after:
-                after(code, *arguments)
+            self.perform(number, *parts_of(line, self.options), self.take_refusal(number))
         require(not self.history, "no line explains the row {}", self.history[-1:])
+
+    def perform(self, line: int, verb: str, arguments: list[bytes | int], code: int) -> None:
+        """Checks the answer to a step, and makes the step."""
+        if verb in OF_A_MEMBER:
+            arguments[0] = self.group.member(arguments[0])
+        wanted = getattr(self, f"answer_to_{verb}")(*arguments)
+        require(code == wanted, "line {}, {} {}, is answered by {}, not by {}", line, verb, arguments, code, wanted)
+        after = getattr(self, f"after_{verb}" if code == ACCEPTED else f"after_refused_{verb}", None)
+        if after and code == ACCEPTED:
+            after(*arguments)
+        elif after:
+            after(code, *arguments)
 
     def take_refusal(self, line: int) -> int:
         """The code of this line's refusal, or 0."""
@@ -383,13 +385,19 @@ def rows_of(text: bytes) -> list[list[bytes]]:
     return rows
 
 
-def check_replay(options: Options, keyed: list[tuple[int, bytes]], script: bytes, text: bytes) -> None:
-    """Checks all laws of a replay's text."""
+def parts_of_replay(text: bytes) -> tuple[list[list[bytes]], list[list[bytes]]]:
+    """The rows of a replay's text: the moves and refusals, and the rest."""
     rows = rows_of(text)
     start = next((at for at, fields in enumerate(rows) if fields[0] not in HISTORY), len(rows))
+    return rows[:start], rows[start:]
+
+
+def check_replay(options: Options, keyed: list[tuple[int, bytes]], script: bytes, text: bytes) -> None:
+    """Checks all laws of a replay's text."""
+    history, end = parts_of_replay(text)
     ledger = Ledger(options, keyed)
-    ledger.follow(script, rows[:start])
-    ledger.check_end(rows[start:])
+    ledger.follow(script, history)
+    ledger.check_end(end)
 
 
 def count_text(keys: list[bytes]) -> bytes:

@@ -5,6 +5,7 @@ from __future__ import annotations
 from random import Random
 from typing import Callable, Iterator
 
+from simulator import table_mutants
 from simulator.programs import Outcome
 from simulator.records import plain_rows, quoted, read, row, topical_rows
 from simulator.scripts import lines_of
@@ -217,25 +218,49 @@ OUTCOME_WAYS: dict[str, Callable[[Outcome], "Outcome | None"]] = {
     "a fault has another number": lambda out: out._replace(stderr=next_number(out.stderr)) if out.stderr else None,
     "a fault comes with a row": lambda out: out._replace(stdout=b"total,0,0\n") if out.stderr else None,
 }
-WAYS = [*ROW_WAYS, *OUTCOME_WAYS]
+WAYS = [*ROW_WAYS, *OUTCOME_WAYS, *table_mutants.WAYS, *table_mutants.WHOLE_WAYS]
 
 
-def altered(rng: Random, trial: Trial, outcomes: list[Outcome]) -> Iterator[tuple[str, Outcome]]:
-    """The last outcome of a trial, altered in each way that applies, with the way's name."""
-    outcome = outcomes[-1]
+def text_of(rows: Rows) -> bytes:
+    return b"".join(row(*fields) for fields in rows)
+
+
+def altered(rng: Random, trial: Trial, outcomes: list[Outcome]) -> Iterator[tuple[str, list[Outcome]]]:
+    """The outcomes of a trial, altered in each way that applies, with the way's name."""
+    for name, outcome in altered_last(rng, trial, outcomes[-1]):
+        # A run and a replay that print the same are altered alike, so that only the laws can notice.
+        yield name, [outcome if other == outcomes[-1] else other for other in outcomes]
+    for at, words in enumerate(trial.runs):
+        if words[0] == b"trace" and outcomes[at].stdout:
+            for name, outcome in altered_tables(rng, outcomes[at]):
+                yield name, [*outcomes[:at], outcome, *outcomes[at + 1:]]
+
+
+def altered_last(rng: Random, trial: Trial, outcome: Outcome) -> Iterator[tuple[str, Outcome]]:
+    """The last outcome, altered in each way that applies to a whole outcome or to rows of different kinds."""
     for name, change in OUTCOME_WAYS.items():
         other = change(outcome)
         if other:
             yield name, other
-    rows = plain_rows(read(outcome.stdout), trial.options)
+    rows = plain_rows(read(outcome.stdout), trial.options) if trial.runs[-1][0] != b"trace" else []
     for name, way in ROW_WAYS.items():
         altered_rows = way(rng, trial, rows) if rows else None
         if altered_rows is not None and altered_rows != rows:
-            printed = topical_rows(altered_rows, trial.options)
-            yield name, outcome._replace(stdout=b"".join(row(*fields) for fields in printed))
+            yield name, outcome._replace(stdout=text_of(topical_rows(altered_rows, trial.options)))
 
 
-def difference(one: Outcome, other: Outcome) -> str:
-    """The rows in which two outcomes differ."""
-    ours, theirs = one.stdout.split(b"\n"), other.stdout.split(b"\n")
+def altered_tables(rng: Random, outcome: Outcome) -> Iterator[tuple[str, Outcome]]:
+    """The outcome of a trace, altered in each way that applies to tables."""
+    head, *rows = read(outcome.stdout)
+    for name, way in table_mutants.WAYS.items():
+        altered_rows = way(rng, head, rows)
+        if altered_rows is not None and altered_rows != rows:
+            yield name, outcome._replace(stdout=text_of([head, *altered_rows]))
+    for name, change in table_mutants.WHOLE_WAYS.items():
+        yield name, outcome._replace(stdout=text_of(change([head, *rows])))
+
+
+def difference(before: list[Outcome], after: list[Outcome]) -> str:
+    """The rows in which altered outcomes differ from the true ones."""
+    ours, theirs = (b"".join(outcome.stdout for outcome in outcomes).split(b"\n") for outcomes in (before, after))
     return f"without {[line for line in ours if line not in theirs]}, with {[line for line in theirs if line not in ours]}"

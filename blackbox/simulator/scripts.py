@@ -256,6 +256,14 @@ def in_topic(script: bytes, topic: bytes) -> bytes:
     return b"\n".join(lines)
 
 
+def probes(lines: list[bytes], options: Options) -> list[bytes]:
+    """Lines in which each member of a script polls each partition, without taking records."""
+    words = [line.removesuffix(b"\r").split(b" ") for line in lines]
+    names = dict.fromkeys(name for verb, name in (pair for pair in words if len(pair) == 2) if verb in (b"join", b"keep"))
+    return [b" ".join([b"poll", name, *options.fields_of(partition), b"0"])
+            for name in names for partition in range(options.total())]
+
+
 def settled_after_each(plan: bytes) -> bytes:
     """The script that settles after each line of a plan, and drains at the end."""
     return b"".join(line + b"\nsettle\n" for _, line in lines_of(plan)) + b"drain\n"

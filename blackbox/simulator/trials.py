@@ -11,6 +11,10 @@ from simulator.group import require
 from simulator.laws import appended_keys, check_replay, count_text
 from simulator.programs import Outcome
 from simulator.records import Options, read, row, topical_rows
+from simulator.tables import check_probes, check_trace
+
+# The most partitions of a trial that polls each one for each member.
+MOST_PROBED = 16
 
 
 def check_fault(fault: bytes, outcome: Outcome) -> None:
@@ -86,21 +90,51 @@ def count_trial(rng: Random) -> Trial:
 
 
 def replay_trial(rng: Random, wild: bool) -> Trial:
-    """A replay obeys the laws, and after a drain at the end it prints the counts of all records."""
+    """A replay and a trace obey the laws, and after a drain at the end the replay prints the counts of all records."""
     source = random_input(rng, batch=True, good=True)
     script = scripts.random_script(rng, source.options, source.pool, wild)
     lines = [line for _, line in scripts.lines_of(script)]
 
     def check(outcomes: list[Outcome]) -> None:
-        check_done(outcomes[0])
-        check_replay(source.options, source.keyed, script, outcomes[0].stdout)
-        refused = b"\nrefused,%d," % last_line(script) in b"\n" + outcomes[0].stdout
+        check_traced(source, script, outcomes)
+        replayed = outcomes[1].stdout
+        refused = b"\nrefused,%d," % last_line(script) in b"\n" + replayed
         if lines[-1:] == [b"drain"] and not refused:
             keys = source.keys + appended_keys(script, source.options)
-            require(outcomes[0].stdout.endswith(b"\n" + count_text(keys)), "after a drain the counts differ")
+            require(replayed.endswith(b"\n" + count_text(keys)), "after a drain the counts differ")
 
-    runs = [[b"replay", b"file", b"script", *source.options.words()]]
-    return Trial("wild replay" if wild else "replay", source.options, {"file": source.text, "script": script}, runs, check)
+    return traced_trial("wild replay" if wild else "replay", source, script, check)
+
+
+def traced_trial(kind: str, source: Input, script: bytes, check: Callable[[list[Outcome]], None]) -> Trial:
+    """The trace and the replay of a script."""
+    runs = [[job, b"file", b"script", *source.options.words()] for job in (b"trace", b"replay")]
+    return Trial(kind, source.options, {"file": source.text, "script": script}, runs, check)
+
+
+def check_traced(source: Input, script: bytes, outcomes: list[Outcome]) -> None:
+    """Checks the laws of a trace and a replay."""
+    traced, replayed = outcomes
+    check_done(traced)
+    check_done(replayed)
+    check_replay(source.options, source.keyed, script, replayed.stdout)
+    check_trace(source.options, source.keyed, script, traced.stdout, replayed.stdout)
+
+
+def probe_trial(rng: Random) -> Trial:
+    """After a part of a script each member polls each partition, and takes nothing: the answers tell who may read it."""
+    source = random_input(rng, batch=True, good=True)
+    while source.options.total() > MOST_PROBED:
+        source = random_input(rng, batch=True, good=True)
+    script = scripts.random_script(rng, source.options, source.pool, wild=True)
+    before = script.split(b"\n")[:rng.randint(0, script.count(b"\n"))]
+    script = b"".join(line + b"\n" for line in before + scripts.probes(before, source.options))
+
+    def check(outcomes: list[Outcome]) -> None:
+        check_traced(source, script, outcomes)
+        check_probes(source.options, len(before), outcomes[0].stdout)
+
+    return traced_trial("probe", source, script, check)
 
 
 def last_line(script: bytes) -> int:
@@ -128,7 +162,7 @@ def run_trial(rng: Random) -> Trial:
 
 def faulty_lines(rng: Random, command: bytes, options: Options, pool: list[bytes]) -> tuple[bytes, bytes]:
     """A script or a plan with a fault, and the fault."""
-    if command == b"replay":
+    if command != b"run":
         script = scripts.random_script(rng, options, pool, wild=True)
         bad = scripts.BAD + (scripts.BAD_AMONG_TOPICS if options.topics else [])
         spoiled, line = scripts.spoiled(rng, script, bad)
@@ -141,7 +175,7 @@ def faulty_lines(rng: Random, command: bytes, options: Options, pool: list[bytes
 
 def fault_trial(rng: Random) -> Trial:
     """The first fault is printed alone: of the records, then of the lines, then of the keys."""
-    command = rng.choice((b"replay", b"run"))
+    command = rng.choice((b"replay", b"trace", b"run"))
     source = random_input(rng, batch=True, good=False)
     script, fault = faulty_lines(rng, command, source.options, source.pool)
 
@@ -178,6 +212,7 @@ KINDS: list[tuple[int, Callable[[Random], Trial]]] = [
     (25, lambda rng: replay_trial(rng, wild=True)),
     (15, run_trial),
     (15, fault_trial),
+    (8, probe_trial),
     (8, one_topic_trial),
 ]
 
