@@ -80,6 +80,12 @@ SUBJECTS = [
     Subject("a replay over many keys", "replay f s", {"f": lines_of(MANY_KEYS), "s": b"join A\njoin B\ndrain\n"}),
     Subject("a replay of a bad line", "replay f s", {"f": FIVE, "s": b"join A\njion B\n"},
             Outcome(b"", b"fault 22 at line 2\n", 1), frozenset({"thread", "write", "random"})),
+    Subject("a trace of a join", "trace f s", {"f": FIVE, "s": b"join A\nsync A\n"},
+            done(b"line,step,event,member,partition,from,to,commit,code,reason,generation,phase,waiting,granted,unread,lag\n"
+                 b"1,1,join,A,,,,,,,1,stable,,A 0-3,0-3,5\n2,1,sync,A,,,,,,,1,stable,,A 0-3,,5\n")),
+    Subject("a trace of each line over quoted fields", "trace f s --header --column 2", {"f": QUOTED, "s": SCRIPT}),
+    Subject("a trace of a bad line", "trace f s", {"f": FIVE, "s": b"join A\njion B\n"},
+            Outcome(b"", b"fault 22 at line 2\n", 1), frozenset({"thread", "write", "random"})),
     Subject("a run", "run f s", {"f": FIVE, "s": b"join A\njoin B\nleave A\n"},
             done(FOUR_MOVES + b"move,3,2,A,B\nmove,3,3,A,B\nmove,4,0,A,B\nmove,4,1,A,B\n"
                  b"owner,0,B\nowner,1,B\nowner,2,B\nowner,3,B\n"

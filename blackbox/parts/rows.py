@@ -1,4 +1,4 @@
-"""The rows of rows.json.
+"""The rows of rows.json. What makes `replay` end with a fault does so for the jobs that read what it reads, too.
 
 A row has the words after the program's name, the files in the folder that it runs in, and what it must print. Text is Latin-1,
 one character per byte; a text can also be a list of pairs of a text and its repetitions, or an object whose `file` names a
@@ -10,6 +10,9 @@ from pathlib import Path
 from typing import Iterator
 
 from .program import FOLDER, Cases, run, text_of
+
+# The jobs that have the arguments, options and faults of `replay`.
+LIKE_REPLAY = ("trace",)
 
 
 def is_wanted(wanted: str | list | dict, printed: bytes) -> bool:
@@ -39,3 +42,5 @@ def row_faults(row: dict) -> Iterator[str]:
 def cases() -> Cases:
     for row in json.loads((FOLDER / "rows.json").read_text(encoding="utf-8")):
         yield row["name"], row_faults(row)
+        for job in LIKE_REPLAY if row["words"][:1] == ["replay"] and row["status"] else ():
+            yield f"{job}: {row['name']}", row_faults({**row, "words": [job, *row["words"][1:]]})

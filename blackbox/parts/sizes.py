@@ -9,6 +9,7 @@ from typing import Callable, Iterator
 from .program import Cases, Outcome, run
 
 MIB = 1 << 20
+TABLE = b"line,step,event,member,partition,from,to,commit,code,reason,generation,phase,waiting,granted,unread,lag"
 Keys = list[bytes]
 
 
@@ -124,9 +125,32 @@ def script_sizes() -> Cases:
     yield "replay: 65,536 commits, and one more", faults(
         "replay f s --partitions 1", {"f": b"k\n", "s": sends},
         b"move,1,0,,A\nrefused,65540,30\nowner,0,A\noffset,0,0,1\ntotal,0,1\n")
+    yield "trace: 65,536 commits, and one more", faults(
+        "trace f s --partitions 1", {"f": b"k\n", "s": sends + b"drain\n"}, traced_commits())
     names = [b"%032d" % n for n in range(512)]
     joins = b"".join(b"join %s\n" % name for name in names)
     yield "replay: 512 members, and one more", max_members_faults(names, joins)
+    yield "trace: 512 members, and one more", faults(
+        "trace f s --partitions 512", {"f": b"k\n", "s": joins + b"join Z\n"}, traced_members(names))
+
+
+def traced_commits() -> bytes:
+    """The table of A, who sends one record until the mail is full; a drain then reads nothing and sends in vain."""
+    rows = [b"1,1,join,A,,,,,,,1,stable,,A 0,0,1", b"2,1,sync,A,,,,,,,1,stable,,A 0,,1", b"3,1,poll,A,0,0,1,,,,1,stable,,A 0,,1"]
+    rows += [b"%d,1,send,A,0,0,1,%d,,,1,stable,,A 0,,1" % (3 + sent, sent) for sent in range(1, 65_537)]
+    full = b"30,mail full,1,stable,,A 0,,1"
+    rows += [b"65540,1,send,A,0,,,," + full, b"65541,1,poll,A,0,1,1,,,,1,stable,,A 0,,1", b"65541,2,send,A,0,,,," + full,
+             b"65541,3,drain,,,,,," + full]
+    return b"".join(row + b"\n" for row in (TABLE, *rows))
+
+
+def traced_members(names: Keys) -> bytes:
+    """The table of members that join one after the other: the first has all partitions, and the others wait for it."""
+    rows = [b"1,1,join,%s,,,,,,,1,stable,,%s 0-511,0-511,1" % (names[0], names[0])]
+    states = [b"1,preparing,%s,%s,0-511,1" % (names[0], b";".join([names[0] + b" 0-511", *names[1:nth + 1]])) for nth in range(512)]
+    rows += [b"%d,1,join,%s,,,,,,,%s" % (nth + 1, names[nth], states[nth]) for nth in range(1, 512)]
+    rows.append(b"513,1,join,Z,,,,,9,too many members," + states[511])
+    return b"".join(row + b"\n" for row in (TABLE, *rows))
 
 
 def max_members_faults(names: Keys, joins: bytes) -> Iterator[str]:
