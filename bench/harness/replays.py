@@ -1,8 +1,9 @@
-"""Replays and runs. No other program does this, so they have tables of their own, with a count of the same file."""
+"""Replays, traces and runs. No other program does this, so they have tables of their own, with a count of the same file."""
 
 from __future__ import annotations
 
 import csv
+import os
 from collections import Counter
 from dataclasses import dataclass
 from pathlib import Path
@@ -14,8 +15,12 @@ from harness.tables import MB, Result
 HEAD = ("runs", "median s", "min..max s", "CPU s", "peak MB", "time/count")
 
 
+# More bytes than a row of a trace has here.
+LONGEST_ROW = 1 << 16
+
+
 class Wrong(Exception):
-    """A replay or a run printed a wrong result."""
+    """A replay, a trace or a run printed a wrong result."""
 
 
 @dataclass(frozen=True)
@@ -32,7 +37,7 @@ class Job:
     members: int
 
     def pipeline(self, program: Path) -> measure.Pipeline:
-        """The replay or the run."""
+        """The run of this job."""
         words = [self.command, str(self.file), str(self.script), "--partitions", str(self.partitions)]
         return [[str(program), *words]]
 
@@ -52,6 +57,33 @@ class Job:
             raise Wrong(f"{self.name} ends with {','.join(last)}")
         if len(owners) != self.members or max(owners.values()) - min(owners.values()) > 1 or "" in owners:
             raise Wrong(f"{self.name} spreads its partitions over {len(owners)} members, or not evenly")
+
+
+class Trace(Job):
+    """A trace, of which the last row is checked."""
+
+    def check(self, output: Path) -> None:
+        """Fails where, after the last line, a partition has no owner or no reader, or the assignment is unbalanced, or a
+        record is not committed."""
+        fields = dict(zip(("generation", "phase", "waiting", "granted", "unread", "lag"), last_row(output)[-6:]))
+        if fields["lag"] != "0" or fields["unread"] or fields["phase"] != "stable":
+            raise Wrong(f"{self.name} ends with {fields}")
+        sizes = [sum(map(size_of, words.split(" ")[1:])) for words in fields["granted"].split(";")]
+        if len(sizes) != self.members or sum(sizes) != self.partitions or max(sizes) - min(sizes) > 1:
+            raise Wrong(f"{self.name} spreads its partitions as {sizes}")
+
+
+def last_row(output: Path) -> list[str]:
+    """The fields of the last row of a file."""
+    with output.open("rb") as rows:
+        rows.seek(max(0, output.stat().st_size - LONGEST_ROW), os.SEEK_SET)
+        return rows.read().decode("ascii").splitlines()[-1].split(",")
+
+
+def size_of(word: str) -> int:
+    """How many partitions a range has, such as `3` or `0-9`."""
+    first, _, last = word.partition("-")
+    return int(last or first) - int(first) + 1
 
 
 def written(path: Path, lines: Iterable[str]) -> Path:
@@ -75,6 +107,20 @@ def drains(folder: Path, file: Path, records: int) -> Job:
     return Job("replay", name, file, written(folder / "drains", lines), 64, records, 16)
 
 
+def traced_joins(folder: Path, members: int, each: bool) -> Job:
+    """Members join one by one, with a complete rebalance after each or after all, over the maximum number of partitions."""
+    lines = [line for number in range(members) for line in (f"join m{number}", *["settle"] * each)]
+    script = written(folder / f"traced-{members}", lines if each else [*lines, "settle"])
+    name = f"{members} joins, {'each settled' if each else 'then settled'}, 4096 partitions"
+    return Trace("trace", name, written(folder / "no-records", []), script, 4096, 0, members)
+
+
+def traced_drain(folder: Path, file: Path, records: int) -> Job:
+    """A member drains all logs by batches of 500 records."""
+    script = written(folder / "drain", ["join m0", "drain"])
+    return Trace("trace", f"{records:,} records, drained by batches of 500, 64 partitions", file, script, 64, records, 1)
+
+
 def members(folder: Path, file: Path, records: int, count: int) -> Job:
     """A run in which `count` members join, one thread each, and read all records."""
     plan = written(folder / f"members-{count}", (f"join m{number}" for number in range(count)))
@@ -83,7 +129,7 @@ def members(folder: Path, file: Path, records: int, count: int) -> Job:
 
 
 def row(name: str, result: Result, count: Result) -> Sequence[str]:
-    """The row of a replay or of a run."""
+    """The row of a job."""
     walls = [run.wall for run in result.runs]
     spread = f"{min(walls):.3f}..{max(walls):.3f}"
     return [
