@@ -86,6 +86,7 @@ SUBJECTS = [
     Subject("a trace of each line over quoted fields", "trace f s --header --column 2", {"f": QUOTED, "s": SCRIPT}),
     Subject("a trace of a bad line", "trace f s", {"f": FIVE, "s": b"join A\njion B\n"},
             Outcome(b"", b"fault 22 at line 2\n", 1), frozenset({"thread", "write", "random"})),
+    Subject("a picture of each line over quoted fields", "draw f s --header --column 2", {"f": QUOTED, "s": SCRIPT}),
     Subject("a run", "run f s", {"f": FIVE, "s": b"join A\njoin B\nleave A\n"},
             done(FOUR_MOVES + b"move,3,2,A,B\nmove,3,3,A,B\nmove,4,0,A,B\nmove,4,1,A,B\n"
                  b"owner,0,B\nowner,1,B\nowner,2,B\nowner,3,B\n"

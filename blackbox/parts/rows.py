@@ -12,7 +12,7 @@ from typing import Iterator
 from .program import FOLDER, Cases, run, text_of
 
 # The jobs that have the arguments, options and faults of `replay`.
-LIKE_REPLAY = ("trace",)
+LIKE_REPLAY = ("trace", "draw")
 
 
 def is_wanted(wanted: str | list | dict, printed: bytes) -> bool:

@@ -7,7 +7,7 @@ from typing import Iterator
 
 from .program import FOLDER, TOP, Cases, run
 
-SUBCOMMANDS = ("count", "replay", "run")
+SUBCOMMANDS = ("count", "replay", "trace", "draw", "run")
 BASH = TOP / "completions" / "keycount.bash"
 
 
