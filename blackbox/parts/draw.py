@@ -17,6 +17,8 @@ from .program import TOP, Cases, run
 SVG = "{http://www.w3.org/2000/svg}"
 # The elements of a picture. None of them loads or runs anything.
 ELEMENTS = {"svg", "title", "desc", "style", "defs", "pattern", "g", "rect", "path", "circle", "text", "tspan"}
+SHAPES = {SVG + name for name in ("rect", "path", "circle", "text")}
+NOWHERE = Read("", ("", 0), 0, 0)
 # What would make a picture depend on something else, in an attribute's name, and in its value or the style.
 OUTSIDE_NAME = re.compile(r"on|src|(?:\{.*\})?href")
 OUTSIDE = re.compile(r"@import|url\((?!#)|//|javascript:")
@@ -153,16 +155,54 @@ def check_document(text: str) -> Element:
     return root
 
 
-def check_bands(root: Element) -> None:
-    """Bands stand where their columns are, and those of a lane side by side."""
-    bands = [(number(band, "from"), number(band, "to"), int(band.get("x", "")), int(band.get("width", "")))
-             for band in found(root, "span")]
-    scale = {width // (end - start) for start, end, _, width in bands if end > start}
-    require(len(scale) <= 1, f"columns have the widths {scale}")
-    for wide in scale:
-        require(all((x, width) == (wide * start, wide * (end - start)) for start, end, x, width in bands), "a band is misplaced")
-    heights = [{band.get("y") for band in found(lane, "span")} for lane in found(root, "lane")]
-    require(len(set().union(*heights)) == sum(map(len, heights)), "lanes lie over one another")
+def corner_of(shape: Element) -> tuple[int, int]:
+    """Where a shape stands or begins."""
+    text = shape.get("d") or shape.get("transform") or " ".join(
+        shape.get(name, "") for name in (("cx", "cy") if shape.tag == f"{SVG}circle" else ("x", "y")))
+    found_at = re.match(r"(?:M|translate\()?(\d+) (\d+)", text)
+    require(bool(found_at), f"a {shape.tag} at {text!r}")
+    return int(found_at[1]), int(found_at[2])
+
+
+def bands_of(root: Element) -> Iterator[tuple[int, int, int, int]]:
+    """The columns, the left end and the width of each band."""
+    for band in found(root, "span"):
+        yield number(band, "from"), number(band, "to"), corner_of(band)[0], int(band.get("width", ""))
+
+
+def check_bands(root: Element) -> int:
+    """Bands stand where their columns are, and those of a lane side by side. Returns the width of a column."""
+    widths = {width // (end - start) for start, end, _, width in bands_of(root) if end > start}
+    require(len(widths) == 1 and min(widths) > 0, f"columns have the widths {widths}")
+    wide = min(widths)
+    for start, end, x, width in bands_of(root):
+        require((x, width) == (wide * start, wide * (end - start)), f"the band from column {start} to {end} is misplaced")
+    heights = [{corner_of(band)[1] for band in found(lane, "span")} for lane in found(root, "lane")]
+    require(all(len(height) == 1 for height in heights), "a lane has bands at several heights")
+    tops = [min(height) for height in heights]
+    require(tops == sorted(set(tops)), "lanes lie over one another")
+    return wide
+
+
+def check_marks(root: Element, picture: Picture) -> None:
+    """What happens in a column is drawn there, at the lane of its partition; an arc begins where its commit was sent."""
+    wide = check_bands(root)
+    tops = [corner_of(next(found(lane, "span")))[1] for lane in found(root, "lane")]
+    partitions = {column.sent[0]: column.sent[1].place for column in picture.columns if column.sent}
+    for at, (group, column) in enumerate(zip(found(root, "column"), picture.columns)):
+        arcs = list(found(group, "arc"))
+        shapes = [shape for shape in group.iter() if shape.tag in SHAPES and shape not in arcs]
+        for x, _ in map(corner_of, shapes):
+            require(wide * at <= x <= wide * (at + 1), f"column {at} has a mark at {x}")
+        for arc in arcs:
+            x, reach = corner_of(arc)[0], int(re.findall(r"\d+", arc.get("d", ""))[-2])
+            require((x // wide, (x + reach) // wide) == (column.delivery.sent, at), f"the arc in column {at} is misplaced")
+        place = (column.poll or column.sent and column.sent[1] or NOWHERE).place
+        place = partitions[column.delivery.commit] if column.delivery else place
+        marks = [shape for name in ("poll", "send", "commit") for mark in found(group, name) for shape in mark.iter()]
+        for y in [corner_of(shape)[1] for shape in marks if shape.tag in SHAPES]:
+            lane = picture.lanes[max((nth for nth, top in enumerate(tops) if top <= y), default=0)]
+            require(lane.topic == place[0] and lane.first <= place[1] <= lane.last, f"a mark of {place} is at lane {lane[:3]}")
 
 
 def check_same(shown: list, wanted: list, what: str) -> None:
@@ -232,7 +272,8 @@ def check_picture(about: Subject, text: str, table: str, replayed: str) -> None:
     shown = picture_in(root)
     check_same(shown.columns, wanted.columns, "columns")
     check_same(shown.lanes, [coloured(lane) for lane in wanted.lanes], "lanes")
-    check_bands(root)
+    if wanted.columns:
+        check_marks(root, wanted)
     check_headings(root, wanted.columns, about.script)
     check_same([element.text for element in found(root, "figure")], list(figures(painter, wanted, replayed)), "figures")
     check_same([element.text for element in found(root, "label")][:len(wanted.lanes)], [label(lane) for lane in wanted.lanes],
@@ -311,7 +352,7 @@ ALTERATIONS: dict[str, tuple[str, str]] = {
     "a band ends a column late": (r'(<rect class="span[^>]*data-to=")\d+', r"\g<1>99"),
     "a band is of another member": (r'(<rect class="span[^>]*data-member=")A', r"\1B"),
     "a generation is missing": (r'<path class="generation"[^>]*/><text[^>]*>2</text>', ""),
-    "a refused delivery has a tick": (r'class="cross"([^<]*)<text class="reason">[^<]*</text>', r'class="tick"\1'),
+    "a refused delivery has a tick": (r'class="cross"([^<]*)<text class="reason"[^>]*>[^<]*</text>', r'class="tick"\1'),
     "a delivery is missing": (r'<g class="commit.*?</g>(?=</g>)', ""),
     "a commit is of another number": (r'(class="commit[^>]*data-commit=")1', r"\g<1>2"),
     "a reason is another": (r'(class="reason"[^>]*>)not a member', r"\1stale generation"),
@@ -320,6 +361,9 @@ ALTERATIONS: dict[str, tuple[str, str]] = {
     "a record that was read again is not counted": (r"more than once: 2", "more than once: 0"),
     "a line without a reader is missing": (r"(No reader[^<]*) \d+(-\d+)?</text>", r"\1</text>"),
     "a name is not escaped": (r"</desc>", "<</desc>"),
+    "a band stands a column late": (r'(class="span[^>]* x=")0"', r'\g<1>28"'),
+    "an arc ends a column early": (r'(class="arc" d="M[^"]* )56 12 56 ', r"\g<1>28 12 28 "),
+    "a poll is drawn at another lane": (r'(class="poll"[^>]*><rect[^>]* y=")\d+', r"\g<1>300"),
     "a font is loaded": (r"<style>", '<style>@import "font";'),
     "a picture is loaded": (r"<defs>", '<defs><image href="picture.png"/>'),
 }
