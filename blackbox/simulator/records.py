@@ -4,6 +4,7 @@ from __future__ import annotations
 
 import csv
 import io
+import re
 from dataclasses import dataclass
 from functools import lru_cache
 from itertools import accumulate
@@ -11,6 +12,8 @@ from random import Random
 
 LONGEST_KEY = 65_535
 NO_PARTITION = 4_294_967_295
+# The bytes that need quotes.
+SPECIAL = re.compile(rb'[,"\r\n]')
 WORD = 0xFFFFFFFF
 MIX = 0x5BD1E995
 
@@ -99,7 +102,7 @@ def quoted(field: bytes) -> bytes:
 
 def row(*fields: bytes) -> bytes:
     """A row as the program must write it: quoted only where necessary."""
-    return b",".join(quoted(field) if set(field) & set(b',"\r\n') else field for field in fields) + b"\n"
+    return b",".join(quoted(field) if SPECIAL.search(field) else field for field in fields) + b"\n"
 
 
 def read(text: bytes) -> list[list[bytes]]:
@@ -180,7 +183,7 @@ def random_keys(rng: Random) -> list[bytes]:
 
 def written(rng: Random, field: bytes, alone: bool) -> bytes:
     """A field in valid CSV, sometimes quoted without need."""
-    needed = set(field) & set(b',"\r\n') or (alone and not field)
+    needed = SPECIAL.search(field) or (alone and not field)
     return quoted(field) if needed or rng.random() < 0.1 else field
 
 

@@ -96,7 +96,7 @@ def replay_trial(rng: Random, wild: bool) -> Trial:
     lines = [line for _, line in scripts.lines_of(script)]
 
     def check(outcomes: list[Outcome]) -> None:
-        check_traced(source, script, outcomes)
+        check_traced(source, script, *outcomes)
         replayed = outcomes[1].stdout
         refused = b"\nrefused,%d," % last_line(script) in b"\n" + replayed
         if lines[-1:] == [b"drain"] and not refused:
@@ -112,9 +112,8 @@ def traced_trial(kind: str, source: Input, script: bytes, check: Callable[[list[
     return Trial(kind, source.options, {"file": source.text, "script": script}, runs, check)
 
 
-def check_traced(source: Input, script: bytes, outcomes: list[Outcome]) -> None:
+def check_traced(source: Input, script: bytes, traced: Outcome, replayed: Outcome) -> None:
     """Checks the laws of a trace and a replay."""
-    traced, replayed = outcomes
     check_done(traced)
     check_done(replayed)
     check_replay(source.options, source.keyed, script, replayed.stdout)
@@ -131,7 +130,7 @@ def probe_trial(rng: Random) -> Trial:
     script = b"".join(line + b"\n" for line in before + scripts.probes(before, source.options))
 
     def check(outcomes: list[Outcome]) -> None:
-        check_traced(source, script, outcomes)
+        check_traced(source, script, *outcomes)
         check_probes(source.options, len(before), outcomes[0].stdout)
 
     return traced_trial("probe", source, script, check)
