@@ -147,8 +147,7 @@ def check_document(text: str) -> Element:
     require(not outside, f"it needs {outside}")
     require([child.tag for child in root[:2]] == [f"{SVG}title", f"{SVG}desc"] and all(child.text for child in root[:2]),
             "it does not begin with a title and a description")
-    require(root.get("viewBox") is not None and root.get("role") == "graphics-document document",
-            "it has no view box, or is no picture")
+    require(root.get("viewBox") is not None and root.get("aria-labelledby") is not None, "it has no view box, or no label")
     hatch = re.search(r"\.unread *\{[^}]*url\(#([\w-]+)\)", style)
     require(bool(hatch) and [pattern.get("id") for pattern in root.iter(f"{SVG}pattern")].count(hatch[1]) == 1,
             "what nobody reads is not hatched")

@@ -115,8 +115,8 @@ class Painter:
 
     def paint(self, rows: Rows) -> Picture:
         """The picture of all rows."""
-        for row, after in zip(rows, [*rows[1:], None]):
-            self.add(row, after is None or after["line"] != row["line"])
+        for row in rows:
+            self.add(row)
             self.before = row
         return Picture(self.columns, list(self.lanes()))
 
@@ -124,16 +124,15 @@ class Painter:
         """How many records were read more than once."""
         return sum(times > 1 for times in self.times.values())
 
-    def add(self, row: dict[str, str], is_last: bool) -> None:
-        """A row that shows something becomes a column, and so does the last one of a line of which nothing else shows."""
+    def add(self, row: dict[str, str]) -> None:
+        """The first row of a line becomes a column, and so does each other one that shows something."""
         if row["event"] in ("join", "keep", "return") and not row["code"]:
             self.joined += 1
             self.numbers[row["member"]] = self.joined
         column = self.column_of(row)
         changed = self.note_holders(row)
         marked = column.generation is not None or column.poll or column.sent or column.delivery or column.refusal
-        alone = is_last and (not self.columns or self.columns[-1].line != column.line)
-        if changed or marked or alone:
+        if changed or marked or column.step == 1:
             self.columns.append(column)
 
     def column_of(self, row: dict[str, str]) -> Column:
