@@ -4,15 +4,17 @@ _keycount() {
   local word=${COMP_WORDS[COMP_CWORD]} before=${COMP_WORDS[COMP_CWORD - 1]} command=${COMP_WORDS[1]} options
   COMPREPLY=()
   if [ "$COMP_CWORD" -eq 1 ]; then
-    mapfile -t COMPREPLY < <(compgen -W "count replay run help -h --help -V --version" -- "$word")
+    mapfile -t COMPREPLY < <(compgen -W "count replay trace draw run help -h --help -V --version" -- "$word")
     return
   fi
   case $command in
     count) options="--partitions --column --header --topics --topic-column -h --help" ;;
     replay) options="--partitions --column --header --topics --topic-column --batch -h --help" ;;
+    trace) options="--partitions --column --header --topics --topic-column --batch -h --help" ;;
+    draw) options="--partitions --column --header --topics --topic-column --batch -h --help" ;;
     run) options="--partitions --column --header --topics --topic-column --batch -h --help" ;;
     help)
-      mapfile -t COMPREPLY < <(compgen -W "count replay run help" -- "$word")
+      mapfile -t COMPREPLY < <(compgen -W "count replay trace draw run help" -- "$word")
       return
       ;;
     *) return ;;
