@@ -1,6 +1,6 @@
 -- Where things stand: to the right of column 0, and down from the top.
-use Rattle.std.specs.Prelude.{ℕ, ◌+◌, ◌-◌, ◌*◌}
-use Rattle.timeline_svg.specs.declared.layout.TheConstants.{COLUMN, HEAD, LANE, ROW}
+use Rattle.std.specs.Prelude.{ℕ, ◌+◌, ◌-◌, ◌*◌, max}
+use Rattle.timeline_svg.specs.declared.layout.TheConstants.{COLUMN, HEAD, LANE, LEAST_WIDTH, ROW}
 
 -- the left end of a column; also the width of so many columns
 abbrev pub column_x : ℕ → ℕ
@@ -22,9 +22,9 @@ row_y row = ROW * row
 abbrev pub margin : ℕ → ℕ
 margin letters = 112 + 8 * letters
 
--- the width of a picture of so many columns, with room for the last texts
+-- the width of a picture of so many columns, with room for the last texts, and for its legend
 abbrev pub width : ℕ → ℕ → ℕ
-width letters columns = margin letters + column_x columns + 200
+width letters columns = max (margin letters + column_x columns + 200) LEAST_WIDTH
 
 -- the height of a picture of so many lanes, each with its row of figures
 abbrev pub height : ℕ → ℕ

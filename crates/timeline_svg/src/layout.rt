@@ -15,6 +15,9 @@ pub const LANE: u128 = 76;
 /// The height of a row of the figures.
 pub const ROW: u128 = 18;
 
+/// The least width of a picture: that of its legend.
+pub const LEAST_WIDTH: u128 = 416;
+
 /// The left end of a column, and the width of so many columns.
 pub fn column_x(column: usize) -> u128
     ensures value { result ≡ column_x column }
@@ -59,7 +62,7 @@ pub fn margin(letters: usize) -> u128
 pub fn width(letters: usize, columns: usize) -> u128
     ensures { result ≡ width letters columns }
 {
-    margin(letters) + column_x(columns) + 200
+    (margin(letters) + column_x(columns) + 200).max(LEAST_WIDTH)
 }
 
 /// The height of a picture of so many lanes.
