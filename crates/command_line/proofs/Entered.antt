@@ -1,6 +1,6 @@
 -- The subcommand that clap entered, and what clap has checked of it.
 use Rattle.std.proofs.Common.{◌≡◌, ◌∙◌, ◌≤◌, ◌++◌, ◌&&◌, ◌||◌, not, cond, refl, ap, ap₂, sym, subst, arith, zero, suc, ℕ, List, [], ◌∷◌, length, drop, Option, Some, None, is_some, IsSome, Bool, true, false, true≢false, codes, inl, inr}
-use Rattle.std.specs.Prelude.{⊤, ◌⊎◌, IfErr, IfOk, IsErrAnd, Result, Ok, Err, unwrap_or, option_and_then, option_map, encode_utf8, slice_get, find, fold, Box, pos}
+use Rattle.std.specs.Prelude.{⊤, ◌⊎◌, IfErr, IfOk, IfSome, IsErrAnd, Result, Ok, Err, unwrap_or, option_and_then, option_map, encode_utf8, slice_get, find, fold, Box, pos}
 use Rattle.std.specs.Box.{box_value}
 use Rattle.std.specs.Option.{option_map_or}
 use Rattle.std.specs.Str.{bytes_eq, chars}
@@ -21,7 +21,7 @@ use Rattle.clap.specs.Matches.{found_of}
 use Rattle.clap.specs.declared.parser.matches.ArgMatches.{ArgMatches}
 use Rattle.clap.specs.Simple.{App, HasMatchesOf, subcommand_rows_of, Shape, app_of, app_of_fields, built, entered, is_simple, label_of, matches_of, names_of, rows_at, new_app, subcommand_of, subcommand_rows, with_rule}
 use Rattle.clap.specs.Takes.{is_given}
-use Rattle.clap.specs.Walk.{Held, Names, Outcome, Row, Rule, Step, Text, Waiting, Walk, done, waits, plain, refused, idle, option, positional, next, trailing, subcommand, value, after_flag, after_step, arg_by_id, arg_by_index, arg_by_long, arg_by_short, at_row, attached_value, bundle_met, bundle_step, default_rows, first_of, flag_met, has_row, is_pending, long_met, long_or_other, more_values, nothing_held, option_met, option_word, plain_word, reacted, reading_by, rows_after, rows_of, rule_of, settled, settled_rows, bundle, short_met, short_or_plain, answers_to, subcommand_met, subcommand_or_other, takes_several, takes_values, to_positional, used, used_by_id, walk, walk_from, walked, walked_from, with_default, with_values, without, word_met}
+use Rattle.clap.specs.Walk.{Held, Names, Outcome, Row, Rule, Step, Text, Waiting, Walk, done, waits, plain, refused, idle, option, positional, next, trailing, subcommand, value, after_flag, after_step, arg_by_id, arg_by_index, arg_by_long, arg_by_short, at_row, attached_value, bundle_met, bundle_step, default_rows, first_of, flag_met, one_of, has_row, is_pending, long_met, long_or_other, more_values, nothing_held, option_met, option_word, plain_word, reacted, reading_by, rows_after, rows_of, rule_of, settled, settled_rows, bundle, short_met, short_or_plain, answers_to, subcommand_met, subcommand_or_other, takes_several, takes_values, to_positional, used, used_by_id, walk, walk_from, walked, walked_from, with_default, with_values, without, word_met}
 use Rattle.clap.specs.declared.builder.arg.Arg.{Arg}
 use Rattle.clap.specs.declared.builder.command.Command.{Command}
 use Rattle.clap.specs.declared.builder.command.Command.TheOpen.{Command-F}
@@ -32,12 +32,13 @@ use Rattle.clap.specs.declared.error.kind.ErrorKind.TheVariants as kind
 use Rattle.clap.specs.declared.parser.matches.SubCommand.{SubCommand}
 use Rattle.clap.specs.declared.parser.matches.ArgMatches.TheViews.{out-SubCommand}
 use Rattle.clap.specs.declared.parser.matches.ValueSource.TheVariants.{CommandLine, DefaultValue}
-use Rattle.command_line.specs.CommandLine.{HasJob, HaveBadList, IsBadListReport, IsFlag, IsJobOf, IsNumber, IsRefusal, keycount_app, keycount_top, path}
-use Rattle.command_line.specs.Private.CommandLine.{IsCommand, IsOptionalNumber, AreCountRows, AreOptionRows, AreScriptRows, IsUsageOf, ReportsBadList}
+use Rattle.command_line.specs.CommandLine.{HasJob, HaveBadList, IsBadListReport, IsFlag, IsJobOf, IsNumber, IsNumberIfGiven, IsRefusal, name_of, keycount_app, keycount_top, path}
+use Rattle.command_line.specs.Columns.{IsBadColumn}
+use Rattle.command_line.specs.Private.CommandLine.{IsCommand, IsOptionalNumber, AreCountRows, AreExplainRows, AreOptionRows, ArePlaceRows, AreScriptRows, IsBadReport, IsUsageOf, ReportsBadColumn, ReportsBadList, ReportsBadOption}
 use Rattle.command_line.specs.Topics.{AreTopicsOf, IsBadList}
 use Rattle.partitioner.specs.declared.topic.Topic.{Topic}
 use Rattle.command_line.specs.declared.words.Job.{Job}
-use Rattle.command_line.specs.declared.words.Job.TheVariants.{Count, Replay, Trace, Draw, Run}
+use Rattle.command_line.specs.declared.words.Job.TheVariants.{Count, Place, Replay, Trace, Draw, Run, Explain}
 use Rattle.command_line.specs.declared.words.Usage.{Usage}
 use Rattle.command_line.specs.declared.words.Usage.TheVariants.{Help, Bad, Memory}
 
@@ -97,6 +98,12 @@ number_in None default most n fits reads is = rw is fits
 number_in (Some t) default most n fits reads is =
     let number = unsigned_of most t reads in
     rw is.1 (number.1, number.2)
+
+pub number_if_given : (o : Option Text) (most : ℕ) (n : Option ℕ) → IsOptionalNumber o most → IsNumberIfGiven o n → IfSome n (λ k. (1 ≤ k) × (k ≤ most))
+number_if_given None most n reads is = rw is tt
+number_if_given (Some t) most n reads is =
+    let number = unsigned_of most t reads in
+    rw (is.1, is.2.1) (number.1, number.2)
 
 -- ---- lists of rows and rules
 
@@ -415,28 +422,33 @@ shape_at k = unwrap_or (slice_get keycount_built.subs k) keycount_top.top
 abbrev count_shape : Shape
 count_shape = shape_at 0
 
+abbrev place_shape : Shape
+place_shape = shape_at 1
+
 abbrev replay_shape : Shape
-replay_shape = shape_at 1
+replay_shape = shape_at 2
 
 abbrev trace_shape : Shape
-trace_shape = shape_at 2
+trace_shape = shape_at 3
 
 abbrev draw_shape : Shape
-draw_shape = shape_at 3
+draw_shape = shape_at 4
 
 abbrev run_shape : Shape
-run_shape = shape_at 4
+run_shape = shape_at 5
+
+abbrev explain_shape : Shape
+explain_shape = shape_at 6
 
 abbrev help_shape : Shape
-help_shape = shape_at 5
+help_shape = shape_at 7
 
 abbrev Named : Text → ℕ → Row → Type 0
 Named name most r = bytes_eq r.id name ≡ true → IsOptionalNumber (slice_get r.values 0) most
 
 -- the row has a value; that of a numeric option is a number in range
 abbrev RowPasses : Row → Type 0
-RowPasses r = IsSome (slice_get r.values 0) × Named (codes "partitions") 4096 r × Named (codes "column") 65535 r × Named (codes "batch") 1000000 r
-    × Named (codes "topic-column") 65535 r
+RowPasses r = IsSome (slice_get r.values 0) × Named (codes "partitions") 4096 r × Named (codes "batch") 1000000 r × Named (codes "top") 4294967295 r
 
 abbrev count_rule : ℕ → Rule
 count_rule k = unwrap_or (slice_get count_shape.rules k) (path (codes "file"))
@@ -452,41 +464,44 @@ PreservesRows = Preserves RowPasses count_shape
 
 file_preserves : PreservesRows (count_rule 0)
 file_preserves [] rows e r = absurd (some_kind _ _ e)
-file_preserves (v ∷ vs) rows e r = set_use RowPasses (count_rule 0) v vs rows (none_of _ _ e).1 (λ ok. (refl, (λ f. other f), (λ f. other f), (λ f. other f), (λ f. other f))) r
+file_preserves (v ∷ vs) rows e r = set_use RowPasses (count_rule 0) v vs rows (none_of _ _ e).1 (λ ok. (refl, (λ f. other f), (λ f. other f), (λ f. other f))) r
 
 script_preserves : PreservesRows (replay_rule 1)
 script_preserves [] rows e r = absurd (some_kind _ _ e)
-script_preserves (v ∷ vs) rows e r = set_use RowPasses (replay_rule 1) v vs rows (none_of _ _ e).1 (λ ok. (refl, (λ f. other f), (λ f. other f), (λ f. other f), (λ f. other f))) r
+script_preserves (v ∷ vs) rows e r = set_use RowPasses (replay_rule 1) v vs rows (none_of _ _ e).1 (λ ok. (refl, (λ f. other f), (λ f. other f), (λ f. other f))) r
 
 partitions_preserves : PreservesRows (count_rule 1)
 partitions_preserves [] rows e r = absurd (some_kind _ _ e)
 partitions_preserves (v ∷ vs) rows e r =
-    set_use RowPasses (count_rule 1) v vs rows (none_of _ _ e).1 (λ ok. (refl, (λ _. accepts-Accepts false (parser.Signed (pos 1) (pos 4096)) v ok), (λ f. other f), (λ f. other f), (λ f. other f))) r
+    set_use RowPasses (count_rule 1) v vs rows (none_of _ _ e).1 (λ ok. (refl, (λ _. accepts-Accepts false (parser.Signed (pos 1) (pos 4096)) v ok), (λ f. other f), (λ f. other f))) r
 
 column_preserves : PreservesRows (count_rule 2)
 column_preserves [] rows e r = absurd (some_kind _ _ e)
-column_preserves (v ∷ vs) rows e r =
-    set_use RowPasses (count_rule 2) v vs rows (none_of _ _ e).1 (λ ok. (refl, (λ f. other f), (λ _. accepts-Accepts false (parser.Signed (pos 1) (pos 65535)) v ok), (λ f. other f), (λ f. other f))) r
+column_preserves (v ∷ vs) rows e r = set_use RowPasses (count_rule 2) v vs rows (none_of _ _ e).1 (λ ok. (refl, (λ f. other f), (λ f. other f), (λ f. other f))) r
 
 header_preserves : PreservesRows (count_rule 3)
-header_preserves [] rows e r = set_use RowPasses (count_rule 3) (codes "true") [] rows e (λ ok. (refl, (λ f. other f), (λ f. other f), (λ f. other f), (λ f. other f))) r
-header_preserves (v ∷ vs) rows e r = set_use RowPasses (count_rule 3) v vs rows (none_of _ _ e).1 (λ ok. (refl, (λ f. other f), (λ f. other f), (λ f. other f), (λ f. other f))) r
+header_preserves [] rows e r = set_use RowPasses (count_rule 3) (codes "true") [] rows e (λ ok. (refl, (λ f. other f), (λ f. other f), (λ f. other f))) r
+header_preserves (v ∷ vs) rows e r = set_use RowPasses (count_rule 3) v vs rows (none_of _ _ e).1 (λ ok. (refl, (λ f. other f), (λ f. other f), (λ f. other f))) r
 
 topics_preserves : PreservesRows (count_rule 4)
 topics_preserves [] rows e r = absurd (some_kind _ _ e)
-topics_preserves (v ∷ vs) rows e r = set_use RowPasses (count_rule 4) v vs rows (none_of _ _ e).1 (λ ok. (refl, (λ f. other f), (λ f. other f), (λ f. other f), (λ f. other f))) r
+topics_preserves (v ∷ vs) rows e r = set_use RowPasses (count_rule 4) v vs rows (none_of _ _ e).1 (λ ok. (refl, (λ f. other f), (λ f. other f), (λ f. other f))) r
 
 topic_column_preserves : PreservesRows (count_rule 5)
 topic_column_preserves [] rows e r = absurd (some_kind _ _ e)
-topic_column_preserves (v ∷ vs) rows e r =
-    set_use RowPasses (count_rule 5) v vs rows (none_of _ _ e).1 (λ ok. (refl, (λ f. other f), (λ f. other f), (λ f. other f), (λ _. accepts-Accepts false (parser.Signed (pos 1) (pos 65535)) v ok))) r
+topic_column_preserves (v ∷ vs) rows e r = set_use RowPasses (count_rule 5) v vs rows (none_of _ _ e).1 (λ ok. (refl, (λ f. other f), (λ f. other f), (λ f. other f))) r
+
+top_preserves : PreservesRows (count_rule 6)
+top_preserves [] rows e r = absurd (some_kind _ _ e)
+top_preserves (v ∷ vs) rows e r =
+    set_use RowPasses (count_rule 6) v vs rows (none_of _ _ e).1 (λ ok. (refl, (λ f. other f), (λ f. other f), (λ _. accepts-Accepts false (parser.Signed (pos 1) (pos 4294967295)) v ok))) r
 
 batch_preserves : PreservesRows (replay_rule 7)
 batch_preserves [] rows e r = absurd (some_kind _ _ e)
 batch_preserves (v ∷ vs) rows e r =
-    set_use RowPasses (replay_rule 7) v vs rows (none_of _ _ e).1 (λ ok. (refl, (λ f. other f), (λ f. other f), (λ _. accepts-Accepts false (parser.Signed (pos 1) (pos 1000000)) v ok), (λ f. other f))) r
+    set_use RowPasses (replay_rule 7) v vs rows (none_of _ _ e).1 (λ ok. (refl, (λ f. other f), (λ _. accepts-Accepts false (parser.Signed (pos 1) (pos 1000000)) v ok), (λ f. other f))) r
 
-help_preserves : PreservesRows (count_rule 6)
+help_preserves : PreservesRows (count_rule 7)
 help_preserves values rows e r = absurd (some_kind _ _ (none_of _ _ e).1)
 
 abbrev DefaultPreservesRows : Rule → Type 0
@@ -496,24 +511,139 @@ no_default : (b : Bool) (rows : List Row) → Each RowPasses rows → Each RowPa
 no_default true rows r = r
 no_default false rows r = r
 
+-- the row does not have topics; that of the code is a number in range
+abbrev ExplainRowPasses : Row → Type 0
+ExplainRowPasses r = Named (codes "code") 90 r × (bytes_eq r.id (codes "topics") ≡ false)
+
+abbrev explain_rule : ℕ → Rule
+explain_rule k = unwrap_or (slice_get explain_shape.rules k) (path (codes "file"))
+
+code_preserves : Preserves ExplainRowPasses explain_shape (explain_rule 0)
+code_preserves [] rows e r = absurd (some_kind _ _ e)
+code_preserves (v ∷ vs) rows e r =
+    set_use ExplainRowPasses (explain_rule 0) v vs rows (none_of _ _ e).1 (λ ok. ((λ _. accepts-Accepts false (parser.Signed (pos 1) (pos 90)) v ok), refl)) r
+
+help_of_explain_preserves : Preserves ExplainRowPasses explain_shape (explain_rule 1)
+help_of_explain_preserves values rows e r = absurd (some_kind _ _ (none_of _ _ e).1)
+
+no_explain_default : (b : Bool) (rows : List Row) → Each ExplainRowPasses rows → Each ExplainRowPasses (cond b rows rows)
+no_explain_default true rows r = r
+no_explain_default false rows r = r
+
+explain_preserves : Each (Preserves ExplainRowPasses explain_shape) explain_shape.rules
+explain_preserves = (code_preserves, (help_of_explain_preserves, tt))
+
+explain_defaults : Each (PreservesDefault ExplainRowPasses explain_shape) explain_shape.rules
+explain_defaults = ((λ rows r. no_explain_default (has_row (codes "code") rows) rows r), ((λ rows r. no_explain_default (has_row (codes "help") rows) rows r), tt))
+
+no_topics_passes : (rows : List Row) → Each ExplainRowPasses rows → first_of (codes "topics") rows ≡ None
+no_topics_passes rows all = go (find (λ r. bytes_eq r.id (codes "topics")) rows) (λ r e. found_is ExplainRowPasses _ rows r all e)
+  where
+    go : (o : Option Row) → ((r : Row) → o ≡ Some r → ExplainRowPasses r × (bytes_eq r.id (codes "topics") ≡ true)) → option_and_then (λ r. slice_get r.values 0) o ≡ None
+    go None at = refl
+    go (Some r) at = absurd (true≢false (sym (at r refl).1 ∙ (at r refl).0.1))
+
 header_default : DefaultPreservesRows (count_rule 3)
 header_default rows r = go (has_row (codes "header") rows) refl
   where
     go : (b : Bool) → has_row (codes "header") rows ≡ b → Each RowPasses (cond b rows (default_rows (codes "header") (reading_by (count_rule 3)) (codes "false" ∷ []) rows))
     go true e = r
-    go false e = joined RowPasses (codes "header") (more_values DefaultValue (codes "false" ∷ [])) (record { id = codes "header"; values = codes "false" ∷ []; count = None; source = Some DefaultValue; reading = reading_by (count_rule 3) } ∷ []) rows e r ((refl, (λ f. other f), (λ f. other f), (λ f. other f), (λ f. other f)), tt)
+    go false e = joined RowPasses (codes "header") (more_values DefaultValue (codes "false" ∷ [])) (record { id = codes "header"; values = codes "false" ∷ []; count = None; source = Some DefaultValue; reading = reading_by (count_rule 3) } ∷ []) rows e r ((refl, (λ f. other f), (λ f. other f), (λ f. other f)), tt)
+
+-- a row of the given column has a number in range
+abbrev GivenPasses : Row → Type 0
+GivenPasses r = Named (codes "given") 65535 r
+
+abbrev place_rule : ℕ → Rule
+place_rule k = unwrap_or (slice_get place_shape.rules k) (path (codes "file"))
+
+abbrev PreservesGiven : Rule → Type 0
+PreservesGiven = Preserves GivenPasses place_shape
+
+file_preserves_given : PreservesGiven (place_rule 0)
+file_preserves_given [] rows e r = absurd (some_kind _ _ e)
+file_preserves_given (v ∷ vs) rows e r = set_use GivenPasses (place_rule 0) v vs rows (none_of _ _ e).1 (λ ok f. other f) r
+
+partitions_preserves_given : PreservesGiven (place_rule 1)
+partitions_preserves_given [] rows e r = absurd (some_kind _ _ e)
+partitions_preserves_given (v ∷ vs) rows e r = set_use GivenPasses (place_rule 1) v vs rows (none_of _ _ e).1 (λ ok f. other f) r
+
+column_preserves_given : PreservesGiven (place_rule 2)
+column_preserves_given [] rows e r = absurd (some_kind _ _ e)
+column_preserves_given (v ∷ vs) rows e r = set_use GivenPasses (place_rule 2) v vs rows (none_of _ _ e).1 (λ ok f. other f) r
+
+header_preserves_given : PreservesGiven (place_rule 3)
+header_preserves_given [] rows e r = set_use GivenPasses (place_rule 3) (codes "true") [] rows e (λ ok f. other f) r
+header_preserves_given (v ∷ vs) rows e r = set_use GivenPasses (place_rule 3) v vs rows (none_of _ _ e).1 (λ ok f. other f) r
+
+topics_preserves_given : PreservesGiven (place_rule 4)
+topics_preserves_given [] rows e r = absurd (some_kind _ _ e)
+topics_preserves_given (v ∷ vs) rows e r = set_use GivenPasses (place_rule 4) v vs rows (none_of _ _ e).1 (λ ok f. other f) r
+
+topic_column_preserves_given : PreservesGiven (place_rule 5)
+topic_column_preserves_given [] rows e r = absurd (some_kind _ _ e)
+topic_column_preserves_given (v ∷ vs) rows e r = set_use GivenPasses (place_rule 5) v vs rows (none_of _ _ e).1 (λ ok f. other f) r
+
+keys_preserves_given : PreservesGiven (place_rule 6)
+keys_preserves_given [] rows e r = set_use GivenPasses (place_rule 6) (codes "true") [] rows e (λ ok f. other f) r
+keys_preserves_given (v ∷ vs) rows e r = set_use GivenPasses (place_rule 6) v vs rows (none_of _ _ e).1 (λ ok f. other f) r
+
+given_preserves_given : PreservesGiven (place_rule 7)
+given_preserves_given [] rows e r = absurd (some_kind _ _ e)
+given_preserves_given (v ∷ vs) rows e r = set_use GivenPasses (place_rule 7) v vs rows (none_of _ _ e).1 (λ ok _. accepts-Accepts false (parser.Signed (pos 1) (pos 65535)) v ok) r
+
+help_preserves_given : PreservesGiven (place_rule 8)
+help_preserves_given values rows e r = absurd (some_kind _ _ (none_of _ _ e).1)
+
+keys_preserves : PreservesRows (place_rule 6)
+keys_preserves [] rows e r = set_use RowPasses (place_rule 6) (codes "true") [] rows e (λ ok. (refl, (λ f. other f), (λ f. other f), (λ f. other f))) r
+keys_preserves (v ∷ vs) rows e r = set_use RowPasses (place_rule 6) v vs rows (none_of _ _ e).1 (λ ok. (refl, (λ f. other f), (λ f. other f), (λ f. other f))) r
+
+given_preserves : PreservesRows (place_rule 7)
+given_preserves [] rows e r = absurd (some_kind _ _ e)
+given_preserves (v ∷ vs) rows e r = set_use RowPasses (place_rule 7) v vs rows (none_of _ _ e).1 (λ ok. (refl, (λ f. other f), (λ f. other f), (λ f. other f))) r
+
+flag_default : (P : Row → Type 0) (name : Text) (a : Rule) → P (record { id = name; values = codes "false" ∷ []; count = None; source = Some DefaultValue; reading = reading_by a }) → (rows : List Row) → Each P rows
+    → Each P (cond (has_row name rows) rows (default_rows name (reading_by a) (codes "false" ∷ []) rows))
+flag_default P name a passes rows r = go (has_row name rows) refl
+  where
+    go : (b : Bool) → has_row name rows ≡ b → Each P (cond b rows (default_rows name (reading_by a) (codes "false" ∷ []) rows))
+    go true e = r
+    go false e = joined P name (more_values DefaultValue (codes "false" ∷ [])) (record { id = name; values = codes "false" ∷ []; count = None; source = Some DefaultValue; reading = reading_by a } ∷ []) rows e r (passes, tt)
+
+no_given_default : (b : Bool) (rows : List Row) → Each GivenPasses rows → Each GivenPasses (cond b rows rows)
+no_given_default true rows r = r
+no_given_default false rows r = r
+
+place_preserves : Each (Preserves RowPasses place_shape) place_shape.rules
+place_preserves = (file_preserves, (partitions_preserves, (column_preserves, (header_preserves, (topics_preserves, (topic_column_preserves, (keys_preserves, (given_preserves, (help_preserves, tt)))))))))
+
+place_preserves_given : Each PreservesGiven place_shape.rules
+place_preserves_given = (file_preserves_given, (partitions_preserves_given, (column_preserves_given, (header_preserves_given, (topics_preserves_given, (topic_column_preserves_given, (keys_preserves_given, (given_preserves_given, (help_preserves_given, tt)))))))))
+
+place_defaults : Each (PreservesDefault RowPasses place_shape) place_shape.rules
+place_defaults = ((λ rows r. no_default (has_row (codes "file") rows) rows r), ((λ rows r. no_default (has_row (codes "partitions") rows) rows r), ((λ rows r. no_default (has_row (codes "column") rows) rows r), (header_default, ((λ rows r. no_default (has_row (codes "topics") rows) rows r), ((λ rows r. no_default (has_row (codes "topic-column") rows) rows r), (flag_default RowPasses (codes "keys") (place_rule 6) (refl, (λ f. other f), (λ f. other f), (λ f. other f)), ((λ rows r. no_default (has_row (codes "given") rows) rows r), ((λ rows r. no_default (has_row (codes "help") rows) rows r), tt)))))))))
+
+place_defaults_given : Each (PreservesDefault GivenPasses place_shape) place_shape.rules
+place_defaults_given = ((λ rows r. no_given_default (has_row (codes "file") rows) rows r), ((λ rows r. no_given_default (has_row (codes "partitions") rows) rows r), ((λ rows r. no_given_default (has_row (codes "column") rows) rows r), (flag_default GivenPasses (codes "header") (place_rule 3) (λ f. other f), ((λ rows r. no_given_default (has_row (codes "topics") rows) rows r), ((λ rows r. no_given_default (has_row (codes "topic-column") rows) rows r), (flag_default GivenPasses (codes "keys") (place_rule 6) (λ f. other f), ((λ rows r. no_given_default (has_row (codes "given") rows) rows r), ((λ rows r. no_given_default (has_row (codes "help") rows) rows r), tt)))))))))
 
 count_preserves : Each (Preserves RowPasses count_shape) count_shape.rules
-count_preserves = (file_preserves, (partitions_preserves, (column_preserves, (header_preserves, (topics_preserves, (topic_column_preserves, (help_preserves, tt)))))))
+count_preserves = (file_preserves, (partitions_preserves, (column_preserves, (header_preserves, (topics_preserves, (topic_column_preserves, (top_preserves, (help_preserves, tt))))))))
 
 replay_preserves : Each (Preserves RowPasses replay_shape) replay_shape.rules
-replay_preserves = (file_preserves, (script_preserves, (partitions_preserves, (column_preserves, (header_preserves, (topics_preserves, (topic_column_preserves, (batch_preserves, (help_preserves, tt)))))))))
+replay_preserves = (file_preserves, (script_preserves, (partitions_preserves, (column_preserves, (header_preserves, (topics_preserves, (topic_column_preserves, (batch_preserves, (top_preserves, (help_preserves, tt))))))))))
+
+trace_preserves : Each (Preserves RowPasses trace_shape) trace_shape.rules
+trace_preserves = (file_preserves, (script_preserves, (partitions_preserves, (column_preserves, (header_preserves, (topics_preserves, (topic_column_preserves, (batch_preserves, (help_preserves, tt)))))))))
 
 count_defaults : Each (PreservesDefault RowPasses count_shape) count_shape.rules
-count_defaults = ((λ rows r. no_default (has_row (codes "file") rows) rows r), ((λ rows r. no_default (has_row (codes "partitions") rows) rows r), ((λ rows r. no_default (has_row (codes "column") rows) rows r), (header_default, ((λ rows r. no_default (has_row (codes "topics") rows) rows r), ((λ rows r. no_default (has_row (codes "topic-column") rows) rows r), ((λ rows r. no_default (has_row (codes "help") rows) rows r), tt)))))))
+count_defaults = ((λ rows r. no_default (has_row (codes "file") rows) rows r), ((λ rows r. no_default (has_row (codes "partitions") rows) rows r), ((λ rows r. no_default (has_row (codes "column") rows) rows r), (header_default, ((λ rows r. no_default (has_row (codes "topics") rows) rows r), ((λ rows r. no_default (has_row (codes "topic-column") rows) rows r), ((λ rows r. no_default (has_row (codes "top") rows) rows r), ((λ rows r. no_default (has_row (codes "help") rows) rows r), tt))))))))
 
 replay_defaults : Each (PreservesDefault RowPasses replay_shape) replay_shape.rules
-replay_defaults = ((λ rows r. no_default (has_row (codes "file") rows) rows r), ((λ rows r. no_default (has_row (codes "script") rows) rows r), ((λ rows r. no_default (has_row (codes "partitions") rows) rows r), ((λ rows r. no_default (has_row (codes "column") rows) rows r), (header_default, ((λ rows r. no_default (has_row (codes "topics") rows) rows r), ((λ rows r. no_default (has_row (codes "topic-column") rows) rows r), ((λ rows r. no_default (has_row (codes "batch") rows) rows r), ((λ rows r. no_default (has_row (codes "help") rows) rows r), tt)))))))))
+replay_defaults = ((λ rows r. no_default (has_row (codes "file") rows) rows r), ((λ rows r. no_default (has_row (codes "script") rows) rows r), ((λ rows r. no_default (has_row (codes "partitions") rows) rows r), ((λ rows r. no_default (has_row (codes "column") rows) rows r), (header_default, ((λ rows r. no_default (has_row (codes "topics") rows) rows r), ((λ rows r. no_default (has_row (codes "topic-column") rows) rows r), ((λ rows r. no_default (has_row (codes "batch") rows) rows r), ((λ rows r. no_default (has_row (codes "top") rows) rows r), ((λ rows r. no_default (has_row (codes "help") rows) rows r), tt))))))))))
+
+trace_defaults : Each (PreservesDefault RowPasses trace_shape) trace_shape.rules
+trace_defaults = ((λ rows r. no_default (has_row (codes "file") rows) rows r), ((λ rows r. no_default (has_row (codes "script") rows) rows r), ((λ rows r. no_default (has_row (codes "partitions") rows) rows r), ((λ rows r. no_default (has_row (codes "column") rows) rows r), (header_default, ((λ rows r. no_default (has_row (codes "topics") rows) rows r), ((λ rows r. no_default (has_row (codes "topic-column") rows) rows r), ((λ rows r. no_default (has_row (codes "batch") rows) rows r), ((λ rows r. no_default (has_row (codes "help") rows) rows r), tt)))))))))
 
 first_passes : (name : Text) (rows : List Row) → Each RowPasses rows → IsSome (find (λ r. bytes_eq r.id name) rows) → IsSome (first_of name rows)
 first_passes name rows all some = go (find (λ r. bytes_eq r.id name) rows) (λ r e. found_is RowPasses _ rows r all e) some
@@ -522,10 +652,10 @@ first_passes name rows all some = go (find (λ r. bytes_eq r.id name) rows) (λ 
     go None at e = absurd (true≢false (sym e))
     go (Some r) at e = (at r refl).0.0
 
-number_passes : (name : Text) (most : ℕ) (rows : List Row) → Each RowPasses rows → ((r : Row) → RowPasses r → Named name most r) → IsOptionalNumber (first_of name rows) most
-number_passes name most rows all pick = go (find (λ r. bytes_eq r.id name) rows) (λ r e. found_is RowPasses _ rows r all e)
+number_passes : (P : Row → Type 0) (name : Text) (most : ℕ) (rows : List Row) → Each P rows → ((r : Row) → P r → Named name most r) → IsOptionalNumber (first_of name rows) most
+number_passes P name most rows all pick = go (find (λ r. bytes_eq r.id name) rows) (λ r e. found_is P _ rows r all e)
   where
-    go : (o : Option Row) → ((r : Row) → o ≡ Some r → RowPasses r × (bytes_eq r.id name ≡ true)) → IsOptionalNumber (option_and_then (λ r. slice_get r.values 0) o) most
+    go : (o : Option Row) → ((r : Row) → o ≡ Some r → P r × (bytes_eq r.id name ≡ true)) → IsOptionalNumber (option_and_then (λ r. slice_get r.values 0) o) most
     go None at = tt
     go (Some r) at = pick r (at r refl).0 (at r refl).1
 
@@ -538,6 +668,13 @@ given_some name rows e = go (find (λ r. bytes_eq r.id name) rows) e
 
 file_given : (rows : List Row) → check_fault count_shape rows false ≡ [] → is_given (codes "file") rows ≡ true
 file_given rows e = go (is_given (codes "file") rows) e
+  where
+    go : (b : Bool) → check_kinds false false (not b || false) ≡ [] → b ≡ true
+    go true e = refl
+    go false e = absurd (some_kind _ _ e)
+
+file_given_to_place : (rows : List Row) → check_fault place_shape rows false ≡ [] → is_given (codes "file") rows ≡ true
+file_given_to_place rows e = go (is_given (codes "file") rows) e
   where
     go : (b : Bool) → check_kinds false false (not b || false) ≡ [] → b ≡ true
     go true e = refl
@@ -556,9 +693,8 @@ path_passes name rows all given = first_passes name rows all (given_some name ro
 
 options_pass : (rows : List Row) → Each RowPasses rows → AreOptionRows rows
 options_pass rows all = record {
-  partitions = number_passes (codes "partitions") 4096 rows all (λ r passes. passes.1);
-  column = number_passes (codes "column") 65535 rows all (λ r passes. passes.2);
-  topic_column = number_passes (codes "topic-column") 65535 rows all (λ r passes. passes.4);
+  partitions = number_passes RowPasses (codes "partitions") 4096 rows all (λ r passes. passes.1);
+  top = number_passes RowPasses (codes "top") 4294967295 rows all (λ r passes. passes.3);
 }
 
 count_taken : (words : List Text) → level_fault count_shape [] nothing_held words false [] ≡ [] → AreCountRows (rows_after count_shape.rules [] words)
@@ -569,6 +705,18 @@ count_taken words e =
     record {
       file = path_passes (codes "file") rows all (file_given rows parts.2);
       options = options_pass rows all;
+    }
+
+place_taken : (words : List Text) → level_fault place_shape [] nothing_held words false [] ≡ [] → ArePlaceRows (rows_after place_shape.rules [] words)
+place_taken words e =
+    let parts = level_parts place_shape [] words false [] e in
+    let rows = rows_after place_shape.rules [] words in
+    let all = level_preserves RowPasses place_shape place_preserves words false [] place_defaults e in
+    let given = level_preserves GivenPasses place_shape place_preserves_given words false [] place_defaults_given e in
+    record {
+      file = path_passes (codes "file") rows all (file_given_to_place rows parts.2);
+      options = options_pass rows all;
+      given = number_passes GivenPasses (codes "given") 65535 rows given (λ r passes. passes);
     }
 
 script_taken : (s : Shape) → Each (Preserves RowPasses s) s.rules → Each (PreservesDefault RowPasses s) s.rules
@@ -583,20 +731,29 @@ script_taken s preserves defaults paths words e =
       file = path_passes (codes "file") rows all given.0;
       script = path_passes (codes "script") rows all given.1;
       options = options_pass rows all;
-      batch = number_passes (codes "batch") 1000000 rows all (λ r passes. passes.3);
+      batch = number_passes RowPasses (codes "batch") 1000000 rows all (λ r passes. passes.2);
     }
 
 replay_taken : (words : List Text) → level_fault replay_shape [] nothing_held words false [] ≡ [] → AreScriptRows (rows_after replay_shape.rules [] words)
 replay_taken = script_taken replay_shape replay_preserves replay_defaults paths_given
 
 trace_taken : (words : List Text) → level_fault trace_shape [] nothing_held words false [] ≡ [] → AreScriptRows (rows_after trace_shape.rules [] words)
-trace_taken = script_taken trace_shape replay_preserves replay_defaults paths_given
+trace_taken = script_taken trace_shape trace_preserves trace_defaults paths_given
 
 draw_taken : (words : List Text) → level_fault draw_shape [] nothing_held words false [] ≡ [] → AreScriptRows (rows_after draw_shape.rules [] words)
-draw_taken = script_taken draw_shape replay_preserves replay_defaults paths_given
+draw_taken = script_taken draw_shape trace_preserves trace_defaults paths_given
 
 run_taken : (words : List Text) → level_fault run_shape [] nothing_held words false [] ≡ [] → AreScriptRows (rows_after run_shape.rules [] words)
 run_taken = script_taken run_shape replay_preserves replay_defaults paths_given
+
+explain_taken : (words : List Text) → level_fault explain_shape [] nothing_held words false [] ≡ [] → AreExplainRows (rows_after explain_shape.rules [] words)
+explain_taken words e =
+    let rows = rows_after explain_shape.rules [] words in
+    let all = level_preserves ExplainRowPasses explain_shape explain_preserves words false [] explain_defaults e in
+    record {
+      code = number_passes ExplainRowPasses (codes "code") 90 rows all (λ r passes. passes.0);
+      no_topics = no_topics_passes rows all;
+    }
 
 -- the subcommands that take a script
 abbrev IsOfScript : Text → Type 0
@@ -604,7 +761,9 @@ IsOfScript name = (name ≡ codes "replay") ⊎ ((name ≡ codes "trace") ⊎ ((
 
 -- what clap has checked of the words after the subcommand of this name
 abbrev Takes : Text → List Row → Type 0
-Takes name rows = ((name ≡ codes "count") × AreCountRows rows) ⊎ (IsOfScript name × AreScriptRows rows)
+Takes name rows =
+    ((name ≡ codes "count") × AreCountRows rows)
+    ⊎ ((IsOfScript name × AreScriptRows rows) ⊎ (((name ≡ codes "explain") × AreExplainRows rows) ⊎ ((name ≡ codes "place") × ArePlaceRows rows)))
 
 -- ---- the program
 
@@ -624,23 +783,25 @@ job_entered : (stop : Option (Text × List Text)) → StopsElsewhere stop → is
     → (name : Text) × (rows : List Row) × (entered keycount_built stop ≡ Some (name, rows)) × Takes name rows
 job_entered None help some e = absurd (true≢false (sym some))
 job_entered (Some p) help some e =
-    go (answers_to p.0 (label_of count_shape)) (answers_to p.0 (label_of replay_shape)) (answers_to p.0 (label_of trace_shape)) (answers_to p.0 (label_of draw_shape)) (answers_to p.0 (label_of run_shape)) (answers_to p.0 (label_of help_shape)) (not_named_help p.0 help) some e
+    go (answers_to p.0 (label_of count_shape)) (answers_to p.0 (label_of place_shape)) (answers_to p.0 (label_of replay_shape)) (answers_to p.0 (label_of trace_shape)) (answers_to p.0 (label_of draw_shape)) (answers_to p.0 (label_of run_shape)) (answers_to p.0 (label_of explain_shape)) (answers_to p.0 (label_of help_shape)) (not_named_help p.0 help) some e
   where
-    found : (b d t q r h : Bool) → Option Shape
-    found b d t q r h =
+    found : (b l d t q r x h : Bool) → Option Shape
+    found b l d t q r x h =
         cond b (Some count_shape)
-        (cond d (Some replay_shape) (cond t (Some trace_shape) (cond q (Some draw_shape) (cond r (Some run_shape) (cond h (Some help_shape) None)))))
+        (cond l (Some place_shape) (cond d (Some replay_shape) (cond t (Some trace_shape) (cond q (Some draw_shape) (cond r (Some run_shape) (cond x (Some explain_shape) (cond h (Some help_shape) None)))))))
 
-    go : (b d t q r h : Bool) → h ≡ false → is_some (option_map (λ s. rows_at s p.1) (found b d t q r h)) ≡ true
-        → option_map_or (λ s. level_fault s [] nothing_held p.1 false []) (found b d t q r h) [] ≡ []
-        → (name : Text) × (rows : List Row) × (option_map (λ s. rows_at s p.1) (found b d t q r h) ≡ Some (name, rows)) × Takes name rows
-    go true d t q r h other_no given e = (codes "count", rows_after count_shape.rules [] p.1, refl, inl (refl, count_taken p.1 e))
-    go false true t q r h other_no given e = (codes "replay", rows_after replay_shape.rules [] p.1, refl, inr (inl refl, replay_taken p.1 e))
-    go false false true q r h other_no given e = (codes "trace", rows_after trace_shape.rules [] p.1, refl, inr (inr (inl refl), trace_taken p.1 e))
-    go false false false true r h other_no given e = (codes "draw", rows_after draw_shape.rules [] p.1, refl, inr (inr (inr (inl refl)), draw_taken p.1 e))
-    go false false false false true h other_no given e = (codes "run", rows_after run_shape.rules [] p.1, refl, inr (inr (inr (inr refl)), run_taken p.1 e))
-    go false false false false false true other_no given e = absurd (true≢false other_no)
-    go false false false false false false other_no given e = absurd (true≢false (sym given))
+    go : (b l d t q r x h : Bool) → h ≡ false → is_some (option_map (λ s. rows_at s p.1) (found b l d t q r x h)) ≡ true
+        → option_map_or (λ s. level_fault s [] nothing_held p.1 false []) (found b l d t q r x h) [] ≡ []
+        → (name : Text) × (rows : List Row) × (option_map (λ s. rows_at s p.1) (found b l d t q r x h) ≡ Some (name, rows)) × Takes name rows
+    go true l d t q r x h other_no given e = (codes "count", rows_after count_shape.rules [] p.1, refl, inl (refl, count_taken p.1 e))
+    go false true d t q r x h other_no given e = (codes "place", rows_after place_shape.rules [] p.1, refl, inr (inr (inr (refl, place_taken p.1 e))))
+    go false false true t q r x h other_no given e = (codes "replay", rows_after replay_shape.rules [] p.1, refl, inr (inl (inl refl, replay_taken p.1 e)))
+    go false false false true q r x h other_no given e = (codes "trace", rows_after trace_shape.rules [] p.1, refl, inr (inl (inr (inl refl), trace_taken p.1 e)))
+    go false false false false true r x h other_no given e = (codes "draw", rows_after draw_shape.rules [] p.1, refl, inr (inl (inr (inr (inl refl)), draw_taken p.1 e)))
+    go false false false false false true x h other_no given e = (codes "run", rows_after run_shape.rules [] p.1, refl, inr (inl (inr (inr (inr refl)), run_taken p.1 e)))
+    go false false false false false false true h other_no given e = (codes "explain", rows_after explain_shape.rules [] p.1, refl, inr (inr (inl (refl, explain_taken p.1 e))))
+    go false false false false false false false true other_no given e = absurd (true≢false other_no)
+    go false false false false false false false false other_no given e = absurd (true≢false (sym given))
 
 subcommand_given : (rows : List Row) (has : Bool) → check_fault keycount_built.top rows has ≡ [] → has ≡ true
 subcommand_given rows true e = refl
@@ -674,30 +835,29 @@ reports_bad_list rows (Help text) bad reports = reports
 reports_bad_list rows (Bad text) bad reports = (bad, reports)
 reports_bad_list rows Memory bad reports = tt
 
-pub bad_list_is_refusal : (words : List Text) (name : Text) (rows : List Row) (usage : Usage) → fault_of keycount_app words ≡ []
-    → subcommand_of keycount_app words ≡ Some (name, rows) → ReportsBadList rows usage → IsRefusal words usage
-bad_list_is_refusal words name rows (Help text) taken found reports = absurd reports
-bad_list_is_refusal words name rows (Bad text) taken found reports =
-    inr (record { name = name; rows = rows; taken = taken; subcommand = found; list = reports.0 }, reports.1)
-bad_list_is_refusal words name rows Memory taken found reports = tt
+-- a column that is not valid is an option that is not, where the list of topics is valid
+pub column_is_bad_option : (rows : List Row) (usage : Usage) (topics : List Topic) (header : Bool) (given : Option Text) → AreTopicsOf (first_of (codes "topics") rows) topics
+    → IsFlag (one_of (codes "header") rows) header → (IsBadColumn header given → IsBadColumn header (first_of (codes "column") rows) ⊎ IsBadColumn header (first_of (codes "topic-column") rows))
+    → ReportsBadColumn header given usage → ReportsBadOption rows usage
+column_is_bad_option rows (Help text) topics header given list flag side reports = reports
+column_is_bad_option rows (Bad text) topics header given list flag side reports =
+    inr (record { topics = topics; list = list; header = header; is_header = flag; bad = side reports })
+column_is_bad_option rows Memory topics header given list flag side reports = tt
 
-topics_of_job : (rows : List Row) (job : Job) → HasJob rows job → (topics : List Topic) × AreTopicsOf (first_of (codes "topics") rows) topics
-topics_of_job rows (Count file options) has = (options.topics.items, has.1.topics)
-topics_of_job rows (Replay file script options) has = (options.topics.items, has.options_are.topics)
-topics_of_job rows (Trace file script options) has = (options.topics.items, has.options_are.topics)
-topics_of_job rows (Draw file script options) has = (options.topics.items, has.options_are.topics)
-topics_of_job rows (Run file script options) has = (options.topics.items, has.options_are.topics)
+-- a usage that reports no help reports a column that is none
+pub reports_bad_column : (header : Bool) (given : Option Text) (usage : Usage) → IsBadColumn header given → IsBadReport usage → ReportsBadColumn header given usage
+reports_bad_column header given (Help text) bad reports = reports
+reports_bad_column header given (Bad text) bad reports = bad
+reports_bad_column header given Memory bad reports = tt
 
-pub bad_list_reported : (words : List Text) (answer : Result Job Usage) → IfOk answer (IsJobOf words) → IfErr answer (IsRefusal words)
-    → HaveBadList words → IsErrAnd answer IsBadListReport
-bad_list_reported words (Ok job) is refusal bad =
-    let topics = topics_of_job is.rows job is.found in
-    let rows : is.rows ≡ bad.rows = ap (λ (o : Option (Text × List Row)). option_map_or (λ p. p.1) o []) (sym is.subcommand ∙ bad.subcommand) in
-    bad.list topics.0 (subst (λ rows. AreTopicsOf (first_of (codes "topics") rows) topics.0) rows topics.1)
-bad_list_reported words (Err (Help text)) is refusal bad = subst (λ kinds. IsAmong refusal.0 kinds) bad.taken refusal.1
-bad_list_reported words (Err (Bad text)) is (inl fault) bad = absurd (subst (λ kinds. IsAmong fault.0 kinds) bad.taken fault.1)
-bad_list_reported words (Err (Bad text)) is (inr list) bad = list.1
-bad_list_reported words (Err Memory) is refusal bad = tt
+pub bad_option_is_refusal : (words : List Text) (name : Text) (rows : List Row) (usage : Usage) → fault_of keycount_app words ≡ []
+    → subcommand_of keycount_app words ≡ Some (name, rows) → ReportsBadOption rows usage → IsRefusal words usage
+bad_option_is_refusal words name rows (Help text) taken found reports = absurd reports
+bad_option_is_refusal words name rows (Bad text) taken found (inl reports) =
+    inr (inl (record { name = name; rows = rows; taken = taken; subcommand = found; list = reports.0 }, reports.1))
+bad_option_is_refusal words name rows (Bad text) taken found (inr column) =
+    inr (inr (record { name = name; rows = rows; taken = taken; subcommand = found; column = column }))
+bad_option_is_refusal words name rows Memory taken found reports = tt
 
 -- the matches of words that clap accepts: the subcommand of a job, with its arguments
 pub record MatchesJob (words : List Text) (m : ArgMatches) : Type 0 where
@@ -738,27 +898,82 @@ none_entered (Some b) wanted rows e h = cc
 
 -- ---- which job was named
 
-not_count : (name : Text) → bytes_eq name (codes "count") ≡ false → name ≡ codes "count" → ⊥
-not_count name other is = true≢false (sym (ap (λ t. bytes_eq t (codes "count")) is) ∙ other)
+-- a name is not two texts
+not_both : (a b : Text) → bytes_eq a b ≡ false → (name : Text) → name ≡ a → name ≡ b → ⊥
+not_both a b differ name is_a is_b = true≢false (sym ((bytes_eq-Decides b b).1 refl) ∙ ap (λ t. bytes_eq t b) (sym is_b ∙ is_a) ∙ differ)
 
-script_is_no_count : (name : Text) → IsOfScript name → name ≡ codes "count" → ⊥
-script_is_no_count name (inl named) is = not_count name (ap (λ t. bytes_eq t (codes "count")) named) is
-script_is_no_count name (inr (inl named)) is = not_count name (ap (λ t. bytes_eq t (codes "count")) named) is
-script_is_no_count name (inr (inr (inl named))) is = not_count name (ap (λ t. bytes_eq t (codes "count")) named) is
-script_is_no_count name (inr (inr (inr named))) is = not_count name (ap (λ t. bytes_eq t (codes "count")) named) is
+script_is_not : (b : Text) → (bytes_eq (codes "replay") b ≡ false) → (bytes_eq (codes "trace") b ≡ false) → (bytes_eq (codes "draw") b ≡ false) → (bytes_eq (codes "run") b ≡ false)
+    → (name : Text) → IsOfScript name → name ≡ b → ⊥
+script_is_not b no_replay no_trace no_draw no_run name (inl named) is = not_both (codes "replay") b no_replay name named is
+script_is_not b no_replay no_trace no_draw no_run name (inr (inl named)) is = not_both (codes "trace") b no_trace name named is
+script_is_not b no_replay no_trace no_draw no_run name (inr (inr (inl named))) is = not_both (codes "draw") b no_draw name named is
+script_is_not b no_replay no_trace no_draw no_run name (inr (inr (inr named))) is = not_both (codes "run") b no_run name named is
 
 pub takes_count : (name : Text) (rows : List Row) → Takes name rows → name ≡ codes "count" → AreCountRows rows
 takes_count name rows (inl takes) is = takes.1
-takes_count name rows (inr takes) is = absurd (script_is_no_count name takes.0 is)
+takes_count name rows (inr (inl takes)) is = absurd (script_is_not (codes "count") refl refl refl refl name takes.0 is)
+takes_count name rows (inr (inr (inl takes))) is = absurd (not_both (codes "explain") (codes "count") refl name takes.0 is)
+takes_count name rows (inr (inr (inr takes))) is = absurd (not_both (codes "place") (codes "count") refl name takes.0 is)
 
--- a subcommand other than `count` takes a script
-pub takes_script : (name : Text) (rows : List Row) → Takes name rows → bytes_eq name (codes "count") ≡ false → AreScriptRows rows
-takes_script name rows (inl takes) other = absurd (not_count name other takes.0)
-takes_script name rows (inr takes) other = takes.1
+pub takes_script : (name : Text) (rows : List Row) → Takes name rows → IsOfScript name → AreScriptRows rows
+takes_script name rows (inl takes) is = absurd (script_is_not (codes "count") refl refl refl refl name is takes.0)
+takes_script name rows (inr (inl takes)) is = takes.1
+takes_script name rows (inr (inr (inl takes))) is = absurd (script_is_not (codes "explain") refl refl refl refl name is takes.0)
+takes_script name rows (inr (inr (inr takes))) is = absurd (script_is_not (codes "place") refl refl refl refl name is takes.0)
 
-pub takes_none : (name : Text) (rows : List Row) → Takes name rows → (name ≡ codes "count" → ⊥) → (name ≡ codes "replay" → ⊥) → (name ≡ codes "trace" → ⊥) → (name ≡ codes "draw" → ⊥) → (name ≡ codes "run" → ⊥) → ⊥
-takes_none name rows (inl takes) no_count no_replay no_trace no_draw no_run = no_count takes.0
-takes_none name rows (inr (inl named, has)) no_count no_replay no_trace no_draw no_run = no_replay named
-takes_none name rows (inr (inr (inl named), has)) no_count no_replay no_trace no_draw no_run = no_trace named
-takes_none name rows (inr (inr (inr (inl named)), has)) no_count no_replay no_trace no_draw no_run = no_draw named
-takes_none name rows (inr (inr (inr (inr named)), has)) no_count no_replay no_trace no_draw no_run = no_run named
+pub takes_explain : (name : Text) (rows : List Row) → Takes name rows → name ≡ codes "explain" → AreExplainRows rows
+takes_explain name rows (inl takes) is = absurd (not_both (codes "count") (codes "explain") refl name takes.0 is)
+takes_explain name rows (inr (inl takes)) is = absurd (script_is_not (codes "explain") refl refl refl refl name takes.0 is)
+takes_explain name rows (inr (inr (inl takes))) is = takes.1
+takes_explain name rows (inr (inr (inr takes))) is = absurd (not_both (codes "place") (codes "explain") refl name takes.0 is)
+
+pub takes_place : (name : Text) (rows : List Row) → Takes name rows → name ≡ codes "place" → ArePlaceRows rows
+takes_place name rows (inl takes) is = absurd (not_both (codes "count") (codes "place") refl name takes.0 is)
+takes_place name rows (inr (inl takes)) is = absurd (script_is_not (codes "place") refl refl refl refl name takes.0 is)
+takes_place name rows (inr (inr (inl takes))) is = absurd (not_both (codes "explain") (codes "place") refl name takes.0 is)
+takes_place name rows (inr (inr (inr takes))) is = takes.1
+
+pub takes_none : (name : Text) (rows : List Row) → Takes name rows → (name ≡ codes "count" → ⊥) → (name ≡ codes "place" → ⊥) → (name ≡ codes "replay" → ⊥) → (name ≡ codes "trace" → ⊥) → (name ≡ codes "draw" → ⊥) → (name ≡ codes "run" → ⊥) → (name ≡ codes "explain" → ⊥) → ⊥
+takes_none name rows (inl takes) no_count no_place no_replay no_trace no_draw no_run no_explain = no_count takes.0
+takes_none name rows (inr (inl (inl named, has))) no_count no_place no_replay no_trace no_draw no_run no_explain = no_replay named
+takes_none name rows (inr (inl (inr (inl named), has))) no_count no_place no_replay no_trace no_draw no_run no_explain = no_trace named
+takes_none name rows (inr (inl (inr (inr (inl named)), has))) no_count no_place no_replay no_trace no_draw no_run no_explain = no_draw named
+takes_none name rows (inr (inl (inr (inr (inr named)), has))) no_count no_place no_replay no_trace no_draw no_run no_explain = no_run named
+takes_none name rows (inr (inr (inl takes))) no_count no_place no_replay no_trace no_draw no_run no_explain = no_explain takes.0
+takes_none name rows (inr (inr (inr takes))) no_count no_place no_replay no_trace no_draw no_run no_explain = no_place takes.0
+
+-- ---- lists of topics that are not valid
+
+topics_of_job : (words : List Text) (rows : List Row) (job : Job) → fault_of keycount_app words ≡ [] → subcommand_of keycount_app words ≡ Some (name_of job, rows) → HasJob rows job → (topics : List Topic) × AreTopicsOf (first_of (codes "topics") rows) topics
+topics_of_job words rows (Count file options) taken found has = (options.topics.items, has.1.topics)
+topics_of_job words rows (Place file options place) taken found has = (options.topics.items, has.1.topics)
+topics_of_job words rows (Replay file script options) taken found has = (options.topics.items, has.0.options_are.topics)
+topics_of_job words rows (Trace file script options) taken found has = (options.topics.items, has.0.options_are.topics)
+topics_of_job words rows (Draw file script options) taken found has = (options.topics.items, has.0.options_are.topics)
+topics_of_job words rows (Run file script options) taken found has = (options.topics.items, has.0.options_are.topics)
+topics_of_job words rows (Explain code) taken found has =
+    let job = taken_job words taken in
+    let pair : ◌≡◌ {A = Option (Text × List Row)} (Some (job.0, job.1)) (Some (codes "explain", rows)) = sym job.2 ∙ found in
+    let named : job.0 ≡ codes "explain" = ap (λ (o : Option (Text × List Row)). option_map_or (λ p. p.0) o []) pair in
+    let held : job.1 ≡ rows = ap (λ (o : Option (Text × List Row)). option_map_or (λ p. p.1) o []) pair in
+    let none = (takes_explain job.0 job.1 job.3 named).no_topics in
+    ([], subst (λ rows. AreTopicsOf (first_of (codes "topics") rows) []) held (rw none refl))
+
+-- words name one subcommand with its arguments, and so one list of topics
+same_topics : (words : List Text) (name other : Text) (rows others : List Row) (topics : List Topic) → subcommand_of keycount_app words ≡ Some (name, rows) → subcommand_of keycount_app words ≡ Some (other, others)
+    → AreTopicsOf (first_of (codes "topics") rows) topics → AreTopicsOf (first_of (codes "topics") others) topics
+same_topics words name other rows others topics first second list =
+    let same : rows ≡ others = ap (λ (o : Option (Text × List Row)). option_map_or (λ p. p.1) o []) (sym first ∙ second) in
+    subst (λ rows. AreTopicsOf (first_of (codes "topics") rows) topics) same list
+
+pub bad_list_reported : (words : List Text) (answer : Result Job Usage) → IfOk answer (IsJobOf words) → IfErr answer (IsRefusal words)
+    → HaveBadList words → IsErrAnd answer IsBadListReport
+bad_list_reported words (Ok job) is refusal bad =
+    let topics = topics_of_job words is.rows job is.taken is.subcommand is.found in
+    bad.list topics.0 (same_topics words (name_of job) bad.name is.rows bad.rows topics.0 is.subcommand bad.subcommand topics.1)
+bad_list_reported words (Err (Help text)) is refusal bad = subst (λ kinds. IsAmong refusal.0 kinds) bad.taken refusal.1
+bad_list_reported words (Err (Bad text)) is (inl fault) bad = absurd (subst (λ kinds. IsAmong fault.0 kinds) bad.taken fault.1)
+bad_list_reported words (Err (Bad text)) is (inr (inl list)) bad = list.1
+bad_list_reported words (Err (Bad text)) is (inr (inr column)) bad =
+    absurd (bad.list column.column.topics (same_topics words column.name bad.name column.rows bad.rows column.column.topics column.subcommand bad.subcommand column.column.list))
+bad_list_reported words (Err Memory) is refusal bad = tt

@@ -1,2 +1,4 @@
+pub mod Codes
+pub mod Columns
 pub mod CommandLine
 pub mod Topics

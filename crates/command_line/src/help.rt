@@ -39,7 +39,7 @@ macro_rules! text {
     ($done:tt script_faults $($rest:tt)*) => {
         text!($done
             faults_20_and_21 fault_22 faults_23_to_26
-            "  fault 31                 a line of the script would exceed generation 4,294,967,295\n"
+            "  fault 31                 " case_31 "\n"
             faults_32_and_90
             $($rest)*)
     };
@@ -66,7 +66,7 @@ macro_rules! text {
     ($done:tt count_rows $($rest:tt)*) => {
         text!($done
             "  count,KEY,N              the number of records with this key; keys come in order\n"
-            "                           of first appearance\n"
+            "                           of first appearance, or with --top in order of N\n"
             "  total,N,N                the number of records, twice\n"
             $($rest)*)
     };
@@ -78,28 +78,29 @@ macro_rules! text {
     ($done:tt faults_20_and_21 $($rest:tt)*) => {
         text!($done
             "\nFaults, as one line on standard error; only fault 26 can come after output:\n"
-            "  fault 20                 a key is longer than 65,535 bytes\n"
-            "  fault 21                 more than 4,294,967,295 keys, or records in one partition\n"
+            "  fault 20                 " case_20 "\n"
+            "  fault 21                 " case_21 "\n"
             $($rest)*)
     };
     ($done:tt fault_22 $($rest:tt)*) => {
         text!($done
-            "  fault 22 at line N       line N is not a valid script line, or not valid at this\n"
-            "                           point of a plan\n"
+            "  fault 22 at line N       " case_22 "\n"
+            "                           " case_22_more "\n"
             $($rest)*)
     };
     ($done:tt faults_23_to_26 $($rest:tt)*) => {
         text!($done
-            "  fault 23 at record N     record N has no such column\n"
-            "  fault 24 at record N     record N has more or fewer fields than the first record\n"
-            "  fault 25                 a file could not be opened or read\n"
-            "  fault 26                 the output could not be written completely\n"
+            "  fault 23 at record N     " case_23 "\n"
+            "  fault 24 at record N     " case_24 "\n"
+            "  fault 25                 " case_25 "\n"
+            "  fault 26                 " case_26 "\n"
             $($rest)*)
     };
     ($done:tt faults_32_and_90 $($rest:tt)*) => {
         text!($done
-            "  fault 32 at record N     the topic of record N is not listed in --topics\n"
-            "  fault 90                 out of memory, or a thread could not be started\n"
+            "  fault 32 at record N     " case_32 "\n"
+            "  fault 90                 " case_90 "\n"
+            "keycount explain CODE tells more of a fault, and of the code of a refusal.\n"
             "\nExit status:\n"
             "  0                        success\n"
             "  1                        invalid input: faults 20 to 24, 27 and 32\n"
@@ -107,12 +108,74 @@ macro_rules! text {
             "  3                        all other faults\n"
             $($rest)*)
     };
+    ($done:tt case_20 $($rest:tt)*) => {
+        text!($done "a key is longer than 65,535 bytes" $($rest)*)
+    };
+    ($done:tt case_21 $($rest:tt)*) => {
+        text!($done "more than 4,294,967,295 keys, or records in one partition" $($rest)*)
+    };
+    ($done:tt case_22 $($rest:tt)*) => {
+        text!($done "line N is not a valid script line, or not valid at this" $($rest)*)
+    };
+    ($done:tt case_22_more $($rest:tt)*) => {
+        text!($done "point of a plan" $($rest)*)
+    };
+    ($done:tt case_23 $($rest:tt)*) => {
+        text!($done "record N has no such column" $($rest)*)
+    };
+    ($done:tt case_24 $($rest:tt)*) => {
+        text!($done "record N has more or fewer fields than the first record" $($rest)*)
+    };
+    ($done:tt case_25 $($rest:tt)*) => {
+        text!($done "a file could not be opened or read" $($rest)*)
+    };
+    ($done:tt case_26 $($rest:tt)*) => {
+        text!($done "the output could not be written completely" $($rest)*)
+    };
+    ($done:tt case_27 $($rest:tt)*) => {
+        text!($done "no member is left after line N; line 0: the plan has no join" $($rest)*)
+    };
+    ($done:tt case_28 $($rest:tt)*) => {
+        text!($done "the result of the threads does not match file and plan" $($rest)*)
+    };
+    ($done:tt case_31 $($rest:tt)*) => {
+        text!($done "a line of the script would exceed generation 4,294,967,295" $($rest)*)
+    };
+    ($done:tt case_32 $($rest:tt)*) => {
+        text!($done "the topic of record N is not listed in --topics" $($rest)*)
+    };
+    ($done:tt case_90 $($rest:tt)*) => {
+        text!($done "out of memory, or a thread could not be started" $($rest)*)
+    };
+    ($done:tt nothing_changed $($rest:tt)*) => {
+        text!($done "State:   Nothing has changed.\n" $($rest)*)
+    };
+    ($done:tt nothing_printed $($rest:tt)*) => {
+        text!($done "State:   Nothing was printed.\n" $($rest)*)
+    };
+    ($done:tt from_file $($rest:tt)*) => {
+        text!($done "Jobs:    all that read FILE; exit status 1\n" $($rest)*)
+    };
+    ($done:tt in_scripts $($rest:tt)*) => {
+        text!($done "Jobs:    replay, trace, draw: " $($rest)*)
+    };
+    ($done:tt in_no_job $($rest:tt)*) => {
+        text!($done "Jobs:    none; callers of the library can meet it at " $($rest)*)
+    };
+    ($done:tt kept_by_client $($rest:tt)*) => {
+        text!($done "Kafka:   No such error; the client library keeps this order.\n" $($rest)*)
+    };
+    ($done:tt commit_accepted $($rest:tt)*) => {
+        text!($done "Kafka:   No such error; the broker accepts the commit.\n" $($rest)*)
+    };
 }
+
+pub(crate) use text;
 
 /// Below the options of `keycount`.
 pub const AFTER_KEYCOUNT: &str = "\
 Rows are printed on standard output, and a fault as one line on standard error. The help of a
-command lists both.
+command lists both, and keycount explain tells what a code means.
 
 Example:
   printf '21\\n4\\n21\\n' | keycount count -";
@@ -124,6 +187,26 @@ pub const AFTER_COUNT: &str = text!([]
     "\nExample:\n"
     "  printf '21\\n4\\nfoobar\\nabc\\n21\\n' > keys.csv\n"
     "  keycount count keys.csv"
+);
+
+/// Below the options of `place`.
+pub const AFTER_PLACE: &str = text!([]
+    "Rows, as CSV on standard output: a header with these columns, and a row for each partition:\n"
+    "  partition                the partition\n"
+    "  records,keys             the number of its records, and of its different keys\n"
+    "  largest                  its most frequent key; of several the one that came first\n"
+    "  records_of_largest       the number of records with that key\n"
+    "Rows with --keys, in order of first appearance; with --topics one for each that has the key:\n"
+    "  key,partition,records    the key, its partition, and the number of its records there\n"
+    "Rows with --given: one for each record that is not where its key belongs, of the first 20:\n"
+    "  record                   the number of the record, from 1, header included\n"
+    "  key,given,place          its key, the field in column N, and the partition of the key\n"
+    "With --topics, partition and place follow a column topic, and are partitions of it.\n"
+    "With --given, the exit status is 1 if there is a row.\n"
+    faults_20_and_21 faults_23_to_26 faults_32_and_90
+    "\nExample:\n"
+    "  printf '21\\n4\\nfoobar\\nabc\\n21\\n' > keys.csv\n"
+    "  keycount place keys.csv | column -ts,"
 );
 
 /// Below the options of `replay`.
@@ -192,10 +275,26 @@ pub const AFTER_RUN: &str = text!([]
     count_rows topics_note
     "The rows do not depend on how the threads are scheduled.\n"
     faults_20_and_21 fault_22 faults_23_to_26
-    "  fault 27 at line N       no member is left after line N; line 0: the plan has no join\n"
-    "  fault 28                 the result of the threads does not match file and plan\n"
+    "  fault 27 at line N       " case_27 "\n"
+    "  fault 28                 " case_28 "\n"
     faults_32_and_90
     "\nExample:\n"
     "  printf '21\\n4\\nfoobar\\nabc\\n21\\n' > keys.csv\n"
     "  printf 'join A\\njoin B\\nleave A\\n' | keycount run keys.csv -"
+);
+
+/// Below the options of `explain`.
+pub const AFTER_EXPLAIN: &str = text!([]
+    "A line for each refusal and fault: its number, its name, and what was the case. Of one CODE\n"
+    "also: the jobs that report it, its cause, the state that it leaves, a remedy, and Kafka's own\n"
+    "error, if there is one.\n"
+    "\nFaults, as one line on standard error:\n"
+    "  fault 26                 " case_26 "\n"
+    "  fault 90                 " case_90 "\n"
+    "\nExit status:\n"
+    "  0                        success\n"
+    "  2                        invalid command line\n"
+    "  3                        all other faults\n"
+    "\nExample:\n"
+    "  keycount explain 22"
 );

@@ -55,7 +55,8 @@ fn count_of(digits: &str) -> Option<u32>
     (1..=MOST_PARTITIONS).contains(&number).then_some(number)
 }
 
-fn is_all_digits(text: &str) -> bool
+/// Whether a text has no character but digits.
+pub fn is_all_digits(text: &str) -> bool
     ensures { result ≡ list_all is_ascii_digit text.now }
 {
     text.as_bytes().iter().all(|byte| byte.is_ascii_digit())

@@ -1,16 +1,23 @@
 //! Parses the words of a command line: a subcommand, its options and its files.
 
-ghost use Rattle.std.specs.Prelude.{◌≡◌, ◌≤◌, ◌-◌, ◌^◌, false, IfOk, IfErr, IsErrAnd, IsSome, Some, map, codes};
+ghost use Rattle.std.specs.Prelude.{◌≡◌, ◌≤◌, ◌-◌, ◌^◌, false, IfOk, IfErr, IfSome, IsErrAnd, IsSome, Some, map, codes};
 ghost use Rattle.clap.specs.Words.{fault_of, first_of, found_of, kind_of, rows_of, rule_of};
 ghost use Rattle.clap.specs.Simple.{App, with_rule, with_subcommand};
 ghost use Rattle.clap.specs.Walk.{Rule};
-ghost use Rattle.command_line.specs.CommandLine.{HasOptions, HasScript, HaveBadList, IsBadListReport, IsJobOf, IsNumber, IsRefusal};
+ghost use Rattle.command_line.specs.Columns.{IsColumnOf};
+ghost use Rattle.command_line.specs.CommandLine.{HasOptions, HasPlaceOptions, HasScript, HaveBadList, IsBadListReport, IsJobOf, IsNumber, IsNumberIfGiven, IsRefusal};
 ghost use Rattle.command_line.specs.Topics.{AreTopicsOf};
-ghost use Rattle.command_line.specs.Private.CommandLine.{IsCommand, IsJobOfRows, IsOptionalNumber, IsReadAs, AreCountRows, AreOptionRows, AreScriptRows, IsUsageOf, ReportsBadList};
-ghost use Rattle.command_line.specs.CommandLine.{count_app, draw_app, flag, keycount_app, keycount_top, number_option, path, replay_app, run_app, text_option, trace_app, with_options, with_script};
+ghost use Rattle.command_line.specs.Private.CommandLine.{IsCommand, IsJobOfRows, IsOptionalNumber, IsReadAs, AreCountRows, AreExplainRows, AreOptionRows, ArePlaceRows, AreScriptRows, IsBadReport, IsUsageOf, ReportsBadColumn, ReportsBadList, ReportsBadOption};
+ghost use Rattle.command_line.specs.CommandLine.{code_argument, count_app, draw_app, explain_app, flag, keycount_app, keycount_top, number_option, path, place_app, replay_app, run_app, text_option, trace_app, with_options, with_script, with_top};
 
-use crate::help::{AFTER_COUNT, AFTER_DRAW, AFTER_KEYCOUNT, AFTER_REPLAY, AFTER_RUN, AFTER_TRACE};
-use crate::options::{DEFAULT_BATCH, LAST_COLUMN, MOST_BATCH, Options};
+use crate::columns::{is_numeral, parse_column};
+use crate::help::{
+    AFTER_COUNT, AFTER_DRAW, AFTER_EXPLAIN, AFTER_KEYCOUNT, AFTER_PLACE, AFTER_REPLAY, AFTER_RUN,
+    AFTER_TRACE,
+};
+use crate::options::{
+    Column, DEFAULT_BATCH, LAST_CODE, LAST_COLUMN, MOST_BATCH, MOST_ROWS, Options, PlaceOptions,
+};
 use crate::topics;
 use clap::error::ErrorKind;
 use clap::{Arg, ArgAction, ArgMatches, Command, Error, value_parser};
@@ -25,6 +32,12 @@ pub enum Job<'a> {
     Count {
         file: &'a str,
         options: Options,
+    },
+    /// Tells where the records of a file go.
+    Place {
+        file: &'a str,
+        options: Options,
+        place: PlaceOptions,
     },
     /// Replays a script over the keys of a file.
     Replay {
@@ -50,6 +63,10 @@ pub enum Job<'a> {
         script: &'a str,
         options: Options,
     },
+    /// Explains the refusal of a number from 1 to `LAST_CODE`, if there is one, or lists all.
+    Explain {
+        code: Option<u32>,
+    },
 }
 
 /// Why there is no job.
@@ -68,14 +85,23 @@ const VERSION: &str = "0.1.0, proved with rattle-kit-13f logic dac8208d650f15bf"
 
 const PARTITIONS_HELP: &str = "Number of partitions, 1 to 4096 [default: 4]";
 
-const COLUMN_HELP: &str = "Column of the key, 1 to 65535 [default: 1]";
+const COLUMN_HELP: &str = "Column of the key: 1 to 65535, or with --header its name [default: 1]";
 
 const TOPICS_HELP: &str =
     "1 to 8 topics as NAME:N,NAME:N with N partitions each, at most 4096 in all";
 
-const TOPIC_COLUMN_HELP: &str = "Column of the topic, 1 to 65535; used with --topics [default: 2]";
+const TOPIC_COLUMN_HELP: &str = "Column of the topic, likewise; used with --topics [default: 2]";
+
+const TOP_HELP: &str = "Count rows of only the N keys with the most records, most first";
 
 const BAD_TOPICS: &str = "bad topics\n";
+
+const GIVEN_HELP: &str = "Compare with the partitions in column N, 1 to 65535; not with --keys";
+
+const BAD_VALUE: &str = "error: invalid value";
+
+/// What ends an error of clap.
+const HINT: &str = "\n\nFor more information, try '--help'.\n";
 
 const BATCH_HELP: &str = "Maximum number of records per poll, 1 to 1000000 [default: 500]";
 
@@ -116,14 +142,15 @@ fn number_option<'a>(alloc: Global, name: &'a str, help: &'a str, most: u32) -> 
         .action(ArgAction::Set)
 }
 
-fn topics_option<'a>(alloc: Global) -> Arg<'a>
-    ensures rule { rule_of result ≡ text_option (codes "topics") }
+/// An option that takes any text.
+fn text_option<'a>(alloc: Global, name: &'a str, shown: &'a str, help: &'a str) -> Arg<'a>
+    ensures rule { rule_of result ≡ text_option name.now }
     ensures local { result.global ≡ false }
 {
-    Arg::new(alloc, "topics")
-        .long("topics")
-        .value_name("LIST")
-        .help(TOPICS_HELP)
+    Arg::new(alloc, name)
+        .long(name)
+        .value_name(shown)
+        .help(help)
         .action(ArgAction::Set)
 }
 
@@ -171,12 +198,22 @@ fn with_options<'a>(
 {
     let partitions = number_option(alloc, "partitions", PARTITIONS_HELP, MOST_PARTITIONS);
     let command = with_arg(command, partitions);
-    let column = number_option(alloc, "column", COLUMN_HELP, LAST_COLUMN);
-    let command = with_arg(command, column);
+    let command = with_arg(command, text_option(alloc, "column", "N", COLUMN_HELP));
     let command = with_arg(command, header_flag(alloc));
-    let command = with_arg(command, topics_option(alloc));
-    let topic_column = number_option(alloc, "topic-column", TOPIC_COLUMN_HELP, LAST_COLUMN);
+    let command = with_arg(command, text_option(alloc, "topics", "LIST", TOPICS_HELP));
+    let topic_column = text_option(alloc, "topic-column", "N", TOPIC_COLUMN_HELP);
     with_arg(command, topic_column)
+}
+
+/// Adds `--top`.
+fn with_top<'a>(
+    alloc: Global,
+    command: Result<Command<'a>, AllocError>,
+) -> Result<Command<'a>, AllocError>
+    ensures { (app : App) → IfOk command.entry (IsCommand app)
+        → IfOk result (IsCommand (with_top app)) }
+{
+    with_arg(command, number_option(alloc, "top", TOP_HELP, MOST_ROWS))
 }
 
 fn count_command<'a>(alloc: Global) -> Result<Command<'a>, AllocError>
@@ -186,7 +223,32 @@ fn count_command<'a>(alloc: Global) -> Result<Command<'a>, AllocError>
         .about("Count how often each key occurs in a CSV file")
         .after_help(AFTER_COUNT)
         .arg(file_path(alloc));
-    with_options(alloc, command)
+    with_top(alloc, with_options(alloc, command))
+}
+
+fn keys_flag<'a>(alloc: Global) -> Arg<'a>
+    ensures rule { rule_of result ≡ flag (codes "keys") }
+    ensures local { result.global ≡ false }
+{
+    Arg::new(alloc, "keys")
+        .long("keys")
+        .help("Print a row for each key")
+        .action(ArgAction::SetTrue)
+}
+
+fn place_command<'a>(alloc: Global) -> Result<Command<'a>, AllocError>
+    ensures { IfOk result (IsCommand place_app) }
+{
+    let command = Command::new(alloc, "place")
+        .about("Show where the records of a CSV file go, and how evenly")
+        .after_help(AFTER_PLACE)
+        .arg(file_path(alloc));
+    let command = with_options(alloc, command);
+    let command = with_arg(command, keys_flag(alloc));
+    with_arg(
+        command,
+        number_option(alloc, "given", GIVEN_HELP, LAST_COLUMN),
+    )
 }
 
 /// Adds what `replay`, `trace`, `draw` and `run` have: a file, a script, the common options and `--batch`.
@@ -213,7 +275,8 @@ fn replay_command<'a>(alloc: Global) -> Result<Command<'a>, AllocError>
     let command = Command::new(alloc, "replay")
         .about("Replay a script of group events over the keys of a CSV file")
         .after_help(AFTER_REPLAY);
-    with_script(alloc, command, "Script to replay; - is standard input")
+    let command = with_script(alloc, command, "Script to replay; - is standard input");
+    with_top(alloc, command)
 }
 
 fn trace_command<'a>(alloc: Global) -> Result<Command<'a>, AllocError>
@@ -240,11 +303,33 @@ fn run_command<'a>(alloc: Global) -> Result<Command<'a>, AllocError>
     let command = Command::new(alloc, "run")
         .about("Count the keys with one thread per member, while members join and leave")
         .after_help(AFTER_RUN);
-    with_script(
+    let command = with_script(
         alloc,
         command,
         "Plan of the joins and departures; - is standard input",
-    )
+    );
+    with_top(alloc, command)
+}
+
+/// A number from 1 to `LAST_CODE`, which may be left out.
+fn code_argument<'a>(alloc: Global) -> Arg<'a>
+    ensures rule { rule_of result ≡ code_argument }
+    ensures local { result.global ≡ false }
+{
+    Arg::new(alloc, "code")
+        .value_name("CODE")
+        .help("Number of a refusal or fault; without it, all are listed")
+        .value_parser(value_parser!(u32).range(1..=i64::from(LAST_CODE)))
+        .action(ArgAction::Set)
+}
+
+fn explain_command<'a>(alloc: Global) -> Result<Command<'a>, AllocError>
+    ensures { IfOk result (IsCommand explain_app) }
+{
+    Command::new(alloc, "explain")
+        .about("Explain the code of a refusal or of a fault")
+        .after_help(AFTER_EXPLAIN)
+        .arg(code_argument(alloc))
 }
 
 /// The program, without its subcommands.
@@ -265,10 +350,12 @@ fn keycount_command<'a>(alloc: Global) -> Result<Command<'a>, AllocError>
     ensures { IfOk result (IsReadAs keycount_app) }
 {
     let command = with_subcommand(top_command(alloc), count_command(alloc));
+    let command = with_subcommand(command, place_command(alloc));
     let command = with_subcommand(command, replay_command(alloc));
     let command = with_subcommand(command, trace_command(alloc));
     let command = with_subcommand(command, draw_command(alloc));
-    with_subcommand(command, run_command(alloc))
+    let command = with_subcommand(command, run_command(alloc));
+    with_subcommand(command, explain_command(alloc))
 }
 
 /// The value of an argument that clap has required.
@@ -321,58 +408,134 @@ fn topics_of(alloc: Global, given: &ArgMatches) -> Result<Vec<Topic>, Usage>
     }
 }
 
-/// The options of a job, from what clap found, with this batch.
-fn options_of(alloc: Global, given: &ArgMatches, batch: u32) -> Result<Options, Usage>
+/// The error for a value of `--column` or `--topic-column` that is no column, as clap words it.
+fn bad_column_usage(alloc: Global, option: &str, value: &str) -> Usage
+    ensures { IsBadReport result }
+{
+    let why = if is_numeral(value) {
+        " is not in 1..=65535"
+    } else {
+        " is a name, which needs --header"
+    };
+    match format!(in alloc; "{BAD_VALUE} '{value}' for '--{option} <N>': {value}{why}{HINT}") {
+        Ok(text) => Usage::Bad(text),
+        Err(_) => Usage::Memory,
+    }
+}
+
+/// The column of an option, or its default.
+fn column_of(
+    alloc: Global,
+    given: &ArgMatches,
+    id: &str,
+    header: bool,
+    default: u32,
+) -> Result<Column, Usage>
+    ensures column { IfOk result
+        (IsColumnOf header (first_of id.now (rows_of (found_of given.now))) default) }
+    ensures fault { IfErr result
+        (ReportsBadColumn header (first_of id.now (rows_of (found_of given.now)))) }
+{
+    let Some(text) = given.get_str(id) else {
+        return Ok(Column::Number(default));
+    };
+    match parse_column(alloc, text, header) {
+        Ok(Some(column)) => Ok(column),
+        Ok(None) => Err(bad_column_usage(alloc, id, text)),
+        Err(_) => Err(Usage::Memory),
+    }
+}
+
+/// The number of `--top`, which clap has checked; `None` without the option.
+fn top_of(given: &ArgMatches) -> Option<u32>
+    requires { AreOptionRows (rows_of (found_of given.now)) }
+    ensures value { IsNumberIfGiven (first_of (codes "top") (rows_of (found_of given.now))) result }
+    ensures range { IfSome result (λ most. 1 ≤ most) }
+{
+    optional_number(given, "top")
+}
+
+/// The options of a job, from what clap found, with this batch and this top.
+fn options_of(
+    alloc: Global,
+    given: &ArgMatches,
+    batch: u32,
+    top: Option<u32>,
+) -> Result<Options, Usage>
     requires present { AreOptionRows (rows_of (found_of given.now)) }
     requires batch { (1 ≤ batch) × (batch ≤ MOST_BATCH) }
-    ensures options { IfOk result
-        (λ options. HasOptions (rows_of (found_of given.now)) options × (options.batch ≡ batch)) }
-    ensures fault { IfErr result (ReportsBadList (rows_of (found_of given.now))) }
+    requires top { IfSome top (λ most. 1 ≤ most) }
+    ensures options { IfOk result (HasOptions (rows_of (found_of given.now))) }
+    ensures batch { IfOk result (λ options. options.batch ≡ batch) }
+    ensures top { IfOk result (λ options. options.top ≡ top) }
+    ensures fault { IfErr result (ReportsBadOption (rows_of (found_of given.now))) }
 {
     let topics = topics_of(alloc, given)?;
+    let header = given.get_flag("header");
+    let column = column_of(alloc, given, "column", header, 1)?;
+    let topic_column = column_of(alloc, given, "topic-column", header, 2)?;
     Ok(Options {
         partitions: number_of(given, "partitions", 4),
-        column: number_of(given, "column", 1),
-        header: given.get_flag("header"),
+        column,
+        header,
         batch,
         topics,
-        topic_column: number_of(given, "topic-column", 2),
+        topic_column,
+        top,
     })
 }
 
 fn count_job<'a>(alloc: Global, given: &ArgMatches<'a>) -> Result<Job<'a>, Usage>
     requires { AreCountRows (rows_of (found_of given.now)) }
     ensures job { IfOk result (IsJobOfRows (codes "count") (rows_of (found_of given.now))) }
-    ensures fault { IfErr result (ReportsBadList (rows_of (found_of given.now))) }
+    ensures fault { IfErr result (ReportsBadOption (rows_of (found_of given.now))) }
 {
     let file = text_of(given, "file");
-    let options = options_of(alloc, given, DEFAULT_BATCH)?;
+    let options = options_of(alloc, given, DEFAULT_BATCH, top_of(given))?;
     Ok(Job::Count { file, options })
 }
 
-/// The paths and options of a job with a script, from what clap found.
+fn place_job<'a>(alloc: Global, given: &ArgMatches<'a>) -> Result<Job<'a>, Usage>
+    requires { ArePlaceRows (rows_of (found_of given.now)) }
+    ensures job { IfOk result (IsJobOfRows (codes "place") (rows_of (found_of given.now))) }
+    ensures fault { IfErr result (ReportsBadOption (rows_of (found_of given.now))) }
+{
+    let file = text_of(given, "file");
+    let place = place_options_of(given);
+    let options = options_of(alloc, given, DEFAULT_BATCH, None)?;
+    Ok(Job::Place {
+        file,
+        options,
+        place,
+    })
+}
+
+/// The paths and options of a job with a script, from what clap found, with this top.
 fn paths_and_options<'a>(
     alloc: Global,
     given: &ArgMatches<'a>,
+    top: Option<u32>,
 ) -> Result<(&'a str, &'a str, Options), Usage>
-    requires { AreScriptRows (rows_of (found_of given.now)) }
+    requires rows { AreScriptRows (rows_of (found_of given.now)) }
+    requires top { IfSome top (λ most. 1 ≤ most) }
     ensures script { IfOk result
         (λ parts. HasScript (rows_of (found_of given.now)) parts.0.now parts.1.now parts.2) }
-    ensures fault { IfErr result (ReportsBadList (rows_of (found_of given.now))) }
+    ensures top { IfOk result (λ parts. parts.2.top ≡ top) }
+    ensures fault { IfErr result (ReportsBadOption (rows_of (found_of given.now))) }
 {
     let file = text_of(given, "file");
     let script = text_of(given, "script");
     let batch = number_of(given, "batch", DEFAULT_BATCH);
-    let options = options_of(alloc, given, batch)?;
+    let options = options_of(alloc, given, batch, top)?;
     Ok((file, script, options))
 }
 
 fn replay_job<'a>(alloc: Global, given: &ArgMatches<'a>) -> Result<Job<'a>, Usage>
     requires { AreScriptRows (rows_of (found_of given.now)) }
     ensures job { IfOk result (IsJobOfRows (codes "replay") (rows_of (found_of given.now))) }
-    ensures fault { IfErr result (ReportsBadList (rows_of (found_of given.now))) }
+    ensures fault { IfErr result (ReportsBadOption (rows_of (found_of given.now))) }
 {
-    let (file, script, options) = paths_and_options(alloc, given)?;
+    let (file, script, options) = paths_and_options(alloc, given, top_of(given))?;
     Ok(Job::Replay {
         file,
         script,
@@ -383,9 +546,9 @@ fn replay_job<'a>(alloc: Global, given: &ArgMatches<'a>) -> Result<Job<'a>, Usag
 fn trace_job<'a>(alloc: Global, given: &ArgMatches<'a>) -> Result<Job<'a>, Usage>
     requires { AreScriptRows (rows_of (found_of given.now)) }
     ensures job { IfOk result (IsJobOfRows (codes "trace") (rows_of (found_of given.now))) }
-    ensures fault { IfErr result (ReportsBadList (rows_of (found_of given.now))) }
+    ensures fault { IfErr result (ReportsBadOption (rows_of (found_of given.now))) }
 {
-    let (file, script, options) = paths_and_options(alloc, given)?;
+    let (file, script, options) = paths_and_options(alloc, given, None)?;
     Ok(Job::Trace {
         file,
         script,
@@ -396,9 +559,9 @@ fn trace_job<'a>(alloc: Global, given: &ArgMatches<'a>) -> Result<Job<'a>, Usage
 fn draw_job<'a>(alloc: Global, given: &ArgMatches<'a>) -> Result<Job<'a>, Usage>
     requires { AreScriptRows (rows_of (found_of given.now)) }
     ensures job { IfOk result (IsJobOfRows (codes "draw") (rows_of (found_of given.now))) }
-    ensures fault { IfErr result (ReportsBadList (rows_of (found_of given.now))) }
+    ensures fault { IfErr result (ReportsBadOption (rows_of (found_of given.now))) }
 {
-    let (file, script, options) = paths_and_options(alloc, given)?;
+    let (file, script, options) = paths_and_options(alloc, given, None)?;
     Ok(Job::Draw {
         file,
         script,
@@ -409,14 +572,43 @@ fn draw_job<'a>(alloc: Global, given: &ArgMatches<'a>) -> Result<Job<'a>, Usage>
 fn run_job<'a>(alloc: Global, given: &ArgMatches<'a>) -> Result<Job<'a>, Usage>
     requires { AreScriptRows (rows_of (found_of given.now)) }
     ensures job { IfOk result (IsJobOfRows (codes "run") (rows_of (found_of given.now))) }
-    ensures fault { IfErr result (ReportsBadList (rows_of (found_of given.now))) }
+    ensures fault { IfErr result (ReportsBadOption (rows_of (found_of given.now))) }
 {
-    let (file, script, options) = paths_and_options(alloc, given)?;
+    let (file, script, options) = paths_and_options(alloc, given, top_of(given))?;
     Ok(Job::Run {
         file,
         script,
         options,
     })
+}
+
+/// The number of an argument that may be left out, which clap has checked.
+fn optional_number(given: &ArgMatches, id: &str) -> Option<u32>
+    requires { IsOptionalNumber (first_of id.now (rows_of (found_of given.now))) (2 ^ 32 - 1) }
+    ensures { IsNumberIfGiven (first_of id.now (rows_of (found_of given.now))) result }
+{
+    given.get_str(id)?;
+    Some(number_of(given, id, 0))
+}
+
+/// The options that `place` alone has, from what clap found.
+fn place_options_of(given: &ArgMatches) -> PlaceOptions
+    requires { ArePlaceRows (rows_of (found_of given.now)) }
+    ensures { HasPlaceOptions (rows_of (found_of given.now)) result }
+{
+    PlaceOptions {
+        keys: given.get_flag("keys"),
+        given: optional_number(given, "given"),
+    }
+}
+
+fn explain_job<'a>(given: &ArgMatches) -> Job<'a>
+    requires { AreExplainRows (rows_of (found_of given.now)) }
+    ensures { IsJobOfRows (codes "explain") (rows_of (found_of given.now)) result }
+{
+    Job::Explain {
+        code: optional_number(given, "code"),
+    }
 }
 
 /// What an error of clap becomes.
@@ -438,7 +630,8 @@ fn usage_of(alloc: Global, error: Error) -> Usage
 ///
 /// Errors: `Help` only where the words ask for help or for the version; `Bad` only where clap
 /// rejects them for another reason, or accepts them and the value of `--topics` is not a list of
-/// topics (the text is then `bad topics`); `Memory` where memory runs out.
+/// topics (the text is then `bad topics`), or that of `--column` or `--topic-column` not a column;
+/// `Memory` where memory runs out.
 pub fn read_words<'a>(alloc: Global, words: &'a [&'a str]) -> Result<Job<'a>, Usage>
     ensures job { IfOk result (IsJobOf (map (λ w. w.now) words.now)) }
     ensures usage { IfErr result (IsRefusal (map (λ w. w.now) words.now)) }
@@ -456,10 +649,12 @@ pub fn read_words<'a>(alloc: Global, words: &'a [&'a str]) -> Result<Job<'a>, Us
     };
     match name {
         "count" => count_job(alloc, given),
+        "place" => place_job(alloc, given),
         "replay" => replay_job(alloc, given),
         "trace" => trace_job(alloc, given),
         "draw" => draw_job(alloc, given),
         "run" => run_job(alloc, given),
+        "explain" => Ok(explain_job(given)),
         _ => unreachable!(),
     }
 }

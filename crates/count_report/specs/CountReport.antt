@@ -1,5 +1,5 @@
 -- The report of a count: a text, or a fault.
-use Rattle.std.specs.Prelude.{ℕ, List, [], Result, Vec, flat_map, vec_items}
+use Rattle.std.specs.Prelude.{ℕ, List, [], Option, Result, Vec, flat_map, vec_items}
 use Rattle.std.specs.Global.{Global}
 use Rattle.std.specs.Result.{result_map_both}
 use Rattle.lane_words.specs.declared.Refusal.{Refusal}
@@ -11,15 +11,16 @@ use Rattle.ingest.specs.Records.{partition_counts, records_of}
 use Rattle.ingest.specs.Reports.{report_of_read}
 
 -- what a count of records writes, or its fault
-abbrev pub report_of_records : List ℕ → List Keyed → Result (List ℕ) Refusal
-report_of_records counts records =
-    fault_or (first_fault counts [] records) (plain_text (keys_in records))
+abbrev pub report_of_records : Option ℕ → List ℕ → List Keyed → Result (List ℕ) Refusal
+report_of_records top counts records =
+    fault_or (first_fault counts [] records) (plain_text top (keys_in records))
 
 -- what a count of a file writes, or its fault: the first bad record, and only then the first one
 -- that can't be appended
 abbrev pub report_of_count : Options → List ℕ → Result (List ℕ) Refusal
 report_of_count options file =
-    report_of_read (report_of_records (partition_counts options)) (records_of options file)
+    report_of_read (report_of_records options.top (partition_counts options))
+    (records_of options file)
 
 -- an answer as the text that it returns in parts
 abbrev pub texts_seen : Result (Vec (Vec ℕ Global) Global) Refusal → Result (List ℕ) Refusal

@@ -1,8 +1,10 @@
 //! A count, from a source to a sink.
 
-ghost use Rattle.std.specs.Prelude.{◌≡◌, ◌<◌, ◌+◌, ◌-◌, Ok, IfOk, IfErr, IfSome, flat_map, vec_items};
+ghost use Rattle.std.specs.Prelude.{◌≡◌, ◌<◌, ◌+◌, ◌-◌, ◌++◌, Ok, IfOk, IfErr, IfSome, flat_map, length, vec_items};
 ghost use Rattle.lane_words.specs.Answers.{Answers};
 ghost use Rattle.count_report.specs.CountReport.{report_of_count, report_of_records, texts_seen};
+ghost use Rattle.report_rows.specs.CountRows.{listed_rows};
+ghost use Rattle.report_rows.specs.Rows.{total_row};
 ghost use Rattle.byte_io.specs.Devices.{CanStillFail};
 ghost use Rattle.ingest.specs.Records.{AreOfTopics, partition_counts, records_in};
 ghost use Rattle.ingest.specs.Reports.{AreInRange, IsFaultOf, IsNoWrite, WritesAtEndAlone, WritesReport, failed_reads, failed_writes};
@@ -12,12 +14,37 @@ use crate::tally::counts_after;
 use byte_io::{Sink, Source, write_texts};
 use command_line::Options;
 use ingest::{FileRecords, file_records, logs_of};
-use lane_words::Refusal;
+use lane_words::{Memory, Refusal};
 use parallel::drop_each;
+use partition_log::Logs;
 use report_rows::count_rows::count_rows_texts;
+use report_rows::top_rows::top_text;
 use std::alloc::Global;
 use std::random::RandomSource;
 use std::thread::Threads;
+
+/// The text of a count: the rows of all keys or of the top, and the number of records as both
+/// totals.
+fn texts_of_count<R: Threads + Sync>(
+    rt: &R,
+    alloc: Global,
+    logs: &Logs,
+    counts: &[u64],
+    records: u64,
+    top: Option<u32>,
+) -> Result<Vec<Vec<u8>>, Memory>
+    requires { length logs.now.keys ≡ length counts.now }
+    ensures { IfOk result (λ texts. flat_map vec_items texts.items
+        ≡ listed_rows top logs.now.keys counts.now ++ total_row records records) }
+{
+    let Some(most) = top else {
+        return count_rows_texts(rt, alloc, logs, counts, records, records);
+    };
+    let text = top_text(alloc, logs, counts, most, records, records)?;
+    let mut texts = Vec::new(alloc);
+    texts.push(text)?;
+    Ok(texts)
+}
 
 /// The text of a count of these records, in texts to be written one after another.
 fn plain_report<R: Threads + Sync + RandomSource>(
@@ -29,7 +56,7 @@ fn plain_report<R: Threads + Sync + RandomSource>(
     requires options { AreInRange options.now }
     requires topics { AreOfTopics (partition_counts options.now) (records_in records) }
     ensures answer { Answers
-        (report_of_records (partition_counts options.now) (records_in records))
+        (report_of_records options.now.top (partition_counts options.now) (records_in records))
         (texts_seen result) }
     ensures kind { IfErr result IsKeyFault }
 {
@@ -37,7 +64,7 @@ fn plain_report<R: Threads + Sync + RandomSource>(
     let total = records.len() as u64;
     // The records can go: the logs have a copy of each key.
     let counts = counts_after(rt, alloc, records, &logs)?;
-    let texts = count_rows_texts(rt, alloc, &logs, counts.counts(), total, total)?;
+    let texts = texts_of_count(rt, alloc, &logs, counts.counts(), total, options.top)?;
     logs.drop_parallel(rt);
     Ok(texts)
 }
@@ -63,7 +90,8 @@ fn file_report<R: Threads + Sync + RandomSource, S: Source>(
 }
 
 /// Counts how often each key occurs in a CSV file, and writes a row for each key, in the order of
-/// first appearance, and a row of the totals.
+/// first appearance, and a row of the totals. With `top`, only so many keys have rows: those with
+/// the most records, most first, and of equal counts the one that came first.
 ///
 /// The whole file is read and the whole text is made before the first write. So after `WriteFailed`
 /// a prefix of the text is written, and after any other refusal nothing.

@@ -2,6 +2,7 @@ pub mod Parts
 pub mod Cutting
 pub mod Faults
 pub mod Fields
+pub mod Headers
 pub mod Joined
 pub mod Keys
 pub mod Listed

@@ -1,3 +1,4 @@
+pub mod Header
 pub mod KeyFile
 pub mod Pieces
 pub mod Private

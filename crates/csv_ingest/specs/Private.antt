@@ -1,6 +1,7 @@
 pub mod Cuts
 pub mod Fields
 pub mod FileKeys
+pub mod Header
 pub mod KeyFile
 pub mod Pieces
 pub mod Records

@@ -4,6 +4,7 @@
 //! - Each read returns the keys of a column, with their topics or without, or the first fault,
 //!   exactly as the definition by records says (`keys_of`), however the file is split. The only
 //!   other error is running out of memory.
+//! - `column_named` returns the column of the header's first field with a name.
 //! - Laws: when a file can be split at a line feed, and how the records and keys of a file follow
 //!   from those of its chunks.
 //!
@@ -14,6 +15,7 @@ mod apart;
 mod blocks;
 mod cuts;
 mod file_keys;
+mod header;
 mod join;
 mod lack;
 mod laws;
@@ -31,6 +33,7 @@ pub use apart::{
 };
 pub use blocks::Blocks;
 pub use file_keys::FileKeys;
+pub use header::column_named;
 pub use lack::Lack;
 pub use laws::{
     a_key_a_record, cut_before_a_line_feed, cut_behind_a_record, cut_file, cut_without_quotes,

@@ -87,11 +87,11 @@ first-among partitions topics keys = firsts (length (counts_among partitions top
     go (topic ∷ topics) = omega arith
 
 -- ---- the keys read are those of the records
-pub topic-records : (options : Options) (bytes : List ℕ) (topics : List Topic) (names : List (List ℕ)) → (length topics == 0) ≡ false → names ≡ map (λ (t : Topic). t.name) topics
-    → records_among options topics bytes ≡ result_map_both (map record_of) (λ fault. fault) (topic_keys_of options.column options.topic_column names options.header bytes)
-topic-records options bytes [] names some is = absurd (cc some)
-topic-records options bytes (topic ∷ topics) names some is =
-    ap (λ ns. result_map_both (map record_of) (λ fault. fault) (topic_keys_of options.column options.topic_column ns options.header bytes)) (sym is)
+pub topic-records : (header : Bool) (column topic_column : ℕ) (bytes : List ℕ) (topics : List Topic) (names : List (List ℕ)) → (length topics == 0) ≡ false → names ≡ map (λ (t : Topic). t.name) topics
+    → records_among header topics bytes column topic_column ≡ result_map_both (map record_of) (λ fault. fault) (topic_keys_of column topic_column names header bytes)
+topic-records header column topic_column bytes [] names some is = absurd (cc some)
+topic-records header column topic_column bytes (topic ∷ topics) names some is =
+    ap (λ ns. result_map_both (map record_of) (λ fault. fault) (topic_keys_of column topic_column ns header bytes)) (sym is)
 
 pub records-refused : {A B : Type 0} (f : A → B) (taken : Result A Refusal) (all : Result B Refusal) (e : Refusal) → all ≡ result_map_both f (λ fault. fault) taken → (e ≡ r.Memory) ⊎ (taken ≡ Err e) → (e ≡ r.Memory) ⊎ (all ≡ Err e)
 records-refused f taken all e is (inl m) = inl m

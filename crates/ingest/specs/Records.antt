@@ -1,5 +1,5 @@
 -- The records of a file, and their partitions.
-use Rattle.std.specs.Prelude.{ℕ, ◌<◌, List, [], ◌∷◌, All, length, map, replicate, Result}
+use Rattle.std.specs.Prelude.{ℕ, ◌<◌, Bool, List, [], ◌∷◌, All, length, map, replicate, Result, Ok, Err}
 use Rattle.std.specs.List.{sum}
 use Rattle.std.specs.Result.{result_map_both}
 use Rattle.lane_words.specs.declared.Refusal.{Refusal}
@@ -8,6 +8,11 @@ use Rattle.partition_log.specs.Keys.{Keyed}
 use Rattle.partition_log.specs.Logs.{PartitionLogs, place_in_topic}
 use Rattle.partitioner.specs.declared.topic.Topic.{Topic}
 use Rattle.command_line.specs.declared.options.Options.{Options}
+use Rattle.command_line.specs.declared.options.Column.{Column}
+use Rattle.command_line.specs.declared.options.Column.TheVariants.{Number, Named}
+use Rattle.command_line.specs.declared.options.TheConstants.{LAST_COLUMN}
+use Rattle.csv_ingest.specs.Header.{column_named}
+use Rattle.csv_ingest.specs.Pieces.{file_records}
 use Rattle.csv_ingest.specs.KeyFile.{key_behind, keys_of, topic_keys_of, topic_of}
 use Rattle.ingest.specs.declared.reading.FileRecords.{FileRecords}
 use Rattle.ingest.specs.declared.reading.FileRecords.TheVariants.{Keys, InTopics}
@@ -25,19 +30,37 @@ partition_counts options = counts_among options.partitions options.topics.items
 abbrev pub record_of : List ℕ → Keyed
 record_of key = (topic_of key, key_behind key)
 
--- the records of a file, each of the topic that its topic column names; without topics, all records
--- are of the first
-abbrev pub records_among : Options → List Topic → List ℕ → Result (List Keyed) Refusal
-records_among options [] file =
-    result_map_both in_first (λ fault. fault) (keys_of options.column options.header file)
-records_among options (topic ∷ topics) file =
+-- a column of a file, counted from 1: a named one is looked up in the header
+abbrev pub column_in : List ℕ → Column → Result ℕ Refusal
+column_in file (Number n) = Ok n
+column_in file (Named name) = column_named LAST_COLUMN name.items (file_records file)
+
+-- the column of the topic; without topics none is read, and it is the first
+abbrev pub topic_column_in : List ℕ → List Topic → Column → Result ℕ Refusal
+topic_column_in file [] column = Ok 1
+topic_column_in file (topic ∷ topics) column = column_in file column
+
+-- the records of a file with the key in this column, each of the topic that its topic column names;
+-- without topics, all records are of the first
+abbrev pub records_among : Bool → List Topic → List ℕ → ℕ → ℕ → Result (List Keyed) Refusal
+records_among header [] file column topic_column =
+    result_map_both in_first (λ fault. fault) (keys_of column header file)
+records_among header (topic ∷ topics) file column topic_column =
     result_map_both (map record_of) (λ fault. fault)
-    (topic_keys_of options.column options.topic_column (map (λ t. t.name) (topic ∷ topics))
-    options.header file)
+    (topic_keys_of column topic_column (map (λ t. t.name) (topic ∷ topics)) header file)
+
+-- what is done with a column, or the fault of its lookup
+abbrev pub with_column : Result ℕ Refusal → (ℕ → Result (List Keyed) Refusal)
+    → Result (List Keyed) Refusal
+with_column (Ok column) records = records column
+with_column (Err fault) records = Err fault
 
 -- the records of a file, or the fault of the first bad one
-abbrev pub records_of : Options → List ℕ → Result (List Keyed) Refusal
-records_of options file = records_among options options.topics.items file
+unfoldable pub records_of : Options → List ℕ → Result (List Keyed) Refusal
+records_of options file =
+    with_column (column_in file options.column) (λ column.
+    with_column (topic_column_in file options.topics.items options.topic_column)
+    (records_among options.header options.topics.items file column))
 
 -- the records that were read
 abbrev pub records_in : FileRecords → List Keyed

@@ -1,16 +1,19 @@
 //! The records of a file, read from a source.
 
-ghost use Rattle.std.specs.Prelude.{◌≡◌, ◌+◌, ◌<◌, ◌-◌, Ok, IfOk, IfErr, IfSome, length, map};
+ghost use Rattle.std.specs.Prelude.{◌≡◌, ◌≤◌, ◌+◌, ◌<◌, ◌-◌, Ok, IfOk, IfErr, IfSome, length, map};
 ghost use Rattle.byte_io.specs.Devices.{CanStillFail};
 ghost use Rattle.csv_ingest.specs.KeyFile.{IsFileFault};
 ghost use Rattle.lane_words.specs.Answers.{Answers};
 ghost use Rattle.partition_log.specs.Logs.{AreCounts};
-ghost use Rattle.ingest.specs.Records.{AreOfTopics, partition_counts, records_in, records_of, records_seen};
+ghost use Rattle.command_line.specs.Options.{IsColumnIn};
+ghost use Rattle.ingest.specs.Records.{AreOfTopics, column_in, partition_counts, records_among, records_in, records_of, records_seen, topic_column_in};
 ghost use Rattle.ingest.specs.Reports.{AreInRange, IsFaultOf, IsNoStop, IsNoWrite, failed_reads};
 
 use byte_io::{Source, read_blocks};
-use command_line::Options;
-use csv_ingest::{Blocks, FileKeys, TopicKeys, pieces_for, read_keys_apart, read_topic_keys_apart};
+use command_line::{Column, LAST_COLUMN, Options};
+use csv_ingest::{
+    Blocks, FileKeys, TopicKeys, column_named, pieces_for, read_keys_apart, read_topic_keys_apart,
+};
 use lane_words::{Memory, Refusal};
 use partitioner::Topic;
 use std::alloc::Global;
@@ -74,8 +77,70 @@ fn names_of<'a>(alloc: Global, topics: &'a [Topic]) -> Result<Vec<&'a [u8]>, Mem
     Ok(names)
 }
 
-/// The records of a file that is in memory.
-fn read_records<R: Threads + Sync + RandomSource>(
+/// A column of a file, counted from 1. A named column is looked up in the header: `NoSuchColumn` for
+/// record 1 if there is none of that name.
+fn column_in(alloc: Global, file: &Blocks, column: &Column, header: bool) -> Result<u32, Refusal>
+    requires { IsColumnIn header column.now }
+    ensures answer { Answers (column_in file.now column.now) result }
+    ensures range { IfOk result (λ column. 1 ≤ column) }
+    ensures kind { IfErr result IsFileFault }
+{
+    match column {
+        Column::Number(number) => Ok(*number),
+        Column::Named(name) => column_named(alloc, file, name.as_slice(), LAST_COLUMN),
+    }
+}
+
+/// The column of the topic; without topics none is read, and it is the first.
+fn topic_column_in(alloc: Global, file: &Blocks, options: &Options) -> Result<u32, Refusal>
+    requires { AreInRange options.now }
+    ensures answer { Answers
+        (topic_column_in file.now options.now.topics.items options.now.topic_column) result }
+    ensures range { IfOk result (λ column. 1 ≤ column) }
+    ensures kind { IfErr result IsFileFault }
+{
+    if options.topics.is_empty() {
+        return Ok(1);
+    }
+    column_in(alloc, file, &options.topic_column, options.header)
+}
+
+/// The records of a file that is in memory, with the key in this column, and with topics the topic
+/// in that one.
+fn records_among<R: Threads + Sync + RandomSource>(
+    rt: &R,
+    alloc: Global,
+    file: &Blocks,
+    column: u32,
+    topic_column: u32,
+    options: &Options,
+) -> Result<FileRecords, Refusal>
+    requires options { AreInRange options.now }
+    requires columns { (1 ≤ column) × (1 ≤ topic_column) }
+    ensures answer { Answers
+        (records_among options.now.header options.now.topics.items file.now column topic_column)
+        (records_seen result) }
+    ensures topics { IfOk result
+        (λ records. AreOfTopics (partition_counts options.now) (records_in records)) }
+    ensures kind { IfErr result IsFileFault }
+{
+    let topics = options.topics.as_slice();
+    let header = options.header;
+    if topics.is_empty() {
+        let keys = read_keys_apart(rt, alloc, file, column, header)?;
+        return Ok(FileRecords::Keys(keys));
+    }
+    let names = names_of(alloc, topics)?;
+    let names = names.as_slice();
+    let keys = read_topic_keys_apart(rt, alloc, file, column, topic_column, names, header)?;
+    Ok(FileRecords::InTopics(keys))
+}
+
+/// The records of a file that is in memory. A long file is parsed in parallel. Fails with the fault
+/// of the first bad record (`BadCsv`, `NoSuchColumn`, `NoSuchTopic`), and with `Memory` if an
+/// allocation failed.
+#[tactic(auto, unfolding(crate::specs::Records::records_of))]
+pub fn read_records<R: Threads + Sync + RandomSource>(
     rt: &R,
     alloc: Global,
     file: &Blocks,
@@ -87,17 +152,9 @@ fn read_records<R: Threads + Sync + RandomSource>(
         (λ records. AreOfTopics (partition_counts options.now) (records_in records)) }
     ensures kind { IfErr result IsFileFault }
 {
-    let topics = options.topics.as_slice();
-    let (column, header) = (options.column, options.header);
-    if topics.is_empty() {
-        let keys = read_keys_apart(rt, alloc, file, column, header)?;
-        return Ok(FileRecords::Keys(keys));
-    }
-    let names = names_of(alloc, topics)?;
-    let names = names.as_slice();
-    let topic_column = options.topic_column;
-    let keys = read_topic_keys_apart(rt, alloc, file, column, topic_column, names, header)?;
-    Ok(FileRecords::InTopics(keys))
+    let column = column_in(alloc, file, &options.column, options.header)?;
+    let topic_column = topic_column_in(alloc, file, options)?;
+    records_among(rt, alloc, file, column, topic_column, options)
 }
 
 /// Reads a file to its end and returns its records. A long file is parsed in parallel. Fails with

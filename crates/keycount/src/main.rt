@@ -1,22 +1,24 @@
-//! `keycount`: counts the keys of a CSV file, replays, traces or draws a script over them, or runs a
-//! plan over them with a thread for each member. The program opens the files, lends the runtime's devices and
-//! threads to a call of `report_cli`, and prints the line of a fault. All that it reads and writes
-//! is a promise of `report_cli`.
+//! `keycount`: counts the keys of a CSV file, tells where they go, replays, traces or draws a
+//! script over them, runs a plan over them with a thread for each member, or explains a refusal.
+//! The program opens the files, lends the runtime's devices and threads to a call of `report_cli`,
+//! and prints the line of a fault. All that it reads and writes is a promise of `report_cli`.
 //!
 //! Tests: the example in `data`, `stdin` and `stdout`, `report_tests`, and the black-box tests.
 #![tactic(auto)]
 
-ghost use Rattle.report_cli.specs.Reports.{AreInRange};
+ghost use Rattle.report_cli.specs.Options.{AreInRange, IsPlaceInRange};
 
 use lane_words::Refusal;
+use progress::{ProgressLine, Watched};
 use report_cli::{
-    FromRead, FromWrite, Job, Options, Usage, count_text, draw_text, fault_line, read_words,
-    reads_input_twice, replay_text, run_text, status, trace_text,
+    FromRead, FromWrite, Job, Options, PlaceOptions, Usage, asks_for_two_tables, count_text,
+    draw_text, explain_text, fault_line, place_text, read_words, reads_input_twice,
+    refusal_with_code, replay_text, run_text, status, trace_text,
 };
 use std::alloc::AllocError;
 use std::env;
 use std::fs::File;
-use std::io::{ErrorKind, Read};
+use std::io::{ErrorKind, IsTerminal, Read, Stderr};
 use std::process::ExitCode;
 use std::random::RandomSource;
 use std::sync::Wait;
@@ -25,6 +27,13 @@ use workers::{Gate, GateAnswer};
 
 /// The error if FILE and SCRIPT are both `-`.
 const TWO_STANDARD_INPUTS: &str = "error: only one of FILE and SCRIPT can be standard input\n";
+
+/// The error if a place has both options.
+const TWO_TABLES: &str = "error: --keys and --given cannot be used together\n";
+
+/// The error if no refusal has the number CODE.
+const NO_SUCH_CODE: &str =
+    "error: no refusal or fault has this number; keycount explain lists all of them\n";
 
 fn open_file(rt: &HostRuntime, path: &str) -> Result<File, Refusal> {
     let Ok(file) = File::open(rt, path) else {
@@ -59,6 +68,16 @@ fn unsized_input<F: Read + Drop>(reader: F) -> Input<F> {
     }
 }
 
+/// What shows the progress of a read of about this many bytes, if standard error is a terminal.
+fn progress_line(rt: &HostRuntime, expected: usize) -> Option<ProgressLine<&HostRuntime, Stderr>> {
+    let terminal = rt.stderr();
+    if terminal.is_terminal() {
+        Some(ProgressLine::new(rt, terminal, rt.alloc(), expected as u64))
+    } else {
+        None
+    }
+}
+
 fn count<R: Threads + Sync + RandomSource, F: Read + Drop>(
     rt: &HostRuntime,
     threads: &R,
@@ -67,7 +86,8 @@ fn count<R: Threads + Sync + RandomSource, F: Read + Drop>(
 ) -> Result<(), Refusal>
     requires { AreInRange options.now }
 {
-    let mut source = FromRead::expecting(file.reader, file.expected);
+    let line = progress_line(rt, file.expected);
+    let mut source = Watched::new(FromRead::expecting(file.reader, file.expected), line);
     let mut sink = FromWrite::new(rt.stdout());
     count_text(threads, rt.alloc(), &mut source, options, &mut sink)
 }
@@ -84,6 +104,39 @@ fn count_file<R: Threads + Sync + RandomSource>(
     match path {
         "-" => count(rt, threads, unsized_input(rt.stdin()), options),
         _ => count(rt, threads, input_at(rt, path)?, options),
+    }
+}
+
+fn place<R: Threads + Sync + RandomSource, F: Read + Drop>(
+    rt: &HostRuntime,
+    threads: &R,
+    file: Input<F>,
+    options: &Options,
+    place: &PlaceOptions,
+) -> Result<bool, Refusal>
+    requires options { AreInRange options.now }
+    requires place { IsPlaceInRange place.now }
+{
+    let line = progress_line(rt, file.expected);
+    let mut source = Watched::new(FromRead::expecting(file.reader, file.expected), line);
+    let mut sink = FromWrite::new(rt.stdout());
+    place_text(threads, rt.alloc(), &mut source, options, place, &mut sink)
+}
+
+/// Tells where the records of the file at this path go, or of standard input if the path is `-`.
+fn place_file<R: Threads + Sync + RandomSource>(
+    rt: &HostRuntime,
+    threads: &R,
+    path: &str,
+    options: &Options,
+    with: &PlaceOptions,
+) -> Result<bool, Refusal>
+    requires options { AreInRange options.now }
+    requires place { IsPlaceInRange with.now }
+{
+    match path {
+        "-" => place(rt, threads, unsized_input(rt.stdin()), options, with),
+        _ => place(rt, threads, input_at(rt, path)?, options, with),
     }
 }
 
@@ -116,7 +169,8 @@ fn write_report<R: Threads + Wait + RandomSource + Sync, F: Read + Drop, S: Read
     requires { AreInRange options.now }
 {
     let alloc = rt.alloc();
-    let mut file = FromRead::expecting(file.reader, file.expected);
+    let line = progress_line(rt, file.expected);
+    let mut file = Watched::new(FromRead::expecting(file.reader, file.expected), line);
     let mut script = FromRead::new(script);
     let mut sink = FromWrite::new(rt.stdout());
     match report {
@@ -190,10 +244,33 @@ fn exit_code(rt: &HostRuntime, answer: Result<(), Refusal>) -> ExitCode {
     }
 }
 
+/// The exit status of a place: 1 if a record is misplaced. A fault is printed.
+fn place_exit_code(rt: &HostRuntime, answer: Result<bool, Refusal>) -> ExitCode {
+    match answer {
+        Ok(true) => ExitCode::from(1),
+        Ok(false) => ExitCode::SUCCESS,
+        Err(fault) => report_fault(rt, &fault),
+    }
+}
+
 /// Prints on standard error what is wrong with the arguments.
 fn usage_error(rt: &HostRuntime, text: &str) -> ExitCode {
     let _ = eprint!(rt; "{text}");
     ExitCode::from(2)
+}
+
+/// Prints what a refusal means, or a line for each.
+fn explain(rt: &HostRuntime, refusal: Option<Refusal>) -> ExitCode {
+    let mut sink = FromWrite::new(rt.stdout());
+    exit_code(rt, explain_text(rt.alloc(), refusal, &mut sink))
+}
+
+/// Prints what the refusal of this number means. If there is none, that is a usage error.
+fn explain_code(rt: &HostRuntime, code: u32) -> ExitCode {
+    match refusal_with_code(code) {
+        Some(refusal) => explain(rt, Some(refusal)),
+        None => usage_error(rt, NO_SUCH_CODE),
+    }
 }
 
 /// Does the job that the arguments ask for. The threads are the runtime's, which only `main` can
@@ -206,7 +283,15 @@ fn run_job<R: Threads + Wait + RandomSource + Sync>(
     let answer = read_words(rt.alloc(), words);
     match &answer {
         Ok(job) if reads_input_twice(job) => usage_error(rt, TWO_STANDARD_INPUTS),
+        Ok(job) if asks_for_two_tables(job) => usage_error(rt, TWO_TABLES),
         Ok(Job::Count { file, options }) => exit_code(rt, count_file(rt, threads, file, options)),
+        Ok(
+            Job::Place {
+                file,
+                options,
+                place,
+            },
+        ) => place_exit_code(rt, place_file(rt, threads, file, options, place)),
         Ok(
             Job::Replay {
                 file,
@@ -247,6 +332,8 @@ fn run_job<R: Threads + Wait + RandomSource + Sync>(
             rt,
             report_files(rt, threads, Report::Run, file, script, options),
         ),
+        Ok(Job::Explain { code: Some(code) }) => explain_code(rt, *code),
+        Ok(Job::Explain { code: None }) => explain(rt, None),
         Err(Usage::Help(text)) => {
             let _ = print!(rt; "{text}");
             ExitCode::SUCCESS

@@ -13,6 +13,8 @@ mod files;
 #[cfg(test)]
 mod hashes;
 #[cfg(test)]
+mod headers;
+#[cfg(test)]
 mod key_hashes;
 #[cfg(test)]
 mod keys;

@@ -1,5 +1,5 @@
 -- The text of a script's lines, line by line.
-use Rattle.std.proofs.Common.{◌≡◌, ◌≢◌, ◌∙◌, ◌+◌, ◌<◌, ◌≤◌, ℕ, suc, List, [], ◌∷◌, ◌++◌, Ok, Err, Result, add-one, append_assoc, drop, drop-cons, get_or, inl, inr, length, sym, ap, refl, subst}
+use Rattle.std.proofs.Common.{◌≡◌, ◌≢◌, ◌∙◌, ◌+◌, ◌<◌, ◌≤◌, ℕ, suc, List, [], ◌∷◌, ◌++◌, Ok, Err, Result, add-one, append_assoc, drop, drop-cons, get_or, inl, inr, length, Option, sym, ap, refl, subst}
 use Rattle.std.specs.Prelude.{◌⊎◌}
 use Rattle.std.proofs.lemmas.List.{drop_all}
 use Rattle.lane_words.specs.declared.Refusal.{Refusal}
@@ -18,18 +18,18 @@ not_final : (answer : Result (Unit {0}) Refusal) (text : Result (List ℕ) Refus
 not_final (Err r.GenerationsOver) text h = absurd (h refl)
 not_final answer text h = refl
 
-pub text_of_lines-nil : (topics : List Topic) (batch : ℕ) (w : WorldState) → text_of_lines topics batch w [] ≡ Ok (closing_rows topics w.cluster)
+pub text_of_lines-nil : (topics : List Topic) (top : Option ℕ) (batch : ℕ) (w : WorldState) → text_of_lines topics top batch w [] ≡ Ok (closing_rows topics top w.cluster)
 unfolding text_of_lines
-text_of_lines-nil topics batch w = refl
+text_of_lines-nil topics top batch w = refl
 
-pub text_of_lines-next : (topics : List Topic) (batch : ℕ) (w : WorldState) (line : Line) (lines : List Line) → (outcome_of_line batch w line).answer ≢ Err r.GenerationsOver
-    → text_of_lines topics batch w (line ∷ lines) ≡ text_before (rows_of_line topics line.number w (outcome_of_line batch w line)) (text_of_lines topics batch (outcome_of_line batch w line).after lines)
+pub text_of_lines-next : (topics : List Topic) (top : Option ℕ) (batch : ℕ) (w : WorldState) (line : Line) (lines : List Line) → (outcome_of_line batch w line).answer ≢ Err r.GenerationsOver
+    → text_of_lines topics top batch w (line ∷ lines) ≡ text_before (rows_of_line topics line.number w (outcome_of_line batch w line)) (text_of_lines topics top batch (outcome_of_line batch w line).after lines)
 unfolding text_of_lines
-text_of_lines-next topics batch w line lines h = not_final _ _ h
+text_of_lines-next topics top batch w line lines h = not_final _ _ h
 
-pub text_of_lines-over : (topics : List Topic) (batch : ℕ) (w : WorldState) (line : Line) (lines : List Line) → (outcome_of_line batch w line).answer ≡ Err r.GenerationsOver → text_of_lines topics batch w (line ∷ lines) ≡ Err r.GenerationsOver
+pub text_of_lines-over : (topics : List Topic) (top : Option ℕ) (batch : ℕ) (w : WorldState) (line : Line) (lines : List Line) → (outcome_of_line batch w line).answer ≡ Err r.GenerationsOver → text_of_lines topics top batch w (line ∷ lines) ≡ Err r.GenerationsOver
 unfolding text_of_lines
-text_of_lines-over topics batch w line lines h = rw h refl
+text_of_lines-over topics top batch w line lines h = rw h refl
 
 pub text_before-both : (a b : List ℕ) (text : Result (List ℕ) Refusal) → text_before a (text_before b text) ≡ text_before (a ++ b) text
 text_before-both a b (Ok rest) = ap Ok (sym (append_assoc a b rest))
@@ -58,24 +58,24 @@ rows_written topics Written text rows line from w w2 s outcome answer answer_is 
 next_line : (lines : List Line) (i : ℕ) (line : Line) → i < length lines → line ≡ get_or lines i line → drop i lines ≡ line ∷ drop (i + 1) lines
 next_line lines i line lt is = drop-cons lines i line lt ∙ ap (λ x. x ∷ drop (suc i) lines) (sym is) ∙ rw add-one refl
 
-pub lines_step : (topics : List Topic) (batch : ℕ) (w w2 : WorldState) (lines : List Line) (i : ℕ) (line : Line) → i < length lines → line ≡ get_or lines i line → (outcome_of_line batch w line).answer ≢ Err r.GenerationsOver
+pub lines_step : (topics : List Topic) (top : Option ℕ) (batch : ℕ) (w w2 : WorldState) (lines : List Line) (i : ℕ) (line : Line) → i < length lines → line ≡ get_or lines i line → (outcome_of_line batch w line).answer ≢ Err r.GenerationsOver
     → w2 ≡ (outcome_of_line batch w line).after
-    → text_of_lines topics batch w (drop i lines) ≡ text_before (rows_of_line topics line.number w (outcome_of_line batch w line)) (text_of_lines topics batch w2 (drop (i + 1) lines))
-lines_step topics batch w w2 lines i line lt is goes after =
-    ap (text_of_lines topics batch w) (next_line lines i line lt is) ∙ text_of_lines-next topics batch w line (drop (i + 1) lines) goes
-    ∙ ap (λ x. text_before (rows_of_line topics line.number w (outcome_of_line batch w line)) (text_of_lines topics batch x (drop (i + 1) lines))) (sym after)
+    → text_of_lines topics top batch w (drop i lines) ≡ text_before (rows_of_line topics line.number w (outcome_of_line batch w line)) (text_of_lines topics top batch w2 (drop (i + 1) lines))
+lines_step topics top batch w w2 lines i line lt is goes after =
+    ap (text_of_lines topics top batch w) (next_line lines i line lt is) ∙ text_of_lines-next topics top batch w line (drop (i + 1) lines) goes
+    ∙ ap (λ x. text_before (rows_of_line topics line.number w (outcome_of_line batch w line)) (text_of_lines topics top batch x (drop (i + 1) lines))) (sym after)
 
 pub text_step : (now rows : List ℕ) (left before after : Result (List ℕ) Refusal) → before ≡ text_before rows after → text_before now before ≡ left → text_before (now ++ rows) after ≡ left
 text_step now rows left before after step h = sym (text_before-both now rows after) ∙ ap (text_before now) (sym step) ∙ h
 
-pub lines_fault : (topics : List Topic) (batch : ℕ) (w : WorldState) (lines : List Line) (i : ℕ) (line : Line) (whole : Result (List ℕ) Refusal) (e : Refusal) → i < length lines → line ≡ get_or lines i line
-    → ((x : Refusal) → text_of_lines topics batch w (drop i lines) ≡ Err x → whole ≡ Err x) → IsLineFault (outcome_of_line batch w line).answer e → (e ≡ r.Memory) ⊎ (whole ≡ Err e)
-lines_fault topics batch w lines i line whole e lt is reported (inl m) = inl m
-lines_fault topics batch w lines i line whole e lt is reported (inr over) =
-    inr (reported e (ap (text_of_lines topics batch w) (next_line lines i line lt is) ∙ text_of_lines-over topics batch w line (drop (i + 1) lines) over.1 ∙ ap Err (sym over.0)))
+pub lines_fault : (topics : List Topic) (top : Option ℕ) (batch : ℕ) (w : WorldState) (lines : List Line) (i : ℕ) (line : Line) (whole : Result (List ℕ) Refusal) (e : Refusal) → i < length lines → line ≡ get_or lines i line
+    → ((x : Refusal) → text_of_lines topics top batch w (drop i lines) ≡ Err x → whole ≡ Err x) → IsLineFault (outcome_of_line batch w line).answer e → (e ≡ r.Memory) ⊎ (whole ≡ Err e)
+lines_fault topics top batch w lines i line whole e lt is reported (inl m) = inl m
+lines_fault topics top batch w lines i line whole e lt is reported (inr over) =
+    inr (reported e (ap (text_of_lines topics top batch w) (next_line lines i line lt is) ∙ text_of_lines-over topics top batch w line (drop (i + 1) lines) over.1 ∙ ap Err (sym over.0)))
 
-pub lines_end : (topics : List Topic) (batch : ℕ) (w : WorldState) (s : ClusterState) (lines : List Line) (i : ℕ) (now text : List ℕ) (whole : Result (List ℕ) Refusal) (Written : List ℕ → Type 0) → length lines ≤ i → s ≡ w.cluster
-    → text_before now (text_of_lines topics batch w (drop i lines)) ≡ text_before text whole → Written (now ++ closing_rows topics s) → WritesText whole text Written
-lines_end topics batch w s lines i now text whole Written h s_is e done =
-    let last : text_of_lines topics batch w (drop i lines) ≡ Ok (closing_rows topics s) = ap (text_of_lines topics batch w) (drop_all i lines h) ∙ text_of_lines-nil topics batch w ∙ ap (λ (x : ClusterState). Ok (closing_rows topics x)) (sym s_is) in
-    written Written text now (closing_rows topics s) whole (ap (text_before now) (sym last) ∙ e) done
+pub lines_end : (topics : List Topic) (top : Option ℕ) (batch : ℕ) (w : WorldState) (s : ClusterState) (lines : List Line) (i : ℕ) (now text : List ℕ) (whole : Result (List ℕ) Refusal) (Written : List ℕ → Type 0) → length lines ≤ i → s ≡ w.cluster
+    → text_before now (text_of_lines topics top batch w (drop i lines)) ≡ text_before text whole → Written (now ++ closing_rows topics top s) → WritesText whole text Written
+lines_end topics top batch w s lines i now text whole Written h s_is e done =
+    let last : text_of_lines topics top batch w (drop i lines) ≡ Ok (closing_rows topics top s) = ap (text_of_lines topics top batch w) (drop_all i lines h) ∙ text_of_lines-nil topics top batch w ∙ ap (λ (x : ClusterState). Ok (closing_rows topics top x)) (sym s_is) in
+    written Written text now (closing_rows topics top s) whole (ap (text_before now) (sym last) ∙ e) done

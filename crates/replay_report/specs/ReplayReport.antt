@@ -1,5 +1,5 @@
 -- The report of a replay: a text, or a fault.
-use Rattle.std.specs.Prelude.{ℕ, List, [], ◌∷◌, ◌++◌, length, drop, replicate, fold, Result, Ok, Err}
+use Rattle.std.specs.Prelude.{ℕ, List, [], ◌∷◌, ◌++◌, length, drop, replicate, fold, Option, Result, Ok, Err}
 use Rattle.std.specs.List.{sum}
 use Rattle.std.specs.Option.{option_map_or}
 use Rattle.lane_words.specs.Refusal.{code_of}
@@ -59,21 +59,21 @@ text_before text (Ok rest) = Ok (text ++ rest)
 text_before text (Err fault) = Err fault
 
 -- the rows of the lines in order, and then the closing rows; or the fault that ends the replay
-unfoldable pub text_of_lines : List Topic → ℕ → WorldState → List Line
+unfoldable pub text_of_lines : List Topic → Option ℕ → ℕ → WorldState → List Line
     → Result (List ℕ) Refusal
-text_of_lines topics batch w [] = Ok (closing_rows topics w.cluster)
-text_of_lines topics batch w (line ∷ lines) =
+text_of_lines topics top batch w [] = Ok (closing_rows topics top w.cluster)
+text_of_lines topics top batch w (line ∷ lines) =
     let outcome : LineOutcome = outcome_of_line batch w line in
     unless_over outcome.answer
     (text_before (rows_of_line topics line.number w outcome)
-    (text_of_lines topics batch outcome.after lines))
+    (text_of_lines topics top batch outcome.after lines))
 
 -- ---- the report what a replay of lines over records writes, or its fault: the first record that
 -- can't be appended, and only then a line that would pass the last generation
 unfoldable pub report_of_lines : Options → List Keyed → List Line → Result (List ℕ) Refusal
 report_of_lines options records lines =
     option_map_or Err (first_fault (partition_counts options) [] records)
-    (text_of_lines options.topics.items options.batch
+    (text_of_lines options.topics.items options.top options.batch
     (loaded (opening_world (partition_counts options)) records) lines)
 
 -- what a replay of a script over a file writes, or its fault: the first bad record, then the first

@@ -16,7 +16,7 @@ use byte_io::{Sink, Source, read_all, write_all};
 use command_line::Options;
 use ingest::{FileRecords, file_records};
 use lane_words::Refusal;
-use lines::text_of_lines;
+use lines::{Reporting, text_of_lines};
 pub use loading::world_of;
 use script::{Line, Topic, read_replay, read_replay_topics};
 use std::alloc::Global;
@@ -75,8 +75,12 @@ fn report_of_lines<R: Threads + Sync + RandomSource>(
     ensures kind { IfErr result IsNoDeviceFault }
 {
     let mut world = world_of(rt, alloc, records, options)?;
-    let topics = options.topics.as_slice();
-    text_of_lines(alloc, topics, &mut world, lines, options.batch)
+    let reporting = Reporting {
+        topics: options.topics.as_slice(),
+        top: options.top,
+        batch: options.batch,
+    };
+    text_of_lines(alloc, reporting, &mut world, lines)
 }
 
 /// The text of a replay of a script over a file.
@@ -105,7 +109,8 @@ fn devices_report<R: Threads + Sync + RandomSource, S: Source, T: Source>(
 
 /// Replays a script over the keys of a CSV file, and writes a row for each partition that a line
 /// moves and for each line that is refused, and then the closing rows. With topics, the script and
-/// the rows name a partition by its topic and its number there.
+/// the rows name a partition by its topic and its number there. With `top`, only so many keys have
+/// count rows: those with the most committed records.
 ///
 /// The whole file is read and parsed before the script is, and the whole text is made before the
 /// first write. So after `WriteFailed` a prefix of the text is written, and after any other refusal

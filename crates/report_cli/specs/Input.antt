@@ -1,12 +1,19 @@
--- Jobs that would read standard input twice.
-use Rattle.std.specs.Prelude.{◌≡◌, codes}
+-- Jobs that would read standard input twice, or ask for two tables.
+use Rattle.std.specs.Prelude.{◌≡◌, true, IsSome, codes}
 use Rattle.command_line.specs.declared.words.Job.{Job}
-use Rattle.command_line.specs.declared.words.Job.TheVariants.{Count, Replay, Trace, Draw, Run}
+use Rattle.command_line.specs.declared.words.Job.TheVariants.{Count, Place, Replay, Trace, Draw, Run, Explain}
 
 -- both files of a job are standard input, whose path is `-`
 abbrev pub ReadsInputTwice : Job → Type 0
 ReadsInputTwice (Count file options) = ⊥
+ReadsInputTwice (Place file options place) = ⊥
 ReadsInputTwice (Replay file script options) = (file.now ≡ codes "-") × (script.now ≡ codes "-")
 ReadsInputTwice (Trace file script options) = (file.now ≡ codes "-") × (script.now ≡ codes "-")
 ReadsInputTwice (Draw file script options) = (file.now ≡ codes "-") × (script.now ≡ codes "-")
 ReadsInputTwice (Run file script options) = (file.now ≡ codes "-") × (script.now ≡ codes "-")
+ReadsInputTwice (Explain code) = ⊥
+
+-- the job is a place with both `--keys` and `--given`
+abbrev pub AsksForTwoTables : Job → Type 0
+AsksForTwoTables (Place file options place) = (place.keys ≡ true) × IsSome place.given
+AsksForTwoTables job = ⊥

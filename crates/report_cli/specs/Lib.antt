@@ -1,6 +1,8 @@
+pub mod Explain
 pub mod Faults
 pub mod Input
 pub use Rattle.command_line.specs.CommandLine
+pub use Rattle.command_line.specs.Explanations
 pub use Rattle.command_line.specs.Options
 pub use Rattle.command_line.specs.Topics
 pub use Rattle.count_report.specs.CountReport
@@ -10,6 +12,9 @@ pub use Rattle.ingest.specs.RecordFaults
 pub use Rattle.ingest.specs.Records
 pub use Rattle.ingest.specs.Reports
 pub use Rattle.csv_ingest.specs.KeyFile
+pub use Rattle.place_report.specs.Given
+pub use Rattle.place_report.specs.PlaceReport
+pub use Rattle.place_report.specs.PlaceRows
 pub use Rattle.replay_report.specs.ReplayReport
 pub use Rattle.report_rows.specs.CountRows
 pub use Rattle.report_rows.specs.ReplayRows

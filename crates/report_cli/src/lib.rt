@@ -2,21 +2,26 @@
 //! Promises:
 //! - `fault_line` writes the line of a fault and `status` returns its exit status; neither
 //!   allocates.
-//! - `reads_input_twice` says whether both files of a job are standard input.
+//! - `explain_text` writes what a refusal means, or a line for each.
+//! - `reads_input_twice` says whether both files of a job are standard input, and
+//!   `asks_for_two_tables` whether a place has options that exclude each other.
 //! - The other calls are those of `command_line`, `byte_io` and the reports.
 //!
 //! Tests: `report_tests`, and the program's black-box tests.
 #![tactic(auto)]
 
+mod explain;
 mod faults;
 mod input;
 
 pub use byte_io::{DeviceFailed, FromRead, FromWrite, Sink, Source};
-pub use command_line::{Job, Options, Usage, read_words};
+pub use command_line::{Job, Options, PlaceOptions, Usage, read_words, refusal_with_code};
 pub use count_report::count_text;
 pub use draw_report::draw_text;
+pub use explain::explain_text;
 pub use faults::{fault_line, status};
-pub use input::reads_input_twice;
+pub use input::{asks_for_two_tables, reads_input_twice};
+pub use place_report::place_text;
 pub use replay_report::replay_text;
 pub use run_report::run_text;
 pub use trace_report::trace_text;

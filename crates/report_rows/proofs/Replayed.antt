@@ -10,10 +10,10 @@ use Rattle.group_machine.specs.declared.group.Move.{Move}
 use Rattle.group_machine.specs.State.{GroupState, owner_of}
 use Rattle.group_machine.specs.Cluster.{ClusterState, IsValidCluster}
 use Rattle.csv.specs.Writing.{row_text}
-use Rattle.report_rows.specs.CountRows.{count_row}
+use Rattle.report_rows.specs.CountRows.{count_row, counted_row}
 use Rattle.report_rows.specs.Rows.{row_writer}
 use Rattle.partitioner.specs.declared.topic.Topic.{Topic}
-use Rattle.report_rows.specs.ReplayRows.{committed_count_rows, counted_row, end_of, move_row, move_rows, name_or_empty, offset_row, owner_row, partition_fields, rows_below}
+use Rattle.report_rows.specs.ReplayRows.{committed_count_rows, end_of, move_row, move_rows, name_or_empty, offset_row, owner_row, partition_fields, rows_below}
 
 -- ---- the topic of a partition
 fields-first : (topics : List Topic) (i p : ℕ) (topic : Topic) → i < length topics → topic ≡ get_or topics i topic

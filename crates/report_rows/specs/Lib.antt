@@ -1,3 +1,4 @@
 pub mod CountRows
+pub mod Private
 pub mod ReplayRows
 pub mod Rows

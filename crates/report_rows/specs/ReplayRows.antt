@@ -1,5 +1,5 @@
 -- The rows of a replay and of a run.
-use Rattle.std.specs.Prelude.{ℕ, zero, suc, ◌-◌, ◌==◌, nat_lt, List, [], ◌∷◌, ◌++◌, Option, Some, None, codes, decimal, length, unwrap_or, if◌then◌else◌}
+use Rattle.std.specs.Prelude.{ℕ, zero, suc, ◌-◌, nat_lt, List, [], ◌∷◌, ◌++◌, Option, Some, None, codes, decimal, length, unwrap_or, if◌then◌else◌}
 use Rattle.csv.specs.Writing.{row_text}
 use Rattle.lane_words.specs.Sums.{sum_below}
 use Rattle.partition_log.specs.Logs.{PartitionLogs, log_at}
@@ -9,7 +9,7 @@ use Rattle.group_machine.specs.State.{GroupState, name_of, owner_of}
 use Rattle.group_machine.specs.Cluster.{ClusterState}
 use Rattle.partitioner.specs.declared.topic.Topic.{Topic}
 use Rattle.report_rows.specs.Rows.{row_writer, total_row}
-use Rattle.report_rows.specs.CountRows.{count_row}
+use Rattle.report_rows.specs.CountRows.{counted_row, top_rows}
 
 -- the name of a member, or nothing if there is none
 abbrev pub name_or_empty : GroupState → Option ℕ → List ℕ
@@ -72,16 +72,17 @@ offset_rows topics s =
     rows_below s.group.partitions
     (λ p. offset_row topics p (committed_at s.store p) (end_of s.logs p))
 
--- the row of a key, or nothing if its count is 0
-abbrev pub counted_row : List ℕ → ℕ → List ℕ
-counted_row key n = if n == 0 then [] else count_row key n
-
 -- the rows of the keys with a count above 0, in the order of the keys
 unfoldable pub committed_count_rows : List (List ℕ) → List ℕ → List ℕ
 committed_count_rows [] counts = []
 committed_count_rows (key ∷ keys) [] = []
 committed_count_rows (key ∷ keys) (n ∷ counts) =
     counted_row key n ++ committed_count_rows keys counts
+
+-- the rows of all keys with a count above 0, or of those of the top
+abbrev pub listed_committed_rows : Option ℕ → List (List ℕ) → List ℕ → List ℕ
+listed_committed_rows None keys counts = committed_count_rows keys counts
+listed_committed_rows (Some most) keys counts = top_rows most keys counts
 
 -- the number of records committed: the sum of the committed offsets
 abbrev pub committed_total : ClusterState → ℕ
@@ -92,9 +93,9 @@ abbrev pub appended_total : ClusterState → ℕ
 appended_total s = sum_below s.group.partitions (end_of s.logs)
 
 -- the rows after the last line of a script or of a plan: the owner of each partition, its offsets,
--- the counts of the committed records by key, and the totals
-abbrev pub closing_rows : List Topic → ClusterState → List ℕ
-closing_rows topics s =
+-- the counts of the committed records by key or those of the top, and the totals
+abbrev pub closing_rows : List Topic → Option ℕ → ClusterState → List ℕ
+closing_rows topics top s =
     owner_rows topics s.group ++ offset_rows topics s
-    ++ committed_count_rows s.logs.keys s.store.counts
+    ++ listed_committed_rows top s.logs.keys s.store.counts
     ++ total_row (committed_total s) (appended_total s)

@@ -1,5 +1,5 @@
-//! Rows as text: the CSV writer that every report uses, the rows of a count, and those of a replay
-//! and of a run. Promises:
+//! Rows as text: the CSV writer that every report uses, the rows of a count, of all keys or of the
+//! top, and those of a replay and of a run. Promises:
 //! - Each call appends exactly its rows to what the writer has written before.
 //! - Without topics a row names a partition by its number, and with topics by the name of its topic
 //!   and its number there.
@@ -11,3 +11,4 @@
 pub mod count_rows;
 pub mod replay_rows;
 pub mod rows;
+pub mod top_rows;

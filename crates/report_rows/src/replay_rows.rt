@@ -3,15 +3,16 @@
 ghost use Rattle.std.specs.Prelude.{◌≡◌, ◌<◌, ◌∷◌, [], IfNone, IfSome, OnOk, decimal, drop, length};
 ghost use Rattle.lane_words.specs.Refusal.{code_of};
 ghost use Rattle.report_rows.specs.Rows.{AddsRows};
-ghost use Rattle.report_rows.specs.ReplayRows.{appended_total, closing_rows, committed_count_rows, committed_total, counted_row, move_row, move_rows, name_or_empty, offset_row, offset_rows, owner_row, owner_rows, partition_fields, refused_row};
+ghost use Rattle.report_rows.specs.ReplayRows.{appended_total, closing_rows, committed_count_rows, committed_total, listed_committed_rows, move_row, move_rows, name_or_empty, offset_row, offset_rows, owner_row, owner_rows, partition_fields, refused_row};
 
-use crate::{count_rows, rows};
+use crate::{rows, top_rows};
 use csv::Writer;
 use group_machine::{Cluster, Move};
 use itoa::Buffer;
 use lane_words::{Memory, Refusal};
 use partition_log::LogRead;
 use partitioner::Topic;
+use std::alloc::Global;
 
 /// The name of a member, or nothing if there is none.
 fn name_or_empty(cluster: &Cluster, member: Option<u32>) -> &[u8]
@@ -174,16 +175,6 @@ fn write_offsets(
     Ok(())
 }
 
-/// Writes the row of a key with its count, or nothing if the count is 0.
-fn write_counted(writer: &mut Writer<Vec<u8>>, key: &[u8], count: u64) -> Result<(), Memory>
-    ensures { OnOk result (AddsRows writer.old writer.new (counted_row key.now count)) }
-{
-    if count == 0 {
-        return Ok(());
-    }
-    count_rows::write_count(writer, key, count)
-}
-
 /// Writes the rows of the keys with a count above 0, in the order of the keys.
 fn write_committed_counts<L: LogRead>(
     writer: &mut Writer<Vec<u8>>,
@@ -195,9 +186,27 @@ fn write_committed_counts<L: LogRead>(
         (committed_count_rows (L.contents logs.now).keys counts.now)) }
 {
     for id in 0..logs.keys() {
-        write_counted(writer, logs.key(id), counts[id as usize])?;
+        top_rows::write_counted(writer, logs.key(id), counts[id as usize])?;
     }
     Ok(())
+}
+
+/// Writes the rows of all keys with a count above 0, or of those of the top.
+fn write_listed_counts<L: LogRead>(
+    writer: &mut Writer<Vec<u8>>,
+    alloc: Global,
+    logs: &L,
+    counts: &[u64],
+    top: Option<u32>,
+) -> Result<(), Memory>
+    requires { length (L.contents logs.now).keys ≡ length counts.now }
+    ensures { OnOk result (AddsRows writer.old writer.new
+        (listed_committed_rows top (L.contents logs.now).keys counts.now)) }
+{
+    match top {
+        Some(most) => top_rows::write_top(writer, alloc, logs, counts, most),
+        None => write_committed_counts(writer, logs, counts),
+    }
 }
 
 /// The number of records committed: the sum of the committed offsets.
@@ -225,16 +234,21 @@ pub fn appended_total(cluster: &Cluster) -> u64
 }
 
 /// Writes the rows after the last line of a script or of a plan. With topics, a partition is named
-/// by its topic and its number there.
+/// by its topic and its number there. With `top`, only so many keys with the highest counts have
+/// rows.
 pub fn write_closing(
     writer: &mut Writer<Vec<u8>>,
+    alloc: Global,
     topics: &[Topic],
+    top: Option<u32>,
     cluster: &Cluster,
 ) -> Result<(), Memory>
-    ensures { OnOk result (AddsRows writer.old writer.new (closing_rows topics.now cluster.now)) }
+    ensures { OnOk result
+        (AddsRows writer.old writer.new (closing_rows topics.now top cluster.now)) }
 {
     write_owners(writer, topics, cluster)?;
     write_offsets(writer, topics, cluster)?;
-    write_committed_counts(writer, cluster.logs(), cluster.store().counts())?;
+    let counts = cluster.store().counts();
+    write_listed_counts(writer, alloc, cluster.logs(), counts, top)?;
     rows::write_total(writer, committed_total(cluster), appended_total(cluster))
 }

@@ -32,6 +32,8 @@ enum Step<'a> {
     Moves(usize, &'a [u8]),
     /// The closing rows.
     Closing(&'a [u8]),
+    /// The closing rows, if at most so many keys are listed.
+    Top(u32, &'a [u8]),
 }
 
 /// Whether a member joins under this name and gets this number.
@@ -54,7 +56,8 @@ fn succeeds(
         Step::Lose(member) => cluster.lose(*member) == Ok(()),
         Step::Commit(partition, ids) => commit(alloc, cluster, *partition, ids)?,
         Step::Moves(from, wanted) => has_moves(alloc, topics, cluster, *from, wanted)?,
-        Step::Closing(wanted) => has_closing(alloc, topics, cluster, wanted)?,
+        Step::Closing(wanted) => has_closing(alloc, topics, None, cluster, wanted)?,
+        Step::Top(most, wanted) => has_closing(alloc, topics, Some(*most), cluster, wanted)?,
     };
     Ok(succeeds)
 }
@@ -97,11 +100,12 @@ fn has_moves(
 fn has_closing(
     alloc: Global,
     topics: &[Topic],
+    top: Option<u32>,
     cluster: &Cluster,
     wanted: &[u8],
 ) -> Result<bool, Memory> {
     let mut writer = rows::new_writer(alloc);
-    write_closing(&mut writer, topics, cluster)?;
+    write_closing(&mut writer, alloc, topics, top, cluster)?;
     has_text(writer, wanted)
 }
 
@@ -184,12 +188,16 @@ fn a_move_names_the_last_holder(rt: HostRuntime) {
     assert_eq!(rt; other, Ok(None));
 }
 
+const TOP_CLOSING: &[u8] = b"owner,0,A\nowner,1,A\nowner,2,A\nowner,3,A\n\
+    offset,0,2,2\noffset,1,0,1\noffset,2,0,1\noffset,3,1,1\n\
+    count,21,2\ntotal,3,5\n";
+
 const COUNTED_CLOSING: &[u8] = b"owner,0,A\nowner,1,A\nowner,2,A\nowner,3,A\n\
     offset,0,2,2\noffset,1,0,1\noffset,2,0,1\noffset,3,1,1\n\
     count,21,2\ncount,abc,1\ntotal,3,5\n";
 
 /// A member commits three of the five records.
-const THREE_COMMITTED: [Step; 9] = [
+const THREE_COMMITTED: [Step; 11] = [
     Step::Append(b"21"),
     Step::Append(b"4"),
     Step::Append(b"foobar"),
@@ -199,6 +207,8 @@ const THREE_COMMITTED: [Step; 9] = [
     Step::Commit(0, &[0, 0]),
     Step::Commit(3, &[3]),
     Step::Closing(COUNTED_CLOSING),
+    Step::Top(1, TOP_CLOSING),
+    Step::Top(3, COUNTED_CLOSING),
 ];
 
 #[test]

@@ -7,7 +7,7 @@ use crate::slow::{Drip, Page};
 use crate::two_topics::options_of_two;
 use crate::{FILE, TOPIC_FILE, options};
 use byte_io::{FromRead, FromWrite};
-use command_line::Options;
+use command_line::{Column, Options};
 use count_report::count_text;
 use itoa::Buffer;
 use lane_words::{MOST_PARTITIONS, Memory, Refusal};
@@ -85,6 +85,113 @@ fn a_file_of_two_topics_is_counted(rt: HostRuntime) {
     ];
     for (file, wanted, answer) in rows {
         let counted = counted_in_topics(&rt, rt.alloc(), file, wanted);
+        assert_eq!(rt; counted, Ok((answer, true)));
+    }
+}
+
+/// The answer of a count of which at most so many keys are listed, and whether it has written this
+/// text.
+fn counted_to_top<R: Threads + Sync + RandomSource>(
+    rt: &R,
+    alloc: Global,
+    file: &[u8],
+    most: u32,
+    wanted: &[u8],
+) -> (Result<(), Refusal>, bool)
+    requires { 1 ≤ most }
+{
+    let mut options = options(alloc, 4);
+    options.top = Some(most);
+    let mut text = Vec::new(alloc);
+    let answer = counted(rt, alloc, file, &options, &mut text);
+    (answer, text.as_slice() == wanted)
+}
+
+#[test]
+fn of_equal_counts_the_first_key_is_listed_first(rt: HostRuntime) {
+    const TIES: &[u8] = b"c\nb\na\na\nb\nd\n";
+    const ALL: &[u8] = b"count,b,2\ncount,a,2\ncount,c,1\ncount,d,1\ntotal,6,6\n";
+    let rows: [(&[u8], u32, &[u8]); 5] = [
+        (TIES, 1, b"count,b,2\ntotal,6,6\n"),
+        (TIES, 3, b"count,b,2\ncount,a,2\ncount,c,1\ntotal,6,6\n"),
+        (TIES, 4, ALL),
+        (TIES, u32::MAX, ALL),
+        (b"", 1, b"total,0,0\n"),
+    ];
+    for (file, most, wanted) in rows {
+        let counted = counted_to_top(&rt, rt.alloc(), file, most, wanted);
+        assert_eq!(rt; counted, (Ok(()), true));
+    }
+}
+
+/// The answer of a count of the column with this name, and whether it has written this text.
+fn counted_by_name<R: Threads + Sync + RandomSource>(
+    rt: &R,
+    alloc: Global,
+    file: &[u8],
+    name: &[u8],
+    wanted: &[u8],
+) -> Result<(Result<(), Refusal>, bool), Memory> {
+    let mut options = options(alloc, 4);
+    options.header = true;
+    options.column = Column::Named(Vec::from_slice(alloc, name)?);
+    let mut text = Vec::new(alloc);
+    let answer = counted(rt, alloc, file, &options, &mut text);
+    Ok((answer, text.as_slice() == wanted))
+}
+
+#[test]
+fn a_name_is_looked_up_in_the_header(rt: HostRuntime) {
+    const FILE: &[u8] = b"\xef\xbb\xbf\r\nid,\"a \"\"b\"\"\",id,\r\n1,x,2,\r\n1,y,3,z\r\n";
+    let lacks = Err(Refusal::NoSuchColumn { nth: 1 });
+    let rows: [(&[u8], &[u8], &[u8], Result<(), Refusal>); 9] = [
+        (FILE, b"id", b"count,1,2\ntotal,2,2\n", Ok(())),
+        (
+            FILE,
+            b"a \"b\"",
+            b"count,x,1\ncount,y,1\ntotal,2,2\n",
+            Ok(()),
+        ),
+        (FILE, b"", b"count,,1\ncount,z,1\ntotal,2,2\n", Ok(())),
+        (FILE, b"ID", b"", lacks),
+        (FILE, b"1", b"", lacks),
+        (b"a,b\n1\n", b"c", b"", lacks),
+        (b"a,b\n1\n", b"b", b"", Err(Refusal::BadCsv { nth: 2 })),
+        (b"h\n", b"h", b"total,0,0\n", Ok(())),
+        (b"\n\n", b"h", b"total,0,0\n", Ok(())),
+    ];
+    for (file, name, wanted, answer) in rows {
+        let counted = counted_by_name(&rt, rt.alloc(), file, name, wanted);
+        assert_eq!(rt; counted, Ok((answer, true)));
+    }
+}
+
+/// The same of the two topics, whose column has this name.
+fn counted_by_topic_name<R: Threads + Sync + RandomSource + Abort>(
+    rt: &R,
+    alloc: Global,
+    file: &[u8],
+    name: &[u8],
+    wanted: &[u8],
+) -> Result<(Result<(), Refusal>, bool), Memory> {
+    let mut options = options_of_two(rt, alloc)?;
+    options.header = true;
+    options.topic_column = Column::Named(Vec::from_slice(alloc, name)?);
+    let mut text = Vec::new(alloc);
+    let answer = counted(rt, alloc, file, &options, &mut text);
+    Ok((answer, text.as_slice() == wanted))
+}
+
+#[test]
+fn the_topic_has_a_column_with_a_name(rt: HostRuntime) {
+    const FILE: &[u8] = b"key,x,topic\n21,c,a\n4,c,b\n";
+    let rows: [(&[u8], &[u8], Result<(), Refusal>); 3] = [
+        (b"topic", b"count,21,1\ncount,4,1\ntotal,2,2\n", Ok(())),
+        (b"x", b"", Err(Refusal::NoSuchTopic { nth: 2 })),
+        (b"y", b"", Err(Refusal::NoSuchColumn { nth: 1 })),
+    ];
+    for (name, wanted, answer) in rows {
+        let counted = counted_by_topic_name(&rt, rt.alloc(), FILE, name, wanted);
         assert_eq!(rt; counted, Ok((answer, true)));
     }
 }

@@ -14,9 +14,13 @@ mod counts;
 #[cfg(test)]
 mod device_calls;
 #[cfg(test)]
+mod explanations;
+#[cfg(test)]
 mod faults;
 #[cfg(test)]
 mod pictures;
+#[cfg(test)]
+mod places;
 #[cfg(test)]
 mod replays;
 #[cfg(test)]
@@ -32,7 +36,7 @@ mod two_topics;
 #[cfg(test)]
 mod words;
 
-use command_line::Options;
+use command_line::{Column, Options};
 use lane_words::MOST_PARTITIONS;
 use std::alloc::Global;
 
@@ -50,10 +54,11 @@ pub fn options(alloc: Global, partitions: u32) -> Options
 {
     Options {
         partitions,
-        column: 1,
+        column: Column::Number(1),
         header: false,
         batch: 500,
         topics: Vec::new(alloc),
-        topic_column: 2,
+        topic_column: Column::Number(2),
+        top: None,
     }
 }

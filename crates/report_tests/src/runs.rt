@@ -7,7 +7,7 @@ ghost use Rattle.command_line.specs.declared.options.TheConstants.{MOST_BATCH};
 use crate::two_topics::options_of_two;
 use crate::{FILE, TOPIC_FILE};
 use byte_io::{FromRead, FromWrite};
-use command_line::Options;
+use command_line::{Column, Options};
 use lane_words::{Memory, Refusal};
 use run_report::run_text;
 use std::alloc::Global;
@@ -64,11 +64,12 @@ fn options_of_batch(alloc: Global, batch: u32) -> Options
 {
     Options {
         partitions: 4,
-        column: 1,
+        column: Column::Number(1),
         header: false,
         batch,
         topics: Vec::new(alloc),
-        topic_column: 2,
+        topic_column: Column::Number(2),
+        top: None,
     }
 }
 

@@ -1,8 +1,8 @@
 //! Command lines, and the jobs that they ask for.
 
 use command_line::{
-    AFTER_COUNT, AFTER_DRAW, AFTER_KEYCOUNT, AFTER_REPLAY, AFTER_RUN, AFTER_TRACE, Job, Options,
-    Usage, read_words,
+    AFTER_COUNT, AFTER_DRAW, AFTER_EXPLAIN, AFTER_KEYCOUNT, AFTER_PLACE, AFTER_REPLAY, AFTER_RUN,
+    AFTER_TRACE, Column, Job, Options, Usage, read_words,
 };
 use partitioner::Topic;
 use std::alloc::Global;
@@ -15,11 +15,19 @@ const PLAIN: Plain = (4, 1, false, 500);
 
 const FULL: Plain = (4096, 65535, true, 500);
 
+/// The number of a column; 0 if it has a name.
+fn number(column: &Column) -> u32 {
+    match column {
+        Column::Number(number) => *number,
+        Column::Named(_) => 0,
+    }
+}
+
 /// These values of options.
 fn plain(options: &Options) -> Plain {
     (
         options.partitions,
-        options.column,
+        number(&options.column),
         options.header,
         options.batch,
     )
@@ -35,6 +43,7 @@ type Row = (&'static [&'static str], Parsed<'static>);
 fn reported_of<'a>(job: &Job<'a>) -> (&'static str, Parsed<'a>) {
     match job {
         Job::Count { file, options } => ("count", (*file, "", plain(options))),
+        Job::Place { file, options, .. } => ("place", (*file, "", plain(options))),
         Job::Replay {
             file,
             script,
@@ -55,6 +64,7 @@ fn reported_of<'a>(job: &Job<'a>) -> (&'static str, Parsed<'a>) {
             script,
             options,
         } => ("run", (*file, *script, plain(options))),
+        Job::Explain { .. } => ("explain", ("", "", PLAIN)),
     }
 }
 
@@ -240,6 +250,58 @@ fn a_run_has_two_paths_and_a_batch(rt: HostRuntime) {
     assert_eq!(rt; first_other(rt.alloc(), "run", &RUNS), None);
 }
 
+/// Arguments of an explanation, with its code.
+const CODES: [(&[&str], Option<u32>); 5] = [
+    (&["explain"], None),
+    (&["explain", "1"], Some(1)),
+    (&["explain", "34"], Some(34)),
+    (&["explain", "--", "0090"], Some(90)),
+    (&["explain", "+7"], Some(7)),
+];
+
+/// Whether the arguments ask for an explanation of this code.
+fn asks_about(alloc: Global, words: &[&str], wanted: Option<u32>) -> bool {
+    let answer = read_words(alloc, words);
+    match &answer {
+        Ok(Job::Explain { code }) => *code == wanted,
+        _ => false,
+    }
+}
+
+#[test]
+fn an_explanation_has_a_code_or_none(rt: HostRuntime) {
+    for (i, (words, code)) in CODES.iter().enumerate() {
+        assert!(rt; asks_about(rt.alloc(), words, *code), "case {i}");
+    }
+}
+
+/// Arguments of a place, with whether it has a row for each key, and its given column.
+const PLACES: [(&[&str], bool, Option<u32>); 5] = [
+    (&["place", "f"], false, None),
+    (&["place", "--keys", "f", "--header"], true, None),
+    (&["place", "f", "--given", "0007"], false, Some(7)),
+    (&["place", "--given=65535", "--", "f"], false, Some(65535)),
+    (&["place", "--given", "1", "f", "--keys"], true, Some(1)),
+];
+
+/// Whether the arguments ask for this place of the file f.
+fn asks_where(alloc: Global, words: &[&str], keys: bool, given: Option<u32>) -> bool {
+    let answer = read_words(alloc, words);
+    match &answer {
+        Ok(Job::Place { file, place, .. }) => {
+            (*file, place.keys, place.given) == ("f", keys, given)
+        }
+        _ => false,
+    }
+}
+
+#[test]
+fn a_place_has_keys_or_a_given_column(rt: HostRuntime) {
+    for (i, (words, keys, given)) in PLACES.iter().enumerate() {
+        assert!(rt; asks_where(rt.alloc(), words, *keys, *given), "case {i}");
+    }
+}
+
 /// The topics of a list, each with its number of partitions.
 type Topics<'a> = &'a [(&'a str, u32)];
 
@@ -260,20 +322,32 @@ fn are_topics(topics: &[Topic], wanted: Topics) -> bool {
     true
 }
 
+/// The options of a job, if it has any.
+fn options_of<'a>(job: &'a Job<'_>) -> Option<&'a Options> {
+    match job {
+        Job::Count { options, .. }
+        | Job::Place { options, .. }
+        | Job::Replay { options, .. }
+        | Job::Trace { options, .. }
+        | Job::Draw { options, .. }
+        | Job::Run { options, .. } => Some(options),
+        Job::Explain { .. } => None,
+    }
+}
+
+/// Whether options have these topics and this topic column.
+fn have_topics(options: &Options, topics: Topics, column: u32) -> bool {
+    are_topics(options.topics.as_slice(), topics) && number(&options.topic_column) == column
+}
+
 /// Whether the answer has these topics and this topic column, or, if there are none, is the error
 /// of an invalid list.
 fn has_topics(answer: &Result<Job, Usage>, wanted: Option<Topics>, column: u32) -> bool {
     match (answer, wanted) {
-        (
-            Ok(
-                Job::Count { options, .. }
-                | Job::Replay { options, .. }
-                | Job::Trace { options, .. }
-                | Job::Draw { options, .. }
-                | Job::Run { options, .. },
-            ),
-            Some(topics),
-        ) => are_topics(options.topics.as_slice(), topics) && options.topic_column == column,
+        (Ok(job), Some(topics)) => match options_of(job) {
+            Some(options) => have_topics(options, topics, column),
+            None => false,
+        },
         (Err(Usage::Bad(text)), None) => text.as_str() == "bad topics\n",
         _ => false,
     }
@@ -367,8 +441,88 @@ fn each_subcommand_has_topics(rt: HostRuntime) {
     }
 }
 
+/// The name of the key's column and of the topic's, if they have one, and the top.
+type Chosen = (Option<&'static str>, Option<&'static str>, Option<u32>);
+
+/// Whether a column has this name; without one, whether it has a number.
+fn is_named(column: &Column, name: Option<&str>) -> bool {
+    match (column, name) {
+        (Column::Named(text), Some(name)) => text.as_slice() == name.as_bytes(),
+        (Column::Number(_), None) => true,
+        _ => false,
+    }
+}
+
+/// Whether options have these columns and this top.
+fn have_chosen(options: &Options, chosen: Chosen) -> bool {
+    is_named(&options.column, chosen.0)
+        && is_named(&options.topic_column, chosen.1)
+        && options.top == chosen.2
+}
+
+/// Whether the arguments ask for a job with these columns and this top.
+fn are_chosen(alloc: Global, words: &[&str], chosen: Chosen) -> bool {
+    let answer = read_words(alloc, words);
+    match &answer {
+        Ok(job) => match options_of(job) {
+            Some(options) => have_chosen(options, chosen),
+            None => false,
+        },
+        Err(_) => false,
+    }
+}
+
+/// Arguments, with the names of their columns and their top.
+const CHOICES: [(&[&str], Chosen); 10] = [
+    (&["count", "f"], (None, None, None)),
+    (&["count", "f", "--top", "3"], (None, None, Some(3))),
+    (
+        &["count", "--top=4294967295", "f", "--header"],
+        (None, None, Some(u32::MAX)),
+    ),
+    (&["replay", "f", "s", "--top=1"], (None, None, Some(1))),
+    (
+        &["run", "--top", "02", "f", "p", "--batch=1"],
+        (None, None, Some(2)),
+    ),
+    (
+        &["count", "f", "--header", "--column", "user id"],
+        (Some("user id"), None, None),
+    ),
+    (
+        &[
+            "trace",
+            "f",
+            "s",
+            "--column=k",
+            "--topic-column=t",
+            "--header",
+        ],
+        (Some("k"), Some("t"), None),
+    ),
+    (
+        &["draw", "f", "s", "--header", "--column", ""],
+        (Some(""), None, None),
+    ),
+    (
+        &["run", "f", "p", "--column=+5", "--header"],
+        (Some("+5"), None, None),
+    ),
+    (
+        &["count", "f", "--header", "--column=007"],
+        (None, None, None),
+    ),
+];
+
+#[test]
+fn columns_have_names_and_counts_a_top(rt: HostRuntime) {
+    for (i, (words, chosen)) in CHOICES.iter().enumerate() {
+        assert!(rt; are_chosen(rt.alloc(), words, *chosen), "case {i}");
+    }
+}
+
 /// Arguments that are not understood.
-const BAD: [&[&str]; 39] = [
+const BAD: [&[&str]; 54] = [
     &[],
     &["count"],
     &["count", "f", "g"],
@@ -380,6 +534,16 @@ const BAD: [&[&str]; 39] = [
     &["count", "f", "--column", "0"],
     &["count", "f", "--column", "65536"],
     &["count", "f", "--column", "99999999999999999999"],
+    &["count", "f", "--header", "--column", "0"],
+    &["count", "f", "--header", "--column", "65536"],
+    &["count", "f", "--column", "two"],
+    &["count", "f", "--column", "+1"],
+    &["count", "f", "--column", ""],
+    &["count", "f", "--topic-column", "two"],
+    &["count", "f", "--top", "0"],
+    &["count", "f", "--top", "4294967296"],
+    &["trace", "f", "s", "--top", "1"],
+    &["draw", "f", "s", "--top", "1"],
     &["count", "f", "--column", "1", "--column", "1"],
     &["count", "f", "--topic-column", "0"],
     &["count", "f", "--topic-column", "65536"],
@@ -408,6 +572,11 @@ const BAD: [&[&str]; 39] = [
     &["run", "f", "p", "--batch", "0"],
     &["run", "f", "p", "--members", "2"],
     &["f"],
+    &["explain", "0"],
+    &["explain", "91"],
+    &["explain", "one"],
+    &["explain", "1", "2"],
+    &["explain", "--header"],
 ];
 
 /// Whether the arguments are not understood.
@@ -443,11 +612,12 @@ fn is_asked(alloc: Global, words: &[&str], begin: &str, end: &str) -> bool {
 }
 
 /// Words that ask for help, with how its text begins and ends. The rows of blackbox have it whole.
-const HELPS: [(&[&str], &str, &str); 8] = [
+const HELPS: [(&[&str], &str, &str); 10] = [
     (&["--help"], "Count the keys of a CSV file", AFTER_KEYCOUNT),
     (&["-h"], "Count the keys of a CSV file", AFTER_KEYCOUNT),
     (&["help", "count"], "Count how often", AFTER_COUNT),
     (&["count", "--help"], "Count how often", AFTER_COUNT),
+    (&["place", "--help"], "Show where the records", AFTER_PLACE),
     (&["replay", "--help"], "Replay a script", AFTER_REPLAY),
     (
         &["trace", "--help"],
@@ -456,6 +626,7 @@ const HELPS: [(&[&str], &str, &str); 8] = [
     ),
     (&["draw", "--help"], "Replay a script, and draw", AFTER_DRAW),
     (&["run", "-h"], "Count the keys with one thread", AFTER_RUN),
+    (&["explain", "-h"], "Explain the code", AFTER_EXPLAIN),
 ];
 
 #[test]

@@ -33,9 +33,9 @@ use Rattle.workers.specs.Plans.{settled}
 use Rattle.workers.specs.Runs.{IsRunRefusal}
 use Rattle.command_line.specs.declared.options.Options.{Options}
 use Rattle.ingest.specs.RecordFaults.{fault_or, first_fault, IsKeyFault}
-use Rattle.report_rows.specs.CountRows.{counts_of, count_rows, AreCountsByNumber}
+use Rattle.report_rows.specs.CountRows.{counts_of, count_rows, listed_rows, top_rows, AreCountsByNumber}
 use Rattle.report_rows.specs.Rows.{total_row}
-use Rattle.report_rows.specs.ReplayRows.{closing_rows, committed_count_rows, committed_total, appended_total, end_of, move_row, move_rows, name_or_empty, offset_row, offset_rows, owner_row, owner_rows, rows_below}
+use Rattle.report_rows.specs.ReplayRows.{closing_rows, committed_count_rows, listed_committed_rows, committed_total, appended_total, end_of, move_row, move_rows, name_or_empty, offset_row, offset_rows, owner_row, owner_rows, rows_below}
 use Rattle.run_report.specs.RunReport.{ended_rows, group_rows, records_to, report_of_plan, text_of_run}
 use Rattle.run_report.specs.Private.Runs.{EndsRun, IsRunOver}
 use Rattle.report_rows.proofs.Counts.{counts-are}
@@ -229,12 +229,14 @@ by_number counts records plan s h = record {
   counted = λ n lt. ap (λ m. get_or s.store.counts m 0) (sym (number-back s.logs.keys n h.valid.logs.without_repeats lt)) ∙ h.run.counts (key_at s.logs.keys n);
 }
 
-counts_are : (counts : List ℕ) (records : List Keyed) (plan : List Change) (s : ClusterState) → IsRunOver counts records plan s
-    → committed_count_rows s.logs.keys s.store.counts ≡ count_rows (distinct (keys_in records)) (counts_of (keys_in records))
+counts_are : (top : Option ℕ) (counts : List ℕ) (records : List Keyed) (plan : List Change) (s : ClusterState) → IsRunOver counts records plan s
+    → listed_committed_rows top s.logs.keys s.store.counts ≡ listed_rows top (distinct (keys_in records)) (counts_of (keys_in records))
 unfolding counts_of
-counts_are counts records plan s h =
+counts_are None counts records plan s h =
     ap₂ committed_count_rows h.logs.numbers (counts-are records s.logs s.store.counts h.valid.logs h.logs (by_number counts records plan s h))
     ∙ counted_rows (keys_in records) (distinct (keys_in records)) (distinct_counted (keys_in records))
+counts_are (Some most) counts records plan s h =
+    ap₂ (top_rows most) h.logs.numbers (counts-are records s.logs s.store.counts h.valid.logs h.logs (by_number counts records plan s h))
 
 -- ---- the text
 concatenated : (m o f c t : List ℕ) → m ++ (((o ++ f) ++ c) ++ t) ≡ ((m ++ o) ++ f) ++ (c ++ t)
@@ -243,29 +245,29 @@ concatenated m o f c t =
     ∙ append_assoc ((m ++ o) ++ f) c t
 
 -- the moves and the closing rows after a run
-pub text_is : (topics : List Topic) (counts : List ℕ) (records : List Keyed) (plan : List Change) (s : ClusterState) → IsRunOver counts records plan s
-    → move_rows topics s.group s.group.moves ++ closing_rows topics s ≡ text_of_run topics counts records plan
+pub text_is : (topics : List Topic) (top : Option ℕ) (counts : List ℕ) (records : List Keyed) (plan : List Change) (s : ClusterState) → IsRunOver counts records plan s
+    → move_rows topics s.group s.group.moves ++ closing_rows topics top s ≡ text_of_run topics top counts records plan
 unfolding text_of_run
-text_is topics counts records plan s h =
+text_is topics top counts records plan s h =
     let keys = keys_in records in
     let n = sum counts in
     let group : group_rows topics s.group ≡ group_rows topics (settled n plan) = sym (group_without_flags topics s.group) ∙ ap (group_rows topics) (h.run.group ∙ ap (λ m. settled m plan) (partitions_are counts records plan s h)) in
     let long : length records ≡ length keys = sym (length-map records (λ (keyed : Keyed). keyed.1)) in
     let totals = totals_are counts records plan s h in
-    concatenated (move_rows topics s.group s.group.moves) (owner_rows topics s.group) (offset_rows topics s) (committed_count_rows s.logs.keys s.store.counts) (total_row (committed_total s) (appended_total s))
-    ∙ ap (λ g. (g ++ offset_rows topics s) ++ (committed_count_rows s.logs.keys s.store.counts ++ total_row (committed_total s) (appended_total s))) group
-    ∙ ap (λ o. (group_rows topics (settled n plan) ++ o) ++ (committed_count_rows s.logs.keys s.store.counts ++ total_row (committed_total s) (appended_total s))) (offsets_are topics counts records plan s h)
-    ∙ ap (λ c. (group_rows topics (settled n plan) ++ ended_rows topics counts records) ++ (c ++ total_row (committed_total s) (appended_total s))) (counts_are counts records plan s h)
-    ∙ ap₂ (λ c t. (group_rows topics (settled n plan) ++ ended_rows topics counts records) ++ (count_rows (distinct keys) (counts_of keys) ++ total_row c t)) (totals.0 ∙ long) (totals.1 ∙ long)
+    concatenated (move_rows topics s.group s.group.moves) (owner_rows topics s.group) (offset_rows topics s) (listed_committed_rows top s.logs.keys s.store.counts) (total_row (committed_total s) (appended_total s))
+    ∙ ap (λ g. (g ++ offset_rows topics s) ++ (listed_committed_rows top s.logs.keys s.store.counts ++ total_row (committed_total s) (appended_total s))) group
+    ∙ ap (λ o. (group_rows topics (settled n plan) ++ o) ++ (listed_committed_rows top s.logs.keys s.store.counts ++ total_row (committed_total s) (appended_total s))) (offsets_are topics counts records plan s h)
+    ∙ ap (λ c. (group_rows topics (settled n plan) ++ ended_rows topics counts records) ++ (c ++ total_row (committed_total s) (appended_total s))) (counts_are top counts records plan s h)
+    ∙ ap₂ (λ c t. (group_rows topics (settled n plan) ++ ended_rows topics counts records) ++ (listed_rows top (distinct keys) (counts_of keys) ++ total_row c t)) (totals.0 ∙ long) (totals.1 ∙ long)
 
 pub text_reported : (options : Options) (records : List Keyed) (plan : List Change) (text : List ℕ) → first_fault (partition_counts options) [] records ≡ None
-    → text ≡ text_of_run options.topics.items (partition_counts options) records plan → report_of_plan options records plan ≡ Ok text
+    → text ≡ text_of_run options.topics.items options.top (partition_counts options) records plan → report_of_plan options records plan ≡ Ok text
 unfolding report_of_plan
-text_reported options records plan text none is = ap (λ fault. fault_or fault (text_of_run options.topics.items (partition_counts options) records plan)) none ∙ ap Ok (sym is)
+text_reported options records plan text none is = ap (λ fault. fault_or fault (text_of_run options.topics.items options.top (partition_counts options) records plan)) none ∙ ap Ok (sym is)
 
 fault_reported : (options : Options) (records : List Keyed) (plan : List Change) (fault : Refusal) → first_fault (partition_counts options) [] records ≡ Some fault → report_of_plan options records plan ≡ Err fault
 unfolding report_of_plan
-fault_reported options records plan fault some = ap (λ o. fault_or o (text_of_run options.topics.items (partition_counts options) records plan)) some
+fault_reported options records plan fault some = ap (λ o. fault_or o (text_of_run options.topics.items options.top (partition_counts options) records plan)) some
 
 is_ok : {T : Type 0} (expected : Result T Refusal) (text : T) → expected ≡ Ok text → IsOk expected
 is_ok expected text e = rw e refl

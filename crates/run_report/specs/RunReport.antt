@@ -35,16 +35,16 @@ group_rows topics g = move_rows topics g g.moves ++ owner_rows topics g
 
 -- the moves and the owners that a plan leads to, the offsets, and what a count of the keys writes,
 -- among topics with these numbers of partitions
-unfoldable pub text_of_run : List Topic → List ℕ → List Keyed → List Change → List ℕ
-text_of_run topics counts records plan =
+unfoldable pub text_of_run : List Topic → Option ℕ → List ℕ → List Keyed → List Change → List ℕ
+text_of_run topics top counts records plan =
     group_rows topics (settled (sum counts) plan) ++ ended_rows topics counts records
-    ++ plain_text (keys_in records)
+    ++ plain_text top (keys_in records)
 
 -- what a run of a plan over records writes, or its fault: the first record that can't be appended
 unfoldable pub report_of_plan : Options → List Keyed → List Change → Result (List ℕ) Refusal
 report_of_plan options records plan =
     fault_or (first_fault (partition_counts options) [] records)
-    (text_of_run options.topics.items (partition_counts options) records plan)
+    (text_of_run options.topics.items options.top (partition_counts options) records plan)
 
 -- what a run of a script over a file writes, or its fault: the first bad record, then the first bad
 -- line, and only then the first record that can't be appended

@@ -80,15 +80,20 @@ fn outcome_of<R: Threads + Wait + RandomSource + Sync, G: Gate + Sync>(
 }
 
 /// The text of a run that ended: all moves, and the closing rows. Only an allocation can fail.
-fn text_of_end(alloc: Global, topics: &[Topic], cluster: &Cluster) -> Result<Vec<u8>, Refusal>
+fn text_of_end(
+    alloc: Global,
+    topics: &[Topic],
+    top: Option<u32>,
+    cluster: &Cluster,
+) -> Result<Vec<u8>, Refusal>
     ensures report { IfOk result (λ text. text.items
         ≡ move_rows topics.now cluster.now.group cluster.now.group.moves
-        ++ closing_rows topics.now cluster.now) }
+        ++ closing_rows topics.now top cluster.now) }
     ensures kind { IfErr result (λ e. e ≡ refusal.Memory) }
 {
     let mut writer = rows::new_writer(alloc);
     replay_rows::write_moves(&mut writer, topics, cluster, 0)?;
-    replay_rows::write_closing(&mut writer, topics, cluster)?;
+    replay_rows::write_closing(&mut writer, alloc, topics, top, cluster)?;
     Ok(rows::text_of(writer)?)
 }
 
@@ -110,7 +115,8 @@ fn report_of_plan<R: Threads + Wait + RandomSource + Sync, G: Gate + Sync>(
         (EndsRun (report_of_plan options.now (records_in records) plan.now)) }
 {
     let outcome = outcome_of(rt, alloc, records, plan, options, gate)?;
-    text_of_end(alloc, options.topics.as_slice(), outcome.cluster())
+    let topics = options.topics.as_slice();
+    text_of_end(alloc, topics, options.top, outcome.cluster())
 }
 
 /// The text of a run of a script's plan over a file.
@@ -139,8 +145,8 @@ fn devices_report<R: Threads + Wait + RandomSource + Sync, S: Source, T: Source,
 }
 
 /// Runs a plan over the keys of a CSV file, with a thread for each member, and writes a row for
-/// each move, for each partition's owner and for its offsets, and the rows of a count of the keys.
-/// With topics, the rows name a partition by its topic and its number there. The text is the same
+/// each move, for each partition's owner and for its offsets, and the rows of a count of the keys;
+/// with `top`, of only so many keys. With topics, the rows name a partition by its topic and its number there. The text is the same
 /// for every schedule of the threads.
 ///
 /// The whole file is read and parsed before the script is, and the whole text is made before the

@@ -1,5 +1,5 @@
 -- A trace, next to the replay of the same script.
-use Rattle.std.specs.Prelude.{◌≡◌, ℕ, List, ◌++◌, Result, Ok, Err}
+use Rattle.std.specs.Prelude.{◌≡◌, ℕ, List, ◌++◌, Option, Result, Ok, Err}
 use Rattle.lane_words.specs.declared.Refusal.{Refusal}
 use Rattle.partitioner.specs.declared.topic.Topic.{Topic}
 use Rattle.report_rows.specs.ReplayRows.{closing_rows}
@@ -10,17 +10,17 @@ use Rattle.script.specs.declared.replay.Line.{Line}
 use Rattle.world.specs.World.{WorldState}
 
 -- a text ends with the closing rows of the world after these steps
-abbrev pub ClosesAfter : List Topic → WorldState → List StepTaken → List ℕ → Type 0
-ClosesAfter topics w steps text =
-    (rows : List ℕ) × (text ≡ rows ++ closing_rows topics (world_after w steps).cluster)
+abbrev pub ClosesAfter : List Topic → Option ℕ → WorldState → List StepTaken → List ℕ → Type 0
+ClosesAfter topics top w steps text =
+    (rows : List ℕ) × (text ≡ rows ++ closing_rows topics top (world_after w steps).cluster)
 
 -- the text of a replay, or its fault, is told by the steps of the script, or their fault
-abbrev pub IsToldBy : List Topic → WorldState → Result (List StepTaken) Refusal
+abbrev pub IsToldBy : List Topic → Option ℕ → WorldState → Result (List StepTaken) Refusal
     → Result (List ℕ) Refusal → Type 0
-IsToldBy topics w (Ok steps) (Ok text) = ClosesAfter topics w steps text
-IsToldBy topics w (Ok steps) (Err fault) = ⊥
-IsToldBy topics w (Err fault) replayed = replayed ≡ Err fault
+IsToldBy topics top w (Ok steps) (Ok text) = ClosesAfter topics top w steps text
+IsToldBy topics top w (Ok steps) (Err fault) = ⊥
+IsToldBy topics top w (Err fault) replayed = replayed ≡ Err fault
 
-abbrev pub TellsOfReplay : List Topic → ℕ → WorldState → List Line → Type 0
-TellsOfReplay topics batch w lines =
-    IsToldBy topics w (steps_of_lines batch w lines) (text_of_lines topics batch w lines)
+abbrev pub TellsOfReplay : List Topic → Option ℕ → ℕ → WorldState → List Line → Type 0
+TellsOfReplay topics top batch w lines =
+    IsToldBy topics top w (steps_of_lines batch w lines) (text_of_lines topics top batch w lines)

@@ -1,5 +1,5 @@
 -- What clap has checked of the words, and what its errors become.
-use Rattle.std.specs.Prelude.{◌≡◌, ℕ, List, Option, Some, None, codes, false, ⊤, ◌≢◌, IsSome, pos, string_bytes}
+use Rattle.std.specs.Prelude.{◌≡◌, ◌⊎◌, ℕ, Bool, List, Option, Some, None, codes, false, ⊤, ◌≢◌, IsSome, pos, string_bytes}
 use Rattle.clap.specs.Simple.{App, app_of}
 use Rattle.clap.specs.Values.{IsSignedIn}
 use Rattle.clap.specs.Walk.{Row, Text, first_of}
@@ -8,28 +8,34 @@ use Rattle.clap.specs.declared.builder.command.Command.TheViews.{out-Command}
 use Rattle.clap.specs.declared.error.kind.ErrorKind.{ErrorKind}
 use Rattle.lane_words.specs.declared.limits.TheConstants.{MOST_PARTITIONS}
 use Rattle.clap.specs.declared.error.kind.ErrorKind.TheVariants as kind
-use Rattle.command_line.specs.CommandLine.{HasJob, IsRequest, bad_topics, name_of}
+use Rattle.command_line.specs.Columns.{IsBadColumn}
+use Rattle.command_line.specs.CommandLine.{HasBadColumn, HasJob, IsRequest, bad_topics, name_of}
 use Rattle.command_line.specs.Topics.{IsBadList}
 use Rattle.command_line.specs.declared.words.Job.{Job}
 use Rattle.command_line.specs.declared.words.Usage.{Usage}
 use Rattle.command_line.specs.declared.words.Usage.TheVariants.{Help, Bad, Memory}
-use Rattle.command_line.specs.declared.options.TheConstants.{LAST_COLUMN, MOST_BATCH}
+use Rattle.command_line.specs.declared.options.TheConstants.{LAST_CODE, LAST_COLUMN, MOST_BATCH, MOST_ROWS}
 
 -- the text, if there is one, denotes a number from 1 to `most`
 abbrev pub IsOptionalNumber : Option Text → ℕ → Type 0
 IsOptionalNumber None most = ⊤
 IsOptionalNumber (Some text) most = IsSignedIn (pos 1) (pos most) text
 
--- what clap has checked of the options of all subcommands
+-- what clap has checked of the options of all jobs
 pub record AreOptionRows (rows : List Row) : Type 0 where
   pub partitions : IsOptionalNumber (first_of (codes "partitions") rows) MOST_PARTITIONS
-  pub column : IsOptionalNumber (first_of (codes "column") rows) LAST_COLUMN
-  pub topic_column : IsOptionalNumber (first_of (codes "topic-column") rows) LAST_COLUMN
+  pub top : IsOptionalNumber (first_of (codes "top") rows) MOST_ROWS
 
 -- what clap has checked of the words after `count`
 pub record AreCountRows (rows : List Row) : Type 0 where
   pub file : IsSome (first_of (codes "file") rows)
   pub options : AreOptionRows rows
+
+-- what clap has checked of the words after `place`
+pub record ArePlaceRows (rows : List Row) : Type 0 where
+  pub file : IsSome (first_of (codes "file") rows)
+  pub options : AreOptionRows rows
+  pub given : IsOptionalNumber (first_of (codes "given") rows) LAST_COLUMN
 
 -- what clap has checked of the words after `replay`, `trace`, `draw` or `run`
 pub record AreScriptRows (rows : List Row) : Type 0 where
@@ -37,6 +43,11 @@ pub record AreScriptRows (rows : List Row) : Type 0 where
   pub script : IsSome (first_of (codes "script") rows)
   pub options : AreOptionRows rows
   pub batch : IsOptionalNumber (first_of (codes "batch") rows) MOST_BATCH
+
+-- what clap has checked of the words after `explain`
+pub record AreExplainRows (rows : List Row) : Type 0 where
+  pub code : IsOptionalNumber (first_of (codes "code") rows) LAST_CODE
+  pub no_topics : first_of (codes "topics") rows ≡ None
 
 -- clap parses by this command as by `app`
 abbrev pub IsReadAs : App → Command → Type 0
@@ -64,3 +75,23 @@ ReportsBadList rows (Help text) = ⊥
 ReportsBadList rows (Bad text) =
     IsBadList (first_of (codes "topics") rows) × (string_bytes text ≡ bad_topics)
 ReportsBadList rows Memory = ⊤
+
+-- an error is reported, or memory runs out
+abbrev pub IsBadReport : Usage → Type 0
+IsBadReport (Help text) = ⊥
+IsBadReport (Bad text) = ⊤
+IsBadReport Memory = ⊤
+
+-- a value is reported as no column only where it is none
+abbrev pub ReportsBadColumn : Bool → Option Text → Usage → Type 0
+ReportsBadColumn header value (Help text) = ⊥
+ReportsBadColumn header value (Bad text) = IsBadColumn header value
+ReportsBadColumn header value Memory = ⊤
+
+-- an option is reported as not valid only where it is not: the list of topics, or then a column
+abbrev pub ReportsBadOption : List Row → Usage → Type 0
+ReportsBadOption rows (Help text) = ⊥
+ReportsBadOption rows (Bad text) =
+    (IsBadList (first_of (codes "topics") rows) × (string_bytes text ≡ bad_topics))
+    ⊎ HasBadColumn rows
+ReportsBadOption rows Memory = ⊤

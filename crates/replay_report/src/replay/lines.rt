@@ -18,6 +18,17 @@ use script::{Line, Topic};
 use std::alloc::Global;
 use world::World;
 
+/// How a replay is performed and reported.
+#[derive(Clone, Copy)]
+pub struct Reporting<'a> {
+    /// The topics, which name partitions; none without topics.
+    pub topics: &'a [Topic],
+    /// How many keys have count rows, those with the highest counts; `None` for all.
+    pub top: Option<u32>,
+    /// The maximum number of records per poll.
+    pub batch: u32,
+}
+
 /// Writes the row of a refusal, if the line was refused.
 fn write_answer(
     writer: &mut Writer<Vec<u8>>,
@@ -59,22 +70,23 @@ fn write_line(
 /// Applies the lines in order and writes their rows, and then the closing rows.
 fn write_lines(
     writer: &mut Writer<Vec<u8>>,
-    topics: &[Topic],
+    alloc: Global,
+    reporting: Reporting<'_>,
     world: &mut World,
     lines: &[Line],
-    batch: u32,
 ) -> Result<(), Refusal>
-    requires { 1 ≤ batch }
-    ensures rows { OnOk result (WritesLines writer.old writer.new
-        (text_of_lines topics.now batch world.old lines.now)) }
+    requires { 1 ≤ reporting.batch }
+    ensures rows { let how = reporting.entry in OnOk result (WritesLines writer.old writer.new
+        (text_of_lines how.topics.now how.top how.batch world.old lines.now)) }
     ensures kind { IfErr result IsNoDeviceFault }
-    ensures fault { IfErr result
-        (λ e. (e ≡ refusal.Memory) ⊎ (text_of_lines topics.now batch world.old lines.now ≡ Err e)) }
+    ensures fault { let how = reporting.entry in IfErr result (λ e. (e ≡ refusal.Memory)
+        ⊎ (text_of_lines how.topics.now how.top how.batch world.old lines.now ≡ Err e)) }
 {
+    let Reporting { topics, top, batch } = reporting;
     for line in lines {
         write_line(writer, topics, world, line, batch)?;
     }
-    replay_rows::write_closing(writer, topics, world.cluster())?;
+    replay_rows::write_closing(writer, alloc, topics, top, world.cluster())?;
     Ok(())
 }
 
@@ -82,17 +94,16 @@ fn write_lines(
 /// partition is named by its topic and its number there.
 pub fn text_of_lines(
     alloc: Global,
-    topics: &[Topic],
+    reporting: Reporting<'_>,
     world: &mut World,
     lines: &[Line],
-    batch: u32,
 ) -> Result<Vec<u8>, Refusal>
-    requires { 1 ≤ batch }
-    ensures answer { Answers (text_of_lines topics.now batch world.old lines.now)
-        (text_seen result) }
+    requires { 1 ≤ reporting.batch }
+    ensures answer { let how = reporting.entry in Answers
+        (text_of_lines how.topics.now how.top how.batch world.old lines.now) (text_seen result) }
     ensures kind { IfErr result IsNoDeviceFault }
 {
     let mut writer = rows::new_writer(alloc);
-    write_lines(&mut writer, topics, world, lines, batch)?;
+    write_lines(&mut writer, alloc, reporting, world, lines)?;
     Ok(rows::text_of(writer)?)
 }

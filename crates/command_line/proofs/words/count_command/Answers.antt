@@ -16,4 +16,4 @@ returns c =
       local = ap (λ (f : Command-F Command). f.has_globals) texts ∙ c.new.ensures.local;
     } in
     let file = IfOk-weaker c.arg-command.result _ _ (λ r h. added _ r _ _ (path (codes "file")) h start c.file_path.ensures.rule c.file_path.ensures.local) c.arg-command.ensures in
-    c.with_options.ensures _ file
+    c.with_top.ensures _ (c.with_options.ensures _ file)

@@ -13,4 +13,4 @@ returns c =
       read_as = ap app_of_fields texts ∙ c.new.ensures.app;
       local = ap (λ (f : Command-F Command). f.has_globals) texts ∙ c.new.ensures.local;
     } in
-    c.with_script.ensures _ start
+    c.with_top.ensures _ (c.with_script-command.ensures _ start)

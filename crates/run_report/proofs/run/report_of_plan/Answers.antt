@@ -13,8 +13,8 @@ returns-clause-report g c =
     let run = c.in_ok-outcome.ensures in
     let options = c.args.options.now in
     let records = records_in c.args.records in
-    let topics = c.as_slice.ensures.value in
+    let topics = c.as_slice-topics.ensures.value in
     IfOk-weaker c.text_of_end.result _ _
-    (λ text is. text_reported options records c.args.plan.now _ run.ok (is ∙ ap (λ (x : ClusterState). move_rows c.as_slice.result.now x.group x.group.moves ++ closing_rows c.as_slice.result.now x) c.cluster.ensures
-    ∙ ap (λ (ts : List Topic). move_rows ts s.group s.group.moves ++ closing_rows ts s) topics ∙ text_is options.topics.items (partition_counts options) records c.args.plan.now s run.value))
+    (λ text is. text_reported options records c.args.plan.now _ run.ok (is ∙ ap (λ (x : ClusterState). move_rows c.as_slice-topics.result.now x.group x.group.moves ++ closing_rows c.as_slice-topics.result.now options.top x) c.cluster.ensures
+    ∙ ap (λ (ts : List Topic). move_rows ts s.group s.group.moves ++ closing_rows ts options.top s) topics ∙ text_is options.topics.items options.top (partition_counts options) records c.args.plan.now s run.value))
     c.text_of_end.ensures.report

@@ -12,4 +12,4 @@ pub returns-in_err-write_lines-clause-answer : goal.returns-in_err-write_lines-c
 returns-in_err-write_lines-clause-answer c =
     let fault = c.in_err-write_lines.field-0.0 in
     let same : c.from_residual.result ≡ Err fault = search rules in
-    rw same (as_answer (text_of_lines c.args.topics.now c.args.batch c.args.world.now c.args.lines.now) fault c.in_err-write_lines.ensures.fault)
+    rw same (as_answer (text_of_lines c.args.reporting.topics.now c.args.reporting.top c.args.reporting.batch c.args.world.now c.args.lines.now) fault c.in_err-write_lines.ensures.fault)

@@ -8,6 +8,6 @@ abbrev pub invariant-loop-line : goal.invariant-loop-line
 invariant-loop-line l = record {
   text : (text : List ℕ) → HasText l.fn.writer text
       → (now : List ℕ) × HasText l.writer now
-      × (text_before now (text_of_lines l.topics l.batch l.world (drop l.line-index l.lines)) ≡ text_before text (text_of_lines l.topics l.batch l.fn.world l.lines));
-  fault : (e : Refusal) → text_of_lines l.topics l.batch l.world (drop l.line-index l.lines) ≡ Err e → text_of_lines l.topics l.batch l.fn.world l.lines ≡ Err e;
+      × (text_before now (text_of_lines l.topics l.top l.batch l.world (drop l.line-index l.lines)) ≡ text_before text (text_of_lines l.topics l.top l.batch l.fn.world l.lines));
+  fault : (e : Refusal) → text_of_lines l.topics l.top l.batch l.world (drop l.line-index l.lines) ≡ Err e → text_of_lines l.topics l.top l.batch l.fn.world l.lines ≡ Err e;
 }

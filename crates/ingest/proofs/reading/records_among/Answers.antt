@@ -3,10 +3,10 @@ use Rattle.std.specs.Prelude.{◌==◌}
 use Rattle.std.specs.Result.{result_map_both}
 use Rattle.partitioner.specs.declared.topic.Topic.{Topic}
 use Rattle.csv_ingest.specs.KeyFile.{topic_keys_of}
-use Rattle.ingest.specs.Records.{record_of, records_of}
+use Rattle.ingest.specs.Records.{record_of, records_among}
 use Rattle.ingest.proofs.ReadFaults.{as_answer}
 use Rattle.ingest.proofs.Taken.{first-among, records-refused, topic-records, topics-among}
-use Rattle.ingest.proofs.reading.read_records.Goals as goal
+use Rattle.ingest.proofs.reading.records_among.Goals as goal
 
 named : (topics items : List Topic) (is_empty : _) → topics ≡ items → is_empty ≡ (length topics == 0) → is_empty ≡ false → (length items == 0) ≡ false
 named topics items is_empty same is none = ap (λ ts. length ts == 0) (sym same) ∙ sym is ∙ none
@@ -24,9 +24,9 @@ returns-in_err-keys-2-clause-answer g c =
     let topics = c.as_slice-topics.ensures.value in
     let some = named c.as_slice-topics.result.now options.topics.items c.is_empty.result topics c.is_empty.ensures c.if-is_empty.false in
     let names = names_are c.as_slice-names.result.now c.in_ok-names.names.items c.as_slice-topics.result.now options.topics.items c.as_slice-names.ensures.value c.in_ok-names.ensures topics in
-    let is = topic-records options bytes options.topics.items (map (λ (name : Bor (List ℕ)). name.now) c.as_slice-names.result.now) some names in
+    let is = topic-records options.header c.args.column c.args.topic_column bytes options.topics.items (map (λ (name : Bor (List ℕ)). name.now) c.as_slice-names.result.now) some names in
     let same : c.from_residual-in_err-keys-2.result ≡ Err c.in_err-keys-2.field-0.0 = search rules in
-    rw same (as_answer (records_of options bytes) c.in_err-keys-2.field-0.0 (records-refused (map record_of) (topic_keys_of options.column options.topic_column (map (λ (name : Bor (List ℕ)). name.now) c.as_slice-names.result.now) options.header bytes) (records_of options bytes) c.in_err-keys-2.field-0.0 is c.in_err-keys-2.ensures.fault))
+    rw same (as_answer (records_among options.header options.topics.items bytes c.args.column c.args.topic_column) c.in_err-keys-2.field-0.0 (records-refused (map record_of) (topic_keys_of c.args.column c.args.topic_column (map (λ (name : Bor (List ℕ)). name.now) c.as_slice-names.result.now) options.header bytes) (records_among options.header options.topics.items bytes c.args.column c.args.topic_column) c.in_err-keys-2.field-0.0 is c.in_err-keys-2.ensures.fault))
 
 pub returns-clause-topics : goal.returns-clause-topics
 returns-clause-topics g c =
@@ -34,7 +34,7 @@ returns-clause-topics g c =
     let topics = c.as_slice-topics.ensures.value in
     let some = named c.as_slice-topics.result.now options.topics.items c.is_empty.result topics c.is_empty.ensures c.if-is_empty.false in
     let names = names_are c.as_slice-names.result.now c.in_ok-names.names.items c.as_slice-topics.result.now options.topics.items c.as_slice-names.ensures.value c.in_ok-names.ensures topics in
-    topics-among options.column options.topic_column options.header options.partitions options.topics.items c.args.file.now (map (λ (name : Bor (List ℕ)). name.now) c.as_slice-names.result.now) c.in_ok-keys-2.keys some names c.in_ok-keys-2.ensures.keys
+    topics-among c.args.column c.args.topic_column options.header options.partitions options.topics.items c.args.file.now (map (λ (name : Bor (List ℕ)). name.now) c.as_slice-names.result.now) c.in_ok-keys-2.keys some names c.in_ok-keys-2.ensures.keys
 
 pub returns-clause-answer : goal.returns-clause-answer
 returns-clause-answer g c =
@@ -42,5 +42,5 @@ returns-clause-answer g c =
     let topics = c.as_slice-topics.ensures.value in
     let some = named c.as_slice-topics.result.now options.topics.items c.is_empty.result topics c.is_empty.ensures c.if-is_empty.false in
     let names = names_are c.as_slice-names.result.now c.in_ok-names.names.items c.as_slice-topics.result.now options.topics.items c.as_slice-names.ensures.value c.in_ok-names.ensures topics in
-    let is = topic-records options c.args.file.now options.topics.items (map (λ (name : Bor (List ℕ)). name.now) c.as_slice-names.result.now) some names in
+    let is = topic-records options.header c.args.column c.args.topic_column c.args.file.now options.topics.items (map (λ (name : Bor (List ℕ)). name.now) c.as_slice-names.result.now) some names in
     inl (sym (is ∙ ap (result_map_both (map record_of) (λ fault. fault)) c.in_ok-keys-2.ensures.keys))

@@ -1,0 +1,10 @@
+//! Laws of explanations.
+
+ghost use Rattle.command_line.specs.Explanations.{AreAllRefusals, BeginWithCodes, explanation_of};
+ghost use Rattle.command_line.specs.declared.explanations.TheConstants.{REFUSALS};
+
+/// Each refusal is listed, and its explanation begins with its number.
+pub fn each_refusal_is_explained()
+    ensures elements { AreAllRefusals REFUSALS }
+    ensures start { BeginWithCodes explanation_of }
+{}

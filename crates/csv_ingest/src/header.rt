@@ -1,0 +1,78 @@
+//! The columns that the header of a file names.
+
+ghost use Rattle.std.specs.Prelude.{◌≡◌, ◌≤◌, ◌<◌, IfOk, IfErr, IfSome, flat_map, take};
+ghost use Rattle.std.specs.List.{position_from};
+ghost use Rattle.std.specs.Str.{bytes_eq};
+ghost use Rattle.csv.specs.Records.{fields_of};
+ghost use Rattle.csv_ingest.specs.Header.{column_named};
+ghost use Rattle.csv_ingest.specs.KeyFile.{IsFileFault};
+ghost use Rattle.csv_ingest.specs.Pieces.{file_records};
+ghost use Rattle.csv_ingest.specs.Private.Header.{BeginsWith};
+ghost use Rattle.csv_ingest.specs.Private.Pieces.{lent};
+ghost use Rattle.lane_words.specs.Answers.{Answers};
+
+use crate::blocks::Blocks;
+use crate::records::{next_record, records_of};
+use csv::ByteRecord;
+use lane_words::{Memory, Refusal};
+use std::alloc::Global;
+
+/// Reads the first record of a piece, and tells whether there was one.
+fn read_first(alloc: Global, piece: &[u8], row: &mut ByteRecord) -> Result<bool, Memory>
+    ensures { IfOk result
+        (λ found. BeginsWith found (fields_of row.new) (file_records piece.now)) }
+{
+    let mut reader = records_of(alloc, piece);
+    next_record(&mut reader, row)
+}
+
+/// Reads the first record of the file that lies in these pieces, and tells whether there was one.
+fn read_header(alloc: Global, pieces: &[&[u8]], row: &mut ByteRecord) -> Result<bool, Memory>
+    ensures { IfOk result (λ found. BeginsWith found (fields_of row.new)
+        (flat_map file_records (lent pieces.now))) }
+{
+    for i in 0..pieces.len() {
+        if read_first(alloc, pieces[i], row)? {
+            return Ok(true);
+        }
+    }
+    Ok(false)
+}
+
+/// The index of the first field with this name, among the first `most` fields of a record.
+fn index_of(row: &ByteRecord, name: &[u8], most: u32) -> Option<u32>
+    ensures value { result ≡ position_from (bytes_eq name.now) 0 (take most (fields_of row.now)) }
+    ensures bound { IfSome result (λ index. index < most) }
+{
+    let fields = row.len().min(most as usize);
+    for i in 0..fields {
+        let Some(field) = row.get(i) else {
+            return None;
+        };
+        if name == field {
+            return Some(i as u32);
+        }
+    }
+    None
+}
+
+/// The column of the first field of a file's header with this name, byte for byte, among the first
+/// `most` fields. Columns are counted from 1. The header is the first record; where there is none,
+/// the column is the first.
+///
+/// Errors: `NoSuchColumn` for record 1 if no field has this name, and `Memory`.
+pub fn column_named(alloc: Global, file: &Blocks, name: &[u8], most: u32) -> Result<u32, Refusal>
+    ensures answer { Answers (column_named most name.now (file_records file.now)) result }
+    ensures range { IfOk result (λ column. 1 ≤ column) }
+    ensures kind { IfErr result IsFileFault }
+{
+    let pieces = file.pieces(alloc, 1)?;
+    let mut row = ByteRecord::new(alloc);
+    if !read_header(alloc, &pieces, &mut row)? {
+        return Ok(1);
+    }
+    match index_of(&row, name, most) {
+        Some(index) => Ok(index + 1),
+        None => Err(Refusal::NoSuchColumn { nth: 1 }),
+    }
+}

@@ -1,0 +1,6 @@
+pub mod Headers
+pub mod KeyCounts
+pub mod Read
+pub mod Tables
+pub mod Tallied
+pub mod Told

@@ -1,0 +1,4 @@
+pub mod Given
+pub mod PlaceReport
+pub mod PlaceRows
+pub mod Private

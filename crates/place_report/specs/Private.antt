@@ -1,0 +1,4 @@
+-- Definitions that only private contracts cite.
+pub mod Given
+pub mod KeyCounts
+pub mod Tallies
