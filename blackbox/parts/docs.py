@@ -10,7 +10,7 @@ from .program import TOP, Cases, program
 
 PAGES = ("README.md", "docs/GUIDE.md")
 # Commands with a tool that is not installed are skipped, and those that need a broker.
-TOOLS = ("column", "mlr")
+TOOLS = ("column",)
 SKIPPED = re.compile(rf"(?<![-\w])(?:{'|'.join(['kcat', *(tool for tool in TOOLS if not shutil.which(tool))])}) ")
 PICTURE = re.compile(r"> ((?:docs|samples)/\S+\.svg)$")
 

@@ -87,6 +87,14 @@ SUBJECTS = [
     Subject("a trace of a bad line", "trace f s", {"f": FIVE, "s": b"join A\njion B\n"},
             Outcome(b"", b"fault 22 at line 2\n", 1), frozenset({"thread", "write", "random"})),
     Subject("a picture of each line over quoted fields", "draw f s --header --column 2", {"f": QUOTED, "s": SCRIPT}),
+    Subject("a table of partitions", "place f", {"f": FIVE}),
+    Subject("a table of many keys", "place f --keys", {"f": lines_of(MANY_KEYS)}),
+    Subject("misplaced records", "place f --given 1 --header", {"f": FIVE}, Outcome(
+        b"record,key,given,place\n2,4,4,1\n3,foobar,foobar,2\n4,abc,abc,3\n5,21,21,0\n", b"", 1)),
+    Subject("places of blocks", "place f --partitions 1 --given 2", {"f": b"".join(key + b",0\n" for key in KEYS_IN_BLOCKS)},
+            done(b"record,key,given,place\n"), frozenset(), frozenset({"malloc", "thread", "random"})),
+    Subject("an explanation", "explain 11", {}, None, frozenset(FAULTS) - {"write", "malloc"}),
+    Subject("a list of codes", "explain", {}, None, frozenset(FAULTS) - {"write", "malloc"}),
     Subject("a run", "run f s", {"f": FIVE, "s": b"join A\njoin B\nleave A\n"},
             done(FOUR_MOVES + b"move,3,2,A,B\nmove,3,3,A,B\nmove,4,0,A,B\nmove,4,1,A,B\n"
                  b"owner,0,B\nowner,1,B\nowner,2,B\nowner,3,B\n"

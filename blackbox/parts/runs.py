@@ -18,9 +18,10 @@ def full_device_faults() -> Iterator[str]:
     """Writes to /dev/full fail."""
     with tempfile.TemporaryDirectory() as folder, open("/dev/full", "wb") as full:
         (Path(folder) / "f").write_bytes(b"21\n4\n")
-        done = run([b"count", b"f"], folder, stdout=full.fileno())
-    if done != Outcome(b"", b"fault 26\n", 3):
-        yield f"it ends with {done}"
+        for words in ([b"count", b"f"], [b"explain"], [b"explain", b"26"]):
+            done = run(words, folder, stdout=full.fileno())
+            if done != Outcome(b"", b"fault 26\n", 3):
+                yield f"{words} ends with {done}"
 
 
 def gone_reader_faults(is_ignored: bool) -> Iterator[str]:

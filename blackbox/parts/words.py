@@ -7,7 +7,7 @@ from typing import Iterator
 
 from .program import FOLDER, TOP, Cases, run
 
-SUBCOMMANDS = ("count", "replay", "trace", "draw", "run")
+SUBCOMMANDS = ("count", "place", "replay", "trace", "draw", "run", "explain")
 BASH = TOP / "completions" / "keycount.bash"
 
 
@@ -33,6 +33,9 @@ def completion_faults() -> Iterator[str]:
     commands = {name for name in completed("") if name[0] != "-"}
     if not commands == listed("Commands") == {*SUBCOMMANDS, "help"}:
         yield f"it completes the commands {commands}, not {listed('Commands')}"
+    codes = {line.split()[0] for line in run([b"explain"], FOLDER).stdout.decode().splitlines()}
+    if not completed("explain", "") == codes > {"90"}:
+        yield f"it completes the codes {completed('explain', '')}"
 
 
 def logic_of(line: bytes) -> bytes:
