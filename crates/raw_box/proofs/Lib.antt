@@ -1,0 +1,4 @@
+pub mod Begun
+pub mod Owned
+pub mod Sent
+pub mod Values
