@@ -1,0 +1,281 @@
+/* Calls each function of the library, and compares what it returns and writes with what the rules
+ * say. Exits with 1 at the first difference. */
+#include "keycount.h"
+
+#include <stdio.h>
+#include <stdlib.h>
+#include <string.h>
+
+#define EXPECT(holds)                                                        \
+    do {                                                                     \
+        if (!(holds)) {                                                      \
+            fprintf(stderr, "test.c:%d: not so: %s\n", __LINE__, #holds);    \
+            exit(1);                                                         \
+        }                                                                    \
+    } while (0)
+
+#define TEXT(text) (const uint8_t *)(text), strlen(text)
+
+static const uint8_t seed[32] = {1, 2, 3};
+static const uint32_t four = 4;
+
+static void an_empty_handle_answers_so_and_writes_nothing(void) {
+    keycount_cluster c = KEYCOUNT_NONE;
+    uint32_t out = 77, more = 78, list[4] = {7, 7, 7, 7};
+    uint64_t number = 79;
+    uint8_t bytes[4] = {7, 7, 7, 7};
+    size_t count = 80;
+    EXPECT(keycount_cluster_free(&c) == KEYCOUNT_NO_VALUE);
+    EXPECT(keycount_cluster_append(&c, 0, TEXT("k"), &out, &more) == KEYCOUNT_NO_VALUE);
+    EXPECT(keycount_cluster_join(&c, TEXT("a"), &out) == KEYCOUNT_NO_VALUE);
+    EXPECT(keycount_cluster_join_kept(&c, TEXT("a"), &out) == KEYCOUNT_NO_VALUE);
+    EXPECT(keycount_cluster_take_over(&c, TEXT("a"), &out) == KEYCOUNT_NO_VALUE);
+    EXPECT(keycount_cluster_rejoin(&c, 1, 1, list, 4) == KEYCOUNT_NO_VALUE);
+    EXPECT(keycount_cluster_sync(&c, 1, &out, list, 4, list, 4, &count) == KEYCOUNT_NO_VALUE);
+    EXPECT(keycount_cluster_leave(&c, 1) == KEYCOUNT_NO_VALUE);
+    EXPECT(keycount_cluster_lose(&c, 1) == KEYCOUNT_NO_VALUE);
+    EXPECT(keycount_cluster_commit(&c, 1, 1, 0, 0, list, 4, &out) == KEYCOUNT_NO_VALUE);
+    EXPECT(keycount_cluster_next_step(&c, 1, &out) == KEYCOUNT_NO_VALUE);
+    EXPECT(keycount_cluster_phase(&c, &out) == KEYCOUNT_NO_VALUE);
+    EXPECT(keycount_cluster_generation(&c, &out) == KEYCOUNT_NO_VALUE);
+    EXPECT(keycount_cluster_settled(&c, &out) == KEYCOUNT_NO_VALUE);
+    EXPECT(keycount_cluster_partitions(&c, &out) == KEYCOUNT_NO_VALUE);
+    EXPECT(keycount_cluster_keys(&c, &out) == KEYCOUNT_NO_VALUE);
+    EXPECT(keycount_cluster_members(&c, list, 4, &count) == KEYCOUNT_NO_VALUE);
+    EXPECT(keycount_cluster_granted(&c, 1, list, 4, &count) == KEYCOUNT_NO_VALUE);
+    EXPECT(keycount_cluster_assigned(&c, 1, list, 4, &count) == KEYCOUNT_NO_VALUE);
+    EXPECT(keycount_cluster_owner(&c, 0, &out) == KEYCOUNT_NO_VALUE);
+    EXPECT(keycount_cluster_end(&c, 0, &out) == KEYCOUNT_NO_VALUE);
+    EXPECT(keycount_cluster_committed(&c, 0, &out) == KEYCOUNT_NO_VALUE);
+    EXPECT(keycount_cluster_read(&c, 0, 0, list, 4, &count) == KEYCOUNT_NO_VALUE);
+    EXPECT(keycount_cluster_key(&c, 0, bytes, 4, &count) == KEYCOUNT_NO_VALUE);
+    EXPECT(keycount_cluster_count(&c, 0, &number) == KEYCOUNT_NO_VALUE);
+    EXPECT(c.at == NULL && out == 77 && more == 78 && number == 79 && count == 80);
+    EXPECT(list[0] == 7 && list[3] == 7 && bytes[0] == 7 && bytes[3] == 7);
+}
+
+static void arguments_are_tested(void) {
+    keycount_cluster c = KEYCOUNT_NONE;
+    const uint32_t none = 0, many = 4097, most = 4096, nine[9] = {1, 1, 1, 1, 1, 1, 1, 1, 1};
+    const uint32_t over[2] = {4096, 1}, wrapping[2] = {4294967295u, 2};
+    uint32_t out = 77, more = 78, list[8], offsets[8];
+    size_t count = 80;
+    EXPECT(keycount_cluster_new(&c, &four, 0, seed, 32) == KEYCOUNT_BAD_ARGUMENT);
+    EXPECT(keycount_cluster_new(&c, &none, 1, seed, 32) == KEYCOUNT_BAD_ARGUMENT);
+    EXPECT(keycount_cluster_new(&c, &many, 1, seed, 32) == KEYCOUNT_BAD_ARGUMENT);
+    EXPECT(keycount_cluster_new(&c, nine, 9, seed, 32) == KEYCOUNT_BAD_ARGUMENT);
+    EXPECT(keycount_cluster_new(&c, over, 2, seed, 32) == KEYCOUNT_BAD_ARGUMENT);
+    EXPECT(keycount_cluster_new(&c, wrapping, 2, seed, 32) == KEYCOUNT_BAD_ARGUMENT);
+    EXPECT(keycount_cluster_new(&c, &four, 1, seed, 31) == KEYCOUNT_BAD_ARGUMENT);
+    EXPECT(c.at == NULL);
+    EXPECT(keycount_cluster_new(&c, nine, 8, seed, 32) == KEYCOUNT_DONE);
+    EXPECT(keycount_cluster_free(&c) == KEYCOUNT_DONE);
+    EXPECT(keycount_cluster_new(&c, &most, 1, seed, 32) == KEYCOUNT_DONE);
+    EXPECT(keycount_cluster_new(&c, &most, 1, seed, 32) == KEYCOUNT_HAS_VALUE);
+    EXPECT(keycount_cluster_free(&c) == KEYCOUNT_DONE);
+
+    EXPECT(keycount_cluster_new(&c, &four, 1, seed, 32) == KEYCOUNT_DONE);
+    EXPECT(keycount_cluster_append(&c, 1, TEXT("k"), &out, &more) == KEYCOUNT_BAD_ARGUMENT);
+    EXPECT(keycount_cluster_append(&c, 256, TEXT("k"), &out, &more) == KEYCOUNT_BAD_ARGUMENT);
+    EXPECT(keycount_cluster_join(&c, TEXT(""), &out) == KEYCOUNT_BAD_ARGUMENT);
+    EXPECT(keycount_cluster_join(&c, TEXT("a b"), &out) == KEYCOUNT_BAD_ARGUMENT);
+    EXPECT(keycount_cluster_join_kept(&c, TEXT("a b"), &out) == KEYCOUNT_BAD_ARGUMENT);
+    EXPECT(keycount_cluster_take_over(&c, TEXT("a b"), &out) == KEYCOUNT_BAD_ARGUMENT);
+    EXPECT(keycount_cluster_rejoin(&c, 1, 1, &four, 1) == KEYCOUNT_BAD_ARGUMENT);
+    EXPECT(keycount_cluster_end(&c, 4, &out) == KEYCOUNT_BAD_ARGUMENT);
+    EXPECT(keycount_cluster_committed(&c, 4, &out) == KEYCOUNT_BAD_ARGUMENT);
+    EXPECT(keycount_cluster_read(&c, 4, 0, list, 8, &count) == KEYCOUNT_BAD_ARGUMENT);
+    EXPECT(keycount_cluster_read(&c, 0, 1, list, 8, &count) == KEYCOUNT_BAD_ARGUMENT);
+    EXPECT(keycount_cluster_sync(&c, 1, &out, list, 3, offsets, 4, &count) == KEYCOUNT_TOO_SHORT);
+    EXPECT(keycount_cluster_sync(&c, 1, &out, list, 4, offsets, 3, &count) == KEYCOUNT_TOO_SHORT);
+    EXPECT(out == 77 && more == 78 && count == 80);
+    EXPECT(keycount_cluster_owner(&c, 4, &out) == KEYCOUNT_DONE && out == 0);
+    EXPECT(keycount_cluster_free(&c) == KEYCOUNT_DONE);
+}
+
+/* murmur2("21") is -973932308, as Kafka's own test has it, and & 0x7fffffff 1173551340: modulo 4,
+ * partition 0. "foobar" is -790332482, and 1357151166: partition 2. */
+static void records_are_appended_and_read(void) {
+    keycount_cluster c = KEYCOUNT_NONE;
+    uint32_t partition, offset, out, keys[4] = {7, 7, 7, 7};
+    uint64_t number;
+    uint8_t bytes[6];
+    size_t count;
+    static uint8_t long_key[65536];
+    EXPECT(keycount_cluster_new(&c, &four, 1, seed, 32) == KEYCOUNT_DONE);
+    EXPECT(keycount_cluster_append(&c, 0, TEXT("foobar"), &partition, &offset) == KEYCOUNT_DONE);
+    EXPECT(partition == 2 && offset == 0);
+    EXPECT(keycount_cluster_append(&c, 0, TEXT("21"), &partition, &offset) == KEYCOUNT_DONE);
+    EXPECT(partition == 0 && offset == 0);
+    EXPECT(keycount_cluster_append(&c, 0, TEXT("21"), &partition, &offset) == KEYCOUNT_DONE);
+    EXPECT(partition == 0 && offset == 1);
+    EXPECT(keycount_cluster_append(&c, 0, long_key, 65536, &partition, &offset)
+           == KEYCOUNT_KEY_TOO_LONG);
+    EXPECT(partition == 0 && offset == 1);
+    EXPECT(keycount_cluster_partitions(&c, &out) == KEYCOUNT_DONE && out == 4);
+    EXPECT(keycount_cluster_keys(&c, &out) == KEYCOUNT_DONE && out == 2);
+    EXPECT(keycount_cluster_end(&c, 0, &out) == KEYCOUNT_DONE && out == 2);
+    EXPECT(keycount_cluster_committed(&c, 0, &out) == KEYCOUNT_DONE && out == 0);
+    EXPECT(keycount_cluster_read(&c, 0, 0, keys, 4, &count) == KEYCOUNT_DONE && count == 2);
+    EXPECT(keys[0] == 1 && keys[1] == 1 && keys[2] == 7);
+    EXPECT(keycount_cluster_read(&c, 0, 1, keys, 4, &count) == KEYCOUNT_DONE && count == 1);
+    EXPECT(keycount_cluster_read(&c, 0, 2, keys, 4, &count) == KEYCOUNT_DONE && count == 0);
+    EXPECT(keycount_cluster_read(&c, 0, 0, keys, 1, &count) == KEYCOUNT_DONE && count == 1);
+    EXPECT(keycount_cluster_key(&c, 0, bytes, 5, &count) == KEYCOUNT_TOO_SHORT && count == 6);
+    EXPECT(keycount_cluster_key(&c, 0, bytes, 6, &count) == KEYCOUNT_DONE && count == 6);
+    EXPECT(memcmp(bytes, "foobar", 6) == 0);
+    EXPECT(keycount_cluster_key(&c, 2, bytes, 6, &count) == KEYCOUNT_BAD_ARGUMENT);
+    EXPECT(keycount_cluster_count(&c, 1, &number) == KEYCOUNT_DONE && number == 0);
+    EXPECT(keycount_cluster_count(&c, 2, &number) == KEYCOUNT_BAD_ARGUMENT);
+    EXPECT(keycount_cluster_free(&c) == KEYCOUNT_DONE);
+}
+
+/* The walk of docs/ARCHITECTURE.md: a second member gets half of the partitions, after the first
+ * has given them up. */
+static void partitions_move_when_they_are_given_up(void) {
+    keycount_cluster c = KEYCOUNT_NONE;
+    uint32_t a, b, out, generation, partitions[4], offsets[4];
+    size_t count;
+    const uint32_t all[4] = {0, 1, 2, 3};
+    EXPECT(keycount_cluster_new(&c, &four, 1, seed, 32) == KEYCOUNT_DONE);
+    EXPECT(keycount_cluster_phase(&c, &out) == KEYCOUNT_DONE && out == KEYCOUNT_EMPTY);
+    EXPECT(keycount_cluster_join(&c, TEXT("A"), &a) == KEYCOUNT_DONE && a == 1);
+    EXPECT(keycount_cluster_join(&c, TEXT("A"), &b) == KEYCOUNT_NAME_USED);
+    EXPECT(keycount_cluster_join(&c, TEXT("B"), &b) == KEYCOUNT_DONE && b == 2);
+    EXPECT(keycount_cluster_phase(&c, &out) == KEYCOUNT_DONE && out == KEYCOUNT_PREPARING);
+    EXPECT(keycount_cluster_sync(&c, b, &generation, partitions, 4, offsets, 4, &count)
+           == KEYCOUNT_REBALANCE_IN_PROGRESS);
+    EXPECT(keycount_cluster_next_step(&c, a, &out) == KEYCOUNT_DONE && out == KEYCOUNT_SYNC);
+    EXPECT(keycount_cluster_rejoin(&c, a, 1, all, 4) == KEYCOUNT_SYNC_FIRST);
+    EXPECT(keycount_cluster_sync(&c, a, &generation, partitions, 4, offsets, 4, &count)
+           == KEYCOUNT_DONE);
+    EXPECT(generation == 1 && count == 4 && memcmp(partitions, all, sizeof all) == 0);
+    EXPECT(keycount_cluster_next_step(&c, a, &out) == KEYCOUNT_DONE && out == KEYCOUNT_REJOIN);
+    EXPECT(keycount_cluster_rejoin(&c, a, 2, all, 4) == KEYCOUNT_STALE_GENERATION);
+    EXPECT(keycount_cluster_rejoin(&c, a, 1, all, 3) == KEYCOUNT_CLAIM_DIFFERS);
+    EXPECT(keycount_cluster_rejoin(&c, a, 1, all, 4) == KEYCOUNT_DONE);
+    EXPECT(keycount_cluster_generation(&c, &out) == KEYCOUNT_DONE && out == 2);
+    EXPECT(keycount_cluster_settled(&c, &out) == KEYCOUNT_DONE && out == 0);
+    EXPECT(keycount_cluster_granted(&c, a, partitions, 4, &count) == KEYCOUNT_DONE && count == 4);
+    EXPECT(keycount_cluster_assigned(&c, a, partitions, 4, &count) == KEYCOUNT_DONE && count == 2);
+    EXPECT(keycount_cluster_assigned(&c, a, partitions, 1, &count) == KEYCOUNT_TOO_SHORT);
+    EXPECT(count == 2);
+    EXPECT(keycount_cluster_granted(&c, b, partitions, 0, &count) == KEYCOUNT_DONE && count == 0);
+    EXPECT(keycount_cluster_granted(&c, 3, partitions, 4, &count) == KEYCOUNT_UNKNOWN_MEMBER);
+    EXPECT(keycount_cluster_owner(&c, 3, &out) == KEYCOUNT_DONE && out == a);
+
+    EXPECT(keycount_cluster_sync(&c, a, &generation, partitions, 4, offsets, 4, &count)
+           == KEYCOUNT_DONE);
+    EXPECT(keycount_cluster_rejoin(&c, a, 2, partitions, count) == KEYCOUNT_DONE);
+    EXPECT(keycount_cluster_rejoin(&c, a, 2, partitions, count) == KEYCOUNT_ALREADY_JOINED);
+    EXPECT(keycount_cluster_sync(&c, b, &generation, partitions, 4, offsets, 4, &count)
+           == KEYCOUNT_DONE);
+    EXPECT(generation == 2 && count == 0);
+    EXPECT(keycount_cluster_rejoin(&c, b, 2, partitions, 0) == KEYCOUNT_DONE);
+    EXPECT(keycount_cluster_generation(&c, &out) == KEYCOUNT_DONE && out == 3);
+    EXPECT(keycount_cluster_settled(&c, &out) == KEYCOUNT_DONE && out == 1);
+    EXPECT(keycount_cluster_phase(&c, &out) == KEYCOUNT_DONE && out == KEYCOUNT_STABLE);
+    EXPECT(keycount_cluster_granted(&c, b, partitions, 4, &count) == KEYCOUNT_DONE && count == 2);
+    EXPECT(partitions[0] == 2 && partitions[1] == 3);
+    EXPECT(keycount_cluster_sync(&c, a, &generation, partitions, 4, offsets, 4, &count)
+           == KEYCOUNT_DONE);
+    EXPECT(keycount_cluster_next_step(&c, a, &out) == KEYCOUNT_DONE && out == KEYCOUNT_READ);
+    EXPECT(keycount_cluster_rejoin(&c, a, 3, partitions, count) == KEYCOUNT_NOTHING_TO_GIVE);
+
+    uint32_t members[2];
+    EXPECT(keycount_cluster_members(&c, members, 1, &count) == KEYCOUNT_TOO_SHORT && count == 2);
+    EXPECT(keycount_cluster_members(&c, members, 2, &count) == KEYCOUNT_DONE && count == 2);
+    EXPECT(members[0] == a && members[1] == b);
+    EXPECT(keycount_cluster_leave(&c, a) == KEYCOUNT_DONE);
+    EXPECT(keycount_cluster_leave(&c, a) == KEYCOUNT_UNKNOWN_MEMBER);
+    EXPECT(keycount_cluster_lose(&c, b) == KEYCOUNT_DONE);
+    EXPECT(keycount_cluster_members(&c, members, 2, &count) == KEYCOUNT_DONE && count == 0);
+    EXPECT(keycount_cluster_free(&c) == KEYCOUNT_DONE);
+}
+
+static void a_static_member_comes_back(void) {
+    keycount_cluster c = KEYCOUNT_NONE;
+    uint32_t a, again, generation, partitions[4], offsets[4];
+    size_t count;
+    EXPECT(keycount_cluster_new(&c, &four, 1, seed, 32) == KEYCOUNT_DONE);
+    EXPECT(keycount_cluster_take_over(&c, TEXT("A"), &again) == KEYCOUNT_NOT_KEPT);
+    EXPECT(keycount_cluster_join_kept(&c, TEXT("A"), &a) == KEYCOUNT_DONE && a == 1);
+    EXPECT(keycount_cluster_take_over(&c, TEXT("A"), &again) == KEYCOUNT_DONE && again == 2);
+    EXPECT(keycount_cluster_granted(&c, a, partitions, 4, &count) == KEYCOUNT_UNKNOWN_MEMBER);
+    EXPECT(keycount_cluster_sync(&c, again, &generation, partitions, 4, offsets, 4, &count)
+           == KEYCOUNT_DONE);
+    EXPECT(generation == 1 && count == 4);
+    EXPECT(keycount_cluster_free(&c) == KEYCOUNT_DONE);
+}
+
+static void a_commit_counts_once(void) {
+    keycount_cluster c = KEYCOUNT_NONE;
+    const uint32_t two[2] = {2, 3};
+    uint32_t a, b, partition, offset, out, generation, partitions[5], offsets[5], keys[4];
+    uint64_t number;
+    size_t count;
+    EXPECT(keycount_cluster_new(&c, two, 2, seed, 32) == KEYCOUNT_DONE);
+    for (int i = 0; i < 3; i++)
+        EXPECT(keycount_cluster_append(&c, 1, TEXT("foobar"), &partition, &offset)
+               == KEYCOUNT_DONE);
+    /* 1357151166 modulo 3 is 0, after the first topic's two. */
+    EXPECT(partition == 2 && offset == 2);
+    EXPECT(keycount_cluster_join(&c, TEXT("A"), &a) == KEYCOUNT_DONE);
+    EXPECT(keycount_cluster_sync(&c, a, &generation, partitions, 5, offsets, 5, &count)
+           == KEYCOUNT_DONE);
+    EXPECT(keycount_cluster_read(&c, 2, 0, keys, 2, &count) == KEYCOUNT_DONE && count == 2);
+
+    out = 77;
+    EXPECT(keycount_cluster_commit(&c, 9, 1, 2, 0, keys, 2, &out) == KEYCOUNT_UNKNOWN_MEMBER);
+    EXPECT(keycount_cluster_commit(&c, a, 0, 2, 0, keys, 2, &out) == KEYCOUNT_STALE_GENERATION);
+    EXPECT(keycount_cluster_commit(&c, a, 1, 5, 0, keys, 2, &out) == KEYCOUNT_NOT_OWNER);
+    EXPECT(keycount_cluster_commit(&c, a, 1, 2, 0, keys, 0, &out) == KEYCOUNT_EMPTY_COMMIT);
+    keys[2] = keys[3] = 0;
+    EXPECT(keycount_cluster_commit(&c, a, 1, 2, 0, keys, 4, &out) == KEYCOUNT_PAST_END);
+    keys[0] = 1;
+    EXPECT(keycount_cluster_commit(&c, a, 1, 2, 0, keys, 2, &out) == KEYCOUNT_WRONG_RECORDS);
+    keys[0] = 0;
+    EXPECT(out == 77);
+    EXPECT(keycount_cluster_commit(&c, a, 1, 2, 0, keys, 2, &out) == KEYCOUNT_DONE && out == 2);
+    out = 77;
+    EXPECT(keycount_cluster_commit(&c, a, 1, 2, 0, keys, 2, &out) == KEYCOUNT_OFFSET_MISMATCH);
+    EXPECT(out == 2);
+    EXPECT(keycount_cluster_count(&c, 0, &number) == KEYCOUNT_DONE && number == 2);
+    EXPECT(keycount_cluster_committed(&c, 2, &out) == KEYCOUNT_DONE && out == 2);
+
+    /* Another member goes on from there, with the first's commit come too late. */
+    EXPECT(keycount_cluster_lose(&c, a) == KEYCOUNT_DONE);
+    EXPECT(keycount_cluster_join(&c, TEXT("B"), &b) == KEYCOUNT_DONE);
+    EXPECT(keycount_cluster_commit(&c, a, 1, 2, 2, keys, 1, &out) == KEYCOUNT_UNKNOWN_MEMBER);
+    EXPECT(keycount_cluster_sync(&c, b, &generation, partitions, 5, offsets, 5, &count)
+           == KEYCOUNT_DONE);
+    EXPECT(count == 5 && partitions[2] == 2 && offsets[2] == 2 && offsets[3] == 0);
+    EXPECT(keycount_cluster_commit(&c, b, generation, 2, 2, keys, 1, &out) == KEYCOUNT_DONE);
+    EXPECT(keycount_cluster_count(&c, 0, &number) == KEYCOUNT_DONE && number == 3);
+    EXPECT(keycount_cluster_free(&c) == KEYCOUNT_DONE);
+}
+
+/* The hashes are of Kafka's own tests. */
+static void keys_have_their_places(void) {
+    uint32_t partition = 77;
+    EXPECT(keycount_murmur2(TEXT("21")) == (uint32_t)-973932308);
+    EXPECT(keycount_murmur2(TEXT("foobar")) == (uint32_t)-790332482);
+    EXPECT(keycount_murmur2(TEXT("a-little-bit-long-string")) == (uint32_t)-985981536);
+    EXPECT(keycount_place(0, TEXT("21"), &partition) == KEYCOUNT_BAD_ARGUMENT);
+    EXPECT(keycount_place(4097, TEXT("21"), &partition) == KEYCOUNT_BAD_ARGUMENT);
+    EXPECT(partition == 77);
+    EXPECT(keycount_place(4, TEXT("foobar"), &partition) == KEYCOUNT_DONE && partition == 2);
+    EXPECT(keycount_place(4096, TEXT("foobar"), &partition) == KEYCOUNT_DONE);
+    EXPECT(partition == 1357151166 % 4096);
+}
+
+int main(void) {
+    keys_have_their_places();
+    an_empty_handle_answers_so_and_writes_nothing();
+    arguments_are_tested();
+    records_are_appended_and_read();
+    partitions_move_when_they_are_given_up();
+    a_static_member_comes_back();
+    a_commit_counts_once();
+    return 0;
+}

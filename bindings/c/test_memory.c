@@ -1,0 +1,134 @@
+/* Each allocation fails in turn, in each call that allocates: the call is done all the same, or returns
+ * 90 with the cluster as it was. Link with --wrap for malloc and realloc. */
+#include "keycount.h"
+
+#include <stdio.h>
+#include <stdlib.h>
+#include <string.h>
+
+#define EXPECT(holds)                                                            \
+    do {                                                                         \
+        if (!(holds)) {                                                          \
+            fprintf(stderr, "test_memory.c:%d: not so: %s\n", __LINE__, #holds); \
+            exit(1);                                                             \
+        }                                                                        \
+    } while (0)
+
+void *__real_malloc(size_t size);
+void *__real_realloc(void *block, size_t size);
+
+static long left = -1; /* how many allocations succeed before the one that fails; -1: none fails */
+static unsigned long refusals;
+
+static int fails(void) {
+    if (left < 0) return 0;
+    if (left > 0) {
+        left--;
+        return 0;
+    }
+    left = -1;
+    return 1;
+}
+
+void *__wrap_malloc(size_t size) {
+    return fails() ? NULL : __real_malloc(size);
+}
+
+void *__wrap_realloc(void *block, size_t size) {
+    return fails() ? NULL : __real_realloc(block, size);
+}
+
+/* Makes a call with its first allocation failing, then the second, and so on, until it is done: it may
+ * be done without an allocation that failed. */
+#define EACH_FAILS(call, unchanged)                   \
+    do {                                              \
+        for (long n = 0;; n++) {                      \
+            left = n;                                 \
+            uint32_t answer = (call);                 \
+            left = -1;                                \
+            if (answer == KEYCOUNT_DONE) break;       \
+            EXPECT(answer == KEYCOUNT_OUT_OF_MEMORY); \
+            EXPECT(unchanged);                        \
+            refusals++;                               \
+        }                                             \
+    } while (0)
+
+enum { PARTITIONS = 5, KEYS = 300 };
+
+/* What of a cluster can change. */
+struct look {
+    uint32_t generation, phase, keys, ends[PARTITIONS], committed[PARTITIONS], owners[PARTITIONS];
+    uint32_t members[4];
+    size_t count;
+};
+
+static struct look look(keycount_cluster *c) {
+    struct look l;
+    memset(&l, 0, sizeof l);
+    EXPECT(keycount_cluster_generation(c, &l.generation) == KEYCOUNT_DONE);
+    EXPECT(keycount_cluster_phase(c, &l.phase) == KEYCOUNT_DONE);
+    EXPECT(keycount_cluster_keys(c, &l.keys) == KEYCOUNT_DONE);
+    EXPECT(keycount_cluster_members(c, l.members, 4, &l.count) == KEYCOUNT_DONE);
+    for (uint32_t p = 0; p < PARTITIONS; p++) {
+        EXPECT(keycount_cluster_end(c, p, &l.ends[p]) == KEYCOUNT_DONE);
+        EXPECT(keycount_cluster_committed(c, p, &l.committed[p]) == KEYCOUNT_DONE);
+        EXPECT(keycount_cluster_owner(c, p, &l.owners[p]) == KEYCOUNT_DONE);
+    }
+    return l;
+}
+
+static int same(keycount_cluster *c, const struct look *before) {
+    struct look now = look(c);
+    return memcmp(&now, before, sizeof now) == 0;
+}
+
+int main(void) {
+    keycount_cluster c = KEYCOUNT_NONE;
+    const uint32_t topics[2] = {2, 3};
+    const uint8_t seed[32] = {1};
+    uint32_t a, b, out, offset, generation, partitions[PARTITIONS], offsets[PARTITIONS];
+    uint32_t keys[KEYS];
+    size_t count, leased;
+    struct look before;
+
+    EACH_FAILS(keycount_cluster_new(&c, topics, 2, seed, 32), c.at == NULL);
+    for (int i = 0; i < KEYS; i++) {
+        char key[16];
+        size_t len = (size_t)snprintf(key, sizeof key, "key-%d", i);
+        before = look(&c);
+        EACH_FAILS(keycount_cluster_append(&c, 1, (const uint8_t *)key, len, &out, &offset),
+                   same(&c, &before));
+    }
+    before = look(&c);
+    EACH_FAILS(keycount_cluster_join_kept(&c, (const uint8_t *)"A", 1, &a), same(&c, &before));
+    before = look(&c);
+    EACH_FAILS(keycount_cluster_join(&c, (const uint8_t *)"B", 1, &b), same(&c, &before));
+    before = look(&c);
+    EACH_FAILS(keycount_cluster_sync(&c, a, &generation, partitions, PARTITIONS, offsets,
+                                     PARTITIONS, &leased),
+               same(&c, &before));
+    before = look(&c);
+    EACH_FAILS(keycount_cluster_rejoin(&c, a, generation, partitions, leased), same(&c, &before));
+    before = look(&c);
+    EACH_FAILS(keycount_cluster_take_over(&c, (const uint8_t *)"A", 1, &a), same(&c, &before));
+    before = look(&c);
+    EACH_FAILS(keycount_cluster_leave(&c, b), same(&c, &before));
+    EXPECT(keycount_cluster_sync(&c, a, &generation, partitions, PARTITIONS, offsets, PARTITIONS,
+                                 &leased)
+           == KEYCOUNT_DONE);
+    for (size_t i = 0; i < leased; i++) {
+        uint32_t p = partitions[i];
+        EXPECT(keycount_cluster_read(&c, p, 0, keys, KEYS, &count) == KEYCOUNT_DONE);
+        if (count == 0) continue;
+        before = look(&c);
+        EACH_FAILS(keycount_cluster_commit(&c, a, generation, p, 0, keys, count, &offset),
+                   same(&c, &before));
+        EXPECT(offset == count);
+    }
+    for (uint32_t number = 0; number < KEYS; number++) {
+        uint64_t committed;
+        EXPECT(keycount_cluster_count(&c, number, &committed) == KEYCOUNT_DONE && committed == 1);
+    }
+    EXPECT(refusals > 30);
+    return keycount_cluster_free(&c) == KEYCOUNT_DONE ? 0 : 1;
+}

@@ -1,0 +1,463 @@
+"""The coordinator of a consumer group: who reads which partition, and what is committed.
+
+    from keycount import Cluster
+
+    with Cluster(partitions=12) as c:
+        c.append(b"user-17")
+        member = c.join("worker-1")
+        lease = c.sync(member)
+        for partition, offset in lease.offsets.items():
+            keys = c.read(partition, offset)
+            if keys:
+                c.commit(member, lease.generation, partition, offset, keys)
+        assert c.counts() == {b"user-17": 1}
+
+It is a state machine without threads, files or a clock: each event is a call. A call that is
+refused raises a `Refusal`, and changes nothing. Each step is the one that is proved of the library
+(docs/LIBRARY.md); this module only calls it.
+"""
+
+import ctypes
+import os
+import threading
+from typing import Dict, Iterable, List, NamedTuple, Optional, Sequence, Set, Tuple, Union
+
+__all__ = [
+    "Cluster", "Lease", "Step", "Phase", "Refusal", "AlreadyJoined", "ClaimDiffers", "Closed",
+    "EmptyCommit", "GenerationsOver", "KeyTooLong", "LogFull", "NameUsed", "NotKept", "NotOwner",
+    "NothingToGive", "OffsetMismatch", "PastEnd", "RebalanceInProgress", "StaleGeneration",
+    "SyncFirst", "TooManyMembers", "UnknownMember", "WrongRecords", "murmur2", "place",
+]
+
+_U8, _U32, _U64, _SIZE = ctypes.c_uint8, ctypes.c_uint32, ctypes.c_uint64, ctypes.c_size_t
+
+
+class _Handle(ctypes.Structure):
+    _fields_ = [("at", ctypes.c_void_p)]
+
+
+_HANDLE, _U32S, _U8S = (ctypes.POINTER(t) for t in (_Handle, _U32, _U8))
+_COUNT, _U64S = ctypes.POINTER(_SIZE), ctypes.POINTER(_U64)
+_CALLS = {
+    "new": [_U32S, _SIZE, _U8S, _SIZE],
+    "free": [],
+    "append": [_U32, _U8S, _SIZE, _U32S, _U32S],
+    "join": [_U8S, _SIZE, _U32S],
+    "join_kept": [_U8S, _SIZE, _U32S],
+    "take_over": [_U8S, _SIZE, _U32S],
+    "rejoin": [_U32, _U32, _U32S, _SIZE],
+    "sync": [_U32, _U32S, _U32S, _SIZE, _U32S, _SIZE, _COUNT],
+    "leave": [_U32],
+    "lose": [_U32],
+    "commit": [_U32, _U32, _U32, _U32, _U32S, _SIZE, _U32S],
+    "next_step": [_U32, _U32S],
+    "phase": [_U32S],
+    "generation": [_U32S],
+    "settled": [_U32S],
+    "partitions": [_U32S],
+    "keys": [_U32S],
+    "members": [_U32S, _SIZE, _COUNT],
+    "granted": [_U32, _U32S, _SIZE, _COUNT],
+    "assigned": [_U32, _U32S, _SIZE, _COUNT],
+    "owner": [_U32, _U32S],
+    "end": [_U32, _U32S],
+    "committed": [_U32, _U32S],
+    "read": [_U32, _U32, _U32S, _SIZE, _COUNT],
+    "key": [_U32, _U8S, _SIZE, _COUNT],
+    "count": [_U32, _U64S],
+}
+
+
+def _load() -> ctypes.CDLL:
+    lib = ctypes.CDLL(os.environ.get("KEYCOUNT_LIBRARY", "libkeycount.so.1"))
+    for name, types in _CALLS.items():
+        call = getattr(lib, "keycount_cluster_" + name)
+        call.argtypes = [_HANDLE, *types]
+        call.restype = _U32
+    lib.keycount_murmur2.argtypes = [_U8S, _SIZE]
+    lib.keycount_place.argtypes = [_U32, _U8S, _SIZE, _U32S]
+    lib.keycount_murmur2.restype = lib.keycount_place.restype = _U32
+    return lib
+
+
+_lib = _load()
+
+
+class Refusal(Exception):
+    """Why a call was refused. Nothing has changed. `code` is its number, as in `keycount explain`."""
+
+    code = 0
+
+
+class UnknownMember(Refusal):
+    """No present member has this number."""
+
+    code = 1
+
+
+class StaleGeneration(Refusal):
+    """The generation is not the group's present one."""
+
+    code = 2
+
+
+class RebalanceInProgress(Refusal):
+    """The member has joined a rebalance that is not complete."""
+
+    code = 3
+
+
+class NothingToGive(Refusal):
+    """The group is stable and the member has nothing to revoke."""
+
+    code = 4
+
+
+class SyncFirst(Refusal):
+    """The member has not synced in this generation."""
+
+    code = 5
+
+
+class ClaimDiffers(Refusal):
+    """The claim is not what the member is assigned."""
+
+    code = 6
+
+
+class AlreadyJoined(Refusal):
+    """The member has joined this rebalance before."""
+
+    code = 7
+
+
+class NameUsed(Refusal):
+    """Somebody joined under this name before."""
+
+    code = 8
+
+
+class TooManyMembers(Refusal):
+    """The group has had its 512 members."""
+
+    code = 9
+
+
+class NotOwner(Refusal):
+    """The partition is not granted to the member."""
+
+    code = 10
+
+
+class OffsetMismatch(Refusal):
+    """The commit does not begin at the committed offset, which is `committed`."""
+
+    code = 11
+
+    def __init__(self, committed: int):
+        super().__init__(f"the commit does not begin at the committed offset, {committed}")
+        self.committed = committed
+
+
+class PastEnd(Refusal):
+    """The commit ends past the end of its log."""
+
+    code = 12
+
+
+class WrongRecords(Refusal):
+    """The commit's records are not those of its log."""
+
+    code = 13
+
+
+class EmptyCommit(Refusal):
+    """The commit has no records."""
+
+    code = 14
+
+
+class KeyTooLong(Refusal):
+    """The key is longer than 65535 bytes."""
+
+    code = 20
+
+
+class LogFull(Refusal):
+    """The log is full, or no number is left for a new key."""
+
+    code = 21
+
+
+class GenerationsOver(Refusal):
+    """The group has had its last generation."""
+
+    code = 31
+
+
+class NotKept(Refusal):
+    """No present static member has this name."""
+
+    code = 33
+
+
+class Closed(ValueError):
+    """The cluster is closed."""
+
+
+_REFUSALS = {kind.code: kind for kind in Refusal.__subclasses__()}
+_OUT_OF_MEMORY, _NO_VALUE, _BAD_ARGUMENT, _TOO_SHORT = 90, 101, 103, 104
+
+
+class Step:
+    """What a member does next: see `Cluster.next_step`."""
+
+    SYNC, REJOIN, READ = range(3)
+
+
+class Phase:
+    """Whether the group is empty, prepares a generation, or is stable."""
+
+    EMPTY, PREPARING, STABLE = range(3)
+
+
+class Lease(NamedTuple):
+    """What a member is assigned in a generation, and the offset to read each partition from."""
+
+    generation: int
+    offsets: Dict[int, int]
+
+    @property
+    def partitions(self) -> Set[int]:
+        """The partitions that it is assigned."""
+        return set(self.offsets)
+
+
+def _bytes(text: Union[bytes, bytearray, str]) -> Tuple[ctypes.Array, int]:
+    raw = text.encode() if isinstance(text, str) else bytes(text)
+    return (_U8 * max(1, len(raw))).from_buffer_copy(raw or b"\0"), len(raw)
+
+
+def _numbers(numbers: Sequence[int]) -> Tuple[ctypes.Array, int]:
+    if not all(0 <= n < 2**32 for n in numbers):
+        raise ValueError("a number has 32 bits")
+    return (_U32 * max(1, len(numbers)))(*numbers), len(numbers)
+
+
+def _number(n: int) -> int:
+    if not 0 <= n < 2**32:
+        raise ValueError("a number has 32 bits")
+    return n
+
+
+def murmur2(key: Union[bytes, str]) -> int:
+    """The murmur2 hash of a key, as in Kafka's Java client, without a sign."""
+    return _lib.keycount_murmur2(*_bytes(key))
+
+
+def place(partitions: int, key: Union[bytes, str]) -> int:
+    """The partition of a key among 1 to 4096, as in Kafka's Java client."""
+    partition = _U32()
+    _raise(_lib.keycount_place(_number(partitions), *_bytes(key), partition))
+    return partition.value
+
+
+class Cluster:
+    """A group of members, the logs that they read, and the committed offsets and counts.
+
+    `partitions` is a number of partitions, 1 to 4096, or of several topics a list of such numbers,
+    1 to 8 with 4096 at most in all; partitions are numbered from 0 over all topics. `seed`, 32
+    bytes, seeds the hash table of the keys.
+
+    Threads may share it: a lock lets one call in at a time.
+    """
+
+    def __init__(self, partitions: Union[int, Sequence[int]], seed: Optional[bytes] = None):
+        counts = [partitions] if isinstance(partitions, int) else list(partitions)
+        self._handle = _Handle()
+        self._lock = threading.Lock()
+        self._call("new", *_numbers(counts), *_bytes(os.urandom(32) if seed is None else seed))
+
+    # ---- steps
+
+    def append(self, key: Union[bytes, str], topic: int = 0) -> Tuple[int, int]:
+        """Appends a record with this key to a topic. Returns its partition, which murmur2 gives as
+        in Kafka's Java client, and its offset there. KeyTooLong, LogFull."""
+        partition, offset = _U32(), _U32()
+        self._call("append", _number(topic), *_bytes(key), partition, offset)
+        return partition.value, offset.value
+
+    def join(self, name: str, static: bool = False) -> int:
+        """A member joins under a name that nobody has used: 1 to 32 ASCII letters, digits, '-' and
+        '_'. Returns its number. The seat of a static member can be taken over by name. NameUsed,
+        TooManyMembers, GenerationsOver."""
+        member = _U32()
+        self._call("join_kept" if static else "join", *_bytes(name), member)
+        return member.value
+
+    def take_over(self, name: str) -> int:
+        """The seat of the static member of this name goes to a new number, which is returned,
+        without a rebalance. NotKept, TooManyMembers."""
+        member = _U32()
+        self._call("take_over", *_bytes(name), member)
+        return member.value
+
+    def rejoin(self, member: int, generation: int, claim: Iterable[int]) -> None:
+        """A member gives up what it is not assigned and joins the rebalance. It tells the
+        generation of its lease, and claims the partitions of it. UnknownMember, StaleGeneration,
+        AlreadyJoined, SyncFirst, NothingToGive, ClaimDiffers, GenerationsOver."""
+        self._call("rejoin", _number(member), _number(generation), *_numbers(sorted(claim)))
+
+    def sync(self, member: int) -> Lease:
+        """A member takes its lease of the present generation. UnknownMember,
+        RebalanceInProgress."""
+        room = self.partitions()
+        generation, count = _U32(), _SIZE()
+        partitions, offsets = (_U32 * room)(), (_U32 * room)()
+        self._call("sync", _number(member), generation, partitions, room, offsets, room, count)
+        n = count.value
+        return Lease(generation.value, dict(zip(partitions[:n], offsets[:n])))
+
+    def leave(self, member: int) -> None:
+        """A member leaves, and its partitions go to others. UnknownMember, GenerationsOver."""
+        self._call("leave", _number(member))
+
+    def lose(self, member: int) -> None:
+        """A member is lost, which is the same to the group."""
+        self._call("lose", _number(member))
+
+    def commit(self, member: int, generation: int, partition: int, offset: int,
+               keys: Sequence[int]) -> int:
+        """A member commits the records of a partition from this offset on, by their key numbers,
+        as a whole. Returns the new committed offset. UnknownMember, StaleGeneration, NotOwner,
+        EmptyCommit, OffsetMismatch, PastEnd, WrongRecords."""
+        committed = _U32()
+        try:
+            self._call("commit", _number(member), _number(generation), _number(partition),
+                       _number(offset), *_numbers(keys), committed)
+        except OffsetMismatch:
+            raise OffsetMismatch(committed.value) from None
+        return committed.value
+
+    # ---- what can be read
+
+    def next_step(self, member: int) -> int:
+        """What a member does next: `Step.SYNC`, `Step.REJOIN` or `Step.READ`. One that is not
+        present is told to sync, which then raises UnknownMember."""
+        return self._read("next_step", _number(member))
+
+    def phase(self) -> int:
+        """`Phase.EMPTY`, `Phase.PREPARING` or `Phase.STABLE`."""
+        return self._read("phase")
+
+    def generation(self) -> int:
+        """The generation, 0 before the first."""
+        return self._read("generation")
+
+    def is_settled(self) -> bool:
+        """Whether the group is stable and no member has a partition to give up."""
+        return self._read("settled") == 1
+
+    def partitions(self) -> int:
+        """The number of partitions of all topics."""
+        return self._read("partitions")
+
+    def members(self) -> List[int]:
+        """The present members, in rising order."""
+        return self._list(_U32, "members")
+
+    def granted(self, member: int) -> Set[int]:
+        """The partitions that a member may read and commit. UnknownMember."""
+        return set(self._list(_U32, "granted", _number(member)))
+
+    def assigned(self, member: int) -> Set[int]:
+        """The partitions of a member's next lease. UnknownMember."""
+        return set(self._list(_U32, "assigned", _number(member)))
+
+    def owner(self, partition: int) -> Optional[int]:
+        """The member that a partition is granted to, if there is one."""
+        return self._read("owner", _number(partition)) or None
+
+    def end(self, partition: int) -> int:
+        """The offset of a partition's next record."""
+        return self._read("end", _number(partition))
+
+    def committed(self, partition: int) -> int:
+        """The committed offset of a partition."""
+        return self._read("committed", _number(partition))
+
+    def read(self, partition: int, offset: int, most: int = 1000) -> List[int]:
+        """At most `most` records of a partition from an offset on, as key numbers."""
+        keys, count = (_U32 * max(1, most))(), _SIZE()
+        self._call("read", _number(partition), _number(offset), keys, most, count)
+        return keys[: count.value]
+
+    def key(self, number: int) -> bytes:
+        """The key with this number. Keys are numbered from 0, in the order in which they were
+        first appended."""
+        return bytes(self._list(_U8, "key", _number(number)))
+
+    def count(self, number: int) -> int:
+        """How often the key with this number is among the committed records."""
+        count = _U64()
+        self._call("count", _number(number), count)
+        return count.value
+
+    def counts(self) -> Dict[bytes, int]:
+        """How often each key is among the committed records."""
+        return {self.key(n): self.count(n) for n in range(self._read("keys"))}
+
+    # ---- its end
+
+    def close(self) -> None:
+        """Frees the cluster. A later call raises Closed."""
+        with self._lock:
+            _lib.keycount_cluster_free(self._handle)
+
+    def __enter__(self) -> "Cluster":
+        return self
+
+    def __exit__(self, *_: object) -> None:
+        self.close()
+
+    def __del__(self) -> None:
+        if hasattr(self, "_lock"):
+            self.close()
+
+    # ---- calls
+
+    def _answer(self, name: str, *args: object) -> int:
+        with self._lock:
+            return getattr(_lib, "keycount_cluster_" + name)(self._handle, *args)
+
+    def _call(self, name: str, *args: object) -> None:
+        _raise(self._answer(name, *args))
+
+    def _read(self, name: str, *args: object) -> int:
+        value = _U32()
+        self._call(name, *args, value)
+        return value.value
+
+    def _list(self, item: type, name: str, *args: object) -> list:
+        room, count = 16, _SIZE()
+        while True:
+            items = (item * room)()
+            answer = self._answer(name, *args, items, room, count)
+            if answer != _TOO_SHORT:
+                _raise(answer)
+                return items[: count.value]
+            room = count.value
+
+
+def _raise(answer: int) -> None:
+    if answer == 0:
+        return
+    if answer == OffsetMismatch.code:
+        raise OffsetMismatch(0)
+    if answer in _REFUSALS:
+        raise _REFUSALS[answer](_REFUSALS[answer].__doc__)
+    if answer == _OUT_OF_MEMORY:
+        raise MemoryError
+    if answer == _NO_VALUE:
+        raise Closed("the cluster is closed")
+    raise ValueError("an argument is out of range")

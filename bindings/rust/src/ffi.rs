@@ -1,0 +1,131 @@
+//! The declarations of `keycount.h`. Nothing compares the two: they change together.
+
+use std::ffi::c_void;
+
+#[derive(Debug)]
+#[repr(C)]
+pub struct Handle {
+    pub at: *mut c_void,
+}
+
+extern "C" {
+    pub fn keycount_cluster_new(
+        cluster: *mut Handle,
+        partitions: *const u32,
+        topics: usize,
+        seed: *const u8,
+        seed_len: usize,
+    ) -> u32;
+    pub fn keycount_cluster_free(cluster: *mut Handle) -> u32;
+    pub fn keycount_cluster_append(
+        cluster: *mut Handle,
+        topic: u32,
+        key: *const u8,
+        key_len: usize,
+        partition: *mut u32,
+        offset: *mut u32,
+    ) -> u32;
+    pub fn keycount_cluster_join(
+        cluster: *mut Handle,
+        name: *const u8,
+        name_len: usize,
+        member: *mut u32,
+    ) -> u32;
+    pub fn keycount_cluster_join_kept(
+        cluster: *mut Handle,
+        name: *const u8,
+        name_len: usize,
+        member: *mut u32,
+    ) -> u32;
+    pub fn keycount_cluster_take_over(
+        cluster: *mut Handle,
+        name: *const u8,
+        name_len: usize,
+        member: *mut u32,
+    ) -> u32;
+    pub fn keycount_cluster_rejoin(
+        cluster: *mut Handle,
+        member: u32,
+        generation: u32,
+        claim: *const u32,
+        claim_len: usize,
+    ) -> u32;
+    pub fn keycount_cluster_sync(
+        cluster: *mut Handle,
+        member: u32,
+        generation: *mut u32,
+        partitions: *mut u32,
+        partitions_room: usize,
+        offsets: *mut u32,
+        offsets_room: usize,
+        count: *mut usize,
+    ) -> u32;
+    pub fn keycount_cluster_leave(cluster: *mut Handle, member: u32) -> u32;
+    pub fn keycount_cluster_lose(cluster: *mut Handle, member: u32) -> u32;
+    pub fn keycount_cluster_commit(
+        cluster: *mut Handle,
+        member: u32,
+        generation: u32,
+        partition: u32,
+        from: u32,
+        keys: *const u32,
+        keys_len: usize,
+        committed: *mut u32,
+    ) -> u32;
+    pub fn keycount_cluster_next_step(cluster: *mut Handle, member: u32, step: *mut u32) -> u32;
+    pub fn keycount_cluster_phase(cluster: *mut Handle, phase: *mut u32) -> u32;
+    pub fn keycount_cluster_generation(cluster: *mut Handle, generation: *mut u32) -> u32;
+    pub fn keycount_cluster_settled(cluster: *mut Handle, settled: *mut u32) -> u32;
+    pub fn keycount_cluster_partitions(cluster: *mut Handle, partitions: *mut u32) -> u32;
+    pub fn keycount_cluster_keys(cluster: *mut Handle, keys: *mut u32) -> u32;
+    pub fn keycount_cluster_members(
+        cluster: *mut Handle,
+        members: *mut u32,
+        room: usize,
+        count: *mut usize,
+    ) -> u32;
+    pub fn keycount_cluster_granted(
+        cluster: *mut Handle,
+        member: u32,
+        partitions: *mut u32,
+        room: usize,
+        count: *mut usize,
+    ) -> u32;
+    pub fn keycount_cluster_assigned(
+        cluster: *mut Handle,
+        member: u32,
+        partitions: *mut u32,
+        room: usize,
+        count: *mut usize,
+    ) -> u32;
+    pub fn keycount_cluster_owner(cluster: *mut Handle, partition: u32, member: *mut u32) -> u32;
+    pub fn keycount_cluster_end(cluster: *mut Handle, partition: u32, offset: *mut u32) -> u32;
+    pub fn keycount_cluster_committed(
+        cluster: *mut Handle,
+        partition: u32,
+        offset: *mut u32,
+    ) -> u32;
+    pub fn keycount_cluster_read(
+        cluster: *mut Handle,
+        partition: u32,
+        from: u32,
+        keys: *mut u32,
+        room: usize,
+        count: *mut usize,
+    ) -> u32;
+    pub fn keycount_cluster_key(
+        cluster: *mut Handle,
+        number: u32,
+        key: *mut u8,
+        room: usize,
+        count: *mut usize,
+    ) -> u32;
+    pub fn keycount_cluster_count(cluster: *mut Handle, number: u32, count: *mut u64) -> u32;
+    pub fn keycount_murmur2(key: *const u8, key_len: usize) -> u32;
+    pub fn keycount_place(
+        partitions: u32,
+        key: *const u8,
+        key_len: usize,
+        partition: *mut u32,
+    ) -> u32;
+}

@@ -1,0 +1,480 @@
+//! The coordinator of a consumer group: who reads which partition, and what is committed.
+//!
+//! It is a state machine without threads, files or a clock: each event is a call. A call that is
+//! refused returns a [`Refusal`], and changes nothing. Each step is the one that is proved of the
+//! library (docs/LIBRARY.md); this crate only calls it.
+//!
+//! ```
+//! use keycount::Cluster;
+//!
+//! let mut cluster = Cluster::new(&[12], &[7; 32])?;
+//! cluster.append(0, b"user-17")?;
+//! let member = cluster.join("worker-1")?;
+//! let lease = cluster.sync(member)?;
+//! for &(partition, offset) in &lease.offsets {
+//!     let keys = cluster.read(partition, offset, 1000)?;
+//!     if !keys.is_empty() {
+//!         cluster.commit(member, lease.generation, partition, offset, &keys)?;
+//!     }
+//! }
+//! assert_eq!(cluster.count(0)?, 1);
+//! # Ok::<(), keycount::Refusal>(())
+//! ```
+#![deny(missing_docs, unsafe_op_in_unsafe_fn)]
+
+mod ffi;
+mod refusal;
+
+use ffi::Handle;
+pub use refusal::Refusal;
+use std::ptr::null_mut;
+
+/// What a member does next.
+#[derive(Clone, Copy, Debug, PartialEq, Eq)]
+pub enum Step {
+    /// It takes the lease of this generation: [`Cluster::sync`].
+    Sync,
+    /// It commits, gives up what it is not assigned, and rejoins: [`Cluster::rejoin`].
+    Rejoin,
+    /// It reads on: nothing is to be done.
+    Read,
+}
+
+/// Whether a group is empty, prepares a generation, or is stable.
+#[derive(Clone, Copy, Debug, PartialEq, Eq)]
+pub enum Phase {
+    /// Nobody is present.
+    Empty,
+    /// A rebalance waits for members to rejoin.
+    Preparing,
+    /// A generation is complete.
+    Stable,
+}
+
+/// What a member is assigned in a generation.
+#[derive(Clone, Debug, PartialEq, Eq)]
+pub struct Lease {
+    /// The generation.
+    pub generation: u32,
+    /// The partitions that the member is assigned, in rising order, and the offset to read each
+    /// from.
+    pub offsets: Vec<(u32, u32)>,
+}
+
+impl Lease {
+    /// The partitions that the member is assigned, in rising order.
+    pub fn partitions(&self) -> Vec<u32> {
+        self.offsets
+            .iter()
+            .map(|&(partition, _)| partition)
+            .collect()
+    }
+}
+
+/// A group of members, the logs that they read, and the committed offsets and counts.
+///
+/// Each call takes `&mut self`, the readers too, since the library works on it by one call at a
+/// time. Threads share one behind a `Mutex`.
+#[derive(Debug)]
+pub struct Cluster {
+    handle: Handle,
+}
+
+// SAFETY: the library's handle is proved `Send`, and `&mut self` gives it to one call at a time.
+unsafe impl Send for Cluster {}
+
+/// The result of a call that writes an output. Only `commit` refuses with 11.
+fn done<T>(code: u32, output: T) -> Result<T, Refusal> {
+    match code {
+        0 => Ok(output),
+        code => Err(Refusal::of(code, 0)),
+    }
+}
+
+/// The result of a call that reads a number, and refuses nothing.
+fn read(call: impl FnOnce(&mut u32) -> u32) -> u32 {
+    let mut value = 0;
+    match call(&mut value) {
+        0 => value,
+        code => unreachable!("a reader returned {code}"),
+    }
+}
+
+/// The result of a call that lists items, which is made again if they do not fit.
+fn list<T: Copy + Default>(
+    mut call: impl FnMut(&mut [T], &mut usize) -> u32,
+) -> Result<Vec<T>, Refusal> {
+    const TOO_SHORT: u32 = 104;
+    let mut items = vec![T::default(); 16];
+    loop {
+        let mut count = 0;
+        match call(&mut items, &mut count) {
+            TOO_SHORT => items.resize(count, T::default()),
+            code => {
+                items.truncate(count);
+                return done(code, items);
+            }
+        }
+    }
+}
+
+/// The murmur2 hash of a key, as in Kafka's Java client.
+///
+/// ```
+/// assert_eq!(keycount::murmur2(b"foobar") as i32, -790332482);
+/// ```
+pub fn murmur2(key: &[u8]) -> u32 {
+    // SAFETY: the pointer and the length are those of one slice.
+    unsafe { ffi::keycount_murmur2(key.as_ptr(), key.len()) }
+}
+
+/// The partition of a key among 1 to 4096, as in Kafka's Java client. Refused: `BadArgument`.
+///
+/// ```
+/// assert_eq!(keycount::place(4, b"foobar"), Ok(2));
+/// ```
+pub fn place(partitions: u32, key: &[u8]) -> Result<u32, Refusal> {
+    let mut partition = 0;
+    // SAFETY: as in `murmur2`.
+    let code = unsafe { ffi::keycount_place(partitions, key.as_ptr(), key.len(), &mut partition) };
+    done(code, partition)
+}
+
+// SAFETY of each call of the library below: the handle is as the last call left it and is borrowed
+// for this one, and so are the outputs; a pointer and a length are those of one slice.
+impl Cluster {
+    /// A cluster of 1 to 8 topics with these numbers of partitions, 4096 at most in all.
+    /// Partitions are numbered from 0 over all topics. The hash table of the keys is seeded with
+    /// `seed`: random bytes, where keys come from others.
+    ///
+    /// Refused: `BadArgument`, `OutOfMemory`.
+    pub fn new(partitions: &[u32], seed: &[u8; 32]) -> Result<Cluster, Refusal> {
+        let mut handle = Handle { at: null_mut() };
+        let code = unsafe {
+            ffi::keycount_cluster_new(
+                &mut handle,
+                partitions.as_ptr(),
+                partitions.len(),
+                seed.as_ptr(),
+                seed.len(),
+            )
+        };
+        done(code, Cluster { handle })
+    }
+
+    /// Appends a record with this key to a topic, 0 being the first. Returns its partition, which
+    /// murmur2 gives as in Kafka's Java client, and its offset there.
+    ///
+    /// Refused: `KeyTooLong`, `LogFull`, `BadArgument` (no such topic), `OutOfMemory`.
+    pub fn append(&mut self, topic: u32, key: &[u8]) -> Result<(u32, u32), Refusal> {
+        let (mut partition, mut offset) = (0, 0);
+        let code = unsafe {
+            ffi::keycount_cluster_append(
+                &mut self.handle,
+                topic,
+                key.as_ptr(),
+                key.len(),
+                &mut partition,
+                &mut offset,
+            )
+        };
+        done(code, (partition, offset))
+    }
+
+    /// A member joins under a name that nobody has used: 1 to 32 ASCII letters, digits, `-` and
+    /// `_`. Returns its number, from 1 on.
+    ///
+    /// Refused: `NameUsed`, `TooManyMembers`, `GenerationsOver`, `BadArgument`, `OutOfMemory`.
+    ///
+    /// ```
+    /// let mut cluster = keycount::Cluster::new(&[4], &[7; 32])?;
+    /// let first = cluster.join("a")?;
+    /// let second = cluster.join("b")?;
+    /// // Nothing of the first's is given away before it has revoked it.
+    /// assert_eq!(cluster.granted(first)?, [0, 1, 2, 3]);
+    /// assert_eq!(cluster.granted(second)?, []);
+    /// # Ok::<(), keycount::Refusal>(())
+    /// ```
+    pub fn join(&mut self, name: &str) -> Result<u32, Refusal> {
+        let mut member = 0;
+        let code = unsafe {
+            ffi::keycount_cluster_join(&mut self.handle, name.as_ptr(), name.len(), &mut member)
+        };
+        done(code, member)
+    }
+
+    /// The same for a static member, whose seat another process can take over by name.
+    pub fn join_static(&mut self, name: &str) -> Result<u32, Refusal> {
+        let mut member = 0;
+        let code = unsafe {
+            ffi::keycount_cluster_join_kept(
+                &mut self.handle,
+                name.as_ptr(),
+                name.len(),
+                &mut member,
+            )
+        };
+        done(code, member)
+    }
+
+    /// The seat of the static member of this name goes to a new number, which is returned, without
+    /// a rebalance. The new one syncs next; the old one is no longer present.
+    ///
+    /// Refused: `NotKept`, `TooManyMembers`, `BadArgument`, `OutOfMemory`.
+    pub fn take_over(&mut self, name: &str) -> Result<u32, Refusal> {
+        let mut member = 0;
+        let code = unsafe {
+            ffi::keycount_cluster_take_over(
+                &mut self.handle,
+                name.as_ptr(),
+                name.len(),
+                &mut member,
+            )
+        };
+        done(code, member)
+    }
+
+    /// A member gives up what it is not assigned and joins the rebalance. It tells the generation
+    /// of its lease, and claims the partitions of it.
+    ///
+    /// Refused: `UnknownMember`, `StaleGeneration`, `AlreadyJoined`, `SyncFirst`, `NothingToGive`,
+    /// `ClaimDiffers`, `GenerationsOver`, `BadArgument` (no such partition), `OutOfMemory`.
+    pub fn rejoin(&mut self, member: u32, generation: u32, claim: &[u32]) -> Result<(), Refusal> {
+        let code = unsafe {
+            ffi::keycount_cluster_rejoin(
+                &mut self.handle,
+                member,
+                generation,
+                claim.as_ptr(),
+                claim.len(),
+            )
+        };
+        done(code, ())
+    }
+
+    /// A member takes its lease of the present generation.
+    ///
+    /// Refused: `UnknownMember`, `RebalanceInProgress`, `OutOfMemory`.
+    pub fn sync(&mut self, member: u32) -> Result<Lease, Refusal> {
+        let room = self.partitions() as usize;
+        let (mut partitions, mut offsets) = (vec![0; room], vec![0; room]);
+        let (mut generation, mut count) = (0, 0);
+        let code = unsafe {
+            ffi::keycount_cluster_sync(
+                &mut self.handle,
+                member,
+                &mut generation,
+                partitions.as_mut_ptr(),
+                room,
+                offsets.as_mut_ptr(),
+                room,
+                &mut count,
+            )
+        };
+        let offsets = partitions.into_iter().zip(offsets).take(count).collect();
+        done(
+            code,
+            Lease {
+                generation,
+                offsets,
+            },
+        )
+    }
+
+    /// A member leaves, and its partitions go to others.
+    ///
+    /// Refused: `UnknownMember`, `GenerationsOver`, `OutOfMemory`.
+    pub fn leave(&mut self, member: u32) -> Result<(), Refusal> {
+        done(
+            unsafe { ffi::keycount_cluster_leave(&mut self.handle, member) },
+            (),
+        )
+    }
+
+    /// A member is lost, which is the same to the group.
+    pub fn lose(&mut self, member: u32) -> Result<(), Refusal> {
+        done(
+            unsafe { ffi::keycount_cluster_lose(&mut self.handle, member) },
+            (),
+        )
+    }
+
+    /// A member commits the records of a partition from an offset on, by their key numbers, as a
+    /// whole. Returns the new committed offset.
+    ///
+    /// Refused: `UnknownMember`, `StaleGeneration`, `NotOwner`, `EmptyCommit`, `OffsetMismatch`,
+    /// `PastEnd`, `WrongRecords`, `OutOfMemory`.
+    ///
+    /// ```
+    /// use keycount::{Cluster, Refusal};
+    ///
+    /// let mut cluster = Cluster::new(&[1], &[7; 32])?;
+    /// cluster.append(0, b"k")?;
+    /// let member = cluster.join("a")?;
+    /// let lease = cluster.sync(member)?;
+    /// assert_eq!(cluster.commit(member, lease.generation, 0, 0, &[0])?, 1);
+    /// // It comes again, and is not counted again.
+    /// assert_eq!(
+    ///     cluster.commit(member, lease.generation, 0, 0, &[0]),
+    ///     Err(Refusal::OffsetMismatch { committed: 1 })
+    /// );
+    /// assert_eq!(cluster.count(0)?, 1);
+    /// # Ok::<(), Refusal>(())
+    /// ```
+    pub fn commit(
+        &mut self,
+        member: u32,
+        generation: u32,
+        partition: u32,
+        offset: u32,
+        keys: &[u32],
+    ) -> Result<u32, Refusal> {
+        let mut committed = 0;
+        let code = unsafe {
+            ffi::keycount_cluster_commit(
+                &mut self.handle,
+                member,
+                generation,
+                partition,
+                offset,
+                keys.as_ptr(),
+                keys.len(),
+                &mut committed,
+            )
+        };
+        match code {
+            0 => Ok(committed),
+            code => Err(Refusal::of(code, committed)),
+        }
+    }
+
+    /// What a member does next. One that is not present is told to sync, which is then refused.
+    pub fn next_step(&mut self, member: u32) -> Step {
+        let step = |out: &mut u32| unsafe {
+            ffi::keycount_cluster_next_step(&mut self.handle, member, out)
+        };
+        match read(step) {
+            0 => Step::Sync,
+            1 => Step::Rejoin,
+            _ => Step::Read,
+        }
+    }
+
+    /// The phase of the group.
+    pub fn phase(&mut self) -> Phase {
+        match read(|out| unsafe { ffi::keycount_cluster_phase(&mut self.handle, out) }) {
+            0 => Phase::Empty,
+            1 => Phase::Preparing,
+            _ => Phase::Stable,
+        }
+    }
+
+    /// The generation, 0 before the first.
+    pub fn generation(&mut self) -> u32 {
+        read(|out| unsafe { ffi::keycount_cluster_generation(&mut self.handle, out) })
+    }
+
+    /// Whether the group is stable and no member has a partition to give up.
+    pub fn is_settled(&mut self) -> bool {
+        read(|out| unsafe { ffi::keycount_cluster_settled(&mut self.handle, out) }) == 1
+    }
+
+    /// The number of partitions of all topics.
+    pub fn partitions(&mut self) -> u32 {
+        read(|out| unsafe { ffi::keycount_cluster_partitions(&mut self.handle, out) })
+    }
+
+    /// The number of different keys.
+    pub fn keys(&mut self) -> u32 {
+        read(|out| unsafe { ffi::keycount_cluster_keys(&mut self.handle, out) })
+    }
+
+    /// The member that a partition is granted to, if there is one.
+    pub fn owner(&mut self, partition: u32) -> Option<u32> {
+        match read(|out| unsafe { ffi::keycount_cluster_owner(&mut self.handle, partition, out) }) {
+            0 => None,
+            member => Some(member),
+        }
+    }
+
+    /// The offset of a partition's next record. Refused: `BadArgument`.
+    pub fn end(&mut self, partition: u32) -> Result<u32, Refusal> {
+        let mut offset = 0;
+        let code = unsafe { ffi::keycount_cluster_end(&mut self.handle, partition, &mut offset) };
+        done(code, offset)
+    }
+
+    /// The committed offset of a partition. Refused: `BadArgument`.
+    pub fn committed(&mut self, partition: u32) -> Result<u32, Refusal> {
+        let mut offset = 0;
+        let code =
+            unsafe { ffi::keycount_cluster_committed(&mut self.handle, partition, &mut offset) };
+        done(code, offset)
+    }
+
+    /// How often the key with this number is among the committed records. Refused: `BadArgument`.
+    pub fn count(&mut self, number: u32) -> Result<u64, Refusal> {
+        let mut count = 0;
+        let code = unsafe { ffi::keycount_cluster_count(&mut self.handle, number, &mut count) };
+        done(code, count)
+    }
+
+    /// The key with this number. Keys are numbered from 0, in the order in which they were first
+    /// appended. Refused: `BadArgument`.
+    pub fn key(&mut self, number: u32) -> Result<Vec<u8>, Refusal> {
+        list(|key: &mut [u8], count| unsafe {
+            ffi::keycount_cluster_key(&mut self.handle, number, key.as_mut_ptr(), key.len(), count)
+        })
+    }
+
+    /// The present members, in rising order.
+    pub fn members(&mut self) -> Vec<u32> {
+        list(|out: &mut [u32], count| unsafe {
+            ffi::keycount_cluster_members(&mut self.handle, out.as_mut_ptr(), out.len(), count)
+        })
+        .expect("the members can always be listed")
+    }
+
+    /// The partitions that a member may read and commit, in rising order. Refused:
+    /// `UnknownMember`.
+    pub fn granted(&mut self, member: u32) -> Result<Vec<u32>, Refusal> {
+        list(|out: &mut [u32], count| unsafe {
+            let handle = &mut self.handle;
+            ffi::keycount_cluster_granted(handle, member, out.as_mut_ptr(), out.len(), count)
+        })
+    }
+
+    /// The partitions of a member's next lease, in rising order. Refused: `UnknownMember`.
+    pub fn assigned(&mut self, member: u32) -> Result<Vec<u32>, Refusal> {
+        list(|out: &mut [u32], count| unsafe {
+            let handle = &mut self.handle;
+            ffi::keycount_cluster_assigned(handle, member, out.as_mut_ptr(), out.len(), count)
+        })
+    }
+
+    /// At most `most` records of a partition from an offset on, as key numbers. Refused:
+    /// `BadArgument`, where there is no such partition or the offset is past its end.
+    pub fn read(&mut self, partition: u32, offset: u32, most: usize) -> Result<Vec<u32>, Refusal> {
+        let mut keys = vec![0; most];
+        let mut count = 0;
+        let code = unsafe {
+            ffi::keycount_cluster_read(
+                &mut self.handle,
+                partition,
+                offset,
+                keys.as_mut_ptr(),
+                keys.len(),
+                &mut count,
+            )
+        };
+        keys.truncate(count);
+        done(code, keys)
+    }
+}
+
+impl Drop for Cluster {
+    fn drop(&mut self) {
+        // SAFETY: as above. No other call follows.
+        unsafe { ffi::keycount_cluster_free(&mut self.handle) };
+    }
+}

@@ -1,0 +1,113 @@
+//! Calls each function of the crate, and compares with what the rules say.
+
+use keycount::{Cluster, Phase, Refusal, Step};
+
+const SEED: [u8; 32] = [7; 32];
+
+#[test]
+fn records_are_appended_and_read() -> Result<(), Refusal> {
+    // The partitions are those of Kafka's own tests of murmur2.
+    let mut c = Cluster::new(&[4], &SEED)?;
+    assert_eq!(c.append(0, b"foobar")?, (2, 0));
+    assert_eq!(c.append(0, b"21")?, (0, 0));
+    assert_eq!(c.append(0, b"21")?, (0, 1));
+    assert_eq!(c.append(0, &[b'x'; 65536]), Err(Refusal::KeyTooLong));
+    assert_eq!(c.append(1, b"21"), Err(Refusal::BadArgument));
+    assert_eq!(c.read(0, 0, 9)?, [1, 1]);
+    assert_eq!(c.read(0, 0, 1)?, [1]);
+    assert_eq!(c.read(0, 3, 9), Err(Refusal::BadArgument));
+    assert_eq!(
+        (c.keys(), c.key(0)?, c.key(1)?),
+        (2, b"foobar".to_vec(), b"21".to_vec())
+    );
+    assert_eq!(c.key(2), Err(Refusal::BadArgument));
+    assert_eq!((c.end(0)?, c.committed(0)?, c.count(1)?), (2, 0, 0));
+    c.append(0, &[b'x'; 100])?;
+    assert_eq!(c.key(2)?, [b'x'; 100]);
+    Ok(())
+}
+
+#[test]
+fn partitions_move_when_they_are_given_up() -> Result<(), Refusal> {
+    let mut c = Cluster::new(&[4], &SEED)?;
+    assert_eq!((c.phase(), c.partitions()), (Phase::Empty, 4));
+    let (a, b) = (c.join("A")?, c.join("B")?);
+    assert_eq!((a, b, c.phase()), (1, 2, Phase::Preparing));
+    assert_eq!(c.next_step(a), Step::Sync);
+    let lease = c.sync(a)?;
+    assert_eq!(lease.offsets, [(0, 0), (1, 0), (2, 0), (3, 0)]);
+    assert_eq!(c.next_step(a), Step::Rejoin);
+    c.rejoin(a, lease.generation, &lease.partitions())?;
+    assert_eq!(
+        (c.granted(a)?, c.assigned(a)?),
+        (vec![0, 1, 2, 3], vec![0, 1])
+    );
+    for member in [a, b] {
+        let lease = c.sync(member)?;
+        c.rejoin(member, lease.generation, &lease.partitions())?;
+    }
+    assert_eq!(
+        (c.generation(), c.phase(), c.is_settled()),
+        (3, Phase::Stable, true)
+    );
+    assert_eq!((c.granted(a)?, c.granted(b)?), (vec![0, 1], vec![2, 3]));
+    assert_eq!((c.owner(3), c.owner(4)), (Some(b), None));
+    c.sync(a)?;
+    assert_eq!(c.next_step(a), Step::Read);
+    c.leave(a)?;
+    c.lose(b)?;
+    assert_eq!(c.members(), []);
+    assert_eq!(c.granted(a), Err(Refusal::UnknownMember));
+    Ok(())
+}
+
+#[test]
+fn a_static_member_comes_back() -> Result<(), Refusal> {
+    let mut c = Cluster::new(&[2], &SEED)?;
+    assert_eq!(c.take_over("A"), Err(Refusal::NotKept));
+    c.join_static("A")?;
+    let again = c.take_over("A")?;
+    assert_eq!((again, c.members()), (2, vec![2]));
+    Ok(())
+}
+
+#[test]
+fn a_commit_counts_once_and_says_why_not_again() -> Result<(), Refusal> {
+    let mut c = Cluster::new(&[2, 3], &SEED)?;
+    for _ in 0..3 {
+        assert_eq!(c.append(1, b"foobar")?.0, 2);
+    }
+    let a = c.join("A")?;
+    let g = c.sync(a)?.generation;
+    let keys = c.read(2, 0, 2)?;
+    assert_eq!(c.commit(a, g, 2, 0, &keys)?, 2);
+    assert_eq!(
+        c.commit(a, g, 2, 0, &keys),
+        Err(Refusal::OffsetMismatch { committed: 2 })
+    );
+    assert_eq!(c.commit(a, g, 2, 2, &[1]), Err(Refusal::WrongRecords));
+    assert_eq!((c.committed(2)?, c.count(0)?), (2, 2));
+    Ok(())
+}
+
+#[test]
+fn arguments_are_tested() {
+    let most = [4096, 1];
+    for partitions in [&[0][..], &[4097], &[], &[1; 9], &most] {
+        assert_eq!(
+            Cluster::new(partitions, &SEED).unwrap_err(),
+            Refusal::BadArgument
+        );
+    }
+    let mut c = Cluster::new(&most[..1], &SEED).unwrap();
+    assert_eq!(c.join("a b"), Err(Refusal::BadArgument));
+    assert_eq!(c.rejoin(1, 1, &[4096]), Err(Refusal::BadArgument));
+}
+
+#[test]
+fn a_cluster_goes_to_another_thread() {
+    let mut c = Cluster::new(&[1], &SEED).unwrap();
+    let member = c.join("A").unwrap();
+    let members = std::thread::spawn(move || c.members()).join().unwrap();
+    assert_eq!(members, [member]);
+}

@@ -1,0 +1,66 @@
+-- A loop that writes a list to the front of an output.
+use Rattle.std.proofs.Common.{◌≡◌, ◌∙◌, ℕ, ◌+◌, ◌<◌, ◌≤◌, ◌==◌, Bool, true, false, ◌||◌, List, [], ◌∷◌, ◌++◌, refl, sym, ap, arith, drop, length, take}
+use Rattle.std.specs.Prelude.{slice_set}
+use Rattle.std.proofs.lemmas.Bool.Decides.{nat_tests}
+use Rattle.std.proofs.lemmas.List.{append_assoc, append-nil, drop-set-lt, length-set, take-append-drop, take_more_set}
+use Rattle.bit_planes.specs.PartitionSet.{PartitionSet, elements, is_in, size}
+use Rattle.bit_planes.proofs.Listed.{is_listed, length-elements, listed_elements}
+use Rattle.keycount_c.specs.Lists.{with_front}
+
+-- so far `count` items of a list stand at the front of what was `old`, and `rest` is left
+pub record IsFilling (items rest : List ℕ) (count : ℕ) (out old : List ℕ) : Type 0 where
+  pub front : take count out ++ rest ≡ items
+  pub back : (n : ℕ) → count ≤ n → drop n out ≡ drop n old
+  pub len : length out ≡ length old
+  pub sum : count + length rest ≡ length items
+
+pub filling_none : (items rest old : List ℕ) → rest ≡ items → IsFilling items rest 0 old old
+filling_none items rest old e = let n = ap length e in record { front = e; back = λ m le. refl; len = refl; sum = omega (arith, n) }
+
+-- there is room for one more
+pub filling_room : (items rest rest' out old : List ℕ) (count x : ℕ) → rest ≡ x ∷ rest' → length items ≤ length old → IsFilling items rest count out old → count < length out
+filling_room items rest rest' out old count x e room f = let n = ap length e in omega (arith, n, room, f.sum, f.len)
+
+pub filling_one : (items rest rest' out old : List ℕ) (count x : ℕ) → rest ≡ x ∷ rest' → length items ≤ length old → IsFilling items rest count out old → IsFilling items rest' (count + 1) (slice_set out count x) old
+filling_one items rest rest' out old count x e room f =
+    let lt = filling_room items rest rest' out old count x e room f in
+    let n = ap length e in
+    record {
+      front = ap (λ ys. ys ++ rest') (take_more_set out count x lt) ∙ append_assoc (take count out) (x ∷ []) rest' ∙ ap (λ ys. take count out ++ ys) (sym e) ∙ f.front;
+      back = λ m le. drop-set-lt m out count x (omega (arith, le)) ∙ f.back m (omega (arith, le));
+      len = length-set out count x ∙ f.len;
+      sum = omega (arith, n, f.sum);
+    }
+
+-- all are written
+pub filling_all : (items rest out old : List ℕ) (count : ℕ) → rest ≡ [] → IsFilling items rest count out old → (out ≡ with_front items old) × (count ≡ length items)
+filling_all items rest out old count e f =
+    let m = ap length e in
+    let n : count ≡ length items = omega (arith, m, f.sum) in
+    let all : take count out ≡ items = sym (append-nil (take count out)) ∙ ap (λ ys. take count out ++ ys) (sym e) ∙ f.front in
+    (sym (take-append-drop count out) ∙ ap (λ ys. ys ++ drop count out) all ∙ ap (λ ys. items ++ ys) (f.back count (omega arith)) ∙ ap (λ k. items ++ drop k old) n, n)
+
+-- what is left is of a set
+abbrev pub AreOf : PartitionSet → List ℕ → Type 0
+AreOf s rest = (q : ℕ) → is_listed q rest ≡ true → is_in s q ≡ true
+
+pub elements_of : (s : PartitionSet) (rest : List ℕ) → rest ≡ elements s → AreOf s rest
+elements_of s rest e q h = sym (listed_elements s q) ∙ ap (is_listed q) (sym e) ∙ h
+
+this : (n : ℕ) (x : Bool) → ((n == n) || x) ≡ true
+this n x = grind (arith, nat_tests)
+
+first_or : (x : Bool) → (x || true) ≡ true
+first_or true = refl
+first_or false = refl
+
+pub first_of : (s : PartitionSet) (rest rest' : List ℕ) (q : ℕ) → rest ≡ q ∷ rest' → AreOf s rest → is_in s q ≡ true
+first_of s rest rest' q e of = of q (ap (is_listed q) e ∙ this q (is_listed q rest'))
+
+pub rest_of : (s : PartitionSet) (rest rest' : List ℕ) (q : ℕ) → rest ≡ q ∷ rest' → AreOf s rest → AreOf s rest'
+rest_of s rest rest' q e of p h = of p (ap (is_listed p) e ∙ ap (λ b. (p == q) || b) h ∙ first_or (p == q))
+
+-- the size of a set is the number of its elements
+pub length_elements : (s : PartitionSet) → length (elements s) ≡ size s
+unfolding size
+length_elements s = length-elements s

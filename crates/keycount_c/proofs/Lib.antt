@@ -1,0 +1,4 @@
+pub mod ClusterValues
+pub mod Filling
+pub mod Leased
+pub mod Present

@@ -1,0 +1,9 @@
+-- What a handle is seen as.
+use Rattle.std.specs.Prelude.{Option, Some, None, if◌then◌else◌}
+use Rattle.group_machine.specs.Cluster.{ClusterState}
+use Rattle.keycount_c.specs.declared.cluster.handle.ClusterHandle.{ClusterHandle}
+use Rattle.raw_box.specs.Owned.{is_none_at}
+
+-- the cluster behind a handle, if there is one
+abbrev pub cluster_in : ClusterHandle → Option ClusterState
+cluster_in h = if is_none_at h.at then None else Some h.state

@@ -1,0 +1,5 @@
+pub mod Answers
+pub mod Calls
+pub mod Held
+pub mod Lists
+pub mod Places
