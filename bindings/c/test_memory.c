@@ -113,9 +113,17 @@ int main(void) {
     EACH_FAILS(keycount_cluster_take_over(&c, (const uint8_t *)"A", 1, &a), same(&c, &before));
     before = look(&c);
     EACH_FAILS(keycount_cluster_leave(&c, b), same(&c, &before));
+    /* Alone again, it gives up what B was to get, and then gets it back. */
     EXPECT(keycount_cluster_sync(&c, a, &generation, partitions, PARTITIONS, offsets, PARTITIONS,
                                  &leased)
            == KEYCOUNT_DONE);
+    EXPECT(leased < PARTITIONS);
+    before = look(&c);
+    EACH_FAILS(keycount_cluster_rejoin(&c, a, generation, partitions, leased), same(&c, &before));
+    EXPECT(keycount_cluster_sync(&c, a, &generation, partitions, PARTITIONS, offsets, PARTITIONS,
+                                 &leased)
+           == KEYCOUNT_DONE);
+    EXPECT(leased == PARTITIONS);
     for (size_t i = 0; i < leased; i++) {
         uint32_t p = partitions[i];
         EXPECT(keycount_cluster_read(&c, p, 0, keys, KEYS, &count) == KEYCOUNT_DONE);

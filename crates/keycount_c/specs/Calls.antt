@@ -16,14 +16,17 @@ use Rattle.keycount_c.specs.Lists.{IsCopied, IsListed, with_front}
 use Rattle.keycount_c.specs.declared.answers.TheConstants.{BAD_ARGUMENT, DONE, HAS_VALUE, MEMORY, NO_VALUE, TOO_SHORT}
 
 -- a step of a cluster: what it answers unless memory is refused, and the state after it
-pub record IsStep {V : Type 0} (expected : Result V Refusal) (s next : ClusterState) (answer : Result V Refusal) (s' : ClusterState) : Type 0 where
+pub record IsStep {V : Type 0} (expected : Result V Refusal) (s next : ClusterState)
+    (answer : Result V Refusal) (s' : ClusterState) : Type 0 where
   pub answers : Answers expected answer
   pub ok : OnOk answer (s' ≡ next)
   pub err : OnErr answer (s' ≡ s)
 
 -- a call that makes such a step, returns the number of its answer, and writes its outputs by
 -- `write`
-pub record MakesStep {V O : Type 0} (write : Result V Refusal → O → O) (expected : Result V Refusal) (s next : ClusterState) (out : O) (code : ℕ) (out' : O) (after : Option ClusterState) : Type 0 where
+pub record MakesStep {V O : Type 0} (write : Result V Refusal → O → O)
+    (expected : Result V Refusal) (s next : ClusterState) (out : O) (code : ℕ) (out' : O)
+    (after : Option ClusterState) : Type 0 where
   pub answer : Result V Refusal
   pub state : ClusterState
   pub step : IsStep expected s next answer state
@@ -32,26 +35,31 @@ pub record MakesStep {V O : Type 0} (write : Result V Refusal → O → O) (expe
   pub kept : after ≡ Some state
 
 -- a call that returns this number, and changes nothing
-abbrev pub Refuses : {O : Type 0} → ℕ → Option ClusterState → O → ℕ → O → Option ClusterState → Type 0
+abbrev pub Refuses : {O : Type 0} → ℕ → Option ClusterState → O → ℕ → O
+    → Option ClusterState → Type 0
 Refuses why before out number out' after = (number ≡ why) × (out' ≡ out) × (after ≡ before)
 
 -- a call that makes a step, if there is a cluster
 abbrev pub Steps : {V O : Type 0} → (Result V Refusal → O → O) → (ClusterState → Result V Refusal)
-    → (ClusterState → ClusterState) → Option ClusterState → O → ℕ → O → Option ClusterState → Type 0
+    → (ClusterState → ClusterState) → Option ClusterState → O → ℕ → O → Option ClusterState
+    → Type 0
 Steps write answer next None out number out' after = Refuses NO_VALUE None out number out' after
 Steps write answer next (Some s) out number out' after =
     MakesStep write (answer s) s (next s) out number out' after
 
 -- the same, if what the step requires holds
-abbrev pub StepsIf : {V O : Type 0} → (ClusterState → Bool) → (Result V Refusal → O → O) → (ClusterState → Result V Refusal)
-    → (ClusterState → ClusterState) → Option ClusterState → O → ℕ → O → Option ClusterState → Type 0
-StepsIf may write answer next None out number out' after = Refuses NO_VALUE None out number out' after
+abbrev pub StepsIf : {V O : Type 0} → (ClusterState → Bool) → (Result V Refusal → O → O)
+    → (ClusterState → Result V Refusal) → (ClusterState → ClusterState) → Option ClusterState → O
+    → ℕ → O → Option ClusterState → Type 0
+StepsIf may write answer next None out number out' after =
+    Refuses NO_VALUE None out number out' after
 StepsIf may write answer next (Some s) out number out' after =
     ((may s ≡ true) × MakesStep write (answer s) s (next s) out number out' after)
     ⊎ ((may s ≡ false) × Refuses BAD_ARGUMENT (Some s) out number out' after)
 
 -- a rejoin with a claim of these numbers, all of partitions: the claim is the set of them
-pub record RejoinsWith (member generation : ℕ) (numbers : List ℕ) (s : ClusterState) (number : ℕ) (after : Option ClusterState) : Type 0 where
+pub record RejoinsWith (member generation : ℕ) (numbers : List ℕ) (s : ClusterState) (number : ℕ)
+    (after : Option ClusterState) : Type 0 where
   pub claim : PartitionSet
   pub elements : (q : ℕ) → is_in claim q ≡ list_any (λ n. q == n) numbers
   pub partitions : partitions_of claim ≡ s.group.partitions
@@ -59,10 +67,12 @@ pub record RejoinsWith (member generation : ℕ) (numbers : List ℕ) (s : Clust
       (with_group s (rejoined_by s.group member)) tt number tt after
 
 abbrev pub Rejoins : ℕ → ℕ → List ℕ → Option ClusterState → ℕ → Option ClusterState → Type 0
-Rejoins member generation numbers None number after = Refuses {O = Unit {0}} NO_VALUE None tt number tt after
+Rejoins member generation numbers None number after =
+    Refuses {O = Unit {0}} NO_VALUE None tt number tt after
 Rejoins member generation numbers (Some s) number after =
     RejoinsWith member generation numbers s number after
-    ⊎ ((All (λ q. q < s.group.partitions) numbers → ⊥) × Refuses {O = Unit {0}} BAD_ARGUMENT (Some s) tt number tt after)
+    ⊎ ((All (λ q. q < s.group.partitions) numbers → ⊥)
+    × Refuses {O = Unit {0}} BAD_ARGUMENT (Some s) tt number tt after)
 
 -- what a sync writes: the generation, the partitions that the member is assigned, the offset to
 -- read each from, and how many these are
@@ -85,13 +95,16 @@ HasRoom s out = (s.group.partitions ≤ length out.1) × (s.group.partitions ≤
 abbrev pub Syncs : ℕ → Option ClusterState → Leased → ℕ → Leased → Option ClusterState → Type 0
 Syncs member None out number out' after = Refuses NO_VALUE None out number out' after
 Syncs member (Some s) out number out' after =
-    (HasRoom s out × MakesStep lease_written (cluster_sync_answer s member) s (with_group s (synced_by s.group member)) out number out' after)
+    (HasRoom s out
+    × MakesStep lease_written (cluster_sync_answer s member) s
+    (with_group s (synced_by s.group member)) out number out' after)
     ⊎ ((HasRoom s out → ⊥) × Refuses TOO_SHORT (Some s) out number out' after)
 
 -- a commit
 abbrev pub Commits : CommitTerms → Option ClusterState → ℕ → ℕ → ℕ → Option ClusterState → Type 0
 Commits c before out number out' after =
-    Steps offset_of (λ s. cluster_commit_answer s c) (λ s. committed_by s c) before out number out' after
+    Steps offset_of (λ s. cluster_commit_answer s c) (λ s. committed_by s c)
+    before out number out' after
 
 -- a cluster in which nothing has happened, of topics with these numbers of partitions
 pub record IsNew (counts : List ℕ) (s : ClusterState) : Type 0 where
@@ -124,26 +137,30 @@ Reads value None out number out' = (number ≡ NO_VALUE) × (out' ≡ out)
 Reads value (Some s) out number out' = (number ≡ DONE) × (out' ≡ value s)
 
 -- the same, if what it requires holds
-abbrev pub ReadsIf : {V : Type 0} → (ClusterState → Bool) → (ClusterState → V) → Option ClusterState → V → ℕ → V → Type 0
+abbrev pub ReadsIf : {V : Type 0} → (ClusterState → Bool) → (ClusterState → V)
+    → Option ClusterState → V → ℕ → V → Type 0
 ReadsIf may value None out number out' = (number ≡ NO_VALUE) × (out' ≡ out)
 ReadsIf may value (Some s) out number out' =
     ((may s ≡ true) × (number ≡ DONE) × (out' ≡ value s))
     ⊎ ((may s ≡ false) × (number ≡ BAD_ARGUMENT) × (out' ≡ out))
 
 -- a call that reads a list, if there is a cluster
-abbrev pub Lists : {X : Type 0} → (ClusterState → List X) → Option ClusterState → List X × ℕ → ℕ → List X × ℕ → Type 0
+abbrev pub Lists : {X : Type 0} → (ClusterState → List X) → Option ClusterState → List X × ℕ → ℕ
+    → List X × ℕ → Type 0
 Lists items None out number out' = (number ≡ NO_VALUE) × (out' ≡ out)
 Lists items (Some s) out number out' = IsListed (items s) out.0 number out'.0 out'.1
 
 -- the same, if what it requires holds
-abbrev pub ListsIf : {X : Type 0} → (ClusterState → Bool) → (ClusterState → List X) → Option ClusterState → List X × ℕ → ℕ → List X × ℕ → Type 0
+abbrev pub ListsIf : {X : Type 0} → (ClusterState → Bool) → (ClusterState → List X)
+    → Option ClusterState → List X × ℕ → ℕ → List X × ℕ → Type 0
 ListsIf may items None out number out' = (number ≡ NO_VALUE) × (out' ≡ out)
 ListsIf may items (Some s) out number out' =
     ((may s ≡ true) × IsListed (items s) out.0 number out'.0 out'.1)
     ⊎ ((may s ≡ false) × (number ≡ BAD_ARGUMENT) × (out' ≡ out))
 
 -- the same, of a member, if it is present
-abbrev pub ListsOf : ℕ → (ClusterState → List ℕ) → Option ClusterState → List ℕ × ℕ → ℕ → List ℕ × ℕ → Type 0
+abbrev pub ListsOf : ℕ → (ClusterState → List ℕ) → Option ClusterState → List ℕ × ℕ → ℕ
+    → List ℕ × ℕ → Type 0
 ListsOf member items None out number out' = (number ≡ NO_VALUE) × (out' ≡ out)
 ListsOf member items (Some s) out number out' =
     ((is_present s.group member ≡ true) × IsListed (items s) out.0 number out'.0 out'.1)
@@ -158,5 +175,6 @@ IsOffset s partition from =
 abbrev pub ReadsRecords : ℕ → ℕ → Option ClusterState → List ℕ × ℕ → ℕ → List ℕ × ℕ → Type 0
 ReadsRecords partition from None out number out' = (number ≡ NO_VALUE) × (out' ≡ out)
 ReadsRecords partition from (Some s) out number out' =
-    (IsOffset s partition from × (number ≡ DONE) × IsCopied (drop from (log_at s.logs partition)) out.0 out'.0 out'.1)
+    (IsOffset s partition from × (number ≡ DONE)
+    × IsCopied (drop from (log_at s.logs partition)) out.0 out'.0 out'.1)
     ⊎ ((IsOffset s partition from → ⊥) × (number ≡ BAD_ARGUMENT) × (out' ≡ out))

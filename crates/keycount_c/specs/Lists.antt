@@ -8,7 +8,8 @@ with_front items out = items ++ drop (length items) out
 
 -- a list goes to the front of an output that has room for it, and else nowhere; in both cases the
 -- number of its items is told, so that a caller can make room
-pub record IsListed {X : Type 0} (items out : List X) (answer : ℕ) (out' : List X) (count' : ℕ) : Type 0 where
+pub record IsListed {X : Type 0} (items out : List X) (answer : ℕ) (out' : List X) (count' : ℕ)
+    : Type 0 where
   pub count : count' ≡ length items
   pub fits : length items ≤ length out → (answer ≡ DONE) × (out' ≡ with_front items out)
   pub short : length out < length items → (answer ≡ TOO_SHORT) × (out' ≡ out)

@@ -79,7 +79,8 @@ fn put_members(cluster: &Cluster, out: &mut [u32])
 /// which has room for them.
 pub fn put_starts(lease: &Lease, out: &mut [u32])
     requires { length (elements lease.now.assigned) ≤ length out.old }
-    ensures { out.new ≡ with_front (map (start_of lease.now) (elements lease.now.assigned)) out.old }
+    ensures { out.new
+        ≡ with_front (map (start_of lease.now) (elements lease.now.assigned)) out.old }
 {
     let mut count = 0;
     for q in lease.assigned().iter() {

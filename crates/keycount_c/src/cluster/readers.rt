@@ -164,7 +164,8 @@ pub extern "C" fn keycount_cluster_end(
     partition: u32,
     offset: &mut u32,
 ) -> u32
-    ensures answer { ReadsIf (λ s. nat_lt partition s.group.partitions) (λ s. length (log_at s.logs partition))
+    ensures answer { ReadsIf (λ s. nat_lt partition s.group.partitions)
+        (λ s. length (log_at s.logs partition))
         (cluster_in cluster.old) offset.old result offset.new }
     ensures same { cluster_in cluster.new ≡ cluster_in cluster.old }
 {
@@ -188,7 +189,8 @@ pub extern "C" fn keycount_cluster_committed(
     partition: u32,
     offset: &mut u32,
 ) -> u32
-    ensures answer { ReadsIf (λ s. nat_lt partition s.group.partitions) (λ s. committed_at s.store partition)
+    ensures answer { ReadsIf (λ s. nat_lt partition s.group.partitions)
+        (λ s. committed_at s.store partition)
         (cluster_in cluster.old) offset.old result offset.new }
     ensures same { cluster_in cluster.new ≡ cluster_in cluster.old }
 {
@@ -213,7 +215,8 @@ pub extern "C" fn keycount_cluster_count(
     number: u32,
     count: &mut u64,
 ) -> u32
-    ensures answer { ReadsIf (λ s. nat_lt number (length s.logs.keys)) (λ s. count_at s.store number)
+    ensures answer { ReadsIf (λ s. nat_lt number (length s.logs.keys))
+        (λ s. count_at s.store number)
         (cluster_in cluster.old) count.old result count.new }
     ensures same { cluster_in cluster.new ≡ cluster_in cluster.old }
 {
@@ -308,7 +311,8 @@ pub extern "C" fn keycount_cluster_key(
     key: &mut [u8],
     count: &mut usize,
 ) -> u32
-    ensures answer { ListsIf (λ s. nat_lt number (length s.logs.keys)) (λ s. key_at s.logs.keys number)
+    ensures answer { ListsIf (λ s. nat_lt number (length s.logs.keys))
+        (λ s. key_at s.logs.keys number)
         (cluster_in cluster.old) (key.old, count.old) result (key.new, count.new) }
     ensures same { cluster_in cluster.new ≡ cluster_in cluster.old }
 {

@@ -23,7 +23,7 @@ use std::alloc::Global;
 /// Puts a new cluster behind a handle that has none. `partitions` has the number of partitions of
 /// each topic, and `seed` 32 bytes, which the hash seeds of keys are drawn from.
 ///
-/// Not done: the handle has a cluster (102); there are not 1 to 8 topics with at least one partition
+/// Not done: the handle has a cluster (102); there are not 1 to 8 topics with at least a partition
 /// each and at most 4096 in total, or not 32 bytes (103); out of memory (90).
 #[unsafe(no_mangle)]
 pub extern "C" fn keycount_cluster_new(
@@ -32,7 +32,8 @@ pub extern "C" fn keycount_cluster_new(
     partitions: &[u32],
     seed: &[u8],
 ) -> u32
-    ensures { Begins partitions.now seed.now (cluster_in cluster.old) result (cluster_in cluster.new) }
+    ensures { Begins partitions.now seed.now (cluster_in cluster.old) result
+        (cluster_in cluster.new) }
 {
     if let Some(held) = take(cluster, alloc) {
         put(cluster, held);
