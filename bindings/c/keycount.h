@@ -154,6 +154,14 @@ uint32_t keycount_cluster_assigned(keycount_cluster *cluster, uint32_t member,
 /* The member that a partition is granted to, or 0. */
 uint32_t keycount_cluster_owner(keycount_cluster *cluster, uint32_t partition, uint32_t *member);
 
+/* The moves so far, in order, but for the first `from`: each time that a completed generation granted
+ * a partition to a member that did not have it. `last` is the member that had it last, or 0. 104 */
+typedef struct keycount_move {
+    uint32_t generation, partition, last, holder;
+} keycount_move;
+uint32_t keycount_cluster_moves(keycount_cluster *cluster, size_t from, keycount_move *moves,
+                                size_t room, size_t *count);
+
 /* The offset of a partition's next record, and its committed offset. 103 */
 uint32_t keycount_cluster_end(keycount_cluster *cluster, uint32_t partition, uint32_t *offset);
 uint32_t keycount_cluster_committed(keycount_cluster *cluster, uint32_t partition,
@@ -178,6 +186,11 @@ uint32_t keycount_murmur2(const uint8_t *key, size_t key_len);
 /* The partition of a key among 1 to 4096. 103 */
 uint32_t keycount_place(uint32_t partitions, const uint8_t *key, size_t key_len,
                         uint32_t *partition);
+
+/* The same of keys that lie one after another in `bytes`, each up to its end: to the front of
+ * `places`, in their order. 103, also where the ends do not rise or `places` has less room. */
+uint32_t keycount_place_all(uint32_t partitions, const uint8_t *bytes, size_t bytes_len,
+                            const size_t *ends, size_t keys, uint32_t *places, size_t room);
 
 #ifdef __cplusplus
 }

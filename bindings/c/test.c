@@ -44,6 +44,9 @@ static void an_empty_handle_answers_so_and_writes_nothing(void) {
     EXPECT(keycount_cluster_members(&c, list, 4, &count) == KEYCOUNT_NO_VALUE);
     EXPECT(keycount_cluster_granted(&c, 1, list, 4, &count) == KEYCOUNT_NO_VALUE);
     EXPECT(keycount_cluster_assigned(&c, 1, list, 4, &count) == KEYCOUNT_NO_VALUE);
+    keycount_move move = {7, 7, 7, 7};
+    EXPECT(keycount_cluster_moves(&c, 0, &move, 1, &count) == KEYCOUNT_NO_VALUE);
+    EXPECT(move.generation == 7);
     EXPECT(keycount_cluster_owner(&c, 0, &out) == KEYCOUNT_NO_VALUE);
     EXPECT(keycount_cluster_end(&c, 0, &out) == KEYCOUNT_NO_VALUE);
     EXPECT(keycount_cluster_committed(&c, 0, &out) == KEYCOUNT_NO_VALUE);
@@ -182,6 +185,18 @@ static void partitions_move_when_they_are_given_up(void) {
     EXPECT(keycount_cluster_next_step(&c, a, &out) == KEYCOUNT_DONE && out == KEYCOUNT_READ);
     EXPECT(keycount_cluster_rejoin(&c, a, 3, partitions, count) == KEYCOUNT_NOTHING_TO_GIVE);
 
+    keycount_move moves[6];
+    EXPECT(keycount_cluster_moves(&c, 0, moves, 5, &count) == KEYCOUNT_TOO_SHORT && count == 6);
+    EXPECT(keycount_cluster_moves(&c, 0, moves, 6, &count) == KEYCOUNT_DONE && count == 6);
+    for (uint32_t p = 0; p < 4; p++)
+        EXPECT(moves[p].generation == 1 && moves[p].partition == p && moves[p].last == 0
+               && moves[p].holder == a);
+    EXPECT(keycount_cluster_moves(&c, 4, moves, 6, &count) == KEYCOUNT_DONE && count == 2);
+    for (uint32_t p = 2; p < 4; p++)
+        EXPECT(moves[p - 2].generation == 3 && moves[p - 2].partition == p
+               && moves[p - 2].last == a && moves[p - 2].holder == b);
+    EXPECT(keycount_cluster_moves(&c, 7, moves, 0, &count) == KEYCOUNT_DONE && count == 0);
+
     uint32_t members[2];
     EXPECT(keycount_cluster_members(&c, members, 1, &count) == KEYCOUNT_TOO_SHORT && count == 2);
     EXPECT(keycount_cluster_members(&c, members, 2, &count) == KEYCOUNT_DONE && count == 2);
@@ -267,6 +282,17 @@ static void keys_have_their_places(void) {
     EXPECT(keycount_place(4, TEXT("foobar"), &partition) == KEYCOUNT_DONE && partition == 2);
     EXPECT(keycount_place(4096, TEXT("foobar"), &partition) == KEYCOUNT_DONE);
     EXPECT(partition == 1357151166 % 4096);
+
+    const size_t ends[3] = {6, 6, 8}, falling[3] = {6, 5, 8}, past[3] = {6, 6, 9};
+    uint32_t places[4] = {7, 7, 7, 7};
+    EXPECT(keycount_place_all(0, TEXT("foobar21"), ends, 3, places, 4) == KEYCOUNT_BAD_ARGUMENT);
+    EXPECT(keycount_place_all(4, TEXT("foobar21"), falling, 3, places, 4) == KEYCOUNT_BAD_ARGUMENT);
+    EXPECT(keycount_place_all(4, TEXT("foobar21"), past, 3, places, 4) == KEYCOUNT_BAD_ARGUMENT);
+    EXPECT(keycount_place_all(4, TEXT("foobar21"), ends, 3, places, 2) == KEYCOUNT_BAD_ARGUMENT);
+    EXPECT(places[0] == 7 && places[2] == 7);
+    EXPECT(keycount_place_all(4, TEXT("foobar21"), ends, 3, places, 4) == KEYCOUNT_DONE);
+    /* The hash of no bytes is 275646681, as Kafka's own test has it. */
+    EXPECT(places[0] == 2 && places[1] == 275646681 % 4 && places[2] == 0 && places[3] == 7);
 }
 
 int main(void) {

@@ -18,15 +18,17 @@ refused raises a `Refusal`, and changes nothing. Each step is the one that is pr
 """
 
 import ctypes
+import itertools
 import os
 import threading
 from typing import Dict, Iterable, List, NamedTuple, Optional, Sequence, Set, Tuple, Union
 
 __all__ = [
-    "Cluster", "Lease", "Step", "Phase", "Refusal", "AlreadyJoined", "ClaimDiffers", "Closed",
+    "Cluster", "Lease", "Move", "Step", "Phase", "Refusal", "AlreadyJoined", "ClaimDiffers", "Closed",
     "EmptyCommit", "GenerationsOver", "KeyTooLong", "LogFull", "NameUsed", "NotKept", "NotOwner",
     "NothingToGive", "OffsetMismatch", "PastEnd", "RebalanceInProgress", "StaleGeneration",
     "SyncFirst", "TooManyMembers", "UnknownMember", "WrongRecords", "murmur2", "place",
+    "place_all",
 ]
 
 _U8, _U32, _U64, _SIZE = ctypes.c_uint8, ctypes.c_uint32, ctypes.c_uint64, ctypes.c_size_t
@@ -34,6 +36,10 @@ _U8, _U32, _U64, _SIZE = ctypes.c_uint8, ctypes.c_uint32, ctypes.c_uint64, ctype
 
 class _Handle(ctypes.Structure):
     _fields_ = [("at", ctypes.c_void_p)]
+
+
+class _Move(ctypes.Structure):
+    _fields_ = [(name, _U32) for name in ("generation", "partition", "last", "holder")]
 
 
 _HANDLE, _U32S, _U8S = (ctypes.POINTER(t) for t in (_Handle, _U32, _U8))
@@ -59,6 +65,7 @@ _CALLS = {
     "members": [_U32S, _SIZE, _COUNT],
     "granted": [_U32, _U32S, _SIZE, _COUNT],
     "assigned": [_U32, _U32S, _SIZE, _COUNT],
+    "moves": [_SIZE, ctypes.POINTER(_Move), _SIZE, _COUNT],
     "owner": [_U32, _U32S],
     "end": [_U32, _U32S],
     "committed": [_U32, _U32S],
@@ -76,7 +83,9 @@ def _load() -> ctypes.CDLL:
         call.restype = _U32
     lib.keycount_murmur2.argtypes = [_U8S, _SIZE]
     lib.keycount_place.argtypes = [_U32, _U8S, _SIZE, _U32S]
-    lib.keycount_murmur2.restype = lib.keycount_place.restype = _U32
+    lib.keycount_place_all.argtypes = [_U32, _U8S, _SIZE, _COUNT, _SIZE, _U32S, _SIZE]
+    for call in (lib.keycount_murmur2, lib.keycount_place, lib.keycount_place_all):
+        call.restype = _U32
     return lib
 
 
@@ -233,6 +242,15 @@ class Lease(NamedTuple):
         return set(self.offsets)
 
 
+class Move(NamedTuple):
+    """A partition that a completed generation granted to a member that did not have it."""
+
+    generation: int
+    partition: int
+    last: Optional[int]
+    holder: int
+
+
 def _bytes(text: Union[bytes, bytearray, str]) -> Tuple[ctypes.Array, int]:
     raw = text.encode() if isinstance(text, str) else bytes(text)
     return (_U8 * max(1, len(raw))).from_buffer_copy(raw or b"\0"), len(raw)
@@ -260,6 +278,17 @@ def place(partitions: int, key: Union[bytes, str]) -> int:
     partition = _U32()
     _raise(_lib.keycount_place(_number(partitions), *_bytes(key), partition))
     return partition.value
+
+
+def place_all(partitions: int, keys: Iterable[Union[bytes, str]]) -> List[int]:
+    """The partition of each key among 1 to 4096, in their order."""
+    raw = [key.encode() if isinstance(key, str) else bytes(key) for key in keys]
+    ends = list(itertools.accumulate(map(len, raw)))
+    n = len(raw)
+    places = (_U32 * max(1, n))()
+    _raise(_lib.keycount_place_all(_number(partitions), *_bytes(b"".join(raw)),
+                                   (_SIZE * max(1, n))(*ends), n, places, n))
+    return places[:n]
 
 
 class Cluster:
@@ -373,6 +402,13 @@ class Cluster:
     def assigned(self, member: int) -> Set[int]:
         """The partitions of a member's next lease. UnknownMember."""
         return set(self._list(_U32, "assigned", _number(member)))
+
+    def moves(self, start: int = 0) -> List[Move]:
+        """The moves so far, in order, from this index on."""
+        return [
+            Move(m.generation, m.partition, m.last or None, m.holder)
+            for m in self._list(_Move, "moves", start)
+        ]
 
     def owner(self, partition: int) -> Optional[int]:
         """The member that a partition is granted to, if there is one."""

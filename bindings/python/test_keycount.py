@@ -31,9 +31,13 @@ class Calls(unittest.TestCase):
         self.assertEqual(keycount.murmur2(b"foobar"), 2**32 - 790332482)
         self.assertEqual(keycount.murmur2("21"), 2**32 - 973932308)
         self.assertEqual([keycount.place(n, b"foobar") for n in (1, 3, 4)], [0, 0, 2])
+        self.assertEqual(keycount.place_all(4, [b"foobar", "", "21"]), [2, 275646681 % 4, 0])
+        self.assertEqual(keycount.place_all(4, []), [])
         for partitions in (0, 4097):
             with self.assertRaises(ValueError):
                 keycount.place(partitions, b"foobar")
+            with self.assertRaises(ValueError):
+                keycount.place_all(partitions, [b"foobar"])
 
     def test_partitions_move_when_they_are_given_up(self):
         with Cluster(partitions=4) as c:
@@ -57,6 +61,8 @@ class Calls(unittest.TestCase):
             self.assertEqual((c.generation(), c.phase()), (3, Phase.STABLE))
             self.assertEqual((c.granted(a), c.granted(b)), ({0, 1}, {2, 3}))
             self.assertEqual([c.owner(p) for p in range(5)], [a, a, b, b, None])
+            self.assertEqual(c.moves()[:4], [(1, p, None, a) for p in range(4)])
+            self.assertEqual(c.moves(4), [(3, 2, a, b), (3, 3, a, b)])
             c.sync(a)
             self.assertEqual(c.next_step(a), Step.READ)
             c.leave(a)

@@ -8,6 +8,16 @@ pub struct Handle {
     pub at: *mut c_void,
 }
 
+/// A partition that a completed generation granted to a member that did not have it.
+#[derive(Clone, Copy, Debug, Default)]
+#[repr(C)]
+pub struct MoveRow {
+    pub generation: u32,
+    pub partition: u32,
+    pub last: u32,
+    pub holder: u32,
+}
+
 extern "C" {
     pub fn keycount_cluster_new(
         cluster: *mut Handle,
@@ -98,6 +108,13 @@ extern "C" {
         room: usize,
         count: *mut usize,
     ) -> u32;
+    pub fn keycount_cluster_moves(
+        cluster: *mut Handle,
+        from: usize,
+        moves: *mut MoveRow,
+        room: usize,
+        count: *mut usize,
+    ) -> u32;
     pub fn keycount_cluster_owner(cluster: *mut Handle, partition: u32, member: *mut u32) -> u32;
     pub fn keycount_cluster_end(cluster: *mut Handle, partition: u32, offset: *mut u32) -> u32;
     pub fn keycount_cluster_committed(
@@ -127,5 +144,14 @@ extern "C" {
         key: *const u8,
         key_len: usize,
         partition: *mut u32,
+    ) -> u32;
+    pub fn keycount_place_all(
+        partitions: u32,
+        bytes: *const u8,
+        bytes_len: usize,
+        ends: *const usize,
+        keys: usize,
+        places: *mut u32,
+        room: usize,
     ) -> u32;
 }

@@ -25,7 +25,7 @@
 mod ffi;
 mod refusal;
 
-use ffi::Handle;
+use ffi::{Handle, MoveRow};
 pub use refusal::Refusal;
 use std::ptr::null_mut;
 
@@ -69,6 +69,19 @@ impl Lease {
             .map(|&(partition, _)| partition)
             .collect()
     }
+}
+
+/// A partition that a completed generation granted to a member that did not have it.
+#[derive(Clone, Copy, Debug, PartialEq, Eq)]
+pub struct Move {
+    /// The completed generation.
+    pub generation: u32,
+    /// The partition, from 0.
+    pub partition: u32,
+    /// The member that had it last, present or not, if any had it.
+    pub last: Option<u32>,
+    /// The member that has it now.
+    pub holder: u32,
 }
 
 /// A group of members, the logs that they read, and the committed offsets and counts.
@@ -138,6 +151,33 @@ pub fn place(partitions: u32, key: &[u8]) -> Result<u32, Refusal> {
     // SAFETY: as in `murmur2`.
     let code = unsafe { ffi::keycount_place(partitions, key.as_ptr(), key.len(), &mut partition) };
     done(code, partition)
+}
+
+/// The partition of each key among 1 to 4096, in their order. Refused: `BadArgument`.
+///
+/// ```
+/// assert_eq!(keycount::place_all(4, &["foobar", "21"]), Ok(vec![2, 0]));
+/// ```
+pub fn place_all<K: AsRef<[u8]>>(partitions: u32, keys: &[K]) -> Result<Vec<u32>, Refusal> {
+    let (mut bytes, mut ends) = (vec![], vec![]);
+    for key in keys {
+        bytes.extend_from_slice(key.as_ref());
+        ends.push(bytes.len());
+    }
+    let mut places = vec![0; keys.len()];
+    // SAFETY: each pointer and length are those of one slice.
+    let code = unsafe {
+        ffi::keycount_place_all(
+            partitions,
+            bytes.as_ptr(),
+            bytes.len(),
+            ends.as_ptr(),
+            ends.len(),
+            places.as_mut_ptr(),
+            places.len(),
+        )
+    };
+    done(code, places)
 }
 
 // SAFETY of each call of the library below: the handle is as the last call left it and is borrowed
@@ -433,6 +473,23 @@ impl Cluster {
             ffi::keycount_cluster_members(&mut self.handle, out.as_mut_ptr(), out.len(), count)
         })
         .expect("the members can always be listed")
+    }
+
+    /// The moves so far, in order, but for the first `from`.
+    pub fn moves(&mut self, from: usize) -> Vec<Move> {
+        list(|out: &mut [MoveRow], count| unsafe {
+            let handle = &mut self.handle;
+            ffi::keycount_cluster_moves(handle, from, out.as_mut_ptr(), out.len(), count)
+        })
+        .expect("the moves can always be listed")
+        .into_iter()
+        .map(|row| Move {
+            generation: row.generation,
+            partition: row.partition,
+            last: Some(row.last).filter(|&last| last != 0),
+            holder: row.holder,
+        })
+        .collect()
     }
 
     /// The partitions that a member may read and commit, in rising order. Refused:

@@ -1,6 +1,6 @@
 //! Calls each function of the crate, and compares with what the rules say.
 
-use keycount::{Cluster, Phase, Refusal, Step};
+use keycount::{Cluster, Move, Phase, Refusal, Step};
 
 const SEED: [u8; 32] = [7; 32];
 
@@ -52,6 +52,26 @@ fn partitions_move_when_they_are_given_up() -> Result<(), Refusal> {
     );
     assert_eq!((c.granted(a)?, c.granted(b)?), (vec![0, 1], vec![2, 3]));
     assert_eq!((c.owner(3), c.owner(4)), (Some(b), None));
+    let moves = c.moves(0);
+    assert_eq!(moves.len(), 6);
+    assert_eq!(
+        moves[0],
+        Move {
+            generation: 1,
+            partition: 0,
+            last: None,
+            holder: a
+        }
+    );
+    assert_eq!(
+        c.moves(5),
+        [Move {
+            generation: 3,
+            partition: 3,
+            last: Some(a),
+            holder: b
+        }]
+    );
     c.sync(a)?;
     assert_eq!(c.next_step(a), Step::Read);
     c.leave(a)?;

@@ -8,20 +8,20 @@ use Rattle.bit_planes.proofs.Listed.{is_listed, length-elements, listed_elements
 use Rattle.keycount_c.specs.Lists.{with_front}
 
 -- so far `count` items of a list stand at the front of what was `old`, and `rest` is left
-pub record IsFilling (items rest : List ℕ) (count : ℕ) (out old : List ℕ) : Type 0 where
+pub record IsFilling {X : Type 0} (items rest : List X) (count : ℕ) (out old : List X) : Type 0 where
   pub front : take count out ++ rest ≡ items
   pub back : (n : ℕ) → count ≤ n → drop n out ≡ drop n old
   pub len : length out ≡ length old
   pub sum : count + length rest ≡ length items
 
-pub filling_none : (items rest old : List ℕ) → rest ≡ items → IsFilling items rest 0 old old
+pub filling_none : {X : Type 0} (items rest old : List X) → rest ≡ items → IsFilling items rest 0 old old
 filling_none items rest old e = let n = ap length e in record { front = e; back = λ m le. refl; len = refl; sum = omega (arith, n) }
 
 -- there is room for one more
-pub filling_room : (items rest rest' out old : List ℕ) (count x : ℕ) → rest ≡ x ∷ rest' → length items ≤ length old → IsFilling items rest count out old → count < length out
+pub filling_room : {X : Type 0} (items rest rest' out old : List X) (count : ℕ) (x : X) → rest ≡ x ∷ rest' → length items ≤ length old → IsFilling items rest count out old → count < length out
 filling_room items rest rest' out old count x e room f = let n = ap length e in omega (arith, n, room, f.sum, f.len)
 
-pub filling_one : (items rest rest' out old : List ℕ) (count x : ℕ) → rest ≡ x ∷ rest' → length items ≤ length old → IsFilling items rest count out old → IsFilling items rest' (count + 1) (slice_set out count x) old
+pub filling_one : {X : Type 0} (items rest rest' out old : List X) (count : ℕ) (x : X) → rest ≡ x ∷ rest' → length items ≤ length old → IsFilling items rest count out old → IsFilling items rest' (count + 1) (slice_set out count x) old
 filling_one items rest rest' out old count x e room f =
     let lt = filling_room items rest rest' out old count x e room f in
     let n = ap length e in
@@ -33,7 +33,7 @@ filling_one items rest rest' out old count x e room f =
     }
 
 -- all are written
-pub filling_all : (items rest out old : List ℕ) (count : ℕ) → rest ≡ [] → IsFilling items rest count out old → (out ≡ with_front items old) × (count ≡ length items)
+pub filling_all : {X : Type 0} (items rest out old : List X) (count : ℕ) → rest ≡ [] → IsFilling items rest count out old → (out ≡ with_front items old) × (count ≡ length items)
 filling_all items rest out old count e f =
     let m = ap length e in
     let n : count ≡ length items = omega (arith, m, f.sum) in

@@ -5,10 +5,11 @@ ghost use Rattle.bit_planes.specs.PartitionSet.{elements};
 ghost use Rattle.group_machine.specs.Cluster.{start_of};
 ghost use Rattle.group_machine.specs.State.{members};
 ghost use Rattle.keycount_c.specs.Lists.{IsListed, with_front};
+ghost use Rattle.keycount_c.specs.Moves.{row_of_move};
 
 use crate::answers::{DONE, TOO_SHORT};
 use bit_planes::Plane;
-use group_machine::{Cluster, Lease};
+use group_machine::{Cluster, Lease, Move};
 
 /// Lists the elements of a set, in rising order.
 pub fn list_elements(set: &Plane, out: &mut [u32], count: &mut usize) -> u32
@@ -33,6 +34,32 @@ pub fn list_members(cluster: &Cluster, out: &mut [u32], count: &mut usize) -> u3
         return TOO_SHORT;
     }
     put_members(cluster, out);
+    DONE
+}
+
+/// A partition that a completion granted to a member that did not have it.
+#[repr(C)]
+#[derive(Clone, Copy)]
+pub struct MoveRow {
+    /// The completed generation.
+    pub generation: u32,
+    /// The partition, from 0.
+    pub partition: u32,
+    /// The member that had it last, present or not; 0 if none had it.
+    pub last: u32,
+    /// The member that has it now.
+    pub holder: u32,
+}
+
+/// Lists moves, in order.
+pub fn list_moves(moves: &[Move], out: &mut [MoveRow], count: &mut usize) -> u32
+    ensures { IsListed (map row_of_move moves.now) out.old result out.new count.new }
+{
+    *count = moves.len();
+    if out.len() < moves.len() {
+        return TOO_SHORT;
+    }
+    put_moves(moves, out);
     DONE
 }
 
@@ -72,6 +99,28 @@ fn put_members(cluster: &Cluster, out: &mut [u32])
     for member in cluster.members() {
         out[count] = member;
         count += 1;
+    }
+}
+
+/// Writes moves to the front of an output, which has room for them.
+fn put_moves(moves: &[Move], out: &mut [MoveRow])
+    requires { length moves.now ≤ length out.old }
+    ensures { out.new ≡ with_front (map row_of_move moves.now) out.old }
+{
+    for i in 0..moves.len() {
+        out[i] = row_of_move(moves[i]);
+    }
+}
+
+/// A move as C has it.
+fn row_of_move(made: Move) -> MoveRow
+    ensures { result ≡ row_of_move made }
+{
+    MoveRow {
+        generation: made.generation,
+        partition: made.partition,
+        last: made.last.unwrap_or(0),
+        holder: made.holder,
     }
 }
 

@@ -1,6 +1,6 @@
 //! What can be read of a cluster.
 
-ghost use Rattle.std.specs.Prelude.{◌≡◌, ◌<◌, ◌≤◌, drop, nat_lt, length, unwrap_or};
+ghost use Rattle.std.specs.Prelude.{◌≡◌, ◌<◌, ◌≤◌, drop, map, nat_lt, length, unwrap_or};
 ghost use Rattle.bit_planes.specs.PartitionSet.{elements};
 ghost use Rattle.partition_log.specs.Keys.{key_at};
 ghost use Rattle.partition_log.specs.Logs.{log_at};
@@ -12,12 +12,13 @@ ghost use Rattle.keycount_c.specs.Answers.{number_of_phase, number_of_step, numb
 ghost use Rattle.keycount_c.specs.Calls.{Lists, ListsIf, ListsOf, Reads, ReadsIf, ReadsRecords};
 ghost use Rattle.keycount_c.specs.Held.{cluster_in};
 ghost use Rattle.keycount_c.specs.Lists.{IsCopied};
+ghost use Rattle.keycount_c.specs.Moves.{row_of_move};
 
 use super::access::{put, take};
 use super::handle::ClusterHandle;
 use crate::answers::{BAD_ARGUMENT, DONE, NO_VALUE, UNKNOWN_MEMBER};
-use crate::lists::{list_bytes, list_elements, list_members};
-use group_machine::{Cluster, NextStep, Phase};
+use crate::lists::{MoveRow, list_bytes, list_elements, list_members, list_moves};
+use group_machine::{Move, NextStep, Phase};
 use partition_log::{LogRead, Logs};
 use std::alloc::Global;
 
@@ -328,6 +329,27 @@ pub extern "C" fn keycount_cluster_key(
     answer
 }
 
+/// The moves so far, in order, but for as many of the first. Not done: they have no room (104).
+#[unsafe(no_mangle)]
+pub extern "C" fn keycount_cluster_moves(
+    alloc: Global,
+    cluster: &mut ClusterHandle,
+    from: usize,
+    moves: &mut [MoveRow],
+    count: &mut usize,
+) -> u32
+    ensures answer { Lists (λ s. map row_of_move (drop from s.group.moves))
+        (cluster_in cluster.old) (moves.old, count.old) result (moves.new, count.new) }
+    ensures same { cluster_in cluster.new ≡ cluster_in cluster.old }
+{
+    let Some(held) = take(cluster, alloc) else {
+        return NO_VALUE;
+    };
+    let answer = list_moves(rest_from(held.moves(), from), moves, count);
+    put(cluster, held);
+    answer
+}
+
 /// The records of a partition from an offset on, by their key numbers, as many as there are and as
 /// have room. Not done: there is no such partition, or the offset is past its end (103).
 #[unsafe(no_mangle)]
@@ -375,6 +397,13 @@ fn number_of_step(step: NextStep) -> u32
         NextStep::Rejoin => 1,
         NextStep::Read => 2,
     }
+}
+
+/// The moves but for as many of the first.
+fn rest_from(moves: &[Move], from: usize) -> &[Move]
+    ensures { result.now ≡ drop from moves.now }
+{
+    &moves[from.min(moves.len())..]
 }
 
 /// Copies the records of a partition from an offset on to the front of an output, as many as there
