@@ -49,6 +49,7 @@ FILES = [
     (b'key,note\r\n"a,b","say ""no"""\r\n"x\r\ny",\r\n"","2"\r\n\r\n"a,b",3\r\n', Options(column=1, header=True)),
     (b'note,key\n"1\n2","a""b"\n3,"a""b"\n"",\n,"\xff,"\n"4"x,"""q"""z\n5,"last"', Options(column=2, header=True)),
     (b'a"b\n"c"d"\n""""\n"\n"\n', Options()),
+    (b'no,te\tkey\n"1\t2"\ta"\tb\n,"\t"a\t""\r\n"",""\n', Options(column=2, delimiter=b"\t")),
     (b'key,topic\n21,a\n"x,y","b-1"\r\n"",a\n4,b-1\n', Options(header=True, topics=((b"a", 2), (b"b-1", 3)))),
 ]
 
@@ -134,7 +135,7 @@ def file_prefix_faults(program: Path, text: bytes, options: Options) -> Iterator
     """A truncated file is counted as Python's csv reads it, or its first bad record is reported."""
     for end in range(len(text) + 1):
         prefix = text[:end]
-        read = records.read(prefix)
+        read = records.read(prefix, options.delimiter)
         fault_line = records.record_fault(read, options)
         if fault_line:
             wanted = Outcome(b"", fault_line, 1)

@@ -8,12 +8,12 @@ _keycount() {
     return
   fi
   case $command in
-    count) options="--partitions --column --header --topics --topic-column --top -h --help" ;;
-    place) options="--partitions --column --header --topics --topic-column --keys --given -h --help" ;;
-    replay) options="--partitions --column --header --topics --topic-column --batch --top -h --help" ;;
-    trace) options="--partitions --column --header --topics --topic-column --batch -h --help" ;;
-    draw) options="--partitions --column --header --topics --topic-column --batch -h --help" ;;
-    run) options="--partitions --column --header --topics --topic-column --batch --top -h --help" ;;
+    count) options="--partitions --column --header --topics --topic-column --delimiter --top -h --help" ;;
+    place) options="--partitions --column --header --topics --topic-column --delimiter --keys --given -h --help" ;;
+    replay) options="--partitions --column --header --topics --topic-column --delimiter --batch --top -h --help" ;;
+    trace) options="--partitions --column --header --topics --topic-column --delimiter --batch -h --help" ;;
+    draw) options="--partitions --column --header --topics --topic-column --delimiter --batch -h --help" ;;
+    run) options="--partitions --column --header --topics --topic-column --delimiter --batch --top -h --help" ;;
     explain) options="-h --help" values="1 2 3 4 5 6 7 8 9 10 11 12 13 14 15 16 17 18 19 20 21 22 23 24 25 26 27 28 29 30 31 32 33 90" ;;
     help)
       mapfile -t COMPREPLY < <(compgen -W "count place replay trace draw run explain help" -- "$word")
@@ -23,7 +23,7 @@ _keycount() {
   esac
   case $before in
     # These take a value.
-    --partitions | --column | --topics | --topic-column | --top | --given | --batch) return ;;
+    --partitions | --column | --topics | --topic-column | --delimiter | --top | --given | --batch) return ;;
   esac
   case $word in
     -*) mapfile -t COMPREPLY < <(compgen -W "$options" -- "$word") ;;

@@ -15,6 +15,7 @@ complete -c keycount -x -n '__fish_seen_subcommand_from count place replay trace
 complete -c keycount -n '__fish_seen_subcommand_from count place replay trace draw run' -l header -d 'Skip the first record, which is a header'
 complete -c keycount -x -n '__fish_seen_subcommand_from count place replay trace draw run' -l topics -d '1 to 8 topics as NAME:N,NAME:N with N partitions each, at most 4096 in all'
 complete -c keycount -x -n '__fish_seen_subcommand_from count place replay trace draw run' -l topic-column -d 'Column of the topic, likewise; used with --topics [default: 2]'
+complete -c keycount -x -n '__fish_seen_subcommand_from count place replay trace draw run' -l delimiter -d 'Delimiter of the fields in FILE: a character, or tab [default: ,]'
 complete -c keycount -x -n '__fish_seen_subcommand_from count replay run' -l top -d 'Count rows of only the N keys with the most records, most first'
 complete -c keycount -n '__fish_seen_subcommand_from count place replay trace draw run explain' -s h -l help -d 'Print help'
 complete -c keycount -n '__fish_seen_subcommand_from place' -l keys -d 'Print a row for each key'

@@ -31,6 +31,7 @@ class Options:
     batch: int = 0
     topics: tuple[tuple[bytes, int], ...] = ()
     topic_column: int = 2
+    delimiter: bytes = b","
 
     def words(self) -> list[bytes]:
         """The words of the command line."""
@@ -40,6 +41,8 @@ class Options:
         if self.topics:
             words += [b"--topics", b",".join(b"%s:%d" % topic for topic in self.topics)]
             words += [b"--topic-column", b"%d" % self.topic_column]
+        if self.delimiter != b",":
+            words += [b"--delimiter", b"tab" if self.delimiter == b"\t" else self.delimiter]
         return words + [b"--header"] * self.header
 
     def names(self) -> list[bytes]:
@@ -86,7 +89,9 @@ def random_options(rng: Random, batch: bool) -> Options:
     batches = (0, 1, 2, 7, 500, 1_000_000)
     topics = random_topics(rng) if rng.random() < 0.35 else ()
     topic_column = rng.choices((2, 1, 3), (70, 20, 10))[0]
-    return Options(partitions, column, rng.random() < 0.3, rng.choice(batches) if batch else 0, topics, topic_column)
+    delimiter = rng.choices((b",", b"\t", b";", b"|", b"a"), (70, 10, 10, 5, 5))[0]
+    header = rng.random() < 0.3
+    return Options(partitions, column, header, rng.choice(batches) if batch else 0, topics, topic_column, delimiter)
 
 
 def random_topics(rng: Random) -> tuple[tuple[bytes, int], ...]:
@@ -105,10 +110,11 @@ def row(*fields: bytes) -> bytes:
     return b",".join(quoted(field) if SPECIAL.search(field) else field for field in fields) + b"\n"
 
 
-def read(text: bytes) -> list[list[bytes]]:
+def read(text: bytes, delimiter: bytes = b",") -> list[list[bytes]]:
     """The records of a text. Blank lines are skipped, and so is a byte order mark at the beginning."""
     lines = io.StringIO(text.removeprefix(b"\xef\xbb\xbf").decode("latin-1"), newline="")
-    return [[field.encode("latin-1") for field in record] for record in csv.reader(lines) if record]
+    reader = csv.reader(lines, delimiter=delimiter.decode("latin-1"))
+    return [[field.encode("latin-1") for field in record] for record in reader if record]
 
 
 def record_fault(records: list[list[bytes]], options: Options) -> bytes:
@@ -181,9 +187,9 @@ def random_keys(rng: Random) -> list[bytes]:
     return [random_key(rng) for _ in range(rng.choice((1, 3, 12, 40)))]
 
 
-def written(rng: Random, field: bytes, alone: bool) -> bytes:
+def written(rng: Random, field: bytes, alone: bool, delimiter: bytes) -> bytes:
     """A field in valid CSV, sometimes quoted without need."""
-    needed = SPECIAL.search(field) or (alone and not field)
+    needed = SPECIAL.search(field) or delimiter in field or (alone and not field)
     return quoted(field) if needed or rng.random() < 0.1 else field
 
 
@@ -199,25 +205,25 @@ def careful_file(rng: Random, options: Options, keys: list[bytes]) -> bytes:
         record = [rng.choice(keys) for _ in range(width + (rng.choice((-1, 1)) if number == odd else 0))]
         if options.topics and len(record) >= options.topic_column and rng.random() < 0.999:
             record[options.topic_column - 1] = rng.choice(options.names())
-        pieces.append(b",".join(written(rng, field, len(record) == 1) for field in record))
+        pieces.append(options.delimiter.join(written(rng, field, len(record) == 1, options.delimiter) for field in record))
         pieces.append(end * rng.choices((1, 2), (95, 5))[0])
     if rng.random() < 0.01:
         # The longest valid key, or one that is a byte longer.
         record = [b"k" * (LONGEST_KEY + rng.randint(0, 1))] * width
         if options.topics and width >= options.topic_column:
             record[options.topic_column - 1] = rng.choice(options.names())
-        pieces.append(b",".join(record))
+        pieces.append(options.delimiter.join(quoted(field) if options.delimiter in field else field for field in record))
     elif pieces and rng.random() < 0.3:
         pieces.pop()
     return b"".join(pieces)
 
 
-def careless_file(rng: Random) -> bytes:
+def careless_file(rng: Random, options: Options) -> bytes:
     """Random bytes, most of which are special in CSV."""
-    letters = rng.choice((b'ab,"\n', b'a,"\r\n\xff', b'ab"\n', b"ab\n\r"))
+    letters = rng.choice((b'ab,"\n', b'a,"\r\n\xff', b'ab"\n', b"ab\n\r")).replace(b",", options.delimiter)
     return bytes(rng.choice(letters) for _ in range(rng.choice((1, 3, 8, 40, 200))))
 
 
 def random_file(rng: Random, options: Options, keys: list[bytes]) -> bytes:
     """A file of records, or with a chance of one in six one of random bytes."""
-    return careless_file(rng) if rng.random() < 0.16 else careful_file(rng, options, keys)
+    return careless_file(rng, options) if rng.random() < 0.16 else careful_file(rng, options, keys)

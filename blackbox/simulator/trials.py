@@ -67,7 +67,7 @@ def random_input(rng: Random, batch: bool, good: bool, one_topic: bool = False) 
             options = replace(options, topics=records.random_topics(rng)[:1])
         pool = records.random_keys(rng)
         text = records.random_file(rng, options, pool)
-        read = records.read(text)
+        read = records.read(text, options.delimiter)
         bad_record = records.record_fault(read, options)
         found = Input(options, pool, text, bad_record, [] if bad_record else records.keyed(read, options))
         if not good or not (bad_record or found.long_key()):

@@ -34,7 +34,8 @@ use Rattle.clap.specs.declared.parser.matches.ArgMatches.TheViews.{out-SubComman
 use Rattle.clap.specs.declared.parser.matches.ValueSource.TheVariants.{CommandLine, DefaultValue}
 use Rattle.command_line.specs.CommandLine.{HasJob, HaveBadList, IsBadListReport, IsFlag, IsJobOf, IsNumber, IsNumberIfGiven, IsRefusal, name_of, keycount_app, keycount_top, path}
 use Rattle.command_line.specs.Columns.{IsBadColumn}
-use Rattle.command_line.specs.Private.CommandLine.{IsCommand, IsOptionalNumber, AreCountRows, AreExplainRows, AreOptionRows, ArePlaceRows, AreScriptRows, IsBadReport, IsUsageOf, ReportsBadColumn, ReportsBadList, ReportsBadOption}
+use Rattle.command_line.specs.Delimiters.{IsBadDelimiter}
+use Rattle.command_line.specs.Private.CommandLine.{IsCommand, IsOptionalNumber, AreCountRows, AreExplainRows, AreOptionRows, ArePlaceRows, AreScriptRows, IsBadReport, IsUsageOf, ReportsBadColumn, ReportsBadDelimiter, ReportsBadList, ReportsBadOption}
 use Rattle.command_line.specs.Topics.{AreTopicsOf, IsBadList}
 use Rattle.partitioner.specs.declared.topic.Topic.{Topic}
 use Rattle.command_line.specs.declared.words.Job.{Job}
@@ -491,17 +492,21 @@ topic_column_preserves : PreservesRows (count_rule 5)
 topic_column_preserves [] rows e r = absurd (some_kind _ _ e)
 topic_column_preserves (v ∷ vs) rows e r = set_use RowPasses (count_rule 5) v vs rows (none_of _ _ e).1 (λ ok. (refl, (λ f. other f), (λ f. other f), (λ f. other f))) r
 
-top_preserves : PreservesRows (count_rule 6)
+delimiter_preserves : PreservesRows (count_rule 6)
+delimiter_preserves [] rows e r = absurd (some_kind _ _ e)
+delimiter_preserves (v ∷ vs) rows e r = set_use RowPasses (count_rule 6) v vs rows (none_of _ _ e).1 (λ ok. (refl, (λ f. other f), (λ f. other f), (λ f. other f))) r
+
+top_preserves : PreservesRows (count_rule 7)
 top_preserves [] rows e r = absurd (some_kind _ _ e)
 top_preserves (v ∷ vs) rows e r =
-    set_use RowPasses (count_rule 6) v vs rows (none_of _ _ e).1 (λ ok. (refl, (λ f. other f), (λ f. other f), (λ _. accepts-Accepts false (parser.Signed (pos 1) (pos 4294967295)) v ok))) r
+    set_use RowPasses (count_rule 7) v vs rows (none_of _ _ e).1 (λ ok. (refl, (λ f. other f), (λ f. other f), (λ _. accepts-Accepts false (parser.Signed (pos 1) (pos 4294967295)) v ok))) r
 
-batch_preserves : PreservesRows (replay_rule 7)
+batch_preserves : PreservesRows (replay_rule 8)
 batch_preserves [] rows e r = absurd (some_kind _ _ e)
 batch_preserves (v ∷ vs) rows e r =
-    set_use RowPasses (replay_rule 7) v vs rows (none_of _ _ e).1 (λ ok. (refl, (λ f. other f), (λ _. accepts-Accepts false (parser.Signed (pos 1) (pos 1000000)) v ok), (λ f. other f))) r
+    set_use RowPasses (replay_rule 8) v vs rows (none_of _ _ e).1 (λ ok. (refl, (λ f. other f), (λ _. accepts-Accepts false (parser.Signed (pos 1) (pos 1000000)) v ok), (λ f. other f))) r
 
-help_preserves : PreservesRows (count_rule 7)
+help_preserves : PreservesRows (count_rule 8)
 help_preserves values rows e r = absurd (some_kind _ _ (none_of _ _ e).1)
 
 abbrev DefaultPreservesRows : Rule → Type 0
@@ -584,24 +589,28 @@ topic_column_preserves_given : PreservesGiven (place_rule 5)
 topic_column_preserves_given [] rows e r = absurd (some_kind _ _ e)
 topic_column_preserves_given (v ∷ vs) rows e r = set_use GivenPasses (place_rule 5) v vs rows (none_of _ _ e).1 (λ ok f. other f) r
 
-keys_preserves_given : PreservesGiven (place_rule 6)
-keys_preserves_given [] rows e r = set_use GivenPasses (place_rule 6) (codes "true") [] rows e (λ ok f. other f) r
-keys_preserves_given (v ∷ vs) rows e r = set_use GivenPasses (place_rule 6) v vs rows (none_of _ _ e).1 (λ ok f. other f) r
+delimiter_preserves_given : PreservesGiven (place_rule 6)
+delimiter_preserves_given [] rows e r = absurd (some_kind _ _ e)
+delimiter_preserves_given (v ∷ vs) rows e r = set_use GivenPasses (place_rule 6) v vs rows (none_of _ _ e).1 (λ ok f. other f) r
 
-given_preserves_given : PreservesGiven (place_rule 7)
+keys_preserves_given : PreservesGiven (place_rule 7)
+keys_preserves_given [] rows e r = set_use GivenPasses (place_rule 7) (codes "true") [] rows e (λ ok f. other f) r
+keys_preserves_given (v ∷ vs) rows e r = set_use GivenPasses (place_rule 7) v vs rows (none_of _ _ e).1 (λ ok f. other f) r
+
+given_preserves_given : PreservesGiven (place_rule 8)
 given_preserves_given [] rows e r = absurd (some_kind _ _ e)
-given_preserves_given (v ∷ vs) rows e r = set_use GivenPasses (place_rule 7) v vs rows (none_of _ _ e).1 (λ ok _. accepts-Accepts false (parser.Signed (pos 1) (pos 65535)) v ok) r
+given_preserves_given (v ∷ vs) rows e r = set_use GivenPasses (place_rule 8) v vs rows (none_of _ _ e).1 (λ ok _. accepts-Accepts false (parser.Signed (pos 1) (pos 65535)) v ok) r
 
-help_preserves_given : PreservesGiven (place_rule 8)
+help_preserves_given : PreservesGiven (place_rule 9)
 help_preserves_given values rows e r = absurd (some_kind _ _ (none_of _ _ e).1)
 
-keys_preserves : PreservesRows (place_rule 6)
-keys_preserves [] rows e r = set_use RowPasses (place_rule 6) (codes "true") [] rows e (λ ok. (refl, (λ f. other f), (λ f. other f), (λ f. other f))) r
-keys_preserves (v ∷ vs) rows e r = set_use RowPasses (place_rule 6) v vs rows (none_of _ _ e).1 (λ ok. (refl, (λ f. other f), (λ f. other f), (λ f. other f))) r
+keys_preserves : PreservesRows (place_rule 7)
+keys_preserves [] rows e r = set_use RowPasses (place_rule 7) (codes "true") [] rows e (λ ok. (refl, (λ f. other f), (λ f. other f), (λ f. other f))) r
+keys_preserves (v ∷ vs) rows e r = set_use RowPasses (place_rule 7) v vs rows (none_of _ _ e).1 (λ ok. (refl, (λ f. other f), (λ f. other f), (λ f. other f))) r
 
-given_preserves : PreservesRows (place_rule 7)
+given_preserves : PreservesRows (place_rule 8)
 given_preserves [] rows e r = absurd (some_kind _ _ e)
-given_preserves (v ∷ vs) rows e r = set_use RowPasses (place_rule 7) v vs rows (none_of _ _ e).1 (λ ok. (refl, (λ f. other f), (λ f. other f), (λ f. other f))) r
+given_preserves (v ∷ vs) rows e r = set_use RowPasses (place_rule 8) v vs rows (none_of _ _ e).1 (λ ok. (refl, (λ f. other f), (λ f. other f), (λ f. other f))) r
 
 flag_default : (P : Row → Type 0) (name : Text) (a : Rule) → P (record { id = name; values = codes "false" ∷ []; count = None; source = Some DefaultValue; reading = reading_by a }) → (rows : List Row) → Each P rows
     → Each P (cond (has_row name rows) rows (default_rows name (reading_by a) (codes "false" ∷ []) rows))
@@ -616,34 +625,34 @@ no_given_default true rows r = r
 no_given_default false rows r = r
 
 place_preserves : Each (Preserves RowPasses place_shape) place_shape.rules
-place_preserves = (file_preserves, (partitions_preserves, (column_preserves, (header_preserves, (topics_preserves, (topic_column_preserves, (keys_preserves, (given_preserves, (help_preserves, tt)))))))))
+place_preserves = (file_preserves, (partitions_preserves, (column_preserves, (header_preserves, (topics_preserves, (topic_column_preserves, (delimiter_preserves, (keys_preserves, (given_preserves, (help_preserves, tt))))))))))
 
 place_preserves_given : Each PreservesGiven place_shape.rules
-place_preserves_given = (file_preserves_given, (partitions_preserves_given, (column_preserves_given, (header_preserves_given, (topics_preserves_given, (topic_column_preserves_given, (keys_preserves_given, (given_preserves_given, (help_preserves_given, tt)))))))))
+place_preserves_given = (file_preserves_given, (partitions_preserves_given, (column_preserves_given, (header_preserves_given, (topics_preserves_given, (topic_column_preserves_given, (delimiter_preserves_given, (keys_preserves_given, (given_preserves_given, (help_preserves_given, tt))))))))))
 
 place_defaults : Each (PreservesDefault RowPasses place_shape) place_shape.rules
-place_defaults = ((λ rows r. no_default (has_row (codes "file") rows) rows r), ((λ rows r. no_default (has_row (codes "partitions") rows) rows r), ((λ rows r. no_default (has_row (codes "column") rows) rows r), (header_default, ((λ rows r. no_default (has_row (codes "topics") rows) rows r), ((λ rows r. no_default (has_row (codes "topic-column") rows) rows r), (flag_default RowPasses (codes "keys") (place_rule 6) (refl, (λ f. other f), (λ f. other f), (λ f. other f)), ((λ rows r. no_default (has_row (codes "given") rows) rows r), ((λ rows r. no_default (has_row (codes "help") rows) rows r), tt)))))))))
+place_defaults = ((λ rows r. no_default (has_row (codes "file") rows) rows r), ((λ rows r. no_default (has_row (codes "partitions") rows) rows r), ((λ rows r. no_default (has_row (codes "column") rows) rows r), (header_default, ((λ rows r. no_default (has_row (codes "topics") rows) rows r), ((λ rows r. no_default (has_row (codes "topic-column") rows) rows r), ((λ rows r. no_default (has_row (codes "delimiter") rows) rows r), (flag_default RowPasses (codes "keys") (place_rule 7) (refl, (λ f. other f), (λ f. other f), (λ f. other f)), ((λ rows r. no_default (has_row (codes "given") rows) rows r), ((λ rows r. no_default (has_row (codes "help") rows) rows r), tt))))))))))
 
 place_defaults_given : Each (PreservesDefault GivenPasses place_shape) place_shape.rules
-place_defaults_given = ((λ rows r. no_given_default (has_row (codes "file") rows) rows r), ((λ rows r. no_given_default (has_row (codes "partitions") rows) rows r), ((λ rows r. no_given_default (has_row (codes "column") rows) rows r), (flag_default GivenPasses (codes "header") (place_rule 3) (λ f. other f), ((λ rows r. no_given_default (has_row (codes "topics") rows) rows r), ((λ rows r. no_given_default (has_row (codes "topic-column") rows) rows r), (flag_default GivenPasses (codes "keys") (place_rule 6) (λ f. other f), ((λ rows r. no_given_default (has_row (codes "given") rows) rows r), ((λ rows r. no_given_default (has_row (codes "help") rows) rows r), tt)))))))))
+place_defaults_given = ((λ rows r. no_given_default (has_row (codes "file") rows) rows r), ((λ rows r. no_given_default (has_row (codes "partitions") rows) rows r), ((λ rows r. no_given_default (has_row (codes "column") rows) rows r), (flag_default GivenPasses (codes "header") (place_rule 3) (λ f. other f), ((λ rows r. no_given_default (has_row (codes "topics") rows) rows r), ((λ rows r. no_given_default (has_row (codes "topic-column") rows) rows r), ((λ rows r. no_given_default (has_row (codes "delimiter") rows) rows r), (flag_default GivenPasses (codes "keys") (place_rule 7) (λ f. other f), ((λ rows r. no_given_default (has_row (codes "given") rows) rows r), ((λ rows r. no_given_default (has_row (codes "help") rows) rows r), tt))))))))))
 
 count_preserves : Each (Preserves RowPasses count_shape) count_shape.rules
-count_preserves = (file_preserves, (partitions_preserves, (column_preserves, (header_preserves, (topics_preserves, (topic_column_preserves, (top_preserves, (help_preserves, tt))))))))
+count_preserves = (file_preserves, (partitions_preserves, (column_preserves, (header_preserves, (topics_preserves, (topic_column_preserves, (delimiter_preserves, (top_preserves, (help_preserves, tt)))))))))
 
 replay_preserves : Each (Preserves RowPasses replay_shape) replay_shape.rules
-replay_preserves = (file_preserves, (script_preserves, (partitions_preserves, (column_preserves, (header_preserves, (topics_preserves, (topic_column_preserves, (batch_preserves, (top_preserves, (help_preserves, tt))))))))))
+replay_preserves = (file_preserves, (script_preserves, (partitions_preserves, (column_preserves, (header_preserves, (topics_preserves, (topic_column_preserves, (delimiter_preserves, (batch_preserves, (top_preserves, (help_preserves, tt)))))))))))
 
 trace_preserves : Each (Preserves RowPasses trace_shape) trace_shape.rules
-trace_preserves = (file_preserves, (script_preserves, (partitions_preserves, (column_preserves, (header_preserves, (topics_preserves, (topic_column_preserves, (batch_preserves, (help_preserves, tt)))))))))
+trace_preserves = (file_preserves, (script_preserves, (partitions_preserves, (column_preserves, (header_preserves, (topics_preserves, (topic_column_preserves, (delimiter_preserves, (batch_preserves, (help_preserves, tt))))))))))
 
 count_defaults : Each (PreservesDefault RowPasses count_shape) count_shape.rules
-count_defaults = ((λ rows r. no_default (has_row (codes "file") rows) rows r), ((λ rows r. no_default (has_row (codes "partitions") rows) rows r), ((λ rows r. no_default (has_row (codes "column") rows) rows r), (header_default, ((λ rows r. no_default (has_row (codes "topics") rows) rows r), ((λ rows r. no_default (has_row (codes "topic-column") rows) rows r), ((λ rows r. no_default (has_row (codes "top") rows) rows r), ((λ rows r. no_default (has_row (codes "help") rows) rows r), tt))))))))
+count_defaults = ((λ rows r. no_default (has_row (codes "file") rows) rows r), ((λ rows r. no_default (has_row (codes "partitions") rows) rows r), ((λ rows r. no_default (has_row (codes "column") rows) rows r), (header_default, ((λ rows r. no_default (has_row (codes "topics") rows) rows r), ((λ rows r. no_default (has_row (codes "topic-column") rows) rows r), ((λ rows r. no_default (has_row (codes "delimiter") rows) rows r), ((λ rows r. no_default (has_row (codes "top") rows) rows r), ((λ rows r. no_default (has_row (codes "help") rows) rows r), tt)))))))))
 
 replay_defaults : Each (PreservesDefault RowPasses replay_shape) replay_shape.rules
-replay_defaults = ((λ rows r. no_default (has_row (codes "file") rows) rows r), ((λ rows r. no_default (has_row (codes "script") rows) rows r), ((λ rows r. no_default (has_row (codes "partitions") rows) rows r), ((λ rows r. no_default (has_row (codes "column") rows) rows r), (header_default, ((λ rows r. no_default (has_row (codes "topics") rows) rows r), ((λ rows r. no_default (has_row (codes "topic-column") rows) rows r), ((λ rows r. no_default (has_row (codes "batch") rows) rows r), ((λ rows r. no_default (has_row (codes "top") rows) rows r), ((λ rows r. no_default (has_row (codes "help") rows) rows r), tt))))))))))
+replay_defaults = ((λ rows r. no_default (has_row (codes "file") rows) rows r), ((λ rows r. no_default (has_row (codes "script") rows) rows r), ((λ rows r. no_default (has_row (codes "partitions") rows) rows r), ((λ rows r. no_default (has_row (codes "column") rows) rows r), (header_default, ((λ rows r. no_default (has_row (codes "topics") rows) rows r), ((λ rows r. no_default (has_row (codes "topic-column") rows) rows r), ((λ rows r. no_default (has_row (codes "delimiter") rows) rows r), ((λ rows r. no_default (has_row (codes "batch") rows) rows r), ((λ rows r. no_default (has_row (codes "top") rows) rows r), ((λ rows r. no_default (has_row (codes "help") rows) rows r), tt)))))))))))
 
 trace_defaults : Each (PreservesDefault RowPasses trace_shape) trace_shape.rules
-trace_defaults = ((λ rows r. no_default (has_row (codes "file") rows) rows r), ((λ rows r. no_default (has_row (codes "script") rows) rows r), ((λ rows r. no_default (has_row (codes "partitions") rows) rows r), ((λ rows r. no_default (has_row (codes "column") rows) rows r), (header_default, ((λ rows r. no_default (has_row (codes "topics") rows) rows r), ((λ rows r. no_default (has_row (codes "topic-column") rows) rows r), ((λ rows r. no_default (has_row (codes "batch") rows) rows r), ((λ rows r. no_default (has_row (codes "help") rows) rows r), tt)))))))))
+trace_defaults = ((λ rows r. no_default (has_row (codes "file") rows) rows r), ((λ rows r. no_default (has_row (codes "script") rows) rows r), ((λ rows r. no_default (has_row (codes "partitions") rows) rows r), ((λ rows r. no_default (has_row (codes "column") rows) rows r), (header_default, ((λ rows r. no_default (has_row (codes "topics") rows) rows r), ((λ rows r. no_default (has_row (codes "topic-column") rows) rows r), ((λ rows r. no_default (has_row (codes "delimiter") rows) rows r), ((λ rows r. no_default (has_row (codes "batch") rows) rows r), ((λ rows r. no_default (has_row (codes "help") rows) rows r), tt))))))))))
 
 first_passes : (name : Text) (rows : List Row) → Each RowPasses rows → IsSome (find (λ r. bytes_eq r.id name) rows) → IsSome (first_of name rows)
 first_passes name rows all some = go (find (λ r. bytes_eq r.id name) rows) (λ r e. found_is RowPasses _ rows r all e) some
@@ -841,8 +850,15 @@ pub column_is_bad_option : (rows : List Row) (usage : Usage) (topics : List Topi
     → ReportsBadColumn header given usage → ReportsBadOption rows usage
 column_is_bad_option rows (Help text) topics header given list flag side reports = reports
 column_is_bad_option rows (Bad text) topics header given list flag side reports =
-    inr (record { topics = topics; list = list; header = header; is_header = flag; bad = side reports })
+    inr (inl (record { topics = topics; list = list; header = header; is_header = flag; bad = side reports }))
 column_is_bad_option rows Memory topics header given list flag side reports = tt
+
+-- and so is a delimiter that is none
+pub delimiter_is_bad_option : (rows : List Row) (usage : Usage) (topics : List Topic) → AreTopicsOf (first_of (codes "topics") rows) topics → ReportsBadDelimiter (first_of (codes "delimiter") rows) usage
+    → ReportsBadOption rows usage
+delimiter_is_bad_option rows (Help text) topics list reports = reports
+delimiter_is_bad_option rows (Bad text) topics list reports = inr (inr (record { topics = topics; list = list; bad = reports }))
+delimiter_is_bad_option rows Memory topics list reports = tt
 
 -- a usage that reports no help reports a column that is none
 pub reports_bad_column : (header : Bool) (given : Option Text) (usage : Usage) → IsBadColumn header given → IsBadReport usage → ReportsBadColumn header given usage
@@ -850,13 +866,21 @@ reports_bad_column header given (Help text) bad reports = reports
 reports_bad_column header given (Bad text) bad reports = bad
 reports_bad_column header given Memory bad reports = tt
 
+-- a usage that reports no help reports a delimiter that is none
+pub reports_bad_delimiter : (given : Option Text) (usage : Usage) → IsBadDelimiter given → IsBadReport usage → ReportsBadDelimiter given usage
+reports_bad_delimiter given (Help text) bad reports = reports
+reports_bad_delimiter given (Bad text) bad reports = bad
+reports_bad_delimiter given Memory bad reports = tt
+
 pub bad_option_is_refusal : (words : List Text) (name : Text) (rows : List Row) (usage : Usage) → fault_of keycount_app words ≡ []
     → subcommand_of keycount_app words ≡ Some (name, rows) → ReportsBadOption rows usage → IsRefusal words usage
 bad_option_is_refusal words name rows (Help text) taken found reports = absurd reports
 bad_option_is_refusal words name rows (Bad text) taken found (inl reports) =
     inr (inl (record { name = name; rows = rows; taken = taken; subcommand = found; list = reports.0 }, reports.1))
-bad_option_is_refusal words name rows (Bad text) taken found (inr column) =
-    inr (inr (record { name = name; rows = rows; taken = taken; subcommand = found; column = column }))
+bad_option_is_refusal words name rows (Bad text) taken found (inr (inl column)) =
+    inr (inr (inl (record { name = name; rows = rows; taken = taken; subcommand = found; column = column })))
+bad_option_is_refusal words name rows (Bad text) taken found (inr (inr delimiter)) =
+    inr (inr (inr (record { name = name; rows = rows; taken = taken; subcommand = found; delimiter = delimiter })))
 bad_option_is_refusal words name rows Memory taken found reports = tt
 
 -- the matches of words that clap accepts: the subcommand of a job, with its arguments
@@ -974,6 +998,8 @@ bad_list_reported words (Ok job) is refusal bad =
 bad_list_reported words (Err (Help text)) is refusal bad = subst (λ kinds. IsAmong refusal.0 kinds) bad.taken refusal.1
 bad_list_reported words (Err (Bad text)) is (inl fault) bad = absurd (subst (λ kinds. IsAmong fault.0 kinds) bad.taken fault.1)
 bad_list_reported words (Err (Bad text)) is (inr (inl list)) bad = list.1
-bad_list_reported words (Err (Bad text)) is (inr (inr column)) bad =
+bad_list_reported words (Err (Bad text)) is (inr (inr (inl column))) bad =
     absurd (bad.list column.column.topics (same_topics words column.name bad.name column.rows bad.rows column.column.topics column.subcommand bad.subcommand column.column.list))
+bad_list_reported words (Err (Bad text)) is (inr (inr (inr delimiter))) bad =
+    absurd (bad.list delimiter.delimiter.topics (same_topics words delimiter.name bad.name delimiter.rows bad.rows delimiter.delimiter.topics delimiter.subcommand bad.subcommand delimiter.delimiter.list))
 bad_list_reported words (Err Memory) is refusal bad = tt

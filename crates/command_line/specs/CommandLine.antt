@@ -18,6 +18,7 @@ use Rattle.command_line.specs.declared.words.Usage.{Usage}
 use Rattle.command_line.specs.declared.words.Usage.TheVariants.{Help, Bad, Memory}
 use Rattle.command_line.specs.declared.options.TheConstants.{DEFAULT_BATCH, LAST_CODE, LAST_COLUMN, MOST_BATCH, MOST_ROWS}
 use Rattle.command_line.specs.Columns.{IsBadColumn, IsColumnOf}
+use Rattle.command_line.specs.Delimiters.{IsBadDelimiter, IsDelimiterOf}
 use Rattle.command_line.specs.Options.{AreInRange, IsPlaceInRange}
 use Rattle.command_line.specs.Topics.{AreTopicsOf, IsBadList}
 use Rattle.partitioner.specs.declared.topic.Topic.{Topic}
@@ -54,7 +55,8 @@ with_options app =
     let column = with_rule partitions (text_option (codes "column")) in
     let header = with_rule column (flag (codes "header")) in
     let topics = with_rule header (text_option (codes "topics")) in
-    with_rule topics (text_option (codes "topic-column"))
+    let topic_column = with_rule topics (text_option (codes "topic-column")) in
+    with_rule topic_column (text_option (codes "delimiter"))
 
 -- `--top`
 abbrev pub with_top : App → App
@@ -146,6 +148,7 @@ pub record HasOptions (rows : List Row) (options : Options) : Type 0 where
   pub partitions : IsNumber (first_of (codes "partitions") rows) 4 options.partitions
   pub column : IsColumnOf options.header (first_of (codes "column") rows) 1 options.column
   pub header : IsFlag (one_of (codes "header") rows) options.header
+  pub delimiter : IsDelimiterOf (first_of (codes "delimiter") rows) options.delimiter
   pub topics : AreTopicsOf (first_of (codes "topics") rows) options.topics.items
   pub topic_column : IsColumnOf options.header (first_of (codes "topic-column") rows) 2
       options.topic_column
@@ -235,6 +238,20 @@ pub record HaveBadColumn (words : List Text) : Type 0 where
   pub subcommand : subcommand_of keycount_app words ≡ Some (name, rows)
   pub column : HasBadColumn rows
 
+-- the list of topics is valid, and the value of `--delimiter` gives no delimiter
+pub record HasBadDelimiter (rows : List Row) : Type 0 where
+  pub topics : List Topic
+  pub list : AreTopicsOf (first_of (codes "topics") rows) topics
+  pub bad : IsBadDelimiter (first_of (codes "delimiter") rows)
+
+-- clap accepts the words, and the delimiter is not valid
+pub record HaveBadDelimiter (words : List Text) : Type 0 where
+  pub name : Text
+  pub rows : List Row
+  pub taken : fault_of keycount_app words ≡ []
+  pub subcommand : subcommand_of keycount_app words ≡ Some (name, rows)
+  pub delimiter : HasBadDelimiter rows
+
 -- the error for a list of topics that is not valid
 abbrev pub bad_topics : Text
 bad_topics = codes "bad topics\n"
@@ -246,11 +263,13 @@ IsBadListReport (Bad text) = string_bytes text ≡ bad_topics
 IsBadListReport Memory = ⊤
 
 -- Why there is no job: clap rejects the words (a request for help or the version becomes `Help`,
--- any other error `Bad`), or it accepts them and the list of topics is not valid, or a column.
+-- any other error `Bad`), or it accepts them and the list of topics is not valid, or a column, or the
+-- delimiter.
 abbrev pub IsRefusal : List Text → Usage → Type 0
 IsRefusal words (Help text) =
     (k : ErrorKind) × IsAmong k (fault_of keycount_app words) × IsRequest k
 IsRefusal words (Bad text) =
     AreNotUnderstood words
-    ⊎ ((HaveBadList words × (string_bytes text ≡ bad_topics)) ⊎ HaveBadColumn words)
+    ⊎ ((HaveBadList words × (string_bytes text ≡ bad_topics))
+    ⊎ (HaveBadColumn words ⊎ HaveBadDelimiter words))
 IsRefusal words Memory = ⊤

@@ -1,5 +1,6 @@
 pub mod Columns
 pub mod CommandLine
+pub mod Delimiters
 pub mod Explanations
 pub mod Options
 pub mod Private

@@ -2,6 +2,7 @@
 use Rattle.std.specs.Prelude.{◌≡◌, ◌≤◌, Bool, true, IfSome}
 use Rattle.lane_words.specs.declared.limits.TheConstants.{MOST_PARTITIONS}
 use Rattle.partitioner.specs.Topic.{MayBeTopics}
+use Rattle.command_line.specs.Delimiters.{is_delimiter}
 use Rattle.command_line.specs.declared.options.Column.{Column}
 use Rattle.command_line.specs.declared.options.Column.TheVariants.{Number, Named}
 use Rattle.command_line.specs.declared.options.Options.{Options}
@@ -17,6 +18,7 @@ IsColumnIn header (Named name) = header ≡ true
 pub record AreInRange (options : Options) : Type 0 where
   pub partitions : (1 ≤ options.partitions) × (options.partitions ≤ MOST_PARTITIONS)
   pub column : IsColumnIn options.header options.column
+  pub delimiter : is_delimiter options.delimiter ≡ true
   pub batch : (1 ≤ options.batch) × (options.batch ≤ MOST_BATCH)
   pub topics : MayBeTopics options.topics.items
   pub topic_column : IsColumnIn options.header options.topic_column

@@ -12,6 +12,7 @@
 #![tactic(auto)]
 
 mod columns;
+mod delimiters;
 mod explanations;
 mod help;
 mod laws;

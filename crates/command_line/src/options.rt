@@ -20,6 +20,8 @@ pub struct Options {
     pub column: Column,
     /// Whether the first record is a header, which is not counted.
     pub header: bool,
+    /// The delimiter of the file's fields: ASCII, and no quote, line feed or carriage return.
+    pub delimiter: u8,
     /// The maximum number of records per poll, from 1 to `MOST_BATCH`.
     pub batch: u32,
     /// The topics, each with its own partitions; empty without `--topics`.
@@ -41,6 +43,9 @@ pub struct PlaceOptions {
     /// is a row for each record that does not belong there.
     pub given: Option<u32>,
 }
+
+/// The default of `--delimiter`.
+pub const DEFAULT_DELIMITER: u8 = b',';
 
 /// The default of `--batch`: that of Kafka's `max.poll.records`.
 pub const DEFAULT_BATCH: u32 = 500;

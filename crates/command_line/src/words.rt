@@ -6,17 +6,20 @@ ghost use Rattle.clap.specs.Simple.{App, with_rule, with_subcommand};
 ghost use Rattle.clap.specs.Walk.{Rule};
 ghost use Rattle.command_line.specs.Columns.{IsColumnOf};
 ghost use Rattle.command_line.specs.CommandLine.{HasOptions, HasPlaceOptions, HasScript, HaveBadList, IsBadListReport, IsJobOf, IsNumber, IsNumberIfGiven, IsRefusal};
+ghost use Rattle.command_line.specs.Delimiters.{IsDelimiterOf};
 ghost use Rattle.command_line.specs.Topics.{AreTopicsOf};
-ghost use Rattle.command_line.specs.Private.CommandLine.{IsCommand, IsJobOfRows, IsOptionalNumber, IsReadAs, AreCountRows, AreExplainRows, AreOptionRows, ArePlaceRows, AreScriptRows, IsBadReport, IsUsageOf, ReportsBadColumn, ReportsBadList, ReportsBadOption};
+ghost use Rattle.command_line.specs.Private.CommandLine.{IsCommand, IsJobOfRows, IsOptionalNumber, IsReadAs, AreCountRows, AreExplainRows, AreOptionRows, ArePlaceRows, AreScriptRows, IsBadReport, IsUsageOf, ReportsBadColumn, ReportsBadDelimiter, ReportsBadList, ReportsBadOption};
 ghost use Rattle.command_line.specs.CommandLine.{code_argument, count_app, draw_app, explain_app, flag, keycount_app, keycount_top, number_option, path, place_app, replay_app, run_app, text_option, trace_app, with_options, with_script, with_top};
 
 use crate::columns::{is_numeral, parse_column};
+use crate::delimiters::parse_delimiter;
 use crate::help::{
     AFTER_COUNT, AFTER_DRAW, AFTER_EXPLAIN, AFTER_KEYCOUNT, AFTER_PLACE, AFTER_REPLAY, AFTER_RUN,
     AFTER_TRACE,
 };
 use crate::options::{
-    Column, DEFAULT_BATCH, LAST_CODE, LAST_COLUMN, MOST_BATCH, MOST_ROWS, Options, PlaceOptions,
+    Column, DEFAULT_BATCH, DEFAULT_DELIMITER, LAST_CODE, LAST_COLUMN, MOST_BATCH, MOST_ROWS,
+    Options, PlaceOptions,
 };
 use crate::topics;
 use clap::error::ErrorKind;
@@ -92,6 +95,8 @@ const TOPICS_HELP: &str =
 
 const TOPIC_COLUMN_HELP: &str = "Column of the topic, likewise; used with --topics [default: 2]";
 
+const DELIMITER_HELP: &str = "Delimiter of the fields in FILE: a character, or tab [default: ,]";
+
 const TOP_HELP: &str = "Count rows of only the N keys with the most records, most first";
 
 const BAD_TOPICS: &str = "bad topics\n";
@@ -99,6 +104,9 @@ const BAD_TOPICS: &str = "bad topics\n";
 const GIVEN_HELP: &str = "Compare with the partitions in column N, 1 to 65535; not with --keys";
 
 const BAD_VALUE: &str = "error: invalid value";
+
+const BAD_DELIMITER: &str =
+    "is not tab, or one ASCII character other than quote, line feed and carriage return";
 
 /// What ends an error of clap.
 const HINT: &str = "\n\nFor more information, try '--help'.\n";
@@ -202,7 +210,11 @@ fn with_options<'a>(
     let command = with_arg(command, header_flag(alloc));
     let command = with_arg(command, text_option(alloc, "topics", "LIST", TOPICS_HELP));
     let topic_column = text_option(alloc, "topic-column", "N", TOPIC_COLUMN_HELP);
-    with_arg(command, topic_column)
+    let command = with_arg(command, topic_column);
+    with_arg(
+        command,
+        text_option(alloc, "delimiter", "C", DELIMITER_HELP),
+    )
 }
 
 /// Adds `--top`.
@@ -446,6 +458,34 @@ fn column_of(
     }
 }
 
+/// The error for a value of `--delimiter` that is no delimiter, as clap words it.
+fn bad_delimiter_usage(alloc: Global, value: &str) -> Usage
+    ensures { IsBadReport result }
+{
+    match format!(in alloc;
+        "{BAD_VALUE} '{value}' for '--delimiter <C>': {value} {BAD_DELIMITER}{HINT}"
+    ) {
+        Ok(text) => Usage::Bad(text),
+        Err(_) => Usage::Memory,
+    }
+}
+
+/// The delimiter of `--delimiter`, or its default.
+fn delimiter_of(alloc: Global, given: &ArgMatches) -> Result<u8, Usage>
+    ensures delimiter { IfOk result
+        (IsDelimiterOf (first_of (codes "delimiter") (rows_of (found_of given.now)))) }
+    ensures fault { IfErr result
+        (ReportsBadDelimiter (first_of (codes "delimiter") (rows_of (found_of given.now)))) }
+{
+    let Some(text) = given.get_str("delimiter") else {
+        return Ok(DEFAULT_DELIMITER);
+    };
+    match parse_delimiter(text) {
+        Some(delimiter) => Ok(delimiter),
+        None => Err(bad_delimiter_usage(alloc, text)),
+    }
+}
+
 /// The number of `--top`, which clap has checked; `None` without the option.
 fn top_of(given: &ArgMatches) -> Option<u32>
     requires { AreOptionRows (rows_of (found_of given.now)) }
@@ -474,10 +514,12 @@ fn options_of(
     let header = given.get_flag("header");
     let column = column_of(alloc, given, "column", header, 1)?;
     let topic_column = column_of(alloc, given, "topic-column", header, 2)?;
+    let delimiter = delimiter_of(alloc, given)?;
     Ok(Options {
         partitions: number_of(given, "partitions", 4),
         column,
         header,
+        delimiter,
         batch,
         topics,
         topic_column,
@@ -630,8 +672,8 @@ fn usage_of(alloc: Global, error: Error) -> Usage
 ///
 /// Errors: `Help` only where the words ask for help or for the version; `Bad` only where clap
 /// rejects them for another reason, or accepts them and the value of `--topics` is not a list of
-/// topics (the text is then `bad topics`), or that of `--column` or `--topic-column` not a column;
-/// `Memory` where memory runs out.
+/// topics (the text is then `bad topics`), or that of `--column` or `--topic-column` not a column, or
+/// that of `--delimiter` not a delimiter; `Memory` where memory runs out.
 pub fn read_words<'a>(alloc: Global, words: &'a [&'a str]) -> Result<Job<'a>, Usage>
     ensures job { IfOk result (IsJobOf (map (λ w. w.now) words.now)) }
     ensures usage { IfErr result (IsRefusal (map (λ w. w.now) words.now)) }

@@ -7,12 +7,12 @@ use Rattle.std.proofs.lemmas.Grind.{get_or_default_zero}
 use Rattle.std.proofs.lemmas.Bool.{cases_Bool, eq-eqb, ne_eqb}
 use Rattle.std.specs.Prelude.{All, if◌then◌else◌, suc, zero}
 use Rattle.csv.specs.Reading.{is_bom, strip_bom}
-use Rattle.csv_ingest.specs.Private.Cuts.{IsOutside, bom_length}
-use Rattle.csv_ingest.specs.Stand.{in_quotes, stand_after, stand_next, unquoted}
+use Rattle.csv_ingest.specs.Private.Cuts.{AlwaysEndsRecord, bom_length}
+use Rattle.csv_ingest.specs.Stand.{EndsRecord, in_quotes, is_line_end, stand_after, stand_next, unquoted}
 use Rattle.csv_ingest.specs.declared.stand.Stand.{Stand}
 use Rattle.csv_ingest.specs.declared.stand.Stand.TheVariants as k
 use Rattle.memchr.specs.Find.{Passes, is_byte}
-use Rattle.csv_ingest.proofs.Stands.{next-outside, stand-append}
+use Rattle.csv_ingest.proofs.Stands.{end-other, next-outside, stand-append}
 
 pub slice_range_split : (xs : List ℕ) (i j m : ℕ) → i ≤ j → j ≤ m → slice_range xs i m ≡ slice_range xs i j ++ slice_range xs j m
 slice_range_split xs i j m h k =
@@ -27,21 +27,21 @@ slice_range_step xs i m h within =
     ap (λ n. take n (drop i xs)) count ∙ ap (take (suc (m - (i + 1)))) (drop-cons xs i 0 within)
     ∙ ap (λ n. get_or xs i 0 ∷ take (m - (i + 1)) (drop n xs)) (sym (add-one i))
 
-stand-one : (s : Stand) (c : ℕ) → stand_after s (c ∷ []) ≡ stand_next s c
+stand-one : (delimiter : ℕ) (s : Stand) (c : ℕ) → stand_after delimiter s (c ∷ []) ≡ stand_next delimiter s c
 unfolding stand_after
-stand-one s c = refl
+stand-one delimiter s c = refl
 
-pub stand-drop : (s : Stand) (xs : List ℕ) (i : ℕ) → i < length xs → stand_after s (drop i xs) ≡ stand_after (stand_next s (get_or xs i 0)) (drop (i + 1) xs)
+pub stand-drop : (delimiter : ℕ) (s : Stand) (xs : List ℕ) (i : ℕ) → i < length xs → stand_after delimiter s (drop i xs) ≡ stand_after delimiter (stand_next delimiter s (get_or xs i 0)) (drop (i + 1) xs)
 unfolding stand_after
-stand-drop s xs i h = rw (add-one, drop-cons xs i 0) refl
+stand-drop delimiter s xs i h = rw (add-one, drop-cons xs i 0) refl
 
-pub stand-nil : (s : Stand) → stand_after s [] ≡ s
+pub stand-nil : (delimiter : ℕ) (s : Stand) → stand_after delimiter s [] ≡ s
 unfolding stand_after
-stand-nil s = refl
+stand-nil delimiter s = refl
 
-pub stand-more : (s t : Stand) (xs : List ℕ) (i : ℕ) → i < length xs → t ≡ stand_after s (take i xs) → stand_next t (get_or xs i 0) ≡ stand_after s (take (i + 1) xs)
-stand-more s t xs i h e =
-    rw (take_more xs i 0 h, stand-append (take i xs) s (get_or xs i 0 ∷ []), e) (sym (stand-one (stand_after s (take i xs)) (get_or xs i 0)))
+pub stand-more : (delimiter : ℕ) (s t : Stand) (xs : List ℕ) (i : ℕ) → i < length xs → t ≡ stand_after delimiter s (take i xs) → stand_next delimiter t (get_or xs i 0) ≡ stand_after delimiter s (take (i + 1) xs)
+stand-more delimiter s t xs i h e =
+    rw (take_more xs i 0 h, stand-append delimiter (take i xs) s (get_or xs i 0 ∷ []), e) (sym (stand-one delimiter (stand_after delimiter s (take i xs)) (get_or xs i 0)))
 
 pub bom-short : (file : List ℕ) → length file < 3 → bom_length file ≡ 0
 unfolding bom_length
@@ -71,8 +71,8 @@ strip-more (a ∷ []) ys h = absurd (omega arith)
 strip-more (a ∷ b ∷ []) ys h = absurd (omega arith)
 strip-more (a ∷ b ∷ c ∷ xs) ys h = elim (cases_Bool (is_bom a b c)) [ inl t ↦ rw t refl | inr f ↦ rw f refl ]
 
-pub stand-behind : (before more : List ℕ) → 3 ≤ length before → stand_after k.Record (strip_bom (before ++ more)) ≡ stand_after (stand_after k.Record (strip_bom before)) more
-stand-behind before more h = ap (stand_after k.Record) (strip-more before more h) ∙ stand-append (strip_bom before) k.Record more
+pub stand-behind : (delimiter : ℕ) (before more : List ℕ) → 3 ≤ length before → stand_after delimiter k.Record (strip_bom (before ++ more)) ≡ stand_after delimiter (stand_after delimiter k.Record (strip_bom before)) more
+stand-behind delimiter before more h = ap (stand_after delimiter k.Record) (strip-more before more h) ∙ stand-append delimiter (strip_bom before) k.Record more
 
 pub lacks : (xs : List ℕ) (n : ℕ) → n ≤ length xs → ((k : ℕ) → 0 ≤ k → k < n → Passes (is_byte 34) xs k → ⊥) → All (λ c. c ≢ 34) (take n xs)
 lacks xs n h none k d within e =
@@ -90,41 +90,56 @@ pub take_all : (xs : List ℕ) → take (length xs) xs ≡ xs
 take_all [] = refl
 take_all (c ∷ xs) = ap (λ rest. c ∷ rest) (take_all xs)
 
-pub plain-quoted : (xs : List ℕ) → All (λ c. c ≢ 34) xs → stand_after k.Quoted xs ≡ k.Quoted
+pub plain-quoted : (delimiter : ℕ) (xs : List ℕ) → All (λ c. c ≢ 34) xs → stand_after delimiter k.Quoted xs ≡ k.Quoted
 unfolding stand_after
-plain-quoted [] n = refl
-plain-quoted (c ∷ xs) n = rw (ne_eqb c 34 (All-head (λ d. d ≢ 34) c xs n)) (plain-quoted xs (All-tail (λ d. d ≢ 34) c xs n))
+plain-quoted delimiter [] n = refl
+plain-quoted delimiter (c ∷ xs) n = rw (ne_eqb c 34 (All-head (λ d. d ≢ 34) c xs n)) (plain-quoted delimiter xs (All-tail (λ d. d ≢ 34) c xs n))
 
-plain-one : (s : Stand) (c : ℕ) → c ≢ 34 → in_quotes s ≡ false → stand_next s c ≡ unquoted c
-plain-one k.Record c n q = rw (ne_eqb c 34 n) refl
-plain-one k.Fresh c n q = rw (ne_eqb c 34 n) refl
-plain-one k.Bare c n q = refl
-plain-one k.Quoted c n q = cc q
+plain-one : (delimiter : ℕ) (s : Stand) (c : ℕ) → is_line_end delimiter ≡ false → c ≢ 34 → in_quotes s ≡ false → stand_next delimiter s c ≡ unquoted delimiter c
+plain-one delimiter k.Record c free n q =
+    elim (cases_Bool (is_line_end c)) [
+      | inl ends ↦ rw (ends, end-other delimiter c free ends) refl
+      | inr other ↦ rw (other, ne_eqb c 34 n) refl
+    ]
+plain-one delimiter k.Fresh c free n q = rw (ne_eqb c 34 n) refl
+plain-one delimiter k.Bare c free n q = refl
+plain-one delimiter k.Quoted c free n q = cc q
 
-pub plain-last : (xs : List ℕ) (s : Stand) → All (λ c. c ≢ 34) xs → in_quotes s ≡ false → 0 < length xs → stand_after s xs ≡ unquoted (get_or xs (length xs - 1) 0)
+pub plain-last : (delimiter : ℕ) (xs : List ℕ) (s : Stand) → is_line_end delimiter ≡ false → All (λ c. c ≢ 34) xs → in_quotes s ≡ false → 0 < length xs
+    → stand_after delimiter s xs ≡ unquoted delimiter (get_or xs (length xs - 1) 0)
 unfolding stand_after
-plain-last [] s n q h = absurd (omega arith)
-plain-last (c ∷ []) s n q h = plain-one s c (All-head (λ d. d ≢ 34) c [] n) q
-plain-last (c ∷ d ∷ xs) s n q h =
+plain-last delimiter [] s free n q h = absurd (omega arith)
+plain-last delimiter (c ∷ []) s free n q h = plain-one delimiter s c free (All-head (λ d. d ≢ 34) c [] n) q
+plain-last delimiter (c ∷ d ∷ xs) s free n q h =
     let less : length (c ∷ d ∷ xs) - 1 ≡ suc (length (d ∷ xs) - 1) = omega arith in
-    plain-last (d ∷ xs) (stand_next s c) (All-tail (λ d. d ≢ 34) c (d ∷ xs) n) (next-outside s c (All-head (λ d. d ≢ 34) c (d ∷ xs) n) q) (omega arith)
-    ∙ ap (λ i. unquoted (get_or (c ∷ d ∷ xs) i 0)) (sym less)
+    plain-last delimiter (d ∷ xs) (stand_next delimiter s c) free (All-tail (λ d. d ≢ 34) c (d ∷ xs) n)
+    (next-outside delimiter s c (All-head (λ d. d ≢ 34) c (d ∷ xs) n) q) (omega arith)
+    ∙ ap (λ i. unquoted delimiter (get_or (c ∷ d ∷ xs) i 0)) (sym less)
 
-pub plain-none : (xs : List ℕ) (s : Stand) → length xs ≡ 0 → stand_after s xs ≡ s
-plain-none [] s e = stand-nil s
-plain-none (c ∷ xs) s e = absurd (omega arith)
+pub plain-none : (delimiter : ℕ) (xs : List ℕ) (s : Stand) → length xs ≡ 0 → stand_after delimiter s xs ≡ s
+plain-none delimiter [] s e = stand-nil delimiter s
+plain-none delimiter (c ∷ xs) s e = absurd (omega arith)
 
-pub stand-run : (s : Stand) (xs : List ℕ) (at : ℕ) → at < length xs → get_or xs at 0 ≡ 34 → stand_after s xs ≡ stand_after (stand_next (stand_after s (take at xs)) 34) (drop (at + 1) xs)
-stand-run s xs at h e =
-    ap (stand_after s) (sym (take-append-drop at xs)) ∙ stand-append (take at xs) s (drop at xs)
-    ∙ stand-drop (stand_after s (take at xs)) xs at h
-    ∙ ap (λ c. stand_after (stand_next (stand_after s (take at xs)) c) (drop (at + 1) xs)) e
+pub stand-run : (delimiter : ℕ) (s : Stand) (xs : List ℕ) (at : ℕ) → at < length xs → get_or xs at 0 ≡ 34 → stand_after delimiter s xs ≡ stand_after delimiter (stand_next delimiter (stand_after delimiter s (take at xs)) 34) (drop (at + 1) xs)
+stand-run delimiter s xs at h e =
+    ap (stand_after delimiter s) (sym (take-append-drop at xs)) ∙ stand-append delimiter (take at xs) s (drop at xs)
+    ∙ stand-drop delimiter (stand_after delimiter s (take at xs)) xs at h
+    ∙ ap (λ c. stand_after delimiter (stand_next delimiter (stand_after delimiter s (take at xs)) c) (drop (at + 1) xs)) e
+
+-- a reader goes on from the start of a record as from that of another field
+fresh-record : (delimiter c : ℕ) → is_line_end delimiter ≡ false → stand_next delimiter k.Fresh c ≡ stand_next delimiter k.Record c
+fresh-record delimiter c free =
+    elim (cases_Bool (is_line_end c)) [
+      | inl ends ↦ rw (end-other 34 c refl ends, end-other delimiter c free ends, ends) refl
+      | inr other ↦ rw other refl
+    ]
 
 -- three beginnings stand for all
-pub outside_all : (xs : List ℕ) → in_quotes (stand_after k.Record xs) ≡ false → in_quotes (stand_after k.Bare xs) ≡ false → in_quotes (stand_after k.Quoted xs) ≡ false → IsOutside xs
+pub ends_all : (delimiter : ℕ) (xs : List ℕ) → is_line_end delimiter ≡ false → EndsRecord delimiter k.Record xs → EndsRecord delimiter k.Bare xs → EndsRecord delimiter k.Quoted xs
+    → AlwaysEndsRecord delimiter xs
 unfolding stand_after
-outside_all xs a b c k.Record = a
-outside_all [] a b c k.Fresh = refl
-outside_all (x ∷ xs) a b c k.Fresh = a
-outside_all xs a b c k.Bare = b
-outside_all xs a b c k.Quoted = c
+ends_all delimiter xs free a b c k.Record = a
+ends_all delimiter [] free a b c k.Fresh = fresh-record delimiter 10 free ∙ a
+ends_all delimiter (x ∷ xs) free a b c k.Fresh = ap (λ s. stand_next delimiter (stand_after delimiter s xs) 10) (fresh-record delimiter x free) ∙ a
+ends_all delimiter xs free a b c k.Bare = b
+ends_all delimiter xs free a b c k.Quoted = c

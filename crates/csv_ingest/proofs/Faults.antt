@@ -32,6 +32,6 @@ keys_of-kind wanted false (x ∷ rows) = keys_from-kind wanted (length x) 1 (x �
 keys_of-kind wanted true (x ∷ rows) = keys_from-kind wanted (length x) 2 rows
 
 -- what a file is refused for, apart from running out of memory
-pub fault-kind : (wanted : Taking) (header : Bool) (file : List ℕ) (e : Refusal) → (e ≡ r.Memory) ⊎ (taken_of wanted header file ≡ Err e) → IsFileFault e
-fault-kind wanted header file e (inl m) = rw m tt
-fault-kind wanted header file e (inr h) = subst FailsAsFile h (keys_of-kind wanted header (file_records file))
+pub fault-kind : (delimiter : ℕ) (wanted : Taking) (header : Bool) (file : List ℕ) (e : Refusal) → (e ≡ r.Memory) ⊎ (taken_of delimiter wanted header file ≡ Err e) → IsFileFault e
+fault-kind delimiter wanted header file e (inl m) = rw m tt
+fault-kind delimiter wanted header file e (inr h) = subst FailsAsFile h (keys_of-kind wanted header (file_records delimiter file))

@@ -1,23 +1,25 @@
 -- Fields of a text, walked over one after another.
-use Rattle.std.proofs.Common.{◌≡◌, ◌≢◌, ◌∙◌, ◌≤◌, ◌<◌, ◌+◌, ◌-◌, ℕ, List, [], ◌∷◌, ◌++◌, Bool, true, false, Option, Some, None, Result, Ok, Err, length, length-append, get_or, drop, length-drop, slice_range, sym, subst, take, ap, ap₂, refl, arith, add-one, append-nil, drop-drop, inl, inr}
+use Rattle.std.proofs.Common.{◌≡◌, ◌≢◌, ◌∙◌, ◌≤◌, ◌<◌, ◌+◌, ◌-◌, ℕ, List, [], ◌∷◌, ◌++◌, Bool, true, false, true≢false, Option, Some, None, Result, Ok, Err, length, length-append, get_or, drop, length-drop, slice_range, sym, subst, take, ap, ap₂, refl, arith, add-one, append-nil, drop-drop, inl, inr}
 use Rattle.std.proofs.Math.Seq.{drop-cons}
-use Rattle.std.proofs.lemmas.Bool.{eq-eqb, eqb-true, ne_eqb}
+use Rattle.std.proofs.lemmas.Bool.{cases_Bool, eq-eqb, eqb-true, ne_eqb}
 use Rattle.std.proofs.lemmas.List.{append_assoc, get_or-drop, take-append-drop}
 use Rattle.std.proofs.lemmas.List.Elements.{All-head, All-tail}
 use native.Mathlib.Decide.{dec_lt}
 use Rattle.csv.proofs.WriteFacts.{slice-end}
 use Rattle.std.proofs.lemmas.Bool.Decides.{eqb_tells}
-use Rattle.std.specs.Prelude.{◌==◌, ◌⊎◌, All, IfOk, if◌then◌else◌, suc, zero}
-use Rattle.csv.specs.Reading.{default_config, is_bom, records, strip_bom}
+use Rattle.std.specs.Prelude.{◌==◌, ◌||◌, ◌⊎◌, All, IfOk, if◌then◌else◌, suc, zero}
+use Rattle.csv.specs.Reading.{is_bom, records, strip_bom}
 use Rattle.csv.specs.Records.{field_at}
 use Rattle.csv.specs.declared.parser.State.{State}
 use Rattle.csv.specs.declared.parser.State.TheVariants as st
-use Rattle.csv_ingest.specs.KeyFile.{Record, after_keys, field_or_lack, key_in, keys_from}
+use Rattle.csv_ingest.specs.KeyFile.{Record, after_keys, dialect, field_or_lack, key_in, keys_from}
 use Rattle.csv_ingest.specs.Pieces.{file_records, piece_keys}
 use Rattle.csv_ingest.specs.Private.Cuts.{bom_length}
+use Rattle.csv_ingest.specs.Private.FieldEnds.{ends_field}
 use Rattle.csv_ingest.specs.Private.Fields.{EndsField, IsLineEnd, IsRow, IsWhole, ReadsField, ReadsRow, kept}
 use Rattle.csv_ingest.specs.Private.KeyFile.{IsFaultAt, TakesKey}
 use Rattle.csv_ingest.specs.Private.Walk.{walk}
+use Rattle.csv_ingest.specs.Stand.{is_line_end}
 use Rattle.csv_ingest.specs.declared.lack.Lack.TheVariants as l
 use Rattle.csv_ingest.specs.declared.scan.Row.{Row}
 use Rattle.lane_words.specs.declared.Refusal.{Refusal}
@@ -28,73 +30,113 @@ use Rattle.csv_ingest.proofs.Cutting.{lacks, slice_range_split, slice_range_step
 use Rattle.csv_ingest.proofs.Walk.{from_start, records-walk}
 
 -- ---- one byte
-in-comma : (fields : Record) (field rest : List ℕ) → walk st.InField fields field (44 ∷ rest) ≡ walk st.StartField (fields ++ field ∷ []) [] rest
-unfolding walk
-in-comma fields field rest = refl
+pub line-end : (c : ℕ) → is_line_end c ≡ true → IsLineEnd c
+line-end c e =
+    elim (cases_Bool (c == 10)) [
+      | inl feed ↦ inl (eqb-true c 10 feed)
+      | inr other ↦ inr (eqb-true c 13 (left (c == 13) (c == 10) other e))
+    ]
+  where
+    left : (a b : Bool) → b ≡ false → (a || b) ≡ true → a ≡ true
+    left true b other e = refl
+    left false b other e = cc (sym other ∙ e)
 
-in-end : (e : ℕ) (fields : Record) (field rest : List ℕ) → IsLineEnd e
-    → walk st.InField fields field (e ∷ rest) ≡ (fields ++ field ∷ []) ∷ walk st.StartRecord [] [] rest
-unfolding walk
-in-end e fields field rest (inl h) = rw h refl
-in-end e fields field rest (inr h) = rw h (ap (λ rows. (fields ++ field ∷ []) ∷ rows) (from_start st.AfterCr rest refl))
+pub no-line-end : (c : ℕ) → is_line_end c ≡ false → IsLineEnd c → ⊥
+no-line-end c e (inl h) = true≢false (subst (λ z. is_line_end z ≡ false) h e)
+no-line-end c e (inr h) = true≢false (subst (λ z. is_line_end z ≡ false) h e)
 
-in-other : (c : ℕ) (fields : Record) (field rest : List ℕ) → c ≢ 44 → c ≢ 10 → c ≢ 13 → walk st.InField fields field (c ∷ rest) ≡ walk st.InField fields (field ++ c ∷ []) rest
+in-delimiter : (delimiter : ℕ) (fields : Record) (field rest : List ℕ) → walk delimiter st.InField fields field (delimiter ∷ rest) ≡ walk delimiter st.StartField (fields ++ field ∷ []) [] rest
 unfolding walk
-in-other c fields field rest d n r = rw (ne_eqb c 44 d, ne_eqb c 10 n, ne_eqb c 13 r) refl
+in-delimiter delimiter fields field rest = rw (eq-eqb delimiter delimiter refl) refl
 
-in-over : (fields : Record) (field : List ℕ) → walk st.InField fields field [] ≡ (fields ++ field ∷ []) ∷ []
+in-end : (delimiter e : ℕ) (fields : Record) (field rest : List ℕ) → e ≢ delimiter → IsLineEnd e
+    → walk delimiter st.InField fields field (e ∷ rest) ≡ (fields ++ field ∷ []) ∷ walk delimiter st.StartRecord [] [] rest
 unfolding walk
-in-over fields field = refl
+in-end delimiter e fields field rest other (inl h) =
+    let unlike : (10 == delimiter) ≡ false = ne_eqb 10 delimiter (subst (λ c. c ≢ delimiter) h other) in
+    rw (h, unlike) refl
+in-end delimiter e fields field rest other (inr h) =
+    let unlike : (13 == delimiter) ≡ false = ne_eqb 13 delimiter (subst (λ c. c ≢ delimiter) h other) in
+    rw (h, unlike) (ap (λ rows. (fields ++ field ∷ []) ∷ rows) (from_start delimiter st.AfterCr rest refl))
+
+in-other : (delimiter c : ℕ) (fields : Record) (field rest : List ℕ) → c ≢ delimiter → c ≢ 10 → c ≢ 13 → walk delimiter st.InField fields field (c ∷ rest) ≡ walk delimiter st.InField fields (field ++ c ∷ []) rest
+unfolding walk
+in-other delimiter c fields field rest d n r = rw (ne_eqb c delimiter d, ne_eqb c 10 n, ne_eqb c 13 r) refl
+
+in-over : (delimiter : ℕ) (fields : Record) (field : List ℕ) → walk delimiter st.InField fields field [] ≡ (fields ++ field ∷ []) ∷ []
+unfolding walk
+in-over delimiter fields field = refl
 
 -- where quotes may open, any other byte does what it does in a field
-field-bare : (c : ℕ) (fields : Record) (field rest : List ℕ) → c ≢ 34 → walk st.StartField fields field (c ∷ rest) ≡ walk st.InField fields field (c ∷ rest)
+field-bare : (delimiter c : ℕ) (fields : Record) (field rest : List ℕ) → c ≢ 34 → walk delimiter st.StartField fields field (c ∷ rest) ≡ walk delimiter st.InField fields field (c ∷ rest)
 unfolding walk
-field-bare c fields field rest q = rw (ne_eqb c 34 q) refl
+field-bare delimiter c fields field rest q = rw (ne_eqb c 34 q) refl
 
-field-quoted : (fields : Record) (field rest : List ℕ) → walk st.StartField fields field (34 ∷ rest) ≡ walk st.InQuoted fields field rest
+field-quoted : (delimiter : ℕ) (fields : Record) (field rest : List ℕ) → walk delimiter st.StartField fields field (34 ∷ rest) ≡ walk delimiter st.InQuoted fields field rest
 unfolding walk
-field-quoted fields field rest = refl
+field-quoted delimiter fields field rest = refl
 
-field-over : (fields : Record) (field : List ℕ) → walk st.StartField fields field [] ≡ (fields ++ field ∷ []) ∷ []
+field-over : (delimiter : ℕ) (fields : Record) (field : List ℕ) → walk delimiter st.StartField fields field [] ≡ (fields ++ field ∷ []) ∷ []
 unfolding walk
-field-over fields field = refl
+field-over delimiter fields field = refl
 
-quoted-other : (c : ℕ) (fields : Record) (field rest : List ℕ) → c ≢ 34 → walk st.InQuoted fields field (c ∷ rest) ≡ walk st.InQuoted fields (field ++ c ∷ []) rest
+quoted-other : (delimiter c : ℕ) (fields : Record) (field rest : List ℕ) → c ≢ 34 → walk delimiter st.InQuoted fields field (c ∷ rest) ≡ walk delimiter st.InQuoted fields (field ++ c ∷ []) rest
 unfolding walk
-quoted-other c fields field rest q = rw (ne_eqb c 34 q) refl
+quoted-other delimiter c fields field rest q = rw (ne_eqb c 34 q) refl
 
-quoted-twice : (fields : Record) (field rest : List ℕ) → walk st.InQuoted fields field (34 ∷ 34 ∷ rest) ≡ walk st.InQuoted fields (field ++ 34 ∷ []) rest
+quoted-twice : (delimiter : ℕ) (fields : Record) (field rest : List ℕ) → walk delimiter st.InQuoted fields field (34 ∷ 34 ∷ rest) ≡ walk delimiter st.InQuoted fields (field ++ 34 ∷ []) rest
 unfolding walk
-quoted-twice fields field rest = refl
+quoted-twice delimiter fields field rest = refl
 
-quoted-once : (fields : Record) (field rest : List ℕ) → walk st.InQuoted fields field (34 ∷ rest) ≡ walk st.AfterQuote fields field rest
+quoted-once : (delimiter : ℕ) (fields : Record) (field rest : List ℕ) → walk delimiter st.InQuoted fields field (34 ∷ rest) ≡ walk delimiter st.AfterQuote fields field rest
 unfolding walk
-quoted-once fields field rest = refl
+quoted-once delimiter fields field rest = refl
 
-quoted-over : (fields : Record) (field : List ℕ) → walk st.InQuoted fields field [] ≡ walk st.InField fields field []
+quoted-over : (delimiter : ℕ) (fields : Record) (field : List ℕ) → walk delimiter st.InQuoted fields field [] ≡ walk delimiter st.InField fields field []
 unfolding walk
-quoted-over fields field = refl
+quoted-over delimiter fields field = refl
 
-closed-other : (c : ℕ) (fields : Record) (field rest : List ℕ) → c ≢ 34 → walk st.AfterQuote fields field (c ∷ rest) ≡ walk st.InField fields field (c ∷ rest)
+closed-other : (delimiter c : ℕ) (fields : Record) (field rest : List ℕ) → c ≢ 34 → walk delimiter st.AfterQuote fields field (c ∷ rest) ≡ walk delimiter st.InField fields field (c ∷ rest)
 unfolding walk
-closed-other c fields field rest q = rw (ne_eqb c 34 q) refl
+closed-other delimiter c fields field rest q = rw (ne_eqb c 34 q) refl
 
-closed-over : (fields : Record) (field : List ℕ) → walk st.AfterQuote fields field [] ≡ walk st.InField fields field []
+closed-over : (delimiter : ℕ) (fields : Record) (field : List ℕ) → walk delimiter st.AfterQuote fields field [] ≡ walk delimiter st.InField fields field []
 unfolding walk
-closed-over fields field = refl
+closed-over delimiter fields field = refl
 
-record-bare : (c : ℕ) (rest : List ℕ) → c ≢ 10 → c ≢ 13 → walk st.StartRecord [] [] (c ∷ rest) ≡ walk st.StartField [] [] (c ∷ rest)
+record-bare : (delimiter c : ℕ) (rest : List ℕ) → c ≢ 10 → c ≢ 13 → walk delimiter st.StartRecord [] [] (c ∷ rest) ≡ walk delimiter st.StartField [] [] (c ∷ rest)
 unfolding walk
-record-bare c rest n r = rw (ne_eqb c 10 n, ne_eqb c 13 r) refl
+record-bare delimiter c rest n r = rw (ne_eqb c 10 n, ne_eqb c 13 r) refl
 
-record-end : (e : ℕ) (rest : List ℕ) → IsLineEnd e → walk st.StartRecord [] [] (e ∷ rest) ≡ walk st.StartRecord [] [] rest
+record-end : (delimiter e : ℕ) (rest : List ℕ) → IsLineEnd e → walk delimiter st.StartRecord [] [] (e ∷ rest) ≡ walk delimiter st.StartRecord [] [] rest
 unfolding walk
-record-end e rest (inl h) = rw h refl
-record-end e rest (inr h) = rw h refl
+record-end delimiter e rest (inl h) = rw h refl
+record-end delimiter e rest (inr h) = rw h refl
 
-record-over : walk st.StartRecord [] [] [] ≡ []
+record-over : (delimiter : ℕ) → walk delimiter st.StartRecord [] [] [] ≡ []
 unfolding walk
-record-over = refl
+record-over delimiter = refl
+
+-- what the end of a field is, and what is none
+pub end-here : (delimiter c : ℕ) → ends_field delimiter c ≡ true → (c ≡ delimiter) ⊎ IsLineEnd c
+end-here delimiter c e =
+    elim (cases_Bool (c == delimiter)) [
+      | inl same ↦ inl (eqb-true c delimiter same)
+      | inr other ↦ inr (line-end c (right (c == delimiter) (is_line_end c) other e))
+    ]
+  where
+    right : (a b : Bool) → a ≡ false → (a || b) ≡ true → b ≡ true
+    right true b other e = absurd (true≢false other)
+    right false b other e = e
+
+pub no-end : (delimiter c : ℕ) → ends_field delimiter c ≡ false → (c ≢ delimiter) × (IsLineEnd c → ⊥)
+no-end delimiter c e =
+    let none = both (c == delimiter) (is_line_end c) e in
+    ((λ same. true≢false (sym (eq-eqb c delimiter same) ∙ none.0)), no-line-end c none.1)
+  where
+    both : (a b : Bool) → (a || b) ≡ false → (a ≡ false) × (b ≡ false)
+    both true b e = absurd (true≢false e)
+    both false b e = (refl, e)
 
 -- ---- places in a text
 no_bytes : (text : List ℕ) → length text ≡ 0 → text ≡ []
@@ -117,120 +159,120 @@ one-between text from at le lt =
 
 -- ---- a field goes on
 -- whatever was read before, these bytes are more of the field at hand
-abbrev pub Goes : State → State → List ℕ → ℕ → ℕ → List ℕ → Type 0
-Goes s t text at to more = (fields : Record) (field : List ℕ) → walk s fields field (drop at text) ≡ walk t fields (field ++ more) (drop to text)
+abbrev pub Goes : ℕ → State → State → List ℕ → ℕ → ℕ → List ℕ → Type 0
+Goes delimiter s t text at to more = (fields : Record) (field : List ℕ) → walk delimiter s fields field (drop at text) ≡ walk delimiter t fields (field ++ more) (drop to text)
 
-goes-then : (s t u : State) (text : List ℕ) (a b c : ℕ) (m n : List ℕ) → Goes s t text a b m → Goes t u text b c n → Goes s u text a c (m ++ n)
-goes-then s t u text a b c m n g h fields field =
-    g fields field ∙ h fields (field ++ m) ∙ ap (λ f. walk u fields f (drop c text)) (append_assoc field m n)
+goes-then : (delimiter : ℕ) (s t u : State) (text : List ℕ) (a b c : ℕ) (m n : List ℕ) → Goes delimiter s t text a b m → Goes delimiter t u text b c n → Goes delimiter s u text a c (m ++ n)
+goes-then delimiter s t u text a b c m n g h fields field =
+    g fields field ∙ h fields (field ++ m) ∙ ap (λ f. walk delimiter u fields f (drop c text)) (append_assoc field m n)
 
-pub bare-step : (text : List ℕ) (at i : ℕ) → at ≤ i → i < length text → get_or text i 0 ≢ 44 → get_or text i 0 ≢ 10 → get_or text i 0 ≢ 13
-    → Goes st.InField st.InField text at i (slice_range text at i) → Goes st.InField st.InField text at (i + 1) (slice_range text at (i + 1))
-bare-step text at i le lt d n r goes fields field =
+pub bare-step : (delimiter : ℕ) (text : List ℕ) (at i : ℕ) → at ≤ i → i < length text → get_or text i 0 ≢ delimiter → get_or text i 0 ≢ 10 → get_or text i 0 ≢ 13
+    → Goes delimiter st.InField st.InField text at i (slice_range text at i) → Goes delimiter st.InField st.InField text at (i + 1) (slice_range text at (i + 1))
+bare-step delimiter text at i le lt d n r goes fields field =
     goes fields field
-    ∙ ap (walk st.InField fields (field ++ slice_range text at i)) (next-byte text i lt)
-    ∙ in-other (get_or text i 0) fields (field ++ slice_range text at i) (drop (i + 1) text) d n r
-    ∙ ap (λ f. walk st.InField fields f (drop (i + 1) text))
+    ∙ ap (walk delimiter st.InField fields (field ++ slice_range text at i)) (next-byte text i lt)
+    ∙ in-other delimiter (get_or text i 0) fields (field ++ slice_range text at i) (drop (i + 1) text) d n r
+    ∙ ap (λ f. walk delimiter st.InField fields f (drop (i + 1) text))
     (append_assoc field (slice_range text at i) (get_or text i 0 ∷ []) ∙ ap (λ m. field ++ m) (sym (one-between text at i le lt)))
 
-quoted-run : (run : List ℕ) (fields : Record) (field rest : List ℕ) → All (λ c. c ≢ 34) run
-    → walk st.InQuoted fields field (run ++ rest) ≡ walk st.InQuoted fields (field ++ run) rest
-quoted-run [] fields field rest plain = ap (λ f. walk st.InQuoted fields f rest) (sym (append-nil field))
-quoted-run (c ∷ run) fields field rest plain =
-    quoted-other c fields field (run ++ rest) (All-head (λ b. b ≢ 34) c run plain)
-    ∙ quoted-run run fields (field ++ c ∷ []) rest (All-tail (λ b. b ≢ 34) c run plain)
-    ∙ ap (λ f. walk st.InQuoted fields f rest) (append_assoc field (c ∷ []) run)
+quoted-run : (delimiter : ℕ) (run : List ℕ) (fields : Record) (field rest : List ℕ) → All (λ c. c ≢ 34) run
+    → walk delimiter st.InQuoted fields field (run ++ rest) ≡ walk delimiter st.InQuoted fields (field ++ run) rest
+quoted-run delimiter [] fields field rest plain = ap (λ f. walk delimiter st.InQuoted fields f rest) (sym (append-nil field))
+quoted-run delimiter (c ∷ run) fields field rest plain =
+    quoted-other delimiter c fields field (run ++ rest) (All-head (λ b. b ≢ 34) c run plain)
+    ∙ quoted-run delimiter run fields (field ++ c ∷ []) rest (All-tail (λ b. b ≢ 34) c run plain)
+    ∙ ap (λ f. walk delimiter st.InQuoted fields f rest) (append_assoc field (c ∷ []) run)
 
-goes-quoted : (text : List ℕ) (at n : ℕ) → All (λ c. c ≢ 34) (take n (drop at text)) → Goes st.InQuoted st.InQuoted text at (at + n) (slice_range text at (at + n))
-goes-quoted text at n plain fields field =
+goes-quoted : (delimiter : ℕ) (text : List ℕ) (at n : ℕ) → All (λ c. c ≢ 34) (take n (drop at text)) → Goes delimiter st.InQuoted st.InQuoted text at (at + n) (slice_range text at (at + n))
+goes-quoted delimiter text at n plain fields field =
     let long : (at + n) - at ≡ n = omega arith in
-    ap (walk st.InQuoted fields field) (sym (take-append-drop n (drop at text)))
-    ∙ quoted-run (take n (drop at text)) fields field (drop n (drop at text)) plain
-    ∙ ap₂ (λ f y. walk st.InQuoted fields f y) (ap (λ k. field ++ take k (drop at text)) (sym long)) (drop-drop n at text)
+    ap (walk delimiter st.InQuoted fields field) (sym (take-append-drop n (drop at text)))
+    ∙ quoted-run delimiter (take n (drop at text)) fields field (drop n (drop at text)) plain
+    ∙ ap₂ (λ f y. walk delimiter st.InQuoted fields f y) (ap (λ k. field ++ take k (drop at text)) (sym long)) (drop-drop n at text)
 
 -- two double quotes in quotes are one byte of the field
-goes-twice : (text : List ℕ) (quote : ℕ) → quote + 1 < length text → get_or text quote 0 ≡ 34 → get_or text (quote + 1) 0 ≡ 34
-    → Goes st.InQuoted st.InQuoted text quote (quote + 2) (34 ∷ [])
-goes-twice text quote lt first second fields field =
+goes-twice : (delimiter : ℕ) (text : List ℕ) (quote : ℕ) → quote + 1 < length text → get_or text quote 0 ≡ 34 → get_or text (quote + 1) 0 ≡ 34
+    → Goes delimiter st.InQuoted st.InQuoted text quote (quote + 2) (34 ∷ [])
+goes-twice delimiter text quote lt first second fields field =
     let behind : drop (quote + 1 + 1) text ≡ drop (quote + 2) text = ap (λ k. drop k text) (omega arith) in
     let one = next-byte text quote (omega (arith, lt)) ∙ ap (λ c. c ∷ drop (quote + 1) text) first in
     let two = next-byte text (quote + 1) lt ∙ ap (λ c. c ∷ drop (quote + 1 + 1) text) second ∙ ap (λ y. 34 ∷ y) behind in
-    ap (walk st.InQuoted fields field) (one ∙ ap (λ y. 34 ∷ y) two) ∙ quoted-twice fields field (drop (quote + 2) text)
+    ap (walk delimiter st.InQuoted fields field) (one ∙ ap (λ y. 34 ∷ y) two) ∙ quoted-twice delimiter fields field (drop (quote + 2) text)
 
-pub quoted-on : (text : List ℕ) (at n : ℕ) → at + n + 1 < length text → All (λ c. c ≢ 34) (take n (drop at text)) → get_or text (at + n) 0 ≡ 34 → get_or text (at + n + 1) 0 ≡ 34
-    → Goes st.InQuoted st.InQuoted text at (at + n + 2) (slice_range text at (at + n + 1))
-quoted-on text at n lt plain first second =
+pub quoted-on : (delimiter : ℕ) (text : List ℕ) (at n : ℕ) → at + n + 1 < length text → All (λ c. c ≢ 34) (take n (drop at text)) → get_or text (at + n) 0 ≡ 34 → get_or text (at + n + 1) 0 ≡ 34
+    → Goes delimiter st.InQuoted st.InQuoted text at (at + n + 2) (slice_range text at (at + n + 1))
+quoted-on delimiter text at n lt plain first second =
     let more : slice_range text at (at + n + 1) ≡ slice_range text at (at + n) ++ 34 ∷ [] =
     one-between text at (at + n) (omega arith) (omega (arith, lt)) ∙ ap (λ c. slice_range text at (at + n) ++ c ∷ []) first in
     rw more
-    (goes-then st.InQuoted st.InQuoted st.InQuoted text at (at + n) (at + n + 2) (slice_range text at (at + n)) (34 ∷ []) (goes-quoted text at n plain) (goes-twice text (at + n) lt first second))
+    (goes-then delimiter st.InQuoted st.InQuoted st.InQuoted text at (at + n) (at + n + 2) (slice_range text at (at + n)) (34 ∷ []) (goes-quoted delimiter text at n plain) (goes-twice delimiter text (at + n) lt first second))
 
 -- behind a single one the field goes on without quotes
-goes-once : (text : List ℕ) (quote : ℕ) → quote < length text → get_or text quote 0 ≡ 34 → (quote + 1 < length text → get_or text (quote + 1) 0 ≡ 34 → ⊥)
-    → Goes st.InQuoted st.InField text quote (quote + 1) []
-goes-once text quote lt first single fields field =
-    ap (walk st.InQuoted fields field) (next-byte text quote lt ∙ ap (λ c. c ∷ drop (quote + 1) text) first)
-    ∙ quoted-once fields field (drop (quote + 1) text)
+goes-once : (delimiter : ℕ) (text : List ℕ) (quote : ℕ) → quote < length text → get_or text quote 0 ≡ 34 → (quote + 1 < length text → get_or text (quote + 1) 0 ≡ 34 → ⊥)
+    → Goes delimiter st.InQuoted st.InField text quote (quote + 1) []
+goes-once delimiter text quote lt first single fields field =
+    ap (walk delimiter st.InQuoted fields field) (next-byte text quote lt ∙ ap (λ c. c ∷ drop (quote + 1) text) first)
+    ∙ quoted-once delimiter fields field (drop (quote + 1) text)
     ∙ closed
-    ∙ ap (λ f. walk st.InField fields f (drop (quote + 1) text)) (sym (append-nil field))
+    ∙ ap (λ f. walk delimiter st.InField fields f (drop (quote + 1) text)) (sym (append-nil field))
   where
-    closed : walk st.AfterQuote fields field (drop (quote + 1) text) ≡ walk st.InField fields field (drop (quote + 1) text)
+    closed : walk delimiter st.AfterQuote fields field (drop (quote + 1) text) ≡ walk delimiter st.InField fields field (drop (quote + 1) text)
     closed = elim (dec_lt (quote + 1) (length text)) [
       | yes more ↦
-          ap (walk st.AfterQuote fields field) (next-byte text (quote + 1) more)
-          ∙ closed-other (get_or text (quote + 1) 0) fields field (drop (quote + 1 + 1) text) (single more)
-          ∙ ap (walk st.InField fields field) (sym (next-byte text (quote + 1) more))
+          ap (walk delimiter st.AfterQuote fields field) (next-byte text (quote + 1) more)
+          ∙ closed-other delimiter (get_or text (quote + 1) 0) fields field (drop (quote + 1 + 1) text) (single more)
+          ∙ ap (walk delimiter st.InField fields field) (sym (next-byte text (quote + 1) more))
       | no over ↦
           let none = drop-over text (quote + 1) (omega (arith, over)) in
-          ap (walk st.AfterQuote fields field) none ∙ closed-over fields field ∙ ap (walk st.InField fields field) (sym none)
+          ap (walk delimiter st.AfterQuote fields field) none ∙ closed-over delimiter fields field ∙ ap (walk delimiter st.InField fields field) (sym none)
     ]
 
-pub quoted-end : (text : List ℕ) (at n : ℕ) → at + n < length text → All (λ c. c ≢ 34) (take n (drop at text)) → get_or text (at + n) 0 ≡ 34
+pub quoted-end : (delimiter : ℕ) (text : List ℕ) (at n : ℕ) → at + n < length text → All (λ c. c ≢ 34) (take n (drop at text)) → get_or text (at + n) 0 ≡ 34
     → (at + n + 1 < length text → get_or text (at + n + 1) 0 ≡ 34 → ⊥)
-    → Goes st.InQuoted st.InField text at (at + n + 1) (slice_range text at (at + n))
-quoted-end text at n lt plain first single =
-    let goes = goes-then st.InQuoted st.InQuoted st.InField text at (at + n) (at + n + 1) (slice_range text at (at + n)) [] (goes-quoted text at n plain) (goes-once text (at + n) lt first single) in
-    subst (λ m. Goes st.InQuoted st.InField text at (at + n + 1) m) (append-nil (slice_range text at (at + n))) goes
+    → Goes delimiter st.InQuoted st.InField text at (at + n + 1) (slice_range text at (at + n))
+quoted-end delimiter text at n lt plain first single =
+    let goes = goes-then delimiter st.InQuoted st.InQuoted st.InField text at (at + n) (at + n + 1) (slice_range text at (at + n)) [] (goes-quoted delimiter text at n plain) (goes-once delimiter text (at + n) lt first single) in
+    subst (λ m. Goes delimiter st.InQuoted st.InField text at (at + n + 1) m) (append-nil (slice_range text at (at + n))) goes
 
 -- quotes that are never closed take the rest of the text
-pub quoted-rest : (text : List ℕ) (at : ℕ) → at ≤ length text → All (λ c. c ≢ 34) (drop at text)
-    → Goes st.InQuoted st.InField text at (length text) (slice_range text at (length text))
-quoted-rest text at le plain fields field =
+pub quoted-rest : (delimiter : ℕ) (text : List ℕ) (at : ℕ) → at ≤ length text → All (λ c. c ≢ 34) (drop at text)
+    → Goes delimiter st.InQuoted st.InField text at (length text) (slice_range text at (length text))
+quoted-rest delimiter text at le plain fields field =
     let over = drop-over text (length text) (omega arith) in
-    ap (walk st.InQuoted fields field) (sym (append-nil (drop at text)))
-    ∙ quoted-run (drop at text) fields field [] plain
-    ∙ ap (λ f. walk st.InQuoted fields (field ++ f) []) (sym (slice-end text at))
-    ∙ quoted-over fields (field ++ slice_range text at (length text))
-    ∙ ap (walk st.InField fields (field ++ slice_range text at (length text))) (sym over)
+    ap (walk delimiter st.InQuoted fields field) (sym (append-nil (drop at text)))
+    ∙ quoted-run delimiter (drop at text) fields field [] plain
+    ∙ ap (λ f. walk delimiter st.InQuoted fields (field ++ f) []) (sym (slice-end text at))
+    ∙ quoted-over delimiter fields (field ++ slice_range text at (length text))
+    ∙ ap (walk delimiter st.InField fields (field ++ slice_range text at (length text))) (sym over)
 
 kept-more : (wanted : Bool) (old a b : List ℕ) → kept wanted (kept wanted old a) b ≡ kept wanted old (a ++ b)
 kept-more true old a b = append_assoc old a b
 kept-more false old a b = refl
 
 -- up to a place in quotes a field was read, and its bytes are kept where they are wanted
-abbrev pub InQuotes : List ℕ → ℕ → ℕ → Bool → List ℕ → List ℕ → Type 0
-InQuotes text start at wanted old new =
-    (more : List ℕ) × Goes st.InQuoted st.InQuoted text start at more × (new ≡ kept wanted old more)
+abbrev pub InQuotes : ℕ → List ℕ → ℕ → ℕ → Bool → List ℕ → List ℕ → Type 0
+InQuotes delimiter text start at wanted old new =
+    (more : List ℕ) × Goes delimiter st.InQuoted st.InQuoted text start at more × (new ≡ kept wanted old more)
 
-pub quotes-on : (text : List ℕ) (start at to : ℕ) (wanted : Bool) (old mid new more : List ℕ) → InQuotes text start at wanted old mid
-    → Goes st.InQuoted st.InQuoted text at to more → new ≡ kept wanted mid more → InQuotes text start to wanted old new
-quotes-on text start at to wanted old mid new more before goes keeps = (
+pub quotes-on : (delimiter : ℕ) (text : List ℕ) (start at to : ℕ) (wanted : Bool) (old mid new more : List ℕ) → InQuotes delimiter text start at wanted old mid
+    → Goes delimiter st.InQuoted st.InQuoted text at to more → new ≡ kept wanted mid more → InQuotes delimiter text start to wanted old new
+quotes-on delimiter text start at to wanted old mid new more before goes keeps = (
   before.0 ++ more,
-  goes-then st.InQuoted st.InQuoted st.InQuoted text start at to before.0 more before.1 goes,
+  goes-then delimiter st.InQuoted st.InQuoted st.InQuoted text start at to before.0 more before.1 goes,
   keeps ∙ ap (λ m. kept wanted m more) before.2 ∙ kept-more wanted old before.0 more,
 )
 
-pub quotes-closed : (text : List ℕ) (start at to end : ℕ) (wanted : Bool) (old mid new last more : List ℕ) → start ≤ at → at ≤ to → InQuotes text start at wanted old mid
-    → Goes st.InQuoted st.InField text at to more → new ≡ kept wanted mid more → ReadsField st.InField text to end wanted new last
-    → ReadsField st.InQuoted text start end wanted old last
-quotes-closed text start at to end wanted old mid new last more low high before goes keeps reads = record {
+pub quotes-closed : (delimiter : ℕ) (text : List ℕ) (start at to end : ℕ) (wanted : Bool) (old mid new last more : List ℕ) → start ≤ at → at ≤ to → InQuotes delimiter text start at wanted old mid
+    → Goes delimiter st.InQuoted st.InField text at to more → new ≡ kept wanted mid more → ReadsField delimiter st.InField text to end wanted new last
+    → ReadsField delimiter st.InQuoted text start end wanted old last
+quotes-closed delimiter text start at to end wanted old mid new last more low high before goes keeps reads = record {
   more = before.0 ++ (more ++ reads.more);
   ends = record {
     order = omega (arith, low, high, reads.ends.order);
     within = reads.ends.within;
     ended = reads.ends.ended;
-    walked = goes-then st.InQuoted st.InQuoted st.InField text start at end before.0 (more ++ reads.more) before.1
-        (goes-then st.InQuoted st.InField st.InField text at to end more reads.more goes reads.ends.walked);
+    walked = goes-then delimiter st.InQuoted st.InQuoted st.InField text start at end before.0 (more ++ reads.more) before.1
+        (goes-then delimiter st.InQuoted st.InField st.InField text at to end more reads.more goes reads.ends.walked);
   };
   keeps = reads.keeps
       ∙ ap (λ m. kept wanted m reads.more) (keeps ∙ ap (λ m. kept wanted m more) before.2 ∙ kept-more wanted old before.0 more)
@@ -238,49 +280,49 @@ quotes-closed text start at to end wanted old mid new last more low high before 
       ∙ ap (kept wanted old) (append_assoc before.0 more reads.more);
 }
 
-pub quotes-open : (text : List ℕ) (start at : ℕ) (wanted : Bool) (old mid new : List ℕ) → start ≤ at → at ≤ length text → InQuotes text start at wanted old mid
+pub quotes-open : (delimiter : ℕ) (text : List ℕ) (start at : ℕ) (wanted : Bool) (old mid new : List ℕ) → start ≤ at → at ≤ length text → InQuotes delimiter text start at wanted old mid
     → All (λ c. c ≢ 34) (drop at text) → new ≡ kept wanted mid (slice_range text at (length text))
-    → ReadsField st.InQuoted text start (length text) wanted old new
-quotes-open text start at wanted old mid new low high before plain keeps = record {
+    → ReadsField delimiter st.InQuoted text start (length text) wanted old new
+quotes-open delimiter text start at wanted old mid new low high before plain keeps = record {
   more = before.0 ++ slice_range text at (length text);
   ends = record {
     order = omega (arith, low, high);
     within = omega arith;
     ended = λ lt. absurd (omega (arith, lt));
-    walked = goes-then st.InQuoted st.InQuoted st.InField text start at (length text) before.0 (slice_range text at (length text)) before.1 (quoted-rest text at high plain);
+    walked = goes-then delimiter st.InQuoted st.InQuoted st.InField text start at (length text) before.0 (slice_range text at (length text)) before.1 (quoted-rest delimiter text at high plain);
   };
   keeps = keeps ∙ ap (λ m. kept wanted m (slice_range text at (length text))) before.2 ∙ kept-more wanted old before.0 (slice_range text at (length text));
 }
 
 -- ---- a field from its start
-pub field-in-quotes : (text : List ℕ) (at end : ℕ) (wanted : Bool) (old new : List ℕ) → at < length text → get_or text at 0 ≡ 34
-    → ReadsField st.InQuoted text (at + 1) end wanted old new → ReadsField st.StartField text at end wanted old new
-field-in-quotes text at end wanted old new lt quote reads = record {
+pub field-in-quotes : (delimiter : ℕ) (text : List ℕ) (at end : ℕ) (wanted : Bool) (old new : List ℕ) → at < length text → get_or text at 0 ≡ 34
+    → ReadsField delimiter st.InQuoted text (at + 1) end wanted old new → ReadsField delimiter st.StartField text at end wanted old new
+field-in-quotes delimiter text at end wanted old new lt quote reads = record {
   more = reads.more;
   ends = record {
     order = omega (arith, reads.ends.order);
     within = reads.ends.within;
     ended = reads.ends.ended;
     walked = λ fields field.
-        ap (walk st.StartField fields field) (next-byte text at lt ∙ ap (λ c. c ∷ drop (at + 1) text) quote)
-        ∙ field-quoted fields field (drop (at + 1) text)
+        ap (walk delimiter st.StartField fields field) (next-byte text at lt ∙ ap (λ c. c ∷ drop (at + 1) text) quote)
+        ∙ field-quoted delimiter fields field (drop (at + 1) text)
         ∙ reads.ends.walked fields field;
   };
   keeps = reads.keeps;
 }
 
-pub field-without : (text : List ℕ) (at end : ℕ) (wanted : Bool) (old new : List ℕ) → at < length text → get_or text at 0 ≢ 34
-    → ReadsField st.InField text at end wanted old new → ReadsField st.StartField text at end wanted old new
-field-without text at end wanted old new lt other reads = record {
+pub field-without : (delimiter : ℕ) (text : List ℕ) (at end : ℕ) (wanted : Bool) (old new : List ℕ) → at < length text → get_or text at 0 ≢ 34
+    → ReadsField delimiter st.InField text at end wanted old new → ReadsField delimiter st.StartField text at end wanted old new
+field-without delimiter text at end wanted old new lt other reads = record {
   more = reads.more;
   ends = record {
     order = reads.ends.order;
     within = reads.ends.within;
     ended = reads.ends.ended;
     walked = λ fields field.
-        ap (walk st.StartField fields field) (next-byte text at lt)
-        ∙ field-bare (get_or text at 0) fields field (drop (at + 1) text) other
-        ∙ ap (walk st.InField fields field) (sym (next-byte text at lt))
+        ap (walk delimiter st.StartField fields field) (next-byte text at lt)
+        ∙ field-bare delimiter (get_or text at 0) fields field (drop (at + 1) text) other
+        ∙ ap (walk delimiter st.InField fields field) (sym (next-byte text at lt))
         ∙ reads.ends.walked fields field;
   };
   keeps = reads.keeps;
@@ -310,9 +352,9 @@ no_fields [] e = refl
 no_fields (f ∷ fields) e = absurd (omega (arith, e))
 
 -- a field that was read to its end makes the fields whole
-pub row-whole : (text : List ℕ) (at end column : ℕ) (old new : Row) → ReadsField st.StartField text at end (old.count == column) old.key.items new.key.items
-    → new.count ≡ old.count → ReadsRow text at end column old new
-row-whole text at end column old new reads same = record {
+pub row-whole : (delimiter : ℕ) (text : List ℕ) (at end column : ℕ) (old new : Row) → ReadsField delimiter st.StartField text at end (old.count == column) old.key.items new.key.items
+    → new.count ≡ old.count → ReadsRow delimiter text at end column old new
+row-whole delimiter text at end column old new reads same = record {
   field = reads.more;
   ends = reads.ends;
   whole = λ fields is.
@@ -379,7 +421,7 @@ ok-then (Ok x) P Q f h = f x h
 ok-then (Err e) P Q f h = tt
 
 -- ---- the walk over a text, field by field
--- where a reader stands before a field: at the start of a record, or behind a comma
+-- where a reader stands before a field: at the start of a record, or behind a delimiter
 abbrev pub head : ℕ → State
 head n = if n == 0 then st.StartRecord else st.StartField
 
@@ -389,49 +431,49 @@ head-none n e = rw (eq-eqb n 0 e) refl
 head-some : (n : ℕ) → n ≢ 0 → head n ≡ st.StartField
 head-some n other = rw (ne_eqb n 0 other) refl
 
-from-head : (text : List ℕ) (at n : ℕ) (fields : Record) → at < length text → n ≡ length fields → (n ≡ 0 → IsLineEnd (get_or text at 0) → ⊥)
-    → walk (head n) fields [] (drop at text) ≡ walk st.StartField fields [] (drop at text)
-from-head text at n fields lt count free =
+from-head : (delimiter : ℕ) (text : List ℕ) (at n : ℕ) (fields : Record) → at < length text → n ≡ length fields → (n ≡ 0 → IsLineEnd (get_or text at 0) → ⊥)
+    → walk delimiter (head n) fields [] (drop at text) ≡ walk delimiter st.StartField fields [] (drop at text)
+from-head delimiter text at n fields lt count free =
     elim (eqb_tells n 0) [
       | inl e ↦
           let none = no_fields fields (sym count ∙ e.1) in
-          ap₂ (λ s f. walk s f [] (drop at text)) (head-none n e.1) none
-          ∙ ap (walk st.StartRecord [] []) (next-byte text at lt)
-          ∙ record-bare (get_or text at 0) (drop (at + 1) text) (λ h. free e.1 (inl h)) (λ h. free e.1 (inr h))
-          ∙ ap (walk st.StartField [] []) (sym (next-byte text at lt))
-          ∙ ap (λ f. walk st.StartField f [] (drop at text)) (sym none)
-      | inr o ↦ ap (λ s. walk s fields [] (drop at text)) (head-some n o.1)
+          ap₂ (λ s f. walk delimiter s f [] (drop at text)) (head-none n e.1) none
+          ∙ ap (walk delimiter st.StartRecord [] []) (next-byte text at lt)
+          ∙ record-bare delimiter (get_or text at 0) (drop (at + 1) text) (λ h. free e.1 (inl h)) (λ h. free e.1 (inr h))
+          ∙ ap (walk delimiter st.StartField [] []) (sym (next-byte text at lt))
+          ∙ ap (λ f. walk delimiter st.StartField f [] (drop at text)) (sym none)
+      | inr o ↦ ap (λ s. walk delimiter s fields [] (drop at text)) (head-some n o.1)
     ]
 
-walked-comma : (text : List ℕ) (end : ℕ) (fields : Record) (field : List ℕ) → end < length text → get_or text end 0 ≡ 44
-    → walk st.InField fields field (drop end text) ≡ walk st.StartField (fields ++ field ∷ []) [] (drop (end + 1) text)
-walked-comma text end fields field lt comma =
-    ap (walk st.InField fields field) (next-byte text end lt ∙ ap (λ c. c ∷ drop (end + 1) text) comma) ∙ in-comma fields field (drop (end + 1) text)
+walked-delimiter : (delimiter : ℕ) (text : List ℕ) (end : ℕ) (fields : Record) (field : List ℕ) → end < length text → get_or text end 0 ≡ delimiter
+    → walk delimiter st.InField fields field (drop end text) ≡ walk delimiter st.StartField (fields ++ field ∷ []) [] (drop (end + 1) text)
+walked-delimiter delimiter text end fields field lt comma =
+    ap (walk delimiter st.InField fields field) (next-byte text end lt ∙ ap (λ c. c ∷ drop (end + 1) text) comma) ∙ in-delimiter delimiter fields field (drop (end + 1) text)
 
-ends-line : (c : ℕ) → (c ≡ 44 → ⊥) → (c ≡ 44) ⊎ IsLineEnd c → IsLineEnd c
-ends-line c other (inl h) = absurd (other h)
-ends-line c other (inr h) = h
+ends-line : (delimiter c : ℕ) → (c ≡ delimiter → ⊥) → (c ≡ delimiter) ⊎ IsLineEnd c → IsLineEnd c
+ends-line delimiter c other (inl h) = absurd (other h)
+ends-line delimiter c other (inr h) = h
 
-walked-end : (s : State) (text : List ℕ) (at end : ℕ) (fields : Record) (field : List ℕ) → EndsField s text at end field → (end < length text → get_or text end 0 ≡ 44 → ⊥)
-    → walk st.InField fields field (drop end text) ≡ (fields ++ field ∷ []) ∷ walk st.StartRecord [] [] (drop (end + 1) text)
-walked-end s text at end fields field ends other =
+walked-end : (delimiter : ℕ) (s : State) (text : List ℕ) (at end : ℕ) (fields : Record) (field : List ℕ) → EndsField delimiter s text at end field → (end < length text → get_or text end 0 ≡ delimiter → ⊥)
+    → walk delimiter st.InField fields field (drop end text) ≡ (fields ++ field ∷ []) ∷ walk delimiter st.StartRecord [] [] (drop (end + 1) text)
+walked-end delimiter s text at end fields field ends other =
     elim (dec_lt end (length text)) [
       | yes lt ↦
-          ap (walk st.InField fields field) (next-byte text end lt)
-          ∙ in-end (get_or text end 0) fields field (drop (end + 1) text) (ends-line (get_or text end 0) (other lt) (ends.ended lt))
+          ap (walk delimiter st.InField fields field) (next-byte text end lt)
+          ∙ in-end delimiter (get_or text end 0) fields field (drop (end + 1) text) (other lt) (ends-line delimiter (get_or text end 0) (other lt) (ends.ended lt))
       | no over ↦
           let here = drop-over text end (omega (arith, over)) in
           let there = drop-over text (end + 1) (omega (arith, over)) in
-          ap (walk st.InField fields field) here ∙ in-over fields field
-          ∙ ap (λ rows. (fields ++ field ∷ []) ∷ rows) (sym (ap (walk st.StartRecord [] []) there ∙ record-over))
+          ap (walk delimiter st.InField fields field) here ∙ in-over delimiter fields field
+          ∙ ap (λ rows. (fields ++ field ∷ []) ∷ rows) (sym (ap (walk delimiter st.StartRecord [] []) there ∙ record-over delimiter))
     ]
 
 -- ---- the keys of the text, from those that were read and those of the walk that is left
-abbrev pub Reads : List ℕ → ℕ → ℕ → List (List ℕ) → ℕ → Row → ℕ → Type 0
-Reads text column width keys nth row at =
+abbrev pub Reads : ℕ → List ℕ → ℕ → ℕ → List (List ℕ) → ℕ → Row → ℕ → Type 0
+Reads delimiter text column width keys nth row at =
     (fields : Record) × IsRow column row fields
-    × (piece_keys (key_in (column + 1)) width text
-    ≡ after_keys keys (keys_from (key_in (column + 1)) width nth (walk (head row.count) fields [] (drop at text))))
+    × (piece_keys delimiter (key_in (column + 1)) width text
+    ≡ after_keys keys (keys_from (key_in (column + 1)) width nth (walk delimiter (head row.count) fields [] (drop at text))))
 
 strip-if : (b : Bool) (x y : List ℕ) → Path ℕ (if b then 3 else 0) 0 → (if b then x else y) ≡ y
 strip-if true x y e = absurd (omega (arith, e))
@@ -444,11 +486,11 @@ strip-none (a ∷ []) e = refl
 strip-none (a ∷ b ∷ []) e = refl
 strip-none (a ∷ b ∷ c ∷ rest) e = strip-if (is_bom a b c) rest (a ∷ b ∷ c ∷ rest) e
 
-pub reads-first : (text : List ℕ) (column width : ℕ) (keys : List (List ℕ)) (row : Row) → keys ≡ [] → bom_length text ≡ 0 → IsRow column row [] → row.count ≡ 0
-    → Reads text column width keys 1 row 0
-reads-first text column width keys row none unmarked is count =
-    let from : file_records text ≡ walk (head row.count) [] [] text =
-    ap (records default_config) (strip-none text unmarked) ∙ records-walk text ∙ ap (λ s. walk s [] [] text) (sym (head-none row.count count)) in
+pub reads-first : (delimiter : ℕ) (text : List ℕ) (column width : ℕ) (keys : List (List ℕ)) (row : Row) → keys ≡ [] → bom_length text ≡ 0 → IsRow column row [] → row.count ≡ 0
+    → Reads delimiter text column width keys 1 row 0
+reads-first delimiter text column width keys row none unmarked is count =
+    let from : file_records delimiter text ≡ walk delimiter (head row.count) [] [] text =
+    ap (records (dialect delimiter)) (strip-none text unmarked) ∙ records-walk delimiter text ∙ ap (λ s. walk delimiter s [] [] text) (sym (head-none row.count count)) in
     ([], is, rw none (ap (keys_from (key_in (column + 1)) width 1) from))
 
 on-walk : (text : List ℕ) (column width : ℕ) (keys : List (List ℕ)) (nth : ℕ) (total : Result (List (List ℕ)) Refusal) (old new : List Record)
@@ -456,37 +498,37 @@ on-walk : (text : List ℕ) (column width : ℕ) (keys : List (List ℕ)) (nth :
 on-walk text column width keys nth total old new is same = is ∙ ap (λ rows. after_keys keys (keys_from (key_in (column + 1)) width nth rows)) same
 
 -- the end of a line behind no field is passed over
-pub reads-blank : (text : List ℕ) (column width : ℕ) (keys : List (List ℕ)) (nth : ℕ) (row : Row) (at : ℕ) → Reads text column width keys nth row at → at < length text
-    → row.count ≡ 0 → IsLineEnd (get_or text at 0) → Reads text column width keys nth row (at + 1)
-reads-blank text column width keys nth row at reads lt count ends =
+pub reads-blank : (delimiter : ℕ) (text : List ℕ) (column width : ℕ) (keys : List (List ℕ)) (nth : ℕ) (row : Row) (at : ℕ) → Reads delimiter text column width keys nth row at → at < length text
+    → row.count ≡ 0 → IsLineEnd (get_or text at 0) → Reads delimiter text column width keys nth row (at + 1)
+reads-blank delimiter text column width keys nth row at reads lt count ends =
     let none = no_fields reads.0 (sym reads.1.count ∙ count) in (
       reads.0,
       reads.1,
       on-walk text column width keys nth _ _ _ reads.2
-          (ap₂ (λ s f. walk s f [] (drop at text)) (head-none row.count count) none
-          ∙ ap (walk st.StartRecord [] []) (next-byte text at lt)
-          ∙ record-end (get_or text at 0) (drop (at + 1) text) ends
-          ∙ sym (ap₂ (λ s f. walk s f [] (drop (at + 1) text)) (head-none row.count count) none)),
+          (ap₂ (λ s f. walk delimiter s f [] (drop at text)) (head-none row.count count) none
+          ∙ ap (walk delimiter st.StartRecord [] []) (next-byte text at lt)
+          ∙ record-end delimiter (get_or text at 0) (drop (at + 1) text) ends
+          ∙ sym (ap₂ (λ s f. walk delimiter s f [] (drop (at + 1) text)) (head-none row.count count) none)),
     )
 
 -- a field that starts here is no end of a line
 abbrev pub Starts : List ℕ → ℕ → Row → Type 0
 Starts text at row = (at < length text) × (row.count ≡ 0 → IsLineEnd (get_or text at 0) → ⊥)
 
-field-walked : (text : List ℕ) (column at end : ℕ) (old mid : Row) (fields : Record) → Starts text at old → IsRow column old fields → (read : ReadsRow text at end column old mid)
-    → walk (head old.count) fields [] (drop at text) ≡ walk st.InField fields read.field (drop end text)
-field-walked text column at end old mid fields starts is read = from-head text at old.count fields starts.0 is.count starts.1 ∙ read.ends.walked fields []
+field-walked : (delimiter : ℕ) (text : List ℕ) (column at end : ℕ) (old mid : Row) (fields : Record) → Starts text at old → IsRow column old fields → (read : ReadsRow delimiter text at end column old mid)
+    → walk delimiter (head old.count) fields [] (drop at text) ≡ walk delimiter st.InField fields read.field (drop end text)
+field-walked delimiter text column at end old mid fields starts is read = from-head delimiter text at old.count fields starts.0 is.count starts.1 ∙ read.ends.walked fields []
 
-pub reads-comma : (text : List ℕ) (column width : ℕ) (keys : List (List ℕ)) (nth : ℕ) (old mid next : Row) (at end : ℕ) → Reads text column width keys nth old at → Starts text at old
-    → ReadsRow text at end column old mid → end < length text → get_or text end 0 ≡ 44 → next.count ≡ mid.count + 1
-    → ((fields : Record) → IsWhole column mid fields → IsRow column next fields) → Reads text column width keys nth next (end + 1)
-reads-comma text column width keys nth old mid next at end reads starts read lt comma count goes =
+pub reads-delimiter : (delimiter : ℕ) (text : List ℕ) (column width : ℕ) (keys : List (List ℕ)) (nth : ℕ) (old mid next : Row) (at end : ℕ) → Reads delimiter text column width keys nth old at → Starts text at old
+    → ReadsRow delimiter text at end column old mid → end < length text → get_or text end 0 ≡ delimiter → next.count ≡ mid.count + 1
+    → ((fields : Record) → IsWhole column mid fields → IsRow column next fields) → Reads delimiter text column width keys nth next (end + 1)
+reads-delimiter delimiter text column width keys nth old mid next at end reads starts read lt comma count goes =
     let fields = reads.0 ++ read.field ∷ [] in (
       fields,
       goes fields (read.whole reads.0 reads.1),
       on-walk text column width keys nth _ _ _ reads.2
-          (field-walked text column at end old mid reads.0 starts reads.1 read ∙ walked-comma text end reads.0 read.field lt comma
-          ∙ ap (λ s. walk s fields [] (drop (end + 1) text)) (sym (head-some next.count (λ e. absurd (omega (arith, e, count)))))),
+          (field-walked delimiter text column at end old mid reads.0 starts reads.1 read ∙ walked-delimiter delimiter text end reads.0 read.field lt comma
+          ∙ ap (λ s. walk delimiter s fields [] (drop (end + 1) text)) (sym (head-some next.count (λ e. absurd (omega (arith, e, count)))))),
     )
 
 -- a record was added
@@ -496,39 +538,39 @@ Takes column width nth old new row = (fields : Record) → IsWhole column row fi
 abbrev pub Faults : ℕ → ℕ → ℕ → Row → Refusal → Type 0
 Faults column width nth row e = (e ≡ r.Memory) ⊎ ((fields : Record) → IsWhole column row fields → IsFaultAt (key_in (column + 1)) width nth fields e)
 
-record-walked : (text : List ℕ) (column width : ℕ) (keys : List (List ℕ)) (nth : ℕ) (old mid : Row) (at end : ℕ) (reads : Reads text column width keys nth old at) → Starts text at old
-    → (read : ReadsRow text at end column old mid) → (end < length text → get_or text end 0 ≡ 44 → ⊥)
-    → piece_keys (key_in (column + 1)) width text
-    ≡ after_keys keys (keys_from (key_in (column + 1)) width nth ((reads.0 ++ read.field ∷ []) ∷ walk st.StartRecord [] [] (drop (end + 1) text)))
-record-walked text column width keys nth old mid at end reads starts read other =
+record-walked : (delimiter : ℕ) (text : List ℕ) (column width : ℕ) (keys : List (List ℕ)) (nth : ℕ) (old mid : Row) (at end : ℕ) (reads : Reads delimiter text column width keys nth old at) → Starts text at old
+    → (read : ReadsRow delimiter text at end column old mid) → (end < length text → get_or text end 0 ≡ delimiter → ⊥)
+    → piece_keys delimiter (key_in (column + 1)) width text
+    ≡ after_keys keys (keys_from (key_in (column + 1)) width nth ((reads.0 ++ read.field ∷ []) ∷ walk delimiter st.StartRecord [] [] (drop (end + 1) text)))
+record-walked delimiter text column width keys nth old mid at end reads starts read other =
     on-walk text column width keys nth _ _ _ reads.2
-    (field-walked text column at end old mid reads.0 starts reads.1 read ∙ walked-end st.StartField text at end reads.0 read.field read.ends other)
+    (field-walked delimiter text column at end old mid reads.0 starts reads.1 read ∙ walked-end delimiter st.StartField text at end reads.0 read.field read.ends other)
 
-pub reads-end : (text : List ℕ) (column width : ℕ) (keys more : List (List ℕ)) (nth : ℕ) (old mid next : Row) (at end : ℕ) → Reads text column width keys nth old at → Starts text at old
-    → ReadsRow text at end column old mid → (end < length text → get_or text end 0 ≡ 44 → ⊥) → Takes column width nth keys more mid
-    → next.count ≡ 0 → IsRow column next [] → Reads text column width more (nth + 1) next (end + 1)
-reads-end text column width keys more nth old mid next at end reads starts read other takes count is =
+pub reads-end : (delimiter : ℕ) (text : List ℕ) (column width : ℕ) (keys more : List (List ℕ)) (nth : ℕ) (old mid next : Row) (at end : ℕ) → Reads delimiter text column width keys nth old at → Starts text at old
+    → ReadsRow delimiter text at end column old mid → (end < length text → get_or text end 0 ≡ delimiter → ⊥) → Takes column width nth keys more mid
+    → next.count ≡ 0 → IsRow column next [] → Reads delimiter text column width more (nth + 1) next (end + 1)
+reads-end delimiter text column width keys more nth old mid next at end reads starts read other takes count is =
     let fields = reads.0 ++ read.field ∷ [] in (
       [],
       is,
-      record-walked text column width keys nth old mid at end reads starts read other
-          ∙ takes fields (read.whole reads.0 reads.1) (walk st.StartRecord [] [] (drop (end + 1) text))
-          ∙ ap (λ s. after_keys more (keys_from (key_in (column + 1)) width (nth + 1) (walk s [] [] (drop (end + 1) text)))) (sym (head-none next.count count)),
+      record-walked delimiter text column width keys nth old mid at end reads starts read other
+          ∙ takes fields (read.whole reads.0 reads.1) (walk delimiter st.StartRecord [] [] (drop (end + 1) text))
+          ∙ ap (λ s. after_keys more (keys_from (key_in (column + 1)) width (nth + 1) (walk delimiter s [] [] (drop (end + 1) text)))) (sym (head-none next.count count)),
     )
 
-pub reads-fault : (text : List ℕ) (column width : ℕ) (keys : List (List ℕ)) (nth : ℕ) (old mid : Row) (at end : ℕ) (e : Refusal) → Reads text column width keys nth old at → Starts text at old
-    → ReadsRow text at end column old mid → (end < length text → get_or text end 0 ≡ 44 → ⊥) → Faults column width nth mid e
-    → (e ≡ r.Memory) ⊎ (piece_keys (key_in (column + 1)) width text ≡ Err e)
-reads-fault text column width keys nth old mid at end e reads starts read other (inl h) = inl h
-reads-fault text column width keys nth old mid at end e reads starts read other (inr h) =
+pub reads-fault : (delimiter : ℕ) (text : List ℕ) (column width : ℕ) (keys : List (List ℕ)) (nth : ℕ) (old mid : Row) (at end : ℕ) (e : Refusal) → Reads delimiter text column width keys nth old at → Starts text at old
+    → ReadsRow delimiter text at end column old mid → (end < length text → get_or text end 0 ≡ delimiter → ⊥) → Faults column width nth mid e
+    → (e ≡ r.Memory) ⊎ (piece_keys delimiter (key_in (column + 1)) width text ≡ Err e)
+reads-fault delimiter text column width keys nth old mid at end e reads starts read other (inl h) = inl h
+reads-fault delimiter text column width keys nth old mid at end e reads starts read other (inr h) =
     let fields = reads.0 ++ read.field ∷ [] in
     inr
-    (record-walked text column width keys nth old mid at end reads starts read other
-    ∙ ap (after_keys keys) (h fields (read.whole reads.0 reads.1) (walk st.StartRecord [] [] (drop (end + 1) text)))
+    (record-walked delimiter text column width keys nth old mid at end reads starts read other
+    ∙ ap (after_keys keys) (h fields (read.whole reads.0 reads.1) (walk delimiter st.StartRecord [] [] (drop (end + 1) text)))
     ∙ after_keys-err keys e)
 
 -- ---- at the end of the text
--- behind a last comma there is one field more, which is empty
+-- behind a last delimiter there is one field more, which is empty
 row-last : (column : ℕ) (row : Row) (fields : Record) → IsRow column row fields → IsWhole column row (fields ++ [] ∷ [])
 row-last column row fields is = record {
   count = omega (arith, is.count, length-append fields ([] ∷ []));
@@ -544,31 +586,31 @@ row-last column row fields is = record {
   before = λ below. is.before (omega (arith, below));
 }
 
-last-walked : (text : List ℕ) (column width : ℕ) (keys : List (List ℕ)) (nth : ℕ) (row : Row) (at : ℕ) (reads : Reads text column width keys nth row at) → length text ≤ at → row.count ≢ 0
-    → piece_keys (key_in (column + 1)) width text ≡ after_keys keys (keys_from (key_in (column + 1)) width nth ((reads.0 ++ [] ∷ []) ∷ []))
-last-walked text column width keys nth row at reads over some =
+last-walked : (delimiter : ℕ) (text : List ℕ) (column width : ℕ) (keys : List (List ℕ)) (nth : ℕ) (row : Row) (at : ℕ) (reads : Reads delimiter text column width keys nth row at) → length text ≤ at → row.count ≢ 0
+    → piece_keys delimiter (key_in (column + 1)) width text ≡ after_keys keys (keys_from (key_in (column + 1)) width nth ((reads.0 ++ [] ∷ []) ∷ []))
+last-walked delimiter text column width keys nth row at reads over some =
     on-walk text column width keys nth _ _ _ reads.2
-    (ap₂ (λ s y. walk s reads.0 [] y) (head-some row.count some) (drop-over text at over) ∙ field-over reads.0 [])
+    (ap₂ (λ s y. walk delimiter s reads.0 [] y) (head-some row.count some) (drop-over text at over) ∙ field-over delimiter reads.0 [])
 
-pub reads-last : (text : List ℕ) (column width : ℕ) (keys more : List (List ℕ)) (nth : ℕ) (row : Row) (at : ℕ) → Reads text column width keys nth row at → length text ≤ at
-    → row.count ≢ 0 → Takes column width nth keys more row → piece_keys (key_in (column + 1)) width text ≡ Ok more
-reads-last text column width keys more nth row at reads over some takes =
-    last-walked text column width keys nth row at reads over some ∙ takes (reads.0 ++ [] ∷ []) (row-last column row reads.0 reads.1) []
+pub reads-last : (delimiter : ℕ) (text : List ℕ) (column width : ℕ) (keys more : List (List ℕ)) (nth : ℕ) (row : Row) (at : ℕ) → Reads delimiter text column width keys nth row at → length text ≤ at
+    → row.count ≢ 0 → Takes column width nth keys more row → piece_keys delimiter (key_in (column + 1)) width text ≡ Ok more
+reads-last delimiter text column width keys more nth row at reads over some takes =
+    last-walked delimiter text column width keys nth row at reads over some ∙ takes (reads.0 ++ [] ∷ []) (row-last column row reads.0 reads.1) []
     ∙ ap (after_keys more) (keys_from-nil (key_in (column + 1)) width (nth + 1)) ∙ after_keys-ok more
 
-pub reads-last-fault : (text : List ℕ) (column width : ℕ) (keys : List (List ℕ)) (nth : ℕ) (row : Row) (at : ℕ) (e : Refusal) → Reads text column width keys nth row at → length text ≤ at
-    → row.count ≢ 0 → Faults column width nth row e → (e ≡ r.Memory) ⊎ (piece_keys (key_in (column + 1)) width text ≡ Err e)
-reads-last-fault text column width keys nth row at e reads over some (inl h) = inl h
-reads-last-fault text column width keys nth row at e reads over some (inr h) =
+pub reads-last-fault : (delimiter : ℕ) (text : List ℕ) (column width : ℕ) (keys : List (List ℕ)) (nth : ℕ) (row : Row) (at : ℕ) (e : Refusal) → Reads delimiter text column width keys nth row at → length text ≤ at
+    → row.count ≢ 0 → Faults column width nth row e → (e ≡ r.Memory) ⊎ (piece_keys delimiter (key_in (column + 1)) width text ≡ Err e)
+reads-last-fault delimiter text column width keys nth row at e reads over some (inl h) = inl h
+reads-last-fault delimiter text column width keys nth row at e reads over some (inr h) =
     inr
-    (last-walked text column width keys nth row at reads over some
+    (last-walked delimiter text column width keys nth row at reads over some
     ∙ ap (after_keys keys) (h (reads.0 ++ [] ∷ []) (row-last column row reads.0 reads.1) [])
     ∙ after_keys-err keys e)
 
-pub reads-over : (text : List ℕ) (column width : ℕ) (keys : List (List ℕ)) (nth : ℕ) (row : Row) (at : ℕ) → Reads text column width keys nth row at → length text ≤ at
-    → row.count ≡ 0 → piece_keys (key_in (column + 1)) width text ≡ Ok keys
-reads-over text column width keys nth row at reads over count =
+pub reads-over : (delimiter : ℕ) (text : List ℕ) (column width : ℕ) (keys : List (List ℕ)) (nth : ℕ) (row : Row) (at : ℕ) → Reads delimiter text column width keys nth row at → length text ≤ at
+    → row.count ≡ 0 → piece_keys delimiter (key_in (column + 1)) width text ≡ Ok keys
+reads-over delimiter text column width keys nth row at reads over count =
     let none = no_fields reads.0 (sym reads.1.count ∙ count) in
     on-walk text column width keys nth _ _ _ reads.2
-    (ap₂ (λ s f. walk s f [] (drop at text)) (head-none row.count count) none ∙ ap (walk st.StartRecord [] []) (drop-over text at over) ∙ record-over)
+    (ap₂ (λ s f. walk delimiter s f [] (drop at text)) (head-none row.count count) none ∙ ap (walk delimiter st.StartRecord [] []) (drop-over text at over) ∙ record-over delimiter)
     ∙ ap (after_keys keys) (keys_from-nil (key_in (column + 1)) width nth) ∙ after_keys-ok keys

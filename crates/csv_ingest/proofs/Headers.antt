@@ -36,25 +36,25 @@ field-here t most i fields field h k at e =
     rw (rest-of most i fields h k, is, e) refl
 
 -- ---- the first record of pieces
-pieces-from : (pieces : List (Bor (List ℕ))) (i : ℕ) (d : Bor (List ℕ)) → i < length pieces
-    → flat_map file_records (drop i (lent pieces)) ≡ file_records (get_or pieces i d).now ++ flat_map file_records (drop (i + 1) (lent pieces))
-pieces-from pieces i d h =
-    ap (flat_map file_records) (drop_more (lent pieces) i [] (omega (arith, h, lent-long pieces)))
-    ∙ ap (λ piece. file_records piece ++ flat_map file_records (drop (i + 1) (lent pieces))) (lent-at pieces i d h)
+pieces-from : (delimiter : ℕ) (pieces : List (Bor (List ℕ))) (i : ℕ) (d : Bor (List ℕ)) → i < length pieces
+    → flat_map (file_records delimiter) (drop i (lent pieces)) ≡ file_records delimiter (get_or pieces i d).now ++ flat_map (file_records delimiter) (drop (i + 1) (lent pieces))
+pieces-from delimiter pieces i d h =
+    ap (flat_map (file_records delimiter)) (drop_more (lent pieces) i [] (omega (arith, h, lent-long pieces)))
+    ∙ ap (λ piece. file_records delimiter piece ++ flat_map (file_records delimiter) (drop (i + 1) (lent pieces))) (lent-at pieces i d h)
 
-pub header-here : (pieces : List (Bor (List ℕ))) (i : ℕ) (d : Bor (List ℕ)) (fields : Record) (rest : List Record) → i < length pieces
-    → flat_map file_records (lent pieces) ≡ flat_map file_records (drop i (lent pieces)) → file_records (get_or pieces i d).now ≡ fields ∷ rest
-    → (more : List Record) × (flat_map file_records (lent pieces) ≡ fields ∷ more)
-header-here pieces i d fields rest h before first = (
-  rest ++ flat_map file_records (drop (i + 1) (lent pieces)),
-  before ∙ pieces-from pieces i d h ∙ ap (λ rows. rows ++ flat_map file_records (drop (i + 1) (lent pieces))) first,
+pub header-here : (delimiter : ℕ) (pieces : List (Bor (List ℕ))) (i : ℕ) (d : Bor (List ℕ)) (fields : Record) (rest : List Record) → i < length pieces
+    → flat_map (file_records delimiter) (lent pieces) ≡ flat_map (file_records delimiter) (drop i (lent pieces)) → file_records delimiter (get_or pieces i d).now ≡ fields ∷ rest
+    → (more : List Record) × (flat_map (file_records delimiter) (lent pieces) ≡ fields ∷ more)
+header-here delimiter pieces i d fields rest h before first = (
+  rest ++ flat_map (file_records delimiter) (drop (i + 1) (lent pieces)),
+  before ∙ pieces-from delimiter pieces i d h ∙ ap (λ rows. rows ++ flat_map (file_records delimiter) (drop (i + 1) (lent pieces))) first,
 )
 
-pub header-later : (pieces : List (Bor (List ℕ))) (i : ℕ) (d : Bor (List ℕ)) → i < length pieces
-    → flat_map file_records (lent pieces) ≡ flat_map file_records (drop i (lent pieces)) → file_records (get_or pieces i d).now ≡ []
-    → flat_map file_records (lent pieces) ≡ flat_map file_records (drop (i + 1) (lent pieces))
-header-later pieces i d h before none =
-    before ∙ pieces-from pieces i d h ∙ ap (λ rows. rows ++ flat_map file_records (drop (i + 1) (lent pieces))) none
+pub header-later : (delimiter : ℕ) (pieces : List (Bor (List ℕ))) (i : ℕ) (d : Bor (List ℕ)) → i < length pieces
+    → flat_map (file_records delimiter) (lent pieces) ≡ flat_map (file_records delimiter) (drop i (lent pieces)) → file_records delimiter (get_or pieces i d).now ≡ []
+    → flat_map (file_records delimiter) (lent pieces) ≡ flat_map (file_records delimiter) (drop (i + 1) (lent pieces))
+header-later delimiter pieces i d h before none =
+    before ∙ pieces-from delimiter pieces i d h ∙ ap (λ rows. rows ++ flat_map (file_records delimiter) (drop (i + 1) (lent pieces))) none
 
 -- ---- the column
 pub column-none : (most : ℕ) (name : List ℕ) (rows : List Record) → rows ≡ [] → Ok 1 ≡ column_named most name rows

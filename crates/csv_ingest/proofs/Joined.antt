@@ -42,8 +42,8 @@ keys-few wanted header (x ∷ rows) keys e =
     let n = count_of wanted header (length x) (x ∷ rows) keys (x, rows, refl, refl) e in
     omega (arith, n)
 
-pub keys_of-few : (wanted : Taking) (header : Bool) (file : List ℕ) (keys : List (List ℕ)) → taken_of wanted header file ≡ Ok keys → length keys ≤ length file
-keys_of-few wanted header file keys e =
-    let rows = keys-few wanted header (file_records file) keys e in
-    let short = file_records-short file in
+pub keys_of-few : (delimiter : ℕ) (wanted : Taking) (header : Bool) (file : List ℕ) (keys : List (List ℕ)) → taken_of delimiter wanted header file ≡ Ok keys → length keys ≤ length file
+keys_of-few delimiter wanted header file keys e =
+    let rows = keys-few wanted header (file_records delimiter file) keys e in
+    let short = file_records-short delimiter file in
     omega (arith, rows, short)

@@ -65,19 +65,19 @@ keys_from-later wanted width nth earlier (x ∷ xs) =
     let same : nth + earlier + 1 ≡ nth + 1 + earlier = omega arith in
     rw (same, keys_from-later wanted width (nth + 1) earlier xs) (keyed-later (length x == width) nth earlier (wanted x) (keys_from wanted width (nth + 1) xs))
 
-nothing : file_records [] ≡ []
+nothing : (delimiter : ℕ) → file_records delimiter [] ≡ []
 unfolding records_from next_record strip_bom
-nothing = refl
+nothing delimiter = refl
 
-pub pieces-records : (pieces : List (List ℕ)) (file : List ℕ) → ArePieces file pieces → file_records file ≡ flat_map file_records pieces
+pub pieces-records : (delimiter : ℕ) (pieces : List (List ℕ)) (file : List ℕ) → ArePieces delimiter file pieces → file_records delimiter file ≡ flat_map (file_records delimiter) pieces
 unfolding ArePieces
-pieces-records [] file h = rw h nothing
-pieces-records (piece ∷ []) file h = rw h (sym (append-nil (file_records piece)))
-pieces-records (piece ∷ next ∷ pieces) file h =
-    rw h.1 (cut_file piece h.0 h.2 ∙ ap (λ rest. file_records piece ++ rest) (pieces-records (next ∷ pieces) (10 ∷ h.0) h.3))
+pieces-records delimiter [] file h = rw h (nothing delimiter)
+pieces-records delimiter (piece ∷ []) file h = rw h (sym (append-nil (file_records delimiter piece)))
+pieces-records delimiter (piece ∷ next ∷ pieces) file h =
+    rw h.1 (cut_file delimiter piece h.0 h.2 ∙ ap (λ rest. file_records delimiter piece ++ rest) (pieces-records delimiter (next ∷ pieces) (10 ∷ h.0) h.3))
 
-first_piece : (piece : List ℕ) (pieces : List (List ℕ)) (file : List ℕ) → ArePieces file (piece ∷ pieces) → file_records file ≡ file_records piece ++ flat_map file_records pieces
-first_piece piece pieces file h = pieces-records (piece ∷ pieces) file h
+first_piece : (delimiter : ℕ) (piece : List ℕ) (pieces : List (List ℕ)) (file : List ℕ) → ArePieces delimiter file (piece ∷ pieces) → file_records delimiter file ≡ file_records delimiter piece ++ flat_map (file_records delimiter) pieces
+first_piece delimiter piece pieces file h = pieces-records delimiter (piece ∷ pieces) file h
 
 after-later : (earlier : ℕ) (found : Result (List (List ℕ)) Refusal) (n : ℕ) (rest : Result (List (List ℕ)) Refusal) (others : List (Result (List (List ℕ)) Refusal)) → Counted found n
     → rest ≡ joined (earlier + n) others → then_keys (later_keys earlier found) rest ≡ joined earlier (found ∷ others)
@@ -88,16 +88,16 @@ keys_from-nil : (wanted : Taking) (width nth : ℕ) → keys_from wanted width n
 unfolding keys_from
 keys_from-nil wanted width nth = refl
 
-pub joined-pieces : (wanted : Taking) (width : ℕ) (pieces : List (List ℕ)) (earlier : ℕ)
-    → keys_from wanted width (1 + earlier) (flat_map file_records pieces) ≡ joined earlier (map (piece_keys wanted width) pieces)
-joined-pieces wanted width [] earlier = keys_from-nil wanted width (1 + earlier)
-joined-pieces wanted width (piece ∷ pieces) earlier =
-    let rows = file_records piece in
+pub joined-pieces : (delimiter : ℕ) (wanted : Taking) (width : ℕ) (pieces : List (List ℕ)) (earlier : ℕ)
+    → keys_from wanted width (1 + earlier) (flat_map (file_records delimiter) pieces) ≡ joined earlier (map (piece_keys delimiter wanted width) pieces)
+joined-pieces delimiter wanted width [] earlier = keys_from-nil wanted width (1 + earlier)
+joined-pieces delimiter wanted width (piece ∷ pieces) earlier =
+    let rows = file_records delimiter piece in
     let same : 1 + earlier + length rows ≡ 1 + (earlier + length rows) = omega arith in
-    keys_from-append wanted width (1 + earlier) rows (flat_map file_records pieces)
+    keys_from-append wanted width (1 + earlier) rows (flat_map (file_records delimiter) pieces)
     ∙ rw (keys_from-later wanted width 1 earlier rows, same)
-    (after-later earlier (piece_keys wanted width piece) (length rows) _ (map (piece_keys wanted width) pieces) (counted wanted width 1 rows)
-    (joined-pieces wanted width pieces (earlier + length rows)))
+    (after-later earlier (piece_keys delimiter wanted width piece) (length rows) _ (map (piece_keys delimiter wanted width) pieces) (counted wanted width 1 rows)
+    (joined-pieces delimiter wanted width pieces (earlier + length rows)))
 
 pub keys_of-two : (wanted : Taking) (header : Bool) (first : Record) (more ys : List Record)
     → keys_of_records wanted header (first ∷ more ++ ys)
@@ -107,10 +107,10 @@ keys_of-two wanted true first more ys =
     let same : 2 + length more ≡ 1 + length (first ∷ more) = omega arith in
     keys_from-append wanted (length first) 2 more ys ∙ rw same refl
 
-pub pieces-keys : (wanted : Taking) (header : Bool) (file piece : List ℕ) (pieces : List (List ℕ)) (first : Record) (more : List Record) → ArePieces file (piece ∷ pieces)
-    → file_records piece ≡ first ∷ more
-    → taken_of wanted header file ≡ then_keys (taken_of wanted header piece) (joined (length (first ∷ more)) (map (piece_keys wanted (length first)) pieces))
-pieces-keys wanted header file piece pieces first more h e =
-    rw (first_piece piece pieces file h, e)
-    (keys_of-two wanted header first more (flat_map file_records pieces)
-    ∙ ap (then_keys (keys_of_records wanted header (first ∷ more))) (joined-pieces wanted (length first) pieces (length (first ∷ more))))
+pub pieces-keys : (delimiter : ℕ) (wanted : Taking) (header : Bool) (file piece : List ℕ) (pieces : List (List ℕ)) (first : Record) (more : List Record) → ArePieces delimiter file (piece ∷ pieces)
+    → file_records delimiter piece ≡ first ∷ more
+    → taken_of delimiter wanted header file ≡ then_keys (taken_of delimiter wanted header piece) (joined (length (first ∷ more)) (map (piece_keys delimiter wanted (length first)) pieces))
+pieces-keys delimiter wanted header file piece pieces first more h e =
+    rw (first_piece delimiter piece pieces file h, e)
+    (keys_of-two wanted header first more (flat_map (file_records delimiter) pieces)
+    ∙ ap (then_keys (keys_of_records wanted header (first ∷ more))) (joined-pieces delimiter wanted (length first) pieces (length (first ∷ more))))

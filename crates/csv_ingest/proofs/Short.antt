@@ -3,7 +3,7 @@ use Rattle.std.proofs.Common.{◌≡◌, ◌<◌, ◌≤◌, ◌+◌, ℕ, List,
 use Rattle.std.proofs.lemmas.Bool.{cases_Bool}
 use Rattle.std.specs.Prelude.{◌==◌, if◌then◌else◌, suc, ⊤}
 use Rattle.csv.specs.Machine.{ends_at_end, field_after, fields_after, is_end, step}
-use Rattle.csv.specs.Reading.{default_config, is_bom, records, strip_bom}
+use Rattle.csv.specs.Reading.{is_bom, records, strip_bom}
 use Rattle.csv.specs.declared.parser.State.{State}
 use Rattle.csv.specs.declared.parser.State.TheVariants as st
 use Rattle.lane_words.specs.declared.Refusal.{Refusal}
@@ -12,7 +12,7 @@ use Rattle.csv_ingest.specs.declared.lack.Lack.{Lack}
 use Rattle.csv_ingest.specs.declared.lack.Lack.TheVariants as l
 use Rattle.csv_ingest.specs.Pieces.{file_records}
 use Rattle.csv_ingest.specs.Private.Pieces.{fault_number}
-use Rattle.csv_ingest.specs.KeyFile.{Record, Taking, keyed, keys_from}
+use Rattle.csv_ingest.specs.KeyFile.{Record, Taking, dialect, keyed, keys_from}
 use Rattle.csv_ingest.specs.Private.Records.{IsBetween}
 use Rattle.csv_ingest.proofs.Progress.{step-between}
 use Rattle.csv_ingest.specs.Private.Walk.{walk}
@@ -38,21 +38,21 @@ if_short : (b : Bool) (row : Record) (x y : List Record) (n : ℕ) → (b ≡ tr
 if_short true row x y n h k = h refl
 if_short false row x y n h k = k
 
-walk-short : (xs : List ℕ) (s : State) (fields : List (List ℕ)) (field : List ℕ) → length (walk s fields field xs) ≤ length xs + last_one (ends_at_end s)
+walk-short : (delimiter : ℕ) (xs : List ℕ) (s : State) (fields : List (List ℕ)) (field : List ℕ) → length (walk delimiter s fields field xs) ≤ length xs + last_one (ends_at_end s)
 unfolding walk
-walk-short [] s fields field = end_short (ends_at_end s) (fields ++ (field ∷ []))
-walk-short (c ∷ xs) s fields field =
-    let next = (step default_config s c).0 in
-    let row = fields_after (step default_config s c).1 fields field in
-    let more = walk-short xs next [] [] in
-    let on = walk-short xs next row (field_after (step default_config s c).1 c field) in
+walk-short delimiter [] s fields field = end_short (ends_at_end s) (fields ++ (field ∷ []))
+walk-short delimiter (c ∷ xs) s fields field =
+    let next = (step (dialect delimiter) s c).0 in
+    let row = fields_after (step (dialect delimiter) s c).1 fields field in
+    let more = walk-short delimiter xs next [] [] in
+    let on = walk-short delimiter xs next row (field_after (step (dialect delimiter) s c).1 c field) in
     let one = one_at_most (ends_at_end next) in
-    if_short (is_end (step default_config s c).1) row (walk next [] [] xs) _ (length (c ∷ xs) + last_one (ends_at_end s))
-    (λ e. let none = none_between next (step-between s c e) in omega (arith, more, none))
+    if_short (is_end (step (dialect delimiter) s c).1) row (walk delimiter next [] [] xs) _ (length (c ∷ xs) + last_one (ends_at_end s))
+    (λ e. let none = none_between next (step-between delimiter s c e) in omega (arith, more, none))
     (omega (arith, on, one))
 
-records-short : (xs : List ℕ) → length (records default_config xs) ≤ length xs
-records-short xs = rw (records-walk xs) (let h = walk-short xs st.StartRecord [] [] in omega (arith, h))
+records-short : (delimiter : ℕ) (xs : List ℕ) → length (records (dialect delimiter) xs) ≤ length xs
+records-short delimiter xs = rw (records-walk delimiter xs) (let h = walk-short delimiter xs st.StartRecord [] [] in omega (arith, h))
 
 strip-short : (xs : List ℕ) → length (strip_bom xs) ≤ length xs
 unfolding strip_bom
@@ -61,8 +61,8 @@ strip-short (a ∷ []) = omega arith
 strip-short (a ∷ b ∷ []) = omega arith
 strip-short (a ∷ b ∷ c ∷ xs) = elim (cases_Bool (is_bom a b c)) [ inl t ↦ rw t (omega arith) | inr f ↦ rw f (omega arith) ]
 
-pub file_records-short : (xs : List ℕ) → length (file_records xs) ≤ length xs
-file_records-short xs = let a = records-short (strip_bom xs) in let b = strip-short xs in omega (arith, a, b)
+pub file_records-short : (delimiter : ℕ) (xs : List ℕ) → length (file_records delimiter xs) ≤ length xs
+file_records-short delimiter xs = let a = records-short delimiter (strip_bom xs) in let b = strip-short xs in omega (arith, a, b)
 
 -- the number of a fault lies among those of the records
 abbrev pub FaultBelow : ℕ → Result (List (List ℕ)) Refusal → Type 0

@@ -1,11 +1,12 @@
--- The keys of a file of comma-separated records, or its first fault. `csv` defines its records, in
--- the default dialect: RFC 4180, where a line feed alone ends a record too, an empty line is no
--- record, and a byte order mark at the start is skipped.
+-- The keys of a file of records, or its first fault. `csv` defines its records, in the default
+-- dialect but for the delimiter: RFC 4180, where a line feed alone ends a record too, an empty line
+-- is no record, and a byte order mark at the start is skipped.
 use Rattle.std.specs.Prelude.{⊤, ℕ, ◌==◌, List, [], ◌∷◌, length, if◌then◌else◌, Option, Some, None, Result, Ok, Err, true, false, ◌+◌, ◌-◌, Bool}
 use Rattle.std.specs.List.{position_from}
 use Rattle.std.specs.Str.{bytes_eq}
 use Rattle.lane_words.specs.declared.Refusal.{Refusal}
 use Rattle.csv.specs.Reading.{default_config, records, strip_bom}
+use Rattle.csv.specs.declared.parser.Config.{Config}
 use Rattle.csv.specs.Records.{field_at}
 use Rattle.lane_words.specs.declared.Refusal.TheVariants as r
 use Rattle.csv_ingest.specs.declared.lack.Lack.{Lack}
@@ -14,6 +15,10 @@ use Rattle.csv_ingest.specs.declared.lack.Lack.TheVariants as l
 -- a record is the list of its fields, and a field is a list of bytes
 abbrev pub Record : Type 0
 Record = List (List ℕ)
+
+-- csv's default dialect, with this delimiter in place of the comma
+abbrev pub dialect : ℕ → Config
+dialect delimiter = record default_config { delimiter = delimiter }
 
 -- how a record's key is taken of its fields, or what they lack
 abbrev pub Taking : Type 0
@@ -78,20 +83,20 @@ keys_of_records wanted header [] = Ok []
 keys_of_records wanted false (first ∷ rest) = keys_from wanted (length first) 1 (first ∷ rest)
 keys_of_records wanted true (first ∷ rest) = keys_from wanted (length first) 2 rest
 
--- what is taken of the records of a file
-abbrev pub taken_of : Taking → Bool → List ℕ → Result (List (List ℕ)) Refusal
-taken_of wanted header bytes =
-    keys_of_records wanted header (records default_config (strip_bom bytes))
+-- what is taken of the records of a file with this delimiter
+abbrev pub taken_of : ℕ → Taking → Bool → List ℕ → Result (List (List ℕ)) Refusal
+taken_of delimiter wanted header bytes =
+    keys_of_records wanted header (records (dialect delimiter) (strip_bom bytes))
 
 -- the keys of a file
-abbrev pub keys_of : ℕ → Bool → List ℕ → Result (List (List ℕ)) Refusal
-keys_of column header bytes = taken_of (key_in column) header bytes
+abbrev pub keys_of : ℕ → ℕ → Bool → List ℕ → Result (List (List ℕ)) Refusal
+keys_of delimiter column header bytes = taken_of delimiter (key_in column) header bytes
 
 -- the keys of a file of several topics, each behind the index of its topic
-abbrev pub topic_keys_of : ℕ → ℕ → List (List ℕ) → Bool → List ℕ
+abbrev pub topic_keys_of : ℕ → ℕ → ℕ → List (List ℕ) → Bool → List ℕ
     → Result (List (List ℕ)) Refusal
-topic_keys_of column topic_column names header bytes =
-    taken_of (topic_key_in column topic_column names) header bytes
+topic_keys_of delimiter column topic_column names header bytes =
+    taken_of delimiter (topic_key_in column topic_column names) header bytes
 
 -- the index of the topic that a key stands behind
 abbrev pub topic_of : List ℕ → ℕ

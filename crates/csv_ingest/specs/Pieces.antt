@@ -1,24 +1,27 @@
 -- The keys of the pieces of a file, and those of the whole.
-use Rattle.std.specs.Prelude.{◌≡◌, ℕ, ◌+◌, false, List, [], ◌∷◌, ◌++◌, length, Result, Ok, Err}
-use Rattle.csv.specs.Reading.{default_config, records, strip_bom}
+use Rattle.std.specs.Prelude.{◌≡◌, ℕ, ◌+◌, List, [], ◌∷◌, ◌++◌, length, Result, Ok, Err}
+use Rattle.csv.specs.Reading.{records, strip_bom}
 use Rattle.lane_words.specs.declared.Refusal.{Refusal}
 use Rattle.lane_words.specs.declared.Refusal.TheVariants as r
-use Rattle.csv_ingest.specs.KeyFile.{Record, Taking, after_keys, keys_from}
-use Rattle.csv_ingest.specs.Stand.{in_quotes, stand_after}
-use Rattle.csv_ingest.specs.declared.stand.Stand.TheVariants as k
+use Rattle.csv_ingest.specs.KeyFile.{Record, Taking, after_keys, dialect, keys_from}
+use Rattle.csv_ingest.specs.Stand.{IsCut}
 
--- the records of a file
-abbrev pub file_records : List ℕ → List Record
-file_records bytes = records default_config (strip_bom bytes)
+-- a file of records: the delimiter of its fields, and its bytes
+pub record RecordFile : Type 0 where
+  pub delimiter : ℕ
+  pub bytes : List ℕ
 
--- the pieces of a file, which is cut before line feeds that no quotes protect
-unfoldable pub ArePieces : List ℕ → List (List ℕ) → Type 0
-ArePieces file [] = file ≡ []
-ArePieces file (piece ∷ []) = file ≡ piece
-ArePieces file (piece ∷ next ∷ pieces) =
-    (rest : List ℕ) × (file ≡ piece ++ 10 ∷ rest)
-    × (in_quotes (stand_after k.Record (strip_bom piece)) ≡ false)
-    × ArePieces (10 ∷ rest) (next ∷ pieces)
+-- the records of a file with this delimiter
+abbrev pub file_records : ℕ → List ℕ → List Record
+file_records delimiter bytes = records (dialect delimiter) (strip_bom bytes)
+
+-- the pieces of a file with this delimiter, which is cut before line feeds that end a record
+unfoldable pub ArePieces : ℕ → List ℕ → List (List ℕ) → Type 0
+ArePieces delimiter file [] = file ≡ []
+ArePieces delimiter file (piece ∷ []) = file ≡ piece
+ArePieces delimiter file (piece ∷ next ∷ pieces) =
+    (rest : List ℕ) × (file ≡ piece ++ 10 ∷ rest) × IsCut delimiter (strip_bom piece)
+    × ArePieces delimiter (10 ∷ rest) (next ∷ pieces)
 
 -- the keys of a piece, and then those of the rest
 abbrev pub then_keys : Result (List (List ℕ)) Refusal → Result (List (List ℕ)) Refusal
@@ -39,8 +42,9 @@ later_keys earlier (Ok keys) = Ok keys
 later_keys earlier (Err fault) = Err (later_fault earlier fault)
 
 -- the keys of a piece behind the first, whose records are numbered from 1 on
-abbrev pub piece_keys : Taking → ℕ → List ℕ → Result (List (List ℕ)) Refusal
-piece_keys wanted width piece = keys_from wanted width 1 (file_records piece)
+abbrev pub piece_keys : ℕ → Taking → ℕ → List ℕ → Result (List (List ℕ)) Refusal
+piece_keys delimiter wanted width piece =
+    keys_from wanted width 1 (file_records delimiter piece)
 
 -- the keys of pieces in their order, after `earlier` records: of a fault the record's number counts
 -- on

@@ -1,4 +1,5 @@
 pub mod Cuts
+pub mod FieldEnds
 pub mod Fields
 pub mod FileKeys
 pub mod Header

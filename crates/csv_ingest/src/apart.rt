@@ -1,11 +1,12 @@
 //! The keys of a file, whose pieces are read side by side.
 
-ghost use Rattle.std.specs.Prelude.{◌≡◌, ◌≤◌, ◌<◌, ◌^◌, ◌⊎◌, Ok, Err, IfOk, IfErr, MatchOption, length, map, vec_len};
+ghost use Rattle.std.specs.Prelude.{◌≡◌, ◌≤◌, ◌<◌, ◌^◌, ◌⊎◌, Ok, Err, false, IfOk, IfErr, MatchOption, length, map, vec_len};
 ghost use Rattle.csv_ingest.specs.KeyFile.{IsFileFault, keys_of, taken_of, topic_keys_of};
 ghost use Rattle.csv_ingest.specs.Pieces.{ArePieces};
 ghost use Rattle.csv_ingest.specs.Private.FileKeys.{all_keys};
 ghost use Rattle.csv_ingest.specs.Private.Pieces.{AnswerAll, BeginWith, HaveNoRecord, IsBegun, bytes_of, lent};
 ghost use Rattle.csv_ingest.specs.Private.Wanted.{taking};
+ghost use Rattle.csv_ingest.specs.Stand.{is_line_end};
 ghost use Rattle.lane_words.specs.declared.Refusal.TheVariants as refusal;
 
 use crate::blocks::Blocks;
@@ -38,12 +39,17 @@ pub fn pieces_for(rt: &impl Threads, len: usize) -> usize
 }
 
 /// The first of some pieces that has a record, and how many fields its first record has.
-fn first_record(alloc: Global, pieces: &[&[u8]]) -> Result<Option<(usize, usize)>, Memory>
-    ensures { IfOk result (λ found. MatchOption found (HaveNoRecord (lent pieces.now) (length pieces.now))
-        (λ first. IsBegun (lent pieces.now) first.0 first.1)) }
+fn first_record(
+    alloc: Global,
+    pieces: &[&[u8]],
+    delimiter: u8,
+) -> Result<Option<(usize, usize)>, Memory>
+    ensures { IfOk result (λ found.
+        MatchOption found (HaveNoRecord delimiter (lent pieces.now) (length pieces.now))
+        (λ first. IsBegun delimiter (lent pieces.now) first.0 first.1)) }
 {
     for i in 0..pieces.len() {
-        if let Some(width) = first_width(alloc, pieces[i])? {
+        if let Some(width) = first_width(alloc, pieces[i], delimiter)? {
             return Ok(Some((i, width)));
         }
     }
@@ -55,20 +61,21 @@ fn found_apart<R: Threads + Sync>(
     rt: &R,
     alloc: Global,
     pieces: &[&[u8]],
+    delimiter: u8,
     wanted: &Wanted<'_>,
     header: bool,
     width: usize,
 ) -> Result<Vec<Result<RecordBatch, Refusal>>, Memory>
-    requires { BeginWith width (lent pieces.now) }
+    requires { BeginWith delimiter width (lent pieces.now) }
     ensures len { IfOk result (λ found. vec_len found ≡ length pieces.now) }
     ensures found { IfOk result
-        (λ found. AnswerAll (taking wanted.now) header width (lent pieces.now) found.items) }
+        (λ found. AnswerAll delimiter (taking wanted.now) header width (lent pieces.now) found.items) }
 {
     let found = thread::map_indices(
         rt,
         alloc,
         pieces.len(),
-        &|i| { keys_in(alloc, pieces, i, wanted, header, width) },
+        &|i| { keys_in(alloc, pieces, i, delimiter, wanted, header, width) },
     )?;
     Ok(found)
 }
@@ -78,22 +85,23 @@ fn lists_apart<R: Threads + Sync>(
     rt: &R,
     alloc: Global,
     pieces: &[&[u8]],
+    delimiter: u8,
     wanted: &Wanted<'_>,
     header: bool,
 ) -> Result<Vec<RecordBatch>, Refusal>
-    requires pieces { ArePieces (bytes_of (lent pieces.now)) (lent pieces.now) }
+    requires pieces { ArePieces delimiter (bytes_of (lent pieces.now)) (lent pieces.now) }
     requires bound { length (bytes_of (lent pieces.now)) < 2 ^ 64 }
     ensures keys { IfOk result (λ lists.
-        taken_of (taking wanted.now) header (bytes_of (lent pieces.now)) ≡ Ok (all_keys lists.items)) }
+        taken_of delimiter (taking wanted.now) header (bytes_of (lent pieces.now)) ≡ Ok (all_keys lists.items)) }
     ensures fault { IfErr result (λ e. (e ≡ refusal.Memory)
-        ⊎ (taken_of (taking wanted.now) header (bytes_of (lent pieces.now)) ≡ Err e)) }
+        ⊎ (taken_of delimiter (taking wanted.now) header (bytes_of (lent pieces.now)) ≡ Err e)) }
 {
-    let Some((first, width)) = first_record(alloc, pieces)? else {
+    let Some((first, width)) = first_record(alloc, pieces, delimiter)? else {
         return Ok(Vec::new(alloc));
     };
     let begun = &pieces[first..];
-    let found = found_apart(rt, alloc, begun, wanted, header, width)?;
-    join_keys(alloc, begun, wanted, header, width, found)
+    let found = found_apart(rt, alloc, begun, delimiter, wanted, header, width)?;
+    join_keys(alloc, begun, delimiter, wanted, header, width, found)
 }
 
 /// The keys of the file that lies in these pieces.
@@ -101,18 +109,19 @@ fn keys_apart<R: Threads + Sync>(
     rt: &R,
     alloc: Global,
     pieces: &[&[u8]],
+    delimiter: u8,
     wanted: &Wanted<'_>,
     header: bool,
 ) -> Result<FileKeys, Refusal>
-    requires pieces { ArePieces (bytes_of (lent pieces.now)) (lent pieces.now) }
+    requires pieces { ArePieces delimiter (bytes_of (lent pieces.now)) (lent pieces.now) }
     requires bound { length (bytes_of (lent pieces.now)) < 2 ^ 64 }
     ensures keys { IfOk result (λ keys.
-        taken_of (taking wanted.now) header (bytes_of (lent pieces.now)) ≡ Ok keys) }
+        taken_of delimiter (taking wanted.now) header (bytes_of (lent pieces.now)) ≡ Ok keys) }
     ensures kind { IfErr result IsFileFault }
     ensures fault { IfErr result (λ e. (e ≡ refusal.Memory)
-        ⊎ (taken_of (taking wanted.now) header (bytes_of (lent pieces.now)) ≡ Err e)) }
+        ⊎ (taken_of delimiter (taking wanted.now) header (bytes_of (lent pieces.now)) ≡ Err e)) }
 {
-    let lists = lists_apart(rt, alloc, pieces, wanted, header)?;
+    let lists = lists_apart(rt, alloc, pieces, delimiter, wanted, header)?;
     Ok(FileKeys::of(lists))
 }
 
@@ -135,7 +144,7 @@ pub struct Reading {
     pub hasher: Option<RandomState>,
 }
 
-/// The keys of a file of comma-separated records, as `read_keys` has them.
+/// The keys of a file of records with this delimiter, as `read_keys` has them.
 ///
 /// The file is cut into as many pieces as `reading` names, of about the same length, however short;
 /// 0 are one. A piece for which no thread can be started is read without one, and a file of a single
@@ -145,22 +154,24 @@ pub fn read_keys_in_pieces<R: Threads + Sync>(
     rt: &R,
     alloc: Global,
     file: &[u8],
+    delimiter: u8,
     column: u32,
     header: bool,
     reading: Reading,
 ) -> Result<FileKeys, Refusal>
-    requires { 1 ≤ column }
-    ensures keys { IfOk result (λ keys. keys_of column header file.now ≡ Ok keys) }
+    requires delimiter { is_line_end delimiter ≡ false }
+    requires column { 1 ≤ column }
+    ensures keys { IfOk result (λ keys. keys_of delimiter column header file.now ≡ Ok keys) }
     ensures kind { IfErr result IsFileFault }
     ensures fault { IfErr result
-        (λ e. (e ≡ refusal.Memory) ⊎ (keys_of column header file.now ≡ Err e)) }
+        (λ e. (e ≡ refusal.Memory) ⊎ (keys_of delimiter column header file.now ≡ Err e)) }
 {
     let wanted = Wanted::key(column, reading.hasher);
-    let pieces = pieces_of(alloc, file, reading.pieces)?;
-    keys_apart(rt, alloc, pieces.as_slice(), &wanted, header)
+    let pieces = pieces_of(alloc, file, delimiter, reading.pieces)?;
+    keys_apart(rt, alloc, pieces.as_slice(), delimiter, &wanted, header)
 }
 
-/// The keys of a file of comma-separated records, as `read_keys` has them.
+/// The keys of a file of records, as `read_keys` has them.
 ///
 /// Each block of the file is read in a thread of its own. A file of a single block is cut into
 /// pieces, as many as there are processors, of at least 1 MiB each. A piece for which no thread can be
@@ -175,18 +186,25 @@ pub fn read_keys_apart<R: Threads + Sync + RandomSource>(
     header: bool,
 ) -> Result<FileKeys, Refusal>
     requires { 1 ≤ column }
-    ensures keys { IfOk result (λ keys. keys_of column header file.now ≡ Ok keys) }
+    ensures keys { IfOk result (λ keys. keys_of file.now.delimiter column header file.now.bytes ≡ Ok keys) }
     ensures kind { IfErr result IsFileFault }
     ensures fault { IfErr result
-        (λ e. (e ≡ refusal.Memory) ⊎ (keys_of column header file.now ≡ Err e)) }
+        (λ e. (e ≡ refusal.Memory) ⊎ (keys_of file.now.delimiter column header file.now.bytes ≡ Err e)) }
 {
     let wanted = Wanted::key(column, hasher_for(rt, file.len()));
     let pieces = file.pieces(alloc, pieces_for(rt, file.len()))?;
-    keys_apart(rt, alloc, pieces.as_slice(), &wanted, header)
+    keys_apart(
+        rt,
+        alloc,
+        pieces.as_slice(),
+        file.delimiter(),
+        &wanted,
+        header,
+    )
 }
 
-/// The keys and the topics of a file of comma-separated records that has several topics, whose names
-/// these are, read in up to so many pieces.
+/// The keys and the topics of a file of records with this delimiter that has several topics, whose
+/// names these are, read in up to so many pieces.
 ///
 /// The file is read as `read_keys_in_pieces` reads it, and no key is looked up. Of each record the
 /// field in `column` is its key, and the field in `topic_column` the name of its topic, byte for
@@ -197,29 +215,31 @@ pub fn read_topic_keys_in_pieces<R: Threads + Sync>(
     rt: &R,
     alloc: Global,
     file: &[u8],
+    delimiter: u8,
     column: u32,
     topic_column: u32,
     names: &[&[u8]],
     header: bool,
     pieces: usize,
 ) -> Result<TopicKeys, Refusal>
+    requires delimiter { is_line_end delimiter ≡ false }
     requires columns { (1 ≤ column) × (1 ≤ topic_column) }
     requires names { length names.now ≤ 2 ^ 8 }
-    ensures keys { IfOk result (λ keys. topic_keys_of column topic_column
+    ensures keys { IfOk result (λ keys. topic_keys_of delimiter column topic_column
         (map (λ name. name.now) names.now) header file.now ≡ Ok keys) }
     ensures kind { IfErr result IsFileFault }
-    ensures fault { IfErr result (λ e. (e ≡ refusal.Memory) ⊎ (topic_keys_of column topic_column
+    ensures fault { IfErr result (λ e. (e ≡ refusal.Memory) ⊎ (topic_keys_of delimiter column topic_column
         (map (λ name. name.now) names.now) header file.now ≡ Err e)) }
 {
-    let pieces = pieces_of(alloc, file, pieces)?;
+    let pieces = pieces_of(alloc, file, delimiter, pieces)?;
     let wanted = &Wanted::topic_and_key(column, topic_column, names);
-    let keys = keys_apart(rt, alloc, pieces.as_slice(), wanted, header)?;
+    let keys = keys_apart(rt, alloc, pieces.as_slice(), delimiter, wanted, header)?;
     Ok(TopicKeys::of(keys))
 }
 
-/// The keys and the topics of a file of comma-separated records that has several topics, whose names
-/// these are, as `read_topic_keys_in_pieces` has them. The file is cut into as many pieces as
-/// `read_keys_apart` cuts it.
+/// The keys and the topics of a file of records that has several topics, whose names these are, as
+/// `read_topic_keys_in_pieces` has them. The file is cut into as many pieces as `read_keys_apart`
+/// cuts it.
 pub fn read_topic_keys_apart<R: Threads + Sync>(
     rt: &R,
     alloc: Global,
@@ -231,14 +251,21 @@ pub fn read_topic_keys_apart<R: Threads + Sync>(
 ) -> Result<TopicKeys, Refusal>
     requires columns { (1 ≤ column) × (1 ≤ topic_column) }
     requires names { length names.now ≤ 2 ^ 8 }
-    ensures keys { IfOk result (λ keys. topic_keys_of column topic_column
-        (map (λ name. name.now) names.now) header file.now ≡ Ok keys) }
+    ensures keys { IfOk result (λ keys. topic_keys_of file.now.delimiter column
+        topic_column (map (λ name. name.now) names.now) header file.now.bytes ≡ Ok keys) }
     ensures kind { IfErr result IsFileFault }
-    ensures fault { IfErr result (λ e. (e ≡ refusal.Memory) ⊎ (topic_keys_of column topic_column
-        (map (λ name. name.now) names.now) header file.now ≡ Err e)) }
+    ensures fault { IfErr result (λ e. (e ≡ refusal.Memory) ⊎ (topic_keys_of file.now.delimiter column
+        topic_column (map (λ name. name.now) names.now) header file.now.bytes ≡ Err e)) }
 {
     let wanted = Wanted::topic_and_key(column, topic_column, names);
     let pieces = file.pieces(alloc, pieces_for(rt, file.len()))?;
-    let keys = keys_apart(rt, alloc, pieces.as_slice(), &wanted, header)?;
+    let keys = keys_apart(
+        rt,
+        alloc,
+        pieces.as_slice(),
+        file.delimiter(),
+        &wanted,
+        header,
+    )?;
     Ok(TopicKeys::of(keys))
 }

@@ -1,8 +1,9 @@
 //! A file that is read block by block. It is cut where its blocks meet, so that none is copied.
 
-ghost use Rattle.std.specs.Prelude.{◌≡◌, ◌∷◌, ◌++◌, [], IfOk, OnOk, flat_map, length, vec_items};
+ghost use Rattle.std.specs.Prelude.{◌≡◌, ◌∷◌, ◌++◌, [], false, IfOk, OnOk, flat_map, length, vec_items};
 ghost use Rattle.csv_ingest.specs.Pieces.{ArePieces};
 ghost use Rattle.csv_ingest.specs.Private.Pieces.{bytes_of, lent};
+ghost use Rattle.csv_ingest.specs.Stand.{is_line_end};
 
 use crate::cuts::{cut_behind, pieces_of};
 use lane_words::Memory;
@@ -49,14 +50,20 @@ impl Piece {
 
 /// The pieces of a file, of which `last` is the last, once a block was added behind it: where the
 /// block can be cut, it begins a piece of its own there.
-fn pieces_with(pieces: Vec<Piece>, last: Piece, block: Vec<u8>) -> Result<Vec<Piece>, Memory>
-    requires { ArePieces (bytes_of (pieces.items ++ last ∷ [])) (pieces.items ++ last ∷ []) }
+fn pieces_with(
+    pieces: Vec<Piece>,
+    last: Piece,
+    block: Vec<u8>,
+    delimiter: u8,
+) -> Result<Vec<Piece>, Memory>
+    requires delimiter { is_line_end delimiter ≡ false }
+    requires pieces { ArePieces delimiter (bytes_of (pieces.items ++ last ∷ [])) (pieces.items ++ last ∷ []) }
     ensures { IfOk result
-        (λ all. ArePieces (bytes_of (pieces.items ++ last ∷ []) ++ block.items) all.items) }
+        (λ all. ArePieces delimiter (bytes_of (pieces.items ++ last ∷ []) ++ block.items) all.items) }
 {
     let mut all = pieces;
     let mut last = last;
-    if let Some(from) = cut_behind(last.bytes(), block.as_slice()) {
+    if let Some(from) = cut_behind(last.bytes(), block.as_slice(), delimiter) {
         last.add(&block[..from])?;
         all.push(last)?;
         all.push(Piece { block, from })?;
@@ -67,71 +74,99 @@ fn pieces_with(pieces: Vec<Piece>, last: Piece, block: Vec<u8>) -> Result<Vec<Pi
     Ok(all)
 }
 
-/// A file that was read block by block.
+/// A file of records that was read block by block.
 ///
 /// Its blocks are kept as they were read, in pieces of which each but the first begins at a line
-/// feed that no quotes protect: what a block has before that is moved to the piece before it.
+/// feed that ends a record: what a block has before that is moved to the piece before it.
 #[derive(Debug, Drop)]
 pub struct Blocks {
     /// The pieces, one after another.
     pieces: Vec<Piece>,
     /// How many bytes there are in all.
     len: usize,
+    /// The delimiter of its fields.
+    delimiter: u8,
 }
 
 impl Model for Blocks {
-    ghost use Rattle.std.specs.Prelude.{◌≡◌, ℕ, List, length};
-    ghost use Rattle.csv_ingest.specs.Pieces.{ArePieces};
+    ghost use Rattle.std.specs.Prelude.{◌≡◌, false, length};
+    ghost use Rattle.csv_ingest.specs.Pieces.{ArePieces, RecordFile};
     ghost use Rattle.csv_ingest.specs.Private.Pieces.{bytes_of};
+    ghost use Rattle.csv_ingest.specs.Stand.{is_line_end};
 
-    ghost Value = { List ℕ };
+    ghost Value = { RecordFile };
 
-    ghost view = { λ s. bytes_of s.pieces.items };
+    ghost view = { λ s. record { delimiter = s.delimiter; bytes = bytes_of s.pieces.items } };
 
-    ghost invariant = { λ s. ArePieces (bytes_of s.pieces.items) s.pieces.items
-        × (s.len ≡ length (bytes_of s.pieces.items)) };
+    ghost invariant = { λ s. ArePieces s.delimiter (bytes_of s.pieces.items) s.pieces.items
+        × (s.len ≡ length (bytes_of s.pieces.items)) × (is_line_end s.delimiter ≡ false) };
 }
 
 impl Blocks {
-    /// A file of no bytes.
-    fn new(alloc: Global) -> Blocks
-        ensures { result ≡ [] }
+    /// A file of no bytes, with this delimiter.
+    fn new(alloc: Global, delimiter: u8) -> Blocks
+        requires { is_line_end delimiter ≡ false }
+        ensures delimiter { result.delimiter ≡ delimiter }
+        ensures bytes { result.bytes ≡ [] }
     {
         Blocks {
             pieces: Vec::new(alloc),
             len: 0,
+            delimiter,
         }
+    }
+
+    /// The delimiter of the fields.
+    pub fn delimiter(&self) -> u8
+        ensures { result ≡ self.now.delimiter }
+    {
+        self.delimiter
     }
 
     /// How many bytes there are.
     pub fn len(&self) -> usize
-        ensures { result ≡ length self.now }
+        ensures { result ≡ length self.now.bytes }
     {
         self.len
     }
 
     /// The file with a block behind it.
     fn with_block(self, block: Vec<u8>) -> Result<Blocks, Memory>
-        ensures { IfOk result (λ blocks. blocks ≡ self ++ block.items) }
+        ensures delimiter { IfOk result (λ blocks. blocks.delimiter ≡ self.delimiter) }
+        ensures bytes { IfOk result (λ blocks. blocks.bytes ≡ self.bytes ++ block.items) }
     {
-        let Blocks { pieces, len } = self;
+        let Blocks {
+            pieces,
+            len,
+            delimiter,
+        } = self;
         let mut pieces = pieces;
         let Some(len) = len.checked_add(block.len()) else {
             return Err(Memory);
         };
         let Some(last) = pieces.pop() else {
             pieces.push(Piece { block, from: 0 })?;
-            return Ok(Blocks { pieces, len });
+            return Ok(Blocks {
+                pieces,
+                len,
+                delimiter,
+            });
         };
-        let pieces = pieces_with(pieces, last, block)?;
-        Ok(Blocks { pieces, len })
+        let pieces = pieces_with(pieces, last, block, delimiter)?;
+        Ok(Blocks {
+            pieces,
+            len,
+            delimiter,
+        })
     }
 
-    /// The file that these are the blocks of. Refused for want of memory.
-    pub fn of(alloc: Global, blocks: Vec<Vec<u8>>) -> Result<Blocks, Memory>
-        ensures { IfOk result (λ file. file ≡ flat_map vec_items blocks.items) }
+    /// The file that these are the blocks of, with this delimiter. Refused for want of memory.
+    pub fn of(alloc: Global, blocks: Vec<Vec<u8>>, delimiter: u8) -> Result<Blocks, Memory>
+        requires { is_line_end delimiter ≡ false }
+        ensures delimiter { IfOk result (λ file. file.delimiter ≡ delimiter) }
+        ensures bytes { IfOk result (λ file. file.bytes ≡ flat_map vec_items blocks.items) }
     {
-        let mut file = Blocks::new(alloc);
+        let mut file = Blocks::new(alloc, delimiter);
         for block in blocks {
             file = file.with_block(block)?;
         }
@@ -146,10 +181,11 @@ impl Blocks {
 
     /// The bytes of each piece; of a file in a single block, of at most so many pieces of it.
     pub(crate) fn pieces(&self, alloc: Global, most: usize) -> Result<Vec<&[u8]>, Memory>
-        ensures { IfOk result (λ pieces. ArePieces self.now (lent pieces.items)) }
+        ensures { IfOk result
+            (λ pieces. ArePieces self.now.delimiter self.now.bytes (lent pieces.items)) }
     {
         if self.pieces.len() == 1 {
-            return pieces_of(alloc, self.pieces[0].bytes(), most);
+            return pieces_of(alloc, self.pieces[0].bytes(), self.delimiter, most);
         }
         let mut pieces = Vec::with_capacity(alloc, self.pieces.len())?;
         for i in 0..self.pieces.len() {

@@ -3,10 +3,9 @@
 ghost use Rattle.std.specs.Prelude.{◌≡◌, ◌≤◌, ◌<◌, ◌++◌, false, length, slice_index, take, IfOk, IfSome};
 ghost use Rattle.csv.specs.Reading.{is_bom, strip_bom};
 ghost use Rattle.csv_ingest.specs.Pieces.{ArePieces};
-ghost use Rattle.csv_ingest.specs.Private.Cuts.{IsOutside, bom_length};
+ghost use Rattle.csv_ingest.specs.Private.Cuts.{AlwaysEndsRecord, bom_length};
 ghost use Rattle.csv_ingest.specs.Private.Pieces.{lent};
-ghost use Rattle.csv_ingest.specs.Stand.{in_quotes, stand_after};
-ghost use Rattle.csv_ingest.specs.declared.stand.Stand.TheVariants as stands;
+ghost use Rattle.csv_ingest.specs.Stand.{EndsRecord, IsCut, is_line_end};
 
 use crate::stand::{Stand, stand_behind};
 use lane_words::Memory;
@@ -36,43 +35,45 @@ pub fn mark_length(file: &[u8]) -> usize
     }
 }
 
-/// The first line feed that no quotes protect, where a reader stands here before the bytes.
-fn open_cut(bytes: &[u8], from: Stand) -> Option<usize>
+/// The first line feed that ends a record, where a reader stands here before the bytes.
+fn open_cut(bytes: &[u8], from: Stand, delimiter: u8) -> Option<usize>
     ensures range { IfSome result (λ cut. cut < length bytes.now) }
     ensures cut { IfSome result (λ cut. (slice_index bytes.now cut ≡ 10)
-        × (in_quotes (stand_after from (take cut bytes.now)) ≡ false)) }
+        × EndsRecord delimiter from (take cut bytes.now)) }
 {
     let mut stand = from;
     for i in 0..bytes.len() {
         let byte = bytes[i];
-        if byte == b'\n' && !stand.is_quoted() {
+        let next = stand.next(byte, delimiter);
+        if byte == b'\n' && next.is_record() {
             return Some(i);
         }
-        stand = stand.next(byte);
+        stand = next;
     }
     None
 }
 
-/// The first line feed before `to` that no quotes protect, wherever a reader stands before the bytes.
+/// The first line feed before `to` that ends a record, wherever a reader stands before the bytes.
 ///
 /// Behind a few quoted fields a reader mostly stands at the same place wherever it began.
-fn synced_cut(bytes: &[u8], to: usize) -> Option<usize>
-    requires { to ≤ length bytes.now }
+fn synced_cut(bytes: &[u8], to: usize, delimiter: u8) -> Option<usize>
+    requires delimiter { is_line_end delimiter ≡ false }
+    requires to { to ≤ length bytes.now }
     ensures range { IfSome result (λ cut. cut < length bytes.now) }
-    ensures cut { IfSome result
-        (λ cut. (slice_index bytes.now cut ≡ 10) × IsOutside (take cut bytes.now)) }
+    ensures cut { IfSome result (λ cut. (slice_index bytes.now cut ≡ 10)
+        × AlwaysEndsRecord delimiter (take cut bytes.now)) }
 {
     let mut fresh = Stand::Record;
     let mut bare = Stand::Bare;
     let mut quoted = Stand::Quoted;
     for i in 0..to {
         let byte = bytes[i];
-        if byte == b'\n' && !quoted.is_quoted() && !fresh.is_quoted() && !bare.is_quoted() {
+        fresh = fresh.next(byte, delimiter);
+        bare = bare.next(byte, delimiter);
+        quoted = quoted.next(byte, delimiter);
+        if byte == b'\n' && quoted.is_record() && fresh.is_record() && bare.is_record() {
             return Some(i);
         }
-        fresh = fresh.next(byte);
-        bare = bare.next(byte);
-        quoted = quoted.next(byte);
     }
     None
 }
@@ -81,26 +82,34 @@ fn synced_cut(bytes: &[u8], to: usize) -> Option<usize>
 const WINDOW: usize = 65536;
 
 /// Where bytes that follow the first ones of a file can be cut: before the first line feed that is
-/// seen not to be in quotes. Behind fewer than three bytes there is no cut, since they may begin a
-/// byte order mark.
-pub fn cut_behind(before: &[u8], next: &[u8]) -> Option<usize>
+/// seen to end a record. Behind fewer than three bytes there is no cut, since they may begin a byte
+/// order mark.
+pub fn cut_behind(before: &[u8], next: &[u8], delimiter: u8) -> Option<usize>
+    requires { is_line_end delimiter ≡ false }
     ensures range { IfSome result (λ cut. cut < length next.now) }
     ensures cut { IfSome result (λ cut. (slice_index next.now cut ≡ 10)
-        × (in_quotes (stand_after stands.Record (strip_bom (before.now ++ take cut next.now))) ≡ false)) }
+        × IsCut delimiter (strip_bom (before.now ++ take cut next.now))) }
 {
     if before.len() < MARK {
         return None;
     }
-    if let Some(cut) = synced_cut(next, WINDOW.min(next.len())) {
+    if let Some(cut) = synced_cut(next, WINDOW.min(next.len()), delimiter) {
         return Some(cut);
     }
     let start = mark_length(before);
-    open_cut(next, stand_behind(Stand::Record, &before[start..]))
+    let stand = stand_behind(Stand::Record, &before[start..], delimiter);
+    open_cut(next, stand, delimiter)
 }
 
 /// A file in at most `pieces` pieces of about the same length; 0 are one.
-pub fn pieces_of(alloc: Global, file: &[u8], pieces: usize) -> Result<Vec<&[u8]>, Memory>
-    ensures { IfOk result (λ found. ArePieces file.now (lent found.items)) }
+pub fn pieces_of(
+    alloc: Global,
+    file: &[u8],
+    delimiter: u8,
+    pieces: usize,
+) -> Result<Vec<&[u8]>, Memory>
+    requires { is_line_end delimiter ≡ false }
+    ensures { IfOk result (λ found. ArePieces delimiter file.now (lent found.items)) }
 {
     let step = if pieces == 0 {
         file.len()
@@ -111,7 +120,7 @@ pub fn pieces_of(alloc: Global, file: &[u8], pieces: usize) -> Result<Vec<&[u8]>
     let mut rest = file;
     for _piece in 1..pieces {
         let aim = step.max(MARK).min(rest.len());
-        let Some(more) = cut_behind(&rest[..aim], &rest[aim..]) else {
+        let Some(more) = cut_behind(&rest[..aim], &rest[aim..], delimiter) else {
             break;
         };
         let cut = aim + more;

@@ -18,21 +18,31 @@ use lane_words::{Memory, Refusal};
 use std::alloc::Global;
 
 /// Reads the first record of a piece, and tells whether there was one.
-fn read_first(alloc: Global, piece: &[u8], row: &mut ByteRecord) -> Result<bool, Memory>
+fn read_first(
+    alloc: Global,
+    piece: &[u8],
+    delimiter: u8,
+    row: &mut ByteRecord,
+) -> Result<bool, Memory>
     ensures { IfOk result
-        (λ found. BeginsWith found (fields_of row.new) (file_records piece.now)) }
+        (λ found. BeginsWith found (fields_of row.new) (file_records delimiter piece.now)) }
 {
-    let mut reader = records_of(alloc, piece);
+    let mut reader = records_of(alloc, piece, delimiter);
     next_record(&mut reader, row)
 }
 
 /// Reads the first record of the file that lies in these pieces, and tells whether there was one.
-fn read_header(alloc: Global, pieces: &[&[u8]], row: &mut ByteRecord) -> Result<bool, Memory>
+fn read_header(
+    alloc: Global,
+    pieces: &[&[u8]],
+    delimiter: u8,
+    row: &mut ByteRecord,
+) -> Result<bool, Memory>
     ensures { IfOk result (λ found. BeginsWith found (fields_of row.new)
-        (flat_map file_records (lent pieces.now))) }
+        (flat_map (file_records delimiter) (lent pieces.now))) }
 {
     for i in 0..pieces.len() {
-        if read_first(alloc, pieces[i], row)? {
+        if read_first(alloc, pieces[i], delimiter, row)? {
             return Ok(true);
         }
     }
@@ -62,13 +72,14 @@ fn index_of(row: &ByteRecord, name: &[u8], most: u32) -> Option<u32>
 ///
 /// Errors: `NoSuchColumn` for record 1 if no field has this name, and `Memory`.
 pub fn column_named(alloc: Global, file: &Blocks, name: &[u8], most: u32) -> Result<u32, Refusal>
-    ensures answer { Answers (column_named most name.now (file_records file.now)) result }
+    ensures answer { Answers
+        (column_named most name.now (file_records file.now.delimiter file.now.bytes)) result }
     ensures range { IfOk result (λ column. 1 ≤ column) }
     ensures kind { IfErr result IsFileFault }
 {
     let pieces = file.pieces(alloc, 1)?;
     let mut row = ByteRecord::new(alloc);
-    if !read_header(alloc, &pieces, &mut row)? {
+    if !read_header(alloc, &pieces, file.delimiter(), &mut row)? {
         return Ok(1);
     }
     match index_of(&row, name, most) {

@@ -20,18 +20,19 @@ pub fn keys_in(
     alloc: Global,
     pieces: &[&[u8]],
     i: usize,
+    delimiter: u8,
     wanted: &Wanted<'_>,
     header: bool,
     width: usize,
 ) -> Result<RecordBatch, Refusal>
     requires index { i < length pieces.now }
-    requires first { BeginWith width (lent pieces.now) }
-    ensures { Answers (keys_in (taking wanted.now) header width (lent pieces.now) i) result }
+    requires first { BeginWith delimiter width (lent pieces.now) }
+    ensures { Answers (keys_in delimiter (taking wanted.now) header width (lent pieces.now) i) result }
 {
     if i == 0 {
-        first_keys(alloc, pieces[0], wanted, header, width)
+        first_keys(alloc, pieces[0], delimiter, wanted, header, width)
     } else {
-        keys_of(alloc, pieces[i], wanted, width)
+        keys_of(alloc, pieces[i], delimiter, wanted, width)
     }
 }
 
@@ -53,20 +54,21 @@ fn later(fault: Refusal, earlier: u64) -> Refusal
 pub fn join_keys(
     alloc: Global,
     pieces: &[&[u8]],
+    delimiter: u8,
     wanted: &Wanted<'_>,
     header: bool,
     width: usize,
     found: Vec<Result<RecordBatch, Refusal>>,
 ) -> Result<Vec<RecordBatch>, Refusal>
-    requires pieces { ArePieces (bytes_of (lent pieces.now)) (lent pieces.now) }
+    requires pieces { ArePieces delimiter (bytes_of (lent pieces.now)) (lent pieces.now) }
     requires bound { length (bytes_of (lent pieces.now)) < 2 ^ 64 }
-    requires first { BeginWith width (lent pieces.now) }
+    requires first { BeginWith delimiter width (lent pieces.now) }
     requires len { vec_len found ≡ length pieces.now }
-    requires found { AnswerAll (taking wanted.now) header width (lent pieces.now) found.items }
+    requires found { AnswerAll delimiter (taking wanted.now) header width (lent pieces.now) found.items }
     ensures keys { IfOk result (λ lists.
-        taken_of (taking wanted.now) header (bytes_of (lent pieces.now)) ≡ Ok (all_keys lists.items)) }
+        taken_of delimiter (taking wanted.now) header (bytes_of (lent pieces.now)) ≡ Ok (all_keys lists.items)) }
     ensures fault { IfErr result (λ e. (e ≡ refusal.Memory)
-        ⊎ (taken_of (taking wanted.now) header (bytes_of (lent pieces.now)) ≡ Err e)) }
+        ⊎ (taken_of delimiter (taking wanted.now) header (bytes_of (lent pieces.now)) ≡ Err e)) }
 {
     let mut lists = Vec::new(alloc);
     let mut count = if header { 1u64 } else { 0 };

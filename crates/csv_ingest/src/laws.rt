@@ -1,56 +1,59 @@
 //! Laws of files that are read in pieces.
 
 ghost use Rattle.std.specs.Prelude.{◌≡◌, ◌≢◌, ◌+◌, ◌++◌, ◌∷◌, [], false, Bool, List, ℕ, Ok, All, flat_map, length, map};
-ghost use Rattle.csv.specs.Reading.{default_config, records, strip_bom};
-ghost use Rattle.csv_ingest.specs.KeyFile.{Record, Taking, keys_from, taken_of};
+ghost use Rattle.csv.specs.Reading.{records, strip_bom};
+ghost use Rattle.csv_ingest.specs.KeyFile.{Record, Taking, dialect, keys_from, taken_of};
 ghost use Rattle.csv_ingest.specs.Pieces.{ArePieces, file_records, joined, later_keys, piece_keys, then_keys};
-ghost use Rattle.csv_ingest.specs.Stand.{in_quotes, stand_after};
+ghost use Rattle.csv_ingest.specs.Stand.{IsCut, in_quotes, is_line_end, stand_after};
 ghost use Rattle.csv_ingest.specs.declared.stand.Stand.{Stand};
 ghost use Rattle.csv_ingest.specs.declared.stand.Stand.TheVariants as stand;
 
 /// Behind a line feed, where no double quote stands before it, a file can be cut.
 pub fn cut_without_quotes()
-    ensures { (a b : List ℕ) → All (λ c. c ≢ 34) a
-        → records default_config ((a ++ 10 ∷ []) ++ b)
-        ≡ records default_config (a ++ 10 ∷ []) ++ records default_config b }
+    ensures { (delimiter : ℕ) (a b : List ℕ) → is_line_end delimiter ≡ false → All (λ c. c ≢ 34) a
+        → records (dialect delimiter) ((a ++ 10 ∷ []) ++ b)
+        ≡ records (dialect delimiter) (a ++ 10 ∷ []) ++ records (dialect delimiter) b }
 {}
 
 /// Behind bytes after which a reader is at the start of a record, a file can be cut.
 pub fn cut_behind_a_record()
-    ensures { (a b : List ℕ) → stand_after stand.Record a ≡ stand.Record
-        → records default_config (a ++ b) ≡ records default_config a ++ records default_config b }
+    ensures { (delimiter : ℕ) (a b : List ℕ) → stand_after delimiter stand.Record a ≡ stand.Record
+        → records (dialect delimiter) (a ++ b)
+        ≡ records (dialect delimiter) a ++ records (dialect delimiter) b }
 {}
 
-/// Before a line feed that no quotes protect, a file can be cut.
+/// Before a line feed that ends a record, a file can be cut.
 pub fn cut_before_a_line_feed()
-    ensures { (a b : List ℕ) → in_quotes (stand_after stand.Record a) ≡ false
-        → records default_config (a ++ 10 ∷ b)
-        ≡ records default_config a ++ records default_config (10 ∷ b) }
+    ensures { (delimiter : ℕ) (a b : List ℕ) → IsCut delimiter a
+        → records (dialect delimiter) (a ++ 10 ∷ b)
+        ≡ records (dialect delimiter) a ++ records (dialect delimiter) (10 ∷ b) }
 {}
 
 /// The same of files, from which a byte order mark is dropped: each piece is then a file of its
 /// own, and no piece but the first has a mark to drop.
 pub fn cut_file()
-    ensures { (a b : List ℕ) → in_quotes (stand_after stand.Record (strip_bom a)) ≡ false
-        → file_records (a ++ 10 ∷ b) ≡ file_records a ++ file_records (10 ∷ b) }
+    ensures { (delimiter : ℕ) (a b : List ℕ) → IsCut delimiter (strip_bom a)
+        → file_records delimiter (a ++ 10 ∷ b)
+        ≡ file_records delimiter a ++ file_records delimiter (10 ∷ b) }
 {}
 
 /// A line feed that no quotes protect ends a record.
 pub fn line_feed_ends_a_record()
-    ensures { (s : Stand) (a : List ℕ) → in_quotes (stand_after s a) ≡ false
-        → stand_after s (a ++ 10 ∷ []) ≡ stand.Record }
+    ensures { (delimiter : ℕ) (s : Stand) (a : List ℕ) → is_line_end delimiter ≡ false
+        → in_quotes (stand_after delimiter s a) ≡ false
+        → stand_after delimiter s (a ++ 10 ∷ []) ≡ stand.Record }
 {}
 
 /// Where a reader stands after two texts.
 pub fn stand_after_two()
-    ensures { (s : Stand) (a b : List ℕ)
-        → stand_after s (a ++ b) ≡ stand_after (stand_after s a) b }
+    ensures { (delimiter : ℕ) (s : Stand) (a b : List ℕ)
+        → stand_after delimiter s (a ++ b) ≡ stand_after delimiter (stand_after delimiter s a) b }
 {}
 
 /// Without a double quote nothing comes to stand in quotes.
 pub fn outside_without_quotes()
-    ensures { (s : Stand) (a : List ℕ) → All (λ c. c ≢ 34) a → in_quotes s ≡ false
-        → in_quotes (stand_after s a) ≡ false }
+    ensures { (delimiter : ℕ) (s : Stand) (a : List ℕ) → All (λ c. c ≢ 34) a
+        → in_quotes s ≡ false → in_quotes (stand_after delimiter s a) ≡ false }
 {}
 
 /// The keys of two lists of records: those of the first, and then those of the second, whose
@@ -75,17 +78,19 @@ pub fn keys_later()
 
 /// A file in pieces has the records of its pieces.
 pub fn records_of_pieces()
-    ensures { (file : List ℕ) (pieces : List (List ℕ)) → ArePieces file pieces
-        → file_records file ≡ flat_map file_records pieces }
+    ensures { (delimiter : ℕ) (file : List ℕ) (pieces : List (List ℕ))
+        → ArePieces delimiter file pieces
+        → file_records delimiter file ≡ flat_map (file_records delimiter) pieces }
 {}
 
 /// The keys of a file in pieces, of which the first has a record: those of the first piece, and
 /// then those of the others, whose records all have the length of the very first one, and whose
 /// faults count on.
 pub fn keys_of_pieces()
-    ensures { (wanted : Taking) (header : Bool) (file piece : List ℕ) (pieces : List (List ℕ))
-        (first : Record) (more : List Record) → ArePieces file (piece ∷ pieces)
-        → file_records piece ≡ first ∷ more
-        → taken_of wanted header file ≡ then_keys (taken_of wanted header piece)
-        (joined (length (first ∷ more)) (map (piece_keys wanted (length first)) pieces)) }
+    ensures { (delimiter : ℕ) (wanted : Taking) (header : Bool) (file piece : List ℕ)
+        (pieces : List (List ℕ)) (first : Record) (more : List Record)
+        → ArePieces delimiter file (piece ∷ pieces) → file_records delimiter piece ≡ first ∷ more
+        → taken_of delimiter wanted header file
+        ≡ then_keys (taken_of delimiter wanted header piece)
+        (joined (length (first ∷ more)) (map (piece_keys delimiter wanted (length first)) pieces)) }
 {}

@@ -1,4 +1,4 @@
-//! The keys of a file of comma-separated records, read as a whole or in chunks in parallel.
+//! The keys of a file of delimited records, read as a whole or in chunks in parallel.
 //!
 //! It promises:
 //! - Each read returns the keys of a column, with their topics or without, or the first fault,
@@ -14,6 +14,7 @@
 mod apart;
 mod blocks;
 mod cuts;
+mod field_ends;
 mod file_keys;
 mod header;
 mod join;

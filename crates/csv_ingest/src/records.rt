@@ -1,8 +1,8 @@
 //! The records of a file, one by one.
 
 ghost use Rattle.std.specs.Prelude.{◌≡◌, IfOk};
-ghost use Rattle.csv.specs.Reading.{default_config, records, strip_bom};
 ghost use Rattle.csv.specs.Records.{fields_of};
+ghost use Rattle.csv_ingest.specs.Pieces.{file_records};
 ghost use Rattle.csv_ingest.specs.Private.Records.{ReadsRecords, TakesNext, records_left};
 
 use csv::{ByteRecord, Reader, ReaderBuilder};
@@ -24,14 +24,15 @@ pub fn next_record<R: Read>(reader: &mut Reader<R>, row: &mut ByteRecord) -> Res
     Ok(found)
 }
 
-/// A reader of the records of a file.
-pub fn records_of(alloc: Global, file: &[u8]) -> Reader<&[u8]>
+/// A reader of the records of a file with this delimiter.
+pub fn records_of(alloc: Global, file: &[u8], delimiter: u8) -> Reader<&[u8]>
     ensures reads { ReadsRecords ⟦<&'static [u8] as Read>⟧.remaining result }
     ensures left { records_left ⟦<&'static [u8] as Read>⟧.remaining result
-        ≡ records default_config (strip_bom file.now) }
+        ≡ file_records delimiter file.now }
 {
     ReaderBuilder::new()
         .has_headers(false)
         .flexible(true)
+        .delimiter(delimiter)
         .from_reader(alloc, file)
 }

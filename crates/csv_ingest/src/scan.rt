@@ -6,28 +6,22 @@ ghost use Rattle.csv.specs.declared.parser.State.TheVariants as st;
 ghost use Rattle.csv_ingest.specs.KeyFile.{IsFileFault, Record, key_in, taken_of};
 ghost use Rattle.csv_ingest.specs.Pieces.{file_records, piece_keys};
 ghost use Rattle.csv_ingest.specs.Private.Cuts.{bom_length};
-ghost use Rattle.csv_ingest.specs.Private.Fields.{EndsField, IsLineEnd, IsRow, IsWhole, ReadsField, ReadsRow, kept};
+ghost use Rattle.csv_ingest.specs.Private.Fields.{EndsField, IsRow, IsWhole, ReadsField, ReadsRow, kept};
 ghost use Rattle.csv_ingest.specs.Private.Pieces.{IsWidthOf};
 ghost use Rattle.csv_ingest.specs.Private.KeyFile.{IsFaultAt, TakesKey};
 ghost use Rattle.csv_ingest.specs.Private.Wanted.{taking};
 ghost use Rattle.lane_words.specs.declared.Refusal.TheVariants as refusal;
 
 use crate::cuts::mark_length;
+use crate::field_ends::FieldEnds;
 use crate::piece::keys_of_piece;
+use crate::stand::is_line_end;
 use crate::wanted::Wanted;
 use crate::whole::read_taken;
 use lane_words::{Memory, Refusal};
 use memchr::memchr;
 use record_batch::RecordBatch;
 use std::alloc::Global;
-
-/// Whether a byte ends a line.
-fn ends_line(byte: u8) -> bool
-    ensures if_true { result ≡ true → IsLineEnd byte }
-    ensures if_false { result ≡ false → IsLineEnd byte → ⊥ }
-{
-    matches!(byte, b'\n' | b'\r')
-}
 
 /// Whether there is this byte here.
 fn is_at(text: &[u8], at: usize, byte: u8) -> bool
@@ -38,12 +32,12 @@ fn is_at(text: &[u8], at: usize, byte: u8) -> bool
 }
 
 /// Where a field that goes on here without quotes ends.
-fn bare_end(text: &[u8], at: usize) -> usize
+fn bare_end(text: &[u8], ends: &FieldEnds, at: usize) -> usize
     requires { at ≤ length text.now }
-    ensures { EndsField st.InField text.now at result (slice_range text.now at result) }
+    ensures { EndsField ends.now st.InField text.now at result (slice_range text.now at result) }
 {
     for i in at..text.len() {
-        if matches!(text[i], b',' | b'\n' | b'\r') {
+        if ends.is_end(text[i]) {
             return i;
         }
     }
@@ -61,29 +55,41 @@ fn keep(bytes: &[u8], wanted: bool, key: &mut Vec<u8>) -> Result<(), Memory>
 }
 
 /// Reads on to the end of a field that goes on here without quotes.
-fn read_bare(text: &[u8], at: usize, wanted: bool, key: &mut Vec<u8>) -> Result<usize, Memory>
+fn read_bare(
+    text: &[u8],
+    ends: &FieldEnds,
+    at: usize,
+    wanted: bool,
+    key: &mut Vec<u8>,
+) -> Result<usize, Memory>
     requires { at ≤ length text.now }
     ensures { IfOk result
-        (λ end. ReadsField st.InField text.now at end wanted key.old.items key.new.items) }
+        (λ end. ReadsField ends.now st.InField text.now at end wanted key.old.items key.new.items) }
 {
-    let end = bare_end(text, at);
+    let end = bare_end(text, ends, at);
     keep(&text[at..end], wanted, key)?;
     Ok(end)
 }
 
 /// Reads on to the end of a field that goes on here in quotes. Of two double quotes one is a byte of
 /// the field, and behind a single one it goes on without quotes.
-fn read_quoted(text: &[u8], start: usize, wanted: bool, key: &mut Vec<u8>) -> Result<usize, Memory>
+fn read_quoted(
+    text: &[u8],
+    ends: &FieldEnds,
+    start: usize,
+    wanted: bool,
+    key: &mut Vec<u8>,
+) -> Result<usize, Memory>
     requires { start ≤ length text.now }
     ensures { IfOk result
-        (λ end. ReadsField st.InQuoted text.now start end wanted key.old.items key.new.items) }
+        (λ end. ReadsField ends.now st.InQuoted text.now start end wanted key.old.items key.new.items) }
 {
     let mut at = start;
     'quotes: while let Some(more) = memchr(b'"', &text[at..]) {
         let quote = at + more;
         if !is_at(text, quote + 1, b'"') {
             keep(&text[at..quote], wanted, key)?;
-            return read_bare(text, quote + 1, wanted, key);
+            return read_bare(text, ends, quote + 1, wanted, key);
         }
         keep(&text[at..quote + 1], wanted, key)?;
         at = quote + 2;
@@ -114,16 +120,22 @@ impl Row {
     }
 
     /// Reads the field at hand, which starts here, and tells where it ends.
-    fn read_field(&mut self, text: &[u8], at: usize, column: usize) -> Result<usize, Memory>
+    fn read_field(
+        &mut self,
+        text: &[u8],
+        ends: &FieldEnds,
+        at: usize,
+        column: usize,
+    ) -> Result<usize, Memory>
         requires { at < length text.now }
         ensures count { OnOk result (self.new.count ≡ self.old.count) }
-        ensures field { IfOk result (λ end. ReadsRow text.now at end column self.old self.new) }
+        ensures field { IfOk result (λ end. ReadsRow ends.now text.now at end column self.old self.new) }
     {
         let wanted = self.count == column;
         if text[at] == b'"' {
-            read_quoted(text, at + 1, wanted, &mut self.key)
+            read_quoted(text, ends, at + 1, wanted, &mut self.key)
         } else {
-            read_bare(text, at, wanted, &mut self.key)
+            read_bare(text, ends, at, wanted, &mut self.key)
         }
     }
 
@@ -181,25 +193,27 @@ fn scan(
     keys: &mut RecordBatch,
     alloc: Global,
     text: &[u8],
+    delimiter: u8,
     column: usize,
     width: usize,
 ) -> Result<(), Refusal>
     requires empty { keys.old ≡ [] }
     requires unmarked { bom_length text.now ≡ 0 }
-    ensures keys { OnOk result (piece_keys (key_in (column + 1)) width text.now ≡ Ok keys.new) }
+    ensures keys { OnOk result (piece_keys delimiter (key_in (column + 1)) width text.now ≡ Ok keys.new) }
     ensures kind { IfErr result IsFileFault }
     ensures fault { IfErr result (λ e. (e ≡ refusal.Memory)
-        ⊎ (piece_keys (key_in (column + 1)) width text.now ≡ Err e)) }
+        ⊎ (piece_keys delimiter (key_in (column + 1)) width text.now ≡ Err e)) }
 {
+    let ends = FieldEnds::of(delimiter);
     let mut row = Row::new(alloc);
     let mut at = 0;
     let mut nth = 1;
     while at < text.len() {
-        if row.count == 0 && ends_line(text[at]) {
+        if row.count == 0 && is_line_end(text[at]) {
             at += 1;
         } else {
-            let end = row.read_field(text, at, column)?;
-            if is_at(text, end, b',') {
+            let end = row.read_field(text, &ends, at, column)?;
+            if is_at(text, end, delimiter) {
                 row.go_on();
             } else {
                 row.add_to(keys, column, width, nth)?;
@@ -209,7 +223,7 @@ fn scan(
             at = end + 1;
         }
     }
-    // Behind a last comma there is one field more.
+    // Behind a last delimiter there is one field more.
     if row.count > 0 {
         row.add_to(keys, column, width, nth)?;
     }
@@ -220,19 +234,20 @@ fn scan(
 fn scanned(
     alloc: Global,
     text: &[u8],
+    delimiter: u8,
     wanted: &Wanted<'_>,
     column: usize,
     width: usize,
 ) -> Result<RecordBatch, Refusal>
     requires unmarked { bom_length text.now ≡ 0 }
     requires column { taking wanted.now ≡ key_in (column + 1) }
-    ensures keys { IfOk result (λ keys. piece_keys (taking wanted.now) width text.now ≡ Ok keys) }
+    ensures keys { IfOk result (λ keys. piece_keys delimiter (taking wanted.now) width text.now ≡ Ok keys) }
     ensures kind { IfErr result IsFileFault }
     ensures fault { IfErr result
-        (λ e. (e ≡ refusal.Memory) ⊎ (piece_keys (taking wanted.now) width text.now ≡ Err e)) }
+        (λ e. (e ≡ refusal.Memory) ⊎ (piece_keys delimiter (taking wanted.now) width text.now ≡ Err e)) }
 {
     let mut keys = wanted.new_list(alloc);
-    scan(&mut keys, alloc, text, column, width)?;
+    scan(&mut keys, alloc, text, delimiter, column, width)?;
     Ok(keys)
 }
 
@@ -241,17 +256,20 @@ fn scanned(
 pub fn keys_of(
     alloc: Global,
     piece: &[u8],
+    delimiter: u8,
     wanted: &Wanted<'_>,
     width: usize,
 ) -> Result<RecordBatch, Refusal>
-    ensures keys { IfOk result (λ keys. piece_keys (taking wanted.now) width piece.now ≡ Ok keys) }
+    ensures keys { IfOk result (λ keys. piece_keys delimiter (taking wanted.now) width piece.now ≡ Ok keys) }
     ensures kind { IfErr result IsFileFault }
     ensures fault { IfErr result
-        (λ e. (e ≡ refusal.Memory) ⊎ (piece_keys (taking wanted.now) width piece.now ≡ Err e)) }
+        (λ e. (e ≡ refusal.Memory) ⊎ (piece_keys delimiter (taking wanted.now) width piece.now ≡ Err e)) }
 {
     match wanted.key_column() {
-        Some(column) if mark_length(piece) == 0 => scanned(alloc, piece, wanted, column, width),
-        _ => keys_of_piece(alloc, piece, wanted, width),
+        Some(column) if mark_length(piece) == 0 => {
+            scanned(alloc, piece, delimiter, wanted, column, width)
+        }
+        _ => keys_of_piece(alloc, piece, delimiter, wanted, width),
     }
 }
 
@@ -259,19 +277,20 @@ pub fn keys_of(
 pub fn first_keys(
     alloc: Global,
     piece: &[u8],
+    delimiter: u8,
     wanted: &Wanted<'_>,
     header: bool,
     width: usize,
 ) -> Result<RecordBatch, Refusal>
-    requires { IsWidthOf width (file_records piece.now) }
-    ensures keys { IfOk result (λ keys. taken_of (taking wanted.now) header piece.now ≡ Ok keys) }
+    requires { IsWidthOf width (file_records delimiter piece.now) }
+    ensures keys { IfOk result (λ keys. taken_of delimiter (taking wanted.now) header piece.now ≡ Ok keys) }
     ensures kind { IfErr result IsFileFault }
     ensures fault { IfErr result
-        (λ e. (e ≡ refusal.Memory) ⊎ (taken_of (taking wanted.now) header piece.now ≡ Err e)) }
+        (λ e. (e ≡ refusal.Memory) ⊎ (taken_of delimiter (taking wanted.now) header piece.now ≡ Err e)) }
 {
     if header {
-        read_taken(alloc, piece, wanted, header)
+        read_taken(alloc, piece, delimiter, wanted, header)
     } else {
-        keys_of(alloc, piece, wanted, width)
+        keys_of(alloc, piece, delimiter, wanted, width)
     }
 }

@@ -1,11 +1,12 @@
 //! Where a reader stands.
 
-ghost use Rattle.std.specs.Prelude.{◌≡◌, ◌≢◌, All};
-ghost use Rattle.csv_ingest.specs.Stand.{in_quotes, stand_after, stand_next, unquoted};
+ghost use Rattle.std.specs.Prelude.{◌≡◌, ◌≢◌, All, false, true};
+ghost use Rattle.csv_ingest.specs.Stand.{field_begun, in_quotes, is_line_end, stand_after, stand_next, unquoted};
+ghost use Rattle.csv_ingest.specs.declared.stand.Stand.TheVariants as stands;
 
 use memchr::memchr;
 
-/// Where a reader of csv's default dialect stands between two bytes.
+/// Where a reader of csv's default dialect, with some delimiter, stands between two bytes.
 #[derive(Clone, Copy, Debug, PartialEq, Eq)]
 pub enum Stand {
     /// At the start of a record.
@@ -19,15 +20,35 @@ pub enum Stand {
     Quoted,
 }
 
+/// Whether a byte is one of those that end a line.
+pub fn is_line_end(byte: u8) -> bool
+    ensures { result ≡ is_line_end byte }
+{
+    byte == b'\r' || byte == b'\n'
+}
+
 /// Where a reader stands after a byte that quotes do not protect, and that is no quote that opens
 /// or closes.
-fn after_unquoted(byte: u8) -> Stand
-    ensures { result ≡ unquoted byte }
+fn after_unquoted(byte: u8, delimiter: u8) -> Stand
+    ensures { result ≡ unquoted delimiter byte }
 {
-    match byte {
-        b',' => Stand::Fresh,
-        b'\r' | b'\n' => Stand::Record,
-        _ => Stand::Bare,
+    if byte == delimiter {
+        Stand::Fresh
+    } else if is_line_end(byte) {
+        Stand::Record
+    } else {
+        Stand::Bare
+    }
+}
+
+/// Where a reader stands after a byte at the start of a field.
+fn after_start(byte: u8, delimiter: u8) -> Stand
+    ensures { result ≡ field_begun delimiter byte }
+{
+    if byte == b'"' {
+        Stand::Quoted
+    } else {
+        after_unquoted(byte, delimiter)
     }
 }
 
@@ -39,9 +60,17 @@ impl Stand {
         matches!(self, Stand::Quoted)
     }
 
+    /// Whether a record starts here.
+    pub fn is_record(self) -> bool
+        ensures if_true { result ≡ true → self ≡ stands.Record }
+        ensures if_false { result ≡ false → self ≢ stands.Record }
+    {
+        matches!(self, Stand::Record)
+    }
+
     /// Where a reader stands after one byte more.
-    pub fn next(self, byte: u8) -> Stand
-        ensures { result ≡ stand_next self byte }
+    pub fn next(self, byte: u8, delimiter: u8) -> Stand
+        ensures { result ≡ stand_next delimiter self byte }
     {
         match self {
             Stand::Quoted => {
@@ -51,12 +80,13 @@ impl Stand {
                     Stand::Quoted
                 }
             }
-            Stand::Bare => after_unquoted(byte),
-            Stand::Record | Stand::Fresh => {
-                if byte == b'"' {
-                    Stand::Quoted
+            Stand::Bare => after_unquoted(byte, delimiter),
+            Stand::Fresh => after_start(byte, delimiter),
+            Stand::Record => {
+                if is_line_end(byte) {
+                    Stand::Record
                 } else {
-                    after_unquoted(byte)
+                    after_start(byte, delimiter)
                 }
             }
         }
@@ -64,28 +94,30 @@ impl Stand {
 }
 
 /// Where a reader stands behind bytes among which there is no double quote.
-fn plain_behind(from: Stand, bytes: &[u8]) -> Stand
-    requires { All (λ c. c ≢ 34) bytes.now }
-    ensures { result ≡ stand_after from bytes.now }
+fn plain_behind(from: Stand, bytes: &[u8], delimiter: u8) -> Stand
+    requires delimiter { is_line_end delimiter ≡ false }
+    requires unquoted { All (λ c. c ≢ 34) bytes.now }
+    ensures { result ≡ stand_after delimiter from bytes.now }
 {
     if from.is_quoted() || bytes.is_empty() {
         return from;
     }
-    after_unquoted(bytes[bytes.len() - 1])
+    after_unquoted(bytes[bytes.len() - 1], delimiter)
 }
 
 /// Where a reader stands behind these bytes.
 ///
 /// Between two double quotes only the last byte matters, so it goes from quote to quote.
-pub fn stand_behind(from: Stand, bytes: &[u8]) -> Stand
-    ensures { result ≡ stand_after from bytes.now }
+pub fn stand_behind(from: Stand, bytes: &[u8], delimiter: u8) -> Stand
+    requires { is_line_end delimiter ≡ false }
+    ensures { result ≡ stand_after delimiter from bytes.now }
 {
     let mut stand = from;
     let mut rest = bytes;
     'runs: while let Some(at) = memchr(b'"', rest) {
-        let there = plain_behind(stand, &rest[..at]);
-        stand = there.next(b'"');
+        let there = plain_behind(stand, &rest[..at], delimiter);
+        stand = there.next(b'"', delimiter);
         rest = &rest[at + 1..];
     }
-    plain_behind(stand, rest)
+    plain_behind(stand, rest, delimiter)
 }

@@ -123,16 +123,17 @@ fn add_file(
     alloc: Global,
     keys: &mut RecordBatch,
     file: &[u8],
+    delimiter: u8,
     wanted: &Wanted<'_>,
     header: bool,
 ) -> Result<(), Refusal>
     requires none { keys.old ≡ [] }
-    ensures keys { OnOk result (taken_of (taking wanted.now) header file.now ≡ Ok keys.new) }
+    ensures keys { OnOk result (taken_of delimiter (taking wanted.now) header file.now ≡ Ok keys.new) }
     ensures kind { IfErr result IsFileFault }
     ensures fault { IfErr result
-        (λ e. (e ≡ refusal.Memory) ⊎ (taken_of (taking wanted.now) header file.now ≡ Err e)) }
+        (λ e. (e ≡ refusal.Memory) ⊎ (taken_of delimiter (taking wanted.now) header file.now ≡ Err e)) }
 {
-    let mut reader = records_of(alloc, file);
+    let mut reader = records_of(alloc, file, delimiter);
     let mut row = ByteRecord::new(alloc);
     add_all(keys, &mut reader, &mut row, wanted, header)
 }
@@ -142,21 +143,22 @@ fn add_file(
 pub fn read_taken(
     alloc: Global,
     file: &[u8],
+    delimiter: u8,
     wanted: &Wanted<'_>,
     header: bool,
 ) -> Result<RecordBatch, Refusal>
-    ensures keys { IfOk result (λ keys. taken_of (taking wanted.now) header file.now ≡ Ok keys) }
+    ensures keys { IfOk result (λ keys. taken_of delimiter (taking wanted.now) header file.now ≡ Ok keys) }
     ensures kind { IfErr result IsFileFault }
     ensures fault { IfErr result
-        (λ e. (e ≡ refusal.Memory) ⊎ (taken_of (taking wanted.now) header file.now ≡ Err e)) }
+        (λ e. (e ≡ refusal.Memory) ⊎ (taken_of delimiter (taking wanted.now) header file.now ≡ Err e)) }
 {
     let mut keys = wanted.new_list(alloc);
-    let added = add_file(alloc, &mut keys, file, wanted, header);
+    let added = add_file(alloc, &mut keys, file, delimiter, wanted, header);
     added.and(Ok(keys))
 }
 
-/// The keys of a file of comma-separated records: of each record the field in this column, in the
-/// order of the records.
+/// The keys of a file of records with this delimiter: of each record the field in this column, in
+/// the order of the records.
 ///
 /// Columns are counted from 1, and so are records, a header among them. The header is the first
 /// record, and is dropped before its column is looked at. A record of another length than the first
@@ -165,14 +167,15 @@ pub fn read_taken(
 pub fn read_keys(
     alloc: Global,
     file: &[u8],
+    delimiter: u8,
     column: u32,
     header: bool,
 ) -> Result<RecordBatch, Refusal>
     requires { 1 ≤ column }
-    ensures keys { IfOk result (λ keys. keys_of column header file.now ≡ Ok keys) }
+    ensures keys { IfOk result (λ keys. keys_of delimiter column header file.now ≡ Ok keys) }
     ensures kind { IfErr result IsFileFault }
     ensures fault { IfErr result
-        (λ e. (e ≡ refusal.Memory) ⊎ (keys_of column header file.now ≡ Err e)) }
+        (λ e. (e ≡ refusal.Memory) ⊎ (keys_of delimiter column header file.now ≡ Err e)) }
 {
-    read_taken(alloc, file, &Wanted::key(column, None), header)
+    read_taken(alloc, file, delimiter, &Wanted::key(column, None), header)
 }

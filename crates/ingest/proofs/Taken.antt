@@ -9,9 +9,9 @@ use Rattle.std.proofs.lemmas.List.{length-map}
 use Rattle.std.proofs.lemmas.List.Elements.{All-cons, All-head, All-map, All-nil, All-tail}
 use Rattle.lane_words.specs.declared.Refusal.{Refusal}
 use Rattle.lane_words.specs.declared.Refusal.TheVariants as r
-use Rattle.csv.specs.Reading.{default_config, records, strip_bom}
 use Rattle.csv.specs.Records.{field_at}
 use Rattle.csv_ingest.specs.KeyFile.{Record, Taking, behind_index, behind_topic, key_before, key_behind, keyed, keys_from, keys_of_records, topic_key_in, topic_keys_of, topic_of}
+use Rattle.csv_ingest.specs.Pieces.{file_records}
 use Rattle.csv_ingest.specs.declared.lack.Lack.{Lack}
 use Rattle.partitioner.specs.Place.{AreTopics}
 use Rattle.partition_log.specs.Appends.{in_first, lent}
@@ -64,16 +64,16 @@ module _ (P : List ℕ → Type 0) (wanted : Taking) (each : (fields : Record) (
   taken-of false (first ∷ rows) all e = taken-from (length first) 1 (first ∷ rows) all e
   taken-of true (first ∷ rows) all e = taken-from (length first) 2 rows all e
 
-pub topics-among : (column topic_column : ℕ) (header : Bool) (partitions : ℕ) (topics : List Topic) (bytes : List ℕ) (names keys : List (List ℕ)) → (length topics == 0) ≡ false → names ≡ map (λ (t : Topic). t.name) topics
-    → topic_keys_of column topic_column names header bytes ≡ Ok keys → AreOfTopics (counts_among partitions topics) (map record_of keys)
-topics-among column topic_column header partitions [] bytes names keys some is e = absurd (cc some)
-topics-among column topic_column header partitions (topic ∷ topics) bytes names keys some is e =
+pub topics-among : (delimiter column topic_column : ℕ) (header : Bool) (partitions : ℕ) (topics : List Topic) (bytes : List ℕ) (names keys : List (List ℕ)) → (length topics == 0) ≡ false → names ≡ map (λ (t : Topic). t.name) topics
+    → topic_keys_of delimiter column topic_column names header bytes ≡ Ok keys → AreOfTopics (counts_among partitions topics) (map record_of keys)
+topics-among delimiter column topic_column header partitions [] bytes names keys some is e = absurd (cc some)
+topics-among delimiter column topic_column header partitions (topic ∷ topics) bytes names keys some is e =
     let long : length names ≡ length (map (λ (t : Topic). t.partitions) (topic ∷ topics)) =
     ap length is ∙ length-map (topic ∷ topics) (λ (t : Topic). t.name) ∙ sym (length-map (topic ∷ topics) (λ (t : Topic). t.partitions)) in
     All-map (λ (k : Keyed). k.0 < length (map (λ (t : Topic). t.partitions) (topic ∷ topics))) record_of keys
     (subst (λ n. All (λ k. topic_of k < n) keys) long
     (taken-of (λ k. topic_of k < length names) (topic_key_in column topic_column names)
-    (λ fields key. topic-among names (field_at fields _) (field_at fields _) key) header (records default_config (strip_bom bytes)) keys e))
+    (λ fields key. topic-among names (field_at fields _) (field_at fields _) key) header (file_records delimiter bytes) keys e))
 
 firsts : (n : ℕ) → 1 ≤ n → (keys : List Key) → All (λ (k : Keyed). k.0 < n) (in_first keys)
 firsts n some [] = All-nil (λ (k : Keyed). k.0 < n)
@@ -87,11 +87,11 @@ first-among partitions topics keys = firsts (length (counts_among partitions top
     go (topic ∷ topics) = omega arith
 
 -- ---- the keys read are those of the records
-pub topic-records : (header : Bool) (column topic_column : ℕ) (bytes : List ℕ) (topics : List Topic) (names : List (List ℕ)) → (length topics == 0) ≡ false → names ≡ map (λ (t : Topic). t.name) topics
-    → records_among header topics bytes column topic_column ≡ result_map_both (map record_of) (λ fault. fault) (topic_keys_of column topic_column names header bytes)
-topic-records header column topic_column bytes [] names some is = absurd (cc some)
-topic-records header column topic_column bytes (topic ∷ topics) names some is =
-    ap (λ ns. result_map_both (map record_of) (λ fault. fault) (topic_keys_of column topic_column ns header bytes)) (sym is)
+pub topic-records : (delimiter : ℕ) (header : Bool) (column topic_column : ℕ) (bytes : List ℕ) (topics : List Topic) (names : List (List ℕ)) → (length topics == 0) ≡ false → names ≡ map (λ (t : Topic). t.name) topics
+    → records_among delimiter header topics bytes column topic_column ≡ result_map_both (map record_of) (λ fault. fault) (topic_keys_of delimiter column topic_column names header bytes)
+topic-records delimiter header column topic_column bytes [] names some is = absurd (cc some)
+topic-records delimiter header column topic_column bytes (topic ∷ topics) names some is =
+    ap (λ ns. result_map_both (map record_of) (λ fault. fault) (topic_keys_of delimiter column topic_column ns header bytes)) (sym is)
 
 pub records-refused : {A B : Type 0} (f : A → B) (taken : Result A Refusal) (all : Result B Refusal) (e : Refusal) → all ≡ result_map_both f (λ fault. fault) taken → (e ≡ r.Memory) ⊎ (taken ≡ Err e) → (e ≡ r.Memory) ⊎ (all ≡ Err e)
 records-refused f taken all e is (inl m) = inl m

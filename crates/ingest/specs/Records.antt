@@ -31,23 +31,25 @@ abbrev pub record_of : List ℕ → Keyed
 record_of key = (topic_of key, key_behind key)
 
 -- a column of a file, counted from 1: a named one is looked up in the header
-abbrev pub column_in : List ℕ → Column → Result ℕ Refusal
-column_in file (Number n) = Ok n
-column_in file (Named name) = column_named LAST_COLUMN name.items (file_records file)
+abbrev pub column_in : ℕ → List ℕ → Column → Result ℕ Refusal
+column_in delimiter file (Number n) = Ok n
+column_in delimiter file (Named name) =
+    column_named LAST_COLUMN name.items (file_records delimiter file)
 
 -- the column of the topic; without topics none is read, and it is the first
-abbrev pub topic_column_in : List ℕ → List Topic → Column → Result ℕ Refusal
-topic_column_in file [] column = Ok 1
-topic_column_in file (topic ∷ topics) column = column_in file column
+abbrev pub topic_column_in : ℕ → List ℕ → List Topic → Column → Result ℕ Refusal
+topic_column_in delimiter file [] column = Ok 1
+topic_column_in delimiter file (topic ∷ topics) column = column_in delimiter file column
 
 -- the records of a file with the key in this column, each of the topic that its topic column names;
 -- without topics, all records are of the first
-abbrev pub records_among : Bool → List Topic → List ℕ → ℕ → ℕ → Result (List Keyed) Refusal
-records_among header [] file column topic_column =
-    result_map_both in_first (λ fault. fault) (keys_of column header file)
-records_among header (topic ∷ topics) file column topic_column =
+abbrev pub records_among : ℕ → Bool → List Topic → List ℕ → ℕ → ℕ
+    → Result (List Keyed) Refusal
+records_among delimiter header [] file column topic_column =
+    result_map_both in_first (λ fault. fault) (keys_of delimiter column header file)
+records_among delimiter header (topic ∷ topics) file column topic_column =
     result_map_both (map record_of) (λ fault. fault)
-    (topic_keys_of column topic_column (map (λ t. t.name) (topic ∷ topics)) header file)
+    (topic_keys_of delimiter column topic_column (map (λ t. t.name) (topic ∷ topics)) header file)
 
 -- what is done with a column, or the fault of its lookup
 abbrev pub with_column : Result ℕ Refusal → (ℕ → Result (List Keyed) Refusal)
@@ -58,9 +60,9 @@ with_column (Err fault) records = Err fault
 -- the records of a file, or the fault of the first bad one
 unfoldable pub records_of : Options → List ℕ → Result (List Keyed) Refusal
 records_of options file =
-    with_column (column_in file options.column) (λ column.
-    with_column (topic_column_in file options.topics.items options.topic_column)
-    (records_among options.header options.topics.items file column))
+    with_column (column_in options.delimiter file options.column) (λ column.
+    with_column (topic_column_in options.delimiter file options.topics.items options.topic_column)
+    (records_among options.delimiter options.header options.topics.items file column))
 
 -- the records that were read
 abbrev pub records_in : FileRecords → List Keyed

@@ -81,7 +81,7 @@ fn names_of<'a>(alloc: Global, topics: &'a [Topic]) -> Result<Vec<&'a [u8]>, Mem
 /// record 1 if there is none of that name.
 fn column_in(alloc: Global, file: &Blocks, column: &Column, header: bool) -> Result<u32, Refusal>
     requires { IsColumnIn header column.now }
-    ensures answer { Answers (column_in file.now column.now) result }
+    ensures answer { Answers (column_in file.now.delimiter file.now.bytes column.now) result }
     ensures range { IfOk result (λ column. 1 ≤ column) }
     ensures kind { IfErr result IsFileFault }
 {
@@ -94,8 +94,8 @@ fn column_in(alloc: Global, file: &Blocks, column: &Column, header: bool) -> Res
 /// The column of the topic; without topics none is read, and it is the first.
 fn topic_column_in(alloc: Global, file: &Blocks, options: &Options) -> Result<u32, Refusal>
     requires { AreInRange options.now }
-    ensures answer { Answers
-        (topic_column_in file.now options.now.topics.items options.now.topic_column) result }
+    ensures answer { Answers (topic_column_in file.now.delimiter file.now.bytes
+        options.now.topics.items options.now.topic_column) result }
     ensures range { IfOk result (λ column. 1 ≤ column) }
     ensures kind { IfErr result IsFileFault }
 {
@@ -117,9 +117,8 @@ fn records_among<R: Threads + Sync + RandomSource>(
 ) -> Result<FileRecords, Refusal>
     requires options { AreInRange options.now }
     requires columns { (1 ≤ column) × (1 ≤ topic_column) }
-    ensures answer { Answers
-        (records_among options.now.header options.now.topics.items file.now column topic_column)
-        (records_seen result) }
+    ensures answer { Answers (records_among file.now.delimiter options.now.header
+        options.now.topics.items file.now.bytes column topic_column) (records_seen result) }
     ensures topics { IfOk result
         (λ records. AreOfTopics (partition_counts options.now) (records_in records)) }
     ensures kind { IfErr result IsFileFault }
@@ -136,7 +135,8 @@ fn records_among<R: Threads + Sync + RandomSource>(
     Ok(FileRecords::InTopics(keys))
 }
 
-/// The records of a file that is in memory. A long file is parsed in parallel. Fails with the fault
+/// The records of a file that is in memory, with the delimiter of the options. A long file is parsed
+/// in parallel. Fails with the fault
 /// of the first bad record (`BadCsv`, `NoSuchColumn`, `NoSuchTopic`), and with `Memory` if an
 /// allocation failed.
 #[tactic(auto, unfolding(crate::specs::Records::records_of))]
@@ -146,8 +146,9 @@ pub fn read_records<R: Threads + Sync + RandomSource>(
     file: &Blocks,
     options: &Options,
 ) -> Result<FileRecords, Refusal>
-    requires { AreInRange options.now }
-    ensures answer { Answers (records_of options.now file.now) (records_seen result) }
+    requires options { AreInRange options.now }
+    requires delimiter { file.now.delimiter ≡ options.now.delimiter }
+    ensures answer { Answers (records_of options.now file.now.bytes) (records_seen result) }
     ensures topics { IfOk result
         (λ records. AreOfTopics (partition_counts options.now) (records_in records)) }
     ensures kind { IfErr result IsFileFault }
@@ -179,7 +180,11 @@ pub fn file_records<R: Threads + Sync + RandomSource, S: Source>(
     ensures reads { S.failures file.new ≡ S.failures file.old + failed_reads result }
 {
     let count = pieces_for(rt, file.expected());
-    let blocks = Blocks::of(alloc, read_blocks(rt, alloc, file, count)?)?;
+    let blocks = Blocks::of(
+        alloc,
+        read_blocks(rt, alloc, file, count)?,
+        options.delimiter,
+    )?;
     let records = read_records(rt, alloc, &blocks, options);
     blocks.drop_parallel(rt);
     records

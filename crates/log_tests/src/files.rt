@@ -1,6 +1,7 @@
 //! Files and their keys, from RFC 4180 and written by hand.
 
-ghost use Rattle.std.specs.Prelude.{◌≤◌};
+ghost use Rattle.std.specs.Prelude.{◌≡◌, ◌≤◌, false};
+ghost use Rattle.csv_ingest.specs.Stand.{is_line_end};
 
 use csv_ingest::{Blocks, RecordBatch, TopicKeys, read_keys, read_topic_keys_apart};
 use lane_words::{Memory, Refusal};
@@ -41,27 +42,45 @@ fn text_of(alloc: Global, keys: &RecordBatch) -> Result<Vec<u8>, Memory> {
 }
 
 /// The keys of a file that is read as a whole, in one text.
-pub fn text_whole(alloc: Global, file: &[u8], column: u32, header: bool) -> Result<Vec<u8>, Refusal>
+pub fn text_whole(
+    alloc: Global,
+    file: &[u8],
+    delimiter: u8,
+    column: u32,
+    header: bool,
+) -> Result<Vec<u8>, Refusal>
     requires { 1 ≤ column }
 {
-    let keys = read_keys(alloc, file, column, header)?;
+    let keys = read_keys(alloc, file, delimiter, column, header)?;
     Ok(text_of(alloc, &keys)?)
 }
 
-/// Files, the column of their keys, whether they have a header, and their keys in one text.
-const KEYS: [(&[u8], u32, bool, &[u8]); 4] = [
-    (b"a,b\nc,d\n", 1, false, b"a;c;"),
-    (b"a,b\r\nc,d", 2, true, b"d;"),
-    (b"\"a,\"\"b\",\"\n\"\n", 1, false, b"a,\"b;"),
-    (b"only\n", 2, true, b""),
+/// Files, their delimiter, the column of their keys, whether they have a header, and their keys in
+/// one text.
+const KEYS: [(&[u8], u8, u32, bool, &[u8]); 8] = [
+    (b"a,b\nc,d\n", b',', 1, false, b"a;c;"),
+    (b"a,b\r\nc,d", b',', 2, true, b"d;"),
+    (b"\"a,\"\"b\",\"\n\"\n", b',', 1, false, b"a,\"b;"),
+    (b"only\n", b',', 2, true, b""),
+    (b"a,b\tc\nd\te\n", b'\t', 1, false, b"a,b;d;"),
+    (b"a|\"b|\"\"\nc\"\r\n|d", b'|', 2, false, b"b|\"\nc;d;"),
+    (b"x,\"ycz\nwc\"v\"\n", b'c', 1, false, b"x,\"y;w;"),
+    (b"a b\n\nc d\n", b' ', 2, true, b"d;"),
 ];
 
 /// Whether a file has these keys.
-fn has_keys(alloc: Global, file: &[u8], column: u32, header: bool, keys: &[u8]) -> bool {
+fn has_keys(
+    alloc: Global,
+    file: &[u8],
+    delimiter: u8,
+    column: u32,
+    header: bool,
+    keys: &[u8],
+) -> bool {
     if column == 0 {
         return false;
     }
-    match text_whole(alloc, file, column, header) {
+    match text_whole(alloc, file, delimiter, column, header) {
         Ok(text) => text.as_slice() == keys,
         Err(_) => false,
     }
@@ -69,8 +88,8 @@ fn has_keys(alloc: Global, file: &[u8], column: u32, header: bool, keys: &[u8]) 
 
 #[test]
 fn a_file_has_the_keys_of_its_column(rt: HostRuntime) {
-    for (file, column, header, keys) in KEYS {
-        assert!(rt; has_keys(rt.alloc(), file, column, header, keys));
+    for (file, delimiter, column, header, keys) in KEYS {
+        assert!(rt; has_keys(rt.alloc(), file, delimiter, column, header, keys));
     }
 }
 
@@ -87,7 +106,7 @@ fn fault_of(alloc: Global, file: &[u8], column: u32, header: bool) -> Option<Ref
     if column == 0 {
         return None;
     }
-    text_whole(alloc, file, column, header).err()
+    text_whole(alloc, file, b',', column, header).err()
 }
 
 #[test]
@@ -140,9 +159,16 @@ fn parts_of(alloc: Global, file: &[u8], size: usize) -> Result<Vec<Vec<u8>>, Mem
 }
 
 /// A file read in blocks of `size` bytes.
-pub fn file_in_blocks(alloc: Global, file: &[u8], size: usize) -> Result<Blocks, Memory> {
+pub fn file_in_blocks(
+    alloc: Global,
+    file: &[u8],
+    delimiter: u8,
+    size: usize,
+) -> Result<Blocks, Memory>
+    requires { is_line_end delimiter ≡ false }
+{
     let parts = parts_of(alloc, file, size)?;
-    Blocks::of(alloc, parts)
+    Blocks::of(alloc, parts, delimiter)
 }
 
 /// The topics and keys of a file whose keys are in the first column, in one text.
@@ -155,7 +181,7 @@ fn topics_in<R: Threads + Sync>(
 ) -> Result<Vec<u8>, Refusal>
     requires { 1 ≤ topic_column }
 {
-    let file = file_in_blocks(alloc, file, file.len())?;
+    let file = file_in_blocks(alloc, file, b',', file.len())?;
     let found = read_topic_keys_apart(rt, alloc, &file, 1, topic_column, &NAMES, header)?;
     Ok(text_of_topics(alloc, &found)?)
 }

@@ -10,7 +10,7 @@ type Row = (&'static [u8], u32, Result<u32, Refusal>);
 
 /// The column of a name in a file that is read in blocks of `size` bytes.
 fn column_in(alloc: Global, file: &[u8], size: usize, row: &Row) -> Result<u32, Refusal> {
-    let file = file_in_blocks(alloc, file, size)?;
+    let file = file_in_blocks(alloc, file, b',', size)?;
     column_named(alloc, &file, row.0, row.1)
 }
 

@@ -1,6 +1,7 @@
 //! Files read in chunks compared with files read as a whole.
 
-ghost use Rattle.std.specs.Prelude.{◌≤◌};
+ghost use Rattle.std.specs.Prelude.{◌≡◌, ◌≤◌, false};
+ghost use Rattle.csv_ingest.specs.Stand.{is_line_end};
 
 use crate::drawn::{Random, rows, scraps, topic_rows};
 use crate::files::{NAMES, add_both, file_in_blocks, text_of_slices, text_of_topics, text_whole};
@@ -29,13 +30,15 @@ fn text_in_chunks<R: Threads + Sync>(
     rt: &R,
     alloc: Global,
     file: &[u8],
+    delimiter: u8,
     column: u32,
     header: bool,
     reading: Reading,
 ) -> Result<Vec<u8>, Refusal>
-    requires { 1 ≤ column }
+    requires delimiter { is_line_end delimiter ≡ false }
+    requires column { 1 ≤ column }
 {
-    let keys = read_keys_in_pieces(rt, alloc, file, column, header, reading)?;
+    let keys = read_keys_in_pieces(rt, alloc, file, delimiter, column, header, reading)?;
     Ok(text_of_keys(alloc, &keys)?)
 }
 
@@ -44,16 +47,18 @@ fn has_text_in_chunks<R: Threads + Sync>(
     rt: &R,
     alloc: Global,
     file: &[u8],
+    delimiter: u8,
     column: u32,
     header: bool,
     hasher: Option<RandomState>,
     whole: &Text,
 ) -> bool
-    requires { 1 ≤ column }
+    requires delimiter { is_line_end delimiter ≡ false }
+    requires column { 1 ≤ column }
 {
     for pieces in [0, 2, 5] {
         let reading = Reading { pieces, hasher };
-        if text_in_chunks(rt, alloc, file, column, header, reading) != *whole {
+        if text_in_chunks(rt, alloc, file, delimiter, column, header, reading) != *whole {
             return false;
         }
     }
@@ -68,13 +73,15 @@ fn text_in_blocks<R: Threads + Sync + RandomSource>(
     rt: &R,
     alloc: Global,
     file: &[u8],
+    delimiter: u8,
     column: u32,
     header: bool,
     size: usize,
 ) -> Result<Vec<u8>, Refusal>
-    requires { 1 ≤ column }
+    requires delimiter { is_line_end delimiter ≡ false }
+    requires column { 1 ≤ column }
 {
-    let blocks = file_in_blocks(alloc, file, size)?;
+    let blocks = file_in_blocks(alloc, file, delimiter, size)?;
     let keys = read_keys_apart(rt, alloc, &blocks, column, header)?;
     Ok(text_of_keys(alloc, &keys)?)
 }
@@ -84,14 +91,16 @@ fn has_text_in_blocks<R: Threads + Sync + RandomSource>(
     rt: &R,
     alloc: Global,
     file: &[u8],
+    delimiter: u8,
     column: u32,
     header: bool,
     whole: &Text,
 ) -> bool
-    requires { 1 ≤ column }
+    requires delimiter { is_line_end delimiter ≡ false }
+    requires column { 1 ≤ column }
 {
     for size in SIZES {
-        if text_in_blocks(rt, alloc, file, column, header, size) != *whole {
+        if text_in_blocks(rt, alloc, file, delimiter, column, header, size) != *whole {
             return false;
         }
     }
@@ -104,16 +113,29 @@ fn are_keys_same<R: Threads + Sync + RandomSource>(
     rt: &R,
     alloc: Global,
     file: &[u8],
+    delimiter: u8,
     column: u32,
     header: bool,
 ) -> bool
-    requires { 1 ≤ column }
+    requires delimiter { is_line_end delimiter ≡ false }
+    requires column { 1 ≤ column }
 {
-    let whole = text_whole(alloc, file, column, header);
+    let whole = text_whole(alloc, file, delimiter, column, header);
     let hasher = RandomState::new(rt).ok();
-    has_text_in_chunks(rt, alloc, file, column, header, None, &whole)
-        && has_text_in_chunks(rt, alloc, file, column, header, hasher, &whole)
-        && has_text_in_blocks(rt, alloc, file, column, header, &whole)
+    has_text_in_chunks(rt, alloc, file, delimiter, column, header, None, &whole)
+        && has_text_in_chunks(rt, alloc, file, delimiter, column, header, hasher, &whole)
+        && has_text_in_blocks(rt, alloc, file, delimiter, column, header, &whole)
+}
+
+/// The delimiter of a file: a comma, or a byte that its fields have, too.
+fn delimiter_of(n: u64) -> u8
+    ensures { is_line_end result ≡ false }
+{
+    match n {
+        0 => b',',
+        1 => b'a',
+        _ => b'c',
+    }
 }
 
 #[test]
@@ -123,7 +145,8 @@ fn any_bytes_are_read_alike_in_chunks(rt: HostRuntime) -> Result<(), Fail> {
         let file = scraps(rt.alloc(), &mut random)?;
         let column = 1 + random.below(2) as u32;
         let header = random.below(2) == 0;
-        assert!(rt; are_keys_same(&rt, rt.alloc(), &file, column, header));
+        let delimiter = delimiter_of(random.below(3));
+        assert!(rt; are_keys_same(&rt, rt.alloc(), &file, delimiter, column, header));
     }
     Ok(())
 }
@@ -135,7 +158,8 @@ fn a_fault_in_any_chunk_is_reported_alike(rt: HostRuntime) -> Result<(), Fail> {
         let file = rows(rt.alloc(), &mut random)?;
         let column = 1 + random.below(3) as u32;
         let header = random.below(2) == 0;
-        assert!(rt; are_keys_same(&rt, rt.alloc(), &file, column, header));
+        let delimiter = delimiter_of(random.below(3));
+        assert!(rt; are_keys_same(&rt, rt.alloc(), &file, delimiter, column, header));
     }
     Ok(())
 }
@@ -162,7 +186,7 @@ fn long_keys(alloc: Global) -> Result<Vec<u8>, Memory> {
 #[test]
 fn long_keys_are_read_alike_in_chunks(rt: HostRuntime) -> Result<(), Fail> {
     let file = long_keys(rt.alloc())?;
-    assert!(rt; are_keys_same(&rt, rt.alloc(), &file, 1, false));
+    assert!(rt; are_keys_same(&rt, rt.alloc(), &file, b',', 1, false));
     Ok(())
 }
 
@@ -199,9 +223,9 @@ fn has_keys_parallel<R: Threads + Sync + RandomSource>(
     size: usize,
     len: usize,
 ) -> Result<bool, Refusal> {
-    let blocks = file_in_blocks(alloc, file, size)?;
+    let blocks = file_in_blocks(alloc, file, b',', size)?;
     let keys = read_keys_apart(rt, alloc, &blocks, 2, true)?;
-    Ok(are_keys(alloc, &keys, len, &text_whole(alloc, file, 2, true))?)
+    Ok(are_keys(alloc, &keys, len, &text_whole(alloc, file, b',', 2, true))?)
 }
 
 #[test]
@@ -229,7 +253,9 @@ fn topics_in_chunks<R: Threads + Sync>(
 ) -> Result<Vec<u8>, Refusal>
     requires { 1 ≤ column }
 {
-    let found = read_topic_keys_in_pieces(rt, alloc, file, column, 2, &NAMES, header, pieces)?;
+    let found = read_topic_keys_in_pieces(
+        rt, alloc, file, b',', column, 2, &NAMES, header, pieces,
+    )?;
     Ok(text_of_topics(alloc, &found)?)
 }
 
@@ -244,7 +270,7 @@ fn topics_in_blocks<R: Threads + Sync>(
 ) -> Result<Vec<u8>, Refusal>
     requires { 1 ≤ column }
 {
-    let blocks = file_in_blocks(alloc, file, size)?;
+    let blocks = file_in_blocks(alloc, file, b',', size)?;
     let found = read_topic_keys_apart(rt, alloc, &blocks, column, 2, &NAMES, header)?;
     Ok(text_of_topics(alloc, &found)?)
 }
@@ -306,8 +332,8 @@ fn has_text_of_columns(alloc: Global, file: &[u8], column: u32, header: bool, wh
     requires { 1 ≤ column }
 {
     match (
-        read_keys(alloc, file, 2, header),
-        read_keys(alloc, file, column, header),
+        read_keys(alloc, file, b',', 2, header),
+        read_keys(alloc, file, b',', column, header),
     ) {
         (Ok(topics), Ok(keys)) => text_of_columns(alloc, &topics, &keys, header) == *whole,
         _ => whole.is_err(),

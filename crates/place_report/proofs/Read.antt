@@ -4,8 +4,8 @@ use Rattle.std.specs.Prelude.{◌==◌, ◌⊎◌, IfOk, Result, Ok, Err, zip}
 use Rattle.std.specs.Borrow.{Bor}
 use Rattle.std.specs.Result.{result_map_both}
 use Rattle.std.proofs.lemmas.List.{length-map}
-use Rattle.csv.specs.Reading.{default_config, records, strip_bom}
 use Rattle.csv_ingest.specs.KeyFile.{Record, Taking, key_behind, key_in, keys_from, keys_of, keys_of_records, taken_of, topic_key_in}
+use Rattle.csv_ingest.specs.Pieces.{file_records}
 use Rattle.csv_ingest.proofs.Pieces.{keys_from-count}
 use Rattle.lane_words.specs.Answers.{Answers}
 use Rattle.lane_words.specs.declared.Refusal.{Refusal}
@@ -34,16 +34,16 @@ taken : {A : Type 0} (f : List (List ℕ) → A) (answer : Result (List (List �
 taken f (Ok keys) found is = (keys, refl, cc is)
 taken f (Err fault) found is = absurd (cc is)
 
-among_length : (header : Bool) (topics : List Topic) (column topic_column given : ℕ) (file : List ℕ) (found : List Keyed) (texts : List (List ℕ)) → records_among header topics file column topic_column ≡ Ok found
-    → keys_of given header file ≡ Ok texts → length texts ≡ length found
-among_length header [] column topic_column given file found texts is are =
-    let keys = taken in_first (keys_of column header file) found is in
-    taken_length (key_in given) (key_in column) header (records default_config (strip_bom file)) texts keys.0 are keys.1
+among_length : (delimiter : ℕ) (header : Bool) (topics : List Topic) (column topic_column given : ℕ) (file : List ℕ) (found : List Keyed) (texts : List (List ℕ)) → records_among delimiter header topics file column topic_column ≡ Ok found
+    → keys_of delimiter given header file ≡ Ok texts → length texts ≡ length found
+among_length delimiter header [] column topic_column given file found texts is are =
+    let keys = taken in_first (keys_of delimiter column header file) found is in
+    taken_length (key_in given) (key_in column) header (file_records delimiter file) texts keys.0 are keys.1
     ∙ sym (length-map keys.0 of_first) ∙ ap length keys.2
-among_length header (topic ∷ topics) column topic_column given file found texts is are =
+among_length delimiter header (topic ∷ topics) column topic_column given file found texts is are =
     let wanted = topic_key_in column topic_column (map (λ t. t.name) (topic ∷ topics)) in
-    let keys = taken (map record_of) (taken_of wanted header file) found is in
-    taken_length (key_in given) wanted header (records default_config (strip_bom file)) texts keys.0 are keys.1
+    let keys = taken (map record_of) (taken_of delimiter wanted header file) found is in
+    taken_length (key_in given) wanted header (file_records delimiter file) texts keys.0 are keys.1
     ∙ sym (length-map keys.0 record_of) ∙ ap length keys.2
 
 -- records that were read with a column were read with one that was found
@@ -51,20 +51,20 @@ with_column-ok : (looked_up : Result ℕ Refusal) (read : ℕ → Result (List K
 with_column-ok (Ok column) read found is = (column, is)
 with_column-ok (Err fault) read found is = absurd (cc is)
 
-records_length : (options : Options) (given : ℕ) (file : List ℕ) (found : List Keyed) (texts : List (List ℕ)) → records_of options file ≡ Ok found → keys_of given options.header file ≡ Ok texts
+records_length : (options : Options) (given : ℕ) (file : List ℕ) (found : List Keyed) (texts : List (List ℕ)) → records_of options file ≡ Ok found → keys_of options.delimiter given options.header file ≡ Ok texts
     → length texts ≡ length found
 unfolding records_of
 records_length options given file found texts is are =
-    let column = with_column-ok (column_in file options.column) _ found is in
-    let topic = with_column-ok (topic_column_in file options.topics.items options.topic_column) _ found column.1 in
-    among_length options.header options.topics.items column.0 topic.0 given file found texts topic.1 are
+    let column = with_column-ok (column_in options.delimiter file options.column) _ found is in
+    let topic = with_column-ok (topic_column_in options.delimiter file options.topics.items options.topic_column) _ found column.1 in
+    among_length options.delimiter options.header options.topics.items column.0 topic.0 given file found texts topic.1 are
 
 as_answered : {T : Type 0} (expected : Result T Refusal) (answer : T) → Answers expected (Ok answer) → expected ≡ Ok answer
 as_answered expected answer (inl is) = sym is
 as_answered expected answer (inr is) = absurd (cc is)
 
 pub as_many : (options : Options) (given : ℕ) (file : List ℕ) (read : Result (FileRecords × List (List ℕ)) Refusal) (found : Result FileRecords Refusal) (texts : Result (List (List ℕ)) Refusal)
-    → both_seen read ≡ both (records_seen found) texts → Answers (records_of options file) (records_seen found) → IfOk texts (λ ts. keys_of given options.header file ≡ Ok ts)
+    → both_seen read ≡ both (records_seen found) texts → Answers (records_of options file) (records_seen found) → IfOk texts (λ ts. keys_of options.delimiter given options.header file ≡ Ok ts)
     → IfOk read (λ r. length r.1 ≡ length (records_in r.0))
 as_many options given file (Err fault) found texts is records_are texts_are = tt
 as_many options given file (Ok read) (Ok found) (Ok texts) is records_are texts_are =

@@ -38,7 +38,7 @@ both (Err fault) (Err other) = Err (earlier_fault fault other)
 -- the records of a file, and what the given column of each has, or the fault of the first bad record
 abbrev pub records_and_given : Options → ℕ → List ℕ → Result (List Keyed × List (List ℕ)) Refusal
 records_and_given options given file =
-    both (records_of options file) (keys_of given options.header file)
+    both (records_of options file) (keys_of options.delimiter given options.header file)
 
 -- ---- the table
 -- the last of some fields

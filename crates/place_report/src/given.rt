@@ -85,8 +85,9 @@ fn read_both<R: Threads + Sync + RandomSource>(
     given: u32,
 ) -> Result<(FileRecords, FileKeys), Refusal>
     requires options { AreInRange options.now }
+    requires delimiter { file.now.delimiter ≡ options.now.delimiter }
     requires given { 1 ≤ given }
-    ensures answer { Answers (records_and_given options.now given file.now) (both_seen result) }
+    ensures answer { Answers (records_and_given options.now given file.now.bytes) (both_seen result) }
     ensures topics { IfOk result
         (λ read. AreOfTopics (partition_counts options.now) (records_in read.0)) }
     ensures len { IfOk result (λ read. length read.1 ≡ length (records_in read.0)) }
@@ -296,10 +297,11 @@ pub fn told_of_file<R: Threads + Sync + RandomSource>(
     given: u32,
 ) -> Result<Told, Refusal>
     requires options { AreInRange options.now }
+    requires delimiter { file.now.delimiter ≡ options.now.delimiter }
     requires given { 1 ≤ given }
-    ensures answer { Answers (report_of_given options.now given file.now) (text_told result) }
+    ensures answer { Answers (report_of_given options.now given file.now.bytes) (text_told result) }
     ensures misplaced { IfOk result
-        (λ told. told.misplaced ≡ has_misplaced options.now (Some given) file.now) }
+        (λ told. told.misplaced ≡ has_misplaced options.now (Some given) file.now.bytes) }
     ensures kind { IfErr result IsNoDeviceFault }
 {
     let (records, texts) = read_both(rt, alloc, file, options, given)?;

@@ -115,7 +115,11 @@ fn misplaced_of_file<R: Threads + Sync + RandomSource, S: Source>(
     ensures reads { S.failures file.new ≡ S.failures file.old + failed_reads result }
 {
     let count = pieces_for(rt, file.expected());
-    let blocks = Blocks::of(alloc, read_blocks(rt, alloc, file, count)?)?;
+    let blocks = Blocks::of(
+        alloc,
+        read_blocks(rt, alloc, file, count)?,
+        options.delimiter,
+    )?;
     let told = told_of_file(rt, alloc, &blocks, options, given);
     blocks.drop_parallel(rt);
     told

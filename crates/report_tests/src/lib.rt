@@ -56,6 +56,7 @@ pub fn options(alloc: Global, partitions: u32) -> Options
         partitions,
         column: Column::Number(1),
         header: false,
+        delimiter: b',',
         batch: 500,
         topics: Vec::new(alloc),
         topic_column: Column::Number(2),

@@ -66,6 +66,7 @@ fn options_of_batch(alloc: Global, batch: u32) -> Options
         partitions: 4,
         column: Column::Number(1),
         header: false,
+        delimiter: b',',
         batch,
         topics: Vec::new(alloc),
         topic_column: Column::Number(2),

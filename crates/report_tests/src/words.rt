@@ -521,8 +521,50 @@ fn columns_have_names_and_counts_a_top(rt: HostRuntime) {
     }
 }
 
+/// Arguments, with the delimiter that they ask for.
+const DELIMITERS: [(&[&str], u8); 9] = [
+    (&["count", "f"], b','),
+    (&["count", "f", "--delimiter", ";"], b';'),
+    (&["count", "--delimiter=tab", "f"], b'\t'),
+    (&["place", "f", "--delimiter", "\t"], b'\t'),
+    (&["replay", "f", "s", "--delimiter", "t"], b't'),
+    (&["trace", "f", "s", "--delimiter= "], b' '),
+    (&["draw", "f", "s", "--delimiter=|", "--header"], b'|'),
+    (&["run", "--delimiter", "\u{1}", "f", "p"], 1),
+    (&["run", "f", "p", "--delimiter=\u{7f}"], 127),
+];
+
+/// The delimiter that arguments ask for, if they ask for a job that reads a file.
+fn delimiter_of(alloc: Global, words: &[&str]) -> Option<u8> {
+    let answer = read_words(alloc, words);
+    match &answer {
+        Ok(job) => options_of(job).map(|options| options.delimiter),
+        Err(_) => None,
+    }
+}
+
+#[test]
+fn each_file_has_a_delimiter(rt: HostRuntime) {
+    for (i, (words, delimiter)) in DELIMITERS.iter().enumerate() {
+        assert_eq!(rt;
+            delimiter_of(rt.alloc(), words),
+            Some(*delimiter),
+            "case {i}"
+        );
+    }
+}
+
 /// Arguments that are not understood.
-const BAD: [&[&str]; 54] = [
+const BAD: [&[&str]; 63] = [
+    &["count", "f", "--delimiter", ""],
+    &["count", "f", "--delimiter", "\""],
+    &["count", "f", "--delimiter", "\n"],
+    &["count", "f", "--delimiter", "\r"],
+    &["count", "f", "--delimiter", ";;"],
+    &["count", "f", "--delimiter", "\u{e9}"],
+    &["count", "f", "--delimiter", "Tab"],
+    &["count", "f", "--delimiter", ";", "--delimiter", ";"],
+    &["explain", "--delimiter", ";"],
     &[],
     &["count"],
     &["count", "f", "g"],

@@ -9,7 +9,8 @@ use Rattle.clap.specs.declared.error.kind.ErrorKind.{ErrorKind}
 use Rattle.lane_words.specs.declared.limits.TheConstants.{MOST_PARTITIONS}
 use Rattle.clap.specs.declared.error.kind.ErrorKind.TheVariants as kind
 use Rattle.command_line.specs.Columns.{IsBadColumn}
-use Rattle.command_line.specs.CommandLine.{HasBadColumn, HasJob, IsRequest, bad_topics, name_of}
+use Rattle.command_line.specs.Delimiters.{IsBadDelimiter}
+use Rattle.command_line.specs.CommandLine.{HasBadColumn, HasBadDelimiter, HasJob, IsRequest, bad_topics, name_of}
 use Rattle.command_line.specs.Topics.{IsBadList}
 use Rattle.command_line.specs.declared.words.Job.{Job}
 use Rattle.command_line.specs.declared.words.Usage.{Usage}
@@ -88,10 +89,17 @@ ReportsBadColumn header value (Help text) = ⊥
 ReportsBadColumn header value (Bad text) = IsBadColumn header value
 ReportsBadColumn header value Memory = ⊤
 
--- an option is reported as not valid only where it is not: the list of topics, or then a column
+-- a value is reported as no delimiter only where it is none
+abbrev pub ReportsBadDelimiter : Option Text → Usage → Type 0
+ReportsBadDelimiter value (Help text) = ⊥
+ReportsBadDelimiter value (Bad text) = IsBadDelimiter value
+ReportsBadDelimiter value Memory = ⊤
+
+-- an option is reported as not valid only where it is not: the list of topics, or then a column or
+-- the delimiter
 abbrev pub ReportsBadOption : List Row → Usage → Type 0
 ReportsBadOption rows (Help text) = ⊥
 ReportsBadOption rows (Bad text) =
     (IsBadList (first_of (codes "topics") rows) × (string_bytes text ≡ bad_topics))
-    ⊎ HasBadColumn rows
+    ⊎ (HasBadColumn rows ⊎ HasBadDelimiter rows)
 ReportsBadOption rows Memory = ⊤

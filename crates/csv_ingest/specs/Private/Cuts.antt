@@ -1,12 +1,12 @@
 -- Where a file can be cut.
-use Rattle.std.specs.Prelude.{◌≡◌, ℕ, false, if◌then◌else◌, List, [], ◌∷◌}
+use Rattle.std.specs.Prelude.{ℕ, if◌then◌else◌, List, [], ◌∷◌}
 use Rattle.csv.specs.Reading.{is_bom}
-use Rattle.csv_ingest.specs.Stand.{in_quotes, stand_after}
+use Rattle.csv_ingest.specs.Stand.{EndsRecord}
 use Rattle.csv_ingest.specs.declared.stand.Stand.{Stand}
 
--- wherever a reader stood before these bytes, no quotes protect what comes behind them
-abbrev pub IsOutside : List ℕ → Type 0
-IsOutside bytes = (s : Stand) → in_quotes (stand_after s bytes) ≡ false
+-- wherever a reader stood before these bytes, a line feed behind them ends a record
+abbrev pub AlwaysEndsRecord : ℕ → List ℕ → Type 0
+AlwaysEndsRecord delimiter bytes = (s : Stand) → EndsRecord delimiter s bytes
 
 -- how many bytes a byte order mark takes at the start of a file
 unfoldable pub bom_length : List ℕ → ℕ

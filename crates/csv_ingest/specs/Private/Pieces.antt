@@ -21,31 +21,34 @@ IsWidthOf width rows =
     (first : Record) × (more : List Record) × (rows ≡ first ∷ more) × (width ≡ length first)
 
 -- the first piece has a record, and it has this many fields
-abbrev pub BeginWith : ℕ → List (List ℕ) → Type 0
-BeginWith width pieces = (0 < length pieces) × IsWidthOf width (file_records (slice_index_or pieces 0 []))
+abbrev pub BeginWith : ℕ → ℕ → List (List ℕ) → Type 0
+BeginWith delimiter width pieces =
+    (0 < length pieces) × IsWidthOf width (file_records delimiter (slice_index_or pieces 0 []))
 
 -- the first n pieces have no record
-abbrev pub HaveNoRecord : List (List ℕ) → ℕ → Type 0
-HaveNoRecord pieces n = (j : ℕ) → j < n → file_records (slice_index_or pieces j []) ≡ []
+abbrev pub HaveNoRecord : ℕ → List (List ℕ) → ℕ → Type 0
+HaveNoRecord delimiter pieces n =
+    (j : ℕ) → j < n → file_records delimiter (slice_index_or pieces j []) ≡ []
 
 -- the piece of index i is the first that has a record, and its first one has this many fields
-pub record IsBegun (pieces : List (List ℕ)) (i width : ℕ) : Type 0 where
+pub record IsBegun (delimiter : ℕ) (pieces : List (List ℕ)) (i width : ℕ) : Type 0 where
   pub within : i < length pieces
-  pub before : HaveNoRecord pieces i
-  pub first : IsWidthOf width (file_records (slice_index_or pieces i []))
+  pub before : HaveNoRecord delimiter pieces i
+  pub first : IsWidthOf width (file_records delimiter (slice_index_or pieces i []))
 
 -- the keys of the piece of index i: of the first those of a file, and of another those of a piece
-abbrev pub keys_in : Taking → Bool → ℕ → List (List ℕ) → ℕ → Result (List (List ℕ)) Refusal
-keys_in wanted header width pieces i =
-    if i == 0 then taken_of wanted header (slice_index_or pieces 0 [])
-    else piece_keys wanted width (slice_index_or pieces i [])
+abbrev pub keys_in : ℕ → Taking → Bool → ℕ → List (List ℕ) → ℕ
+    → Result (List (List ℕ)) Refusal
+keys_in delimiter wanted header width pieces i =
+    if i == 0 then taken_of delimiter wanted header (slice_index_or pieces 0 [])
+    else piece_keys delimiter wanted width (slice_index_or pieces i [])
 
 -- these are the answers of all pieces
-abbrev pub AnswerAll : Taking → Bool → ℕ → List (List ℕ)
+abbrev pub AnswerAll : ℕ → Taking → Bool → ℕ → List (List ℕ)
     → List (Result (List (List ℕ)) Refusal) → Type 0
-AnswerAll wanted header width pieces answers =
+AnswerAll delimiter wanted header width pieces answers =
     (i : ℕ) (d : Result (List (List ℕ)) Refusal) → i < length pieces
-    → Answers (keys_in wanted header width pieces i) (slice_index_or answers i d)
+    → Answers (keys_in delimiter wanted header width pieces i) (slice_index_or answers i d)
 
 -- how many of a file's records have no key
 abbrev pub without_key : Bool → ℕ

@@ -11,5 +11,5 @@ loop-i-preserved c j less =
       | no behind ↦
           let same : j ≡ c.loop-i.i = omega arith in
           let none = rw c.in_default.is at c.in_ok-width.ensures in
-          rw same (ap file_records (lent-at c.args.pieces.now c.loop-i.i _ c.loop-i-test.true) ∙ none)
+          rw same (ap (file_records c.args.delimiter) (lent-at c.args.pieces.now c.loop-i.i _ c.loop-i-test.true) ∙ none)
     ]

@@ -4,20 +4,20 @@ use Rattle.csv_ingest.proofs.Parts.{of-bytes, pieces-bytes}
 use Rattle.csv_ingest.proofs.apart.read_topic_keys_apart.Goals as goal
 
 pub keys_apart-requires-clause-pieces : goal.keys_apart-requires-clause-pieces
-keys_apart-requires-clause-pieces g c κs within = rw c.as_slice.ensures.value (of-bytes (lent c.in_ok-pieces.pieces.items) c.args.file.now c.in_ok-pieces.ensures)
+keys_apart-requires-clause-pieces g c κs within = rw (c.as_slice.ensures.value, c.delimiter.ensures) (of-bytes c.args.file.now.delimiter (lent c.in_ok-pieces.pieces.items) c.args.file.now.bytes c.in_ok-pieces.ensures)
 
 pub keys_apart-requires-clause-bound : goal.keys_apart-requires-clause-bound
 keys_apart-requires-clause-bound g c κs within =
-    let bytes : bytes_of (lent c.in_ok-pieces.pieces.items) ≡ c.args.file.now = pieces-bytes (lent c.in_ok-pieces.pieces.items) c.args.file.now c.in_ok-pieces.ensures in
+    let bytes : bytes_of (lent c.in_ok-pieces.pieces.items) ≡ c.args.file.now.bytes = pieces-bytes c.args.file.now.delimiter (lent c.in_ok-pieces.pieces.items) c.args.file.now.bytes c.in_ok-pieces.ensures in
     rw (c.as_slice.ensures.value, bytes) (omega (arith, c.len.ensures))
 
 pub returns-clause-keys : goal.returns-clause-keys
 returns-clause-keys g c =
-    let bytes : bytes_of (lent c.in_ok-pieces.pieces.items) ≡ c.args.file.now = pieces-bytes (lent c.in_ok-pieces.pieces.items) c.args.file.now c.in_ok-pieces.ensures in
-    rw c.of.ensures (rw (c.as_slice.ensures.value, bytes, c.topic_and_key-wanted.ensures) at c.in_ok-keys.ensures.keys)
+    let bytes : bytes_of (lent c.in_ok-pieces.pieces.items) ≡ c.args.file.now.bytes = pieces-bytes c.args.file.now.delimiter (lent c.in_ok-pieces.pieces.items) c.args.file.now.bytes c.in_ok-pieces.ensures in
+    rw c.of.ensures (rw (c.as_slice.ensures.value, c.delimiter.ensures, bytes, c.topic_and_key-wanted.ensures) at c.in_ok-keys.ensures.keys)
 
 pub returns-in_err-keys-clause-fault : goal.returns-in_err-keys-clause-fault
 returns-in_err-keys-clause-fault g c =
-    let bytes : bytes_of (lent c.in_ok-pieces.pieces.items) ≡ c.args.file.now = pieces-bytes (lent c.in_ok-pieces.pieces.items) c.args.file.now c.in_ok-pieces.ensures in
+    let bytes : bytes_of (lent c.in_ok-pieces.pieces.items) ≡ c.args.file.now.bytes = pieces-bytes c.args.file.now.delimiter (lent c.in_ok-pieces.pieces.items) c.args.file.now.bytes c.in_ok-pieces.ensures in
     let same : c.from_residual-in_err-keys.result ≡ Err c.in_err-keys.field-0.0 = search rules in
-    rw same (rw (c.as_slice.ensures.value, bytes, c.topic_and_key-wanted.ensures) at c.in_err-keys.ensures.fault)
+    rw same (rw (c.as_slice.ensures.value, c.delimiter.ensures, bytes, c.topic_and_key-wanted.ensures) at c.in_err-keys.ensures.fault)

@@ -15,8 +15,8 @@ returns c =
           let found = rw (c.as_slice.ensures.value, c.bytes.ensures) at w.in-Some.ensures.cut in
           let within = rw c.as_slice.ensures.value at w.in-Some.ensures.range in
           rw (w.all-is, w.in_ok-push-2.ensures.items, w.in_ok-push.ensures.items, w.in_ok-add.ensures, w.deref.ensures.value)
-          (block-cut pieces last block file w.in-Some.from c.requires within found.0 found.1)
+          (block-cut c.args.delimiter pieces last block file w.in-Some.from c.requires.pieces within found.0 found.1)
       | in_default+in_ok-add-2+in_ok-push-3 w ↦
           rw (w.all-is, w.in_ok-push-3.ensures.items, w.in_ok-add-2.ensures, w.as_slice-in_default.ensures.value)
-          (pieces-longer pieces last block file c.requires)
+          (pieces-longer c.args.delimiter pieces last block file c.requires.pieces)
     ]

@@ -7,7 +7,7 @@ use Rattle.csv_ingest.proofs.cuts.pieces_of.Goals as goal
 pub loop-piece-init : goal.loop-piece-init
 loop-piece-init c = record {
   within = omega arith;
-  pieces = rw c.new-found.ensures.items (one-piece c.args.file.now);
+  pieces = rw c.new-found.ensures.items (one-piece c.args.delimiter c.args.file.now);
 }
 
 pub overflow_add-cut : goal.overflow_add-cut
@@ -27,7 +27,7 @@ loop-piece-preserved c =
     record {
       within = rw (slice-end rest cut) (omega (arith, old, length-drop cut rest));
       pieces = rw (c.in_ok-push.ensures.items, lent-more c.loop-piece.found.items _, slice-end rest cut)
-          (next-cut (lent c.loop-piece.found.items) rest c.args.file.now aim c.in-Some.more c.loop-piece.invariant.pieces (rw next at c.in-Some.ensures.range) behind.0 behind.1);
+          (next-cut c.args.delimiter (lent c.loop-piece.found.items) rest c.args.file.now aim c.in-Some.more c.loop-piece.invariant.pieces (rw next at c.in-Some.ensures.range) behind.0 behind.1);
     }
 
 pub returns : goal.returns

@@ -6,5 +6,5 @@ use Rattle.csv_ingest.proofs.cuts.pieces_of.Given as goal
 abbrev pub invariant-loop-piece : goal.invariant-loop-piece
 invariant-loop-piece l = record {
   within : length l.rest ≤ length l.file;
-  pieces : ArePieces l.file (lent l.found.items ++ l.rest ∷ []);
+  pieces : ArePieces l.delimiter l.file (lent l.found.items ++ l.rest ∷ []);
 }

@@ -34,7 +34,7 @@ loop-answer-preserved c =
     let steps = c.in-Some.ensures.steps in
     let next = drop_next c.args.found.items (into_iter_items c.next.new.self) n c.in-Some.answer (sym c.loop-answer.invariant.rest ∙ steps.0) in
     let within : n < length pieces = omega (arith, next.0, c.requires.len, lent-long c.args.pieces.now) in
-    let piece = answer_ok (keys_in (taking c.args.wanted.now) c.args.header c.args.width pieces n) _ keys (c.requires.found n c.in-Some.answer within) (next.1 ∙ c.in-Ok.is) in
+    let piece = answer_ok (keys_in c.args.delimiter (taking c.args.wanted.now) c.args.header c.args.width pieces n) _ keys (c.requires.found n c.in-Some.answer within) (next.1 ∙ c.in-Ok.is) in
     let grown = c.in-Ok-push.ensures.items in
     let long : length (lists ++ keys ∷ []) ≡ n + 1 = length-append lists (keys ∷ []) in
     let more = count_more lists keys in
@@ -47,7 +47,7 @@ loop-answer-preserved c =
       rest = rw grown (next.2 ∙ ap (λ m. drop m c.args.found.items) (sym long));
       len = omega arith;
       count = rw grown (omega (arith, more, old, c.len.ensures));
-      left = λ some. rw grown (left-next (taking c.args.wanted.now) c.args.header c.args.width (bytes_of pieces) pieces n (length (lists ++ keys ∷ [])) lists keys c.requires.pieces c.requires.first
+      left = λ some. rw grown (left-next c.args.delimiter (taking c.args.wanted.now) c.args.header c.args.width (bytes_of pieces) pieces n (length (lists ++ keys ∷ [])) lists keys c.requires.pieces c.requires.first
           refl long within c.loop-answer.invariant.left piece);
     }
 
@@ -58,11 +58,11 @@ returns-then-is_empty-clause-fault c =
     let next = drop_next c.args.found.items (into_iter_items c.next.new.self) n c.in-Some.answer (sym c.loop-answer.invariant.rest ∙ c.in-Some.ensures.steps.0) in
     let within : n < length pieces = omega (arith, next.0, c.requires.len, lent-long c.args.pieces.now) in
     let none : n ≡ 0 = search rules in
-    elim (answer_err (keys_in (taking c.args.wanted.now) c.args.header c.args.width pieces n) _ c.in-Err.fault (c.requires.found n c.in-Some.answer within) (next.1 ∙ c.in-Err.is)) [
+    elim (answer_err (keys_in c.args.delimiter (taking c.args.wanted.now) c.args.header c.args.width pieces n) _ c.in-Err.fault (c.requires.found n c.in-Some.answer within) (next.1 ∙ c.in-Err.is)) [
       | inl memory ↦ inl memory
       | inr fault ↦
-          inr (left-first-fault (taking c.args.wanted.now) c.args.header c.args.width (bytes_of pieces) pieces c.in-Err.fault c.requires.pieces c.requires.first.0 c.requires.first.1
-          (sym (keys-first (taking c.args.wanted.now) c.args.header c.args.width pieces n none) ∙ fault))
+          inr (left-first-fault c.args.delimiter (taking c.args.wanted.now) c.args.header c.args.width (bytes_of pieces) pieces c.in-Err.fault c.requires.pieces c.requires.first.0 c.requires.first.1
+          (sym (keys-first c.args.delimiter (taking c.args.wanted.now) c.args.header c.args.width pieces n none) ∙ fault))
     ]
 
 pub returns-in-Err-clause-fault : goal.returns-in-Err-clause-fault
@@ -73,11 +73,11 @@ returns-in-Err-clause-fault c =
     let next = drop_next c.args.found.items (into_iter_items c.next.new.self) n c.in-Some.answer (sym c.loop-answer.invariant.rest ∙ c.in-Some.ensures.steps.0) in
     let within : n < length pieces = omega (arith, next.0, c.requires.len, lent-long c.args.pieces.now) in
     let some : 0 < n = search rules in
-    elim (answer_err (keys_in (taking c.args.wanted.now) c.args.header c.args.width pieces n) _ c.in-Err.fault (c.requires.found n c.in-Some.answer within) (next.1 ∙ c.in-Err.is)) [
+    elim (answer_err (keys_in c.args.delimiter (taking c.args.wanted.now) c.args.header c.args.width pieces n) _ c.in-Err.fault (c.requires.found n c.in-Some.answer within) (next.1 ∙ c.in-Err.is)) [
       | inl memory ↦ inl (c.later.ensures ∙ ap (later_fault c.loop-answer.count) memory)
       | inr fault ↦
-          let there = left-fault (taking c.args.wanted.now) c.args.header c.args.width (bytes_of pieces) pieces n lists c.in-Err.fault (c.loop-answer.invariant.left some) within
-          (sym (keys-other (taking c.args.wanted.now) c.args.header c.args.width pieces n some) ∙ fault) in
+          let there = left-fault c.args.delimiter (taking c.args.wanted.now) c.args.header c.args.width (bytes_of pieces) pieces n lists c.in-Err.fault (c.loop-answer.invariant.left some) within
+          (sym (keys-other c.args.delimiter (taking c.args.wanted.now) c.args.header c.args.width pieces n some) ∙ fault) in
           inr (there ∙ ap (λ m. Err (later_fault m c.in-Err.fault)) (sym c.loop-answer.invariant.count) ∙ ap Err (sym c.later.ensures))
     ]
 
@@ -91,14 +91,14 @@ later-requires c =
     let some : 0 < n = search rules in
     let count = c.loop-answer.invariant.count in
     let left = c.loop-answer.invariant.left some in
-    elim (answer_err (keys_in (taking c.args.wanted.now) c.args.header c.args.width pieces n) _ c.in-Err.fault (c.requires.found n c.in-Some.answer within) (next.1 ∙ c.in-Err.is)) [
+    elim (answer_err (keys_in c.args.delimiter (taking c.args.wanted.now) c.args.header c.args.width pieces n) _ c.in-Err.fault (c.requires.found n c.in-Some.answer within) (next.1 ∙ c.in-Err.is)) [
       | inl memory ↦
           let none : fault_number c.in-Err.fault ≡ 0 = ap fault_number memory in
-          let fits = left-count (taking c.args.wanted.now) c.args.header c.args.width (bytes_of pieces) pieces n lists left in
+          let fits = left-count c.args.delimiter (taking c.args.wanted.now) c.args.header c.args.width (bytes_of pieces) pieces n lists left in
           omega (arith, none, fits, count, c.requires.bound)
       | inr fault ↦
-          let fits = left-number (taking c.args.wanted.now) c.args.header c.args.width (bytes_of pieces) pieces n lists c.in-Err.fault left within
-          (sym (keys-other (taking c.args.wanted.now) c.args.header c.args.width pieces n some) ∙ fault) in
+          let fits = left-number c.args.delimiter (taking c.args.wanted.now) c.args.header c.args.width (bytes_of pieces) pieces n lists c.in-Err.fault left within
+          (sym (keys-other c.args.delimiter (taking c.args.wanted.now) c.args.header c.args.width pieces n some) ∙ fault) in
           omega (arith, fits, count, c.requires.bound)
     ]
 
@@ -110,9 +110,9 @@ overflow_add-count c =
     let pieces = lent c.args.pieces.now in
     let next = drop_next c.args.found.items (into_iter_items c.next.new.self) n c.in-Some.answer (sym c.loop-answer.invariant.rest ∙ c.in-Some.ensures.steps.0) in
     let within : n < length pieces = omega (arith, next.0, c.requires.len, lent-long c.args.pieces.now) in
-    let piece = answer_ok (keys_in (taking c.args.wanted.now) c.args.header c.args.width pieces n) _ keys (c.requires.found n c.in-Some.answer within) (next.1 ∙ c.in-Ok.is) in
-    let left = left-next (taking c.args.wanted.now) c.args.header c.args.width (bytes_of pieces) pieces n (n + 1) lists keys c.requires.pieces c.requires.first refl refl within c.loop-answer.invariant.left piece in
-    let fits = left-count (taking c.args.wanted.now) c.args.header c.args.width (bytes_of pieces) pieces (n + 1) (lists ++ keys ∷ []) left in
+    let piece = answer_ok (keys_in c.args.delimiter (taking c.args.wanted.now) c.args.header c.args.width pieces n) _ keys (c.requires.found n c.in-Some.answer within) (next.1 ∙ c.in-Ok.is) in
+    let left = left-next c.args.delimiter (taking c.args.wanted.now) c.args.header c.args.width (bytes_of pieces) pieces n (n + 1) lists keys c.requires.pieces c.requires.first refl refl within c.loop-answer.invariant.left piece in
+    let fits = left-count c.args.delimiter (taking c.args.wanted.now) c.args.header c.args.width (bytes_of pieces) pieces (n + 1) (lists ++ keys ∷ []) left in
     let more = count_more lists keys in
     let old = c.loop-answer.invariant.count in
     omega (arith, fits, more, old, c.len.ensures, c.requires.bound)
@@ -125,4 +125,4 @@ returns-clause-keys c =
     let all = drop_last c.args.found.items (length lists) (omega (arith, c.loop-answer.invariant.within, c.requires.len)) none in
     let same : length lists ≡ length pieces = omega (arith, all, c.requires.len, lent-long c.args.pieces.now) in
     let some : 0 < length lists = omega (arith, same, c.requires.first.0) in
-    left-all (taking c.args.wanted.now) c.args.header c.args.width (bytes_of pieces) pieces (length lists) lists (c.loop-answer.invariant.left some) same
+    left-all c.args.delimiter (taking c.args.wanted.now) c.args.header c.args.width (bytes_of pieces) pieces (length lists) lists (c.loop-answer.invariant.left some) same

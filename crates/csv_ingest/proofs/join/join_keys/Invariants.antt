@@ -12,5 +12,5 @@ invariant-loop-answer l = record {
   rest : into_iter_items l.answer-iterator ≡ drop (length l.lists.items) l.fn.found.items;
   len : into_iter_len l.answer-iterator ≡ length (into_iter_items l.answer-iterator);
   count : l.count ≡ without_key l.header + length (all_keys l.lists.items);
-  left : 0 < length l.lists.items → Left (taking l.wanted) l.header l.width (bytes_of (lent l.pieces)) (lent l.pieces) (length l.lists.items) l.lists.items;
+  left : 0 < length l.lists.items → Left l.delimiter (taking l.wanted) l.header l.width (bytes_of (lent l.pieces)) (lent l.pieces) (length l.lists.items) l.lists.items;
 }

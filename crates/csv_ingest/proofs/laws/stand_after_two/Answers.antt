@@ -2,4 +2,4 @@ use Rattle.csv_ingest.proofs.Stands.{stand-append}
 use Rattle.csv_ingest.proofs.laws.stand_after_two.Goals as goal
 
 pub returns : goal.returns
-returns c = λ s a b. stand-append a s b
+returns c = λ delimiter s a b. stand-append delimiter a s b

@@ -5,5 +5,5 @@ use Rattle.csv_ingest.proofs.scan.bare_end.Given as goal
 
 abbrev pub invariant-loop-i : goal.invariant-loop-i
 invariant-loop-i l = record {
-  goes : Goes st.InField st.InField l.text l.at l.i (slice_range l.text l.at l.i);
+  goes : Goes l.ends st.InField st.InField l.text l.at l.i (slice_range l.text l.at l.i);
 }

@@ -8,7 +8,7 @@ invariant-loop-at l = record {
   turns : l.nth ≤ length l.keys + 1;
   count : l.row.count ≤ l.at;
   far : l.at ≤ length l.text + 1;
-  reads : Reads l.text l.column l.width l.keys l.nth l.row l.at;
+  reads : Reads l.delimiter l.text l.column l.width l.keys l.nth l.row l.at;
 }
 
 abbrev pub decreases-loop-at : goal.decreases-loop-at

@@ -17,14 +17,14 @@ returns-then-is_quoted c =
     elim c.then-is_quoted.branch [
       | then-is_quoted-via-then-is_quoted w ↦
           let there = quoted_is c.args.from (sym c.is_quoted.ensures ∙ w.if-is_quoted.true) in
-          rw there (sym (plain-quoted c.args.bytes.now c.requires))
+          rw there (sym (plain-quoted c.args.delimiter c.args.bytes.now c.requires.unquoted))
       | then-is_quoted-via-else-is_quoted+then-is_empty w ↦
           let none : length c.args.bytes.now ≡ 0 = search rules in
-          sym (plain-none c.args.bytes.now c.args.from none)
+          sym (plain-none c.args.delimiter c.args.bytes.now c.args.from none)
     ]
 
 pub returns : goal.returns
 returns c =
     let some : 0 < length c.args.bytes.now = search rules in
     let outside : in_quotes c.args.from ≡ false = sym c.is_quoted.ensures ∙ c.if-is_quoted.false in
-    c.after_unquoted.ensures ∙ sym (plain-last c.args.bytes.now c.args.from c.requires outside some)
+    c.after_unquoted.ensures ∙ sym (plain-last c.args.delimiter c.args.bytes.now c.args.from c.requires.delimiter c.requires.unquoted outside some)

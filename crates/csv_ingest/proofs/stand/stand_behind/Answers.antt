@@ -6,8 +6,8 @@ use Rattle.csv_ingest.specs.Stand.{stand_after, stand_next}
 use Rattle.csv_ingest.proofs.Cutting.{lacks, stand-run, take_all}
 use Rattle.csv_ingest.proofs.stand.stand_behind.Goals as goal
 
-pub plain_behind-there-requires : goal.plain_behind-there-requires
-plain_behind-there-requires c = lacks c.runs.rest.now c.in-Some.at (omega (arith, c.in-Some.ensures.0.high)) c.in-Some.ensures.0.before
+pub plain_behind-there-requires-clause-unquoted : goal.plain_behind-there-requires-clause-unquoted
+plain_behind-there-requires-clause-unquoted c = lacks c.runs.rest.now c.in-Some.at (omega (arith, c.in-Some.ensures.0.high)) c.in-Some.ensures.0.before
 
 pub runs-preserved : goal.runs-preserved
 runs-preserved c =
@@ -19,11 +19,11 @@ runs-preserved c =
     rw (slice-end rest (at + 1))
     record {
       within = omega arith;
-      same = c.runs.invariant.same ∙ stand-run c.runs.stand rest at c.in-Some.ensures.0.high quote
-          ∙ ap (λ s. stand_after (stand_next s 34) (drop (at + 1) rest)) (sym c.plain_behind-there.ensures)
-          ∙ ap (λ s. stand_after s (drop (at + 1) rest)) (sym c.next-stand.ensures);
+      same = c.runs.invariant.same ∙ stand-run c.args.delimiter c.runs.stand rest at c.in-Some.ensures.0.high quote
+          ∙ ap (λ s. stand_after c.args.delimiter (stand_next c.args.delimiter s 34) (drop (at + 1) rest)) (sym c.plain_behind-there.ensures)
+          ∙ ap (λ s. stand_after c.args.delimiter s (drop (at + 1) rest)) (sym c.next-stand.ensures);
     }
 
-pub plain_behind-requires : goal.plain_behind-requires
-plain_behind-requires c =
+pub plain_behind-requires-clause-unquoted : goal.plain_behind-requires-clause-unquoted
+plain_behind-requires-clause-unquoted c =
     subst (All (λ b. b ≢ 34)) (take_all c.runs.rest.now) (lacks c.runs.rest.now (length c.runs.rest.now) (omega arith) c.in_default.ensures)

@@ -5,7 +5,7 @@ use Rattle.csv_ingest.proofs.stand.stand_behind.Given as goal
 abbrev pub invariant-runs : goal.invariant-runs
 invariant-runs l = record {
   within : length l.rest ≤ length l.fn.bytes;
-  same : stand_after l.fn.from l.fn.bytes ≡ stand_after l.stand l.rest;
+  same : stand_after l.delimiter l.fn.from l.fn.bytes ≡ stand_after l.delimiter l.stand l.rest;
 }
 
 abbrev pub decreases-runs : goal.decreases-runs

@@ -5,5 +5,6 @@ use Rattle.csv_ingest.proofs.blocks.Blocks.of.Given as goal
 abbrev pub invariant-loop-block : goal.invariant-loop-block
 invariant-loop-block l = record {
   len : into_iter_len l.block-iterator ≡ length (into_iter_items l.block-iterator);
-  all : l.file ++ flat_map vec_items (into_iter_items l.block-iterator) ≡ flat_map vec_items l.fn.blocks.items;
+  delimiter : l.file.delimiter ≡ l.fn.delimiter;
+  all : l.file.bytes ++ flat_map vec_items (into_iter_items l.block-iterator) ≡ flat_map vec_items l.fn.blocks.items;
 }

@@ -9,8 +9,8 @@ returns-then-text-at-eq34-clause-field c =
     let new = record old { key = c.read_quoted.new.key } in
     ok-then c.read_quoted.result _ _
     (λ end reads.
-    row-whole text c.args.at end c.args.column old new
-    (field-in-quotes text c.args.at end (old.count == c.args.column) old.key.items new.key.items c.requires c.if-text-at-eq34.true reads) refl)
+    row-whole c.args.ends.now text c.args.at end c.args.column old new
+    (field-in-quotes c.args.ends.now text c.args.at end (old.count == c.args.column) old.key.items new.key.items c.requires c.if-text-at-eq34.true reads) refl)
     c.read_quoted.ensures
 
 pub returns-else-text-at-eq34-clause-field : goal.returns-else-text-at-eq34-clause-field
@@ -20,6 +20,6 @@ returns-else-text-at-eq34-clause-field c =
     let new = record old { key = c.read_bare.new.key } in
     ok-then c.read_bare.result _ _
     (λ end reads.
-    row-whole text c.args.at end c.args.column old new
-    (field-without text c.args.at end (old.count == c.args.column) old.key.items new.key.items c.requires c.if-text-at-eq34.false reads) refl)
+    row-whole c.args.ends.now text c.args.at end c.args.column old new
+    (field-without c.args.ends.now text c.args.at end (old.count == c.args.column) old.key.items new.key.items c.requires c.if-text-at-eq34.false reads) refl)
     c.read_bare.ensures
