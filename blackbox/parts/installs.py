@@ -15,6 +15,11 @@ PLACES = {"bin/keycount": "release/keycount", "share/man/man1/keycount.1": "man/
           "share/zsh/site-functions/_keycount": "completions/_keycount",
           "share/fish/vendor_completions.d/keycount.fish": "completions/keycount.fish"}
 
+# What the package has besides.
+LIBRARY = {"lib/x86_64-linux-gnu/libkeycount.so.1", "lib/x86_64-linux-gnu/libkeycount.a", "include/keycount.h",
+           "lib/python3/dist-packages/keycount.py"}
+LINKS = {"lib/x86_64-linux-gnu/libkeycount.so -> libkeycount.so.1"}
+
 
 def called(script: str, *words: str, **environment: str) -> tuple[str, str, int]:
     """What a script prints, and its status."""
@@ -55,7 +60,7 @@ def install_faults() -> Iterator[str]:
 
 
 def package_faults() -> Iterator[str]:
-    """The package has the files that are installed, belongs to root, and has the same bytes each time."""
+    """The package has the files that are installed and the library, belongs to root, and has the same bytes each time."""
     with tempfile.TemporaryDirectory() as folder:
         packages = []
         for nth in (1, 2):
@@ -69,7 +74,7 @@ def package_faults() -> Iterator[str]:
         shown = subprocess.run(["dpkg-deb", "-c", packages[0]], stdout=subprocess.PIPE, text=True, check=True).stdout
         rows = [line.split(maxsplit=5) for line in shown.splitlines()]
         listed = {row[5] for row in rows if row[0][0] != "d"}
-        if listed != {f"./usr/{place}" for place in PLACES} or {row[1] for row in rows} != {"root/root"}:
+        if listed != {f"./usr/{place}" for place in PLACES.keys() | LIBRARY | LINKS} or {row[1] for row in rows} != {"root/root"}:
             yield f"it has {shown}"
         versions = re.findall(rb"\bGLIBC_(\d+)\.(\d+)", (TOP / "release/keycount").read_bytes())
         if max((int(major), int(minor)) for major, minor in versions) > (2, 34):
