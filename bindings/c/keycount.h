@@ -26,6 +26,11 @@ typedef struct keycount_cluster {
     void *at;
 } keycount_cluster;
 
+/* A consumer: what one member holds, how far it has read, and what it has not committed. */
+typedef struct keycount_consumer {
+    void *at;
+} keycount_consumer;
+
 #define KEYCOUNT_NONE {NULL}
 
 /* Why a call was not done. 1 to 33 and 90 are those of `keycount explain`. */
@@ -45,6 +50,8 @@ enum keycount_answer {
     KEYCOUNT_PAST_END = 12,             /* the commit ends past the end of its log */
     KEYCOUNT_WRONG_RECORDS = 13,        /* the commit's records are not those of its log */
     KEYCOUNT_EMPTY_COMMIT = 14,         /* the commit has no records */
+    KEYCOUNT_NOT_HELD = 15,             /* the consumer does not hold the partition */
+    KEYCOUNT_OUT_OF_GROUP = 16,         /* the consumer is out of the group */
     KEYCOUNT_KEY_TOO_LONG = 20,         /* the key is longer than 65535 bytes */
     KEYCOUNT_LOG_FULL = 21,             /* the log is full, or no number is left for a new key */
     KEYCOUNT_GENERATIONS_OVER = 31,     /* the group has had its last generation */
@@ -177,6 +184,47 @@ uint32_t keycount_cluster_read(keycount_cluster *cluster, uint32_t partition, ui
 uint32_t keycount_cluster_key(keycount_cluster *cluster, uint32_t number, uint8_t *key,
                               size_t room, size_t *count);
 uint32_t keycount_cluster_count(keycount_cluster *cluster, uint32_t number, uint64_t *count);
+
+/* ---- a consumer: each may return 101 --------------------------------------------------------- */
+
+/* Puts a consumer of 1 to 4096 partitions, out of the group, behind an empty handle. 90, 102, 103 */
+uint32_t keycount_consumer_new(keycount_consumer *consumer, uint32_t partitions);
+uint32_t keycount_consumer_free(keycount_consumer *consumer);
+
+/* It has joined as this member, and holds nothing; or it drops everything and is out of the group. */
+uint32_t keycount_consumer_joined(keycount_consumer *consumer, uint32_t member);
+uint32_t keycount_consumer_drop_all(keycount_consumer *consumer);
+
+/* It takes its lease: partitions that are new to it are read from their committed offsets on. 103 if
+ * the cluster has another number of partitions. 1, 3, 16, 90, 103 */
+uint32_t keycount_consumer_sync(keycount_consumer *consumer, keycount_cluster *cluster);
+
+/* It rejoins with the partitions of its lease and drops all others. As keycount_cluster_rejoin; 16 */
+uint32_t keycount_consumer_rejoin(keycount_consumer *consumer, keycount_cluster *cluster);
+
+/* It reads at most `most` records of a partition: `count` of them, from the offset `from` on. 103 if
+ * it is not a consumer of this cluster. 15, 16, 103 */
+uint32_t keycount_consumer_poll(keycount_consumer *consumer, keycount_cluster *cluster,
+                                uint32_t partition, uint32_t most, uint32_t *from,
+                                uint32_t *count);
+
+/* What it has read of a partition and not committed: the records from one offset up to another, to
+ * be committed as this member in this generation. 14, 15, 16 */
+uint32_t keycount_consumer_pending(keycount_consumer *consumer, uint32_t partition,
+                                   uint32_t *member, uint32_t *generation, uint32_t *from,
+                                   uint32_t *to);
+
+/* It takes the reply to a commit of a partition: what the commit returned, and wrote. */
+uint32_t keycount_consumer_answered(keycount_consumer *consumer, uint32_t partition,
+                                    uint32_t answer, uint32_t committed);
+
+/* Its member number, or 0 if it is out of the group; of a partition, the offset below which it knows
+ * the records to be committed, and that of the next record that it reads; 0 if it is not held. */
+uint32_t keycount_consumer_member(keycount_consumer *consumer, uint32_t *member);
+uint32_t keycount_consumer_base(keycount_consumer *consumer, uint32_t partition,
+                                uint32_t *offset);
+uint32_t keycount_consumer_position(keycount_consumer *consumer, uint32_t partition,
+                                    uint32_t *offset);
 
 /* ---- where keys go: no handle is needed ------------------------------------------------------ */
 

@@ -270,6 +270,68 @@ static void a_commit_counts_once(void) {
     EXPECT(keycount_cluster_free(&c) == KEYCOUNT_DONE);
 }
 
+/* A consumer reads, commits, is told of a mismatch, and is out when it is lost. */
+static void a_consumer_follows_its_group(void) {
+    keycount_cluster c = KEYCOUNT_NONE;
+    keycount_consumer m = KEYCOUNT_NONE;
+    uint32_t member, partition, offset, generation, from, to, count, out, keys[4];
+    size_t n;
+    EXPECT(keycount_consumer_free(&m) == KEYCOUNT_NO_VALUE);
+    EXPECT(keycount_consumer_joined(&m, 1) == KEYCOUNT_NO_VALUE);
+    EXPECT(keycount_consumer_sync(&m, &c) == KEYCOUNT_NO_VALUE);
+    EXPECT(keycount_consumer_new(&m, 0) == KEYCOUNT_BAD_ARGUMENT);
+    EXPECT(keycount_consumer_new(&m, 4097) == KEYCOUNT_BAD_ARGUMENT);
+    EXPECT(keycount_consumer_new(&m, 3) == KEYCOUNT_DONE);
+    EXPECT(keycount_consumer_new(&m, 4) == KEYCOUNT_HAS_VALUE);
+    EXPECT(keycount_consumer_sync(&m, &c) == KEYCOUNT_NO_VALUE);
+    EXPECT(keycount_cluster_new(&c, &four, 1, seed, 32) == KEYCOUNT_DONE);
+    EXPECT(keycount_consumer_sync(&m, &c) == KEYCOUNT_BAD_ARGUMENT);
+    EXPECT(keycount_consumer_poll(&m, &c, 0, 1, &from, &count) == KEYCOUNT_BAD_ARGUMENT);
+    EXPECT(keycount_consumer_free(&m) == KEYCOUNT_DONE);
+    EXPECT(keycount_consumer_new(&m, 4) == KEYCOUNT_DONE);
+    EXPECT(keycount_consumer_sync(&m, &c) == KEYCOUNT_OUT_OF_GROUP);
+    EXPECT(keycount_consumer_rejoin(&m, &c) == KEYCOUNT_OUT_OF_GROUP);
+    EXPECT(keycount_consumer_poll(&m, &c, 2, 2, &from, &count) == KEYCOUNT_OUT_OF_GROUP);
+
+    for (int i = 0; i < 3; i++)
+        EXPECT(keycount_cluster_append(&c, 0, TEXT("foobar"), &partition, &offset)
+               == KEYCOUNT_DONE);
+    EXPECT(keycount_cluster_join(&c, TEXT("A"), &member) == KEYCOUNT_DONE);
+    EXPECT(keycount_consumer_joined(&m, member) == KEYCOUNT_DONE);
+    EXPECT(keycount_consumer_member(&m, &out) == KEYCOUNT_DONE && out == member);
+    EXPECT(keycount_consumer_poll(&m, &c, 2, 2, &from, &count) == KEYCOUNT_NOT_HELD);
+    EXPECT(keycount_consumer_sync(&m, &c) == KEYCOUNT_DONE);
+    EXPECT(keycount_consumer_rejoin(&m, &c) == KEYCOUNT_NOTHING_TO_GIVE);
+    EXPECT(keycount_consumer_pending(&m, 2, &out, &generation, &from, &to)
+           == KEYCOUNT_EMPTY_COMMIT);
+    EXPECT(keycount_consumer_poll(&m, &c, 2, 2, &from, &count) == KEYCOUNT_DONE);
+    EXPECT(from == 0 && count == 2);
+    EXPECT(keycount_consumer_poll(&m, &c, 2, 2, &from, &count) == KEYCOUNT_DONE);
+    EXPECT(from == 2 && count == 1);
+    EXPECT(keycount_consumer_pending(&m, 2, &out, &generation, &from, &to) == KEYCOUNT_DONE);
+    EXPECT(out == member && generation == 1 && from == 0 && to == 3);
+    EXPECT(keycount_consumer_base(&m, 2, &out) == KEYCOUNT_DONE && out == 0);
+    EXPECT(keycount_consumer_position(&m, 2, &out) == KEYCOUNT_DONE && out == 3);
+
+    /* The reply to the first commit is lost; that to the second tells of it. */
+    EXPECT(keycount_cluster_read(&c, 2, from, keys, to - from, &n) == KEYCOUNT_DONE && n == 3);
+    EXPECT(keycount_cluster_commit(&c, member, 1, 2, 0, keys, 3, &out) == KEYCOUNT_DONE);
+    uint32_t answer = keycount_cluster_commit(&c, member, 1, 2, 0, keys, 3, &out);
+    EXPECT(answer == KEYCOUNT_OFFSET_MISMATCH);
+    EXPECT(keycount_consumer_answered(&m, 2, answer, out) == KEYCOUNT_DONE);
+    EXPECT(keycount_consumer_base(&m, 2, &out) == KEYCOUNT_DONE && out == 3);
+    EXPECT(keycount_consumer_pending(&m, 2, &out, &generation, &from, &to)
+           == KEYCOUNT_EMPTY_COMMIT);
+
+    EXPECT(keycount_cluster_lose(&c, member) == KEYCOUNT_DONE);
+    EXPECT(keycount_consumer_sync(&m, &c) == KEYCOUNT_UNKNOWN_MEMBER);
+    EXPECT(keycount_consumer_answered(&m, 2, KEYCOUNT_UNKNOWN_MEMBER, 0) == KEYCOUNT_DONE);
+    EXPECT(keycount_consumer_member(&m, &out) == KEYCOUNT_DONE && out == 0);
+    EXPECT(keycount_consumer_drop_all(&m) == KEYCOUNT_DONE);
+    EXPECT(keycount_consumer_free(&m) == KEYCOUNT_DONE);
+    EXPECT(keycount_cluster_free(&c) == KEYCOUNT_DONE);
+}
+
 /* The hashes are of Kafka's own tests. */
 static void keys_have_their_places(void) {
     uint32_t partition = 77;
@@ -303,5 +365,6 @@ int main(void) {
     partitions_move_when_they_are_given_up();
     a_static_member_comes_back();
     a_commit_counts_once();
+    a_consumer_follows_its_group();
     return 0;
 }

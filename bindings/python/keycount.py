@@ -24,9 +24,9 @@ import threading
 from typing import Dict, Iterable, List, NamedTuple, Optional, Sequence, Set, Tuple, Union
 
 __all__ = [
-    "Cluster", "Lease", "Move", "Step", "Phase", "Refusal", "AlreadyJoined", "ClaimDiffers", "Closed",
-    "EmptyCommit", "GenerationsOver", "KeyTooLong", "LogFull", "NameUsed", "NotKept", "NotOwner",
-    "NothingToGive", "OffsetMismatch", "PastEnd", "RebalanceInProgress", "StaleGeneration",
+    "Cluster", "Consumer", "Lease", "Move", "Step", "Phase", "Refusal", "AlreadyJoined", "ClaimDiffers", "Closed",
+    "EmptyCommit", "GenerationsOver", "KeyTooLong", "LogFull", "NameUsed", "NotKept", "NotHeld", "NotOwner",
+    "NothingToGive", "OutOfGroup", "OffsetMismatch", "PastEnd", "RebalanceInProgress", "StaleGeneration",
     "SyncFirst", "TooManyMembers", "UnknownMember", "WrongRecords", "murmur2", "place",
     "place_all",
 ]
@@ -75,12 +75,29 @@ _CALLS = {
 }
 
 
+_CONSUMER_CALLS = {
+    "new": [_U32],
+    "free": [],
+    "joined": [_U32],
+    "drop_all": [],
+    "sync": [_HANDLE],
+    "rejoin": [_HANDLE],
+    "poll": [_HANDLE, _U32, _U32, _U32S, _U32S],
+    "pending": [_U32, _U32S, _U32S, _U32S, _U32S],
+    "answered": [_U32, _U32, _U32],
+    "member": [_U32S],
+    "base": [_U32, _U32S],
+    "position": [_U32, _U32S],
+}
+
+
 def _load() -> ctypes.CDLL:
     lib = ctypes.CDLL(os.environ.get("KEYCOUNT_LIBRARY", "libkeycount.so.1"))
-    for name, types in _CALLS.items():
-        call = getattr(lib, "keycount_cluster_" + name)
-        call.argtypes = [_HANDLE, *types]
-        call.restype = _U32
+    for kind, calls in ("cluster", _CALLS), ("consumer", _CONSUMER_CALLS):
+        for name, types in calls.items():
+            call = getattr(lib, f"keycount_{kind}_{name}")
+            call.argtypes = [_HANDLE, *types]
+            call.restype = _U32
     lib.keycount_murmur2.argtypes = [_U8S, _SIZE]
     lib.keycount_place.argtypes = [_U32, _U8S, _SIZE, _U32S]
     lib.keycount_place_all.argtypes = [_U32, _U8S, _SIZE, _COUNT, _SIZE, _U32S, _SIZE]
@@ -184,6 +201,18 @@ class EmptyCommit(Refusal):
     """The commit has no records."""
 
     code = 14
+
+
+class NotHeld(Refusal):
+    """The consumer does not hold the partition."""
+
+    code = 15
+
+
+class OutOfGroup(Refusal):
+    """The consumer is out of the group."""
+
+    code = 16
 
 
 class KeyTooLong(Refusal):
@@ -483,6 +512,105 @@ class Cluster:
                 _raise(answer)
                 return items[: count.value]
             room = count.value
+
+
+class Consumer:
+    """One member of a cluster: what it holds, how far it has read, and what it has not committed.
+
+    It follows its group by `step`, reads by `poll`, and commits by `commit`. One thread at a time
+    uses it; several consumers, each in its thread, may share a cluster.
+    """
+
+    def __init__(self, cluster: Cluster):
+        self._cluster = cluster
+        self._handle = _Handle()
+        self._call("new", cluster.partitions())
+
+    def join(self, name: str, static: bool = False) -> int:
+        """Joins the cluster, as `Cluster.join`, and holds nothing yet."""
+        member = self._cluster.join(name, static)
+        self._call("joined", member)
+        return member
+
+    def step(self) -> int:
+        """Does what the group asks of it, which is returned: it syncs, rejoins, or reads on. Before
+        it rejoins, commit what is to be kept: it drops what it gives up. OutOfGroup, and what
+        `Cluster.sync` and `Cluster.rejoin` raise."""
+        step = self._cluster.next_step(self.member() or 0)
+        if step != Step.READ:
+            with self._cluster._lock:
+                answer = getattr(_lib, "keycount_consumer_" + ("sync", "rejoin")[step])(
+                    self._handle, self._cluster._handle)
+            _raise(answer)
+        return step
+
+    def poll(self, partition: int, most: int = 1000) -> List[int]:
+        """Reads at most `most` records of a partition, as key numbers. They are then pending.
+        NotHeld, OutOfGroup."""
+        offset, count = _U32(), _U32()
+        with self._cluster._lock:
+            answer = _lib.keycount_consumer_poll(self._handle, self._cluster._handle,
+                                                 _number(partition), _number(most), offset, count)
+        _raise(answer)
+        return self._cluster.read(partition, offset.value, count.value)
+
+    def pending(self, partition: int) -> Tuple[int, int, int, List[int]]:
+        """The commit of all pending records of a partition: its member, its generation, the offset
+        from which its records are, and their key numbers. EmptyCommit, NotHeld, OutOfGroup."""
+        member, generation, start, end = _U32(), _U32(), _U32(), _U32()
+        self._call("pending", _number(partition), member, generation, start, end)
+        keys = self._cluster.read(partition, start.value, end.value - start.value)
+        return member.value, generation.value, start.value, keys
+
+    def commit(self, partition: int) -> int:
+        """Commits all pending records of a partition, and takes the reply. Returns the committed
+        offset. EmptyCommit, NotHeld, OutOfGroup, and what `Cluster.commit` raises."""
+        member, generation, start, keys = self.pending(partition)
+        try:
+            committed = self._cluster.commit(member, generation, partition, start, keys)
+        except OffsetMismatch as mismatch:
+            self.answered(partition, mismatch.code, mismatch.committed)
+            raise
+        except Refusal as refusal:
+            self.answered(partition, refusal.code)
+            raise
+        self.answered(partition, 0, committed)
+        return committed
+
+    def answered(self, partition: int, code: int, committed: int = 0) -> None:
+        """Takes the reply to a commit of a partition: 0 or the refusal's code, and the committed
+        offset."""
+        self._call("answered", _number(partition), _number(code), _number(committed))
+
+    def leave(self) -> None:
+        """Leaves the cluster, and drops everything. UnknownMember."""
+        self._cluster.leave(self.member() or 0)
+        self._call("drop_all")
+
+    def member(self) -> Optional[int]:
+        """Its member number, unless it is out of the group."""
+        member = _U32()
+        self._call("member", member)
+        return member.value or None
+
+    def base(self, partition: int) -> int:
+        """The offset below which it knows the records of a partition to be committed."""
+        offset = _U32()
+        self._call("base", _number(partition), offset)
+        return offset.value
+
+    def position(self, partition: int) -> int:
+        """The offset of the next record of a partition that it reads."""
+        offset = _U32()
+        self._call("position", _number(partition), offset)
+        return offset.value
+
+    def _call(self, name: str, *args: object) -> None:
+        _raise(getattr(_lib, "keycount_consumer_" + name)(self._handle, *args))
+
+    def __del__(self) -> None:
+        if hasattr(self, "_handle"):
+            _lib.keycount_consumer_free(self._handle)
 
 
 def _raise(answer: int) -> None:

@@ -4,7 +4,7 @@ import gc
 import unittest
 
 import keycount
-from keycount import Cluster, Phase, Step
+from keycount import Cluster, Consumer, Phase, Step
 
 
 class Calls(unittest.TestCase):
@@ -87,6 +87,41 @@ class Calls(unittest.TestCase):
                 c.commit(a, g, 2, 0, [0, 0])
             self.assertEqual(caught.exception.committed, 2)
             self.assertEqual((c.committed(2), c.counts()), (2, {b"foobar": 2}))
+
+    def test_a_consumer_follows_its_group(self):
+        with Cluster(partitions=4) as c:
+            for _ in range(3):
+                c.append(b"foobar")
+            a = Consumer(c)
+            with self.assertRaises(keycount.OutOfGroup):
+                a.poll(2)
+            member = a.join("A")
+            self.assertEqual((a.member(), a.step(), a.step()), (member, Step.SYNC, Step.READ))
+            with self.assertRaises(keycount.EmptyCommit):
+                a.commit(2)
+            self.assertEqual((a.poll(2, most=2), a.base(2), a.position(2)), ([0, 0], 0, 2))
+            self.assertEqual(a.commit(2), 2)
+            # Somebody else commits in its name: it is told so, and goes on from there.
+            self.assertEqual(a.poll(2), [0])
+            c.commit(*a.pending(2)[:2], 2, *a.pending(2)[2:])
+            with self.assertRaises(keycount.OffsetMismatch):
+                a.commit(2)
+            self.assertEqual((a.base(2), c.counts()), (3, {b"foobar": 3}))
+            # Half of its partitions go to another.
+            b = Consumer(c)
+            b.join("B")
+            while not c.is_settled():
+                a.step(), b.step()
+            self.assertEqual((c.granted(member), c.granted(b.member())), ({0, 1}, {2, 3}))
+            with self.assertRaises(keycount.NotHeld):
+                a.poll(2)
+            b.step()
+            self.assertEqual((b.position(2), b.poll(2)), (3, []))
+            c.lose(member)
+            with self.assertRaises(keycount.UnknownMember):
+                a.step()
+            b.leave()
+            self.assertEqual((b.member(), c.members()), (None, []))
 
     def test_refusals_have_their_names(self):
         with Cluster(partitions=4) as c:

@@ -154,4 +154,39 @@ extern "C" {
         places: *mut u32,
         room: usize,
     ) -> u32;
+    pub fn keycount_consumer_new(consumer: *mut Handle, partitions: u32) -> u32;
+    pub fn keycount_consumer_free(consumer: *mut Handle) -> u32;
+    pub fn keycount_consumer_joined(consumer: *mut Handle, member: u32) -> u32;
+    pub fn keycount_consumer_drop_all(consumer: *mut Handle) -> u32;
+    pub fn keycount_consumer_sync(consumer: *mut Handle, cluster: *mut Handle) -> u32;
+    pub fn keycount_consumer_rejoin(consumer: *mut Handle, cluster: *mut Handle) -> u32;
+    pub fn keycount_consumer_poll(
+        consumer: *mut Handle,
+        cluster: *mut Handle,
+        partition: u32,
+        most: u32,
+        from: *mut u32,
+        count: *mut u32,
+    ) -> u32;
+    pub fn keycount_consumer_pending(
+        consumer: *mut Handle,
+        partition: u32,
+        member: *mut u32,
+        generation: *mut u32,
+        from: *mut u32,
+        to: *mut u32,
+    ) -> u32;
+    pub fn keycount_consumer_answered(
+        consumer: *mut Handle,
+        partition: u32,
+        answer: u32,
+        committed: u32,
+    ) -> u32;
+    pub fn keycount_consumer_member(consumer: *mut Handle, member: *mut u32) -> u32;
+    pub fn keycount_consumer_base(consumer: *mut Handle, partition: u32, offset: *mut u32) -> u32;
+    pub fn keycount_consumer_position(
+        consumer: *mut Handle,
+        partition: u32,
+        offset: *mut u32,
+    ) -> u32;
 }

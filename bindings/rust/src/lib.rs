@@ -22,9 +22,11 @@
 //! ```
 #![deny(missing_docs, unsafe_op_in_unsafe_fn)]
 
+mod consumer;
 mod ffi;
 mod refusal;
 
+pub use consumer::{Consumer, Pending};
 use ffi::{Handle, MoveRow};
 pub use refusal::Refusal;
 use std::ptr::null_mut;

@@ -36,6 +36,10 @@ pub enum Refusal {
     WrongRecords,
     /// The commit has no records.
     EmptyCommit,
+    /// The consumer does not hold the partition.
+    NotHeld,
+    /// The consumer is out of the group.
+    OutOfGroup,
     /// The key is longer than 65535 bytes.
     KeyTooLong,
     /// The log is full, or no number is left for a new key.
@@ -69,6 +73,8 @@ impl Refusal {
             Refusal::PastEnd => 12,
             Refusal::WrongRecords => 13,
             Refusal::EmptyCommit => 14,
+            Refusal::NotHeld => 15,
+            Refusal::OutOfGroup => 16,
             Refusal::KeyTooLong => 20,
             Refusal::LogFull => 21,
             Refusal::GenerationsOver => 31,
@@ -95,6 +101,8 @@ impl Refusal {
             12 => Refusal::PastEnd,
             13 => Refusal::WrongRecords,
             14 => Refusal::EmptyCommit,
+            15 => Refusal::NotHeld,
+            16 => Refusal::OutOfGroup,
             20 => Refusal::KeyTooLong,
             21 => Refusal::LogFull,
             31 => Refusal::GenerationsOver,
@@ -129,6 +137,8 @@ impl fmt::Display for Refusal {
             Refusal::PastEnd => f.write_str("the commit ends past the end of its log"),
             Refusal::WrongRecords => f.write_str("the records are not those of the log"),
             Refusal::EmptyCommit => f.write_str("the commit has no records"),
+            Refusal::NotHeld => f.write_str("the consumer does not hold the partition"),
+            Refusal::OutOfGroup => f.write_str("the consumer is out of the group"),
             Refusal::KeyTooLong => f.write_str("the key is longer than 65535 bytes"),
             Refusal::LogFull => f.write_str("the log is full, or no number is left for the key"),
             Refusal::GenerationsOver => f.write_str("the group has had its last generation"),

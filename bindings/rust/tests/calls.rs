@@ -1,6 +1,6 @@
 //! Calls each function of the crate, and compares with what the rules say.
 
-use keycount::{Cluster, Move, Phase, Refusal, Step};
+use keycount::{Cluster, Consumer, Move, Phase, Refusal, Step};
 
 const SEED: [u8; 32] = [7; 32];
 
@@ -130,4 +130,44 @@ fn a_cluster_goes_to_another_thread() {
     let member = c.join("A").unwrap();
     let members = std::thread::spawn(move || c.members()).join().unwrap();
     assert_eq!(members, [member]);
+}
+
+#[test]
+fn a_consumer_follows_its_group() -> Result<(), Refusal> {
+    let mut c = Cluster::new(&[4], &SEED)?;
+    for _ in 0..3 {
+        c.append(0, b"foobar")?;
+    }
+    let mut a = Consumer::new(&mut c)?;
+    assert_eq!(a.poll(&mut c, 2, 9), Err(Refusal::OutOfGroup));
+    let member = a.join(&mut c, "A")?;
+    assert_eq!(
+        (a.member(), a.step(&mut c)?, a.step(&mut c)?),
+        (Some(member), Step::Sync, Step::Read)
+    );
+    assert_eq!(a.commit(&mut c, 2), Err(Refusal::EmptyCommit));
+    assert_eq!(a.poll(&mut c, 2, 2)?, [0, 0]);
+    assert_eq!((a.base(2), a.position(2)), (0, 2));
+    assert_eq!(a.commit(&mut c, 2)?, 2);
+    // The reply to its next commit is lost; that to the same commit tells of it.
+    a.poll(&mut c, 2, 9)?;
+    let sent = a.pending(&mut c, 2)?;
+    c.commit(sent.member, sent.generation, 2, sent.offset, &sent.keys)?;
+    assert_eq!(
+        a.commit(&mut c, 2),
+        Err(Refusal::OffsetMismatch { committed: 3 })
+    );
+    assert_eq!((a.base(2), c.count(0)?), (3, 3));
+    let mut b = Consumer::new(&mut c)?;
+    b.join(&mut c, "B")?;
+    while !c.is_settled() {
+        a.step(&mut c)?;
+        b.step(&mut c)?;
+    }
+    assert_eq!(a.poll(&mut c, 2, 9), Err(Refusal::NotHeld));
+    c.lose(member)?;
+    assert_eq!(a.step(&mut c), Err(Refusal::UnknownMember));
+    b.leave(&mut c)?;
+    assert_eq!((b.member(), c.members()), (None, vec![]));
+    Ok(())
 }

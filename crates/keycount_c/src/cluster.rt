@@ -1,6 +1,6 @@
 //! A cluster behind a handle.
 
-mod access;
-mod handle;
+pub mod access;
+pub mod handle;
 mod readers;
 mod steps;

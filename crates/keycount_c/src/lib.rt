@@ -1,16 +1,18 @@
-//! The coordinator as a C library: a cluster behind a handle, and a call for each of its steps.
+//! The coordinator as a C library: clusters and consumers behind handles, and a call for each step.
 //!
-//! It promises, of every call, whatever its arguments and the handle's state are:
-//! - It makes exactly the step of `Cluster` that its name says, returns 0, and writes its outputs.
-//!   Or it returns a number that says why not, and then cluster and outputs are as they were.
-//! - It requires nothing: what `Cluster` requires is tested here.
+//! It promises, of every call, whatever its arguments and the handles' states are:
+//! - It makes exactly the step of `Cluster` or `Consumer` that its name says, returns 0, and writes
+//!   its outputs. Or it returns a number that says why not, and changes nothing; but a mismatch
+//!   tells the committed offset, and a list that has no room its length.
+//! - It requires nothing: what `Cluster` and `Consumer` require is tested here.
 //!
-//! `specs/Calls.antt` has the forms of these clauses. Tests: those of the bindings, over the built
-//! library.
+//! `specs/Calls.antt`, `specs/Consumers.antt` and `specs/Members.antt` have the forms of these
+//! clauses. Tests: those of the bindings, over the built library.
 #![tactic(auto)]
 
 mod answers;
 mod cluster;
 mod lists;
+mod member;
 mod places;
 mod seed;
