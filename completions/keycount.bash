@@ -4,7 +4,7 @@ _keycount() {
   local word=${COMP_WORDS[COMP_CWORD]} before=${COMP_WORDS[COMP_CWORD - 1]} command=${COMP_WORDS[1]} options values=
   COMPREPLY=()
   if [ "$COMP_CWORD" -eq 1 ]; then
-    mapfile -t COMPREPLY < <(compgen -W "count place replay trace draw run explain help -h --help -V --version" -- "$word")
+    mapfile -t COMPREPLY < <(compgen -W "count place replay trace draw run check explain help -h --help -V --version" -- "$word")
     return
   fi
   case $command in
@@ -14,16 +14,17 @@ _keycount() {
     trace) options="--partitions --column --header --topics --topic-column --delimiter --batch -h --help" ;;
     draw) options="--partitions --column --header --topics --topic-column --delimiter --batch -h --help" ;;
     run) options="--partitions --column --header --topics --topic-column --delimiter --batch --top -h --help" ;;
+    check) options="--partitions --column --header --topics --topic-column --delimiter --plan --most -h --help" ;;
     explain) options="-h --help" values="1 2 3 4 5 6 7 8 9 10 11 12 13 14 15 16 17 18 19 20 21 22 23 24 25 26 27 28 29 30 31 32 33 90" ;;
     help)
-      mapfile -t COMPREPLY < <(compgen -W "count place replay trace draw run explain help" -- "$word")
+      mapfile -t COMPREPLY < <(compgen -W "count place replay trace draw run check explain help" -- "$word")
       return
       ;;
     *) return ;;
   esac
   case $before in
     # These take a value.
-    --partitions | --column | --topics | --topic-column | --delimiter | --top | --given | --batch) return ;;
+    --partitions | --column | --topics | --topic-column | --delimiter | --top | --given | --batch | --most) return ;;
   esac
   case $word in
     -*) mapfile -t COMPREPLY < <(compgen -W "$options" -- "$word") ;;

@@ -69,7 +69,7 @@ def fault_of(records: Records, options: Options, given: int) -> bytes:
 
 
 def expected(text: bytes, options: Options, keys: bool, given: int) -> Outcome:
-    records = read(text)
+    records = read(text, options.delimiter)
     if fault := fault_of(records, options, given):
         return Outcome(b"", fault, 1)
     if given:
@@ -80,7 +80,7 @@ def expected(text: bytes, options: Options, keys: bool, given: int) -> Outcome:
 
 def with_given(rng: Random, text: bytes, options: Options) -> tuple[bytes, int]:
     """A file with one more column, which mostly has the partitions of the keys, and that column's number."""
-    records = read(text)
+    records = read(text, options.delimiter)
     if record_fault(records, options):
         return text, rng.randint(1, 4)
     altered = rng.choice((0, 0.3, 0.02))
@@ -90,7 +90,8 @@ def with_given(rng: Random, text: bytes, options: Options) -> tuple[bytes, int]:
     for number, right in enumerate(texts):
         if rng.random() < altered:
             texts[number] = rng.choice((*wrong, b"0" + right, b"+" + right, right + b" ", right))
-    lines = [b",".join(written(rng, field, False) for field in (*record, text)) for record, text in zip(records, texts)]
+    lines = [options.delimiter.join(written(rng, field, False, options.delimiter) for field in (*record, text))
+             for record, text in zip(records, texts)]
     return b"".join(line + b"\n" for line in lines), len(records[0]) + 1 if records else 1
 
 

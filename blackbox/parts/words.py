@@ -7,7 +7,7 @@ from typing import Iterator
 
 from .program import FOLDER, TOP, Cases, run
 
-SUBCOMMANDS = ("count", "place", "replay", "trace", "draw", "run", "explain")
+SUBCOMMANDS = ("count", "place", "replay", "trace", "draw", "run", "check", "explain")
 BASH = TOP / "completions" / "keycount.bash"
 
 

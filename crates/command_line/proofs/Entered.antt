@@ -35,11 +35,11 @@ use Rattle.clap.specs.declared.parser.matches.ValueSource.TheVariants.{CommandLi
 use Rattle.command_line.specs.CommandLine.{HasJob, HaveBadList, IsBadListReport, IsFlag, IsJobOf, IsNumber, IsNumberIfGiven, IsRefusal, name_of, keycount_app, keycount_top, path}
 use Rattle.command_line.specs.Columns.{IsBadColumn}
 use Rattle.command_line.specs.Delimiters.{IsBadDelimiter}
-use Rattle.command_line.specs.Private.CommandLine.{IsCommand, IsOptionalNumber, AreCountRows, AreExplainRows, AreOptionRows, ArePlaceRows, AreScriptRows, IsBadReport, IsUsageOf, ReportsBadColumn, ReportsBadDelimiter, ReportsBadList, ReportsBadOption}
+use Rattle.command_line.specs.Private.CommandLine.{IsCommand, IsOptionalNumber, AreCountRows, AreExplainRows, AreOptionRows, ArePlaceRows, AreScriptRows, IsBadReport, IsUsageOf, ReportsBadColumn, ReportsBadDelimiter, ReportsBadList, ReportsBadOption, AreCheckRows}
 use Rattle.command_line.specs.Topics.{AreTopicsOf, IsBadList}
 use Rattle.partitioner.specs.declared.topic.Topic.{Topic}
 use Rattle.command_line.specs.declared.words.Job.{Job}
-use Rattle.command_line.specs.declared.words.Job.TheVariants.{Count, Place, Replay, Trace, Draw, Run, Explain}
+use Rattle.command_line.specs.declared.words.Job.TheVariants.{Count, Place, Check, Replay, Trace, Draw, Run, Explain}
 use Rattle.command_line.specs.declared.words.Usage.{Usage}
 use Rattle.command_line.specs.declared.words.Usage.TheVariants.{Help, Bad, Memory}
 
@@ -438,11 +438,14 @@ draw_shape = shape_at 4
 abbrev run_shape : Shape
 run_shape = shape_at 5
 
+abbrev check_shape : Shape
+check_shape = shape_at 6
+
 abbrev explain_shape : Shape
-explain_shape = shape_at 6
+explain_shape = shape_at 7
 
 abbrev help_shape : Shape
-help_shape = shape_at 7
+help_shape = shape_at 8
 
 abbrev Named : Text → ℕ → Row → Type 0
 Named name most r = bytes_eq r.id name ≡ true → IsOptionalNumber (slice_get r.values 0) most
@@ -636,6 +639,73 @@ place_defaults = ((λ rows r. no_default (has_row (codes "file") rows) rows r), 
 place_defaults_given : Each (PreservesDefault GivenPasses place_shape) place_shape.rules
 place_defaults_given = ((λ rows r. no_given_default (has_row (codes "file") rows) rows r), ((λ rows r. no_given_default (has_row (codes "partitions") rows) rows r), ((λ rows r. no_given_default (has_row (codes "column") rows) rows r), (flag_default GivenPasses (codes "header") (place_rule 3) (λ f. other f), ((λ rows r. no_given_default (has_row (codes "topics") rows) rows r), ((λ rows r. no_given_default (has_row (codes "topic-column") rows) rows r), ((λ rows r. no_given_default (has_row (codes "delimiter") rows) rows r), (flag_default GivenPasses (codes "keys") (place_rule 7) (λ f. other f), ((λ rows r. no_given_default (has_row (codes "given") rows) rows r), ((λ rows r. no_given_default (has_row (codes "help") rows) rows r), tt))))))))))
 
+-- what is checked of a row of any job; that of the most faults is a number in range
+abbrev CheckPasses : Row → Type 0
+CheckPasses r = RowPasses r × Named (codes "most") 4294967295 r
+
+abbrev check_rule : ℕ → Rule
+check_rule k = unwrap_or (slice_get check_shape.rules k) (path (codes "file"))
+
+abbrev PreservesCheck : Rule → Type 0
+PreservesCheck = Preserves CheckPasses check_shape
+
+file_preserves_check : PreservesCheck (check_rule 0)
+file_preserves_check [] rows e r = absurd (some_kind _ _ e)
+file_preserves_check (v ∷ vs) rows e r = set_use CheckPasses (check_rule 0) v vs rows (none_of _ _ e).1 (λ ok. ((refl, (λ f. other f), (λ f. other f), (λ f. other f)), (λ f. other f))) r
+
+script_preserves_check : PreservesCheck (check_rule 1)
+script_preserves_check [] rows e r = absurd (some_kind _ _ e)
+script_preserves_check (v ∷ vs) rows e r = set_use CheckPasses (check_rule 1) v vs rows (none_of _ _ e).1 (λ ok. ((refl, (λ f. other f), (λ f. other f), (λ f. other f)), (λ f. other f))) r
+
+partitions_preserves_check : PreservesCheck (check_rule 2)
+partitions_preserves_check [] rows e r = absurd (some_kind _ _ e)
+partitions_preserves_check (v ∷ vs) rows e r = set_use CheckPasses (check_rule 2) v vs rows (none_of _ _ e).1 (λ ok. ((refl, (λ _. accepts-Accepts false (parser.Signed (pos 1) (pos 4096)) v ok), (λ f. other f), (λ f. other f)), (λ f. other f))) r
+
+column_preserves_check : PreservesCheck (check_rule 3)
+column_preserves_check [] rows e r = absurd (some_kind _ _ e)
+column_preserves_check (v ∷ vs) rows e r = set_use CheckPasses (check_rule 3) v vs rows (none_of _ _ e).1 (λ ok. ((refl, (λ f. other f), (λ f. other f), (λ f. other f)), (λ f. other f))) r
+
+header_preserves_check : PreservesCheck (check_rule 4)
+header_preserves_check [] rows e r = set_use CheckPasses (check_rule 4) (codes "true") [] rows e (λ ok. ((refl, (λ f. other f), (λ f. other f), (λ f. other f)), (λ f. other f))) r
+header_preserves_check (v ∷ vs) rows e r = set_use CheckPasses (check_rule 4) v vs rows (none_of _ _ e).1 (λ ok. ((refl, (λ f. other f), (λ f. other f), (λ f. other f)), (λ f. other f))) r
+
+topics_preserves_check : PreservesCheck (check_rule 5)
+topics_preserves_check [] rows e r = absurd (some_kind _ _ e)
+topics_preserves_check (v ∷ vs) rows e r = set_use CheckPasses (check_rule 5) v vs rows (none_of _ _ e).1 (λ ok. ((refl, (λ f. other f), (λ f. other f), (λ f. other f)), (λ f. other f))) r
+
+topic_column_preserves_check : PreservesCheck (check_rule 6)
+topic_column_preserves_check [] rows e r = absurd (some_kind _ _ e)
+topic_column_preserves_check (v ∷ vs) rows e r = set_use CheckPasses (check_rule 6) v vs rows (none_of _ _ e).1 (λ ok. ((refl, (λ f. other f), (λ f. other f), (λ f. other f)), (λ f. other f))) r
+
+delimiter_preserves_check : PreservesCheck (check_rule 7)
+delimiter_preserves_check [] rows e r = absurd (some_kind _ _ e)
+delimiter_preserves_check (v ∷ vs) rows e r = set_use CheckPasses (check_rule 7) v vs rows (none_of _ _ e).1 (λ ok. ((refl, (λ f. other f), (λ f. other f), (λ f. other f)), (λ f. other f))) r
+
+plan_preserves_check : PreservesCheck (check_rule 8)
+plan_preserves_check [] rows e r = set_use CheckPasses (check_rule 8) (codes "true") [] rows e (λ ok. ((refl, (λ f. other f), (λ f. other f), (λ f. other f)), (λ f. other f))) r
+plan_preserves_check (v ∷ vs) rows e r = set_use CheckPasses (check_rule 8) v vs rows (none_of _ _ e).1 (λ ok. ((refl, (λ f. other f), (λ f. other f), (λ f. other f)), (λ f. other f))) r
+
+most_preserves_check : PreservesCheck (check_rule 9)
+most_preserves_check [] rows e r = absurd (some_kind _ _ e)
+most_preserves_check (v ∷ vs) rows e r = set_use CheckPasses (check_rule 9) v vs rows (none_of _ _ e).1 (λ ok. ((refl, (λ f. other f), (λ f. other f), (λ f. other f)), (λ _. accepts-Accepts false (parser.Signed (pos 1) (pos 4294967295)) v ok))) r
+
+help_preserves_check : PreservesCheck (check_rule 10)
+help_preserves_check values rows e r = absurd (some_kind _ _ (none_of _ _ e).1)
+
+no_check_default : (b : Bool) (rows : List Row) → Each CheckPasses rows → Each CheckPasses (cond b rows rows)
+no_check_default true rows r = r
+no_check_default false rows r = r
+
+check_preserves : Each PreservesCheck check_shape.rules
+check_preserves = (file_preserves_check, (script_preserves_check, (partitions_preserves_check, (column_preserves_check, (header_preserves_check, (topics_preserves_check, (topic_column_preserves_check, (delimiter_preserves_check, (plan_preserves_check, (most_preserves_check, (help_preserves_check, tt)))))))))))
+
+check_defaults : Each (PreservesDefault CheckPasses check_shape) check_shape.rules
+check_defaults = ((λ rows r. no_check_default (has_row (codes "file") rows) rows r), ((λ rows r. no_check_default (has_row (codes "script") rows) rows r), ((λ rows r. no_check_default (has_row (codes "partitions") rows) rows r), ((λ rows r. no_check_default (has_row (codes "column") rows) rows r), (flag_default CheckPasses (codes "header") (check_rule 4) ((refl, (λ f. other f), (λ f. other f), (λ f. other f)), (λ f. other f)), ((λ rows r. no_check_default (has_row (codes "topics") rows) rows r), ((λ rows r. no_check_default (has_row (codes "topic-column") rows) rows r), ((λ rows r. no_check_default (has_row (codes "delimiter") rows) rows r), (flag_default CheckPasses (codes "plan") (check_rule 8) ((refl, (λ f. other f), (λ f. other f), (λ f. other f)), (λ f. other f)), ((λ rows r. no_check_default (has_row (codes "most") rows) rows r), ((λ rows r. no_check_default (has_row (codes "help") rows) rows r), tt)))))))))))
+
+any_job : (rows : List Row) → Each CheckPasses rows → Each RowPasses rows
+any_job [] all = tt
+any_job (r ∷ rs) all = (all.0.0, any_job rs all.1)
+
 count_preserves : Each (Preserves RowPasses count_shape) count_shape.rules
 count_preserves = (file_preserves, (partitions_preserves, (column_preserves, (header_preserves, (topics_preserves, (topic_column_preserves, (delimiter_preserves, (top_preserves, (help_preserves, tt)))))))))
 
@@ -689,6 +759,13 @@ file_given_to_place rows e = go (is_given (codes "file") rows) e
     go true e = refl
     go false e = absurd (some_kind _ _ e)
 
+file_given_to_check : (rows : List Row) → check_fault check_shape rows false ≡ [] → is_given (codes "file") rows ≡ true
+file_given_to_check rows e = go (is_given (codes "file") rows) e
+  where
+    go : (b : Bool) → check_kinds false false (not b || false) ≡ [] → b ≡ true
+    go true e = refl
+    go false e = absurd (some_kind _ _ e)
+
 paths_given : (rows : List Row) → check_fault replay_shape rows false ≡ [] → (is_given (codes "file") rows ≡ true) × (is_given (codes "script") rows ≡ true)
 paths_given rows e = go (is_given (codes "file") rows) (is_given (codes "script") rows) e
   where
@@ -726,6 +803,18 @@ place_taken words e =
       file = path_passes (codes "file") rows all (file_given_to_place rows parts.2);
       options = options_pass rows all;
       given = number_passes GivenPasses (codes "given") 65535 rows given (λ r passes. passes);
+    }
+
+check_taken : (words : List Text) → level_fault check_shape [] nothing_held words false [] ≡ [] → AreCheckRows (rows_after check_shape.rules [] words)
+check_taken words e =
+    let parts = level_parts check_shape [] words false [] e in
+    let rows = rows_after check_shape.rules [] words in
+    let checked = level_preserves CheckPasses check_shape check_preserves words false [] check_defaults e in
+    let all = any_job rows checked in
+    record {
+      file = path_passes (codes "file") rows all (file_given_to_check rows parts.2);
+      options = options_pass rows all;
+      most = number_passes CheckPasses (codes "most") 4294967295 rows checked (λ r passes. passes.1);
     }
 
 script_taken : (s : Shape) → Each (Preserves RowPasses s) s.rules → Each (PreservesDefault RowPasses s) s.rules
@@ -772,7 +861,8 @@ IsOfScript name = (name ≡ codes "replay") ⊎ ((name ≡ codes "trace") ⊎ ((
 abbrev Takes : Text → List Row → Type 0
 Takes name rows =
     ((name ≡ codes "count") × AreCountRows rows)
-    ⊎ ((IsOfScript name × AreScriptRows rows) ⊎ (((name ≡ codes "explain") × AreExplainRows rows) ⊎ ((name ≡ codes "place") × ArePlaceRows rows)))
+    ⊎ ((IsOfScript name × AreScriptRows rows) ⊎ (((name ≡ codes "explain") × AreExplainRows rows)
+    ⊎ (((name ≡ codes "place") × ArePlaceRows rows) ⊎ ((name ≡ codes "check") × AreCheckRows rows))))
 
 -- ---- the program
 
@@ -792,25 +882,26 @@ job_entered : (stop : Option (Text × List Text)) → StopsElsewhere stop → is
     → (name : Text) × (rows : List Row) × (entered keycount_built stop ≡ Some (name, rows)) × Takes name rows
 job_entered None help some e = absurd (true≢false (sym some))
 job_entered (Some p) help some e =
-    go (answers_to p.0 (label_of count_shape)) (answers_to p.0 (label_of place_shape)) (answers_to p.0 (label_of replay_shape)) (answers_to p.0 (label_of trace_shape)) (answers_to p.0 (label_of draw_shape)) (answers_to p.0 (label_of run_shape)) (answers_to p.0 (label_of explain_shape)) (answers_to p.0 (label_of help_shape)) (not_named_help p.0 help) some e
+    go (answers_to p.0 (label_of count_shape)) (answers_to p.0 (label_of place_shape)) (answers_to p.0 (label_of replay_shape)) (answers_to p.0 (label_of trace_shape)) (answers_to p.0 (label_of draw_shape)) (answers_to p.0 (label_of run_shape)) (answers_to p.0 (label_of check_shape)) (answers_to p.0 (label_of explain_shape)) (answers_to p.0 (label_of help_shape)) (not_named_help p.0 help) some e
   where
-    found : (b l d t q r x h : Bool) → Option Shape
-    found b l d t q r x h =
+    found : (b l d t q r c x h : Bool) → Option Shape
+    found b l d t q r c x h =
         cond b (Some count_shape)
-        (cond l (Some place_shape) (cond d (Some replay_shape) (cond t (Some trace_shape) (cond q (Some draw_shape) (cond r (Some run_shape) (cond x (Some explain_shape) (cond h (Some help_shape) None)))))))
+        (cond l (Some place_shape) (cond d (Some replay_shape) (cond t (Some trace_shape) (cond q (Some draw_shape) (cond r (Some run_shape) (cond c (Some check_shape) (cond x (Some explain_shape) (cond h (Some help_shape) None))))))))
 
-    go : (b l d t q r x h : Bool) → h ≡ false → is_some (option_map (λ s. rows_at s p.1) (found b l d t q r x h)) ≡ true
-        → option_map_or (λ s. level_fault s [] nothing_held p.1 false []) (found b l d t q r x h) [] ≡ []
-        → (name : Text) × (rows : List Row) × (option_map (λ s. rows_at s p.1) (found b l d t q r x h) ≡ Some (name, rows)) × Takes name rows
-    go true l d t q r x h other_no given e = (codes "count", rows_after count_shape.rules [] p.1, refl, inl (refl, count_taken p.1 e))
-    go false true d t q r x h other_no given e = (codes "place", rows_after place_shape.rules [] p.1, refl, inr (inr (inr (refl, place_taken p.1 e))))
-    go false false true t q r x h other_no given e = (codes "replay", rows_after replay_shape.rules [] p.1, refl, inr (inl (inl refl, replay_taken p.1 e)))
-    go false false false true q r x h other_no given e = (codes "trace", rows_after trace_shape.rules [] p.1, refl, inr (inl (inr (inl refl), trace_taken p.1 e)))
-    go false false false false true r x h other_no given e = (codes "draw", rows_after draw_shape.rules [] p.1, refl, inr (inl (inr (inr (inl refl)), draw_taken p.1 e)))
-    go false false false false false true x h other_no given e = (codes "run", rows_after run_shape.rules [] p.1, refl, inr (inl (inr (inr (inr refl)), run_taken p.1 e)))
-    go false false false false false false true h other_no given e = (codes "explain", rows_after explain_shape.rules [] p.1, refl, inr (inr (inl (refl, explain_taken p.1 e))))
-    go false false false false false false false true other_no given e = absurd (true≢false other_no)
-    go false false false false false false false false other_no given e = absurd (true≢false (sym given))
+    go : (b l d t q r c x h : Bool) → h ≡ false → is_some (option_map (λ s. rows_at s p.1) (found b l d t q r c x h)) ≡ true
+        → option_map_or (λ s. level_fault s [] nothing_held p.1 false []) (found b l d t q r c x h) [] ≡ []
+        → (name : Text) × (rows : List Row) × (option_map (λ s. rows_at s p.1) (found b l d t q r c x h) ≡ Some (name, rows)) × Takes name rows
+    go true l d t q r c x h other_no given e = (codes "count", rows_after count_shape.rules [] p.1, refl, inl (refl, count_taken p.1 e))
+    go false true d t q r c x h other_no given e = (codes "place", rows_after place_shape.rules [] p.1, refl, inr (inr (inr (inl (refl, place_taken p.1 e)))))
+    go false false true t q r c x h other_no given e = (codes "replay", rows_after replay_shape.rules [] p.1, refl, inr (inl (inl refl, replay_taken p.1 e)))
+    go false false false true q r c x h other_no given e = (codes "trace", rows_after trace_shape.rules [] p.1, refl, inr (inl (inr (inl refl), trace_taken p.1 e)))
+    go false false false false true r c x h other_no given e = (codes "draw", rows_after draw_shape.rules [] p.1, refl, inr (inl (inr (inr (inl refl)), draw_taken p.1 e)))
+    go false false false false false true c x h other_no given e = (codes "run", rows_after run_shape.rules [] p.1, refl, inr (inl (inr (inr (inr refl)), run_taken p.1 e)))
+    go false false false false false false true x h other_no given e = (codes "check", rows_after check_shape.rules [] p.1, refl, inr (inr (inr (inr (refl, check_taken p.1 e)))))
+    go false false false false false false false true h other_no given e = (codes "explain", rows_after explain_shape.rules [] p.1, refl, inr (inr (inl (refl, explain_taken p.1 e))))
+    go false false false false false false false false true other_no given e = absurd (true≢false other_no)
+    go false false false false false false false false false other_no given e = absurd (true≢false (sym given))
 
 subcommand_given : (rows : List Row) (has : Bool) → check_fault keycount_built.top rows has ≡ [] → has ≡ true
 subcommand_given rows true e = refl
@@ -937,40 +1028,53 @@ pub takes_count : (name : Text) (rows : List Row) → Takes name rows → name �
 takes_count name rows (inl takes) is = takes.1
 takes_count name rows (inr (inl takes)) is = absurd (script_is_not (codes "count") refl refl refl refl name takes.0 is)
 takes_count name rows (inr (inr (inl takes))) is = absurd (not_both (codes "explain") (codes "count") refl name takes.0 is)
-takes_count name rows (inr (inr (inr takes))) is = absurd (not_both (codes "place") (codes "count") refl name takes.0 is)
+takes_count name rows (inr (inr (inr (inl takes)))) is = absurd (not_both (codes "place") (codes "count") refl name takes.0 is)
+takes_count name rows (inr (inr (inr (inr takes)))) is = absurd (not_both (codes "check") (codes "count") refl name takes.0 is)
 
 pub takes_script : (name : Text) (rows : List Row) → Takes name rows → IsOfScript name → AreScriptRows rows
 takes_script name rows (inl takes) is = absurd (script_is_not (codes "count") refl refl refl refl name is takes.0)
 takes_script name rows (inr (inl takes)) is = takes.1
 takes_script name rows (inr (inr (inl takes))) is = absurd (script_is_not (codes "explain") refl refl refl refl name is takes.0)
-takes_script name rows (inr (inr (inr takes))) is = absurd (script_is_not (codes "place") refl refl refl refl name is takes.0)
+takes_script name rows (inr (inr (inr (inl takes)))) is = absurd (script_is_not (codes "place") refl refl refl refl name is takes.0)
+takes_script name rows (inr (inr (inr (inr takes)))) is = absurd (script_is_not (codes "check") refl refl refl refl name is takes.0)
 
 pub takes_explain : (name : Text) (rows : List Row) → Takes name rows → name ≡ codes "explain" → AreExplainRows rows
 takes_explain name rows (inl takes) is = absurd (not_both (codes "count") (codes "explain") refl name takes.0 is)
 takes_explain name rows (inr (inl takes)) is = absurd (script_is_not (codes "explain") refl refl refl refl name takes.0 is)
 takes_explain name rows (inr (inr (inl takes))) is = takes.1
-takes_explain name rows (inr (inr (inr takes))) is = absurd (not_both (codes "place") (codes "explain") refl name takes.0 is)
+takes_explain name rows (inr (inr (inr (inl takes)))) is = absurd (not_both (codes "place") (codes "explain") refl name takes.0 is)
+takes_explain name rows (inr (inr (inr (inr takes)))) is = absurd (not_both (codes "check") (codes "explain") refl name takes.0 is)
 
 pub takes_place : (name : Text) (rows : List Row) → Takes name rows → name ≡ codes "place" → ArePlaceRows rows
 takes_place name rows (inl takes) is = absurd (not_both (codes "count") (codes "place") refl name takes.0 is)
 takes_place name rows (inr (inl takes)) is = absurd (script_is_not (codes "place") refl refl refl refl name takes.0 is)
 takes_place name rows (inr (inr (inl takes))) is = absurd (not_both (codes "explain") (codes "place") refl name takes.0 is)
-takes_place name rows (inr (inr (inr takes))) is = takes.1
+takes_place name rows (inr (inr (inr (inl takes)))) is = takes.1
+takes_place name rows (inr (inr (inr (inr takes)))) is = absurd (not_both (codes "check") (codes "place") refl name takes.0 is)
 
-pub takes_none : (name : Text) (rows : List Row) → Takes name rows → (name ≡ codes "count" → ⊥) → (name ≡ codes "place" → ⊥) → (name ≡ codes "replay" → ⊥) → (name ≡ codes "trace" → ⊥) → (name ≡ codes "draw" → ⊥) → (name ≡ codes "run" → ⊥) → (name ≡ codes "explain" → ⊥) → ⊥
-takes_none name rows (inl takes) no_count no_place no_replay no_trace no_draw no_run no_explain = no_count takes.0
-takes_none name rows (inr (inl (inl named, has))) no_count no_place no_replay no_trace no_draw no_run no_explain = no_replay named
-takes_none name rows (inr (inl (inr (inl named), has))) no_count no_place no_replay no_trace no_draw no_run no_explain = no_trace named
-takes_none name rows (inr (inl (inr (inr (inl named)), has))) no_count no_place no_replay no_trace no_draw no_run no_explain = no_draw named
-takes_none name rows (inr (inl (inr (inr (inr named)), has))) no_count no_place no_replay no_trace no_draw no_run no_explain = no_run named
-takes_none name rows (inr (inr (inl takes))) no_count no_place no_replay no_trace no_draw no_run no_explain = no_explain takes.0
-takes_none name rows (inr (inr (inr takes))) no_count no_place no_replay no_trace no_draw no_run no_explain = no_place takes.0
+pub takes_check : (name : Text) (rows : List Row) → Takes name rows → name ≡ codes "check" → AreCheckRows rows
+takes_check name rows (inl takes) is = absurd (not_both (codes "count") (codes "check") refl name takes.0 is)
+takes_check name rows (inr (inl takes)) is = absurd (script_is_not (codes "check") refl refl refl refl name takes.0 is)
+takes_check name rows (inr (inr (inl takes))) is = absurd (not_both (codes "explain") (codes "check") refl name takes.0 is)
+takes_check name rows (inr (inr (inr (inl takes)))) is = absurd (not_both (codes "place") (codes "check") refl name takes.0 is)
+takes_check name rows (inr (inr (inr (inr takes)))) is = takes.1
+
+pub takes_none : (name : Text) (rows : List Row) → Takes name rows → (name ≡ codes "count" → ⊥) → (name ≡ codes "place" → ⊥) → (name ≡ codes "check" → ⊥) → (name ≡ codes "replay" → ⊥) → (name ≡ codes "trace" → ⊥) → (name ≡ codes "draw" → ⊥) → (name ≡ codes "run" → ⊥) → (name ≡ codes "explain" → ⊥) → ⊥
+takes_none name rows (inl takes) no_count no_place no_check no_replay no_trace no_draw no_run no_explain = no_count takes.0
+takes_none name rows (inr (inl (inl named, has))) no_count no_place no_check no_replay no_trace no_draw no_run no_explain = no_replay named
+takes_none name rows (inr (inl (inr (inl named), has))) no_count no_place no_check no_replay no_trace no_draw no_run no_explain = no_trace named
+takes_none name rows (inr (inl (inr (inr (inl named)), has))) no_count no_place no_check no_replay no_trace no_draw no_run no_explain = no_draw named
+takes_none name rows (inr (inl (inr (inr (inr named)), has))) no_count no_place no_check no_replay no_trace no_draw no_run no_explain = no_run named
+takes_none name rows (inr (inr (inl takes))) no_count no_place no_check no_replay no_trace no_draw no_run no_explain = no_explain takes.0
+takes_none name rows (inr (inr (inr (inl takes)))) no_count no_place no_check no_replay no_trace no_draw no_run no_explain = no_place takes.0
+takes_none name rows (inr (inr (inr (inr takes)))) no_count no_place no_check no_replay no_trace no_draw no_run no_explain = no_check takes.0
 
 -- ---- lists of topics that are not valid
 
 topics_of_job : (words : List Text) (rows : List Row) (job : Job) → fault_of keycount_app words ≡ [] → subcommand_of keycount_app words ≡ Some (name_of job, rows) → HasJob rows job → (topics : List Topic) × AreTopicsOf (first_of (codes "topics") rows) topics
 topics_of_job words rows (Count file options) taken found has = (options.topics.items, has.1.topics)
 topics_of_job words rows (Place file options place) taken found has = (options.topics.items, has.1.topics)
+topics_of_job words rows (Check file script options check) taken found has = (options.topics.items, has.2.topics)
 topics_of_job words rows (Replay file script options) taken found has = (options.topics.items, has.0.options_are.topics)
 topics_of_job words rows (Trace file script options) taken found has = (options.topics.items, has.0.options_are.topics)
 topics_of_job words rows (Draw file script options) taken found has = (options.topics.items, has.0.options_are.topics)

@@ -1,5 +1,5 @@
 -- The command line of keycount, as clap describes one.
-use Rattle.std.specs.Prelude.{◌≡◌, ◌⊎◌, ℕ, List, [], Option, Some, None, Ok, true, false, codes, Bool, ⊤, ◌≢◌, pos, string_bytes}
+use Rattle.std.specs.Prelude.{◌≡◌, ◌⊎◌, ℕ, List, [], Option, Some, None, Ok, true, false, codes, Bool, ⊤, ◌≢◌, option_map, pos, string_bytes}
 use Rattle.std.specs.Str.Parse.{ParsesUnsigned}
 use Rattle.clap.specs.Simple.{App, new_app, new_rule, with_rule, with_subcommand, subcommand_of}
 use Rattle.clap.specs.Walk.{Row, Rule, Text, first_of, one_of}
@@ -10,16 +10,17 @@ use Rattle.lane_words.specs.declared.limits.TheConstants.{MOST_PARTITIONS}
 use Rattle.clap.specs.declared.builder.action.ArgAction.TheVariants as action
 use Rattle.clap.specs.declared.builder.value_parser.ValueParser.TheVariants as parser
 use Rattle.clap.specs.declared.error.kind.ErrorKind.TheVariants as kind
+use Rattle.command_line.specs.declared.options.CheckOptions.{CheckOptions}
 use Rattle.command_line.specs.declared.options.Options.{Options}
 use Rattle.command_line.specs.declared.options.PlaceOptions.{PlaceOptions}
 use Rattle.command_line.specs.declared.words.Job.{Job}
-use Rattle.command_line.specs.declared.words.Job.TheVariants.{Count, Place, Replay, Trace, Draw, Run, Explain}
+use Rattle.command_line.specs.declared.words.Job.TheVariants.{Count, Place, Check, Replay, Trace, Draw, Run, Explain}
 use Rattle.command_line.specs.declared.words.Usage.{Usage}
 use Rattle.command_line.specs.declared.words.Usage.TheVariants.{Help, Bad, Memory}
-use Rattle.command_line.specs.declared.options.TheConstants.{DEFAULT_BATCH, LAST_CODE, LAST_COLUMN, MOST_BATCH, MOST_ROWS}
+use Rattle.command_line.specs.declared.options.TheConstants.{DEFAULT_BATCH, DEFAULT_MOST, LAST_CODE, LAST_COLUMN, MOST_BATCH, MOST_ROWS}
 use Rattle.command_line.specs.Columns.{IsBadColumn, IsColumnOf}
 use Rattle.command_line.specs.Delimiters.{IsBadDelimiter, IsDelimiterOf}
-use Rattle.command_line.specs.Options.{AreInRange, IsPlaceInRange}
+use Rattle.command_line.specs.Options.{AreInRange, IsPlaceInRange, IsCheckInRange}
 use Rattle.command_line.specs.Topics.{AreTopicsOf, IsBadList}
 use Rattle.partitioner.specs.declared.topic.Topic.{Topic}
 
@@ -48,6 +49,10 @@ flag name = record (new_rule name) { long = Some name; action = Some action.SetT
 abbrev pub path : Text → Rule
 path name = record (new_rule name) { value_names = 1; required = true; action = Some action.Set }
 
+-- a path that may be left out
+abbrev pub optional_path : Text → Rule
+optional_path name = record (new_rule name) { value_names = 1; action = Some action.Set }
+
 -- the options that all subcommands have
 abbrev pub with_options : App → App
 with_options app =
@@ -72,6 +77,14 @@ place_app =
     let options = with_options (with_rule (new_app (codes "place")) (path (codes "file"))) in
     let keys = with_rule options (flag (codes "keys")) in
     with_rule keys (number_option (codes "given") LAST_COLUMN)
+
+-- the subcommand `check`
+abbrev pub check_app : App
+check_app =
+    let file = with_rule (new_app (codes "check")) (path (codes "file")) in
+    let options = with_options (with_rule file (optional_path (codes "script"))) in
+    let plan = with_rule options (flag (codes "plan")) in
+    with_rule plan (number_option (codes "most") MOST_ROWS)
 
 -- what `replay`, `trace`, `draw` and `run` have: a file, a script, the common options and `--batch`
 abbrev pub with_script : App → App
@@ -125,7 +138,8 @@ keycount_app =
     let replay = with_subcommand place replay_app.top in
     let trace = with_subcommand replay trace_app.top in
     let draw = with_subcommand trace draw_app.top in
-    with_subcommand (with_subcommand draw run_app.top) explain_app.top
+    let run = with_subcommand draw run_app.top in
+    with_subcommand (with_subcommand run check_app.top) explain_app.top
 
 -- n is the number that the text denotes, or the default without one
 abbrev pub IsNumber : Option Text → ℕ → ℕ → Type 0
@@ -160,6 +174,12 @@ pub record HasPlaceOptions (rows : List Row) (place : PlaceOptions) : Type 0 whe
   pub given : IsNumberIfGiven (first_of (codes "given") rows) place.given
   pub in_range : IsPlaceInRange place
 
+-- the options that `check` alone has are those that clap found
+pub record HasCheckOptions (rows : List Row) (check : CheckOptions) : Type 0 where
+  pub plan : IsFlag (one_of (codes "plan") rows) check.plan
+  pub most : IsNumber (first_of (codes "most") rows) DEFAULT_MOST check.most
+  pub in_range : IsCheckInRange check
+
 -- the paths and options of a job with a script are those that clap found
 pub record HasScript (rows : List Row) (file script : Text) (options : Options) : Type 0 where
   pub file_is : first_of (codes "file") rows ≡ Some file
@@ -167,8 +187,8 @@ pub record HasScript (rows : List Row) (file script : Text) (options : Options) 
   pub options_are : HasOptions rows options
   pub batch : IsNumber (first_of (codes "batch") rows) DEFAULT_BATCH options.batch
 
--- the job has the files, options and code that clap found; the batch of a count and of a place is
--- the default, and a place, a trace and a picture have no top
+-- the job has the files, options and code that clap found; the batch of a count, a place and a check
+-- is the default, and a place, a check, a trace and a picture have no top
 abbrev pub HasJob : List Row → Job → Type 0
 HasJob rows (Count file options) = (first_of (codes "file") rows ≡ Some file.now)
     × HasOptions rows options × (options.batch ≡ DEFAULT_BATCH)
@@ -176,6 +196,10 @@ HasJob rows (Count file options) = (first_of (codes "file") rows ≡ Some file.n
 HasJob rows (Place file options place) = (first_of (codes "file") rows ≡ Some file.now)
     × HasOptions rows options × (options.batch ≡ DEFAULT_BATCH) × (options.top ≡ None)
     × HasPlaceOptions rows place
+HasJob rows (Check file script options check) = (first_of (codes "file") rows ≡ Some file.now)
+    × (first_of (codes "script") rows ≡ option_map (λ path. path.now) script)
+    × HasOptions rows options × (options.batch ≡ DEFAULT_BATCH) × (options.top ≡ None)
+    × HasCheckOptions rows check
 HasJob rows (Replay file script options) = HasScript rows file.now script.now options
     × IsNumberIfGiven (first_of (codes "top") rows) options.top
 HasJob rows (Trace file script options) =
@@ -190,6 +214,7 @@ HasJob rows (Explain code) = IsNumberIfGiven (first_of (codes "code") rows) code
 abbrev pub name_of : Job → Text
 name_of (Count file options) = codes "count"
 name_of (Place file options place) = codes "place"
+name_of (Check file script options check) = codes "check"
 name_of (Replay file script options) = codes "replay"
 name_of (Trace file script options) = codes "trace"
 name_of (Draw file script options) = codes "draw"

@@ -3,6 +3,7 @@ use Rattle.std.specs.Prelude.{◌≡◌, ◌≤◌, Bool, true, IfSome}
 use Rattle.lane_words.specs.declared.limits.TheConstants.{MOST_PARTITIONS}
 use Rattle.partitioner.specs.Topic.{MayBeTopics}
 use Rattle.command_line.specs.Delimiters.{is_delimiter}
+use Rattle.command_line.specs.declared.options.CheckOptions.{CheckOptions}
 use Rattle.command_line.specs.declared.options.Column.{Column}
 use Rattle.command_line.specs.declared.options.Column.TheVariants.{Number, Named}
 use Rattle.command_line.specs.declared.options.Options.{Options}
@@ -27,3 +28,7 @@ pub record AreInRange (options : Options) : Type 0 where
 -- the given column of a place, if there is one, is within its bounds
 abbrev pub IsPlaceInRange : PlaceOptions → Type 0
 IsPlaceInRange place = IfSome place.given (λ column. (1 ≤ column) × (column ≤ LAST_COLUMN))
+
+-- a check tells at least one fault
+abbrev pub IsCheckInRange : CheckOptions → Type 0
+IsCheckInRange check = 1 ≤ check.most

@@ -101,6 +101,7 @@ macro_rules! text {
             "  fault 32 at record N     " case_32 "\n"
             "  fault 90                 " case_90 "\n"
             "keycount explain CODE tells more of a fault, and of the code of a refusal.\n"
+            "keycount check tells where in FILE or SCRIPT a fault is, and all others there.\n"
             "\nExit status:\n"
             "  0                        success\n"
             "  1                        invalid input: faults 20 to 24, 27 and 32\n"
@@ -175,7 +176,7 @@ pub(crate) use text;
 /// Below the options of `keycount`.
 pub const AFTER_KEYCOUNT: &str = "\
 Rows are printed on standard output, and a fault as one line on standard error. The help of a
-command lists both, and keycount explain tells what a code means.
+command lists both, keycount explain tells what a code means, and keycount check where a fault is.
 
 Example:
   printf '21\\n4\\n21\\n' | keycount count -";
@@ -207,6 +208,33 @@ pub const AFTER_PLACE: &str = text!([]
     "\nExample:\n"
     "  printf '21\\n4\\nfoobar\\nabc\\n21\\n' > keys.csv\n"
     "  keycount place keys.csv | column -ts,"
+);
+
+/// Below the options of `check`.
+pub const AFTER_CHECK: &str = text!([]
+    "Rows, as CSV on standard output: a header with these columns, and a row for each problem:\n"
+    "  input                    file or script\n"
+    "  code                     the fault that a job would report if it came first\n"
+    "  record                   the number of the record, from 1, header included\n"
+    "  line                     the line that it begins on, from 1\n"
+    "  byte                     its first byte, from 0\n"
+    "  problem                  what was found, and what was wanted\n"
+    "First come the bad records of FILE, then the bad lines of SCRIPT, and then warnings, which have\n"
+    "no code: FILE is empty, or begins like a gzip, zstd or UTF-16 file; its first record is one\n"
+    "field with a tab or a semicolon in it; its last field is in quotes that are never closed.\n"
+    "The exit status is 1 if a row has a code.\n"
+    "\nFaults, as one line on standard error:\n"
+    "  fault 25                 " case_25 "\n"
+    "  fault 26                 " case_26 "\n"
+    "  fault 90                 " case_90 "\n"
+    "\nExit status:\n"
+    "  0                        success\n"
+    "  1                        invalid input: faults 20 to 24, 27 and 32\n"
+    "  2                        invalid command line\n"
+    "  3                        all other faults\n"
+    "\nExample:\n"
+    "  printf '21,a\\n4\\nabc,b\\n' > keys.csv\n"
+    "  keycount check keys.csv"
 );
 
 /// Below the options of `replay`.

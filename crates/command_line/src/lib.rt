@@ -22,9 +22,9 @@ mod words;
 
 pub use explanations::{REFUSALS, explanation_of, list_text, refusal_with_code};
 pub use help::{
-    AFTER_COUNT, AFTER_DRAW, AFTER_EXPLAIN, AFTER_KEYCOUNT, AFTER_PLACE, AFTER_REPLAY, AFTER_RUN,
-    AFTER_TRACE,
+    AFTER_CHECK, AFTER_COUNT, AFTER_DRAW, AFTER_EXPLAIN, AFTER_KEYCOUNT, AFTER_PLACE, AFTER_REPLAY,
+    AFTER_RUN, AFTER_TRACE,
 };
 pub use laws::each_refusal_is_explained;
-pub use options::{Column, LAST_COLUMN, Options, PlaceOptions};
+pub use options::{CheckOptions, Column, LAST_COLUMN, Options, PlaceOptions};
 pub use words::{Job, Usage, read_words};

@@ -47,6 +47,18 @@ pub struct PlaceOptions {
 /// The default of `--delimiter`.
 pub const DEFAULT_DELIMITER: u8 = b',';
 
+/// What `check` tells of a file and a script. The type does not check the bounds; `read_words` does.
+#[derive(Clone, Copy, Debug)]
+pub struct CheckOptions {
+    /// Whether the script is a plan.
+    pub plan: bool,
+    /// How many faults of each input are told at most, from 1.
+    pub most: u32,
+}
+
+/// The default of `--most`.
+pub const DEFAULT_MOST: u32 = 20;
+
 /// The default of `--batch`: that of Kafka's `max.poll.records`.
 pub const DEFAULT_BATCH: u32 = 500;
 
@@ -59,5 +71,5 @@ pub const LAST_CODE: u32 = 90;
 /// The last column that can be read: the largest number of `--column` and `--topic-column`.
 pub const LAST_COLUMN: u32 = 65_535;
 
-/// The largest `--top`.
+/// The largest `--top` and `--most`.
 pub const MOST_ROWS: u32 = 4_294_967_295;

@@ -1,25 +1,25 @@
 //! Parses the words of a command line: a subcommand, its options and its files.
 
-ghost use Rattle.std.specs.Prelude.{◌≡◌, ◌≤◌, ◌-◌, ◌^◌, false, IfOk, IfErr, IfSome, IsErrAnd, IsSome, Some, map, codes};
+ghost use Rattle.std.specs.Prelude.{◌≡◌, ◌≤◌, ◌-◌, ◌^◌, false, IfOk, IfErr, IfSome, IsErrAnd, IsSome, Some, map, codes, option_map};
 ghost use Rattle.clap.specs.Words.{fault_of, first_of, found_of, kind_of, rows_of, rule_of};
 ghost use Rattle.clap.specs.Simple.{App, with_rule, with_subcommand};
 ghost use Rattle.clap.specs.Walk.{Rule};
 ghost use Rattle.command_line.specs.Columns.{IsColumnOf};
-ghost use Rattle.command_line.specs.CommandLine.{HasOptions, HasPlaceOptions, HasScript, HaveBadList, IsBadListReport, IsJobOf, IsNumber, IsNumberIfGiven, IsRefusal};
+ghost use Rattle.command_line.specs.CommandLine.{HasOptions, HasPlaceOptions, HasScript, HaveBadList, IsBadListReport, IsJobOf, IsNumber, IsNumberIfGiven, IsRefusal, HasCheckOptions};
 ghost use Rattle.command_line.specs.Delimiters.{IsDelimiterOf};
 ghost use Rattle.command_line.specs.Topics.{AreTopicsOf};
-ghost use Rattle.command_line.specs.Private.CommandLine.{IsCommand, IsJobOfRows, IsOptionalNumber, IsReadAs, AreCountRows, AreExplainRows, AreOptionRows, ArePlaceRows, AreScriptRows, IsBadReport, IsUsageOf, ReportsBadColumn, ReportsBadDelimiter, ReportsBadList, ReportsBadOption};
-ghost use Rattle.command_line.specs.CommandLine.{code_argument, count_app, draw_app, explain_app, flag, keycount_app, keycount_top, number_option, path, place_app, replay_app, run_app, text_option, trace_app, with_options, with_script, with_top};
+ghost use Rattle.command_line.specs.Private.CommandLine.{IsCommand, IsJobOfRows, IsOptionalNumber, IsReadAs, AreCountRows, AreExplainRows, AreOptionRows, ArePlaceRows, AreScriptRows, IsBadReport, IsUsageOf, ReportsBadColumn, ReportsBadDelimiter, ReportsBadList, ReportsBadOption, AreCheckRows};
+ghost use Rattle.command_line.specs.CommandLine.{code_argument, count_app, draw_app, explain_app, flag, keycount_app, keycount_top, number_option, path, place_app, replay_app, run_app, text_option, trace_app, with_options, with_script, with_top, check_app, optional_path};
 
 use crate::columns::{is_numeral, parse_column};
 use crate::delimiters::parse_delimiter;
 use crate::help::{
-    AFTER_COUNT, AFTER_DRAW, AFTER_EXPLAIN, AFTER_KEYCOUNT, AFTER_PLACE, AFTER_REPLAY, AFTER_RUN,
-    AFTER_TRACE,
+    AFTER_CHECK, AFTER_COUNT, AFTER_DRAW, AFTER_EXPLAIN, AFTER_KEYCOUNT, AFTER_PLACE, AFTER_REPLAY,
+    AFTER_RUN, AFTER_TRACE,
 };
 use crate::options::{
-    Column, DEFAULT_BATCH, DEFAULT_DELIMITER, LAST_CODE, LAST_COLUMN, MOST_BATCH, MOST_ROWS,
-    Options, PlaceOptions,
+    CheckOptions, Column, DEFAULT_BATCH, DEFAULT_DELIMITER, DEFAULT_MOST, LAST_CODE, LAST_COLUMN,
+    MOST_BATCH, MOST_ROWS, Options, PlaceOptions,
 };
 use crate::topics;
 use clap::error::ErrorKind;
@@ -41,6 +41,13 @@ pub enum Job<'a> {
         file: &'a str,
         options: Options,
         place: PlaceOptions,
+    },
+    /// Checks a file, and a script or a plan if there is one.
+    Check {
+        file: &'a str,
+        script: Option<&'a str>,
+        options: Options,
+        check: CheckOptions,
     },
     /// Replays a script over the keys of a file.
     Replay {
@@ -90,6 +97,10 @@ const PARTITIONS_HELP: &str = "Number of partitions, 1 to 4096 [default: 4]";
 
 const COLUMN_HELP: &str = "Column of the key: 1 to 65535, or with --header its name [default: 1]";
 
+const HEADER_HELP: &str = "Skip the first record, which is a header";
+
+const KEYS_HELP: &str = "Print a row for each key";
+
 const TOPICS_HELP: &str =
     "1 to 8 topics as NAME:N,NAME:N with N partitions each, at most 4096 in all";
 
@@ -102,6 +113,12 @@ const TOP_HELP: &str = "Count rows of only the N keys with the most records, mos
 const BAD_TOPICS: &str = "bad topics\n";
 
 const GIVEN_HELP: &str = "Compare with the partitions in column N, 1 to 65535; not with --keys";
+
+const SCRIPT_HELP: &str = "Script to check too; - is standard input";
+
+const PLAN_HELP: &str = "Read SCRIPT as a plan for run";
+
+const MOST_HELP: &str = "Report at most N faults of each file, 1 to 4294967295 [default: 20]";
 
 const BAD_VALUE: &str = "error: invalid value";
 
@@ -162,13 +179,14 @@ fn text_option<'a>(alloc: Global, name: &'a str, shown: &'a str, help: &'a str) 
         .action(ArgAction::Set)
 }
 
-fn header_flag<'a>(alloc: Global) -> Arg<'a>
-    ensures rule { rule_of result ≡ flag (codes "header") }
+/// A flag.
+fn flag<'a>(alloc: Global, name: &'a str, help: &'a str) -> Arg<'a>
+    ensures rule { rule_of result ≡ flag name.now }
     ensures local { result.global ≡ false }
 {
-    Arg::new(alloc, "header")
-        .long("header")
-        .help("Skip the first record, which is a header")
+    Arg::new(alloc, name)
+        .long(name)
+        .help(help)
         .action(ArgAction::SetTrue)
 }
 
@@ -207,7 +225,7 @@ fn with_options<'a>(
     let partitions = number_option(alloc, "partitions", PARTITIONS_HELP, MOST_PARTITIONS);
     let command = with_arg(command, partitions);
     let command = with_arg(command, text_option(alloc, "column", "N", COLUMN_HELP));
-    let command = with_arg(command, header_flag(alloc));
+    let command = with_arg(command, flag(alloc, "header", HEADER_HELP));
     let command = with_arg(command, text_option(alloc, "topics", "LIST", TOPICS_HELP));
     let topic_column = text_option(alloc, "topic-column", "N", TOPIC_COLUMN_HELP);
     let command = with_arg(command, topic_column);
@@ -238,16 +256,6 @@ fn count_command<'a>(alloc: Global) -> Result<Command<'a>, AllocError>
     with_top(alloc, with_options(alloc, command))
 }
 
-fn keys_flag<'a>(alloc: Global) -> Arg<'a>
-    ensures rule { rule_of result ≡ flag (codes "keys") }
-    ensures local { result.global ≡ false }
-{
-    Arg::new(alloc, "keys")
-        .long("keys")
-        .help("Print a row for each key")
-        .action(ArgAction::SetTrue)
-}
-
 fn place_command<'a>(alloc: Global) -> Result<Command<'a>, AllocError>
     ensures { IfOk result (IsCommand place_app) }
 {
@@ -256,11 +264,35 @@ fn place_command<'a>(alloc: Global) -> Result<Command<'a>, AllocError>
         .after_help(AFTER_PLACE)
         .arg(file_path(alloc));
     let command = with_options(alloc, command);
-    let command = with_arg(command, keys_flag(alloc));
+    let command = with_arg(command, flag(alloc, "keys", KEYS_HELP));
     with_arg(
         command,
         number_option(alloc, "given", GIVEN_HELP, LAST_COLUMN),
     )
+}
+
+/// A path that may be left out.
+fn optional_path<'a>(alloc: Global, name: &'a str, shown: &'a str, help: &'a str) -> Arg<'a>
+    ensures rule { rule_of result ≡ optional_path name.now }
+    ensures local { result.global ≡ false }
+{
+    Arg::new(alloc, name)
+        .value_name(shown)
+        .help(help)
+        .action(ArgAction::Set)
+}
+
+fn check_command<'a>(alloc: Global) -> Result<Command<'a>, AllocError>
+    ensures { IfOk result (IsCommand check_app) }
+{
+    let command = Command::new(alloc, "check")
+        .about("Find what is wrong with a CSV file, and with a script, and where")
+        .after_help(AFTER_CHECK)
+        .arg(file_path(alloc));
+    let script = optional_path(alloc, "script", "SCRIPT", SCRIPT_HELP);
+    let command = with_options(alloc, with_arg(command, script));
+    let command = with_arg(command, flag(alloc, "plan", PLAN_HELP));
+    with_arg(command, number_option(alloc, "most", MOST_HELP, MOST_ROWS))
 }
 
 /// Adds what `replay`, `trace`, `draw` and `run` have: a file, a script, the common options and `--batch`.
@@ -367,6 +399,7 @@ fn keycount_command<'a>(alloc: Global) -> Result<Command<'a>, AllocError>
     let command = with_subcommand(command, trace_command(alloc));
     let command = with_subcommand(command, draw_command(alloc));
     let command = with_subcommand(command, run_command(alloc));
+    let command = with_subcommand(command, check_command(alloc));
     with_subcommand(command, explain_command(alloc))
 }
 
@@ -644,6 +677,42 @@ fn place_options_of(given: &ArgMatches) -> PlaceOptions
     }
 }
 
+/// The value of an argument that may be left out.
+fn optional_text<'a>(given: &ArgMatches<'a>, id: &str) -> Option<&'a str>
+    ensures { first_of id.now (rows_of (found_of given.now))
+        ≡ option_map (λ text. text.now) result }
+{
+    given.get_str(id)
+}
+
+/// The options that `check` alone has, from what clap found.
+fn check_options_of(given: &ArgMatches) -> CheckOptions
+    requires { AreCheckRows (rows_of (found_of given.now)) }
+    ensures { HasCheckOptions (rows_of (found_of given.now)) result }
+{
+    CheckOptions {
+        plan: given.get_flag("plan"),
+        most: number_of(given, "most", DEFAULT_MOST),
+    }
+}
+
+fn check_job<'a>(alloc: Global, given: &ArgMatches<'a>) -> Result<Job<'a>, Usage>
+    requires { AreCheckRows (rows_of (found_of given.now)) }
+    ensures job { IfOk result (IsJobOfRows (codes "check") (rows_of (found_of given.now))) }
+    ensures fault { IfErr result (ReportsBadOption (rows_of (found_of given.now))) }
+{
+    let file = text_of(given, "file");
+    let script = optional_text(given, "script");
+    let check = check_options_of(given);
+    let options = options_of(alloc, given, DEFAULT_BATCH, None)?;
+    Ok(Job::Check {
+        file,
+        script,
+        options,
+        check,
+    })
+}
+
 fn explain_job<'a>(given: &ArgMatches) -> Job<'a>
     requires { AreExplainRows (rows_of (found_of given.now)) }
     ensures { IsJobOfRows (codes "explain") (rows_of (found_of given.now)) result }
@@ -692,6 +761,7 @@ pub fn read_words<'a>(alloc: Global, words: &'a [&'a str]) -> Result<Job<'a>, Us
     match name {
         "count" => count_job(alloc, given),
         "place" => place_job(alloc, given),
+        "check" => check_job(alloc, given),
         "replay" => replay_job(alloc, given),
         "trace" => trace_job(alloc, given),
         "draw" => draw_job(alloc, given),

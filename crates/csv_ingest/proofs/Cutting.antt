@@ -7,7 +7,8 @@ use Rattle.std.proofs.lemmas.Grind.{get_or_default_zero}
 use Rattle.std.proofs.lemmas.Bool.{cases_Bool, eq-eqb, ne_eqb}
 use Rattle.std.specs.Prelude.{All, if◌then◌else◌, suc, zero}
 use Rattle.csv.specs.Reading.{is_bom, strip_bom}
-use Rattle.csv_ingest.specs.Private.Cuts.{AlwaysEndsRecord, bom_length}
+use Rattle.csv_ingest.specs.Pieces.{bom_length}
+use Rattle.csv_ingest.specs.Private.Cuts.{AlwaysEndsRecord}
 use Rattle.csv_ingest.specs.Stand.{EndsRecord, in_quotes, is_line_end, stand_after, stand_next, unquoted}
 use Rattle.csv_ingest.specs.declared.stand.Stand.{Stand}
 use Rattle.csv_ingest.specs.declared.stand.Stand.TheVariants as k

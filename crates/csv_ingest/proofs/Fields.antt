@@ -13,8 +13,7 @@ use Rattle.csv.specs.Records.{field_at}
 use Rattle.csv.specs.declared.parser.State.{State}
 use Rattle.csv.specs.declared.parser.State.TheVariants as st
 use Rattle.csv_ingest.specs.KeyFile.{Record, after_keys, dialect, field_or_lack, key_in, keys_from}
-use Rattle.csv_ingest.specs.Pieces.{file_records, piece_keys}
-use Rattle.csv_ingest.specs.Private.Cuts.{bom_length}
+use Rattle.csv_ingest.specs.Pieces.{file_records, piece_keys, bom_length}
 use Rattle.csv_ingest.specs.Private.FieldEnds.{ends_field}
 use Rattle.csv_ingest.specs.Private.Fields.{EndsField, IsLineEnd, IsRow, IsWhole, ReadsField, ReadsRow, kept}
 use Rattle.csv_ingest.specs.Private.KeyFile.{IsFaultAt, TakesKey}

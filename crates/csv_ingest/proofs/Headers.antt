@@ -1,11 +1,10 @@
 -- The first record of a file in pieces, and the columns that it names.
-use Rattle.std.proofs.Common.{◌≡◌, ◌<◌, ◌+◌, ◌∙◌, ℕ, suc, zero, List, [], ◌∷◌, ◌++◌, Bool, Bor, true, false, Some, None, Ok, Err, Option, length, get_or, drop, take, refl, ap, sym, arith}
+use Rattle.std.proofs.Common.{◌≡◌, ◌<◌, ◌+◌, ◌∙◌, ℕ, suc, zero, List, [], ◌∷◌, ◌++◌, Bool, Bor, true, false, Some, Ok, Option, length, get_or, drop, take, refl, ap, sym, arith}
 use Rattle.std.specs.Prelude.{flat_map}
 use Rattle.std.specs.List.{position_from}
 use Rattle.std.specs.Str.{bytes_eq}
 use Rattle.std.proofs.lemmas.List.{drop_more, get_or-take, length-take}
 use Rattle.csv.specs.Records.{field_at}
-use Rattle.lane_words.specs.declared.Refusal.TheVariants as r
 use Rattle.csv_ingest.specs.Header.{column_at, column_named}
 use Rattle.csv_ingest.specs.KeyFile.{Record}
 use Rattle.csv_ingest.specs.Pieces.{file_records}

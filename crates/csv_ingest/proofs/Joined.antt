@@ -1,7 +1,7 @@
 -- The keys of a file from those of its pieces.
-use Rattle.std.proofs.Common.{◌≡◌, ◌<◌, ◌≤◌, ◌+◌, ◌∙◌, ℕ, List, [], ◌∷◌, ◌++◌, Bool, true, false, Result, Ok, Err, length, get_or, sym, ap, refl, inl, inr, arith}
+use Rattle.std.proofs.Common.{◌≡◌, ◌≤◌, ◌+◌, ◌∙◌, ℕ, List, [], ◌∷◌, ◌++◌, Bool, true, false, Result, Ok, Err, length, sym, ap, refl, inl, inr, arith}
 use Rattle.lane_words.specs.Answers.{Answers}
-use Rattle.std.specs.Prelude.{◌⊎◌, suc, zero}
+use Rattle.std.specs.Prelude.{◌⊎◌}
 use Rattle.lane_words.specs.declared.Refusal.{Refusal}
 use Rattle.lane_words.specs.declared.Refusal.TheVariants as r
 use Rattle.csv_ingest.specs.KeyFile.{Record, Taking, after_keys, key_before, keys_of_records, taken_of}

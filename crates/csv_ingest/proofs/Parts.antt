@@ -1,5 +1,5 @@
 -- A file in pieces, and its keys by those of the pieces.
-use Rattle.std.proofs.Common.{◌≡◌, ◌<◌, ◌≤◌, ◌+◌, ◌-◌, ◌∙◌, ℕ, List, [], ◌∷◌, ◌++◌, Bool, Bor, false, Result, Ok, Err, length, get_or, get_or-drop, take, take-add, drop, map, sym, ap, refl, subst, arith, append-nil, append_assoc, length-append, length-drop}
+use Rattle.std.proofs.Common.{◌≡◌, ◌<◌, ◌≤◌, ◌+◌, ◌-◌, ◌∙◌, ℕ, List, [], ◌∷◌, ◌++◌, Bool, Bor, Result, Ok, Err, length, get_or, get_or-drop, take, take-add, drop, map, sym, ap, refl, subst, arith, append-nil, append_assoc, length-append, length-drop}
 use Rattle.std.proofs.lemmas.Bool.{ne_eqb}
 use Rattle.std.proofs.lemmas.List.{map-append, take-append-drop, take_all}
 use Rattle.std.specs.Prelude.{suc, zero, flat_map}

@@ -10,7 +10,7 @@ use Rattle.csv.specs.declared.parser.State.{State}
 use Rattle.csv.specs.declared.parser.State.TheVariants as st
 use Rattle.csv_ingest.specs.KeyFile.{Record, dialect}
 use Rattle.csv.specs.declared.reader.Reader.{Reader}
-use Rattle.csv_ingest.specs.Private.Records.{IsBetween, ReadsRecords, records_at, records_left}
+use Rattle.csv_ingest.specs.Records.{IsBetween, ReadsRecords, records_at, records_left}
 
 -- a step that ends a record stands between two
 abbrev pub EndsBetween : State × Action → Type 0

@@ -13,7 +13,7 @@ use Rattle.csv_ingest.specs.declared.lack.Lack.TheVariants as l
 use Rattle.csv_ingest.specs.Pieces.{file_records}
 use Rattle.csv_ingest.specs.Private.Pieces.{fault_number}
 use Rattle.csv_ingest.specs.KeyFile.{Record, Taking, dialect, keyed, keys_from}
-use Rattle.csv_ingest.specs.Private.Records.{IsBetween}
+use Rattle.csv_ingest.specs.Records.{IsBetween}
 use Rattle.csv_ingest.proofs.Progress.{step-between}
 use Rattle.csv_ingest.specs.Private.Walk.{walk}
 use Rattle.csv_ingest.proofs.Walk.{records-walk}

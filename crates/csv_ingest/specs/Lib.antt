@@ -2,4 +2,5 @@ pub mod Header
 pub mod KeyFile
 pub mod Pieces
 pub mod Private
+pub mod Records
 pub mod Stand

@@ -1,6 +1,6 @@
 -- The keys of the pieces of a file, and those of the whole.
-use Rattle.std.specs.Prelude.{◌≡◌, ℕ, ◌+◌, List, [], ◌∷◌, ◌++◌, length, Result, Ok, Err}
-use Rattle.csv.specs.Reading.{records, strip_bom}
+use Rattle.std.specs.Prelude.{◌≡◌, ℕ, ◌+◌, if◌then◌else◌, List, [], ◌∷◌, ◌++◌, length, Result, Ok, Err}
+use Rattle.csv.specs.Reading.{is_bom, records, strip_bom}
 use Rattle.lane_words.specs.declared.Refusal.{Refusal}
 use Rattle.lane_words.specs.declared.Refusal.TheVariants as r
 use Rattle.csv_ingest.specs.KeyFile.{Record, Taking, after_keys, dialect, keys_from}
@@ -14,6 +14,13 @@ pub record RecordFile : Type 0 where
 -- the records of a file with this delimiter
 abbrev pub file_records : ℕ → List ℕ → List Record
 file_records delimiter bytes = records (dialect delimiter) (strip_bom bytes)
+
+-- how many bytes a byte order mark takes at the start of a file
+unfoldable pub bom_length : List ℕ → ℕ
+bom_length [] = 0
+bom_length (a ∷ []) = 0
+bom_length (a ∷ b ∷ []) = 0
+bom_length (a ∷ b ∷ c ∷ rest) = if is_bom a b c then 3 else 0
 
 -- the pieces of a file with this delimiter, which is cut before line feeds that end a record
 unfoldable pub ArePieces : ℕ → List ℕ → List (List ℕ) → Type 0

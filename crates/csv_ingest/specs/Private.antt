@@ -5,6 +5,5 @@ pub mod FileKeys
 pub mod Header
 pub mod KeyFile
 pub mod Pieces
-pub mod Records
 pub mod Walk
 pub mod Wanted

@@ -2,8 +2,8 @@
 
 ghost use Rattle.std.specs.Prelude.{◌≡◌, ◌≤◌, ◌<◌, ◌++◌, false, length, slice_index, take, IfOk, IfSome};
 ghost use Rattle.csv.specs.Reading.{is_bom, strip_bom};
-ghost use Rattle.csv_ingest.specs.Pieces.{ArePieces};
-ghost use Rattle.csv_ingest.specs.Private.Cuts.{AlwaysEndsRecord, bom_length};
+ghost use Rattle.csv_ingest.specs.Pieces.{ArePieces, bom_length};
+ghost use Rattle.csv_ingest.specs.Private.Cuts.{AlwaysEndsRecord};
 ghost use Rattle.csv_ingest.specs.Private.Pieces.{lent};
 ghost use Rattle.csv_ingest.specs.Stand.{EndsRecord, IsCut, is_line_end};
 

@@ -50,7 +50,7 @@ fn read_header(
 }
 
 /// The index of the first field with this name, among the first `most` fields of a record.
-fn index_of(row: &ByteRecord, name: &[u8], most: u32) -> Option<u32>
+pub fn field_named(row: &ByteRecord, name: &[u8], most: u32) -> Option<u32>
     ensures value { result ≡ position_from (bytes_eq name.now) 0 (take most (fields_of row.now)) }
     ensures bound { IfSome result (λ index. index < most) }
 {
@@ -82,7 +82,7 @@ pub fn column_named(alloc: Global, file: &Blocks, name: &[u8], most: u32) -> Res
     if !read_header(alloc, &pieces, file.delimiter(), &mut row)? {
         return Ok(1);
     }
-    match index_of(&row, name, most) {
+    match field_named(&row, name, most) {
         Some(index) => Ok(index + 1),
         None => Err(Refusal::NoSuchColumn { nth: 1 }),
     }

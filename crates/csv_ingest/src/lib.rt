@@ -5,6 +5,7 @@
 //!   exactly as the definition by records says (`keys_of`), however the file is split. The only
 //!   other error is running out of memory.
 //! - `column_named` returns the column of the header's first field with a name.
+//! - `records_of` and `next_record` read a file's records one by one.
 //! - Laws: when a file can be split at a line feed, and how the records and keys of a file follow
 //!   from those of its chunks.
 //!
@@ -33,8 +34,9 @@ pub use apart::{
     read_topic_keys_in_pieces,
 };
 pub use blocks::Blocks;
+pub use cuts::mark_length;
 pub use file_keys::FileKeys;
-pub use header::column_named;
+pub use header::{column_named, field_named};
 pub use lack::Lack;
 pub use laws::{
     a_key_a_record, cut_before_a_line_feed, cut_behind_a_record, cut_file, cut_without_quotes,
@@ -42,6 +44,7 @@ pub use laws::{
     outside_without_quotes, records_of_pieces, stand_after_two,
 };
 pub use record_batch::RecordBatch;
+pub use records::{next_record, records_of};
 pub use stand::Stand;
 pub use topic_keys::TopicKeys;
 pub use whole::read_keys;

@@ -3,7 +3,7 @@
 ghost use Rattle.std.specs.Prelude.{◌≡◌, IfOk};
 ghost use Rattle.csv.specs.Records.{fields_of};
 ghost use Rattle.csv_ingest.specs.Pieces.{file_records};
-ghost use Rattle.csv_ingest.specs.Private.Records.{ReadsRecords, TakesNext, records_left};
+ghost use Rattle.csv_ingest.specs.Records.{ReadsRecords, TakesNext, records_left};
 
 use csv::{ByteRecord, Reader, ReaderBuilder};
 use lane_words::Memory;

@@ -4,8 +4,7 @@
 ghost use Rattle.std.specs.Prelude.{◌≡◌, ◌≤◌, ◌<◌, ◌+◌, ◌-◌, ◌^◌, ◌⊎◌, ◌∷◌, ◌++◌, [], ℕ, IfErr, IfOk, List, Ok, OnOk, Err, get_or, length, slice_range, true, false};
 ghost use Rattle.csv.specs.declared.parser.State.TheVariants as st;
 ghost use Rattle.csv_ingest.specs.KeyFile.{IsFileFault, Record, key_in, taken_of};
-ghost use Rattle.csv_ingest.specs.Pieces.{file_records, piece_keys};
-ghost use Rattle.csv_ingest.specs.Private.Cuts.{bom_length};
+ghost use Rattle.csv_ingest.specs.Pieces.{bom_length, file_records, piece_keys};
 ghost use Rattle.csv_ingest.specs.Private.Fields.{EndsField, IsRow, IsWhole, ReadsField, ReadsRow, kept};
 ghost use Rattle.csv_ingest.specs.Private.Pieces.{IsWidthOf};
 ghost use Rattle.csv_ingest.specs.Private.KeyFile.{IsFaultAt, TakesKey};

@@ -5,7 +5,7 @@ ghost use Rattle.csv.specs.Reading.{default_config, records, strip_bom};
 ghost use Rattle.csv.specs.Records.{field_at, fields_of};
 ghost use Rattle.csv_ingest.specs.KeyFile.{IsFileFault, keys_of, keys_of_records, taken_of};
 ghost use Rattle.csv_ingest.specs.Private.KeyFile.{IsFaultAt, TakesKey, keys_then};
-ghost use Rattle.csv_ingest.specs.Private.Records.{ReadsRecords, TakesNext, records_left};
+ghost use Rattle.csv_ingest.specs.Records.{ReadsRecords, TakesNext, records_left};
 ghost use Rattle.csv_ingest.specs.Private.Wanted.{item, taking};
 ghost use Rattle.lane_words.specs.declared.Refusal.TheVariants as refusal;
 

@@ -1,19 +1,19 @@
-//! `keycount`: counts the keys of a CSV file, tells where they go, replays, traces or draws a
-//! script over them, runs a plan over them with a thread for each member, or explains a refusal.
+//! `keycount`: counts the keys of a CSV file, tells where they go, checks it, replays, traces or
+//! draws a script over it, runs a plan over it with a thread for each member, or explains a refusal.
 //! The program opens the files, lends the runtime's devices and threads to a call of `report_cli`,
 //! and prints the line of a fault. All that it reads and writes is a promise of `report_cli`.
 //!
 //! Tests: the example in `data`, `stdin` and `stdout`, `report_tests`, and the black-box tests.
 #![tactic(auto)]
 
-ghost use Rattle.report_cli.specs.Options.{AreInRange, IsPlaceInRange};
+ghost use Rattle.report_cli.specs.Options.{AreInRange, IsCheckInRange, IsPlaceInRange};
 
 use lane_words::Refusal;
 use progress::{ProgressLine, Watched};
 use report_cli::{
-    FromRead, FromWrite, Job, Options, PlaceOptions, Usage, asks_for_two_tables, count_text,
-    draw_text, explain_text, fault_line, place_text, read_words, reads_input_twice,
-    refusal_with_code, replay_text, run_text, status, trace_text,
+    CheckOptions, FromRead, FromWrite, Job, Options, PlaceOptions, Usage, asks_for_two_tables,
+    check_both_text, check_text, count_text, draw_text, explain_text, fault_line, place_text,
+    read_words, reads_input_twice, refusal_with_code, replay_text, run_text, status, trace_text,
 };
 use std::alloc::AllocError;
 use std::env;
@@ -140,6 +140,74 @@ fn place_file<R: Threads + Sync + RandomSource>(
     }
 }
 
+/// Checks a file that is opened.
+fn check<F: Read + Drop>(
+    rt: &HostRuntime,
+    file: Input<F>,
+    options: &Options,
+    with: &CheckOptions,
+) -> Result<bool, Refusal>
+    requires options { AreInRange options.now }
+    requires check { IsCheckInRange with.now }
+{
+    let line = progress_line(rt, file.expected);
+    let mut source = Watched::new(FromRead::expecting(file.reader, file.expected), line);
+    let mut sink = FromWrite::new(rt.stdout());
+    check_text(rt.alloc(), &mut source, options, with, &mut sink)
+}
+
+/// Checks a file and a script that are opened.
+fn check_both<F: Read + Drop, S: Read + Drop>(
+    rt: &HostRuntime,
+    file: Input<F>,
+    script: S,
+    options: &Options,
+    with: &CheckOptions,
+) -> Result<bool, Refusal>
+    requires options { AreInRange options.now }
+    requires check { IsCheckInRange with.now }
+{
+    let line = progress_line(rt, file.expected);
+    let mut source = Watched::new(FromRead::expecting(file.reader, file.expected), line);
+    let mut script = FromRead::new(script);
+    let mut sink = FromWrite::new(rt.stdout());
+    check_both_text(
+        rt.alloc(),
+        &mut source,
+        &mut script,
+        options,
+        with,
+        &mut sink,
+    )
+}
+
+/// Checks the file at one path, and the script at another if there is one. Both are opened before
+/// either is read. One of the paths can be `-`, which stands for standard input.
+fn check_files(
+    rt: &HostRuntime,
+    file: &str,
+    script: Option<&str>,
+    options: &Options,
+    with: &CheckOptions,
+) -> Result<bool, Refusal>
+    requires options { AreInRange options.now }
+    requires check { IsCheckInRange with.now }
+{
+    match (file, script) {
+        ("-", None) => check(rt, unsized_input(rt.stdin()), options, with),
+        (_, None) => check(rt, input_at(rt, file)?, options, with),
+        ("-", Some(script)) => {
+            let file = unsized_input(rt.stdin());
+            check_both(rt, file, open_file(rt, script)?, options, with)
+        }
+        (_, Some("-")) => check_both(rt, input_at(rt, file)?, rt.stdin(), options, with),
+        (_, Some(script)) => {
+            let file = input_at(rt, file)?;
+            check_both(rt, file, open_file(rt, script)?, options, with)
+        }
+    }
+}
+
 /// A gate that lets every worker commit at once.
 struct OpenGate;
 
@@ -244,8 +312,9 @@ fn exit_code(rt: &HostRuntime, answer: Result<(), Refusal>) -> ExitCode {
     }
 }
 
-/// The exit status of a place: 1 if a record is misplaced. A fault is printed.
-fn place_exit_code(rt: &HostRuntime, answer: Result<bool, Refusal>) -> ExitCode {
+/// The exit status of a place or a check: 1 if a record is misplaced, or if there is a fault in the
+/// input. A fault of the job is printed.
+fn exit_code_found(rt: &HostRuntime, answer: Result<bool, Refusal>) -> ExitCode {
     match answer {
         Ok(true) => ExitCode::from(1),
         Ok(false) => ExitCode::SUCCESS,
@@ -291,7 +360,15 @@ fn run_job<R: Threads + Wait + RandomSource + Sync>(
                 options,
                 place,
             },
-        ) => place_exit_code(rt, place_file(rt, threads, file, options, place)),
+        ) => exit_code_found(rt, place_file(rt, threads, file, options, place)),
+        Ok(
+            Job::Check {
+                file,
+                script,
+                options,
+                check,
+            },
+        ) => exit_code_found(rt, check_files(rt, file, *script, options, check)),
         Ok(
             Job::Replay {
                 file,

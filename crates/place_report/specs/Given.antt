@@ -35,7 +35,7 @@ both (Ok one) (Err fault) = Err fault
 both (Err fault) (Ok other) = Err fault
 both (Err fault) (Err other) = Err (earlier_fault fault other)
 
--- the records of a file, and what the given column of each has, or the fault of the first bad record
+-- the records of a file, and what the given column of each has, or the fault of the first bad one
 abbrev pub records_and_given : Options → ℕ → List ℕ → Result (List Keyed × List (List ℕ)) Refusal
 records_and_given options given file =
     both (records_of options file) (keys_of options.delimiter given options.header file)

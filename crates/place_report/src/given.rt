@@ -87,7 +87,8 @@ fn read_both<R: Threads + Sync + RandomSource>(
     requires options { AreInRange options.now }
     requires delimiter { file.now.delimiter ≡ options.now.delimiter }
     requires given { 1 ≤ given }
-    ensures answer { Answers (records_and_given options.now given file.now.bytes) (both_seen result) }
+    ensures answer { Answers (records_and_given options.now given file.now.bytes)
+        (both_seen result) }
     ensures topics { IfOk result
         (λ read. AreOfTopics (partition_counts options.now) (records_in read.0)) }
     ensures len { IfOk result (λ read. length read.1 ≡ length (records_in read.0)) }

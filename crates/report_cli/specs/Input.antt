@@ -1,12 +1,15 @@
 -- Jobs that would read standard input twice, or ask for two tables.
-use Rattle.std.specs.Prelude.{◌≡◌, true, IsSome, codes}
+use Rattle.std.specs.Prelude.{◌≡◌, true, IsSome, Some, None, codes}
 use Rattle.command_line.specs.declared.words.Job.{Job}
-use Rattle.command_line.specs.declared.words.Job.TheVariants.{Count, Place, Replay, Trace, Draw, Run, Explain}
+use Rattle.command_line.specs.declared.words.Job.TheVariants.{Count, Place, Check, Replay, Trace, Draw, Run, Explain}
 
 -- both files of a job are standard input, whose path is `-`
 abbrev pub ReadsInputTwice : Job → Type 0
 ReadsInputTwice (Count file options) = ⊥
 ReadsInputTwice (Place file options place) = ⊥
+ReadsInputTwice (Check file None options check) = ⊥
+ReadsInputTwice (Check file (Some script) options check) =
+    (file.now ≡ codes "-") × (script.now ≡ codes "-")
 ReadsInputTwice (Replay file script options) = (file.now ≡ codes "-") × (script.now ≡ codes "-")
 ReadsInputTwice (Trace file script options) = (file.now ≡ codes "-") × (script.now ≡ codes "-")
 ReadsInputTwice (Draw file script options) = (file.now ≡ codes "-") × (script.now ≡ codes "-")

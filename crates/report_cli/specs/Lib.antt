@@ -1,6 +1,12 @@
 pub mod Explain
 pub mod Faults
 pub mod Input
+pub use Rattle.check_report.specs.CheckReport
+pub use Rattle.check_report.specs.Findings
+pub use Rattle.check_report.specs.Places
+pub use Rattle.check_report.specs.RecordFindings
+pub use Rattle.check_report.specs.ScriptFindings
+pub use Rattle.check_report.specs.Warnings
 pub use Rattle.command_line.specs.CommandLine
 pub use Rattle.command_line.specs.Explanations
 pub use Rattle.command_line.specs.Options

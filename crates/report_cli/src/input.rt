@@ -17,8 +17,16 @@ pub fn reads_input_twice(job: &Job) -> bool
     ensures { IsTrue result ↔ ReadsInputTwice job.now }
 {
     match job {
-        Job::Count { .. } | Job::Place { .. } | Job::Explain { .. } => false,
-        Job::Replay { file, script, .. }
+        Job::Count { .. }
+        | Job::Place { .. }
+        | Job::Check { script: None, .. }
+        | Job::Explain { .. } => false,
+        Job::Check {
+            file,
+            script: Some(script),
+            ..
+        }
+        | Job::Replay { file, script, .. }
         | Job::Trace { file, script, .. }
         | Job::Draw { file, script, .. }
         | Job::Run { file, script, .. } => { is_standard_input(file) && is_standard_input(script) }

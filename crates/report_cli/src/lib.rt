@@ -15,7 +15,10 @@ mod faults;
 mod input;
 
 pub use byte_io::{DeviceFailed, FromRead, FromWrite, Sink, Source};
-pub use command_line::{Job, Options, PlaceOptions, Usage, read_words, refusal_with_code};
+pub use check_report::{check_both_text, check_text};
+pub use command_line::{
+    CheckOptions, Job, Options, PlaceOptions, Usage, read_words, refusal_with_code,
+};
 pub use count_report::count_text;
 pub use draw_report::draw_text;
 pub use explain::explain_text;

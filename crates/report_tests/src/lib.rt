@@ -6,6 +6,8 @@ ghost use Rattle.std.specs.Prelude.{◌≡◌, ◌≤◌};
 ghost use Rattle.ingest.specs.Reports.{AreInRange};
 
 #[cfg(test)]
+mod checks;
+#[cfg(test)]
 mod cluster_rows;
 #[cfg(test)]
 mod count_rows;

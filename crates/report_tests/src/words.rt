@@ -44,6 +44,12 @@ fn reported_of<'a>(job: &Job<'a>) -> (&'static str, Parsed<'a>) {
     match job {
         Job::Count { file, options } => ("count", (*file, "", plain(options))),
         Job::Place { file, options, .. } => ("place", (*file, "", plain(options))),
+        Job::Check {
+            file,
+            script,
+            options,
+            ..
+        } => ("check", (*file, script.unwrap_or(""), plain(options))),
         Job::Replay {
             file,
             script,
@@ -302,6 +308,46 @@ fn a_place_has_keys_or_a_given_column(rt: HostRuntime) {
     }
 }
 
+/// What a check has: its script, whether that is a plan, and how many faults it tells at most.
+type Check<'a> = (Option<&'a str>, bool, u32);
+
+/// Arguments of a check, with what it has.
+const CHECKS: [(&[&str], Check<'static>); 4] = [
+    (&["check", "f"], (None, false, 20)),
+    (&["check", "f", "s"], (Some("s"), false, 20)),
+    (
+        &["check", "--plan", "f", "--header", "-"],
+        (Some("-"), true, 20),
+    ),
+    (
+        &["check", "f", "--most=4294967295"],
+        (None, false, 4_294_967_295),
+    ),
+];
+
+/// Whether the arguments ask for this check of the file f.
+fn asks_what(alloc: Global, words: &[&str], wanted: &Check<'_>) -> bool {
+    let answer = read_words(alloc, words);
+    match &answer {
+        Ok(
+            Job::Check {
+                file,
+                script,
+                check,
+                ..
+            },
+        ) => (*file, (*script, check.plan, check.most)) == ("f", *wanted),
+        _ => false,
+    }
+}
+
+#[test]
+fn a_check_has_a_script_or_none(rt: HostRuntime) {
+    for (i, (words, check)) in CHECKS.iter().enumerate() {
+        assert!(rt; asks_what(rt.alloc(), words, check), "case {i}");
+    }
+}
+
 /// The topics of a list, each with its number of partitions.
 type Topics<'a> = &'a [(&'a str, u32)];
 
@@ -327,6 +373,7 @@ fn options_of<'a>(job: &'a Job<'_>) -> Option<&'a Options> {
     match job {
         Job::Count { options, .. }
         | Job::Place { options, .. }
+        | Job::Check { options, .. }
         | Job::Replay { options, .. }
         | Job::Trace { options, .. }
         | Job::Draw { options, .. }

@@ -1,11 +1,11 @@
 -- The bytes before the first byte that passes a test, and the bytes after it.
 use Rattle.std.proofs.Common.{◌≡◌, refl, ap, subst, ◌∙◌, ℕ, ◌+◌, ◌-◌, ◌<◌, ◌≤◌, Bool, true, false, cond, not, ltb, List, [], ◌∷◌, ◌++◌, length, take, drop, Option, Some, None, arith, add_comm}
 use Rattle.std.proofs.Math.Seq.{drop-append-add, get_or-append_seam, take-append_seam}
-use Rattle.std.proofs.lemmas.List.{get_or_append_left, length-append, take_rest}
+use Rattle.std.proofs.lemmas.List.{get_or_append_left, length-append, length-drop, length-take, take_rest}
 use Rattle.std.proofs.lemmas.List.Sums.{passes_at_first, position_or_len_is, split_at_first}
 use Rattle.std.specs.List.{All, after_first, before_first, onto_first, position, position_or_len}
 use Rattle.std.specs.Option.{option_map}
-use Rattle.script.specs.Grammar.{is_line_feed, is_space, split_lines, split_word}
+use Rattle.script.specs.Grammar.{is_line_feed, is_space, line_starts, line_starts_of, split_lines, split_word}
 use native.Mathlib.Numerals.{unary_clauses}
 use borrow.Author.Tests.{eqb-true, lt-ltb, ltb-true, ltb-false}
 
@@ -106,3 +106,20 @@ split-there word text h =
     (λ below. ap is_space (get_or-append_seam word 32 text 0)) in
     let within : length word < length (word ++ 32 ∷ text) = omega arith in
     rw (at, lt-ltb _ _ within, take-append_seam, drop-append-add word (32 ∷ text) 1) refl
+
+-- the lines behind a line feed begin behind it
+pub starts-found : (xs : List ℕ) (i first : ℕ) → position is_line_feed xs ≡ Some i
+    → line_starts first xs
+    ≡ first ∷ line_starts (first + (length xs - length (take (length xs - (i + 1)) (drop (i + 1) xs))))
+    (take (length xs - (i + 1)) (drop (i + 1) xs))
+starts-found xs i first e =
+    let at = first_at is_line_feed xs i e in
+    let rest = take (length xs - (i + 1)) (drop (i + 1) xs) in
+    let long : (first + length (take i xs)) + 1 ≡ first + (length xs - length rest) =
+    omega (arith, at.0, at.1, length-take i xs, length-take (length xs - (i + 1)) (drop (i + 1) xs), length-drop (i + 1) xs) in
+    ap (line_starts_of first) (lines-found xs i e)
+    ∙ ap (λ next. first ∷ line_starts_of next (split_lines rest)) long
+
+pub starts-none : (xs : List ℕ) (first : ℕ) → 0 < length xs → position is_line_feed xs ≡ None
+    → line_starts first xs ≡ first ∷ []
+starts-none xs first some e = ap (line_starts_of first) (lines-none xs some e)

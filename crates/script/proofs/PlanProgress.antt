@@ -7,9 +7,8 @@ use Rattle.lane_words.specs.Answers.{Answers}
 use Rattle.lane_words.specs.declared.Refusal.{Refusal}
 use Rattle.lane_words.specs.declared.Refusal.TheVariants as r
 use Rattle.script.specs.Grammar.{action_of, lines_from}
-use Rattle.script.specs.Plan.{change_fault, change_of, parse_change, changes_in, first_fault, is_no_plan_line, line_fault, roster_of, with_a_line}
-use Rattle.script.specs.Private.Answers.{parse_action_answer}
-use Rattle.script.specs.Private.Plans.{parse_change_answer, taken}
+use Rattle.script.specs.Plan.{change_fault, change_of, changes_in, first_fault, is_no_plan_line, line_fault, parse_change, parse_change_answer, roster_of, taken, with_a_line}
+use Rattle.script.specs.Replay.{parse_action_answer}
 use Rattle.script.specs.Replay.{parse_action, is_bad, is_silent}
 use Rattle.script.specs.declared.action.Action.{Action}
 use Rattle.script.specs.declared.limits.TheConstants.{LONGEST_LINE}

@@ -8,7 +8,7 @@ use Rattle.lane_words.specs.Answers.{Answers}
 use Rattle.lane_words.specs.declared.Refusal.{Refusal}
 use Rattle.lane_words.specs.declared.Refusal.TheVariants as r
 use Rattle.script.specs.Grammar.{lines_from, split_lines}
-use Rattle.script.specs.Private.Answers.{parse_action_answer}
+use Rattle.script.specs.Replay.{parse_action_answer}
 use Rattle.script.specs.Replay.{parse_action, answer_of, is_bad, parsed}
 use Rattle.script.specs.declared.action.Action.{Action}
 use Rattle.script.specs.declared.replay.Line.{Line}

@@ -33,6 +33,15 @@ split_lines (byte ∷ bytes) =
 abbrev pub lines_from : ℕ → List ℕ → List (ℕ × List ℕ)
 lines_from first bytes = enumerate_from first (map strip_carriage_return (split_lines bytes))
 
+-- the first byte of each line: that of the first is byte `first`, and each other line begins behind
+-- the line feed of the one before
+abbrev pub line_starts_of : ℕ → List (List ℕ) → List ℕ
+line_starts_of first [] = []
+line_starts_of first (line ∷ lines) = first ∷ line_starts_of (first + length line + 1) lines
+
+abbrev pub line_starts : ℕ → List ℕ → List ℕ
+line_starts first bytes = line_starts_of first (split_lines bytes)
+
 -- the word before the first space, and all bytes after that space
 unfoldable pub split_word : List ℕ → Option (List ℕ × List ℕ)
 split_word text = option_map (λ i. (take i text, drop (i + 1) text)) (position is_space text)

@@ -78,6 +78,11 @@ unfoldable pub is_no_plan_line : List ℕ → Bool
 is_no_plan_line line =
     nat_lt LONGEST_LINE (length line) || (not (is_silent line) && is_none (parse_change line))
 
+-- a line that no plan has is refused, and any other has its change, if any
+unfoldable pub parse_change_answer : ℕ × List ℕ → Result (Option Change) Refusal
+parse_change_answer (number, line) =
+    if is_no_plan_line line then Err (r.BadLine number) else Ok (parse_change line)
+
 -- the fault of a change, as the line of this number: it may not follow those before it, or nobody
 -- is left after it
 unfoldable pub change_fault : ℕ → Roster → Change → Option Refusal
@@ -85,6 +90,14 @@ change_fault number before change =
     if not (is_allowed before change) then Some (r.BadLine number)
     else if not (is_anybody_left (entered before change)) then Some (r.NobodyLeft number)
     else None
+
+-- a fault is a refusal
+abbrev pub taken : Option Refusal → Result (Unit {0}) Refusal
+taken fault = option_map_or Err fault (Ok tt)
+
+-- the roster behind a change, which it enters only if it may follow
+abbrev pub behind : Roster → Change → Roster
+behind before change = if is_allowed before change then entered before change else before
 
 -- the fault of a line
 unfoldable pub line_fault : Roster → ℕ × List ℕ → Option Refusal

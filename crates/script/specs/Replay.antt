@@ -25,6 +25,11 @@ is_bad topics line =
 unfoldable pub parse_action : List Topic → List ℕ → Option Action
 parse_action topics line = if is_silent line then None else action_of topics line
 
+-- a bad line is refused, and any other has its action, if any
+unfoldable pub parse_action_answer : List Topic → ℕ × List ℕ → Result (Option Action) Refusal
+parse_action_answer topics (number, line) =
+    if is_bad topics line then Err (r.BadLine number) else Ok (parse_action topics line)
+
 -- the action of a line, with its number
 unfoldable pub parsed : List Topic → ℕ × List ℕ → Option Line
 parsed topics (number, line) =

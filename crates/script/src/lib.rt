@@ -5,6 +5,7 @@
 //!   the lines in a form of an action parse, and they parse to that action.
 //! - `read_plan` returns the changes of all lines, or the fault of the first line that has one. In
 //!   a `Plan` each line may follow those before it, and after each line somebody is present.
+//! - `first_line`, `parse_action`, `parse_change` and a `Roster` do the same line by line.
 //! - Either may instead fail with `Memory`.
 //!
 //! Tests: `driver_tests`, modules `scripts` and `plans`.
@@ -22,7 +23,7 @@ mod words;
 pub use action::{Action, Key};
 pub use laws::{a_plan_is_short, forms_are_read, no_others_are_read};
 pub use limits::{LONGEST_LINE, MOST_DIGITS, NO_PARTITION};
-pub use lines::first_line;
+pub use lines::{first_line, parse_action};
 pub use partitioner::Topic;
-pub use plan::{Change, Plan, read_plan};
+pub use plan::{Change, Plan, Roster, parse_change, read_plan};
 pub use replay::{Line, read_replay, read_replay_topics};

@@ -1,10 +1,10 @@
 //! The lines of a script, of a replay or of a plan.
 
-ghost use Rattle.std.specs.Prelude.{◌≡◌, ℕ, ◌+◌, ◌∷◌, ◌<◌, length};
+ghost use Rattle.std.specs.Prelude.{◌≡◌, ℕ, ◌+◌, ◌-◌, ◌∷◌, ◌<◌, length};
 ghost use Rattle.std.specs.Str.Lines.{strip_carriage_return};
 ghost use Rattle.lane_words.specs.Answers.{Answers};
-ghost use Rattle.script.specs.Grammar.{lines_from, split_lines};
-ghost use Rattle.script.specs.Private.Answers.{parse_action_answer};
+ghost use Rattle.script.specs.Grammar.{line_starts, lines_from, split_lines};
+ghost use Rattle.script.specs.Replay.{parse_action_answer};
 ghost use Rattle.partitioner.specs.Topic.{MayBeTopics};
 
 use crate::action::{self, Action};
@@ -19,6 +19,8 @@ pub fn first_line(bytes: &[u8]) -> (&[u8], &[u8])
     requires { 0 < length bytes.now }
     ensures lines { (n : ℕ)
         → lines_from n bytes.now ≡ (n, result.0.now) ∷ lines_from (n + 1) result.1.now }
+    ensures starts { (first : ℕ) → line_starts first bytes.now ≡ first
+        ∷ line_starts (first + (length bytes.now - length result.1.now)) result.1.now }
     ensures bound { length result.1.now < length bytes.now }
 {
     let (line, rest) = split_line(bytes);
@@ -29,6 +31,8 @@ pub fn first_line(bytes: &[u8]) -> (&[u8], &[u8])
 fn split_line(bytes: &[u8]) -> (&[u8], &[u8])
     requires { 0 < length bytes.now }
     ensures lines { split_lines bytes.now ≡ result.0.now ∷ split_lines result.1.now }
+    ensures starts { (first : ℕ) → line_starts first bytes.now ≡ first
+        ∷ line_starts (first + (length bytes.now - length result.1.now)) result.1.now }
     ensures bound { length result.1.now < length bytes.now }
 {
     match words::first_index(bytes, b'\n') {

@@ -1,10 +1,11 @@
 //! Plans of a run: which members join, leave and are lost, in order.
 
-ghost use Rattle.std.specs.Prelude.{◌≡◌, ◌≤◌, ◌↔◌, ◌<◌, length, IfOk, IsTrue, OnOk};
+ghost use Rattle.std.specs.Prelude.{◌≡◌, ◌≤◌, ◌⊎◌, ◌↔◌, ◌<◌, length, Err, IfOk, IsTrue, OnOk};
 ghost use Rattle.lane_words.specs.Answers.{Answers};
+ghost use Rattle.lane_words.specs.declared.Refusal.TheVariants as refusal;
 ghost use Rattle.lane_words.specs.declared.limits.TheConstants.{MOST_MEMBERS};
-ghost use Rattle.script.specs.Plan.{IsPlan, change_fault, change_of, entered, is_allowed, is_among, is_anybody_left, is_there, nobody_yet, plan_answer, roster_of};
-ghost use Rattle.script.specs.Private.Plans.{is_join, parse_change_answer, taken};
+ghost use Rattle.script.specs.Plan.{IsPlan, behind, change_fault, change_of, entered, is_allowed, is_among, is_anybody_left, is_there, nobody_yet, parse_change_answer, plan_answer, roster_of, taken};
+ghost use Rattle.script.specs.Private.Plans.{is_join};
 
 use crate::action::Action;
 use crate::lines;
@@ -152,7 +153,7 @@ pub fn read_plan(alloc: Global, bytes: &[u8]) -> Result<Plan, Refusal>
 
 /// Parses the line of this number. A comment or an empty line has no change; any other line that is
 /// not a change is refused with `BadLine`.
-fn parse_change(alloc: Global, number: u64, line: &[u8]) -> Result<Option<Change>, Refusal>
+pub fn parse_change(alloc: Global, number: u64, line: &[u8]) -> Result<Option<Change>, Refusal>
     ensures { Answers (parse_change_answer (number, line.now)) result }
 {
     let Some(action) = lines::parse_action(alloc, &[], number, line)? else {
@@ -178,8 +179,8 @@ fn change_of(action: &Action) -> Option<Change>
 }
 
 /// The members that have joined so far, and those of them that are gone.
-#[derive(Drop)]
-struct Roster {
+#[derive(Debug, Drop)]
+pub struct Roster {
     /// The names of all that joined, in order.
     joined: Vec<Name>,
     /// The names of those that left or were lost, in order.
@@ -196,7 +197,7 @@ impl Model for Roster {
 
 impl Roster {
     /// An empty roster.
-    fn new(alloc: Global) -> Roster
+    pub fn new(alloc: Global) -> Roster
         ensures { result ≡ nobody_yet }
     {
         Roster {
@@ -205,11 +206,14 @@ impl Roster {
         }
     }
 
-    /// Enters the change of the line of this number, or reports why the line is refused.
+    /// Enters the change of the line of this number, or reports why the line is refused: `BadLine`
+    /// if it may not follow those before it, which enters nothing, and `NobodyLeft` if nobody is
+    /// present after it. After `Memory` nothing is said of the roster.
     #[tactic(auto, unfolding(crate::specs::Plan::change_fault))]
-    fn take(&mut self, number: u64, change: &Change) -> Result<(), Refusal>
+    pub fn take(&mut self, number: u64, change: &Change) -> Result<(), Refusal>
         ensures answer { Answers (taken (change_fault number self.old change.now)) result }
         ensures ok { OnOk result (self.new ≡ entered self.old change.now) }
+        ensures state { (result ≡ Err refusal.Memory) ⊎ (self.new ≡ behind self.old change.now) }
     {
         if !self.is_allowed(change) {
             return Err(Refusal::BadLine { line: number });
@@ -219,6 +223,13 @@ impl Roster {
             return Err(Refusal::NobodyLeft { line: number });
         }
         Ok(())
+    }
+
+    /// Whether a member of this name has joined, present or not.
+    pub fn has_joined(&self, name: &Name) -> bool
+        ensures { result ≡ is_among self.now.joined name.now }
+    {
+        is_among(&self.joined, name)
     }
 
     /// Whether a change may come next.

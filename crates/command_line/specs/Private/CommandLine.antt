@@ -38,6 +38,12 @@ pub record ArePlaceRows (rows : List Row) : Type 0 where
   pub options : AreOptionRows rows
   pub given : IsOptionalNumber (first_of (codes "given") rows) LAST_COLUMN
 
+-- what clap has checked of the words after `check`
+pub record AreCheckRows (rows : List Row) : Type 0 where
+  pub file : IsSome (first_of (codes "file") rows)
+  pub options : AreOptionRows rows
+  pub most : IsOptionalNumber (first_of (codes "most") rows) MOST_ROWS
+
 -- what clap has checked of the words after `replay`, `trace`, `draw` or `run`
 pub record AreScriptRows (rows : List Row) : Type 0 where
   pub file : IsSome (first_of (codes "file") rows)

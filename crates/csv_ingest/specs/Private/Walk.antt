@@ -4,7 +4,8 @@ use Rattle.csv.specs.Machine.{ends_at_end, field_after, fields_after, is_end, st
 use Rattle.csv.specs.declared.parser.State.{State}
 use Rattle.csv_ingest.specs.KeyFile.{Record, dialect}
 
--- the records of these bytes with this delimiter, from a state with these fields and these bytes of a field
+-- the records of these bytes with this delimiter, from a state with these fields and these bytes of
+-- a field
 unfoldable pub walk : ℕ → State → List (List ℕ) → List ℕ → List ℕ → List Record
 walk delimiter s fields field [] = if ends_at_end s then (fields ++ (field ∷ [])) ∷ [] else []
 walk delimiter s fields field (c ∷ rest) =

@@ -1,4 +1,4 @@
-use Rattle.command_line.specs.CommandLine.{count_app, draw_app, explain_app, place_app, replay_app, run_app, trace_app}
+use Rattle.command_line.specs.CommandLine.{check_app, count_app, draw_app, explain_app, place_app, replay_app, run_app, trace_app}
 use Rattle.command_line.proofs.words.keycount_command.Goals as goal
 
 pub returns : goal.returns
@@ -9,4 +9,5 @@ returns c =
     let four = c.with_subcommand-command-4.ensures _ trace_app three c.trace_command.ensures in
     let five = c.with_subcommand-command-5.ensures _ draw_app four c.draw_command.ensures in
     let six = c.with_subcommand-command-6.ensures _ run_app five c.run_command.ensures in
-    c.with_subcommand.ensures _ explain_app six c.explain_command.ensures
+    let seven = c.with_subcommand-command-7.ensures _ check_app six c.check_command.ensures in
+    c.with_subcommand.ensures _ explain_app seven c.explain_command.ensures

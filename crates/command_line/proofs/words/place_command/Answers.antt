@@ -18,5 +18,5 @@ returns c =
     } in
     let file = IfOk-weaker c.arg-command.result _ _ (λ r h. added _ r _ _ (path (codes "file")) h start c.file_path.ensures.rule c.file_path.ensures.local) c.arg-command.ensures in
     let options = c.with_options-command.ensures _ file in
-    let keys = c.with_arg-command.ensures _ (flag (codes "keys")) options c.keys_flag.ensures.rule in
+    let keys = c.with_arg-command.ensures _ (flag (codes "keys")) options c.flag.ensures.rule in
     c.with_arg.ensures _ (number_option (codes "given") LAST_COLUMN) keys c.number_option.ensures.rule

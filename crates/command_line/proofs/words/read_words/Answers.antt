@@ -6,8 +6,8 @@ use Rattle.clap.specs.Faults.{fault_of, is_simple_and_free}
 use Rattle.clap.specs.Words.{found_of, rows_of}
 use Rattle.clap.specs.Walk.{Row, Text}
 use Rattle.command_line.specs.CommandLine.{keycount_app}
-use Rattle.command_line.specs.Private.CommandLine.{AreCountRows, AreExplainRows, ArePlaceRows, AreScriptRows, ReportsBadOption}
-use Rattle.command_line.proofs.Entered.{bad_list_reported, keycount_free, bad_option_is_refusal, matches_are, none_entered, takes_count, takes_explain, takes_none, takes_place, takes_script, reported, entered_rows}
+use Rattle.command_line.specs.Private.CommandLine.{AreCheckRows, AreCountRows, AreExplainRows, ArePlaceRows, AreScriptRows, ReportsBadOption}
+use Rattle.command_line.proofs.Entered.{bad_list_reported, keycount_free, bad_option_is_refusal, matches_are, none_entered, takes_check, takes_count, takes_explain, takes_none, takes_place, takes_script, reported, entered_rows}
 use Rattle.command_line.proofs.words.read_words.Goals as goal
 
 pub returns-in-Err-clause-usage : goal.returns-in-Err-clause-usage
@@ -86,7 +86,7 @@ unreachable-requires-in_default-name c =
     let found = c.in-Ok-try_get_matches_from.ensures in
     let job = matches_are c.in-Ok.command words _ c.in-Ok.ensures found.matches found.kinds in
     let entered = entered_rows _ _ _ _ _ job.entered c.in-Some.ensures.name c.in-Some.ensures.rows in
-    takes_none _ _ job.tested (λ e. c.in_default-name.not-count (sym entered.0 ∙ e)) (λ e. c.in_default-name.not-place (sym entered.0 ∙ e)) (λ e. c.in_default-name.not-replay (sym entered.0 ∙ e)) (λ e. c.in_default-name.not-trace (sym entered.0 ∙ e)) (λ e. c.in_default-name.not-draw (sym entered.0 ∙ e)) (λ e. c.in_default-name.not-run (sym entered.0 ∙ e)) (λ e. c.in_default-name.not-explain (sym entered.0 ∙ e))
+    takes_none _ _ job.tested (λ e. c.in_default-name.not-count (sym entered.0 ∙ e)) (λ e. c.in_default-name.not-place (sym entered.0 ∙ e)) (λ e. c.in_default-name.not-check (sym entered.0 ∙ e)) (λ e. c.in_default-name.not-replay (sym entered.0 ∙ e)) (λ e. c.in_default-name.not-trace (sym entered.0 ∙ e)) (λ e. c.in_default-name.not-draw (sym entered.0 ∙ e)) (λ e. c.in_default-name.not-run (sym entered.0 ∙ e)) (λ e. c.in_default-name.not-explain (sym entered.0 ∙ e))
 
 pub returns-in-count-clause-job : goal.returns-in-count-clause-job
 returns-in-count-clause-job c =
@@ -282,3 +282,40 @@ returns-in-explain-clause-job c =
 pub returns-in-explain-clause-topics : goal.returns-in-explain-clause-topics
 returns-in-explain-clause-topics c =
     bad_list_reported (map (λ (w : Bor Text). w.now) c.args.words.now) (Ok c.explain_job.result) (returns-in-explain-clause-job c) tt
+
+pub check_job-requires : goal.check_job-requires
+check_job-requires c =
+    let words = map (λ (w : Bor Text). w.now) c.args.words.now in
+    let found = c.in-Ok-try_get_matches_from.ensures in
+    let job = matches_are c.in-Ok.command words _ c.in-Ok.ensures found.matches found.kinds in
+    let entered = entered_rows _ _ _ _ _ job.entered c.in-Some.ensures.name c.in-Some.ensures.rows in
+    subst AreCheckRows entered.1 (takes_check _ _ job.tested (entered.0 ∙ c.in-check.is))
+
+pub returns-in-check-clause-job : goal.returns-in-check-clause-job
+returns-in-check-clause-job c =
+    let words = map (λ (w : Bor Text). w.now) c.args.words.now in
+    let found = c.in-Ok-try_get_matches_from.ensures in
+    let job = matches_are c.in-Ok.command words _ c.in-Ok.ensures found.matches found.kinds in
+    let entered = entered_rows _ _ _ _ _ job.entered c.in-Some.ensures.name c.in-Some.ensures.rows in
+    IfOk-weaker c.check_job.result _ _
+    (λ r is. record {
+      rows = rows_of (found_of c.in-Some.given.now);
+      taken = job.taken;
+      subcommand = job.subcommand ∙ ap₂ (λ (n : Text) (xs : List Row). Some (n, xs)) (entered.0 ∙ c.in-check.is ∙ sym is.0) entered.1;
+      found = is.1;
+    })
+    c.check_job.ensures.job
+
+pub returns-in-check-clause-usage : goal.returns-in-check-clause-usage
+returns-in-check-clause-usage c =
+    let words = map (λ (w : Bor Text). w.now) c.args.words.now in
+    let found = c.in-Ok-try_get_matches_from.ensures in
+    let job = matches_are c.in-Ok.command words _ c.in-Ok.ensures found.matches found.kinds in
+    let entered = entered_rows _ _ _ _ _ job.entered c.in-Some.ensures.name c.in-Some.ensures.rows in
+    IfErr-weaker c.check_job.result _ _
+    (λ usage reports. bad_option_is_refusal words job.name job.rows usage job.taken job.subcommand (subst (λ rows. ReportsBadOption rows usage) (sym entered.1) reports))
+    c.check_job.ensures.fault
+
+pub returns-in-check-clause-topics : goal.returns-in-check-clause-topics
+returns-in-check-clause-topics c =
+    bad_list_reported (map (λ (w : Bor Text). w.now) c.args.words.now) c.check_job.result (returns-in-check-clause-job c) (returns-in-check-clause-usage c)

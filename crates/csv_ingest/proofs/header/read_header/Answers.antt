@@ -1,4 +1,3 @@
-use Rattle.std.proofs.Common.{arith}
 use Rattle.csv_ingest.proofs.Headers.{header-here, header-later}
 use Rattle.csv_ingest.proofs.header.read_header.Goals as goal
 

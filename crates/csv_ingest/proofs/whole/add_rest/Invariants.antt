@@ -1,6 +1,6 @@
 use Rattle.std.proofs.Common.{◌≡◌, ◌≤◌, ◌<◌, ◌^◌, ◌+◌, Bor, List, ℕ, Some, length}
 use Rattle.csv_ingest.specs.Private.KeyFile.{keys_then}
-use Rattle.csv_ingest.specs.Private.Records.{ReadsRecords, records_left}
+use Rattle.csv_ingest.specs.Records.{ReadsRecords, records_left}
 use Rattle.csv_ingest.specs.Private.Wanted.{taking}
 use Rattle.csv_ingest.proofs.whole.add_rest.Given as goal
 

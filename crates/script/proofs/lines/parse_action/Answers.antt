@@ -1,6 +1,6 @@
 use Rattle.std.proofs.Common.{rules}
 use Rattle.script.specs.Replay.{is_bad, parse_action}
-use Rattle.script.specs.Private.Answers.{parse_action_answer}
+use Rattle.script.specs.Replay.{parse_action_answer}
 use Rattle.script.proofs.lines.parse_action.Goals as goal
 
 pub returns : goal.returns

@@ -4,7 +4,7 @@ use Rattle.std.specs.Str.{bytes_eq}
 use Rattle.std.specs.Borrow.{Bor}
 use Rattle.csv.specs.Records.{field_at, fields_of}
 use Rattle.csv_ingest.proofs.Headers.{field-here, field-other, field-there}
-use Rattle.csv_ingest.proofs.header.index_of.Goals as goal
+use Rattle.csv_ingest.proofs.header.field_named.Goals as goal
 
 pub returns-in_default-clause-value : goal.returns-in_default-clause-value
 returns-in_default-clause-value c =

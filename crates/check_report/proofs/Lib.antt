@@ -1,0 +1,6 @@
+pub mod Fields
+pub mod Files
+pub mod Lines
+pub mod Quotes
+pub mod Starts
+pub mod Told

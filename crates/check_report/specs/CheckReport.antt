@@ -1,0 +1,33 @@
+-- The report of a check.
+use Rattle.std.specs.Prelude.{ℕ, Bool, List, [], ◌++◌, Option, None, Some, Result, Ok, take}
+use Rattle.std.specs.Result.{result_map_both}
+use Rattle.lane_words.specs.declared.Refusal.{Refusal}
+use Rattle.command_line.specs.declared.options.CheckOptions.{CheckOptions}
+use Rattle.command_line.specs.declared.options.Options.{Options}
+use Rattle.check_report.specs.Findings.{Finding, finding_table, has_fault}
+use Rattle.check_report.specs.RecordFindings.{findings_of_file}
+use Rattle.check_report.specs.ScriptFindings.{findings_of_script}
+use Rattle.check_report.specs.Warnings.{warnings_of}
+
+-- the first findings of a script; none without one
+abbrev pub script_findings : Options → CheckOptions → Option (List ℕ) → List Finding
+script_findings options check None = []
+script_findings options check (Some script) =
+    take check.most (findings_of_script options.topics.items check.plan script)
+
+-- what is found in a file, and in a script if there is one: the first faults of each, and then the
+-- warnings about the file
+unfoldable pub findings_of : Options → CheckOptions → List ℕ → Option (List ℕ) → List Finding
+findings_of options check file script =
+    take check.most (findings_of_file options file) ++ script_findings options check script
+    ++ warnings_of options.delimiter file
+
+-- what is written
+abbrev pub report_of_check : Options → CheckOptions → List ℕ → Option (List ℕ)
+    → Result (List ℕ) Refusal
+report_of_check options check file script =
+    Ok (finding_table (findings_of options check file script))
+
+-- an answer without what it returns
+abbrev pub written : Result Bool Refusal → Result (Unit {0}) Refusal
+written answer = result_map_both (λ faulty. tt) (λ fault. fault) answer
