@@ -3,7 +3,7 @@
 ghost use Rattle.std.specs.Prelude.{◌<◌, ◌≤◌};
 
 use crate::window;
-use lane_words::{LONGEST_KEY, Memory, Refusal};
+use lane_words::{Memory, Refusal};
 use partition_log::{LogRead, Logs};
 use record_batch::RecordBatch;
 use std::alloc::Global;
@@ -238,7 +238,7 @@ fn are_stopped<R: RandomSource + Threads + Sync>(
 
 #[test]
 fn appends_at_once_stop_at_a_key_that_is_refused(rt: HostRuntime) -> Result<(), Fail> {
-    let bytes = vec![in rt.alloc(); 0xff_u8; LONGEST_KEY + 1]?;
+    let bytes = vec![in rt.alloc(); 0xff_u8; 65_536]?;
     assert_eq!(rt; are_stopped(&rt, rt.alloc(), &bytes), Ok(true));
     Ok(())
 }
@@ -323,7 +323,7 @@ fn are_stopped_late<R: RandomSource + Threads + Sync>(
 
 #[test]
 fn a_key_too_long_among_many(rt: HostRuntime) -> Result<(), Fail> {
-    let bytes = vec![in rt.alloc(); 0xff_u8; LONGEST_KEY + 1]?;
+    let bytes = vec![in rt.alloc(); 0xff_u8; 65_536]?;
     assert_eq!(rt; are_stopped_late(&rt, rt.alloc(), &bytes), Ok(true));
     Ok(())
 }

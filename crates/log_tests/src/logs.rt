@@ -2,7 +2,7 @@
 
 ghost use Rattle.std.specs.Prelude.{◌≤◌};
 
-use lane_words::{LONGEST_KEY, MOST_PARTITIONS, Memory, Refusal};
+use lane_words::{LAST_GENERATION, MOST_PARTITIONS, MOST_RECORDS, Memory, Refusal};
 use partition_log::{LogRead, Logs, SealedLogs};
 use std::alloc::Global;
 use std::random::RandomSource;
@@ -217,9 +217,16 @@ fn new_takes_longest(rt: &impl RandomSource, alloc: Global, longer: &[u8]) -> Re
 
 #[test]
 fn takes_keys_up_to_the_longest(rt: HostRuntime) -> Result<(), Fail> {
-    let bytes = vec![in rt.alloc(); 0xff_u8; LONGEST_KEY + 1]?;
+    let bytes = vec![in rt.alloc(); 0xff_u8; 65_536]?;
     assert_eq!(rt; new_takes_longest(&rt, rt.alloc(), &bytes), Ok(true));
     Ok(())
+}
+
+/// Contracts read these limits from the code, and no test is long enough to meet them.
+#[test]
+fn limits_that_no_test_meets(rt: HostRuntime) {
+    assert_eq!(rt; MOST_RECORDS, 4_294_967_295);
+    assert_eq!(rt; LAST_GENERATION, 4_294_967_295);
 }
 
 /// Sealed logs of the largest number of partitions, with records of ten thousand keys.
