@@ -2,6 +2,7 @@
 
 from __future__ import annotations
 
+from itertools import count
 from random import Random
 from typing import Iterator
 
@@ -236,6 +237,20 @@ def random_plan(rng: Random) -> bytes:
             lines.append(b"join " + present[-1])
         lines += [b"# nothing"] * (rng.random() < 0.05)
     return ended(rng, lines)
+
+
+def crowded_plan(rng: Random, members: int) -> bytes:
+    """A plan by which this many members are present at its end, and others were."""
+    present, lines = [], []
+    for number in count():
+        if len(present) == members:
+            return b"".join(line + b"\n" for line in lines)
+        present.append(b"m%d" % number)
+        lines.append(b"join " + present[-1])
+        if len(present) > 1 and rng.random() < 0.3:
+            name = present.pop(rng.randrange(len(present)))
+            lines.append(rng.choice((b"leave ", b"lose ")) + name)
+    raise AssertionError
 
 
 def lines_of(script: bytes) -> Iterator[tuple[int, bytes]]:

@@ -205,6 +205,26 @@ def one_topic_trial(rng: Random) -> Trial:
     return Trial("one topic", source.options, files, runs, check)
 
 
+def crowd_trial(rng: Random) -> Trial:
+    """A run of 2 to 64 members prints what a replay prints that settles after each line of its plan and drains at the end."""
+    options = Options(rng.choice((1, 4, 12, 64, 200)), batch=rng.choice((1, 10, 500)))
+    members, records = rng.randint(2, 64), rng.choice((0, 100, 3000, 30_000))
+    keys = [b"%d" % rng.randrange(rng.choice((1, 50, 5000))) for _ in range(records)]
+    plan = scripts.crowded_plan(rng, members)
+
+    def check(outcomes: list[Outcome]) -> None:
+        check_done(outcomes[0])
+        require(outcomes[0].stdout.endswith(b"\n" + count_text(keys)), "the counts differ")
+        require(outcomes[0] == outcomes[1], "the run differs from the replay: {}", outcomes[0].stdout[:300])
+
+    files = {"file": b"".join(key + b"\n" for key in keys), "plan": plan, "script": scripts.settled_after_each(plan)}
+    runs = [[b"run", b"file", b"plan", *options.words()], [b"replay", b"file", b"script", *options.words()]]
+    return Trial("crowd", options, files, runs, check)
+
+
+# Kinds of trials that are made alone, by name.
+ALONE: dict[str, Callable[[Random], Trial]] = {"count": count_trial, "crowd": crowd_trial}
+
 KINDS: list[tuple[int, Callable[[Random], Trial]]] = [
     (20, count_trial),
     (25, lambda rng: replay_trial(rng, wild=False)),
@@ -216,7 +236,9 @@ KINDS: list[tuple[int, Callable[[Random], Trial]]] = [
 ]
 
 
-def trial_of(seed: str, index: int) -> Trial:
-    """The trial of a seed and an index, always the same."""
+def trial_of(seed: str, index: int, kind: str = "") -> Trial:
+    """The trial of a seed and an index, always the same; of any kind, or of one that is made alone."""
     rng = Random(f"{seed}/{index}")
+    if kind:
+        return ALONE[kind](rng)
     return rng.choices([make for _, make in KINDS], [weight for weight, _ in KINDS])[0](rng)
