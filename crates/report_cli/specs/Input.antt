@@ -1,5 +1,6 @@
--- Jobs that would read standard input twice, or ask for two tables.
+-- Jobs that would read standard input twice, ask for two tables, or explain no refusal.
 use Rattle.std.specs.Prelude.{◌≡◌, true, IsSome, Some, None, codes}
+use Rattle.command_line.specs.Explanations.{IsNoCode}
 use Rattle.command_line.specs.declared.words.Job.{Job}
 use Rattle.command_line.specs.declared.words.Job.TheVariants.{Count, Place, Check, Replay, Trace, Draw, Run, Explain}
 
@@ -20,3 +21,8 @@ ReadsInputTwice (Explain code) = ⊥
 abbrev pub AsksForTwoTables : Job → Type 0
 AsksForTwoTables (Place file options place) = (place.keys ≡ true) × IsSome place.given
 AsksForTwoTables job = ⊥
+
+-- the job is to explain a number that no refusal has
+abbrev pub HasNoCode : Job → Type 0
+HasNoCode (Explain (Some code)) = IsNoCode code
+HasNoCode job = ⊥

@@ -1,6 +1,9 @@
 pub mod Explain
 pub mod Faults
 pub mod Input
+pub mod Limits
+pub mod Private
+pub mod Program
 pub use Rattle.check_report.specs.CheckReport
 pub use Rattle.check_report.specs.Findings
 pub use Rattle.check_report.specs.Places

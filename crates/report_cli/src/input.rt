@@ -6,7 +6,7 @@ ghost use Rattle.report_cli.specs.Input.{AsksForTwoTables, ReadsInputTwice};
 use command_line::Job;
 
 /// Whether a path is `-`, which stands for standard input.
-fn is_standard_input(path: &str) -> bool
+pub fn is_standard_input(path: &str) -> bool
     ensures { IsTrue result ↔ (path.now ≡ codes "-") }
 {
     path == "-"

@@ -24,6 +24,8 @@ mod pictures;
 #[cfg(test)]
 mod places;
 #[cfg(test)]
+mod programs;
+#[cfg(test)]
 mod replays;
 #[cfg(test)]
 mod runs;

@@ -1,0 +1,18 @@
+use Rattle.std.proofs.Common.{rules, refl}
+use Rattle.lane_words.specs.declared.Refusal.TheVariants as r
+use Rattle.report_cli.proofs.Answered.{cause-of-fault, same-fault}
+use Rattle.report_cli.proofs.jobs.replay.Goals as goal
+
+pub returns-in_err-replay_text : goal.returns-in_err-replay_text
+returns-in_err-replay_text g c =
+    let answer = c.from_residual-in_err-replay_text in
+    let fault = c.in_err-replay_text.field-0.0 in
+    record {
+      writes = search rules;
+      found = search rules;
+      at_end = search rules;
+      failures = search rules;
+      cause = λ e.
+          cause-of-fault (g.Y.System.CannotOpen c.args.system.now) g.Y.File.Source.failures g.Y.Stdin.Source.failures fault c.replay_text.new.file.source c.replay_text.new.script
+          _ _ _ _ c.in_ok-file.ensures.failures c.in_ok-script.ensures.failures refl refl c.in_err-replay_text.ensures.reads (same-fault answer.result fault r.ReadFailed (search rules) e);
+    }

@@ -1,0 +1,25 @@
+-- A job on its way.
+use Rattle.std.specs.Prelude.{ℕ, Bool, List, Option, Result}
+use Rattle.lane_words.specs.declared.Refusal.{Refusal}
+use Rattle.command_line.specs.Options.{AreInRange, IsCheckInRange, IsPlaceInRange}
+use Rattle.command_line.specs.declared.words.Job.{Job}
+use Rattle.command_line.specs.declared.words.Job.TheVariants.{Count, Place, Check, Replay, Trace, Draw, Run, Explain}
+use Rattle.report_cli.specs.Input.{HasNoCode}
+use Rattle.report_cli.specs.Program.{Answers, Stream}
+
+-- the options of a job are within their bounds
+abbrev pub IsJobInRange : Job → Type 0
+IsJobInRange (Count file options) = AreInRange options
+IsJobInRange (Place file options place) = AreInRange options × IsPlaceInRange place
+IsJobInRange (Check file script options check) = AreInRange options × IsCheckInRange check
+IsJobInRange (Replay file script options) = AreInRange options
+IsJobInRange (Trace file script options) = AreInRange options
+IsJobInRange (Draw file script options) = AreInRange options
+IsJobInRange (Run file script options) = AreInRange options
+IsJobInRange (Explain code) = Unit {0}
+
+-- a job has this answer, and explains no number that no refusal has
+abbrev pub IsDone : (List ℕ → Option (List ℕ)) → Type 0 → Job → Stream → Stream
+    → Result Bool Refusal → Type 0
+IsDone named ReadFault job out out2 answer =
+    (HasNoCode job → ⊥) × Answers named ReadFault job out out2 answer

@@ -1,0 +1,189 @@
+-- What the program does with the words of its command line: what it writes, and its exit status.
+use Rattle.std.specs.Prelude.{◌≡◌, ◌⊎◌, ◌+◌, ℕ, Bool, false, if◌then◌else◌, List, Option, Some, None, Result, Ok, Err, IfOk, IfSome, IsErrAnd, MatchResult, codes, string_bytes}
+use Rattle.std.specs.Io.KnownBytes.{Appends, Keeps}
+use Rattle.lane_words.specs.Refusal.{code_of}
+use Rattle.lane_words.specs.declared.Refusal.{Refusal}
+use Rattle.lane_words.specs.declared.Refusal.TheVariants as r
+use Rattle.byte_io.specs.Devices.{AppendsPrefix}
+use Rattle.check_report.specs.CheckReport.{findings_of, report_of_check}
+use Rattle.check_report.specs.Findings.{has_fault}
+use Rattle.command_line.specs.CommandLine.{HaveBadList, IsBadListReport, IsJobOf, IsRefusal}
+use Rattle.command_line.specs.Explanations.{explained}
+use Rattle.command_line.specs.declared.words.Job.{Job}
+use Rattle.command_line.specs.declared.words.Job.TheVariants.{Count, Place, Check, Replay, Trace, Draw, Run, Explain}
+use Rattle.command_line.specs.declared.words.Usage.{Usage}
+use Rattle.command_line.specs.declared.words.Usage.TheVariants.{Help, Bad, Memory}
+use Rattle.count_report.specs.CountReport.{report_of_count}
+use Rattle.draw_report.specs.DrawReport.{report_of_draw}
+use Rattle.ingest.specs.Reports.{WritesAtEndAlone, WritesIfKnown, WritesReport, failed_writes}
+use Rattle.place_report.specs.Given.{has_misplaced}
+use Rattle.place_report.specs.PlaceReport.{report_of_place, written}
+use Rattle.replay_report.specs.ReplayReport.{report_of_replay}
+use Rattle.run_report.specs.RunReport.{WritesRunIfKnown, report_of_run}
+use Rattle.trace_report.specs.TraceReport.{report_of_trace}
+use Rattle.report_cli.specs.Faults.{fault_text, status_of}
+use Rattle.report_cli.specs.Input.{AsksForTwoTables, HasNoCode, ReadsInputTwice}
+use Rattle.report_cli.specs.declared.program.NoWords.{NoWords}
+use Rattle.report_cli.specs.declared.program.NoWords.TheVariants as none
+
+-- ---- standard output and standard error
+-- a stream: the bytes written to it, if they are known, and the number of writes that failed
+pub record Stream : Type 0 where
+  pub written : Option (List ℕ)
+  pub failures : ℕ
+
+-- a sink as a stream
+abbrev pub stream : {K : Type 0} → (K → Option (List ℕ)) → (K → ℕ) → K → Stream
+stream contents count sink = record { written = contents sink; failures = count sink }
+
+-- nothing is written
+abbrev pub IsSilent : Stream → Stream → Type 0
+IsSilent old new = Keeps old.written new.written × (new.failures ≡ old.failures)
+
+-- a text is written, or a prefix of it if a write failed
+abbrev pub Prints : List ℕ → Stream → Stream → Type 0
+Prints text old new =
+    (Appends old.written new.written text × (new.failures ≡ old.failures))
+    ⊎ (AppendsPrefix old.written new.written text × (new.failures ≡ old.failures + 1))
+
+-- ---- a job
+-- what a job with this answer, which found nothing, writes of the bytes that paths stand for: its
+-- report
+abbrev pub WritesOf : (List ℕ → Option (List ℕ)) → Job → Option (List ℕ) → Option (List ℕ)
+    → Result Bool Refusal → Type 0
+WritesOf named (Count file options) old new answer =
+    IfSome (named file.now)
+    (λ bytes. WritesReport (report_of_count options bytes) old new (written answer))
+WritesOf named (Place file options place) old new answer =
+    IfSome (named file.now)
+    (λ bytes. WritesReport (report_of_place options place bytes) old new (written answer))
+WritesOf named (Check file None options check) old new answer =
+    IfSome (named file.now)
+    (λ bytes. WritesReport (report_of_check options check bytes None) old new (written answer))
+WritesOf named (Check file (Some script) options check) old new answer =
+    WritesIfKnown (λ bytes lines. report_of_check options check bytes (Some lines))
+    (named file.now) (named script.now) old new (written answer)
+WritesOf named (Replay file script options) old new answer =
+    WritesIfKnown (report_of_replay options)
+    (named file.now) (named script.now) old new (written answer)
+WritesOf named (Trace file script options) old new answer =
+    WritesIfKnown (report_of_trace options)
+    (named file.now) (named script.now) old new (written answer)
+WritesOf named (Draw file script options) old new answer =
+    WritesIfKnown (report_of_draw options)
+    (named file.now) (named script.now) old new (written answer)
+WritesOf named (Run file script options) old new answer =
+    WritesRunIfKnown (report_of_run options)
+    (named file.now) (named script.now) old new (written answer)
+WritesOf named (Explain None) old new answer =
+    WritesReport (Ok (explained None)) old new (written answer)
+WritesOf named (Explain (Some code)) old new answer =
+    (refusal : Refusal) × (code_of refusal ≡ code)
+    × WritesReport (Ok (explained (Some refusal))) old new (written answer)
+
+-- whether a job finds what its status tells: a place a misplaced record, and a check a fault
+abbrev pub FindsOf : (List ℕ → Option (List ℕ)) → Job → Bool → Type 0
+FindsOf named (Place file options place) found =
+    IfSome (named file.now) (λ bytes. found ≡ has_misplaced options place.given bytes)
+FindsOf named (Check file None options check) found =
+    IfSome (named file.now) (λ bytes. found ≡ has_fault (findings_of options check bytes None))
+FindsOf named (Check file (Some script) options check) found =
+    IfSome (named file.now) (λ bytes. IfSome (named script.now) (λ lines.
+    found ≡ has_fault (findings_of options check bytes (Some lines))))
+FindsOf named job found = found ≡ false
+
+-- a file could not be opened, or a read of one or of standard input failed
+abbrev pub HasReadFault : {F I : Type 0} → Type 0 → (F → ℕ) → (I → ℕ) → Type 0
+HasReadFault {F} {I} CannotOpen file_failures input_failures =
+    CannotOpen
+    ⊎ (((file : F) × (file_failures file ≡ 1)) ⊎ ((input : I) × (input_failures input ≡ 1)))
+
+-- what a job writes to standard output, and its answer: what it found, or its fault. It fails with
+-- `ReadFailed` only if a read failed
+pub record Answers (named : List ℕ → Option (List ℕ)) (ReadFault : Type 0) (job : Job)
+    (out out2 : Stream) (answer : Result Bool Refusal) : Type 0 where
+  pub writes : WritesOf named job out.written out2.written answer
+  pub found : IfOk answer (FindsOf named job)
+  pub at_end : WritesAtEndAlone out.written out2.written (written answer)
+  pub failures : out2.failures ≡ out.failures + failed_writes (written answer)
+  pub cause : answer ≡ Err r.ReadFailed → ReadFault
+
+-- how the program ends with an answer: silently, with status 1 if something was found and otherwise
+-- 0, or with the line of the fault on standard error, and its status
+abbrev pub Ends : Result Bool Refusal → Stream → Stream → ℕ → Type 0
+Ends (Ok found) err err2 status = IsSilent err err2 × (status ≡ (if found then 1 else 0))
+Ends (Err fault) err err2 status =
+    Prints (fault_text fault) err err2 × (status ≡ status_of fault)
+
+-- a job is done
+abbrev pub DoesJob : (List ℕ → Option (List ℕ)) → Type 0 → Job → Stream → Stream → Stream → Stream
+    → ℕ → Type 0
+DoesJob named ReadFault job out out2 err err2 status =
+    (answer : Result Bool Refusal)
+    × Answers named ReadFault job out out2 answer × Ends answer err err2 status
+
+-- ---- the words
+-- a usage error with this text, on standard error alone
+abbrev pub IsUsageError : List ℕ → Stream → Stream → Stream → Stream → ℕ → Type 0
+IsUsageError text out out2 err err2 status =
+    IsSilent out out2 × Prints text err err2 × (status ≡ 2)
+
+-- why a job that clap accepts can't be done
+abbrev pub two_inputs : List ℕ
+two_inputs = codes "error: only one of FILE and SCRIPT can be standard input\n"
+
+abbrev pub two_tables : List ℕ
+two_tables = codes "error: --keys and --given cannot be used together\n"
+
+abbrev pub no_such_code : List ℕ
+no_such_code =
+    codes "error: no refusal or fault has this number; keycount explain lists all of them\n"
+
+abbrev pub IsUnusable : Job → List ℕ → Type 0
+IsUnusable job text =
+    (ReadsInputTwice job × (text ≡ two_inputs))
+    ⊎ ((AsksForTwoTables job × (text ≡ two_tables)) ⊎ (HasNoCode job × (text ≡ no_such_code)))
+
+-- a job is done, or can't be, and then it is a usage error
+abbrev pub DoesIfUsable : (List ℕ → Option (List ℕ)) → Type 0 → Job → Stream → Stream → Stream
+    → Stream → ℕ → Type 0
+DoesIfUsable named ReadFault job out out2 err err2 status =
+    ((text : List ℕ) × IsUnusable job text × IsUsageError text out out2 err err2 status)
+    ⊎ (((text : List ℕ) → IsUnusable job text → ⊥)
+    × DoesJob named ReadFault job out out2 err err2 status)
+
+-- there is no job: help and the version go to standard output
+abbrev pub Refuses : Usage → Stream → Stream → Stream → Stream → ℕ → Type 0
+Refuses (Help text) out out2 err err2 status =
+    Prints (string_bytes text) out out2 × IsSilent err err2 × (status ≡ 0)
+Refuses (Bad text) out out2 err err2 status =
+    IsUsageError (string_bytes text) out out2 err err2 status
+Refuses Memory out out2 err err2 status =
+    IsSilent out out2 × Ends (Err r.Memory) err err2 status
+
+-- what is done with what the words ask for
+abbrev pub Does : (List ℕ → Option (List ℕ)) → Type 0 → Result Job Usage → Stream → Stream → Stream
+    → Stream → ℕ → Type 0
+Does named ReadFault (Ok job) out out2 err err2 status =
+    DoesIfUsable named ReadFault job out out2 err err2 status
+Does named ReadFault (Err usage) out out2 err err2 status = Refuses usage out out2 err err2 status
+
+-- the words are understood, and done
+pub record Obeys (named : List ℕ → Option (List ℕ)) (ReadFault : Type 0) (words : List (List ℕ))
+    (out out2 err err2 : Stream) (status : ℕ) : Type 0 where
+  pub read : Result Job Usage
+  pub understood : MatchResult read (IsJobOf words) (IsRefusal words)
+  pub bad_topics : HaveBadList words → IsErrAnd read IsBadListReport
+  pub does : Does named ReadFault read out out2 err err2 status
+
+-- what the program does with its words; without them it ends with a usage error if they are no
+-- text, and otherwise for want of memory
+abbrev pub RunsProgram : (List ℕ → Option (List ℕ)) → Type 0 → Result (List (List ℕ)) NoWords
+    → Stream → Stream → Stream → Stream → ℕ → Type 0
+RunsProgram named ReadFault (Ok words) out out2 err err2 status =
+    Obeys named ReadFault words out out2 err err2 status
+RunsProgram named ReadFault (Err none.NotText) out out2 err err2 status =
+    IsUsageError (codes "error: a word of the command line is not UTF-8 text\n")
+    out out2 err err2 status
+RunsProgram named ReadFault (Err none.Memory) out out2 err err2 status =
+    IsSilent out out2 × Ends (Err r.Memory) err err2 status
