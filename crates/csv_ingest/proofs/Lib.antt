@@ -10,5 +10,6 @@ pub mod Pieces
 pub mod Progress
 pub mod Short
 pub mod Stands
+pub mod Starts
 pub mod Topics
 pub mod Walk

@@ -50,7 +50,7 @@ start_record-sees : (delimiter c : ℕ) → Sees (start_record (dialect delimite
 start_record-sees delimiter c =
     choose (is_line_end c) (st.StartRecord, act.Skip) (start_field (dialect delimiter) c) k.Record (field_begun delimiter c) refl (start_field-sees delimiter c)
 
-step-sees : (delimiter : ℕ) (s : State) (x : Stand) (c : ℕ) → Sees s x → Sees (step (dialect delimiter) s c).0 (stand_next delimiter x c)
+pub step-sees : (delimiter : ℕ) (s : State) (x : Stand) (c : ℕ) → Sees s x → Sees (step (dialect delimiter) s c).0 (stand_next delimiter x c)
 step-sees delimiter st.StartRecord x c e = rw e (start_record-sees delimiter c)
 step-sees delimiter st.AfterCr x c e =
     elim (cases_Bool (c == 10)) [

@@ -138,7 +138,7 @@ same_step true false x y = refl
 same_step false true x y = refl
 same_step false false x y = refl
 
-after_cr-step : (delimiter c : ℕ) → step (dialect delimiter) st.AfterCr c ≡ step (dialect delimiter) st.StartRecord c
+pub after_cr-step : (delimiter c : ℕ) → step (dialect delimiter) st.AfterCr c ≡ step (dialect delimiter) st.StartRecord c
 after_cr-step delimiter c = same_step (c == 13) (c == 10) (st.StartRecord, act.Skip) (start_field (dialect delimiter) c)
 
 after_cr : (delimiter : ℕ) (b : List ℕ) → walk delimiter st.AfterCr [] [] b ≡ walk delimiter st.StartRecord [] [] b

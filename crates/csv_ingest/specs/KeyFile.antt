@@ -43,7 +43,8 @@ abbrev pub behind_topic : List (List ℕ) → Option (List ℕ) → Option (List
     → Result (List ℕ) Lack
 behind_topic names None key = Err l.Column
 behind_topic names (Some topic) None = Err l.Column
-behind_topic names (Some topic) (Some key) = behind_index (position_from (bytes_eq topic) 0 names) key
+behind_topic names (Some topic) (Some key) =
+    behind_index (position_from (bytes_eq topic) 0 names) key
 
 -- in a file of several topics: the key of this column behind the index of the topic, whose name the
 -- topic's column has

@@ -4,3 +4,4 @@ pub mod Pieces
 pub mod Private
 pub mod Records
 pub mod Stand
+pub mod Starts

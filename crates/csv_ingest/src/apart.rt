@@ -69,7 +69,8 @@ fn found_apart<R: Threads + Sync>(
     requires { BeginWith delimiter width (lent pieces.now) }
     ensures len { IfOk result (λ found. vec_len found ≡ length pieces.now) }
     ensures found { IfOk result
-        (λ found. AnswerAll delimiter (taking wanted.now) header width (lent pieces.now) found.items) }
+        (λ found. AnswerAll delimiter (taking wanted.now) header width (lent pieces.now)
+        found.items) }
 {
     let found = thread::map_indices(
         rt,
@@ -92,7 +93,8 @@ fn lists_apart<R: Threads + Sync>(
     requires pieces { ArePieces delimiter (bytes_of (lent pieces.now)) (lent pieces.now) }
     requires bound { length (bytes_of (lent pieces.now)) < 2 ^ 64 }
     ensures keys { IfOk result (λ lists.
-        taken_of delimiter (taking wanted.now) header (bytes_of (lent pieces.now)) ≡ Ok (all_keys lists.items)) }
+        taken_of delimiter (taking wanted.now) header (bytes_of (lent pieces.now))
+        ≡ Ok (all_keys lists.items)) }
     ensures fault { IfErr result (λ e. (e ≡ refusal.Memory)
         ⊎ (taken_of delimiter (taking wanted.now) header (bytes_of (lent pieces.now)) ≡ Err e)) }
 {
@@ -147,9 +149,9 @@ pub struct Reading {
 /// The keys of a file of records with this delimiter, as `read_keys` has them.
 ///
 /// The file is cut into as many pieces as `reading` names, of about the same length, however short;
-/// 0 are one. A piece for which no thread can be started is read without one, and a file of a single
-/// piece is read without any. Where keys are looked up, one that comes again in its piece mostly
-/// stands there once.
+/// 0 are one. A piece for which no thread can be started is read without one, and a file of a
+/// single piece is read without any. Where keys are looked up, one that comes again in its piece
+/// mostly stands there once.
 pub fn read_keys_in_pieces<R: Threads + Sync>(
     rt: &R,
     alloc: Global,
@@ -174,10 +176,10 @@ pub fn read_keys_in_pieces<R: Threads + Sync>(
 /// The keys of a file of records, as `read_keys` has them.
 ///
 /// Each block of the file is read in a thread of its own. A file of a single block is cut into
-/// pieces, as many as there are processors, of at least 1 MiB each. A piece for which no thread can be
-/// started is read without one, and a file of a single piece is read without any. In a file of 1 MiB
-/// or more a key that comes again in its piece mostly stands there once; where the random source
-/// fails, by which keys are looked up, each is kept.
+/// pieces, as many as there are processors, of at least 1 MiB each. A piece for which no thread can
+/// be started is read without one, and a file of a single piece is read without any. In a file of
+/// 1 MiB or more a key that comes again in its piece mostly stands there once; where the random
+/// source fails, by which keys are looked up, each is kept.
 pub fn read_keys_apart<R: Threads + Sync + RandomSource>(
     rt: &R,
     alloc: Global,
@@ -186,10 +188,12 @@ pub fn read_keys_apart<R: Threads + Sync + RandomSource>(
     header: bool,
 ) -> Result<FileKeys, Refusal>
     requires { 1 ≤ column }
-    ensures keys { IfOk result (λ keys. keys_of file.now.delimiter column header file.now.bytes ≡ Ok keys) }
+    ensures keys { IfOk result (λ keys. keys_of file.now.delimiter column header file.now.bytes
+        ≡ Ok keys) }
     ensures kind { IfErr result IsFileFault }
     ensures fault { IfErr result
-        (λ e. (e ≡ refusal.Memory) ⊎ (keys_of file.now.delimiter column header file.now.bytes ≡ Err e)) }
+        (λ e. (e ≡ refusal.Memory)
+        ⊎ (keys_of file.now.delimiter column header file.now.bytes ≡ Err e)) }
 {
     let wanted = Wanted::key(column, hasher_for(rt, file.len()));
     let pieces = file.pieces(alloc, pieces_for(rt, file.len()))?;
@@ -228,7 +232,8 @@ pub fn read_topic_keys_in_pieces<R: Threads + Sync>(
     ensures keys { IfOk result (λ keys. topic_keys_of delimiter column topic_column
         (map (λ name. name.now) names.now) header file.now ≡ Ok keys) }
     ensures kind { IfErr result IsFileFault }
-    ensures fault { IfErr result (λ e. (e ≡ refusal.Memory) ⊎ (topic_keys_of delimiter column topic_column
+    ensures fault { IfErr result (λ e. (e ≡ refusal.Memory)
+        ⊎ (topic_keys_of delimiter column topic_column
         (map (λ name. name.now) names.now) header file.now ≡ Err e)) }
 {
     let pieces = pieces_of(alloc, file, delimiter, pieces)?;
@@ -254,7 +259,8 @@ pub fn read_topic_keys_apart<R: Threads + Sync>(
     ensures keys { IfOk result (λ keys. topic_keys_of file.now.delimiter column
         topic_column (map (λ name. name.now) names.now) header file.now.bytes ≡ Ok keys) }
     ensures kind { IfErr result IsFileFault }
-    ensures fault { IfErr result (λ e. (e ≡ refusal.Memory) ⊎ (topic_keys_of file.now.delimiter column
+    ensures fault { IfErr result (λ e. (e ≡ refusal.Memory)
+        ⊎ (topic_keys_of file.now.delimiter column
         topic_column (map (λ name. name.now) names.now) header file.now.bytes ≡ Err e)) }
 {
     let wanted = Wanted::topic_and_key(column, topic_column, names);

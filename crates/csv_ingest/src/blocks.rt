@@ -57,9 +57,11 @@ fn pieces_with(
     delimiter: u8,
 ) -> Result<Vec<Piece>, Memory>
     requires delimiter { is_line_end delimiter ≡ false }
-    requires pieces { ArePieces delimiter (bytes_of (pieces.items ++ last ∷ [])) (pieces.items ++ last ∷ []) }
+    requires pieces { ArePieces delimiter (bytes_of (pieces.items ++ last ∷ []))
+        (pieces.items ++ last ∷ []) }
     ensures { IfOk result
-        (λ all. ArePieces delimiter (bytes_of (pieces.items ++ last ∷ []) ++ block.items) all.items) }
+        (λ all. ArePieces delimiter (bytes_of (pieces.items ++ last ∷ []) ++ block.items)
+        all.items) }
 {
     let mut all = pieces;
     let mut last = last;

@@ -27,7 +27,8 @@ pub fn keys_in(
 ) -> Result<RecordBatch, Refusal>
     requires index { i < length pieces.now }
     requires first { BeginWith delimiter width (lent pieces.now) }
-    ensures { Answers (keys_in delimiter (taking wanted.now) header width (lent pieces.now) i) result }
+    ensures { Answers
+        (keys_in delimiter (taking wanted.now) header width (lent pieces.now) i) result }
 {
     if i == 0 {
         first_keys(alloc, pieces[0], delimiter, wanted, header, width)
@@ -64,9 +65,11 @@ pub fn join_keys(
     requires bound { length (bytes_of (lent pieces.now)) < 2 ^ 64 }
     requires first { BeginWith delimiter width (lent pieces.now) }
     requires len { vec_len found ≡ length pieces.now }
-    requires found { AnswerAll delimiter (taking wanted.now) header width (lent pieces.now) found.items }
+    requires found { AnswerAll delimiter (taking wanted.now) header width (lent pieces.now)
+        found.items }
     ensures keys { IfOk result (λ lists.
-        taken_of delimiter (taking wanted.now) header (bytes_of (lent pieces.now)) ≡ Ok (all_keys lists.items)) }
+        taken_of delimiter (taking wanted.now) header (bytes_of (lent pieces.now))
+        ≡ Ok (all_keys lists.items)) }
     ensures fault { IfErr result (λ e. (e ≡ refusal.Memory)
         ⊎ (taken_of delimiter (taking wanted.now) header (bytes_of (lent pieces.now)) ≡ Err e)) }
 {

@@ -1,10 +1,11 @@
-//! Laws of files that are read in pieces.
+//! Laws of files that are read in pieces, and of where records begin.
 
-ghost use Rattle.std.specs.Prelude.{◌≡◌, ◌≢◌, ◌+◌, ◌++◌, ◌∷◌, [], false, Bool, List, ℕ, Ok, All, flat_map, length, map};
+ghost use Rattle.std.specs.Prelude.{◌≡◌, ◌≢◌, ◌+◌, ◌++◌, ◌∷◌, [], false, Bool, IfSome, List, ℕ, Ok, All, flat_map, length, map, slice_get};
 ghost use Rattle.csv.specs.Reading.{records, strip_bom};
 ghost use Rattle.csv_ingest.specs.KeyFile.{Record, Taking, dialect, keys_from, taken_of};
 ghost use Rattle.csv_ingest.specs.Pieces.{ArePieces, file_records, joined, later_keys, piece_keys, then_keys};
 ghost use Rattle.csv_ingest.specs.Stand.{IsCut, in_quotes, is_line_end, stand_after};
+ghost use Rattle.csv_ingest.specs.Starts.{BeginsAt, starts};
 ghost use Rattle.csv_ingest.specs.declared.stand.Stand.{Stand};
 ghost use Rattle.csv_ingest.specs.declared.stand.Stand.TheVariants as stand;
 
@@ -59,7 +60,8 @@ pub fn outside_without_quotes()
 /// The keys of two lists of records: those of the first, and then those of the second, whose
 /// numbers go on.
 pub fn keys_of_two_pieces()
-    ensures { (wanted : Taking) (width nth : ℕ) (xs ys : List Record) → keys_from wanted width nth (xs ++ ys)
+    ensures { (wanted : Taking) (width nth : ℕ) (xs ys : List Record)
+        → keys_from wanted width nth (xs ++ ys)
         ≡ then_keys (keys_from wanted width nth xs) (keys_from wanted width (nth + length xs) ys) }
 {}
 
@@ -93,4 +95,16 @@ pub fn keys_of_pieces()
         → taken_of delimiter wanted header file
         ≡ then_keys (taken_of delimiter wanted header piece)
         (joined (length (first ∷ more)) (map (piece_keys delimiter wanted (length first)) pieces)) }
+{}
+
+/// A file has a start for each record.
+pub fn a_start_a_record()
+    ensures { (delimiter : ℕ) (file : List ℕ)
+        → length (starts delimiter file) ≡ length (file_records delimiter file) }
+{}
+
+/// At each start the record of this number begins.
+pub fn records_begin_at_starts()
+    ensures { (delimiter i : ℕ) (file : List ℕ)
+        → IfSome (slice_get (starts delimiter file) i) (BeginsAt delimiter file i) }
 {}

@@ -6,8 +6,8 @@
 //!   other error is running out of memory.
 //! - `column_named` returns the column of the header's first field with a name.
 //! - `records_of` and `next_record` read a file's records one by one.
-//! - Laws: when a file can be split at a line feed, and how the records and keys of a file follow
-//!   from those of its chunks.
+//! - Laws: when a file can be split at a line feed, how the records and keys of a file follow from
+//!   those of its chunks, and where its records begin.
 //!
 //! Tests: `log_tests`.
 #![tactic(auto)]
@@ -39,12 +39,12 @@ pub use file_keys::FileKeys;
 pub use header::{column_named, field_named};
 pub use lack::Lack;
 pub use laws::{
-    a_key_a_record, cut_before_a_line_feed, cut_behind_a_record, cut_file, cut_without_quotes,
-    keys_later, keys_of_pieces, keys_of_two_pieces, line_feed_ends_a_record,
-    outside_without_quotes, records_of_pieces, stand_after_two,
+    a_key_a_record, a_start_a_record, cut_before_a_line_feed, cut_behind_a_record, cut_file,
+    cut_without_quotes, keys_later, keys_of_pieces, keys_of_two_pieces, line_feed_ends_a_record,
+    outside_without_quotes, records_begin_at_starts, records_of_pieces, stand_after_two,
 };
 pub use record_batch::RecordBatch;
 pub use records::{next_record, records_of};
-pub use stand::Stand;
+pub use stand::{Stand, is_line_end};
 pub use topic_keys::TopicKeys;
 pub use whole::read_keys;

@@ -36,10 +36,12 @@ fn add_piece(
     width: usize,
 ) -> Result<(), Refusal>
     requires none { keys.old ≡ [] }
-    ensures keys { OnOk result (piece_keys delimiter (taking wanted.now) width piece.now ≡ Ok keys.new) }
+    ensures keys { OnOk result (piece_keys delimiter (taking wanted.now) width piece.now
+        ≡ Ok keys.new) }
     ensures kind { IfErr result IsFileFault }
     ensures fault { IfErr result
-        (λ e. (e ≡ refusal.Memory) ⊎ (piece_keys delimiter (taking wanted.now) width piece.now ≡ Err e)) }
+        (λ e. (e ≡ refusal.Memory)
+        ⊎ (piece_keys delimiter (taking wanted.now) width piece.now ≡ Err e)) }
 {
     let mut reader = records_of(alloc, piece, delimiter);
     let mut row = ByteRecord::new(alloc);
@@ -55,10 +57,12 @@ pub fn keys_of_piece(
     wanted: &Wanted<'_>,
     width: usize,
 ) -> Result<RecordBatch, Refusal>
-    ensures keys { IfOk result (λ keys. piece_keys delimiter (taking wanted.now) width piece.now ≡ Ok keys) }
+    ensures keys { IfOk result (λ keys. piece_keys delimiter (taking wanted.now) width piece.now
+        ≡ Ok keys) }
     ensures kind { IfErr result IsFileFault }
     ensures fault { IfErr result
-        (λ e. (e ≡ refusal.Memory) ⊎ (piece_keys delimiter (taking wanted.now) width piece.now ≡ Err e)) }
+        (λ e. (e ≡ refusal.Memory)
+        ⊎ (piece_keys delimiter (taking wanted.now) width piece.now ≡ Err e)) }
 {
     let mut keys = wanted.new_list(alloc);
     let added = add_piece(alloc, &mut keys, piece, delimiter, wanted, width);

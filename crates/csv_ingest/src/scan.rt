@@ -70,8 +70,8 @@ fn read_bare(
     Ok(end)
 }
 
-/// Reads on to the end of a field that goes on here in quotes. Of two double quotes one is a byte of
-/// the field, and behind a single one it goes on without quotes.
+/// Reads on to the end of a field that goes on here in quotes. Of two double quotes one is a byte
+/// of the field, and behind a single one it goes on without quotes.
 fn read_quoted(
     text: &[u8],
     ends: &FieldEnds,
@@ -81,7 +81,8 @@ fn read_quoted(
 ) -> Result<usize, Memory>
     requires { start ≤ length text.now }
     ensures { IfOk result
-        (λ end. ReadsField ends.now st.InQuoted text.now start end wanted key.old.items key.new.items) }
+        (λ end. ReadsField ends.now st.InQuoted text.now start end wanted key.old.items
+        key.new.items) }
 {
     let mut at = start;
     'quotes: while let Some(more) = memchr(b'"', &text[at..]) {
@@ -128,7 +129,8 @@ impl Row {
     ) -> Result<usize, Memory>
         requires { at < length text.now }
         ensures count { OnOk result (self.new.count ≡ self.old.count) }
-        ensures field { IfOk result (λ end. ReadsRow ends.now text.now at end column self.old self.new) }
+        ensures field { IfOk result (λ end.
+            ReadsRow ends.now text.now at end column self.old self.new) }
     {
         let wanted = self.count == column;
         if text[at] == b'"' {
@@ -157,8 +159,8 @@ impl Row {
         self.key.clear();
     }
 
-    /// Adds the key of this record, which was read to its end, as record number nth, which has to be
-    /// `width` fields long.
+    /// Adds the key of this record, which was read to its end, as record number nth, which has to
+    /// be `width` fields long.
     fn add_to(
         &self,
         keys: &mut RecordBatch,
@@ -198,7 +200,8 @@ fn scan(
 ) -> Result<(), Refusal>
     requires empty { keys.old ≡ [] }
     requires unmarked { bom_length text.now ≡ 0 }
-    ensures keys { OnOk result (piece_keys delimiter (key_in (column + 1)) width text.now ≡ Ok keys.new) }
+    ensures keys { OnOk result (piece_keys delimiter (key_in (column + 1)) width text.now
+        ≡ Ok keys.new) }
     ensures kind { IfErr result IsFileFault }
     ensures fault { IfErr result (λ e. (e ≡ refusal.Memory)
         ⊎ (piece_keys delimiter (key_in (column + 1)) width text.now ≡ Err e)) }
@@ -240,10 +243,12 @@ fn scanned(
 ) -> Result<RecordBatch, Refusal>
     requires unmarked { bom_length text.now ≡ 0 }
     requires column { taking wanted.now ≡ key_in (column + 1) }
-    ensures keys { IfOk result (λ keys. piece_keys delimiter (taking wanted.now) width text.now ≡ Ok keys) }
+    ensures keys { IfOk result (λ keys. piece_keys delimiter (taking wanted.now) width text.now
+        ≡ Ok keys) }
     ensures kind { IfErr result IsFileFault }
     ensures fault { IfErr result
-        (λ e. (e ≡ refusal.Memory) ⊎ (piece_keys delimiter (taking wanted.now) width text.now ≡ Err e)) }
+        (λ e. (e ≡ refusal.Memory)
+        ⊎ (piece_keys delimiter (taking wanted.now) width text.now ≡ Err e)) }
 {
     let mut keys = wanted.new_list(alloc);
     scan(&mut keys, alloc, text, delimiter, column, width)?;
@@ -259,10 +264,12 @@ pub fn keys_of(
     wanted: &Wanted<'_>,
     width: usize,
 ) -> Result<RecordBatch, Refusal>
-    ensures keys { IfOk result (λ keys. piece_keys delimiter (taking wanted.now) width piece.now ≡ Ok keys) }
+    ensures keys { IfOk result (λ keys. piece_keys delimiter (taking wanted.now) width piece.now
+        ≡ Ok keys) }
     ensures kind { IfErr result IsFileFault }
     ensures fault { IfErr result
-        (λ e. (e ≡ refusal.Memory) ⊎ (piece_keys delimiter (taking wanted.now) width piece.now ≡ Err e)) }
+        (λ e. (e ≡ refusal.Memory)
+        ⊎ (piece_keys delimiter (taking wanted.now) width piece.now ≡ Err e)) }
 {
     match wanted.key_column() {
         Some(column) if mark_length(piece) == 0 => {
@@ -282,10 +289,12 @@ pub fn first_keys(
     width: usize,
 ) -> Result<RecordBatch, Refusal>
     requires { IsWidthOf width (file_records delimiter piece.now) }
-    ensures keys { IfOk result (λ keys. taken_of delimiter (taking wanted.now) header piece.now ≡ Ok keys) }
+    ensures keys { IfOk result (λ keys. taken_of delimiter (taking wanted.now) header piece.now
+        ≡ Ok keys) }
     ensures kind { IfErr result IsFileFault }
     ensures fault { IfErr result
-        (λ e. (e ≡ refusal.Memory) ⊎ (taken_of delimiter (taking wanted.now) header piece.now ≡ Err e)) }
+        (λ e. (e ≡ refusal.Memory)
+        ⊎ (taken_of delimiter (taking wanted.now) header piece.now ≡ Err e)) }
 {
     if header {
         read_taken(alloc, piece, delimiter, wanted, header)

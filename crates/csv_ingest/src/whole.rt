@@ -40,10 +40,12 @@ pub fn add_key(
 ) -> Result<(), Refusal>
     ensures bound { OnOk result (length keys.new < 2 ^ 63) }
     ensures value { OnOk result (length keys.new ≡ length keys.old + 1) }
-    ensures key { OnOk result (TakesKey (taking wanted.now) width nth keys.old keys.new (fields_of row.now)) }
+    ensures key { OnOk result
+        (TakesKey (taking wanted.now) width nth keys.old keys.new (fields_of row.now)) }
     ensures kind { IfErr result IsFileFault }
     ensures fault { IfErr result
-        (λ e. (e ≡ refusal.Memory) ⊎ IsFaultAt (taking wanted.now) width nth (fields_of row.now) e) }
+        (λ e. (e ≡ refusal.Memory)
+        ⊎ IsFaultAt (taking wanted.now) width nth (fields_of row.now) e) }
 {
     if row.len() != width {
         return Err(Refusal::BadCsv { nth });
@@ -128,10 +130,12 @@ fn add_file(
     header: bool,
 ) -> Result<(), Refusal>
     requires none { keys.old ≡ [] }
-    ensures keys { OnOk result (taken_of delimiter (taking wanted.now) header file.now ≡ Ok keys.new) }
+    ensures keys { OnOk result (taken_of delimiter (taking wanted.now) header file.now
+        ≡ Ok keys.new) }
     ensures kind { IfErr result IsFileFault }
     ensures fault { IfErr result
-        (λ e. (e ≡ refusal.Memory) ⊎ (taken_of delimiter (taking wanted.now) header file.now ≡ Err e)) }
+        (λ e. (e ≡ refusal.Memory)
+        ⊎ (taken_of delimiter (taking wanted.now) header file.now ≡ Err e)) }
 {
     let mut reader = records_of(alloc, file, delimiter);
     let mut row = ByteRecord::new(alloc);
@@ -147,10 +151,12 @@ pub fn read_taken(
     wanted: &Wanted<'_>,
     header: bool,
 ) -> Result<RecordBatch, Refusal>
-    ensures keys { IfOk result (λ keys. taken_of delimiter (taking wanted.now) header file.now ≡ Ok keys) }
+    ensures keys { IfOk result (λ keys. taken_of delimiter (taking wanted.now) header file.now
+        ≡ Ok keys) }
     ensures kind { IfErr result IsFileFault }
     ensures fault { IfErr result
-        (λ e. (e ≡ refusal.Memory) ⊎ (taken_of delimiter (taking wanted.now) header file.now ≡ Err e)) }
+        (λ e. (e ≡ refusal.Memory)
+        ⊎ (taken_of delimiter (taking wanted.now) header file.now ≡ Err e)) }
 {
     let mut keys = wanted.new_list(alloc);
     let added = add_file(alloc, &mut keys, file, delimiter, wanted, header);

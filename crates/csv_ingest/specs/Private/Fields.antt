@@ -13,7 +13,8 @@ IsLineEnd c = (c ≡ 10) ⊎ (c ≡ 13)
 
 -- from a place on a field in this state has these bytes more, and there it ends: at a delimiter, at
 -- the end of a line or of the text
-pub record EndsField (delimiter : ℕ) (s : State) (text : List ℕ) (at end : ℕ) (more : List ℕ) : Type 0 where
+pub record EndsField (delimiter : ℕ) (s : State) (text : List ℕ) (at end : ℕ) (more : List ℕ)
+    : Type 0 where
   pub order : at ≤ end
   pub within : end ≤ length text
   pub ended : end < length text → (get_or text end 0 ≡ delimiter) ⊎ IsLineEnd (get_or text end 0)
@@ -26,7 +27,8 @@ abbrev pub kept : Bool → List ℕ → List ℕ → List ℕ
 kept wanted old more = if wanted then old ++ more else old
 
 -- a field was read from a place on to its end, and its bytes are kept where they are wanted
-pub record ReadsField (delimiter : ℕ) (s : State) (text : List ℕ) (at end : ℕ) (wanted : Bool) (old new : List ℕ) : Type 0 where
+pub record ReadsField (delimiter : ℕ) (s : State) (text : List ℕ) (at end : ℕ) (wanted : Bool)
+    (old new : List ℕ) : Type 0 where
   pub more : List ℕ
   pub ends : EndsField delimiter s text at end more
   pub keeps : new ≡ kept wanted old more
@@ -45,7 +47,9 @@ pub record IsWhole (column : ℕ) (row : Row) (fields : Record) : Type 0 where
   pub before : row.count < column → row.key.items ≡ []
 
 -- the field at hand was read to its end
-pub record ReadsRow (delimiter : ℕ) (text : List ℕ) (at end column : ℕ) (old new : Row) : Type 0 where
+pub record ReadsRow (delimiter : ℕ) (text : List ℕ) (at end column : ℕ) (old new : Row)
+    : Type 0 where
   pub field : List ℕ
   pub ends : EndsField delimiter st.StartField text at end field
-  pub whole : (fields : Record) → IsRow column old fields → IsWhole column new (fields ++ field ∷ [])
+  pub whole : (fields : Record) → IsRow column old fields
+      → IsWhole column new (fields ++ field ∷ [])

@@ -23,7 +23,8 @@ topics_view (Some topics) = Some (topics.column, map (λ name. name.now) topics.
 -- topics whose indices fit a byte, and whose column is counted from 1
 abbrev pub AreValidTopics : Option Topics → Type 0
 AreValidTopics None = ⊤
-AreValidTopics (Some topics) = (1 ≤ topics.column) × (topics.column < 2 ^ 32) × (length topics.names.now ≤ 2 ^ 8)
+AreValidTopics (Some topics) =
+    (1 ≤ topics.column) × (topics.column < 2 ^ 32) × (length topics.names.now ≤ 2 ^ 8)
 
 -- the key, behind the index of its topic where there is one
 abbrev pub item : Option ℕ → List ℕ → List ℕ

@@ -1,7 +1,5 @@
-use Rattle.std.proofs.Common.{◌≡◌, ◌∙◌, None, Some, List, ℕ, ap, arith, rules, sym}
-use Rattle.std.specs.Option.{option_map}
+use Rattle.std.proofs.Common.{◌≡◌, ◌∙◌, None, Some, arith, rules, sym}
 use Rattle.std.specs.Str.{bytes_eq}
-use Rattle.std.specs.Borrow.{Bor}
 use Rattle.csv.specs.Records.{field_at, fields_of}
 use Rattle.csv_ingest.proofs.Headers.{field-here, field-other, field-there}
 use Rattle.csv_ingest.proofs.header.field_named.Goals as goal
