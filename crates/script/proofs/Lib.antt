@@ -5,5 +5,6 @@ pub mod PlanProgress
 pub mod PlanRules
 pub mod Progress
 pub mod ReadLemmas
+pub mod Shown
 pub mod TopicLemmas
 pub mod WordLemmas

@@ -2,10 +2,12 @@
 use Rattle.std.specs.Prelude.{◌≡◌, ℕ, true, List, [], ◌∷◌, ◌++◌, codes, Option, Some, None}
 use Rattle.std.specs.List.{slice_get}
 use Rattle.partitioner.specs.Name.{is_name}
-use Rattle.script.specs.Grammar.{number_of}
+use Rattle.script.specs.Grammar.{first_word, number_of}
 use Rattle.script.specs.Topics.{partition_at}
 use Rattle.script.specs.declared.action.Action.{Action}
 use Rattle.script.specs.declared.action.Action.TheVariants.{Append, AppendIn, Join, Keep, Return, Rejoin, Sync, Leave, Lose, Poll, Send, Deliver, Unanswered, Settle, Drain}
+use Rattle.script.specs.declared.forms.Form.{Form}
+use Rattle.script.specs.declared.forms.Form.TheVariants as form
 use Rattle.partitioner.specs.declared.topic.Topic.{Topic}
 
 -- a word, a space and a text
@@ -83,3 +85,47 @@ IsWritten topics (Deliver k) line = IsNumbered (codes "deliver") k line
 IsWritten topics (Unanswered k) line = IsNumbered (codes "unanswered") k line
 IsWritten topics Settle line = line ≡ codes "settle"
 IsWritten topics Drain line = line ≡ codes "drain"
+
+-- a form as it is shown, in two parts: with topics the name of one stands between them, unless the
+-- second is empty
+abbrev pub parts_of : Form → List ℕ × List ℕ
+parts_of form.Join = (codes "join NAME", [])
+parts_of form.Leave = (codes "leave NAME", [])
+parts_of form.Lose = (codes "lose NAME", [])
+parts_of form.Keep = (codes "keep NAME", [])
+parts_of form.Return = (codes "return NAME", [])
+parts_of form.Sync = (codes "sync NAME", [])
+parts_of form.Rejoin = (codes "rejoin NAME", [])
+parts_of form.Poll = (codes "poll NAME", codes " P N")
+parts_of form.Send = (codes "send NAME", codes " P")
+parts_of form.Deliver = (codes "deliver C", [])
+parts_of form.Unanswered = (codes "unanswered C", [])
+parts_of form.Append = (codes "append", codes " KEY")
+parts_of form.Settle = (codes "settle", [])
+parts_of form.Drain = (codes "drain", [])
+
+-- the first word of a form
+abbrev pub word_of : Form → List ℕ
+word_of form = first_word (parts_of form).0
+
+-- the form of the lines of an action
+abbrev pub form_of : Action → Form
+form_of (Append key) = form.Append
+form_of (AppendIn i key) = form.Append
+form_of (Join name) = form.Join
+form_of (Keep name) = form.Keep
+form_of (Return name) = form.Return
+form_of (Rejoin name) = form.Rejoin
+form_of (Sync name) = form.Sync
+form_of (Leave name) = form.Leave
+form_of (Lose name) = form.Lose
+form_of (Poll name p n) = form.Poll
+form_of (Send name p) = form.Send
+form_of (Deliver k) = form.Deliver
+form_of (Unanswered k) = form.Unanswered
+form_of Settle = form.Settle
+form_of Drain = form.Drain
+
+-- the form is among these
+abbrev pub IsAmong : List Form → Form → Type 0
+IsAmong forms f = (i : ℕ) × (slice_get forms i ≡ Some f)

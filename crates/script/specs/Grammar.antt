@@ -46,6 +46,10 @@ line_starts first bytes = line_starts_of first (split_lines bytes)
 unfoldable pub split_word : List ℕ → Option (List ℕ × List ℕ)
 split_word text = option_map (λ i. (take i text, drop (i + 1) text)) (position is_space text)
 
+-- the word before the first space, or all of the text if it has no space
+abbrev pub first_word : List ℕ → List ℕ
+first_word text = option_map_or (λ parts. parts.0) (split_word text) text
+
 -- 1 to 10 decimal digits, and a value of 32 bits; leading zeros are allowed
 abbrev pub is_number : List ℕ → Bool
 is_number word =

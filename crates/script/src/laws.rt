@@ -1,10 +1,11 @@
 //! Laws of the grammar and of plans.
 
-ghost use Rattle.std.specs.Prelude.{◌≡◌, ◌<◌, ◌*◌, ℕ, List, length, Some, IfSome};
+ghost use Rattle.std.specs.Prelude.{◌≡◌, ◌<◌, ◌*◌, ℕ, List, length, take, Some, IfSome};
 ghost use Rattle.lane_words.specs.declared.limits.TheConstants.{MOST_MEMBERS};
-ghost use Rattle.script.specs.Forms.{IsWritten};
-ghost use Rattle.script.specs.Grammar.{action_of};
-ghost use Rattle.script.specs.Plan.{IsPlan};
+ghost use Rattle.script.specs.Forms.{IsAmong, IsWritten, form_of, word_of};
+ghost use Rattle.script.specs.Grammar.{action_of, first_word};
+ghost use Rattle.script.specs.Plan.{IsPlan, change_of};
+ghost use Rattle.script.specs.declared.forms.TheConstants.{FORMS, PLAN_FORMS};
 ghost use Rattle.partitioner.specs.Topic.{MayBeTopics};
 ghost use Rattle.script.specs.declared.action.Action.{Action};
 ghost use Rattle.script.specs.declared.plan.Change.{Change};
@@ -20,6 +21,16 @@ pub fn forms_are_read()
 pub fn no_others_are_read()
     ensures { (topics : List Topic) (line : List ℕ)
         → IfSome (action_of topics line) (λ action. IsWritten topics action line) }
+{}
+
+/// The forms that are shown are those of all actions, and the first ones are those of all changes.
+/// A line of an action begins with the word of its form.
+pub fn forms_are_shown()
+    ensures script { (action : Action) → IsAmong FORMS (form_of action) }
+    ensures plan { (action : Action)
+        → IfSome (change_of action) (λ change. IsAmong (take PLAN_FORMS FORMS) (form_of action)) }
+    ensures word { (topics : List Topic) (action : Action) (line : List ℕ)
+        → IsWritten topics action line → first_word line ≡ word_of (form_of action) }
 {}
 
 /// A plan has fewer than two lines for each possible member: each line is a join, or a leave or

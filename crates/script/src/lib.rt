@@ -2,7 +2,8 @@
 //!
 //! - `read_replay`, and `read_replay_topics` with topics, returns the commands of all lines with
 //!   their line numbers, or the number of the first line that is not valid. By two laws, exactly
-//!   the lines in a form of an action parse, and they parse to that action.
+//!   the lines in a form of an action parse, and they parse to that action. `FORMS` are the forms
+//!   as they are shown; by a third law each action has one.
 //! - `read_plan` returns the changes of all lines, or the fault of the first line that has one. In
 //!   a `Plan` each line may follow those before it, and after each line somebody is present.
 //! - `first_line`, `parse_action`, `parse_change` and a `Roster` do the same line by line.
@@ -12,6 +13,7 @@
 #![tactic(auto)]
 
 mod action;
+mod forms;
 mod laws;
 mod limits;
 mod lines;
@@ -21,9 +23,11 @@ mod topics;
 mod words;
 
 pub use action::{Action, Key};
-pub use laws::{a_plan_is_short, forms_are_read, no_others_are_read};
+pub use forms::{FORMS, Form, PLAN_FORMS};
+pub use laws::{a_plan_is_short, forms_are_read, forms_are_shown, no_others_are_read};
 pub use limits::{LONGEST_LINE, MOST_DIGITS, NO_PARTITION};
 pub use lines::{first_line, parse_action};
 pub use partitioner::Topic;
 pub use plan::{Change, Plan, Roster, parse_change, read_plan};
 pub use replay::{Line, read_replay, read_replay_topics};
+pub use words::first_word;

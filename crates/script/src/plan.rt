@@ -238,9 +238,7 @@ impl Roster {
         ensures { result ≡ is_allowed self.now change.now }
     {
         match change {
-            Change::Join(name) => {
-                !is_among(&self.joined, name) && self.joined.len() < MOST_MEMBERS
-            }
+            Change::Join(name) => !self.has_joined(name) && self.joined.len() < MOST_MEMBERS,
             Change::Leave(name) => self.is_there(name),
             Change::Lose(name) => self.is_there(name),
         }
@@ -250,7 +248,7 @@ impl Roster {
     fn is_there(&self, name: &Name) -> bool
         ensures { result ≡ is_there self.now name.now }
     {
-        is_among(&self.joined, name) && !is_among(&self.gone, name)
+        self.has_joined(name) && !is_among(&self.gone, name)
     }
 
     /// Enters the name that joined or is gone.

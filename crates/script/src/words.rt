@@ -3,7 +3,7 @@
 ghost use Rattle.std.specs.Prelude.{◌≡◌, ◌==◌, IfSome, IfNone};
 ghost use Rattle.std.specs.Char.{is_ascii_digit};
 ghost use Rattle.std.specs.List.{list_all, position};
-ghost use Rattle.script.specs.Grammar.{number_of, split_word};
+ghost use Rattle.script.specs.Grammar.{first_word, number_of, split_word};
 
 use crate::limits::MOST_DIGITS;
 
@@ -17,6 +17,16 @@ pub fn split_word(text: &[u8]) -> Option<(&[u8], &[u8])>
     match first_index(text, b' ') {
         Some(end) => Some((&text[..end], &text[end + 1..])),
         None => None,
+    }
+}
+
+/// The word before the first space, or all of the text if it has no space.
+pub fn first_word(text: &[u8]) -> &[u8]
+    ensures { result.now ≡ first_word text.now }
+{
+    match split_word(text) {
+        Some((word, _)) => word,
+        None => text,
     }
 }
 

@@ -1,8 +1,8 @@
 use Rattle.std.proofs.Common.{rules}
 use Rattle.script.proofs.plan.Roster.is_there.Goals as goal
 
-pub returns-then-is_among : goal.returns-then-is_among
-returns-then-is_among c = search rules
+pub returns-then-has_joined : goal.returns-then-has_joined
+returns-then-has_joined c = search rules
 
-pub returns-else-is_among : goal.returns-else-is_among
-returns-else-is_among c = search rules
+pub returns-else-has_joined : goal.returns-else-has_joined
+returns-else-has_joined c = search rules
