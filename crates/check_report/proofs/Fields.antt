@@ -1,21 +1,20 @@
 -- The faults of a record, and what its fields are.
-use Rattle.std.proofs.Common.{◌≡◌, ◌≢◌, ◌≤◌, ◌<◌, ◌+◌, ◌-◌, ◌∙◌, ℕ, suc, zero, List, [], ◌∷◌, Bool, true, false, Option, Some, None, cond, true≢false, length, map, sym, ap, refl, subst, arith}
-use Rattle.std.specs.Prelude.{◌||◌, IfOk, Result, Ok, Err, if◌then◌else◌, nat_lt}
+use Rattle.std.proofs.Common.{◌≡◌, ◌≢◌, ◌≤◌, ◌<◌, ◌+◌, ◌-◌, ◌∙◌, ℕ, List, [], ◌∷◌, Bool, true, false, Option, Some, None, cond, true≢false, length, map, sym, ap, refl, arith}
+use Rattle.std.specs.Prelude.{◌||◌, Ok, Err, if◌then◌else◌, nat_lt}
 use Rattle.std.specs.List.{list_any, position_from}
 use Rattle.std.specs.Str.{bytes_eq}
 use Rattle.std.proofs.lemmas.Bool.{le-ltb, lt-ltb}
 use Rattle.csv.specs.Records.{field_at}
-use Rattle.csv_ingest.specs.KeyFile.{Record, behind_index, behind_topic, key_before, key_behind, keys_from, lack_at}
+use Rattle.csv_ingest.specs.KeyFile.{Record, behind_index, behind_topic, key_before, keys_from, lack_at}
 use Rattle.csv_ingest.proofs.Keys.{keys_from-key, keys_from-lacks, keys_from-nil, keys_from-other}
 use Rattle.csv_ingest.specs.declared.lack.Lack.{Lack}
 use Rattle.csv_ingest.specs.declared.lack.Lack.TheVariants as l
-use Rattle.lane_words.specs.declared.Refusal.{Refusal}
 use Rattle.lane_words.specs.declared.Refusal.TheVariants as r
 use Rattle.lane_words.specs.declared.limits.TheConstants.{LONGEST_KEY}
 use Rattle.partitioner.specs.declared.topic.Topic.{Topic}
 use Rattle.check_report.specs.Private.RecordFindings.{HasKeyOf, taken}
 use Rattle.check_report.specs.RecordFindings.{Wants, key_taken, read_refusal, record_refusal, taking_among}
-use Rattle.check_report.specs.Warnings.{delimiter_words, has_byte}
+use Rattle.check_report.specs.Warnings.{delimiter_words}
 
 -- ---- faults
 pub refusal-width : (wants : Wants) (width nth : ℕ) (fields : Record) → length fields ≢ width → record_refusal wants width nth fields ≡ Some (r.BadCsv nth)

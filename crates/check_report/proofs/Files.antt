@@ -1,6 +1,6 @@
 -- The columns of a file whose first record was read.
-use Rattle.std.proofs.Common.{◌≡◌, ◌∙◌, ℕ, List, [], ◌∷◌, ap, refl, sym}
-use Rattle.std.specs.Prelude.{Ok, zip}
+use Rattle.std.proofs.Common.{◌≡◌, ℕ, List, [], ◌∷◌, ap, refl, sym}
+use Rattle.std.specs.Prelude.{zip}
 use Rattle.csv_ingest.specs.Header.{column_named}
 use Rattle.csv_ingest.specs.KeyFile.{Record}
 use Rattle.csv_ingest.specs.Pieces.{file_records}
@@ -10,7 +10,6 @@ use Rattle.command_line.specs.declared.options.Column.TheVariants.{Number, Named
 use Rattle.command_line.specs.declared.options.Options.{Options}
 use Rattle.command_line.specs.declared.options.TheConstants.{LAST_COLUMN}
 use Rattle.ingest.specs.Records.{column_in, topic_column_in}
-use Rattle.check_report.specs.Findings.{Finding}
 use Rattle.check_report.specs.Places.{places}
 use Rattle.check_report.specs.Private.RecordFindings.{column_among, topic_column_among}
 use Rattle.check_report.specs.RecordFindings.{findings_in, findings_of_file, placed}

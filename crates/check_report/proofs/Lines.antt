@@ -1,8 +1,8 @@
 -- The lines of a script or a plan, one by one.
-use Rattle.std.proofs.Common.{◌≡◌, ◌∙◌, ◌++◌, ℕ, List, [], ◌∷◌, Bool, true, false, Option, Some, None, ap, refl, sym, true≢false, inl, inr, length}
-use Rattle.std.specs.Prelude.{◌||◌, ◌⊎◌, not, Result, Ok, Err, codes, if◌then◌else◌, zip}
-use Rattle.std.specs.List.{cons_option, filter_map, list_any}
-use Rattle.std.specs.Option.{is_some, option_map, option_to_list}
+use Rattle.std.proofs.Common.{◌≡◌, ◌∙◌, ◌++◌, ℕ, List, [], ◌∷◌, Bool, true, false, Option, Some, None, ap, refl, inl, inr, length}
+use Rattle.std.specs.Prelude.{◌||◌, not, Ok, Err, codes, if◌then◌else◌, zip}
+use Rattle.std.specs.List.{cons_option}
+use Rattle.std.specs.Option.{option_to_list}
 use Rattle.std.proofs.lemmas.List.{nil_from_length}
 use Rattle.lane_words.specs.Answers.{Answers}
 use Rattle.lane_words.specs.declared.Refusal.{Refusal}
@@ -14,7 +14,7 @@ use Rattle.script.specs.Replay.{is_bad, parse_action, parse_action_answer}
 use Rattle.script.specs.declared.action.Action.{Action}
 use Rattle.script.specs.declared.plan.Change.{Change}
 use Rattle.check_report.specs.Findings.{Finding}
-use Rattle.check_report.specs.ScriptFindings.{ScriptLine, behind_line, change_words, found_in, has_change, line_finding, plan_finding, plan_findings_from, plan_words, unread_words}
+use Rattle.check_report.specs.ScriptFindings.{ScriptLine, behind_line, change_words, found_in, line_finding, plan_finding, plan_findings_from, plan_words, unread_in_plan, unread_in_script}
 
 -- ---- lines of a script
 pub read-line : (topics : List Topic) (number : ℕ) (line : List ℕ) (x : Option Action) → Answers (parse_action_answer topics (number, line)) (Ok x) → is_bad topics line ≡ false
@@ -35,7 +35,7 @@ bad-line topics number n line answer = go (is_bad topics line) answer
     go false (inl e) = absurd (cc e)
     go false (inr e) = absurd (cc e)
 
-pub finding-bad : (topics : List Topic) (line : ScriptLine) → is_bad topics line.1.1 ≡ true → line_finding topics line ≡ Some (found_in line (r.BadLine line.1.0) (unread_words line.1.1))
+pub finding-bad : (topics : List Topic) (line : ScriptLine) → is_bad topics line.1.1 ≡ true → line_finding topics line ≡ Some (found_in line (r.BadLine line.1.0) (unread_in_script topics line.1.1))
 unfolding line_finding
 finding-bad topics line e = rw e refl
 
@@ -64,12 +64,12 @@ unread-change number n line answer = go (is_no_plan_line line) answer
     go false (inl e) = absurd (cc e)
     go false (inr e) = absurd (cc e)
 
-plan-unread-at : (before : Roster) (line : ScriptLine) → is_no_plan_line line.1.1 ≡ true → plan_finding before line ≡ Some (found_in line (r.BadLine line.1.0) (unread_words line.1.1))
+plan-unread-at : (before : Roster) (line : ScriptLine) → is_no_plan_line line.1.1 ≡ true → plan_finding before line ≡ Some (found_in line (r.BadLine line.1.0) (unread_in_plan line.1.1))
 unfolding plan_finding plan_words line_fault
 plan-unread-at before line e = rw e (rw e refl)
 
-pub plan-unread : (before : Roster) (line : ScriptLine) (n : ℕ) → is_no_plan_line line.1.1 ≡ true → line.1.0 ≡ n → plan_finding before line ≡ Some (found_in line (r.BadLine n) (unread_words line.1.1))
-plan-unread before line n e is = plan-unread-at before line e ∙ ap (λ m. Some (found_in line (r.BadLine m) (unread_words line.1.1))) is
+pub plan-unread : (before : Roster) (line : ScriptLine) (n : ℕ) → is_no_plan_line line.1.1 ≡ true → line.1.0 ≡ n → plan_finding before line ≡ Some (found_in line (r.BadLine n) (unread_in_plan line.1.1))
+plan-unread before line n e is = plan-unread-at before line e ∙ ap (λ m. Some (found_in line (r.BadLine m) (unread_in_plan line.1.1))) is
 
 pub plan-silent : (before : Roster) (line : ScriptLine) → is_no_plan_line line.1.1 ≡ false → parse_change line.1.1 ≡ None → plan_finding before line ≡ None
 unfolding plan_finding plan_words line_fault

@@ -1,15 +1,13 @@
 -- Where the records of a file begin, byte by byte.
-use Rattle.std.proofs.Common.{◌≡◌, ◌≢◌, ◌<◌, ◌≤◌, ◌+◌, ◌∙◌, ℕ, List, [], ◌∷◌, Bool, true, false, length, get_or, take, drop, sym, ap, refl, subst, arith, add-one, inl, inr}
-use Rattle.std.specs.Prelude.{◌==◌, ◌||◌}
+use Rattle.std.proofs.Common.{◌≡◌, ◌≢◌, ◌<◌, ◌≤◌, ◌+◌, ◌∙◌, ℕ, List, [], ◌∷◌, true, false, length, get_or, take, drop, ap, refl, arith, add-one}
 use Rattle.std.proofs.Math.Seq.{drop-cons}
-use Rattle.std.proofs.lemmas.Bool.{cases_Bool, eqb-true}
 use Rattle.std.proofs.lemmas.List.{drop_all, length-take}
 use Rattle.std.proofs.lemmas.List.Sums.{count_by-le-length, count_by_more_no, count_by_more_yes}
-use Rattle.csv_ingest.specs.Stand.{stand_next}
+use Rattle.csv_ingest.specs.Stand.{is_line_end, stand_next}
+use Rattle.csv_ingest.specs.Starts.{begins_record, first_if, starts_from}
 use Rattle.csv_ingest.specs.declared.stand.Stand.{Stand}
 use Rattle.csv_ingest.specs.declared.stand.Stand.TheVariants as k
-use Rattle.check_report.specs.Places.{begins_record, first_if, is_line_end, is_line_feed, line_at, places_from, starts_from}
-use Rattle.check_report.specs.declared.places.Place.{Place}
+use Rattle.check_report.specs.Places.{is_line_feed, line_at}
 
 pub cons_at : {A : Type 0} (xs : List A) (i : ℕ) (d : A) → i < length xs → drop i xs ≡ get_or xs i d ∷ drop (i + 1) xs
 cons_at xs i d lt = rw add-one (drop-cons xs i d lt)
@@ -22,21 +20,12 @@ starts-at : (delimiter : ℕ) (s : Stand) (file : List ℕ) (i : ℕ) → i < le
     → starts_from delimiter s i (drop i file) ≡ first_if (begins_record s (get_or file i 0)) i (starts_from delimiter (stand_next delimiter s (get_or file i 0)) (i + 1) (drop (i + 1) file))
 starts-at delimiter s file i lt = ap (starts_from delimiter s i) (cons_at file i 0 lt) ∙ starts-cons delimiter s i (get_or file i 0) (drop (i + 1) file)
 
-line_end-stands : (delimiter : ℕ) (c : ℕ) → is_line_end c ≡ true → stand_next delimiter k.Record c ≡ k.Record
-line_end-stands delimiter c e =
-    elim (cases_Bool (c == 10)) [
-      | inl feed ↦ subst (λ (b : ℕ). stand_next delimiter k.Record b ≡ k.Record) (sym (eqb-true c 10 feed)) refl
-      | inr no_feed ↦
-          let return : (c == 13) ≡ true = sym (ap (λ b. b || (c == 13)) no_feed) ∙ e in
-          subst (λ (b : ℕ). stand_next delimiter k.Record b ≡ k.Record) (sym (eqb-true c 13 return)) refl
-    ]
-
 -- a line's end begins no record, and leaves a reader between two
 pub starts-blank : (delimiter : ℕ) (file : List ℕ) (i : ℕ) → i < length file → is_line_end (get_or file i 0) ≡ true
     → starts_from delimiter k.Record i (drop i file) ≡ starts_from delimiter k.Record (i + 1) (drop (i + 1) file)
 starts-blank delimiter file i lt e =
     starts-at delimiter k.Record file i lt
-    ∙ rw (e, line_end-stands delimiter (get_or file i 0) e) refl
+    ∙ rw e refl
 
 -- any other byte begins one
 pub starts-here : (delimiter : ℕ) (file : List ℕ) (i : ℕ) → i < length file → is_line_end (get_or file i 0) ≡ false

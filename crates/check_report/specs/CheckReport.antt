@@ -4,7 +4,7 @@ use Rattle.std.specs.Result.{result_map_both}
 use Rattle.lane_words.specs.declared.Refusal.{Refusal}
 use Rattle.command_line.specs.declared.options.CheckOptions.{CheckOptions}
 use Rattle.command_line.specs.declared.options.Options.{Options}
-use Rattle.check_report.specs.Findings.{Finding, finding_table, has_fault}
+use Rattle.check_report.specs.Findings.{Finding, finding_table}
 use Rattle.check_report.specs.RecordFindings.{findings_of_file}
 use Rattle.check_report.specs.ScriptFindings.{findings_of_script}
 use Rattle.check_report.specs.Warnings.{warnings_of}

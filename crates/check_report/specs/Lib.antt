@@ -4,4 +4,5 @@ pub mod Places
 pub mod Private
 pub mod RecordFindings
 pub mod ScriptFindings
+pub mod Suggestions
 pub mod Warnings

@@ -1,5 +1,5 @@
 -- The lines of a script, or of a plan, that are bad.
-use Rattle.std.specs.Prelude.{ℕ, ◌+◌, nat_lt, not, Bool, true, false, if◌then◌else◌, List, [], ◌∷◌, ◌++◌, Option, Some, None, codes, decimal, length, zip}
+use Rattle.std.specs.Prelude.{ℕ, ◌==◌, nat_lt, not, Bool, true, false, if◌then◌else◌, List, [], ◌∷◌, ◌++◌, Option, Some, None, codes, decimal, length, take, zip}
 use Rattle.std.specs.List.{cons_option, filter_map, list_any}
 use Rattle.std.specs.Option.{is_some, option_map, option_map_or}
 use Rattle.lane_words.specs.Refusal.{code_of}
@@ -10,10 +10,13 @@ use Rattle.partitioner.specs.declared.topic.Topic.{Topic}
 use Rattle.script.specs.Grammar.{line_starts, lines_from}
 use Rattle.script.specs.Plan.{Roster, behind, is_among, is_no_plan_line, line_fault, nobody_yet, parse_change}
 use Rattle.script.specs.Replay.{is_bad}
+use Rattle.script.specs.declared.forms.Form.{Form}
+use Rattle.script.specs.declared.forms.TheConstants.{FORMS, PLAN_FORMS}
 use Rattle.script.specs.declared.limits.TheConstants.{LONGEST_LINE}
 use Rattle.script.specs.declared.plan.Change.{Change}
 use Rattle.script.specs.declared.plan.Change.TheVariants.{Join, Leave, Lose}
 use Rattle.check_report.specs.Findings.{Finding, shown}
+use Rattle.check_report.specs.Suggestions.{suggestion}
 
 -- a line of a script: its first byte, its number and its bytes without the line's end
 abbrev pub ScriptLine : Type 0
@@ -34,23 +37,31 @@ found_in line fault words = record {
   words = words;
 }
 
--- a line that can't be read, in words
-abbrev pub unread_words : List ℕ → List ℕ
-unread_words line =
+-- a line that can't be read, in words, where lines have these forms
+abbrev pub unread_words : List Form → Bool → List ℕ → List ℕ
+unread_words forms topics line =
     if nat_lt LONGEST_LINE (length line)
     then codes "the line has " ++ decimal (length line) ++ codes " bytes, "
     ++ decimal LONGEST_LINE ++ codes " are the most"
-    else codes "no such line: " ++ shown line
+    else codes "no such line: " ++ shown line ++ suggestion forms topics line
 
 -- ---- a script
+-- a line of a script that can't be read, in words
+abbrev pub unread_in_script : List Topic → List ℕ → List ℕ
+unread_in_script topics line = unread_words FORMS (not (length topics == 0)) line
+
 -- the finding of a line, if it is bad
 unfoldable pub line_finding : List Topic → ScriptLine → Option Finding
 line_finding topics line =
     if is_bad topics line.1.1
-    then Some (found_in line (r.BadLine line.1.0) (unread_words line.1.1))
+    then Some (found_in line (r.BadLine line.1.0) (unread_in_script topics line.1.1))
     else None
 
 -- ---- a plan
+-- a line of a plan that can't be read, in words
+abbrev pub unread_in_plan : List ℕ → List ℕ
+unread_in_plan line = unread_words (take PLAN_FORMS FORMS) false line
+
 -- a change that may not follow those before it, in words
 abbrev pub change_words : Roster → Change → List ℕ
 change_words before (Join name) =
@@ -64,7 +75,7 @@ change_words before (Lose name) = name ++ codes " is not a name that is present"
 unfoldable pub plan_words : Roster → List ℕ → Refusal → List ℕ
 plan_words before line (r.NobodyLeft number) = codes "nobody is present after this line"
 plan_words before line fault =
-    if is_no_plan_line line then unread_words line
+    if is_no_plan_line line then unread_in_plan line
     else option_map_or (change_words before) (parse_change line) []
 
 -- the finding of a line behind those before it, if it has a fault

@@ -1,14 +1,14 @@
 -- What may be wrong with a file that can be read.
-use Rattle.std.specs.Prelude.{ℕ, ◌+◌, ◌==◌, ◌&&◌, ◌||◌, not, Bool, false, if◌then◌else◌, List, [], ◌∷◌, ◌++◌, Option, Some, None, codes, drop, fold, length}
+use Rattle.std.specs.Prelude.{ℕ, ◌+◌, ◌==◌, ◌&&◌, ◌||◌, not, Bool, false, if◌then◌else◌, List, [], ◌∷◌, ◌++◌, Option, Some, None, codes, drop, fold}
 use Rattle.std.specs.List.{list_any, starts_with}
 use Rattle.std.specs.Option.{option_map, option_to_list}
 use Rattle.csv_ingest.specs.KeyFile.{Record}
 use Rattle.csv_ingest.specs.Pieces.{bom_length}
-use Rattle.csv_ingest.specs.Stand.{in_quotes, stand_after, stand_next}
+use Rattle.csv_ingest.specs.Stand.{in_quotes, is_line_end, stand_after, stand_next}
 use Rattle.csv_ingest.specs.declared.stand.Stand.{Stand}
 use Rattle.csv_ingest.specs.declared.stand.Stand.TheVariants as k
 use Rattle.check_report.specs.Findings.{Finding}
-use Rattle.check_report.specs.Places.{is_line_end, line_at, places}
+use Rattle.check_report.specs.Places.{line_at, places}
 use Rattle.check_report.specs.RecordFindings.{found_at, placed}
 use Rattle.check_report.specs.declared.places.Place.{Place}
 
@@ -67,7 +67,8 @@ delimiter_warnings (first ∷ rest) =
     option_to_list (option_map (found_at None first.0) (delimiter_words first.1))
 
 -- ---- quotes that are never closed
--- whether a byte ends the field that a reader is in: a delimiter or a line's end that no quotes protect
+-- whether a byte ends the field that a reader is in: a delimiter or a line's end that no quotes
+-- protect
 abbrev pub ends_field : ℕ → Stand → ℕ → Bool
 ends_field delimiter stand c = not (in_quotes stand) && ((c == delimiter) || is_line_end c)
 

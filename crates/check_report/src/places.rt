@@ -1,10 +1,12 @@
 //! Where the records of a file begin.
 
 ghost use Rattle.std.specs.Prelude.{◌≡◌, ◌≤◌, ◌<◌, ◌+◌, ◌∷◌, [], ℕ, false, IfNone, IfSome, drop, get_or, length};
+ghost use Rattle.csv_ingest.specs.Stand.{is_line_end};
+ghost use Rattle.csv_ingest.specs.Starts.{starts_from};
 ghost use Rattle.csv_ingest.specs.declared.stand.Stand.TheVariants as stand;
-ghost use Rattle.check_report.specs.Places.{is_line_end, line_at, places, starts_from};
+ghost use Rattle.check_report.specs.Places.{line_at, places};
 
-use csv_ingest::{Stand, mark_length};
+use csv_ingest::{Stand, is_line_end, mark_length};
 use std::marker::Model;
 
 /// Where a record begins.
@@ -18,13 +20,6 @@ pub struct Place {
     pub byte: u64,
 }
 
-/// Whether a byte ends a line.
-pub fn ends_line(byte: u8) -> bool
-    ensures { result ≡ is_line_end byte }
-{
-    byte == b'\n' || byte == b'\r'
-}
-
 /// The first byte from `at` on that ends no line, or the end of the file.
 fn record_start(file: &[u8], at: usize) -> usize
     requires { at ≤ length file.now }
@@ -34,7 +29,7 @@ fn record_start(file: &[u8], at: usize) -> usize
     ensures byte { result < length file.now → is_line_end (get_or file.now result 0) ≡ false }
 {
     for i in at..file.len() {
-        if !ends_line(file[i]) {
+        if !is_line_end(file[i]) {
             return i;
         }
     }
@@ -91,8 +86,9 @@ pub struct Places<'a> {
 
 impl<'a> Model for Places<'a> {
     ghost use Rattle.std.specs.Prelude.{◌≡◌, ◌≤◌, ◌+◌, List, drop, length};
+    ghost use Rattle.csv_ingest.specs.Starts.{starts_from};
     ghost use Rattle.csv_ingest.specs.declared.stand.Stand.TheVariants as stand;
-    ghost use Rattle.check_report.specs.Places.{line_at, places_from, starts_from};
+    ghost use Rattle.check_report.specs.Places.{line_at, places_from};
     ghost use Rattle.check_report.specs.declared.places.Place.{Place};
 
     ghost Value = { List Place };

@@ -9,12 +9,15 @@ ghost use Rattle.script.specs.Plan.{behind, is_no_plan_line, nobody_yet, parse_c
 ghost use Rattle.script.specs.Replay.{is_bad};
 ghost use Rattle.script.specs.declared.limits.TheConstants.{LONGEST_LINE};
 ghost use Rattle.check_report.specs.Findings.{shown};
-ghost use Rattle.check_report.specs.ScriptFindings.{behind_line, change_words, findings_of_script, found_in, has_change, line_finding, no_change, or_no_change, plan_finding, plan_findings_from, plan_words, script_lines, unread_words};
+ghost use Rattle.check_report.specs.ScriptFindings.{behind_line, change_words, findings_of_script, found_in, has_change, line_finding, no_change, or_no_change, plan_finding, plan_findings_from, plan_words, script_lines, unread_in_plan, unread_in_script, unread_words};
 
 use crate::findings::{Finding, with_shown};
+use crate::suggestions::add_suggestion;
 use lane_words::{MOST_MEMBERS, Memory, Refusal};
 use partitioner::{Name, Topic};
-use script::{Change, LONGEST_LINE, Roster, first_line, parse_action, parse_change};
+use script::{
+    Change, FORMS, Form, LONGEST_LINE, PLAN_FORMS, Roster, first_line, parse_action, parse_change,
+};
 use std::alloc::Global;
 use std::marker::Model;
 
@@ -62,15 +65,30 @@ fn long_words(alloc: Global, bytes: usize) -> Result<Vec<u8>, Memory>
     Ok(text.into_bytes())
 }
 
-/// A line that can't be read, in words.
-fn unread_words(alloc: Global, line: &[u8]) -> Result<Vec<u8>, Memory>
-    ensures { IfOk result (λ words. words.items ≡ unread_words line.now) }
+/// A line that can't be read, in words, where lines have these forms.
+fn unread_words(alloc: Global, forms: &[Form], topics: bool, line: &[u8]) -> Result<Vec<u8>, Memory>
+    ensures { IfOk result (λ words. words.items ≡ unread_words forms.now topics line.now) }
 {
     if line.len() > LONGEST_LINE {
-        long_words(alloc, line.len())
-    } else {
-        with_shown(alloc, b"no such line: ", line)
+        return long_words(alloc, line.len());
     }
+    let mut words = with_shown(alloc, b"no such line: ", line)?;
+    add_suggestion(alloc, &mut words, forms, topics, line)?;
+    Ok(words)
+}
+
+/// A line of a script that can't be read, in words.
+fn unread_in_script(alloc: Global, topics: &[Topic], line: &[u8]) -> Result<Vec<u8>, Memory>
+    ensures { IfOk result (λ words. words.items ≡ unread_in_script topics.now line.now) }
+{
+    unread_words(alloc, &FORMS, !topics.is_empty(), line)
+}
+
+/// A line of a plan that can't be read, in words.
+fn unread_in_plan(alloc: Global, line: &[u8]) -> Result<Vec<u8>, Memory>
+    ensures { IfOk result (λ words. words.items ≡ unread_in_plan line.now) }
+{
+    unread_words(alloc, &FORMS[..PLAN_FORMS], false, line)
 }
 
 /// Whether a line of a script is bad.
@@ -99,7 +117,7 @@ fn check_line(
     if !is_bad(alloc, topics, line)? {
         return Ok(());
     }
-    let words = unread_words(alloc, line.bytes)?;
+    let words = unread_in_script(alloc, topics, line.bytes)?;
     found.push(line.finding(&Refusal::BadLine { line: line.number }, words))?;
     Ok(())
 }
@@ -222,7 +240,7 @@ fn check_plan_line(
             Ok(true)
         }
         Err(Refusal::BadLine { line: number }) => {
-            let words = unread_words(alloc, line.bytes)?;
+            let words = unread_in_plan(alloc, line.bytes)?;
             found.push(line.finding(&Refusal::BadLine { line: number }, words))?;
             Ok(false)
         }

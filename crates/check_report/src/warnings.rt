@@ -10,11 +10,11 @@ ghost use Rattle.check_report.specs.Warnings.{delimiter_words, ends_field, first
 ghost use Rattle.check_report.specs.declared.places.Place.{Place};
 
 use crate::findings::Finding;
-use crate::places::{Place, Places, ends_line, line_of};
+use crate::places::{Place, Places, line_of};
 use crate::record_findings::found_at;
 use crate::records::Records;
 use csv::ByteRecord;
-use csv_ingest::{Stand, mark_length};
+use csv_ingest::{Stand, is_line_end, mark_length};
 use lane_words::Memory;
 use std::alloc::Global;
 
@@ -167,7 +167,7 @@ fn open_quote(file: &[u8], delimiter: u8) -> Option<usize>
 fn ends_field(stand: Stand, delimiter: u8, byte: u8) -> bool
     ensures { result ≡ ends_field delimiter stand byte }
 {
-    !stand.is_quoted() && (byte == delimiter || ends_line(byte))
+    !stand.is_quoted() && (byte == delimiter || is_line_end(byte))
 }
 
 /// Where the field begins that a reader is in behind a byte, if before it that was at `start`.

@@ -1,4 +1,4 @@
-use Rattle.std.proofs.Common.{◌≡◌, ◌≤◌, arith, length, length-take-le, sym}
+use Rattle.std.proofs.Common.{arith, length-take-le, sym}
 use Rattle.std.proofs.lemmas.List.{take_all}
 use Rattle.check_report.proofs.findings.first_bytes.Goals as goal
 

@@ -1,4 +1,4 @@
-use Rattle.std.proofs.Common.{◌≡◌, ◌∙◌, ◌++◌, ◌∷◌, [], ℕ, List, append_assoc, rules, take}
+use Rattle.std.proofs.Common.{◌≡◌, ◌++◌, ◌∷◌, [], ℕ, List, append_assoc, rules, take}
 use Rattle.check_report.proofs.findings.with_shown.Goals as goal
 
 quoted : (words first last all few : List ℕ) → first ≡ words ++ 39 ∷ [] → last ≡ first ++ few → all ≡ last ++ 39 ∷ [] → all ≡ words ++ 39 ∷ (few ++ 39 ∷ [])

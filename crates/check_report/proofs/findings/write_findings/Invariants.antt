@@ -1,6 +1,6 @@
 use Rattle.std.proofs.Common.{◌++◌, ℕ, List, take}
 use Rattle.std.specs.Prelude.{flat_map}
-use Rattle.report_rows.specs.Rows.{AddsRows, HasText}
+use Rattle.report_rows.specs.Rows.{HasText}
 use Rattle.check_report.specs.Findings.{finding_row}
 use Rattle.check_report.proofs.findings.write_findings.Given as goal
 

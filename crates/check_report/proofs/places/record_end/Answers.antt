@@ -1,4 +1,4 @@
-use Rattle.std.proofs.Common.{◌≢◌, ◌≡◌, ◌∙◌, ◌∷◌, ℕ, List, ap, arith, rules, sym, length}
+use Rattle.std.proofs.Common.{◌≢◌, ◌∙◌, ◌∷◌, ℕ, List, ap, arith, rules, sym, length}
 use Rattle.csv_ingest.specs.declared.stand.Stand.TheVariants as k
 use Rattle.check_report.proofs.Starts.{starts-end, starts-here, starts-within}
 use Rattle.check_report.proofs.places.record_end.Goals as goal

@@ -1,6 +1,6 @@
 use Rattle.std.proofs.Common.{◌≡◌, ℕ, drop}
+use Rattle.csv_ingest.specs.Starts.{starts_from}
 use Rattle.csv_ingest.specs.declared.stand.Stand.TheVariants as k
-use Rattle.check_report.specs.Places.{starts_from}
 use Rattle.check_report.proofs.places.record_start.Given as goal
 
 abbrev pub invariant-loop-i : goal.invariant-loop-i

@@ -1,7 +1,5 @@
-use Rattle.std.proofs.Common.{◌≡◌, ◌∙◌, ap, rules, sym, take}
+use Rattle.std.proofs.Common.{◌∙◌, ap, sym, take}
 use Rattle.std.proofs.lemmas.Result.{IfOk-weaker}
-use Rattle.check_report.specs.RecordFindings.{placed}
-use Rattle.check_report.specs.Private.PlacedRecords.{TakesRecord}
 use Rattle.check_report.proofs.Files.{file-findings}
 use Rattle.check_report.proofs.record_findings.findings_of_file.Goals as goal
 

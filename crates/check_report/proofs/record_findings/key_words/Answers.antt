@@ -1,4 +1,4 @@
-use Rattle.std.proofs.Common.{◌≡◌, ◌∙◌, ap, codes, decimal}
+use Rattle.std.proofs.Common.{◌∙◌, ap, codes, decimal}
 use Rattle.lane_words.specs.declared.limits.TheConstants.{LONGEST_KEY}
 use Rattle.check_report.proofs.Told.{joined}
 use Rattle.check_report.proofs.record_findings.key_words.Goals as goal

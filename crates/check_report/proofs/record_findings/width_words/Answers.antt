@@ -1,4 +1,4 @@
-use Rattle.std.proofs.Common.{◌≡◌, ◌∙◌, ap, codes, decimal}
+use Rattle.std.proofs.Common.{◌∙◌, ap, codes, decimal}
 use Rattle.check_report.specs.Findings.{fields_word}
 use Rattle.check_report.proofs.Told.{joined}
 use Rattle.check_report.proofs.record_findings.width_words.Goals as goal

@@ -1,9 +1,7 @@
-use Rattle.std.proofs.Common.{◌≡◌, ◌∙◌, ◌++◌, ℕ, List, Option, None, Some, ap, codes, rules, sym, refl}
+use Rattle.std.proofs.Common.{◌≡◌, ◌∙◌, ◌++◌, ap, codes, rules, sym}
 use Rattle.std.proofs.lemmas.List.{append-nil}
 use Rattle.std.specs.Option.{option_to_list}
-use Rattle.script.specs.Plan.{behind, change_fault}
-use Rattle.check_report.specs.Findings.{Finding}
-use Rattle.check_report.specs.ScriptFindings.{change_words, plan_finding}
+use Rattle.script.specs.Plan.{change_fault}
 use Rattle.check_report.proofs.Lines.{plan-fits, plan-nobody, plan-refused, refused-same, taken-bad, taken-nobody, taken-ok}
 use Rattle.check_report.proofs.script_findings.check_change.Goals as goal
 

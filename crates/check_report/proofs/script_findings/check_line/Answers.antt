@@ -1,9 +1,7 @@
-use Rattle.std.proofs.Common.{◌≡◌, ◌∙◌, ◌++◌, List, ap, rules, sym, true, false}
+use Rattle.std.proofs.Common.{◌≡◌, ◌∙◌, ◌++◌, ap, rules, sym, true, false}
 use Rattle.std.proofs.lemmas.List.{append-nil}
 use Rattle.std.specs.Option.{option_to_list}
 use Rattle.script.specs.Replay.{is_bad}
-use Rattle.check_report.specs.ScriptFindings.{line_finding}
-use Rattle.check_report.specs.Findings.{Finding}
 use Rattle.check_report.proofs.Lines.{finding-bad, finding-none}
 use Rattle.check_report.proofs.script_findings.check_line.Goals as goal
 

@@ -1,12 +1,12 @@
-use Rattle.std.proofs.Common.{◌≡◌, ◌≤◌, ◌<◌, ◌+◌, ◌-◌, ◌∙◌, ◌++◌, ℕ, List, [], ◌∷◌, Bool, None, ap, arith, length, rules, sym}
+use Rattle.std.proofs.Common.{◌≡◌, ◌+◌, ◌-◌, ◌∙◌, List, ap, arith, length, rules, sym}
 use Rattle.std.specs.Prelude.{◌||◌, zip}
 use Rattle.std.specs.List.{cons_option}
 use Rattle.std.specs.Option.{is_some}
 use Rattle.script.specs.Grammar.{line_starts, lines_from}
 use Rattle.script.specs.Plan.{Roster, parse_change}
-use Rattle.check_report.specs.ScriptFindings.{ScriptLine, behind_line, has_change, plan_finding, plan_findings_from}
+use Rattle.check_report.specs.ScriptFindings.{ScriptLine, has_change, plan_finding, plan_findings_from}
 use Rattle.check_report.proofs.Lines.{none_told, or-next, plan-end, plan-next, zipped}
-use Rattle.check_report.proofs.Told.{told_all, told_enough, told_few, told_next}
+use Rattle.check_report.proofs.Told.{told_all, told_few, told_next}
 use Rattle.check_report.proofs.script_findings.check_plan.Goals as goal
 
 pub lines-preserved : goal.lines-preserved

@@ -1,10 +1,7 @@
-use Rattle.std.proofs.Common.{◌≡◌, ◌∙◌, ◌++◌, ℕ, List, Option, None, Some, ap, rules, sym, refl, true, false}
+use Rattle.std.proofs.Common.{◌≡◌, ◌∙◌, ◌++◌, ap, rules, sym}
 use Rattle.std.proofs.lemmas.List.{append-nil}
 use Rattle.std.specs.Option.{is_some, option_to_list}
-use Rattle.script.specs.Plan.{is_no_plan_line, parse_change, parse_change_answer}
-use Rattle.script.specs.declared.plan.Change.{Change}
-use Rattle.check_report.specs.Findings.{Finding}
-use Rattle.check_report.specs.ScriptFindings.{behind_line, plan_finding}
+use Rattle.script.specs.Plan.{is_no_plan_line, parse_change}
 use Rattle.check_report.proofs.Lines.{behind-change, behind-silent, behind-unread, plan-silent, plan-unread, read-change, unread-change}
 use Rattle.check_report.proofs.script_findings.check_plan_line.Goals as goal
 

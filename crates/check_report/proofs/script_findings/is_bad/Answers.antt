@@ -1,6 +1,5 @@
 use Rattle.std.proofs.Common.{◌≡◌, ◌∙◌, ap, rules, sym}
 use Rattle.script.specs.Replay.{is_bad}
-use Rattle.check_report.specs.ScriptFindings.{ScriptLine}
 use Rattle.check_report.proofs.Lines.{bad-line, read-line}
 use Rattle.check_report.proofs.script_findings.is_bad.Goals as goal
 use Rattle.check_report.proofs.script_findings.is_bad.Goals.{in-Ok, in-Err-BadLine, in-Err}

@@ -1,4 +1,4 @@
-use Rattle.std.proofs.Common.{◌≡◌, ◌∙◌, ap, codes, decimal}
+use Rattle.std.proofs.Common.{◌∙◌, ap, codes, decimal}
 use Rattle.script.specs.declared.limits.TheConstants.{LONGEST_LINE}
 use Rattle.check_report.proofs.Told.{joined}
 use Rattle.check_report.proofs.script_findings.long_words.Goals as goal

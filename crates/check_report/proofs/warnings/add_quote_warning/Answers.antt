@@ -1,6 +1,6 @@
-use Rattle.std.proofs.Common.{◌≡◌, ◌∙◌, codes, rules, sym}
+use Rattle.std.proofs.Common.{◌≡◌, codes, rules}
 use Rattle.check_report.specs.Places.{line_at, places}
-use Rattle.check_report.specs.Warnings.{last_number, quote_warnings}
+use Rattle.check_report.specs.Warnings.{last_number}
 use Rattle.check_report.proofs.Quotes.{quote-is}
 use Rattle.check_report.proofs.warnings.add_quote_warning.Goals as goal
 

@@ -1,6 +1,6 @@
-use Rattle.std.proofs.Common.{◌≡◌, ◌≢◌, ◌∙◌, length, rules, sym, refl, Some, None}
+use Rattle.std.proofs.Common.{◌≡◌, ◌∙◌, length, rules, sym, refl, Some, None}
 use Rattle.csv.specs.Records.{field_at, fields_of}
-use Rattle.check_report.proofs.Fields.{alone, delimiter-other, not_none}
+use Rattle.check_report.proofs.Fields.{alone, not_none}
 use Rattle.check_report.proofs.warnings.delimiter_words.Goals as goal
 
 pub returns-in_default : goal.returns-in_default

@@ -1,9 +1,7 @@
-use Rattle.std.proofs.Common.{◌≡◌, ◌≤◌, ◌+◌, ◌∙◌, ap, arith, sym, drop, get_or, length, ℕ, true, false, if◌then◌else◌}
-use Rattle.std.proofs.lemmas.Bool.{cases_Bool}
-use Rattle.csv_ingest.specs.Pieces.{bom_length}
+use Rattle.std.proofs.Common.{◌≤◌, ◌+◌, ◌∙◌, ap, arith, sym, drop, get_or, ℕ, true, false, if◌then◌else◌}
 use Rattle.csv_ingest.specs.Stand.{in_quotes, stand_after}
 use Rattle.csv_ingest.specs.declared.stand.Stand.TheVariants as k
-use Rattle.check_report.specs.Warnings.{ends_field, last_field, last_field_from}
+use Rattle.check_report.specs.Warnings.{ends_field, last_field_from}
 use Rattle.check_report.proofs.Quotes.{after-end, after-more, last_field-end, last_field-more}
 use Rattle.check_report.proofs.warnings.open_quote.Goals as goal
 

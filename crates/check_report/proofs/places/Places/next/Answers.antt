@@ -1,4 +1,4 @@
-use Rattle.std.proofs.Common.{◌∙◌, ℕ, List, ap, arith, sym}
+use Rattle.std.proofs.Common.{◌∙◌, ap, arith, sym}
 use Rattle.csv_ingest.specs.declared.stand.Stand.TheVariants as k
 use Rattle.check_report.specs.Places.{places_from}
 use Rattle.check_report.proofs.Starts.{starts-end}

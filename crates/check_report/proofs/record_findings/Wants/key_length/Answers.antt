@@ -1,4 +1,4 @@
-use Rattle.std.proofs.Common.{◌≡◌, ◌≢◌, ◌-◌, ◌∙◌, [], Some, length, rules, sym, true, false}
+use Rattle.std.proofs.Common.{◌≡◌, ◌≢◌, ◌-◌, [], Some, length, rules, true, false}
 use Rattle.std.proofs.lemmas.List.{nil_from_length}
 use Rattle.std.specs.List.{list_any}
 use Rattle.std.specs.Str.{bytes_eq}

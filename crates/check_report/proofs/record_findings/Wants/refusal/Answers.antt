@@ -1,7 +1,6 @@
-use Rattle.std.proofs.Common.{◌≡◌, ◌≢◌, ◌∙◌, ◌<◌, ◌≤◌, Err, Ok, arith, length, rules, sym}
+use Rattle.std.proofs.Common.{◌≡◌, ◌≢◌, arith, length, rules, sym}
 use Rattle.csv.specs.Records.{fields_of}
 use Rattle.csv_ingest.specs.declared.lack.Lack.TheVariants as l
-use Rattle.check_report.specs.Private.RecordFindings.{HasKeyOf, taken}
 use Rattle.check_report.proofs.Fields.{refusal-lack, refusal-long, refusal-none, refusal-width}
 use Rattle.check_report.proofs.record_findings.Wants.refusal.Goals as goal
 

@@ -1,4 +1,4 @@
-use Rattle.std.proofs.Common.{◌≡◌, ◌∙◌, rules, sym}
+use Rattle.std.proofs.Common.{rules}
 use Rattle.check_report.specs.RecordFindings.{record_words}
 use Rattle.check_report.proofs.record_findings.Wants.words.Goals as goal
 
