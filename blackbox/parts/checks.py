@@ -1,14 +1,15 @@
 """What `check` tells of files and scripts, compared with a reading that is written here anew: of files byte by byte, of lines by
-regular expressions; and by hand for each code and each warning."""
+regular expressions, and of the forms of lines in the help; and by hand for each code and each warning."""
 import re
 import tempfile
+from functools import lru_cache
 from pathlib import Path
 from random import Random
 from typing import Iterator, NamedTuple
 
 from simulator.records import LONGEST_KEY, Options, random_file, random_keys, random_options, read, row
 
-from .program import Cases, Outcome, run
+from .program import FOLDER, Cases, Outcome, run
 
 TRIALS = 400
 MARK = b"\xef\xbb\xbf"
@@ -16,6 +17,7 @@ HEADER = b"input,code,record,line,byte,problem\n"
 FORMATS = {b"\x1f\x8b": b"gzip file", b"\x28\xb5\x2f\xfd": b"zstd file", b"\xff\xfe": b"UTF-16 text", b"\xfe\xff": b"UTF-16 text"}
 NAME = rb"[A-Za-z0-9_-]{1,32}"
 SHOWN = 80
+MOST_EDITS = 2
 
 
 class Found(NamedTuple):
@@ -135,12 +137,38 @@ def is_line(line: bytes, options: Options) -> bool:
     return bool(numbers) and all(map(is_number, filter(None, numbers.groups())))
 
 
-def unread(line: bytes) -> bytes:
-    return b"the line has %d bytes, 256 are the most" % len(line) if len(line) > 256 else b"no such line: " + shown(line)
+@lru_cache
+def forms(job: str, topics: bool) -> list[bytes]:
+    """The forms of the lines that the help of a job lists."""
+    text = (FOLDER / "texts" / f"help_{job}").read_bytes()
+    listed = text[text.index(b"\nLines of a "):].split(b"\n\n")[0].split(b"\n")
+    found = [line[2:27].rstrip() for line in listed if line.startswith(b"  ") and not line.startswith(b"  #")]
+    others = [form for line in listed if line.startswith(b"With --topics: ") for form in line[15:].split(b", ")] if topics else []
+    return [next((other for other in others if word(other) == word(form)), form) for form in found]
+
+
+def word(line: bytes) -> bytes:
+    return line.split(b" ")[0]
+
+
+@lru_cache
+def distance(a: bytes, b: bytes) -> int:
+    """How many bytes are to be put in, taken out or replaced."""
+    if not a or not b:
+        return len(a) + len(b)
+    return min(distance(a[1:], b) + 1, distance(a, b[1:]) + 1, distance(a[1:], b[1:]) + (a[0] != b[0]))
+
+
+def unread(line: bytes, job: str, topics: bool) -> bytes:
+    if len(line) > 256:
+        return b"the line has %d bytes, 256 are the most" % len(line)
+    near = [(distance(word(line), word(form)), form) for form in forms(job, topics)]
+    edits, form = min(near, key=lambda item: item[0])
+    return b"no such line: " + shown(line) + (b"; did you mean '" + form + b"'?" if edits <= MOST_EDITS else b"")
 
 
 def script_rows(script: bytes, options: Options) -> list[bytes]:
-    return [row(b"script", b"22", b"", b"%d" % number, b"%d" % at, unread(line))
+    return [row(b"script", b"22", b"", b"%d" % number, b"%d" % at, unread(line, "replay", bool(options.topics)))
             for number, at, line in lines_of(script) if not is_line(line, options)]
 
 
@@ -154,7 +182,7 @@ def plan_rows(script: bytes) -> list[bytes]:
         code, problem = 22, b""
         change = re.fullmatch(rb"(join|leave|lose) (" + NAME + rb")", line)
         if len(line) > 256 or not change:
-            problem = unread(line)
+            problem = unread(line, "run", False)
         else:
             changes += 1
             name = change[2]
@@ -198,12 +226,14 @@ def random_script(rng: Random, options: Options) -> bytes:
     name = lambda: rng.choice((b"A", b"B", b"C-1", b"a" * 32, b"a" * 33, b"A ", b""))
     number = lambda: rng.choice((b"0", b"1", b"4096", b"4294967295", b"4294967296", b"00000000001", b"", b"-1", b"x"))
     topic = lambda: rng.choice((b"", b"", b"none ", *(n + b" " for n in options.names() * 3)))
-    lines = (lambda: rng.choice((b"join ", b"leave ", b"lose ", b"keep ", b"return ", b"rejoin ", b"sync ", b"jion ")) + name(),
+    lines = (lambda: rng.choice((b"join ", b"leave ", b"lose ", b"keep ", b"return ", b"rejoin ", b"sync ", b"jion ", b"jo ", b"leav ",
+                                b"sand ", b"JOIN ", b" join ", b"lost ", b"kep ")) + name(),
              lambda: b"append " + topic() + rng.choice((b"", b"k", b'"\xff ')),
              lambda: b"poll " + name() + b" " + topic() + number() + b" " + number(),
              lambda: b"send " + name() + b" " + topic() + number(),
              lambda: rng.choice((b"deliver ", b"unanswered ", b"deliver")) + number(),
-             lambda: rng.choice((b"settle", b"drain", b"", b"# c", b"#" * 256, b"#" * 257, b"drain ", b"\tdrain", b"append")))
+             lambda: rng.choice((b"settle", b"drain", b"", b"# c", b"#" * 256, b"#" * 257, b"drain ", b"\tdrain", b"append",
+                                b"setl", b"dran", b"setlers", b"x" * 256)))
     weights = (60, 5, 10, 10, 5, 10)
     text = b"".join(rng.choices(lines, weights)[0]() + rng.choice((b"\n", b"\n", b"\r\n")) for _ in range(rng.choice((0, 1, 4, 30))))
     return text[:-1] if rng.random() < 0.2 else text
@@ -236,7 +266,18 @@ def by_hand() -> Cases:
     for name, text, script, words, rows in (
             ("nothing to tell", b"21,a\n4,b\n", None, "", b""),
             ("20", b"a\n" + long + b"\n", None, "", b'file,20,2,2,2,"the key has 65536 bytes, 65535 are the most"\n'),
-            ("22", b"a\n", b"join A\njion B\n", "", b"script,22,,2,7,no such line: 'jion B'\n"),
+            ("22", b"a\n", b"join A\njion B\n", "", b"script,22,,2,7,no such line: 'jion B'; did you mean 'join NAME'?\n"),
+            ("22 of too few words", b"a\n", b"poll A 0\n", "",
+             b"script,22,,1,0,no such line: 'poll A 0'; did you mean 'poll NAME P N'?\n"),
+            ("22 with topics", b"a,t\n", b"pol A 0 1\n", "--topics t:1",
+             b"script,22,,1,0,no such line: 'pol A 0 1'; did you mean 'poll NAME TOPIC P N'?\n"),
+            ("22, as near to send as to sync: sync is the first", b"a\n", b"synd A 0\n", "",
+             b"script,22,,1,0,no such line: 'synd A 0'; did you mean 'sync NAME'?\n"),
+            ("22, three edits away", b"a\n", b"jo A\njn A\nj A\n", "",
+             b"script,22,,1,0,no such line: 'jo A'; did you mean 'join NAME'?\n"
+             b"script,22,,2,5,no such line: 'jn A'; did you mean 'join NAME'?\nscript,22,,3,10,no such line: 'j A'\n"),
+            ("22 of a plan that polls", b"a\n", b"join A\npoll A 0 1\nlaeve A\n", "--plan",
+             b"script,22,,2,7,no such line: 'poll A 0 1'\nscript,22,,3,18,no such line: 'laeve A'; did you mean 'leave NAME'?\n"),
             ("22 of a plan", b"a\n", b"join A\nleave 17\n", "--plan", b"script,22,,2,7,17 is not a name that is present\n"),
             ("23", b"a,b\nc,d\n", None, "--column 5 --most 1", b"file,23,1,1,0,no column 5: it has 2 fields\n"),
             ("23 of a name", b"user,x\nc,d\n", None, "--header --column id", b"file,23,1,1,0,the header has no field 'id'\n"),
