@@ -161,6 +161,16 @@ uint32_t keycount_cluster_assigned(keycount_cluster *cluster, uint32_t member,
 /* The member that a partition is granted to, or 0. */
 uint32_t keycount_cluster_owner(keycount_cluster *cluster, uint32_t partition, uint32_t *member);
 
+/* The name, of at most 32 bytes, of a member number that was given out; the newest number with a
+ * name, or 0. The members may have left since. 1, 104; 103 if it is not a name. */
+uint32_t keycount_cluster_name(keycount_cluster *cluster, uint32_t member, uint8_t *name,
+                               size_t room, size_t *count);
+uint32_t keycount_cluster_member_named(keycount_cluster *cluster, const uint8_t *name,
+                                       size_t name_len, uint32_t *member);
+
+/* 1 if a member is present and static, else 0. */
+uint32_t keycount_cluster_kept(keycount_cluster *cluster, uint32_t member, uint32_t *kept);
+
 /* The moves so far, in order, but for the first `from`: each time that a completed generation granted
  * a partition to a member that did not have it. `last` is the member that had it last, or 0. 104 */
 typedef struct keycount_move {
@@ -202,6 +212,9 @@ uint32_t keycount_consumer_sync(keycount_consumer *consumer, keycount_cluster *c
 /* It rejoins with the partitions of its lease and drops all others. As keycount_cluster_rejoin; 16 */
 uint32_t keycount_consumer_rejoin(keycount_consumer *consumer, keycount_cluster *cluster);
 
+/* It drops what it holds and the last lease has not: so it does by itself when it rejoins. */
+uint32_t keycount_consumer_give_up(keycount_consumer *consumer);
+
 /* It reads at most `most` records of a partition: `count` of them, from the offset `from` on. 103 if
  * it is not a consumer of this cluster. 15, 16, 103 */
 uint32_t keycount_consumer_poll(keycount_consumer *consumer, keycount_cluster *cluster,
@@ -217,6 +230,11 @@ uint32_t keycount_consumer_pending(keycount_consumer *consumer, uint32_t partiti
 /* It takes the reply to a commit of a partition: what the commit returned, and wrote. */
 uint32_t keycount_consumer_answered(keycount_consumer *consumer, uint32_t partition,
                                     uint32_t answer, uint32_t committed);
+
+/* The generation of its last lease, or 0; the partitions that it holds, in rising order. 104 */
+uint32_t keycount_consumer_generation(keycount_consumer *consumer, uint32_t *generation);
+uint32_t keycount_consumer_holding(keycount_consumer *consumer, uint32_t *partitions, size_t room,
+                                   size_t *count);
 
 /* Its member number, or 0 if it is out of the group; of a partition, the offset below which it knows
  * the records to be committed, and that of the next record that it reads; 0 if it is not held. */
@@ -239,6 +257,22 @@ uint32_t keycount_place(uint32_t partitions, const uint8_t *key, size_t key_len,
  * `places`, in their order. 103, also where the ends do not rise or `places` has less room. */
 uint32_t keycount_place_all(uint32_t partitions, const uint8_t *bytes, size_t bytes_len,
                             const size_t *ends, size_t keys, uint32_t *places, size_t room);
+
+/* ---- who is to have each partition: no handle is needed ------------------------------------- */
+
+/* Assigns partitions to members: evenly, and so that as many as possible stay with their owners.
+ * The members' numbers rise from 1 on. `owners` has the member that owns each partition, and
+ * `assigned` gets the member that is to own it. In `owners`, 0 and the number of anybody else, as
+ * one who has left, stand for nobody. 90; 103 if there is no member, the numbers do not rise, there
+ * are not 1 to 4096 partitions, or `assigned` has less room. */
+uint32_t keycount_assign(const uint32_t *members, size_t members_len, const uint32_t *owners,
+                         size_t partitions, uint32_t *assigned, size_t room);
+
+/* What to assign of a target at once, in a cooperative rebalance: the target, but 0 for a partition
+ * that another of the members still owns. 90; 103, also if the two lists differ in length. */
+uint32_t keycount_withhold(const uint32_t *members, size_t members_len, const uint32_t *target,
+                           size_t targets, const uint32_t *owners, size_t partitions,
+                           uint32_t *assigned, size_t room);
 
 #ifdef __cplusplus
 }

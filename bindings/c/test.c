@@ -48,6 +48,9 @@ static void an_empty_handle_answers_so_and_writes_nothing(void) {
     EXPECT(keycount_cluster_moves(&c, 0, &move, 1, &count) == KEYCOUNT_NO_VALUE);
     EXPECT(move.generation == 7);
     EXPECT(keycount_cluster_owner(&c, 0, &out) == KEYCOUNT_NO_VALUE);
+    EXPECT(keycount_cluster_name(&c, 1, bytes, 4, &count) == KEYCOUNT_NO_VALUE);
+    EXPECT(keycount_cluster_member_named(&c, TEXT("a"), &out) == KEYCOUNT_NO_VALUE);
+    EXPECT(keycount_cluster_kept(&c, 1, &out) == KEYCOUNT_NO_VALUE);
     EXPECT(keycount_cluster_end(&c, 0, &out) == KEYCOUNT_NO_VALUE);
     EXPECT(keycount_cluster_committed(&c, 0, &out) == KEYCOUNT_NO_VALUE);
     EXPECT(keycount_cluster_read(&c, 0, 0, list, 4, &count) == KEYCOUNT_NO_VALUE);
@@ -84,6 +87,7 @@ static void arguments_are_tested(void) {
     EXPECT(keycount_cluster_join(&c, TEXT("a b"), &out) == KEYCOUNT_BAD_ARGUMENT);
     EXPECT(keycount_cluster_join_kept(&c, TEXT("a b"), &out) == KEYCOUNT_BAD_ARGUMENT);
     EXPECT(keycount_cluster_take_over(&c, TEXT("a b"), &out) == KEYCOUNT_BAD_ARGUMENT);
+    EXPECT(keycount_cluster_member_named(&c, TEXT("a b"), &out) == KEYCOUNT_BAD_ARGUMENT);
     EXPECT(keycount_cluster_rejoin(&c, 1, 1, &four, 1) == KEYCOUNT_BAD_ARGUMENT);
     EXPECT(keycount_cluster_end(&c, 4, &out) == KEYCOUNT_BAD_ARGUMENT);
     EXPECT(keycount_cluster_committed(&c, 4, &out) == KEYCOUNT_BAD_ARGUMENT);
@@ -210,12 +214,27 @@ static void partitions_move_when_they_are_given_up(void) {
 
 static void a_static_member_comes_back(void) {
     keycount_cluster c = KEYCOUNT_NONE;
-    uint32_t a, again, generation, partitions[4], offsets[4];
+    uint32_t a, again, out, generation, partitions[4], offsets[4];
+    uint8_t name[2] = {7, 7};
     size_t count;
     EXPECT(keycount_cluster_new(&c, &four, 1, seed, 32) == KEYCOUNT_DONE);
     EXPECT(keycount_cluster_take_over(&c, TEXT("A"), &again) == KEYCOUNT_NOT_KEPT);
+    EXPECT(keycount_cluster_member_named(&c, TEXT("A"), &out) == KEYCOUNT_DONE && out == 0);
     EXPECT(keycount_cluster_join_kept(&c, TEXT("A"), &a) == KEYCOUNT_DONE && a == 1);
+    EXPECT(keycount_cluster_kept(&c, a, &out) == KEYCOUNT_DONE && out == 1);
     EXPECT(keycount_cluster_take_over(&c, TEXT("A"), &again) == KEYCOUNT_DONE && again == 2);
+    EXPECT(keycount_cluster_kept(&c, a, &out) == KEYCOUNT_DONE && out == 0);
+    EXPECT(keycount_cluster_kept(&c, again, &out) == KEYCOUNT_DONE && out == 1);
+    EXPECT(keycount_cluster_member_named(&c, TEXT("A"), &out) == KEYCOUNT_DONE && out == again);
+    EXPECT(keycount_cluster_name(&c, 0, name, 2, &count) == KEYCOUNT_UNKNOWN_MEMBER);
+    EXPECT(keycount_cluster_name(&c, 3, name, 2, &count) == KEYCOUNT_UNKNOWN_MEMBER);
+    EXPECT(keycount_cluster_name(&c, a, name, 0, &count) == KEYCOUNT_TOO_SHORT && count == 1);
+    EXPECT(name[0] == 7);
+    EXPECT(keycount_cluster_name(&c, a, name, 2, &count) == KEYCOUNT_DONE && count == 1);
+    EXPECT(name[0] == 'A' && name[1] == 7);
+    EXPECT(keycount_cluster_join(&c, TEXT("B"), &out) == KEYCOUNT_DONE && out == 3);
+    EXPECT(keycount_cluster_kept(&c, 3, &out) == KEYCOUNT_DONE && out == 0);
+    EXPECT(keycount_cluster_leave(&c, 3) == KEYCOUNT_DONE);
     EXPECT(keycount_cluster_granted(&c, a, partitions, 4, &count) == KEYCOUNT_UNKNOWN_MEMBER);
     EXPECT(keycount_cluster_sync(&c, again, &generation, partitions, 4, offsets, 4, &count)
            == KEYCOUNT_DONE);
@@ -279,6 +298,9 @@ static void a_consumer_follows_its_group(void) {
     EXPECT(keycount_consumer_free(&m) == KEYCOUNT_NO_VALUE);
     EXPECT(keycount_consumer_joined(&m, 1) == KEYCOUNT_NO_VALUE);
     EXPECT(keycount_consumer_sync(&m, &c) == KEYCOUNT_NO_VALUE);
+    EXPECT(keycount_consumer_give_up(&m) == KEYCOUNT_NO_VALUE);
+    EXPECT(keycount_consumer_generation(&m, &out) == KEYCOUNT_NO_VALUE);
+    EXPECT(keycount_consumer_holding(&m, keys, 4, &n) == KEYCOUNT_NO_VALUE);
     EXPECT(keycount_consumer_new(&m, 0) == KEYCOUNT_BAD_ARGUMENT);
     EXPECT(keycount_consumer_new(&m, 4097) == KEYCOUNT_BAD_ARGUMENT);
     EXPECT(keycount_consumer_new(&m, 3) == KEYCOUNT_DONE);
@@ -300,7 +322,13 @@ static void a_consumer_follows_its_group(void) {
     EXPECT(keycount_consumer_joined(&m, member) == KEYCOUNT_DONE);
     EXPECT(keycount_consumer_member(&m, &out) == KEYCOUNT_DONE && out == member);
     EXPECT(keycount_consumer_poll(&m, &c, 2, 2, &from, &count) == KEYCOUNT_NOT_HELD);
+    EXPECT(keycount_consumer_generation(&m, &out) == KEYCOUNT_DONE && out == 0);
+    EXPECT(keycount_consumer_holding(&m, keys, 0, &n) == KEYCOUNT_DONE && n == 0);
     EXPECT(keycount_consumer_sync(&m, &c) == KEYCOUNT_DONE);
+    EXPECT(keycount_consumer_generation(&m, &out) == KEYCOUNT_DONE && out == 1);
+    EXPECT(keycount_consumer_holding(&m, keys, 3, &n) == KEYCOUNT_TOO_SHORT && n == 4);
+    EXPECT(keycount_consumer_holding(&m, keys, 4, &n) == KEYCOUNT_DONE && n == 4);
+    EXPECT(keys[0] == 0 && keys[3] == 3);
     EXPECT(keycount_consumer_rejoin(&m, &c) == KEYCOUNT_NOTHING_TO_GIVE);
     EXPECT(keycount_consumer_pending(&m, 2, &out, &generation, &from, &to)
            == KEYCOUNT_EMPTY_COMMIT);
@@ -323,6 +351,14 @@ static void a_consumer_follows_its_group(void) {
     EXPECT(keycount_consumer_pending(&m, 2, &out, &generation, &from, &to)
            == KEYCOUNT_EMPTY_COMMIT);
 
+    /* Another joins: it is assigned half of them, and holds them all until it gives up. */
+    EXPECT(keycount_cluster_join(&c, TEXT("B"), &out) == KEYCOUNT_DONE);
+    EXPECT(keycount_consumer_rejoin(&m, &c) == KEYCOUNT_DONE);
+    EXPECT(keycount_consumer_sync(&m, &c) == KEYCOUNT_DONE);
+    EXPECT(keycount_consumer_holding(&m, keys, 4, &n) == KEYCOUNT_DONE && n == 4);
+    EXPECT(keycount_consumer_give_up(&m) == KEYCOUNT_DONE);
+    EXPECT(keycount_consumer_holding(&m, keys, 4, &n) == KEYCOUNT_DONE && n == 2);
+    EXPECT(keys[0] == 0 && keys[1] == 1);
     EXPECT(keycount_cluster_lose(&c, member) == KEYCOUNT_DONE);
     EXPECT(keycount_consumer_sync(&m, &c) == KEYCOUNT_UNKNOWN_MEMBER);
     EXPECT(keycount_consumer_answered(&m, 2, KEYCOUNT_UNKNOWN_MEMBER, 0) == KEYCOUNT_DONE);
@@ -357,8 +393,43 @@ static void keys_have_their_places(void) {
     EXPECT(places[0] == 2 && places[1] == 275646681 % 4 && places[2] == 0 && places[3] == 7);
 }
 
+/* Two of six partitions each: 5 keeps its lowest two, 2 its only one. The free ones, which 5 gives
+ * up or 7 has left, go to 2 and then to 9, in rising order. What 5 still owns is withheld. */
+static void partitions_are_assigned_and_withheld(void) {
+    const uint32_t members[3] = {2, 5, 9}, falling[3] = {2, 9, 5}, from_none[3] = {0, 5, 9};
+    const uint32_t owners[6] = {5, 5, 5, 5, 7, 2}, fair[6] = {5, 5, 2, 9, 9, 2};
+    const uint32_t first[6] = {5, 5, 0, 0, 9, 2};
+    static const uint32_t many[4097];
+    static uint32_t wide[4097];
+    uint32_t out[7] = {77, 77, 77, 77, 77, 77, 77}, more[6];
+    EXPECT(keycount_assign(members, 0, owners, 6, out, 7) == KEYCOUNT_BAD_ARGUMENT);
+    EXPECT(keycount_assign(falling, 3, owners, 6, out, 7) == KEYCOUNT_BAD_ARGUMENT);
+    EXPECT(keycount_assign(from_none, 3, owners, 6, out, 7) == KEYCOUNT_BAD_ARGUMENT);
+    EXPECT(keycount_assign(members, 3, owners, 0, out, 7) == KEYCOUNT_BAD_ARGUMENT);
+    EXPECT(keycount_assign(members, 3, owners, 6, out, 5) == KEYCOUNT_BAD_ARGUMENT);
+    EXPECT(keycount_assign(members, 3, many, 4097, wide, 4097) == KEYCOUNT_BAD_ARGUMENT);
+    EXPECT(keycount_withhold(members, 3, fair, 5, owners, 6, out, 7) == KEYCOUNT_BAD_ARGUMENT);
+    EXPECT(keycount_withhold(falling, 3, fair, 6, owners, 6, out, 7) == KEYCOUNT_BAD_ARGUMENT);
+    EXPECT(keycount_withhold(members, 3, fair, 6, owners, 6, out, 5) == KEYCOUNT_BAD_ARGUMENT);
+    EXPECT(out[0] == 77 && out[5] == 77 && wide[0] == 0);
+
+    EXPECT(keycount_assign(members, 3, owners, 6, out, 7) == KEYCOUNT_DONE);
+    EXPECT(memcmp(out, fair, sizeof fair) == 0 && out[6] == 77);
+    EXPECT(keycount_withhold(members, 3, fair, 6, owners, 6, out, 7) == KEYCOUNT_DONE);
+    EXPECT(memcmp(out, first, sizeof first) == 0 && out[6] == 77);
+    /* Once 5 has given them up: the same target, and nothing is withheld. */
+    EXPECT(keycount_assign(members, 3, first, 6, out, 6) == KEYCOUNT_DONE);
+    EXPECT(memcmp(out, fair, sizeof fair) == 0);
+    EXPECT(keycount_withhold(members, 3, out, 6, first, 6, more, 6) == KEYCOUNT_DONE);
+    EXPECT(memcmp(more, fair, sizeof fair) == 0);
+
+    EXPECT(keycount_assign(members, 3, many, 4096, wide, 4097) == KEYCOUNT_DONE);
+    EXPECT(wide[0] == 2 && wide[1365] == 2 && wide[1366] == 5 && wide[4095] == 9);
+}
+
 int main(void) {
     keys_have_their_places();
+    partitions_are_assigned_and_withheld();
     an_empty_handle_answers_so_and_writes_nothing();
     arguments_are_tested();
     records_are_appended_and_read();

@@ -82,7 +82,93 @@ static int same(keycount_cluster *c, const struct look *before) {
     return memcmp(&now, before, sizeof now) == 0;
 }
 
+/* What of a consumer can change. */
+struct held {
+    uint32_t member, generation, partitions[PARTITIONS], bases[PARTITIONS], positions[PARTITIONS];
+    size_t count;
+};
+
+static struct held held(keycount_consumer *m) {
+    struct held h;
+    memset(&h, 0, sizeof h);
+    EXPECT(keycount_consumer_member(m, &h.member) == KEYCOUNT_DONE);
+    EXPECT(keycount_consumer_generation(m, &h.generation) == KEYCOUNT_DONE);
+    EXPECT(keycount_consumer_holding(m, h.partitions, PARTITIONS, &h.count) == KEYCOUNT_DONE);
+    for (uint32_t p = 0; p < PARTITIONS; p++) {
+        EXPECT(keycount_consumer_base(m, p, &h.bases[p]) == KEYCOUNT_DONE);
+        EXPECT(keycount_consumer_position(m, p, &h.positions[p]) == KEYCOUNT_DONE);
+    }
+    return h;
+}
+
+static int as_held(keycount_consumer *m, const struct held *before) {
+    struct held now = held(m);
+    return memcmp(&now, before, sizeof now) == 0;
+}
+
+/* A consumer begins, takes its lease, and rejoins: with its cluster, or neither. */
+static void a_consumer_is_as_it_was(void) {
+    keycount_cluster c = KEYCOUNT_NONE;
+    keycount_consumer m = KEYCOUNT_NONE;
+    const uint32_t partitions = PARTITIONS;
+    const uint8_t seed[32] = {1};
+    uint32_t a, b, p, offset, from, count;
+    struct look before;
+    struct held had;
+
+    EXPECT(keycount_cluster_new(&c, &partitions, 1, seed, 32) == KEYCOUNT_DONE);
+    EXPECT(keycount_cluster_append(&c, 0, (const uint8_t *)"k", 1, &p, &offset) == KEYCOUNT_DONE);
+    unsigned long made = refusals;
+    EACH_FAILS(keycount_consumer_new(&m, PARTITIONS), m.at == NULL);
+    EXPECT(refusals > made);
+    EXPECT(keycount_cluster_join(&c, (const uint8_t *)"A", 1, &a) == KEYCOUNT_DONE);
+    had = held(&m);
+    EACH_FAILS(keycount_consumer_joined(&m, a), as_held(&m, &had));
+    before = look(&c);
+    had = held(&m);
+    EACH_FAILS(keycount_consumer_sync(&m, &c), same(&c, &before) && as_held(&m, &had));
+    had = held(&m);
+    EACH_FAILS(keycount_consumer_poll(&m, &c, p, 9, &from, &count),
+               same(&c, &before) && as_held(&m, &had));
+    EXPECT(from == 0 && count == 1);
+    EXPECT(keycount_cluster_join(&c, (const uint8_t *)"B", 1, &b) == KEYCOUNT_DONE);
+    before = look(&c);
+    had = held(&m);
+    made = refusals;
+    EACH_FAILS(keycount_consumer_rejoin(&m, &c), same(&c, &before) && as_held(&m, &had));
+    EXPECT(refusals > made);
+    before = look(&c);
+    had = held(&m);
+    EACH_FAILS(keycount_consumer_sync(&m, &c), same(&c, &before) && as_held(&m, &had));
+    had = held(&m);
+    EACH_FAILS(keycount_consumer_give_up(&m), as_held(&m, &had));
+    had = held(&m);
+    EXPECT(had.member == a && had.generation == 2 && had.count == 3);
+    EACH_FAILS(keycount_consumer_drop_all(&m), as_held(&m, &had));
+    EXPECT(keycount_consumer_free(&m) == KEYCOUNT_DONE);
+    EXPECT(keycount_cluster_free(&c) == KEYCOUNT_DONE);
+}
+
+/* The lists of owners need memory for their rows. */
+static void an_assignment_is_written_whole_or_not(void) {
+    const uint32_t members[2] = {1, 2}, owners[4] = {1, 1, 1, 1}, untouched[4] = {7, 7, 7, 7};
+    const uint32_t fair[4] = {1, 1, 2, 2}, first[4] = {1, 1, 0, 0};
+    uint32_t out[4] = {7, 7, 7, 7};
+    unsigned long made = refusals;
+    EACH_FAILS(keycount_assign(members, 2, owners, 4, out, 4),
+               memcmp(out, untouched, sizeof out) == 0);
+    EXPECT(refusals > made && memcmp(out, fair, sizeof out) == 0);
+    memcpy(out, untouched, sizeof out);
+    made = refusals;
+    EACH_FAILS(keycount_withhold(members, 2, fair, 4, owners, 4, out, 4),
+               memcmp(out, untouched, sizeof out) == 0);
+    EXPECT(refusals > made && memcmp(out, first, sizeof out) == 0);
+}
+
 int main(void) {
+    a_consumer_is_as_it_was();
+    an_assignment_is_written_whole_or_not();
+    refusals = 0;
     keycount_cluster c = KEYCOUNT_NONE;
     const uint32_t topics[2] = {2, 3};
     const uint8_t seed[32] = {1};

@@ -21,14 +21,17 @@ import ctypes
 import itertools
 import os
 import threading
-from typing import Dict, Iterable, List, NamedTuple, Optional, Sequence, Set, Tuple, Union
+from typing import (
+    Callable, Dict, Hashable, Iterable, List, Mapping, NamedTuple, Optional, Sequence, Set, Tuple,
+    TypeVar, Union,
+)
 
 __all__ = [
     "Cluster", "Consumer", "Lease", "Move", "Step", "Phase", "Refusal", "AlreadyJoined", "ClaimDiffers", "Closed",
     "EmptyCommit", "GenerationsOver", "KeyTooLong", "LogFull", "NameUsed", "NotKept", "NotHeld", "NotOwner",
     "NothingToGive", "OutOfGroup", "OffsetMismatch", "PastEnd", "RebalanceInProgress", "StaleGeneration",
-    "SyncFirst", "TooManyMembers", "UnknownMember", "WrongRecords", "murmur2", "place",
-    "place_all",
+    "SyncFirst", "TooManyMembers", "UnknownMember", "WrongRecords", "assign", "murmur2", "place",
+    "place_all", "withhold",
 ]
 
 _U8, _U32, _U64, _SIZE = ctypes.c_uint8, ctypes.c_uint32, ctypes.c_uint64, ctypes.c_size_t
@@ -67,6 +70,9 @@ _CALLS = {
     "assigned": [_U32, _U32S, _SIZE, _COUNT],
     "moves": [_SIZE, ctypes.POINTER(_Move), _SIZE, _COUNT],
     "owner": [_U32, _U32S],
+    "name": [_U32, _U8S, _SIZE, _COUNT],
+    "member_named": [_U8S, _SIZE, _U32S],
+    "kept": [_U32, _U32S],
     "end": [_U32, _U32S],
     "committed": [_U32, _U32S],
     "read": [_U32, _U32, _U32S, _SIZE, _COUNT],
@@ -82,10 +88,13 @@ _CONSUMER_CALLS = {
     "drop_all": [],
     "sync": [_HANDLE],
     "rejoin": [_HANDLE],
+    "give_up": [],
     "poll": [_HANDLE, _U32, _U32, _U32S, _U32S],
     "pending": [_U32, _U32S, _U32S, _U32S, _U32S],
     "answered": [_U32, _U32, _U32],
     "member": [_U32S],
+    "generation": [_U32S],
+    "holding": [_U32S, _SIZE, _COUNT],
     "base": [_U32, _U32S],
     "position": [_U32, _U32S],
 }
@@ -101,8 +110,10 @@ def _load() -> ctypes.CDLL:
     lib.keycount_murmur2.argtypes = [_U8S, _SIZE]
     lib.keycount_place.argtypes = [_U32, _U8S, _SIZE, _U32S]
     lib.keycount_place_all.argtypes = [_U32, _U8S, _SIZE, _COUNT, _SIZE, _U32S, _SIZE]
-    for call in (lib.keycount_murmur2, lib.keycount_place, lib.keycount_place_all):
-        call.restype = _U32
+    lib.keycount_assign.argtypes = [_U32S, _SIZE] * 3
+    lib.keycount_withhold.argtypes = [_U32S, _SIZE] * 4
+    for name in "murmur2", "place", "place_all", "assign", "withhold":
+        getattr(lib, "keycount_" + name).restype = _U32
     return lib
 
 
@@ -320,6 +331,53 @@ def place_all(partitions: int, keys: Iterable[Union[bytes, str]]) -> List[int]:
     return places[:n]
 
 
+Member = TypeVar("Member", bound=Hashable)
+
+
+def assign(partitions: int, owned: Mapping[Member, Iterable[int]]) -> Dict[Member, Set[int]]:
+    """What each member is to own of 1 to 4096 partitions, by what each owns: even shares, and as
+    many partitions as possible stay with their owners. Of shares that differ by one, the larger go
+    to members that own more than the smaller, and then to the first, in the order of the mapping.
+    """
+    members = list(owned)
+    return _assigned("assign", members, _owners(partitions, members, owned))
+
+
+def withhold(partitions: int, target: Mapping[Member, Iterable[int]],
+             owned: Mapping[Member, Iterable[int]]) -> Dict[Member, Set[int]]:
+    """What to assign of a target at once, in a cooperative rebalance: each member's part of it, but
+    not what another still owns. Who is not in the target has left."""
+    members = list(target)
+    return _assigned("withhold", members, _owners(partitions, members, target),
+                     _owners(partitions, members, owned))
+
+
+def _owners(partitions: int, members: List[Member],
+            owned: Mapping[Member, Iterable[int]]) -> List[int]:
+    """The number of the member that owns each partition, counted from 1, or 0."""
+    owners = [0] * _number(partitions)
+    for number, member in enumerate(members, 1):
+        for partition in owned.get(member, ()):
+            if not 0 <= partition < partitions:
+                raise ValueError("there is no such partition")
+            if owners[partition] not in (0, number):
+                raise ValueError("two members own a partition")
+            owners[partition] = number
+    return owners
+
+
+def _assigned(name: str, members: List[Member], *lists: List[int]) -> Dict[Member, Set[int]]:
+    n = len(lists[0])
+    out = (_U32 * max(1, n))()
+    args = [arg for numbers in (range(1, len(members) + 1), *lists) for arg in _numbers(numbers)]
+    _raise(getattr(_lib, "keycount_" + name)(*args, out, n))
+    rows: Dict[Member, Set[int]] = {member: set() for member in members}
+    for partition, number in enumerate(out[:n]):
+        if number:
+            rows[members[number - 1]].add(partition)
+    return rows
+
+
 class Cluster:
     """A group of members, the logs that they read, and the committed offsets and counts.
 
@@ -443,6 +501,18 @@ class Cluster:
         """The member that a partition is granted to, if there is one."""
         return self._read("owner", _number(partition)) or None
 
+    def name(self, member: int) -> str:
+        """The name of a member number that was given out, present or not. UnknownMember."""
+        return bytes(self._list(_U8, "name", _number(member))).decode()
+
+    def member_named(self, name: str) -> Optional[int]:
+        """The newest member number with this name, present or not, if there is one."""
+        return self._read("member_named", *_bytes(name)) or None
+
+    def is_kept(self, member: int) -> bool:
+        """Whether a member is present and static."""
+        return self._read("kept", _number(member)) == 1
+
     def end(self, partition: int) -> int:
         """The offset of a partition's next record."""
         return self._read("end", _number(partition))
@@ -504,14 +574,7 @@ class Cluster:
         return value.value
 
     def _list(self, item: type, name: str, *args: object) -> list:
-        room, count = 16, _SIZE()
-        while True:
-            items = (item * room)()
-            answer = self._answer(name, *args, items, room, count)
-            if answer != _TOO_SHORT:
-                _raise(answer)
-                return items[: count.value]
-            room = count.value
+        return _listed(item, lambda *out: self._answer(name, *args, *out))
 
 
 class Consumer:
@@ -582,6 +645,10 @@ class Consumer:
         offset."""
         self._call("answered", _number(partition), _number(code), _number(committed))
 
+    def give_up(self) -> None:
+        """Drops what it holds and its last lease has not, as `step` does when it rejoins."""
+        self._call("give_up")
+
     def leave(self) -> None:
         """Leaves the cluster, and drops everything. UnknownMember."""
         self._cluster.leave(self.member() or 0)
@@ -592,6 +659,17 @@ class Consumer:
         member = _U32()
         self._call("member", member)
         return member.value or None
+
+    def generation(self) -> int:
+        """The generation of its last lease, 0 before the first."""
+        generation = _U32()
+        self._call("generation", generation)
+        return generation.value
+
+    def holding(self) -> Set[int]:
+        """The partitions that it holds."""
+        call = _lib.keycount_consumer_holding
+        return set(_listed(_U32, lambda *out: call(self._handle, *out)))
 
     def base(self, partition: int) -> int:
         """The offset below which it knows the records of a partition to be committed."""
@@ -611,6 +689,18 @@ class Consumer:
     def __del__(self) -> None:
         if hasattr(self, "_handle"):
             _lib.keycount_consumer_free(self._handle)
+
+
+def _listed(item: type, call: Callable[..., int]) -> list:
+    """What a call lists, which is made again if it does not fit."""
+    room, count = 16, _SIZE()
+    while True:
+        items = (item * room)()
+        answer = call(items, room, count)
+        if answer != _TOO_SHORT:
+            _raise(answer)
+            return items[: count.value]
+        room = count.value
 
 
 def _raise(answer: int) -> None:

@@ -1,15 +1,15 @@
-"""A property test of an assignor of your own against the proved one, by random groups.
+"""A property test of an assignor of your own against the proved one, by random owners.
 
 Put your assignor in the place of `assign`. It is given what each present member owns, and the number
-of partitions; it returns what each is to own. The group of the library gives the answer to compare
-with: its assignment is balanced, and no balanced one leaves more partitions with their owners.
+of partitions; it returns what each is to own. The library gives the answer to compare with: it is
+balanced, and no balanced assignment leaves more partitions with their owners.
 """
 
 import random
 import unittest
 from typing import Dict, Set
 
-from keycount import Cluster, Step
+import keycount
 
 Owned = Dict[int, Set[int]]
 
@@ -30,23 +30,22 @@ def assign(owned: Owned, partitions: int) -> Owned:
     return kept
 
 
-def owned_in(cluster: Cluster) -> Owned:
-    return {member: cluster.granted(member) for member in cluster.members()}
+def withhold(target: Owned, owned: Owned) -> Owned:
+    """What of a target nobody else owns."""
+    return {
+        member: {p for p in row if not any(p in owned[other] for other in owned if other != member)}
+        for member, row in target.items()
+    }
 
 
-def settle(cluster: Cluster) -> None:
-    """Lets the members follow their group until nothing is left to do."""
-    leases = {}
-    while not cluster.is_settled():
-        for member in cluster.members():
-            step = cluster.next_step(member)
-            if step == Step.SYNC:
-                leases[member] = cluster.sync(member)
-            elif step == Step.REJOIN:
-                if member not in leases:
-                    leases[member] = cluster.sync(member)
-                lease = leases[member]
-                cluster.rejoin(member, lease.generation, lease.partitions)
+def random_owners(rng: random.Random, partitions: int) -> Owned:
+    """Some members, of whom a few own most, and some partitions that nobody owns."""
+    owned: Owned = {member: set() for member in rng.sample(range(100), rng.randint(1, 12))}
+    few = list(owned)[: rng.randint(1, len(owned))]
+    for p in range(partitions):
+        if rng.random() < 0.9:
+            owned[rng.choice(few)].add(p)
+    return owned
 
 
 def kept(before: Owned, after: Owned) -> int:
@@ -54,28 +53,22 @@ def kept(before: Owned, after: Owned) -> int:
     return sum(len(before[m] & after[m]) for m in after)
 
 
-class RandomGroups(unittest.TestCase):
-    def test_an_assignor_does_as_well_as_the_group(self):
-        for seed in range(60):
-            with self.subTest(seed=seed), Cluster(partitions=1 + seed % 40) as cluster:
-                self.run_group(cluster, random.Random(seed))
-
-    def run_group(self, cluster: Cluster, rng: random.Random) -> None:
-        partitions = cluster.partitions()
-        for n in range(12):
-            members = cluster.members()
-            if members[1:] and rng.random() < 0.45:
-                cluster.lose(rng.choice(members))
-            else:
-                cluster.join(f"m{n}")
-            before = owned_in(cluster)
-            settle(cluster)
-            ours, yours = owned_in(cluster), assign(before, partitions)
-            self.assertEqual(yours.keys(), ours.keys())
-            self.assertEqual(sorted(p for row in yours.values() for p in row),
-                             list(range(partitions)))
-            self.assertEqual(sorted(map(len, yours.values())), sorted(map(len, ours.values())))
-            self.assertEqual(kept(before, yours), kept(before, ours))
+class RandomOwners(unittest.TestCase):
+    def test_an_assignor_does_as_well_as_the_library(self):
+        for seed in range(500):
+            with self.subTest(seed=seed):
+                rng = random.Random(seed)
+                partitions = rng.randint(1, 60)
+                owned = random_owners(rng, partitions)
+                proved, yours = keycount.assign(partitions, owned), assign(owned, partitions)
+                self.assertEqual(yours.keys(), proved.keys())
+                self.assertEqual(sorted(p for row in yours.values() for p in row),
+                                 list(range(partitions)))
+                self.assertEqual(sorted(map(len, yours.values())),
+                                 sorted(map(len, proved.values())))
+                self.assertEqual(kept(owned, yours), kept(owned, proved))
+                self.assertEqual(withhold(yours, owned),
+                                 keycount.withhold(partitions, yours, owned))
 
 
 if __name__ == "__main__":

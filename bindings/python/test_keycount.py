@@ -39,6 +39,22 @@ class Calls(unittest.TestCase):
             with self.assertRaises(ValueError):
                 keycount.place_all(partitions, [b"foobar"])
 
+    def test_partitions_are_assigned_and_withheld(self):
+        # Two of six each: b keeps its lowest two, a its only one, and the free ones go to a, then
+        # to c. What b still owns is withheld; d has left.
+        owned = {"a": {5}, "b": {0, 1, 2, 3}, "c": ()}
+        target = {"a": {2, 5}, "b": {0, 1}, "c": {3, 4}}
+        self.assertEqual(keycount.assign(6, owned), target)
+        self.assertEqual(keycount.withhold(6, target, {**owned, "d": [4]}),
+                         {"a": {5}, "b": {0, 1}, "c": {4}})
+        # The larger shares go to those who own more than the smaller, and then to the first.
+        self.assertEqual(keycount.assign(5, {1: [0], 2: [1, 2, 3], 3: []}),
+                         {1: {0, 3}, 2: {1, 2}, 3: {4}})
+        for partitions, rows in [(6, {}), (0, {1: ()}), (4097, {1: ()}), (2, {1: [2]}), (2, {1: [-1]}),
+                                 (2, {1: [0], 2: [0]})]:
+            with self.assertRaises(ValueError):
+                keycount.assign(partitions, rows)
+
     def test_partitions_move_when_they_are_given_up(self):
         with Cluster(partitions=4) as c:
             self.assertEqual(c.phase(), Phase.EMPTY)
@@ -71,9 +87,13 @@ class Calls(unittest.TestCase):
 
     def test_a_static_member_comes_back(self):
         with Cluster(partitions=2) as c:
-            c.join("A", static=True)
+            self.assertIsNone(c.member_named("A"))
+            first = c.join("A", static=True)
+            self.assertTrue(c.is_kept(first))
             again = c.take_over("A")
             self.assertEqual((again, c.members()), (2, [2]))
+            self.assertEqual((c.is_kept(first), c.is_kept(again)), (False, True))
+            self.assertEqual((c.member_named("A"), c.name(first)), (again, "A"))
             self.assertEqual(c.sync(again).partitions, {0, 1})
 
     def test_a_commit_counts_once(self):
@@ -97,6 +117,7 @@ class Calls(unittest.TestCase):
                 a.poll(2)
             member = a.join("A")
             self.assertEqual((a.member(), a.step(), a.step()), (member, Step.SYNC, Step.READ))
+            self.assertEqual((a.generation(), a.holding()), (1, {0, 1, 2, 3}))
             with self.assertRaises(keycount.EmptyCommit):
                 a.commit(2)
             self.assertEqual((a.poll(2, most=2), a.base(2), a.position(2)), ([0, 0], 0, 2))
@@ -110,6 +131,10 @@ class Calls(unittest.TestCase):
             # Half of its partitions go to another.
             b = Consumer(c)
             b.join("B")
+            self.assertEqual((a.step(), a.step()), (Step.REJOIN, Step.SYNC))
+            self.assertEqual((a.generation(), a.holding()), (2, {0, 1, 2, 3}))
+            a.give_up()
+            self.assertEqual(a.holding(), {0, 1})
             while not c.is_settled():
                 a.step(), b.step()
             self.assertEqual((c.granted(member), c.granted(b.member())), ({0, 1}, {2, 3}))
@@ -132,6 +157,7 @@ class Calls(unittest.TestCase):
                 (keycount.NotKept, lambda: c.take_over("A")),
                 (keycount.UnknownMember, lambda: c.leave(9)),
                 (keycount.UnknownMember, lambda: c.granted(9)),
+                (keycount.UnknownMember, lambda: c.name(9)),
                 (keycount.SyncFirst, lambda: c.rejoin(a, 1, range(4))),
                 (keycount.StaleGeneration, lambda: c.rejoin(a, 2, range(4))),
                 (keycount.StaleGeneration, lambda: c.commit(a, 2, 0, 0, [0])),
@@ -169,6 +195,7 @@ class Calls(unittest.TestCase):
             for call in [
                 lambda: c.append(b"k", topic=1),
                 lambda: c.join("a b"),
+                lambda: c.member_named("a b"),
                 lambda: c.rejoin(1, 1, [1]),
                 lambda: c.end(1),
                 lambda: c.committed(-1),

@@ -1,5 +1,5 @@
 use crate::ffi::{self, Handle};
-use crate::{done, Cluster, Refusal, Step};
+use crate::{done, list, read, Cluster, Refusal, Step};
 use std::ptr::null_mut;
 
 /// A commit of all pending records of a partition, to be sent.
@@ -149,6 +149,11 @@ impl Consumer {
         }
     }
 
+    /// Drops what it holds and its last lease has not, as `step` does when it rejoins.
+    pub fn give_up(&mut self) {
+        unsafe { ffi::keycount_consumer_give_up(&mut self.handle) };
+    }
+
     /// Leaves the cluster, and drops everything. Refused: `UnknownMember`.
     pub fn leave(&mut self, cluster: &mut Cluster) -> Result<(), Refusal> {
         cluster.leave(self.member().unwrap_or(0))?;
@@ -163,6 +168,19 @@ impl Consumer {
         let mut member = 0;
         unsafe { ffi::keycount_consumer_member(&mut self.handle, &mut member) };
         Some(member).filter(|&member| member != 0)
+    }
+
+    /// The generation of its last lease; 0 before the first one, and if it is out of the group.
+    pub fn generation(&mut self) -> u32 {
+        read(|out| unsafe { ffi::keycount_consumer_generation(&mut self.handle, out) })
+    }
+
+    /// The partitions that it holds, in rising order.
+    pub fn holding(&mut self) -> Vec<u32> {
+        list(|out: &mut [u32], count| unsafe {
+            ffi::keycount_consumer_holding(&mut self.handle, out.as_mut_ptr(), out.len(), count)
+        })
+        .expect("the partitions can always be listed")
     }
 
     /// The offset below which it knows the records of a partition to be committed; 0 if it does not

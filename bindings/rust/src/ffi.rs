@@ -116,6 +116,20 @@ extern "C" {
         count: *mut usize,
     ) -> u32;
     pub fn keycount_cluster_owner(cluster: *mut Handle, partition: u32, member: *mut u32) -> u32;
+    pub fn keycount_cluster_name(
+        cluster: *mut Handle,
+        member: u32,
+        name: *mut u8,
+        room: usize,
+        count: *mut usize,
+    ) -> u32;
+    pub fn keycount_cluster_member_named(
+        cluster: *mut Handle,
+        name: *const u8,
+        name_len: usize,
+        member: *mut u32,
+    ) -> u32;
+    pub fn keycount_cluster_kept(cluster: *mut Handle, member: u32, kept: *mut u32) -> u32;
     pub fn keycount_cluster_end(cluster: *mut Handle, partition: u32, offset: *mut u32) -> u32;
     pub fn keycount_cluster_committed(
         cluster: *mut Handle,
@@ -154,12 +168,31 @@ extern "C" {
         places: *mut u32,
         room: usize,
     ) -> u32;
+    pub fn keycount_assign(
+        members: *const u32,
+        members_len: usize,
+        owners: *const u32,
+        partitions: usize,
+        assigned: *mut u32,
+        room: usize,
+    ) -> u32;
+    pub fn keycount_withhold(
+        members: *const u32,
+        members_len: usize,
+        target: *const u32,
+        targets: usize,
+        owners: *const u32,
+        partitions: usize,
+        assigned: *mut u32,
+        room: usize,
+    ) -> u32;
     pub fn keycount_consumer_new(consumer: *mut Handle, partitions: u32) -> u32;
     pub fn keycount_consumer_free(consumer: *mut Handle) -> u32;
     pub fn keycount_consumer_joined(consumer: *mut Handle, member: u32) -> u32;
     pub fn keycount_consumer_drop_all(consumer: *mut Handle) -> u32;
     pub fn keycount_consumer_sync(consumer: *mut Handle, cluster: *mut Handle) -> u32;
     pub fn keycount_consumer_rejoin(consumer: *mut Handle, cluster: *mut Handle) -> u32;
+    pub fn keycount_consumer_give_up(consumer: *mut Handle) -> u32;
     pub fn keycount_consumer_poll(
         consumer: *mut Handle,
         cluster: *mut Handle,
@@ -183,6 +216,13 @@ extern "C" {
         committed: u32,
     ) -> u32;
     pub fn keycount_consumer_member(consumer: *mut Handle, member: *mut u32) -> u32;
+    pub fn keycount_consumer_generation(consumer: *mut Handle, generation: *mut u32) -> u32;
+    pub fn keycount_consumer_holding(
+        consumer: *mut Handle,
+        partitions: *mut u32,
+        room: usize,
+        count: *mut usize,
+    ) -> u32;
     pub fn keycount_consumer_base(consumer: *mut Handle, partition: u32, offset: *mut u32) -> u32;
     pub fn keycount_consumer_position(
         consumer: *mut Handle,

@@ -182,6 +182,57 @@ pub fn place_all<K: AsRef<[u8]>>(partitions: u32, keys: &[K]) -> Result<Vec<u32>
     done(code, places)
 }
 
+/// The member that is to own each partition, 1 to 4096 of them: even shares, and as many partitions
+/// as possible stay with their owners. The members' numbers rise from 1 on. `owners` has a number
+/// for each partition; 0 and the number of anybody else stand for nobody.
+///
+/// Refused: `BadArgument`, `OutOfMemory`.
+///
+/// ```
+/// // Member 7 has left, and 2 is new.
+/// assert_eq!(keycount::assign(&[1, 2], &[1, 7, 1, 1]), Ok(vec![1, 2, 1, 2]));
+/// ```
+pub fn assign(members: &[u32], owners: &[u32]) -> Result<Vec<u32>, Refusal> {
+    let mut assigned = vec![0; owners.len()];
+    // SAFETY: each pointer and length are those of one slice.
+    let code = unsafe {
+        ffi::keycount_assign(
+            members.as_ptr(),
+            members.len(),
+            owners.as_ptr(),
+            owners.len(),
+            assigned.as_mut_ptr(),
+            assigned.len(),
+        )
+    };
+    done(code, assigned)
+}
+
+/// What to assign of a target at once, in a cooperative rebalance: the target, but 0 for a
+/// partition that another member still owns. Refused: `BadArgument`, `OutOfMemory`.
+///
+/// ```
+/// let owners = [1, 7, 1, 1];
+/// assert_eq!(keycount::withhold(&[1, 2], &[1, 2, 1, 2], &owners), Ok(vec![1, 2, 1, 0]));
+/// ```
+pub fn withhold(members: &[u32], target: &[u32], owners: &[u32]) -> Result<Vec<u32>, Refusal> {
+    let mut assigned = vec![0; owners.len()];
+    // SAFETY: each pointer and length are those of one slice.
+    let code = unsafe {
+        ffi::keycount_withhold(
+            members.as_ptr(),
+            members.len(),
+            target.as_ptr(),
+            target.len(),
+            owners.as_ptr(),
+            owners.len(),
+            assigned.as_mut_ptr(),
+            assigned.len(),
+        )
+    };
+    done(code, assigned)
+}
+
 // SAFETY of each call of the library below: the handle is as the last call left it and is borrowed
 // for this one, and so are the outputs; a pointer and a length are those of one slice.
 impl Cluster {
@@ -437,6 +488,35 @@ impl Cluster {
             0 => None,
             member => Some(member),
         }
+    }
+
+    /// The name of a member number that was given out, present or not. Refused: `UnknownMember`.
+    pub fn name(&mut self, member: u32) -> Result<String, Refusal> {
+        let name = list(|name: &mut [u8], count| unsafe {
+            let handle = &mut self.handle;
+            ffi::keycount_cluster_name(handle, member, name.as_mut_ptr(), name.len(), count)
+        })?;
+        Ok(String::from_utf8(name).expect("a name is ASCII"))
+    }
+
+    /// The newest member number with a name, present or not, if there is one. Refused:
+    /// `BadArgument`.
+    pub fn member_named(&mut self, name: &str) -> Result<Option<u32>, Refusal> {
+        let mut member = 0;
+        let code = unsafe {
+            ffi::keycount_cluster_member_named(
+                &mut self.handle,
+                name.as_ptr(),
+                name.len(),
+                &mut member,
+            )
+        };
+        done(code, Some(member).filter(|&member| member != 0))
+    }
+
+    /// Whether a member is present and static.
+    pub fn is_kept(&mut self, member: u32) -> bool {
+        read(|out| unsafe { ffi::keycount_cluster_kept(&mut self.handle, member, out) }) == 1
     }
 
     /// The offset of a partition's next record. Refused: `BadArgument`.

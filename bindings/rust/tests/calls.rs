@@ -85,9 +85,18 @@ fn partitions_move_when_they_are_given_up() -> Result<(), Refusal> {
 fn a_static_member_comes_back() -> Result<(), Refusal> {
     let mut c = Cluster::new(&[2], &SEED)?;
     assert_eq!(c.take_over("A"), Err(Refusal::NotKept));
-    c.join_static("A")?;
+    assert_eq!(c.member_named("A"), Ok(None));
+    let first = c.join_static("A")?;
+    assert!(c.is_kept(first));
     let again = c.take_over("A")?;
     assert_eq!((again, c.members()), (2, vec![2]));
+    assert_eq!((c.is_kept(first), c.is_kept(again)), (false, true));
+    assert_eq!(
+        (c.member_named("A")?, c.name(first)?),
+        (Some(again), "A".into())
+    );
+    assert_eq!(c.name(3), Err(Refusal::UnknownMember));
+    assert_eq!(c.member_named("a b"), Err(Refusal::BadArgument));
     Ok(())
 }
 
@@ -145,6 +154,7 @@ fn a_consumer_follows_its_group() -> Result<(), Refusal> {
         (a.member(), a.step(&mut c)?, a.step(&mut c)?),
         (Some(member), Step::Sync, Step::Read)
     );
+    assert_eq!((a.generation(), a.holding()), (1, vec![0, 1, 2, 3]));
     assert_eq!(a.commit(&mut c, 2), Err(Refusal::EmptyCommit));
     assert_eq!(a.poll(&mut c, 2, 2)?, [0, 0]);
     assert_eq!((a.base(2), a.position(2)), (0, 2));
@@ -160,6 +170,12 @@ fn a_consumer_follows_its_group() -> Result<(), Refusal> {
     assert_eq!((a.base(2), c.count(0)?), (3, 3));
     let mut b = Consumer::new(&mut c)?;
     b.join(&mut c, "B")?;
+    // Half of its partitions go to another: it holds them until it gives them up.
+    assert_eq!(a.step(&mut c)?, Step::Rejoin);
+    assert_eq!(a.step(&mut c)?, Step::Sync);
+    assert_eq!((a.generation(), a.holding()), (2, vec![0, 1, 2, 3]));
+    a.give_up();
+    assert_eq!(a.holding(), [0, 1]);
     while !c.is_settled() {
         a.step(&mut c)?;
         b.step(&mut c)?;
@@ -170,4 +186,33 @@ fn a_consumer_follows_its_group() -> Result<(), Refusal> {
     b.leave(&mut c)?;
     assert_eq!((b.member(), c.members()), (None, vec![]));
     Ok(())
+}
+
+#[test]
+fn partitions_are_assigned_and_withheld() {
+    // Two of six each: 5 keeps its lowest two, 2 its only one; the free ones go to 2, then to 9.
+    let (members, owners) = ([2, 5, 9], [5, 5, 5, 5, 7, 2]);
+    let target = [5, 5, 2, 9, 9, 2];
+    assert_eq!(keycount::assign(&members, &owners), Ok(target.to_vec()));
+    // What 5 still owns is withheld; 7 has left.
+    assert_eq!(
+        keycount::withhold(&members, &target, &owners),
+        Ok(vec![5, 5, 0, 0, 9, 2])
+    );
+    for members in [&[][..], &[0, 5], &[5, 5], &[9, 5]] {
+        assert_eq!(
+            keycount::assign(members, &owners),
+            Err(Refusal::BadArgument)
+        );
+    }
+    for owners in [&[][..], &[0; 4097]] {
+        assert_eq!(
+            keycount::assign(&members, owners),
+            Err(Refusal::BadArgument)
+        );
+    }
+    assert_eq!(
+        keycount::withhold(&members, &target[1..], &owners),
+        Err(Refusal::BadArgument)
+    );
 }

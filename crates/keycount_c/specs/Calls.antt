@@ -166,6 +166,16 @@ ListsOf member items (Some s) out number out' =
     ((is_present s.group member ≡ true) × IsListed (items s) out.0 number out'.0 out'.1)
     ⊎ ((is_present s.group member ≡ false) × (number ≡ code_of UnknownMember) × (out' ≡ out))
 
+-- the same, of a member number, if it was given out
+abbrev pub IsListedIfAny : {X : Type 0} → Option (List X) → List X × ℕ → ℕ → List X × ℕ → Type 0
+IsListedIfAny None out number out' = (number ≡ code_of UnknownMember) × (out' ≡ out)
+IsListedIfAny (Some items) out number out' = IsListed items out.0 number out'.0 out'.1
+
+abbrev pub ListsIfAny : {X : Type 0} → (ClusterState → Option (List X)) → Option ClusterState
+    → List X × ℕ → ℕ → List X × ℕ → Type 0
+ListsIfAny items None out number out' = (number ≡ NO_VALUE) × (out' ≡ out)
+ListsIfAny items (Some s) out number out' = IsListedIfAny (items s) out number out'
+
 -- a partition has this offset, or ends there
 abbrev pub IsOffset : ClusterState → ℕ → ℕ → Type 0
 IsOffset s partition from =

@@ -1,9 +1,11 @@
 -- The forms of a call on the consumer behind a handle, as those of a cluster (Calls.antt).
-use Rattle.std.specs.Prelude.{◌≡◌, ℕ, ◌==◌, ◌⊎◌, Option, None, Some, Result, Ok, Err, if◌then◌else◌, unwrap_or}
+use Rattle.std.specs.Prelude.{◌≡◌, ℕ, ◌==◌, ◌⊎◌, Option, None, Some, Result, Ok, Err, List, if◌then◌else◌, unwrap_or}
 use Rattle.lane_words.specs.declared.Refusal.{Refusal}
 use Rattle.lane_words.specs.declared.Refusal.TheVariants as r
-use Rattle.consumer.specs.Consumer.{ConsumerState, base_of, out_of_group, position_of, sendable_answer}
+use Rattle.bit_planes.specs.PartitionSet.{PartitionSet, set_where}
+use Rattle.consumer.specs.Consumer.{ConsumerState, base_of, is_held, out_of_group, position_of, sendable_answer}
 use Rattle.keycount_c.specs.Answers.{number_of}
+use Rattle.keycount_c.specs.Lists.{IsListed}
 use Rattle.keycount_c.specs.Places.{AreFew}
 use Rattle.keycount_c.specs.declared.answers.TheConstants.{BAD_ARGUMENT, DONE, HAS_VALUE, MEMORY, NO_VALUE}
 
@@ -31,6 +33,16 @@ abbrev pub ReadsConsumer : {V : Type 0} → (ConsumerState → V) → Option Con
     → Type 0
 ReadsConsumer value None out number out' = (number ≡ NO_VALUE) × (out' ≡ out)
 ReadsConsumer value (Some c) out number out' = (number ≡ DONE) × (out' ≡ value c)
+
+-- the partitions that it holds
+abbrev pub held_by : ConsumerState → PartitionSet
+held_by c = set_where c.partitions (is_held c)
+
+-- a call that lists numbers of it, if there is one
+abbrev pub ListsConsumer : (ConsumerState → List ℕ) → Option ConsumerState → List ℕ × ℕ → ℕ
+    → List ℕ × ℕ → Type 0
+ListsConsumer items None out number out' = (number ≡ NO_VALUE) × (out' ≡ out)
+ListsConsumer items (Some c) out number out' = IsListed (items c) out.0 number out'.0 out'.1
 
 -- the reply that a commit got, by its number and the committed offset
 abbrev pub reply_of : ℕ → ℕ → Result ℕ Refusal

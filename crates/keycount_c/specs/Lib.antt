@@ -5,4 +5,5 @@ pub mod Held
 pub mod Lists
 pub mod Members
 pub mod Moves
+pub mod Owners
 pub mod Places

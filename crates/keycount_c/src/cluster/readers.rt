@@ -2,14 +2,15 @@
 
 ghost use Rattle.std.specs.Prelude.{◌≡◌, ◌<◌, ◌≤◌, drop, map, nat_lt, length, unwrap_or};
 ghost use Rattle.bit_planes.specs.PartitionSet.{elements};
+ghost use Rattle.partitioner.specs.Name.{is_name};
 ghost use Rattle.partition_log.specs.Keys.{key_at};
 ghost use Rattle.partition_log.specs.Logs.{log_at};
 ghost use Rattle.commit_store.specs.Commits.{committed_at, count_at};
-ghost use Rattle.group_machine.specs.State.{assigned_of, granted_of, members as members_of, owner_of};
+ghost use Rattle.group_machine.specs.State.{assigned_of, granted_of, is_kept, member_named, members as members_of, name_of, owner_of};
 ghost use Rattle.group_machine.specs.NextSteps.{next_step};
 ghost use Rattle.group_machine.specs.Settled.{is_settled};
 ghost use Rattle.keycount_c.specs.Answers.{number_of_phase, number_of_step, number_of_truth};
-ghost use Rattle.keycount_c.specs.Calls.{Lists, ListsIf, ListsOf, Reads, ReadsIf, ReadsRecords};
+ghost use Rattle.keycount_c.specs.Calls.{Lists, ListsIf, ListsIfAny, ListsOf, Reads, ReadsIf, ReadsRecords};
 ghost use Rattle.keycount_c.specs.Held.{cluster_in};
 ghost use Rattle.keycount_c.specs.Lists.{IsCopied};
 ghost use Rattle.keycount_c.specs.Moves.{row_of_move};
@@ -18,7 +19,7 @@ use super::access::{put, take};
 use super::handle::ClusterHandle;
 use crate::answers::{BAD_ARGUMENT, DONE, NO_VALUE, UNKNOWN_MEMBER};
 use crate::lists::{MoveRow, list_bytes, list_elements, list_members, list_moves};
-use group_machine::{Move, NextStep, Phase};
+use group_machine::{Move, Name, NextStep, Phase};
 use partition_log::{LogRead, Logs};
 use std::alloc::Global;
 
@@ -133,6 +134,52 @@ pub extern "C" fn keycount_cluster_keys(
         return NO_VALUE;
     };
     *keys = held.logs().keys();
+    put(cluster, held);
+    DONE
+}
+
+/// Whether a member is static: 1, or 0. It is 0 if the member is not present.
+#[unsafe(no_mangle)]
+pub extern "C" fn keycount_cluster_kept(
+    alloc: Global,
+    cluster: &mut ClusterHandle,
+    member: u32,
+    kept: &mut u32,
+) -> u32
+    ensures answer { Reads (λ s. number_of_truth (is_kept s.group member))
+        (cluster_in cluster.old) kept.old result kept.new }
+    ensures same { cluster_in cluster.new ≡ cluster_in cluster.old }
+{
+    let Some(held) = take(cluster, alloc) else {
+        return NO_VALUE;
+    };
+    *kept = u32::from(held.is_kept(member));
+    put(cluster, held);
+    DONE
+}
+
+/// The newest member number that has this name, present or not, or 0. Not done: it is not a name
+/// (103).
+#[unsafe(no_mangle)]
+pub extern "C" fn keycount_cluster_member_named(
+    alloc: Global,
+    cluster: &mut ClusterHandle,
+    name: &[u8],
+    member: &mut u32,
+) -> u32
+    ensures answer { ReadsIf (λ s. is_name name.now)
+        (λ s. unwrap_or (member_named s.group name.now) 0)
+        (cluster_in cluster.old) member.old result member.new }
+    ensures same { cluster_in cluster.new ≡ cluster_in cluster.old }
+{
+    let Some(held) = take(cluster, alloc) else {
+        return NO_VALUE;
+    };
+    let Some(name) = Name::new(name) else {
+        put(cluster, held);
+        return BAD_ARGUMENT;
+    };
+    *member = held.member_named(&name).unwrap_or(0);
     put(cluster, held);
     DONE
 }
@@ -296,6 +343,31 @@ pub extern "C" fn keycount_cluster_assigned(
     };
     let answer = match held.assigned(member) {
         Some(set) => list_elements(set, partitions, count),
+        None => UNKNOWN_MEMBER,
+    };
+    put(cluster, held);
+    answer
+}
+
+/// The bytes of the name of a member number that was given out, present or not. Not done: none was
+/// (1); they have no room (104).
+#[unsafe(no_mangle)]
+pub extern "C" fn keycount_cluster_name(
+    alloc: Global,
+    cluster: &mut ClusterHandle,
+    member: u32,
+    name: &mut [u8],
+    count: &mut usize,
+) -> u32
+    ensures answer { ListsIfAny (λ s. name_of s.group member)
+        (cluster_in cluster.old) (name.old, count.old) result (name.new, count.new) }
+    ensures same { cluster_in cluster.new ≡ cluster_in cluster.old }
+{
+    let Some(held) = take(cluster, alloc) else {
+        return NO_VALUE;
+    };
+    let answer = match held.name(member) {
+        Some(text) => list_bytes(text.text(), name, count),
         None => UNKNOWN_MEMBER,
     };
     put(cluster, held);

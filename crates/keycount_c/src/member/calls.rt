@@ -1,13 +1,15 @@
 //! What a consumer does by itself.
 
-ghost use Rattle.std.specs.Prelude.{◌≡◌, None, unwrap_or};
-ghost use Rattle.consumer.specs.Consumer.{answered_by, base_of, joined_as, out_of_group, position_of};
-ghost use Rattle.keycount_c.specs.Consumers.{BeginsConsumer, Changes, FreesConsumer, ReadsConsumer, ReadsPending, reply_of};
+ghost use Rattle.std.specs.Prelude.{◌≡◌, None, Some, unwrap_or};
+ghost use Rattle.bit_planes.specs.PartitionSet.{elements};
+ghost use Rattle.consumer.specs.Consumer.{answered_by, base_of, given_up, joined_as, out_of_group, position_of};
+ghost use Rattle.keycount_c.specs.Consumers.{BeginsConsumer, Changes, FreesConsumer, ListsConsumer, ReadsConsumer, ReadsPending, held_by, reply_of};
 ghost use Rattle.keycount_c.specs.Held.{consumer_in};
 
 use super::access::{put, take};
 use super::handle::ConsumerHandle;
 use crate::answers::{BAD_ARGUMENT, DONE, HAS_VALUE, MEMORY, NO_VALUE, number_of};
+use crate::lists::list_elements;
 use consumer::Consumer;
 use lane_words::{MOST_PARTITIONS, Refusal};
 use std::alloc::Global;
@@ -91,6 +93,19 @@ pub extern "C" fn keycount_consumer_drop_all(alloc: Global, consumer: &mut Consu
     DONE
 }
 
+/// It drops what it holds and is not assigned, as by `Consumer::give_up`.
+#[unsafe(no_mangle)]
+pub extern "C" fn keycount_consumer_give_up(alloc: Global, consumer: &mut ConsumerHandle) -> u32
+    ensures { Changes given_up (consumer_in consumer.old) result (consumer_in consumer.new) }
+{
+    let Some(mut held) = take(consumer, alloc) else {
+        return NO_VALUE;
+    };
+    held.give_up();
+    put(consumer, held);
+    DONE
+}
+
 /// Its member number, or 0 if it is out of the group.
 #[unsafe(no_mangle)]
 pub extern "C" fn keycount_consumer_member(
@@ -108,6 +123,46 @@ pub extern "C" fn keycount_consumer_member(
     *member = held.member().unwrap_or(0);
     put(consumer, held);
     DONE
+}
+
+/// The generation of its last lease; 0 before the first one, and if it is out of the group.
+#[unsafe(no_mangle)]
+pub extern "C" fn keycount_consumer_generation(
+    alloc: Global,
+    consumer: &mut ConsumerHandle,
+    generation: &mut u32,
+) -> u32
+    ensures answer { ReadsConsumer (λ c. c.generation) (consumer_in consumer.old)
+        generation.old result generation.new }
+    ensures same { consumer_in consumer.new ≡ consumer_in consumer.old }
+{
+    let Some(held) = take(consumer, alloc) else {
+        return NO_VALUE;
+    };
+    *generation = held.generation();
+    put(consumer, held);
+    DONE
+}
+
+/// The partitions that it holds, in rising order. Not done: the handle is empty (101); they have no
+/// room (104).
+#[unsafe(no_mangle)]
+pub extern "C" fn keycount_consumer_holding(
+    alloc: Global,
+    consumer: &mut ConsumerHandle,
+    partitions: &mut [u32],
+    count: &mut usize,
+) -> u32
+    ensures answer { ListsConsumer (λ c. elements (held_by c)) (consumer_in consumer.old)
+        (partitions.old, count.old) result (partitions.new, count.new) }
+    ensures same { consumer_in consumer.new ≡ consumer_in consumer.old }
+{
+    let Some(held) = take(consumer, alloc) else {
+        return NO_VALUE;
+    };
+    let answer = list_elements(held.holding(), partitions, count);
+    put(consumer, held);
+    answer
 }
 
 /// The offset of the next record of a partition that it reads; 0 if it does not hold it.
@@ -174,16 +229,7 @@ pub extern "C" fn keycount_consumer_pending(
     let Some(held) = take(consumer, alloc) else {
         return NO_VALUE;
     };
-    let answer = match held.sendable(partition) {
-        Ok(()) => {
-            *member = held.member().unwrap_or(0);
-            *generation = held.generation();
-            *from = held.base(partition);
-            *to = held.position(partition);
-            DONE
-        }
-        Err(refusal) => number_of(refusal),
-    };
+    let answer = pending(&held, partition, member, generation, from, to);
     put(consumer, held);
     answer
 }
@@ -207,6 +253,31 @@ pub extern "C" fn keycount_consumer_answered(
     held.answered(partition, reply_of(answer, committed));
     put(consumer, held);
     DONE
+}
+
+/// The commit of all pending records of a partition.
+fn pending(
+    consumer: &Consumer,
+    partition: u32,
+    member: &mut u32,
+    generation: &mut u32,
+    from: &mut u32,
+    to: &mut u32,
+) -> u32
+    ensures { ReadsPending partition (Some consumer.now)
+        (member.old, generation.old, from.old, to.old) result
+        (member.new, generation.new, from.new, to.new) }
+{
+    match consumer.sendable(partition) {
+        Ok(()) => {
+            *member = consumer.member().unwrap_or(0);
+            *generation = consumer.generation();
+            *from = consumer.base(partition);
+            *to = consumer.position(partition);
+            DONE
+        }
+        Err(refusal) => number_of(refusal),
+    }
 }
 
 /// The reply that a commit got. Which other refusal it was makes no difference to a consumer.
