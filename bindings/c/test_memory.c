@@ -106,7 +106,7 @@ static int as_held(keycount_consumer *m, const struct held *before) {
     return memcmp(&now, before, sizeof now) == 0;
 }
 
-/* A consumer begins, takes its lease, and rejoins: with its cluster, or neither. */
+/* A consumer begins, takes its lease, rejoins and is lost: both it and its cluster, or neither. */
 static void a_consumer_is_as_it_was(void) {
     keycount_cluster c = KEYCOUNT_NONE;
     keycount_consumer m = KEYCOUNT_NONE;
@@ -145,6 +145,14 @@ static void a_consumer_is_as_it_was(void) {
     had = held(&m);
     EXPECT(had.member == a && had.generation == 2 && had.count == 3);
     EACH_FAILS(keycount_consumer_drop_all(&m), as_held(&m, &had));
+
+    /* C alone has joined this rebalance: once the others are lost, it is complete. */
+    EXPECT(keycount_cluster_join(&c, (const uint8_t *)"C", 1, &p) == KEYCOUNT_DONE);
+    EXPECT(keycount_cluster_lose(&c, b) == KEYCOUNT_DONE);
+    before = look(&c);
+    made = refusals;
+    EACH_FAILS(keycount_cluster_lose(&c, a), same(&c, &before));
+    EXPECT(refusals > made);
     EXPECT(keycount_consumer_free(&m) == KEYCOUNT_DONE);
     EXPECT(keycount_cluster_free(&c) == KEYCOUNT_DONE);
 }
