@@ -67,7 +67,8 @@ fn a_warning_is_no_fault(rt: HostRuntime) {
 
 #[test]
 fn a_bad_line_has_a_row(rt: HostRuntime) {
-    let wanted = b"input,code,record,line,byte,problem\nscript,22,,2,7,no such line: 'jion B'\n";
+    let wanted = b"input,code,record,line,byte,problem\n\
+        script,22,,2,7,no such line: 'jion B'; did you mean 'join NAME'?\n";
     let checked = checked_both(rt.alloc(), b"join A\njion B\n", &SCRIPT, wanted);
     assert_eq!(rt; checked, (Ok(true), true));
 }
