@@ -14,6 +14,7 @@ use std::sync::Wait;
 use std::thread::Threads;
 
 /// A file at the path `keys`, another at every other path but `missing`, and standard input.
+#[derive(Drop)]
 struct Memory<'a> {
     keys: &'a [u8],
     other: &'a [u8],
@@ -21,6 +22,7 @@ struct Memory<'a> {
 }
 
 /// Watches nothing.
+#[derive(Drop)]
 struct Nobody;
 
 impl Watcher for Nobody {
@@ -62,20 +64,21 @@ impl<'a> System for Memory<'a> {
 }
 
 /// What a program did: the texts of its two streams, and its status.
-struct Done {
+#[derive(Drop)]
+struct Outcome {
     out: Page,
     err: Page,
     status: u8,
 }
 
 /// What the program does with words, where standard output fails after so many writes.
-fn done<R: Threads + Wait + RandomSource + Sync>(
+fn outcome_of<R: Threads + Wait + RandomSource + Sync>(
     rt: &R,
     alloc: Global,
     words: &[&str],
     input: &[u8],
     writes: u64,
-) -> Done {
+) -> Outcome {
     let system = Memory {
         keys: FILE,
         other: SCRIPT,
@@ -84,7 +87,7 @@ fn done<R: Threads + Wait + RandomSource + Sync>(
     let mut out = Page::new(alloc, writes);
     let mut err = Page::new(alloc, 100);
     let status = run_program(rt, alloc, &system, Ok(words), &mut out, &mut err);
-    Done { out, err, status }
+    Outcome { out, err, status }
 }
 
 /// The script, and as a file the keys of one record too few.
@@ -104,7 +107,13 @@ const NO_CODE: &[u8] =
     b"error: no refusal or fault has this number; keycount explain lists all of them\n";
 
 /// Words and standard input, with both texts and the status.
-type Case = (&'static [&'static str], &'static [u8], &'static [u8], &'static [u8], u8);
+type Case = (
+    &'static [&'static str],
+    &'static [u8],
+    &'static [u8],
+    &'static [u8],
+    u8,
+);
 
 const CASES: [Case; 17] = [
     (&["count", "keys"], b"", COUNTED, b"", 0),
@@ -112,13 +121,37 @@ const CASES: [Case; 17] = [
     (&["replay", "keys", "script"], b"", REPLAYED, b"", 0),
     (&["replay", "-", "script"], FILE, REPLAYED, b"", 0),
     (&["replay", "keys", "-"], SCRIPT, REPLAYED, b"", 0),
-    (&["replay", "script", "keys"], b"", b"", b"fault 22 at line 1\n", 1),
+    (
+        &["replay", "script", "keys"],
+        b"",
+        b"",
+        b"fault 22 at line 1\n",
+        1,
+    ),
     (&["count", "missing"], b"", b"", b"fault 25\n", 3),
     (&["replay", "keys", "missing"], b"", b"", b"fault 25\n", 3),
     (&["run", "missing", "script"], b"", b"", b"fault 25\n", 3),
-    (&["count", "-"], b"a,b\nc\n", b"", b"fault 24 at record 2\n", 1),
-    (&["count", "--column", "2", "keys"], b"", b"", b"fault 23 at record 1\n", 1),
-    (&["place", "--given", "2", "-"], b"4,1\n", b"record,key,given,place\n", b"", 0),
+    (
+        &["count", "-"],
+        b"a,b\nc\n",
+        b"",
+        b"fault 24 at record 2\n",
+        1,
+    ),
+    (
+        &["count", "--column", "2", "keys"],
+        b"",
+        b"",
+        b"fault 23 at record 1\n",
+        1,
+    ),
+    (
+        &["place", "--given", "2", "-"],
+        b"4,1\n",
+        b"record,key,given,place\n",
+        b"",
+        0,
+    ),
     (
         &["place", "--given", "2", "-"],
         b"4,1\nabc,x\n",
@@ -134,14 +167,20 @@ const CASES: [Case; 17] = [
         1,
     ),
     (&["trace", "-", "-"], FILE, b"", TWICE, 2),
-    (&["place", "--keys", "--given", "2", "keys"], b"", b"", TWO_TABLES, 2),
+    (
+        &["place", "--keys", "--given", "2", "keys"],
+        b"",
+        b"",
+        TWO_TABLES,
+        2,
+    ),
     (&["explain", "34"], b"", b"", NO_CODE, 2),
 ];
 
 /// Whether the program does this.
 fn does<R: Threads + Wait + RandomSource + Sync>(rt: &R, alloc: Global, case: &Case) -> bool {
     let (words, input, out, err, status) = *case;
-    let done = done(rt, alloc, words, input, 1000);
+    let done = outcome_of(rt, alloc, words, input, 1000);
     done.status == status && done.out.text.as_slice() == out && done.err.text.as_slice() == err
 }
 
@@ -162,10 +201,10 @@ fn words_are_done(rt: HostRuntime) {
 
 /// Whether a count ends so where standard output takes two writes of four bytes.
 fn cut<R: Threads + Wait + RandomSource + Sync>(rt: &R, alloc: Global) -> bool {
-    let done = done(rt, alloc, &["count", "keys"], b"", 2);
+    let done = outcome_of(rt, alloc, &["count", "keys"], b"", 2);
     done.status == 3
-        && done.out.text.as_slice() == b"count,21"
-        && done.err.text.as_slice() == b"fault 26\n"
+        && done.out.text.as_slice() == b"count,21".as_slice()
+        && done.err.text.as_slice() == b"fault 26\n".as_slice()
 }
 
 #[test]
@@ -175,8 +214,8 @@ fn a_failed_write_is_a_fault(rt: HostRuntime) {
 
 /// Whether help goes to standard output, and a usage error to standard error.
 fn streams<R: Threads + Wait + RandomSource + Sync>(rt: &R, alloc: Global) -> (bool, bool) {
-    let help = done(rt, alloc, &["count", "--help"], b"", 10000);
-    let bad = done(rt, alloc, &["count"], b"", 10000);
+    let help = outcome_of(rt, alloc, &["count", "--help"], b"", 10000);
+    let bad = outcome_of(rt, alloc, &["count"], b"", 10000);
     (
         help.status == 0 && help.out.text.len() > 100 && help.err.text.is_empty(),
         bad.status == 2 && bad.out.text.is_empty() && bad.err.text.len() > 20,
@@ -197,11 +236,26 @@ fn without_words<R: Threads + Wait + RandomSource + Sync>(rt: &R, alloc: Global)
     };
     let mut out = Page::new(alloc, 100);
     let (mut text, mut memory) = (Page::new(alloc, 100), Page::new(alloc, 100));
-    let not_text = run_program(rt, alloc, &system, Err(NoWords::NotText), &mut out, &mut text);
-    let no_memory = run_program(rt, alloc, &system, Err(NoWords::Memory), &mut out, &mut memory);
+    let not_text = run_program(
+        rt,
+        alloc,
+        &system,
+        Err(NoWords::NotText),
+        &mut out,
+        &mut text,
+    );
+    let no_memory = run_program(
+        rt,
+        alloc,
+        &system,
+        Err(NoWords::Memory),
+        &mut out,
+        &mut memory,
+    );
     (not_text, no_memory) == (2, 3)
-        && text.text.as_slice() == b"error: a word of the command line is not UTF-8 text\n"
-        && memory.text.as_slice() == b"fault 90\n"
+        && text.text.as_slice()
+            == b"error: a word of the command line is not UTF-8 text\n".as_slice()
+        && memory.text.as_slice() == b"fault 90\n".as_slice()
         && out.text.is_empty()
 }
 
