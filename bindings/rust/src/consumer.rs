@@ -1,5 +1,5 @@
 use crate::ffi::{self, Handle};
-use crate::{done, list, read, Cluster, Refusal, Step};
+use crate::{Cluster, Refusal, Step, done, list, read};
 use std::ptr::null_mut;
 
 /// A commit of all pending records of a partition, to be sent.

@@ -18,7 +18,7 @@ pub struct MoveRow {
     pub holder: u32,
 }
 
-extern "C" {
+unsafe extern "C" {
     pub fn keycount_cluster_new(
         cluster: *mut Handle,
         partitions: *const u32,
