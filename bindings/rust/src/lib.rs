@@ -65,6 +65,13 @@ pub struct Lease {
 
 impl Lease {
     /// The partitions that the member is assigned, in rising order.
+    ///
+    /// ```
+    /// use keycount::Lease;
+    ///
+    /// let lease = Lease { generation: 1, offsets: vec![(0, 5), (3, 0)] };
+    /// assert_eq!(lease.partitions(), [0, 3]);
+    /// ```
     pub fn partitions(&self) -> Vec<u32> {
         self.offsets
             .iter()
@@ -241,6 +248,15 @@ impl Cluster {
     /// `seed`: random bytes, where keys come from others.
     ///
     /// Refused: `BadArgument`, `OutOfMemory`.
+    ///
+    /// ```
+    /// use keycount::Cluster;
+    ///
+    /// // The first topic has the partitions 0 to 3, the second 4 and 5.
+    /// let mut cluster = Cluster::new(&[4, 2], &[7; 32])?;
+    /// assert_eq!(cluster.partitions(), 6);
+    /// # Ok::<(), keycount::Refusal>(())
+    /// ```
     pub fn new(partitions: &[u32], seed: &[u8; 32]) -> Result<Cluster, Refusal> {
         let mut handle = Handle { at: null_mut() };
         let code = unsafe {
@@ -259,6 +275,15 @@ impl Cluster {
     /// murmur2 gives as in Kafka's Java client, and its offset there.
     ///
     /// Refused: `KeyTooLong`, `LogFull`, `BadArgument` (no such topic), `OutOfMemory`.
+    ///
+    /// ```
+    /// # use keycount::Cluster;
+    /// # let mut cluster = Cluster::new(&[4], &[7; 32])?;
+    /// assert_eq!(cluster.append(0, b"foobar")?, (2, 0));
+    /// // A key's records are in one partition, one after another.
+    /// assert_eq!(cluster.append(0, b"foobar")?, (2, 1));
+    /// # Ok::<(), keycount::Refusal>(())
+    /// ```
     pub fn append(&mut self, topic: u32, key: &[u8]) -> Result<(u32, u32), Refusal> {
         let (mut partition, mut offset) = (0, 0);
         let code = unsafe {
@@ -297,6 +322,16 @@ impl Cluster {
     }
 
     /// The same for a static member, whose seat another process can take over by name.
+    ///
+    /// ```
+    /// # use keycount::{Cluster, Refusal};
+    /// # let mut cluster = Cluster::new(&[4], &[7; 32])?;
+    /// let member = cluster.join_static("a")?;
+    /// assert!(cluster.is_kept(member));
+    /// // Another process takes over its seat, and does not join.
+    /// assert_eq!(cluster.join_static("a"), Err(Refusal::NameUsed));
+    /// # Ok::<(), keycount::Refusal>(())
+    /// ```
     pub fn join_static(&mut self, name: &str) -> Result<u32, Refusal> {
         let mut member = 0;
         let code = unsafe {
@@ -314,6 +349,18 @@ impl Cluster {
     /// a rebalance. The new one syncs next; the old one is no longer present.
     ///
     /// Refused: `NotKept`, `TooManyMembers`, `BadArgument`, `OutOfMemory`.
+    ///
+    /// ```
+    /// # use keycount::Cluster;
+    /// # let mut cluster = Cluster::new(&[4], &[7; 32])?;
+    /// cluster.join_static("a")?;
+    /// let new = cluster.take_over("a")?;
+    /// // It has what the old one had, in the same generation.
+    /// assert_eq!(cluster.members(), [new]);
+    /// assert_eq!(cluster.granted(new)?, [0, 1, 2, 3]);
+    /// assert_eq!(cluster.generation(), 1);
+    /// # Ok::<(), keycount::Refusal>(())
+    /// ```
     pub fn take_over(&mut self, name: &str) -> Result<u32, Refusal> {
         let mut member = 0;
         let code = unsafe {
@@ -332,6 +379,21 @@ impl Cluster {
     ///
     /// Refused: `UnknownMember`, `StaleGeneration`, `AlreadyJoined`, `SyncFirst`, `NothingToGive`,
     /// `ClaimDiffers`, `GenerationsOver`, `BadArgument` (no such partition), `OutOfMemory`.
+    ///
+    /// ```
+    /// # use keycount::Cluster;
+    /// # let mut cluster = Cluster::new(&[4], &[7; 32])?;
+    /// # let first = cluster.join("a")?;
+    /// # let lease = cluster.sync(first)?;
+    /// # cluster.join("b")?;
+    /// # cluster.rejoin(first, lease.generation, &lease.partitions())?;
+    /// // Two of the first's four partitions are to go to the second.
+    /// let lease = cluster.sync(first)?;
+    /// assert_eq!(cluster.granted(first)?, [0, 1, 2, 3]);
+    /// cluster.rejoin(first, lease.generation, &lease.partitions())?;
+    /// assert_eq!(cluster.granted(first)?, [0, 1]);
+    /// # Ok::<(), keycount::Refusal>(())
+    /// ```
     pub fn rejoin(&mut self, member: u32, generation: u32, claim: &[u32]) -> Result<(), Refusal> {
         let code = unsafe {
             ffi::keycount_cluster_rejoin(
@@ -348,6 +410,17 @@ impl Cluster {
     /// A member takes its lease of the present generation.
     ///
     /// Refused: `UnknownMember`, `RebalanceInProgress`, `OutOfMemory`.
+    ///
+    /// ```
+    /// # use keycount::Cluster;
+    /// # let mut cluster = Cluster::new(&[4], &[7; 32])?;
+    /// let member = cluster.join("a")?;
+    /// let lease = cluster.sync(member)?;
+    /// assert_eq!(lease.generation, 1);
+    /// // Nothing is committed, so it reads each partition from 0 on.
+    /// assert_eq!(lease.offsets, [(0, 0), (1, 0), (2, 0), (3, 0)]);
+    /// # Ok::<(), keycount::Refusal>(())
+    /// ```
     pub fn sync(&mut self, member: u32) -> Result<Lease, Refusal> {
         let room = self.partitions() as usize;
         let (mut partitions, mut offsets) = (vec![0; room], vec![0; room]);
@@ -377,6 +450,15 @@ impl Cluster {
     /// A member leaves, and its partitions go to others.
     ///
     /// Refused: `UnknownMember`, `GenerationsOver`, `OutOfMemory`.
+    ///
+    /// ```
+    /// # use keycount::Cluster;
+    /// # let mut cluster = Cluster::new(&[4], &[7; 32])?;
+    /// let (first, second) = (cluster.join("a")?, cluster.join("b")?);
+    /// cluster.leave(first)?;
+    /// assert_eq!(cluster.granted(second)?, [0, 1, 2, 3]);
+    /// # Ok::<(), keycount::Refusal>(())
+    /// ```
     pub fn leave(&mut self, member: u32) -> Result<(), Refusal> {
         done(
             unsafe { ffi::keycount_cluster_leave(&mut self.handle, member) },
@@ -385,6 +467,18 @@ impl Cluster {
     }
 
     /// A member is lost, which is the same to the group.
+    ///
+    /// ```
+    /// # use keycount::{Cluster, Refusal};
+    /// # let mut cluster = Cluster::new(&[4], &[7; 32])?;
+    /// # let member = cluster.join("a")?;
+    /// # let generation = cluster.sync(member)?.generation;
+    /// cluster.lose(member)?;
+    /// // If it is alive after all, its commits are refused.
+    /// let reply = cluster.commit(member, generation, 0, 0, &[0]);
+    /// assert_eq!(reply, Err(Refusal::UnknownMember));
+    /// # Ok::<(), keycount::Refusal>(())
+    /// ```
     pub fn lose(&mut self, member: u32) -> Result<(), Refusal> {
         done(
             unsafe { ffi::keycount_cluster_lose(&mut self.handle, member) },
@@ -442,6 +536,18 @@ impl Cluster {
     }
 
     /// What a member does next. One that is not present is told to sync, which is then refused.
+    ///
+    /// ```
+    /// # use keycount::{Cluster, Step};
+    /// # let mut cluster = Cluster::new(&[4], &[7; 32])?;
+    /// let member = cluster.join("a")?;
+    /// assert_eq!(cluster.next_step(member), Step::Sync);
+    /// cluster.sync(member)?;
+    /// assert_eq!(cluster.next_step(member), Step::Read);
+    /// cluster.join("b")?;
+    /// assert_eq!(cluster.next_step(member), Step::Rejoin);
+    /// # Ok::<(), keycount::Refusal>(())
+    /// ```
     pub fn next_step(&mut self, member: u32) -> Step {
         let step = |out: &mut u32| unsafe {
             ffi::keycount_cluster_next_step(&mut self.handle, member, out)
@@ -454,6 +560,18 @@ impl Cluster {
     }
 
     /// The phase of the group.
+    ///
+    /// ```
+    /// # use keycount::{Cluster, Phase};
+    /// # let mut cluster = Cluster::new(&[4], &[7; 32])?;
+    /// assert_eq!(cluster.phase(), Phase::Empty);
+    /// cluster.join("a")?;
+    /// assert_eq!(cluster.phase(), Phase::Stable);
+    /// // The first is to rejoin.
+    /// cluster.join("b")?;
+    /// assert_eq!(cluster.phase(), Phase::Preparing);
+    /// # Ok::<(), keycount::Refusal>(())
+    /// ```
     pub fn phase(&mut self) -> Phase {
         match read(|out| unsafe { ffi::keycount_cluster_phase(&mut self.handle, out) }) {
             0 => Phase::Empty,
@@ -463,26 +581,55 @@ impl Cluster {
     }
 
     /// The generation, 0 before the first.
+    ///
+    /// ```
+    /// # use keycount::Cluster;
+    /// # let mut cluster = Cluster::new(&[4], &[7; 32])?;
+    /// assert_eq!(cluster.generation(), 0);
+    /// cluster.join("a")?;
+    /// assert_eq!(cluster.generation(), 1);
+    /// # Ok::<(), keycount::Refusal>(())
+    /// ```
     pub fn generation(&mut self) -> u32 {
         read(|out| unsafe { ffi::keycount_cluster_generation(&mut self.handle, out) })
     }
 
     /// Whether the group is stable and no member has a partition to give up.
+    ///
+    /// ```
+    /// # use keycount::Cluster;
+    /// # let mut cluster = Cluster::new(&[4], &[7; 32])?;
+    /// cluster.join("a")?;
+    /// assert!(cluster.is_settled());
+    /// // The first has yet to give up half of its partitions.
+    /// cluster.join("b")?;
+    /// assert!(!cluster.is_settled());
+    /// # Ok::<(), keycount::Refusal>(())
+    /// ```
     pub fn is_settled(&mut self) -> bool {
         read(|out| unsafe { ffi::keycount_cluster_settled(&mut self.handle, out) }) == 1
     }
 
-    /// The number of partitions of all topics.
+    /// The number of partitions of all topics. For an example, see [`new`](Cluster::new).
     pub fn partitions(&mut self) -> u32 {
         read(|out| unsafe { ffi::keycount_cluster_partitions(&mut self.handle, out) })
     }
 
-    /// The number of different keys.
+    /// The number of different keys. For an example, see [`key`](Cluster::key).
     pub fn keys(&mut self) -> u32 {
         read(|out| unsafe { ffi::keycount_cluster_keys(&mut self.handle, out) })
     }
 
     /// The member that a partition is granted to, if there is one.
+    ///
+    /// ```
+    /// # use keycount::Cluster;
+    /// # let mut cluster = Cluster::new(&[4], &[7; 32])?;
+    /// assert_eq!(cluster.owner(2), None);
+    /// let member = cluster.join("a")?;
+    /// assert_eq!(cluster.owner(2), Some(member));
+    /// # Ok::<(), keycount::Refusal>(())
+    /// ```
     pub fn owner(&mut self, partition: u32) -> Option<u32> {
         match read(|out| unsafe { ffi::keycount_cluster_owner(&mut self.handle, partition, out) }) {
             0 => None,
@@ -491,6 +638,15 @@ impl Cluster {
     }
 
     /// The name of a member number that was given out, present or not. Refused: `UnknownMember`.
+    ///
+    /// ```
+    /// # use keycount::Cluster;
+    /// # let mut cluster = Cluster::new(&[4], &[7; 32])?;
+    /// let member = cluster.join("a")?;
+    /// cluster.leave(member)?;
+    /// assert_eq!(cluster.name(member)?, "a");
+    /// # Ok::<(), keycount::Refusal>(())
+    /// ```
     pub fn name(&mut self, member: u32) -> Result<String, Refusal> {
         let name = list(|name: &mut [u8], count| unsafe {
             let handle = &mut self.handle;
@@ -501,6 +657,16 @@ impl Cluster {
 
     /// The newest member number with a name, present or not, if there is one. Refused:
     /// `BadArgument`.
+    ///
+    /// ```
+    /// # use keycount::Cluster;
+    /// # let mut cluster = Cluster::new(&[4], &[7; 32])?;
+    /// cluster.join_static("a")?;
+    /// let new = cluster.take_over("a")?;
+    /// assert_eq!(cluster.member_named("a")?, Some(new));
+    /// assert_eq!(cluster.member_named("b")?, None);
+    /// # Ok::<(), keycount::Refusal>(())
+    /// ```
     pub fn member_named(&mut self, name: &str) -> Result<Option<u32>, Refusal> {
         let mut member = 0;
         let code = unsafe {
@@ -515,11 +681,29 @@ impl Cluster {
     }
 
     /// Whether a member is present and static.
+    ///
+    /// ```
+    /// # use keycount::Cluster;
+    /// # let mut cluster = Cluster::new(&[4], &[7; 32])?;
+    /// let (kept, other) = (cluster.join_static("a")?, cluster.join("b")?);
+    /// assert!(cluster.is_kept(kept));
+    /// assert!(!cluster.is_kept(other));
+    /// # Ok::<(), keycount::Refusal>(())
+    /// ```
     pub fn is_kept(&mut self, member: u32) -> bool {
         read(|out| unsafe { ffi::keycount_cluster_kept(&mut self.handle, member, out) }) == 1
     }
 
     /// The offset of a partition's next record. Refused: `BadArgument`.
+    ///
+    /// ```
+    /// # use keycount::Cluster;
+    /// # let mut cluster = Cluster::new(&[4], &[7; 32])?;
+    /// let (partition, offset) = cluster.append(0, b"k")?;
+    /// assert_eq!(offset, 0);
+    /// assert_eq!(cluster.end(partition)?, 1);
+    /// # Ok::<(), keycount::Refusal>(())
+    /// ```
     pub fn end(&mut self, partition: u32) -> Result<u32, Refusal> {
         let mut offset = 0;
         let code = unsafe { ffi::keycount_cluster_end(&mut self.handle, partition, &mut offset) };
@@ -527,6 +711,21 @@ impl Cluster {
     }
 
     /// The committed offset of a partition. Refused: `BadArgument`.
+    ///
+    /// ```
+    /// # use keycount::Cluster;
+    /// # let mut cluster = Cluster::new(&[1], &[7; 32])?;
+    /// # for key in [b"a", b"b", b"a"] {
+    /// #     cluster.append(0, key)?;
+    /// # }
+    /// # let member = cluster.join("w")?;
+    /// # let generation = cluster.sync(member)?.generation;
+    /// cluster.commit(member, generation, 0, 0, &[0, 1])?;
+    /// // One of three records is left.
+    /// assert_eq!(cluster.committed(0)?, 2);
+    /// assert_eq!(cluster.end(0)?, 3);
+    /// # Ok::<(), keycount::Refusal>(())
+    /// ```
     pub fn committed(&mut self, partition: u32) -> Result<u32, Refusal> {
         let mut offset = 0;
         let code =
@@ -535,6 +734,20 @@ impl Cluster {
     }
 
     /// How often the key with this number is among the committed records. Refused: `BadArgument`.
+    ///
+    /// ```
+    /// # use keycount::Cluster;
+    /// # let mut cluster = Cluster::new(&[1], &[7; 32])?;
+    /// # for key in [b"a", b"b", b"a"] {
+    /// #     cluster.append(0, key)?;
+    /// # }
+    /// # let member = cluster.join("w")?;
+    /// # let generation = cluster.sync(member)?.generation;
+    /// // The first key occurs twice, the second once.
+    /// cluster.commit(member, generation, 0, 0, &[0, 1, 0])?;
+    /// assert_eq!((cluster.count(0)?, cluster.count(1)?), (2, 1));
+    /// # Ok::<(), keycount::Refusal>(())
+    /// ```
     pub fn count(&mut self, number: u32) -> Result<u64, Refusal> {
         let mut count = 0;
         let code = unsafe { ffi::keycount_cluster_count(&mut self.handle, number, &mut count) };
@@ -543,6 +756,17 @@ impl Cluster {
 
     /// The key with this number. Keys are numbered from 0, in the order in which they were first
     /// appended. Refused: `BadArgument`.
+    ///
+    /// ```
+    /// # use keycount::Cluster;
+    /// # let mut cluster = Cluster::new(&[4], &[7; 32])?;
+    /// for key in [b"a", b"b", b"a"] {
+    ///     cluster.append(0, key)?;
+    /// }
+    /// assert_eq!(cluster.keys(), 2);
+    /// assert_eq!(cluster.key(1)?, b"b");
+    /// # Ok::<(), keycount::Refusal>(())
+    /// ```
     pub fn key(&mut self, number: u32) -> Result<Vec<u8>, Refusal> {
         list(|key: &mut [u8], count| unsafe {
             ffi::keycount_cluster_key(&mut self.handle, number, key.as_mut_ptr(), key.len(), count)
@@ -550,6 +774,16 @@ impl Cluster {
     }
 
     /// The present members, in rising order.
+    ///
+    /// ```
+    /// # use keycount::Cluster;
+    /// # let mut cluster = Cluster::new(&[4], &[7; 32])?;
+    /// let (first, second) = (cluster.join("a")?, cluster.join("b")?);
+    /// assert_eq!(cluster.members(), [first, second]);
+    /// cluster.lose(first)?;
+    /// assert_eq!(cluster.members(), [second]);
+    /// # Ok::<(), keycount::Refusal>(())
+    /// ```
     pub fn members(&mut self) -> Vec<u32> {
         list(|out: &mut [u32], count| unsafe {
             ffi::keycount_cluster_members(&mut self.handle, out.as_mut_ptr(), out.len(), count)
@@ -558,6 +792,18 @@ impl Cluster {
     }
 
     /// The moves so far, in order, but for the first `from`.
+    ///
+    /// ```
+    /// # use keycount::{Cluster, Move};
+    /// # let mut cluster = Cluster::new(&[1], &[7; 32])?;
+    /// let first = cluster.join("a")?;
+    /// let second = cluster.join("b")?;
+    /// cluster.leave(first)?;
+    /// // The first had been granted the only partition before.
+    /// let moved = Move { generation: 2, partition: 0, last: Some(first), holder: second };
+    /// assert_eq!(cluster.moves(1), [moved]);
+    /// # Ok::<(), keycount::Refusal>(())
+    /// ```
     pub fn moves(&mut self, from: usize) -> Vec<Move> {
         list(|out: &mut [MoveRow], count| unsafe {
             let handle = &mut self.handle;
@@ -576,6 +822,19 @@ impl Cluster {
 
     /// The partitions that a member may read and commit, in rising order. Refused:
     /// `UnknownMember`.
+    ///
+    /// ```
+    /// # use keycount::Cluster;
+    /// # let mut cluster = Cluster::new(&[4], &[7; 32])?;
+    /// # let first = cluster.join("a")?;
+    /// # let lease = cluster.sync(first)?;
+    /// cluster.join("b")?;
+    /// cluster.rejoin(first, lease.generation, &lease.partitions())?;
+    /// // Until the first gives up 2 and 3, it may read on.
+    /// assert_eq!(cluster.granted(first)?, [0, 1, 2, 3]);
+    /// assert_eq!(cluster.assigned(first)?, [0, 1]);
+    /// # Ok::<(), keycount::Refusal>(())
+    /// ```
     pub fn granted(&mut self, member: u32) -> Result<Vec<u32>, Refusal> {
         list(|out: &mut [u32], count| unsafe {
             let handle = &mut self.handle;
@@ -583,7 +842,8 @@ impl Cluster {
         })
     }
 
-    /// The partitions of a member's next lease, in rising order. Refused: `UnknownMember`.
+    /// The partitions of a member's next lease, in rising order. For an example, see
+    /// [`granted`](Cluster::granted). Refused: `UnknownMember`.
     pub fn assigned(&mut self, member: u32) -> Result<Vec<u32>, Refusal> {
         list(|out: &mut [u32], count| unsafe {
             let handle = &mut self.handle;
@@ -593,6 +853,17 @@ impl Cluster {
 
     /// At most `most` records of a partition from an offset on, as key numbers. Refused:
     /// `BadArgument`, where there is no such partition or the offset is past its end.
+    ///
+    /// ```
+    /// # use keycount::Cluster;
+    /// # let mut cluster = Cluster::new(&[1], &[7; 32])?;
+    /// for key in [b"a", b"b", b"a"] {
+    ///     cluster.append(0, key)?;
+    /// }
+    /// assert_eq!(cluster.read(0, 0, 2)?, [0, 1]);
+    /// assert_eq!(cluster.read(0, 2, 2)?, [0]);
+    /// # Ok::<(), keycount::Refusal>(())
+    /// ```
     pub fn read(&mut self, partition: u32, offset: u32, most: usize) -> Result<Vec<u32>, Refusal> {
         let mut keys = vec![0; most];
         let mut count = 0;

@@ -57,6 +57,12 @@ pub enum Refusal {
 
 impl Refusal {
     /// The number of the refusal, as in `keycount explain`.
+    ///
+    /// ```
+    /// use keycount::Refusal;
+    ///
+    /// assert_eq!(Refusal::OffsetMismatch { committed: 3 }.code(), 11);
+    /// ```
     pub fn code(self) -> u32 {
         match self {
             Refusal::UnknownMember => 1,
