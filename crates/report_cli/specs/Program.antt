@@ -47,8 +47,7 @@ Prints text old new =
     ⊎ (AppendsPrefix old.written new.written text × (new.failures ≡ old.failures + 1))
 
 -- ---- a job
--- what a job with this answer, which found nothing, writes of the bytes that paths stand for: its
--- report
+-- what a job with this answer writes, given the bytes that paths stand for: its report
 abbrev pub WritesOf : (List ℕ → Option (List ℕ)) → Job → Option (List ℕ) → Option (List ℕ)
     → Result Bool Refusal → Type 0
 WritesOf named (Count file options) old new answer =
@@ -100,7 +99,7 @@ HasReadFault {F} {I} CannotOpen file_failures input_failures =
 
 -- what a job writes to standard output, and its answer: what it found, or its fault. It fails with
 -- `ReadFailed` only if a read failed
-pub record Answers (named : List ℕ → Option (List ℕ)) (ReadFault : Type 0) (job : Job)
+pub record HasAnswer (named : List ℕ → Option (List ℕ)) (ReadFault : Type 0) (job : Job)
     (out out2 : Stream) (answer : Result Bool Refusal) : Type 0 where
   pub writes : WritesOf named job out.written out2.written answer
   pub found : IfOk answer (FindsOf named job)
@@ -120,7 +119,7 @@ abbrev pub DoesJob : (List ℕ → Option (List ℕ)) → Type 0 → Job → Str
     → ℕ → Type 0
 DoesJob named ReadFault job out out2 err err2 status =
     (answer : Result Bool Refusal)
-    × Answers named ReadFault job out out2 answer × Ends answer err err2 status
+    × HasAnswer named ReadFault job out out2 answer × Ends answer err err2 status
 
 -- ---- the words
 -- a usage error with this text, on standard error alone

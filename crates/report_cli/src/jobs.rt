@@ -5,7 +5,7 @@ ghost use Rattle.lane_words.specs.Refusal.{code_of};
 ghost use Rattle.byte_io.specs.Devices.{CanStillFail};
 ghost use Rattle.command_line.specs.Options.{AreInRange, IsCheckInRange, IsPlaceInRange};
 ghost use Rattle.command_line.specs.declared.words.Job.TheVariants as job;
-ghost use Rattle.report_cli.specs.Program.{Answers, HasReadFault, stream};
+ghost use Rattle.report_cli.specs.Program.{HasAnswer, HasReadFault, stream};
 
 use crate::explain::explain_text;
 use crate::opened::{open_file, open_input};
@@ -46,7 +46,7 @@ pub fn count<R: Threads + Sync + RandomSource, Y: System, K: Sink>(
 ) -> Result<bool, Refusal>
     requires sink { CanStillFail (K.failures out.old) }
     requires options { AreInRange options.now }
-    ensures { Answers (Y.bytes_at system.now)
+    ensures { HasAnswer (Y.bytes_at system.now)
         (HasReadFault (Y.CannotOpen system.now) Y.File.failures Y.Stdin.failures)
         (job.Count file.entry options.now)
         (stream K.written K.failures out.old) (stream K.written K.failures out.new) result }
@@ -69,7 +69,7 @@ pub fn place<R: Threads + Sync + RandomSource, Y: System, K: Sink>(
     requires sink { CanStillFail (K.failures out.old) }
     requires options { AreInRange options.now }
     requires place { IsPlaceInRange with.now }
-    ensures { Answers (Y.bytes_at system.now)
+    ensures { HasAnswer (Y.bytes_at system.now)
         (HasReadFault (Y.CannotOpen system.now) Y.File.failures Y.Stdin.failures)
         (job.Place file.entry options.now with.now)
         (stream K.written K.failures out.old) (stream K.written K.failures out.new) result }
@@ -90,7 +90,7 @@ pub fn check<Y: System, K: Sink>(
     requires sink { CanStillFail (K.failures out.old) }
     requires options { AreInRange options.now }
     requires check { IsCheckInRange with.now }
-    ensures { Answers (Y.bytes_at system.now)
+    ensures { HasAnswer (Y.bytes_at system.now)
         (HasReadFault (Y.CannotOpen system.now) Y.File.failures Y.Stdin.failures)
         (job.Check file.entry None options.now with.now)
         (stream K.written K.failures out.old) (stream K.written K.failures out.new) result }
@@ -112,7 +112,7 @@ pub fn check_both<Y: System, K: Sink>(
     requires sink { CanStillFail (K.failures out.old) }
     requires options { AreInRange options.now }
     requires check { IsCheckInRange with.now }
-    ensures { Answers (Y.bytes_at system.now)
+    ensures { HasAnswer (Y.bytes_at system.now)
         (HasReadFault (Y.CannotOpen system.now) Y.File.failures Y.Stdin.failures)
         (job.Check file.entry (Some script.entry) options.now with.now)
         (stream K.written K.failures out.old) (stream K.written K.failures out.new) result }
@@ -134,7 +134,7 @@ pub fn replay<R: Threads + Sync + RandomSource, Y: System, K: Sink>(
 ) -> Result<bool, Refusal>
     requires sink { CanStillFail (K.failures out.old) }
     requires options { AreInRange options.now }
-    ensures { Answers (Y.bytes_at system.now)
+    ensures { HasAnswer (Y.bytes_at system.now)
         (HasReadFault (Y.CannotOpen system.now) Y.File.failures Y.Stdin.failures)
         (job.Replay file.entry script.entry options.now)
         (stream K.written K.failures out.old) (stream K.written K.failures out.new) result }
@@ -157,7 +157,7 @@ pub fn trace<R: Threads + Sync + RandomSource, Y: System, K: Sink>(
 ) -> Result<bool, Refusal>
     requires sink { CanStillFail (K.failures out.old) }
     requires options { AreInRange options.now }
-    ensures { Answers (Y.bytes_at system.now)
+    ensures { HasAnswer (Y.bytes_at system.now)
         (HasReadFault (Y.CannotOpen system.now) Y.File.failures Y.Stdin.failures)
         (job.Trace file.entry script.entry options.now)
         (stream K.written K.failures out.old) (stream K.written K.failures out.new) result }
@@ -180,7 +180,7 @@ pub fn draw<R: Threads + Sync + RandomSource, Y: System, K: Sink>(
 ) -> Result<bool, Refusal>
     requires sink { CanStillFail (K.failures out.old) }
     requires options { AreInRange options.now }
-    ensures { Answers (Y.bytes_at system.now)
+    ensures { HasAnswer (Y.bytes_at system.now)
         (HasReadFault (Y.CannotOpen system.now) Y.File.failures Y.Stdin.failures)
         (job.Draw file.entry script.entry options.now)
         (stream K.written K.failures out.old) (stream K.written K.failures out.new) result }
@@ -203,7 +203,7 @@ pub fn run<R: Threads + Wait + RandomSource + Sync, Y: System, K: Sink>(
 ) -> Result<bool, Refusal>
     requires sink { CanStillFail (K.failures out.old) }
     requires options { AreInRange options.now }
-    ensures { Answers (Y.bytes_at system.now)
+    ensures { HasAnswer (Y.bytes_at system.now)
         (HasReadFault (Y.CannotOpen system.now) Y.File.failures Y.Stdin.failures)
         (job.Run file.entry script.entry options.now)
         (stream K.written K.failures out.old) (stream K.written K.failures out.new) result }
@@ -222,7 +222,7 @@ pub fn explain<Y: System, K: Sink>(
     out: &mut K,
 ) -> Result<bool, Refusal>
     requires sink { CanStillFail (K.failures out.old) }
-    ensures { Answers (Y.bytes_at system.now)
+    ensures { HasAnswer (Y.bytes_at system.now)
         (HasReadFault (Y.CannotOpen system.now) Y.File.failures Y.Stdin.failures)
         (job.Explain (option_map code_of refusal))
         (stream K.written K.failures out.old) (stream K.written K.failures out.new) result }

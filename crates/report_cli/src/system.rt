@@ -13,10 +13,13 @@ pub trait System {
     // A file could not be opened.
     ghost CannotOpen: { Self → Type 0 };
 
+    /// A file that is open.
     type File: Source + Drop;
 
+    /// Standard input.
     type Stdin: Source + Drop;
 
+    /// Who watches a read.
     type Watcher: Watcher + Drop;
 
     /// Opens the file at a path.

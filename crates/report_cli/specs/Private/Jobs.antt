@@ -5,7 +5,7 @@ use Rattle.command_line.specs.Options.{AreInRange, IsCheckInRange, IsPlaceInRang
 use Rattle.command_line.specs.declared.words.Job.{Job}
 use Rattle.command_line.specs.declared.words.Job.TheVariants.{Count, Place, Check, Replay, Trace, Draw, Run, Explain}
 use Rattle.report_cli.specs.Input.{HasNoCode}
-use Rattle.report_cli.specs.Program.{Answers, Stream}
+use Rattle.report_cli.specs.Program.{HasAnswer, Stream}
 
 -- the options of a job are within their bounds
 abbrev pub IsJobInRange : Job → Type 0
@@ -22,4 +22,4 @@ IsJobInRange (Explain code) = Unit {0}
 abbrev pub IsDone : (List ℕ → Option (List ℕ)) → Type 0 → Job → Stream → Stream
     → Result Bool Refusal → Type 0
 IsDone named ReadFault job out out2 answer =
-    (HasNoCode job → ⊥) × Answers named ReadFault job out out2 answer
+    (HasNoCode job → ⊥) × HasAnswer named ReadFault job out out2 answer
