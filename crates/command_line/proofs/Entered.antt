@@ -452,7 +452,9 @@ Named name most r = bytes_eq r.id name ≡ true → IsOptionalNumber (slice_get 
 
 -- the row has a value; that of a numeric option is a number in range
 abbrev RowPasses : Row → Type 0
-RowPasses r = IsSome (slice_get r.values 0) × Named (codes "partitions") 4096 r × Named (codes "batch") 1000000 r × Named (codes "top") 4294967295 r
+RowPasses r =
+    IsSome (slice_get r.values 0) × Named (codes "partitions") 4096 r × Named (codes "batch") 1000000 r × Named (codes "top") 4294967295 r
+    × Named (codes "given") 65535 r × Named (codes "most") 4294967295 r
 
 abbrev count_rule : ℕ → Rule
 count_rule k = unwrap_or (slice_get count_shape.rules k) (path (codes "file"))
@@ -468,46 +470,46 @@ PreservesRows = Preserves RowPasses count_shape
 
 file_preserves : PreservesRows (count_rule 0)
 file_preserves [] rows e r = absurd (some_kind _ _ e)
-file_preserves (v ∷ vs) rows e r = set_use RowPasses (count_rule 0) v vs rows (none_of _ _ e).1 (λ ok. (refl, (λ f. other f), (λ f. other f), (λ f. other f))) r
+file_preserves (v ∷ vs) rows e r = set_use RowPasses (count_rule 0) v vs rows (none_of _ _ e).1 (λ ok. (refl, (λ f. other f), (λ f. other f), (λ f. other f), (λ f. other f), (λ f. other f))) r
 
 script_preserves : PreservesRows (replay_rule 1)
 script_preserves [] rows e r = absurd (some_kind _ _ e)
-script_preserves (v ∷ vs) rows e r = set_use RowPasses (replay_rule 1) v vs rows (none_of _ _ e).1 (λ ok. (refl, (λ f. other f), (λ f. other f), (λ f. other f))) r
+script_preserves (v ∷ vs) rows e r = set_use RowPasses (replay_rule 1) v vs rows (none_of _ _ e).1 (λ ok. (refl, (λ f. other f), (λ f. other f), (λ f. other f), (λ f. other f), (λ f. other f))) r
 
 partitions_preserves : PreservesRows (count_rule 1)
 partitions_preserves [] rows e r = absurd (some_kind _ _ e)
 partitions_preserves (v ∷ vs) rows e r =
-    set_use RowPasses (count_rule 1) v vs rows (none_of _ _ e).1 (λ ok. (refl, (λ _. accepts-Accepts false (parser.Signed (pos 1) (pos 4096)) v ok), (λ f. other f), (λ f. other f))) r
+    set_use RowPasses (count_rule 1) v vs rows (none_of _ _ e).1 (λ ok. (refl, (λ _. accepts-Accepts false (parser.Signed (pos 1) (pos 4096)) v ok), (λ f. other f), (λ f. other f), (λ f. other f), (λ f. other f))) r
 
 column_preserves : PreservesRows (count_rule 2)
 column_preserves [] rows e r = absurd (some_kind _ _ e)
-column_preserves (v ∷ vs) rows e r = set_use RowPasses (count_rule 2) v vs rows (none_of _ _ e).1 (λ ok. (refl, (λ f. other f), (λ f. other f), (λ f. other f))) r
+column_preserves (v ∷ vs) rows e r = set_use RowPasses (count_rule 2) v vs rows (none_of _ _ e).1 (λ ok. (refl, (λ f. other f), (λ f. other f), (λ f. other f), (λ f. other f), (λ f. other f))) r
 
 header_preserves : PreservesRows (count_rule 3)
-header_preserves [] rows e r = set_use RowPasses (count_rule 3) (codes "true") [] rows e (λ ok. (refl, (λ f. other f), (λ f. other f), (λ f. other f))) r
-header_preserves (v ∷ vs) rows e r = set_use RowPasses (count_rule 3) v vs rows (none_of _ _ e).1 (λ ok. (refl, (λ f. other f), (λ f. other f), (λ f. other f))) r
+header_preserves [] rows e r = set_use RowPasses (count_rule 3) (codes "true") [] rows e (λ ok. (refl, (λ f. other f), (λ f. other f), (λ f. other f), (λ f. other f), (λ f. other f))) r
+header_preserves (v ∷ vs) rows e r = set_use RowPasses (count_rule 3) v vs rows (none_of _ _ e).1 (λ ok. (refl, (λ f. other f), (λ f. other f), (λ f. other f), (λ f. other f), (λ f. other f))) r
 
 topics_preserves : PreservesRows (count_rule 4)
 topics_preserves [] rows e r = absurd (some_kind _ _ e)
-topics_preserves (v ∷ vs) rows e r = set_use RowPasses (count_rule 4) v vs rows (none_of _ _ e).1 (λ ok. (refl, (λ f. other f), (λ f. other f), (λ f. other f))) r
+topics_preserves (v ∷ vs) rows e r = set_use RowPasses (count_rule 4) v vs rows (none_of _ _ e).1 (λ ok. (refl, (λ f. other f), (λ f. other f), (λ f. other f), (λ f. other f), (λ f. other f))) r
 
 topic_column_preserves : PreservesRows (count_rule 5)
 topic_column_preserves [] rows e r = absurd (some_kind _ _ e)
-topic_column_preserves (v ∷ vs) rows e r = set_use RowPasses (count_rule 5) v vs rows (none_of _ _ e).1 (λ ok. (refl, (λ f. other f), (λ f. other f), (λ f. other f))) r
+topic_column_preserves (v ∷ vs) rows e r = set_use RowPasses (count_rule 5) v vs rows (none_of _ _ e).1 (λ ok. (refl, (λ f. other f), (λ f. other f), (λ f. other f), (λ f. other f), (λ f. other f))) r
 
 delimiter_preserves : PreservesRows (count_rule 6)
 delimiter_preserves [] rows e r = absurd (some_kind _ _ e)
-delimiter_preserves (v ∷ vs) rows e r = set_use RowPasses (count_rule 6) v vs rows (none_of _ _ e).1 (λ ok. (refl, (λ f. other f), (λ f. other f), (λ f. other f))) r
+delimiter_preserves (v ∷ vs) rows e r = set_use RowPasses (count_rule 6) v vs rows (none_of _ _ e).1 (λ ok. (refl, (λ f. other f), (λ f. other f), (λ f. other f), (λ f. other f), (λ f. other f))) r
 
 top_preserves : PreservesRows (count_rule 7)
 top_preserves [] rows e r = absurd (some_kind _ _ e)
 top_preserves (v ∷ vs) rows e r =
-    set_use RowPasses (count_rule 7) v vs rows (none_of _ _ e).1 (λ ok. (refl, (λ f. other f), (λ f. other f), (λ _. accepts-Accepts false (parser.Signed (pos 1) (pos 4294967295)) v ok))) r
+    set_use RowPasses (count_rule 7) v vs rows (none_of _ _ e).1 (λ ok. (refl, (λ f. other f), (λ f. other f), (λ _. accepts-Accepts false (parser.Signed (pos 1) (pos 4294967295)) v ok), (λ f. other f), (λ f. other f))) r
 
 batch_preserves : PreservesRows (replay_rule 8)
 batch_preserves [] rows e r = absurd (some_kind _ _ e)
 batch_preserves (v ∷ vs) rows e r =
-    set_use RowPasses (replay_rule 8) v vs rows (none_of _ _ e).1 (λ ok. (refl, (λ f. other f), (λ _. accepts-Accepts false (parser.Signed (pos 1) (pos 1000000)) v ok), (λ f. other f))) r
+    set_use RowPasses (replay_rule 8) v vs rows (none_of _ _ e).1 (λ ok. (refl, (λ f. other f), (λ _. accepts-Accepts false (parser.Signed (pos 1) (pos 1000000)) v ok), (λ f. other f), (λ f. other f), (λ f. other f))) r
 
 help_preserves : PreservesRows (count_rule 8)
 help_preserves values rows e r = absurd (some_kind _ _ (none_of _ _ e).1)
@@ -556,64 +558,19 @@ header_default rows r = go (has_row (codes "header") rows) refl
   where
     go : (b : Bool) → has_row (codes "header") rows ≡ b → Each RowPasses (cond b rows (default_rows (codes "header") (reading_by (count_rule 3)) (codes "false" ∷ []) rows))
     go true e = r
-    go false e = joined RowPasses (codes "header") (more_values DefaultValue (codes "false" ∷ [])) (record { id = codes "header"; values = codes "false" ∷ []; count = None; source = Some DefaultValue; reading = reading_by (count_rule 3) } ∷ []) rows e r ((refl, (λ f. other f), (λ f. other f), (λ f. other f)), tt)
-
--- a row of the given column has a number in range
-abbrev GivenPasses : Row → Type 0
-GivenPasses r = Named (codes "given") 65535 r
+    go false e = joined RowPasses (codes "header") (more_values DefaultValue (codes "false" ∷ [])) (record { id = codes "header"; values = codes "false" ∷ []; count = None; source = Some DefaultValue; reading = reading_by (count_rule 3) } ∷ []) rows e r ((refl, (λ f. other f), (λ f. other f), (λ f. other f), (λ f. other f), (λ f. other f)), tt)
 
 abbrev place_rule : ℕ → Rule
 place_rule k = unwrap_or (slice_get place_shape.rules k) (path (codes "file"))
 
-abbrev PreservesGiven : Rule → Type 0
-PreservesGiven = Preserves GivenPasses place_shape
-
-file_preserves_given : PreservesGiven (place_rule 0)
-file_preserves_given [] rows e r = absurd (some_kind _ _ e)
-file_preserves_given (v ∷ vs) rows e r = set_use GivenPasses (place_rule 0) v vs rows (none_of _ _ e).1 (λ ok f. other f) r
-
-partitions_preserves_given : PreservesGiven (place_rule 1)
-partitions_preserves_given [] rows e r = absurd (some_kind _ _ e)
-partitions_preserves_given (v ∷ vs) rows e r = set_use GivenPasses (place_rule 1) v vs rows (none_of _ _ e).1 (λ ok f. other f) r
-
-column_preserves_given : PreservesGiven (place_rule 2)
-column_preserves_given [] rows e r = absurd (some_kind _ _ e)
-column_preserves_given (v ∷ vs) rows e r = set_use GivenPasses (place_rule 2) v vs rows (none_of _ _ e).1 (λ ok f. other f) r
-
-header_preserves_given : PreservesGiven (place_rule 3)
-header_preserves_given [] rows e r = set_use GivenPasses (place_rule 3) (codes "true") [] rows e (λ ok f. other f) r
-header_preserves_given (v ∷ vs) rows e r = set_use GivenPasses (place_rule 3) v vs rows (none_of _ _ e).1 (λ ok f. other f) r
-
-topics_preserves_given : PreservesGiven (place_rule 4)
-topics_preserves_given [] rows e r = absurd (some_kind _ _ e)
-topics_preserves_given (v ∷ vs) rows e r = set_use GivenPasses (place_rule 4) v vs rows (none_of _ _ e).1 (λ ok f. other f) r
-
-topic_column_preserves_given : PreservesGiven (place_rule 5)
-topic_column_preserves_given [] rows e r = absurd (some_kind _ _ e)
-topic_column_preserves_given (v ∷ vs) rows e r = set_use GivenPasses (place_rule 5) v vs rows (none_of _ _ e).1 (λ ok f. other f) r
-
-delimiter_preserves_given : PreservesGiven (place_rule 6)
-delimiter_preserves_given [] rows e r = absurd (some_kind _ _ e)
-delimiter_preserves_given (v ∷ vs) rows e r = set_use GivenPasses (place_rule 6) v vs rows (none_of _ _ e).1 (λ ok f. other f) r
-
-keys_preserves_given : PreservesGiven (place_rule 7)
-keys_preserves_given [] rows e r = set_use GivenPasses (place_rule 7) (codes "true") [] rows e (λ ok f. other f) r
-keys_preserves_given (v ∷ vs) rows e r = set_use GivenPasses (place_rule 7) v vs rows (none_of _ _ e).1 (λ ok f. other f) r
-
-given_preserves_given : PreservesGiven (place_rule 8)
-given_preserves_given [] rows e r = absurd (some_kind _ _ e)
-given_preserves_given (v ∷ vs) rows e r = set_use GivenPasses (place_rule 8) v vs rows (none_of _ _ e).1 (λ ok _. accepts-Accepts false (parser.Signed (pos 1) (pos 65535)) v ok) r
-
-help_preserves_given : PreservesGiven (place_rule 9)
-help_preserves_given values rows e r = absurd (some_kind _ _ (none_of _ _ e).1)
-
 keys_preserves : PreservesRows (place_rule 7)
-keys_preserves [] rows e r = set_use RowPasses (place_rule 7) (codes "true") [] rows e (λ ok. (refl, (λ f. other f), (λ f. other f), (λ f. other f))) r
-keys_preserves (v ∷ vs) rows e r = set_use RowPasses (place_rule 7) v vs rows (none_of _ _ e).1 (λ ok. (refl, (λ f. other f), (λ f. other f), (λ f. other f))) r
+keys_preserves [] rows e r = set_use RowPasses (place_rule 7) (codes "true") [] rows e (λ ok. (refl, (λ f. other f), (λ f. other f), (λ f. other f), (λ f. other f), (λ f. other f))) r
+keys_preserves (v ∷ vs) rows e r = set_use RowPasses (place_rule 7) v vs rows (none_of _ _ e).1 (λ ok. (refl, (λ f. other f), (λ f. other f), (λ f. other f), (λ f. other f), (λ f. other f))) r
 
 given_preserves : PreservesRows (place_rule 8)
 given_preserves [] rows e r = absurd (some_kind _ _ e)
-given_preserves (v ∷ vs) rows e r = set_use RowPasses (place_rule 8) v vs rows (none_of _ _ e).1 (λ ok. (refl, (λ f. other f), (λ f. other f), (λ f. other f))) r
+given_preserves (v ∷ vs) rows e r =
+    set_use RowPasses (place_rule 8) v vs rows (none_of _ _ e).1 (λ ok. (refl, (λ f. other f), (λ f. other f), (λ f. other f), (λ _. accepts-Accepts false (parser.Signed (pos 1) (pos 65535)) v ok), (λ f. other f))) r
 
 flag_default : (P : Row → Type 0) (name : Text) (a : Rule) → P (record { id = name; values = codes "false" ∷ []; count = None; source = Some DefaultValue; reading = reading_by a }) → (rows : List Row) → Each P rows
     → Each P (cond (has_row name rows) rows (default_rows name (reading_by a) (codes "false" ∷ []) rows))
@@ -623,88 +580,33 @@ flag_default P name a passes rows r = go (has_row name rows) refl
     go true e = r
     go false e = joined P name (more_values DefaultValue (codes "false" ∷ [])) (record { id = name; values = codes "false" ∷ []; count = None; source = Some DefaultValue; reading = reading_by a } ∷ []) rows e r (passes, tt)
 
-no_given_default : (b : Bool) (rows : List Row) → Each GivenPasses rows → Each GivenPasses (cond b rows rows)
-no_given_default true rows r = r
-no_given_default false rows r = r
-
 place_preserves : Each (Preserves RowPasses place_shape) place_shape.rules
 place_preserves = (file_preserves, (partitions_preserves, (column_preserves, (header_preserves, (topics_preserves, (topic_column_preserves, (delimiter_preserves, (keys_preserves, (given_preserves, (help_preserves, tt))))))))))
 
-place_preserves_given : Each PreservesGiven place_shape.rules
-place_preserves_given = (file_preserves_given, (partitions_preserves_given, (column_preserves_given, (header_preserves_given, (topics_preserves_given, (topic_column_preserves_given, (delimiter_preserves_given, (keys_preserves_given, (given_preserves_given, (help_preserves_given, tt))))))))))
-
 place_defaults : Each (PreservesDefault RowPasses place_shape) place_shape.rules
-place_defaults = ((λ rows r. no_default (has_row (codes "file") rows) rows r), ((λ rows r. no_default (has_row (codes "partitions") rows) rows r), ((λ rows r. no_default (has_row (codes "column") rows) rows r), (header_default, ((λ rows r. no_default (has_row (codes "topics") rows) rows r), ((λ rows r. no_default (has_row (codes "topic-column") rows) rows r), ((λ rows r. no_default (has_row (codes "delimiter") rows) rows r), (flag_default RowPasses (codes "keys") (place_rule 7) (refl, (λ f. other f), (λ f. other f), (λ f. other f)), ((λ rows r. no_default (has_row (codes "given") rows) rows r), ((λ rows r. no_default (has_row (codes "help") rows) rows r), tt))))))))))
-
-place_defaults_given : Each (PreservesDefault GivenPasses place_shape) place_shape.rules
-place_defaults_given = ((λ rows r. no_given_default (has_row (codes "file") rows) rows r), ((λ rows r. no_given_default (has_row (codes "partitions") rows) rows r), ((λ rows r. no_given_default (has_row (codes "column") rows) rows r), (flag_default GivenPasses (codes "header") (place_rule 3) (λ f. other f), ((λ rows r. no_given_default (has_row (codes "topics") rows) rows r), ((λ rows r. no_given_default (has_row (codes "topic-column") rows) rows r), ((λ rows r. no_given_default (has_row (codes "delimiter") rows) rows r), (flag_default GivenPasses (codes "keys") (place_rule 7) (λ f. other f), ((λ rows r. no_given_default (has_row (codes "given") rows) rows r), ((λ rows r. no_given_default (has_row (codes "help") rows) rows r), tt))))))))))
-
--- what is checked of a row of any job; that of the most faults is a number in range
-abbrev CheckPasses : Row → Type 0
-CheckPasses r = RowPasses r × Named (codes "most") 4294967295 r
+place_defaults = ((λ rows r. no_default (has_row (codes "file") rows) rows r), ((λ rows r. no_default (has_row (codes "partitions") rows) rows r), ((λ rows r. no_default (has_row (codes "column") rows) rows r), (header_default, ((λ rows r. no_default (has_row (codes "topics") rows) rows r), ((λ rows r. no_default (has_row (codes "topic-column") rows) rows r), ((λ rows r. no_default (has_row (codes "delimiter") rows) rows r), (flag_default RowPasses (codes "keys") (place_rule 7) (refl, (λ f. other f), (λ f. other f), (λ f. other f), (λ f. other f), (λ f. other f)), ((λ rows r. no_default (has_row (codes "given") rows) rows r), ((λ rows r. no_default (has_row (codes "help") rows) rows r), tt))))))))))
 
 abbrev check_rule : ℕ → Rule
 check_rule k = unwrap_or (slice_get check_shape.rules k) (path (codes "file"))
 
-abbrev PreservesCheck : Rule → Type 0
-PreservesCheck = Preserves CheckPasses check_shape
+script_of_check_preserves : PreservesRows (check_rule 1)
+script_of_check_preserves [] rows e r = absurd (some_kind _ _ e)
+script_of_check_preserves (v ∷ vs) rows e r = set_use RowPasses (check_rule 1) v vs rows (none_of _ _ e).1 (λ ok. (refl, (λ f. other f), (λ f. other f), (λ f. other f), (λ f. other f), (λ f. other f))) r
 
-file_preserves_check : PreservesCheck (check_rule 0)
-file_preserves_check [] rows e r = absurd (some_kind _ _ e)
-file_preserves_check (v ∷ vs) rows e r = set_use CheckPasses (check_rule 0) v vs rows (none_of _ _ e).1 (λ ok. ((refl, (λ f. other f), (λ f. other f), (λ f. other f)), (λ f. other f))) r
+plan_preserves : PreservesRows (check_rule 8)
+plan_preserves [] rows e r = set_use RowPasses (check_rule 8) (codes "true") [] rows e (λ ok. (refl, (λ f. other f), (λ f. other f), (λ f. other f), (λ f. other f), (λ f. other f))) r
+plan_preserves (v ∷ vs) rows e r = set_use RowPasses (check_rule 8) v vs rows (none_of _ _ e).1 (λ ok. (refl, (λ f. other f), (λ f. other f), (λ f. other f), (λ f. other f), (λ f. other f))) r
 
-script_preserves_check : PreservesCheck (check_rule 1)
-script_preserves_check [] rows e r = absurd (some_kind _ _ e)
-script_preserves_check (v ∷ vs) rows e r = set_use CheckPasses (check_rule 1) v vs rows (none_of _ _ e).1 (λ ok. ((refl, (λ f. other f), (λ f. other f), (λ f. other f)), (λ f. other f))) r
+most_preserves : PreservesRows (check_rule 9)
+most_preserves [] rows e r = absurd (some_kind _ _ e)
+most_preserves (v ∷ vs) rows e r =
+    set_use RowPasses (check_rule 9) v vs rows (none_of _ _ e).1 (λ ok. (refl, (λ f. other f), (λ f. other f), (λ f. other f), (λ f. other f), (λ _. accepts-Accepts false (parser.Signed (pos 1) (pos 4294967295)) v ok))) r
 
-partitions_preserves_check : PreservesCheck (check_rule 2)
-partitions_preserves_check [] rows e r = absurd (some_kind _ _ e)
-partitions_preserves_check (v ∷ vs) rows e r = set_use CheckPasses (check_rule 2) v vs rows (none_of _ _ e).1 (λ ok. ((refl, (λ _. accepts-Accepts false (parser.Signed (pos 1) (pos 4096)) v ok), (λ f. other f), (λ f. other f)), (λ f. other f))) r
+check_preserves : Each (Preserves RowPasses check_shape) check_shape.rules
+check_preserves = (file_preserves, (script_of_check_preserves, (partitions_preserves, (column_preserves, (header_preserves, (topics_preserves, (topic_column_preserves, (delimiter_preserves, (plan_preserves, (most_preserves, (help_preserves, tt)))))))))))
 
-column_preserves_check : PreservesCheck (check_rule 3)
-column_preserves_check [] rows e r = absurd (some_kind _ _ e)
-column_preserves_check (v ∷ vs) rows e r = set_use CheckPasses (check_rule 3) v vs rows (none_of _ _ e).1 (λ ok. ((refl, (λ f. other f), (λ f. other f), (λ f. other f)), (λ f. other f))) r
-
-header_preserves_check : PreservesCheck (check_rule 4)
-header_preserves_check [] rows e r = set_use CheckPasses (check_rule 4) (codes "true") [] rows e (λ ok. ((refl, (λ f. other f), (λ f. other f), (λ f. other f)), (λ f. other f))) r
-header_preserves_check (v ∷ vs) rows e r = set_use CheckPasses (check_rule 4) v vs rows (none_of _ _ e).1 (λ ok. ((refl, (λ f. other f), (λ f. other f), (λ f. other f)), (λ f. other f))) r
-
-topics_preserves_check : PreservesCheck (check_rule 5)
-topics_preserves_check [] rows e r = absurd (some_kind _ _ e)
-topics_preserves_check (v ∷ vs) rows e r = set_use CheckPasses (check_rule 5) v vs rows (none_of _ _ e).1 (λ ok. ((refl, (λ f. other f), (λ f. other f), (λ f. other f)), (λ f. other f))) r
-
-topic_column_preserves_check : PreservesCheck (check_rule 6)
-topic_column_preserves_check [] rows e r = absurd (some_kind _ _ e)
-topic_column_preserves_check (v ∷ vs) rows e r = set_use CheckPasses (check_rule 6) v vs rows (none_of _ _ e).1 (λ ok. ((refl, (λ f. other f), (λ f. other f), (λ f. other f)), (λ f. other f))) r
-
-delimiter_preserves_check : PreservesCheck (check_rule 7)
-delimiter_preserves_check [] rows e r = absurd (some_kind _ _ e)
-delimiter_preserves_check (v ∷ vs) rows e r = set_use CheckPasses (check_rule 7) v vs rows (none_of _ _ e).1 (λ ok. ((refl, (λ f. other f), (λ f. other f), (λ f. other f)), (λ f. other f))) r
-
-plan_preserves_check : PreservesCheck (check_rule 8)
-plan_preserves_check [] rows e r = set_use CheckPasses (check_rule 8) (codes "true") [] rows e (λ ok. ((refl, (λ f. other f), (λ f. other f), (λ f. other f)), (λ f. other f))) r
-plan_preserves_check (v ∷ vs) rows e r = set_use CheckPasses (check_rule 8) v vs rows (none_of _ _ e).1 (λ ok. ((refl, (λ f. other f), (λ f. other f), (λ f. other f)), (λ f. other f))) r
-
-most_preserves_check : PreservesCheck (check_rule 9)
-most_preserves_check [] rows e r = absurd (some_kind _ _ e)
-most_preserves_check (v ∷ vs) rows e r = set_use CheckPasses (check_rule 9) v vs rows (none_of _ _ e).1 (λ ok. ((refl, (λ f. other f), (λ f. other f), (λ f. other f)), (λ _. accepts-Accepts false (parser.Signed (pos 1) (pos 4294967295)) v ok))) r
-
-help_preserves_check : PreservesCheck (check_rule 10)
-help_preserves_check values rows e r = absurd (some_kind _ _ (none_of _ _ e).1)
-
-no_check_default : (b : Bool) (rows : List Row) → Each CheckPasses rows → Each CheckPasses (cond b rows rows)
-no_check_default true rows r = r
-no_check_default false rows r = r
-
-check_preserves : Each PreservesCheck check_shape.rules
-check_preserves = (file_preserves_check, (script_preserves_check, (partitions_preserves_check, (column_preserves_check, (header_preserves_check, (topics_preserves_check, (topic_column_preserves_check, (delimiter_preserves_check, (plan_preserves_check, (most_preserves_check, (help_preserves_check, tt)))))))))))
-
-check_defaults : Each (PreservesDefault CheckPasses check_shape) check_shape.rules
-check_defaults = ((λ rows r. no_check_default (has_row (codes "file") rows) rows r), ((λ rows r. no_check_default (has_row (codes "script") rows) rows r), ((λ rows r. no_check_default (has_row (codes "partitions") rows) rows r), ((λ rows r. no_check_default (has_row (codes "column") rows) rows r), (flag_default CheckPasses (codes "header") (check_rule 4) ((refl, (λ f. other f), (λ f. other f), (λ f. other f)), (λ f. other f)), ((λ rows r. no_check_default (has_row (codes "topics") rows) rows r), ((λ rows r. no_check_default (has_row (codes "topic-column") rows) rows r), ((λ rows r. no_check_default (has_row (codes "delimiter") rows) rows r), (flag_default CheckPasses (codes "plan") (check_rule 8) ((refl, (λ f. other f), (λ f. other f), (λ f. other f)), (λ f. other f)), ((λ rows r. no_check_default (has_row (codes "most") rows) rows r), ((λ rows r. no_check_default (has_row (codes "help") rows) rows r), tt)))))))))))
-
-any_job : (rows : List Row) → Each CheckPasses rows → Each RowPasses rows
-any_job [] all = tt
-any_job (r ∷ rs) all = (all.0.0, any_job rs all.1)
+check_defaults : Each (PreservesDefault RowPasses check_shape) check_shape.rules
+check_defaults = ((λ rows r. no_default (has_row (codes "file") rows) rows r), ((λ rows r. no_default (has_row (codes "script") rows) rows r), ((λ rows r. no_default (has_row (codes "partitions") rows) rows r), ((λ rows r. no_default (has_row (codes "column") rows) rows r), (header_default, ((λ rows r. no_default (has_row (codes "topics") rows) rows r), ((λ rows r. no_default (has_row (codes "topic-column") rows) rows r), ((λ rows r. no_default (has_row (codes "delimiter") rows) rows r), (flag_default RowPasses (codes "plan") (check_rule 8) (refl, (λ f. other f), (λ f. other f), (λ f. other f), (λ f. other f), (λ f. other f)), ((λ rows r. no_default (has_row (codes "most") rows) rows r), ((λ rows r. no_default (has_row (codes "help") rows) rows r), tt)))))))))))
 
 count_preserves : Each (Preserves RowPasses count_shape) count_shape.rules
 count_preserves = (file_preserves, (partitions_preserves, (column_preserves, (header_preserves, (topics_preserves, (topic_column_preserves, (delimiter_preserves, (top_preserves, (help_preserves, tt)))))))))
@@ -798,23 +700,21 @@ place_taken words e =
     let parts = level_parts place_shape [] words false [] e in
     let rows = rows_after place_shape.rules [] words in
     let all = level_preserves RowPasses place_shape place_preserves words false [] place_defaults e in
-    let given = level_preserves GivenPasses place_shape place_preserves_given words false [] place_defaults_given e in
     record {
       file = path_passes (codes "file") rows all (file_given_to_place rows parts.2);
       options = options_pass rows all;
-      given = number_passes GivenPasses (codes "given") 65535 rows given (λ r passes. passes);
+      given = number_passes RowPasses (codes "given") 65535 rows all (λ r passes. passes.4);
     }
 
 check_taken : (words : List Text) → level_fault check_shape [] nothing_held words false [] ≡ [] → AreCheckRows (rows_after check_shape.rules [] words)
 check_taken words e =
     let parts = level_parts check_shape [] words false [] e in
     let rows = rows_after check_shape.rules [] words in
-    let checked = level_preserves CheckPasses check_shape check_preserves words false [] check_defaults e in
-    let all = any_job rows checked in
+    let all = level_preserves RowPasses check_shape check_preserves words false [] check_defaults e in
     record {
       file = path_passes (codes "file") rows all (file_given_to_check rows parts.2);
       options = options_pass rows all;
-      most = number_passes CheckPasses (codes "most") 4294967295 rows checked (λ r passes. passes.1);
+      most = number_passes RowPasses (codes "most") 4294967295 rows all (λ r passes. passes.5);
     }
 
 script_taken : (s : Shape) → Each (Preserves RowPasses s) s.rules → Each (PreservesDefault RowPasses s) s.rules

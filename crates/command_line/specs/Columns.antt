@@ -1,4 +1,5 @@
--- The value of `--column` and of `--topic-column`: the number of a column, or its name in the header.
+-- The value of `--column` and of `--topic-column`: the number of a column, or its name in the
+-- header.
 use Rattle.std.specs.Prelude.{◌≡◌, ℕ, ◌&&◌, nat_le, Bool, true, false, List, length, Option, Some, None}
 use Rattle.std.specs.Char.{is_ascii_digit}
 use Rattle.std.specs.List.{list_all}

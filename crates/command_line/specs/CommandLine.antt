@@ -24,34 +24,31 @@ use Rattle.command_line.specs.Options.{AreInRange, IsPlaceInRange, IsCheckInRang
 use Rattle.command_line.specs.Topics.{AreTopicsOf, IsBadList}
 use Rattle.partitioner.specs.declared.topic.Topic.{Topic}
 
--- an option whose value is a number from 1 to `most`
-abbrev pub number_option : Text → ℕ → Rule
-number_option name most = record (new_rule name) {
-  long = Some name;
-  value_names = 1;
+-- an argument that takes a value, and may be left out
+abbrev pub value_argument : Text → Rule
+value_argument name = record (new_rule name) { value_names = 1; action = Some action.Set }
+
+-- the argument whose value is a number from 1 to `most`
+abbrev pub with_numbers : Rule → ℕ → Rule
+with_numbers argument most = record argument {
   parser = Some (parser.Signed (pos 1) (pos most));
-  action = Some action.Set;
 }
+
+-- a required path
+abbrev pub path : Text → Rule
+path name = record (value_argument name) { required = true }
 
 -- an option whose value is any text
 abbrev pub text_option : Text → Rule
-text_option name = record (new_rule name) {
-  long = Some name;
-  value_names = 1;
-  action = Some action.Set;
-}
+text_option name = record (value_argument name) { long = Some name }
+
+-- an option whose value is a number from 1 to `most`
+abbrev pub number_option : Text → ℕ → Rule
+number_option name most = with_numbers (text_option name) most
 
 -- a flag
 abbrev pub flag : Text → Rule
 flag name = record (new_rule name) { long = Some name; action = Some action.SetTrue }
-
--- a required path
-abbrev pub path : Text → Rule
-path name = record (new_rule name) { value_names = 1; required = true; action = Some action.Set }
-
--- a path that may be left out
-abbrev pub optional_path : Text → Rule
-optional_path name = record (new_rule name) { value_names = 1; action = Some action.Set }
 
 -- the options that all subcommands have
 abbrev pub with_options : App → App
@@ -82,7 +79,7 @@ place_app =
 abbrev pub check_app : App
 check_app =
     let file = with_rule (new_app (codes "check")) (path (codes "file")) in
-    let options = with_options (with_rule file (optional_path (codes "script"))) in
+    let options = with_options (with_rule file (value_argument (codes "script"))) in
     let plan = with_rule options (flag (codes "plan")) in
     with_rule plan (number_option (codes "most") MOST_ROWS)
 
@@ -111,11 +108,7 @@ run_app = with_top (with_script (new_app (codes "run")))
 
 -- an argument that may be left out, and else is a number from 1 to `LAST_CODE`
 abbrev pub code_argument : Rule
-code_argument = record (new_rule (codes "code")) {
-  value_names = 1;
-  parser = Some (parser.Signed (pos 1) (pos LAST_CODE));
-  action = Some action.Set;
-}
+code_argument = with_numbers (value_argument (codes "code")) LAST_CODE
 
 -- the subcommand `explain`
 abbrev pub explain_app : App
@@ -187,8 +180,8 @@ pub record HasScript (rows : List Row) (file script : Text) (options : Options) 
   pub options_are : HasOptions rows options
   pub batch : IsNumber (first_of (codes "batch") rows) DEFAULT_BATCH options.batch
 
--- the job has the files, options and code that clap found; the batch of a count, a place and a check
--- is the default, and a place, a check, a trace and a picture have no top
+-- the job has the files, options and code that clap found; the batch of a count, a place and a
+-- check is the default, and a place, a check, a trace and a picture have no top
 abbrev pub HasJob : List Row → Job → Type 0
 HasJob rows (Count file options) = (first_of (codes "file") rows ≡ Some file.now)
     × HasOptions rows options × (options.batch ≡ DEFAULT_BATCH)
@@ -288,8 +281,8 @@ IsBadListReport (Bad text) = string_bytes text ≡ bad_topics
 IsBadListReport Memory = ⊤
 
 -- Why there is no job: clap rejects the words (a request for help or the version becomes `Help`,
--- any other error `Bad`), or it accepts them and the list of topics is not valid, or a column, or the
--- delimiter.
+-- any other error `Bad`), or it accepts them and the list of topics is not valid, or a column, or
+-- the delimiter.
 abbrev pub IsRefusal : List Text → Usage → Type 0
 IsRefusal words (Help text) =
     (k : ErrorKind) × IsAmong k (fault_of keycount_app words) × IsRequest k

@@ -22,15 +22,18 @@ macro_rules! text {
             "Lines of a script:\n"
             changes
             "  keep NAME                a new static member joins: its seat can be taken over\n"
-            "  return NAME              a new member takes over the seat of the static member NAME\n"
+            "  return NAME              a new member takes over the seat of the static member \
+                NAME\n"
             "  sync NAME                the member fetches its assignment\n"
             "  rejoin NAME              the member revokes what it has to give up, and rejoins\n"
             "  poll NAME P N            the member reads at most N records of partition P\n"
-            "  send NAME P              the member sends a commit of what it has read of partition P\n"
+            "  send NAME P              the member sends a commit of what it has read of \
+                partition P\n"
             "  deliver C                commit C is delivered and answered; commits count from 1\n"
             "  unanswered C             as deliver, but the answer is lost\n"
             "  append KEY               a record with this key is appended\n"
-            "  settle                   the members sync and rejoin until the rebalance is complete\n"
+            "  settle                   the members sync and rejoin until the rebalance \
+                is complete\n"
             "  drain                    as settle; then the members read and commit all records\n"
             comment
             "With --topics: poll NAME TOPIC P N, send NAME TOPIC P, append TOPIC KEY\n\n"
@@ -219,7 +222,8 @@ pub const AFTER_CHECK: &str = text!([]
     "  line                     the line that it begins on, from 1\n"
     "  byte                     its first byte, from 0\n"
     "  problem                  what was found, and what was wanted\n"
-    "First come the bad records of FILE, then the bad lines of SCRIPT, and then warnings, which have\n"
+    "First come the bad records of FILE, then the bad lines of SCRIPT, and then warnings, \
+        which have\n"
     "no code: FILE is empty, or begins like a gzip, zstd or UTF-16 file; its first record is one\n"
     "field with a tab or a semicolon in it; its last field is in quotes that are never closed.\n"
     "The exit status is 1 if a row has a code.\n"
@@ -271,7 +275,8 @@ pub const AFTER_TRACE: &str = text!([]
     "  granted                  each member, and the partitions granted to it: A 0-1 3;B 2\n"
     "  unread                   the partitions that no member reads\n"
     "  lag                      the number of records that are not committed\n"
-    "With --topics, partition follows a column topic, and each range of partitions a topic's name.\n"
+    "With --topics, partition follows a column topic, and each range of partitions a \
+        topic's name.\n"
     script_faults
     "\nExample:\n"
     "  printf '21\\n4\\nfoobar\\nabc\\n21\\n' > keys.csv\n"
@@ -314,7 +319,8 @@ pub const AFTER_RUN: &str = text!([]
 /// Below the options of `explain`.
 pub const AFTER_EXPLAIN: &str = text!([]
     "A line for each refusal and fault: its number, its name, and what was the case. Of one CODE\n"
-    "also: the jobs that report it, its cause, the state that it leaves, a remedy, and Kafka's own\n"
+    "also: the jobs that report it, its cause, the state that it leaves, a remedy, and \
+        Kafka's own\n"
     "error, if there is one.\n"
     "\nFaults, as one line on standard error:\n"
     "  fault 26                 " case_26 "\n"

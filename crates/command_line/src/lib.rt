@@ -7,6 +7,9 @@
 //! `explanation_of` returns what a refusal means, and `list_text` a line for each, as their
 //! definitions say. Each refusal is listed, and its explanation begins with its number.
 //!
+//! By a law, `limits_are`, each limit and default of an option has the number that the documents
+//! say.
+//!
 //! Tests: `report_tests/src/words.rt`, `report_tests/src/explanations.rt`, and the rows of
 //! `blackbox/`.
 #![tactic(auto)]
@@ -25,6 +28,6 @@ pub use help::{
     AFTER_CHECK, AFTER_COUNT, AFTER_DRAW, AFTER_EXPLAIN, AFTER_KEYCOUNT, AFTER_PLACE, AFTER_REPLAY,
     AFTER_RUN, AFTER_TRACE,
 };
-pub use laws::each_refusal_is_explained;
+pub use laws::{each_refusal_is_explained, limits_are};
 pub use options::{CheckOptions, Column, LAST_COLUMN, Options, PlaceOptions};
 pub use words::{Job, Usage, read_words};

@@ -39,15 +39,16 @@ pub struct Options {
 pub struct PlaceOptions {
     /// Whether there is a row for each key instead.
     pub keys: bool,
-    /// The column that has the partition in which a record lies, from 1 to `LAST_COLUMN`: then there
-    /// is a row for each record that does not belong there.
+    /// The column that has the partition in which a record lies, from 1 to `LAST_COLUMN`: then
+    /// there is a row for each record that does not belong there.
     pub given: Option<u32>,
 }
 
 /// The default of `--delimiter`.
 pub const DEFAULT_DELIMITER: u8 = b',';
 
-/// What `check` tells of a file and a script. The type does not check the bounds; `read_words` does.
+/// What `check` tells of a file and a script. The type does not check the bounds; `read_words`
+/// does.
 #[derive(Clone, Copy, Debug)]
 pub struct CheckOptions {
     /// Whether the script is a plan.

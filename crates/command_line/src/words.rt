@@ -2,14 +2,14 @@
 
 ghost use Rattle.std.specs.Prelude.{◌≡◌, ◌≤◌, ◌-◌, ◌^◌, false, IfOk, IfErr, IfSome, IsErrAnd, IsSome, Some, map, codes, option_map};
 ghost use Rattle.clap.specs.Words.{fault_of, first_of, found_of, kind_of, rows_of, rule_of};
-ghost use Rattle.clap.specs.Simple.{App, with_rule, with_subcommand};
+ghost use Rattle.clap.specs.Simple.{App, new_app, with_rule, with_subcommand};
 ghost use Rattle.clap.specs.Walk.{Rule};
 ghost use Rattle.command_line.specs.Columns.{IsColumnOf};
 ghost use Rattle.command_line.specs.CommandLine.{HasOptions, HasPlaceOptions, HasScript, HaveBadList, IsBadListReport, IsJobOf, IsNumber, IsNumberIfGiven, IsRefusal, HasCheckOptions};
 ghost use Rattle.command_line.specs.Delimiters.{IsDelimiterOf};
 ghost use Rattle.command_line.specs.Topics.{AreTopicsOf};
 ghost use Rattle.command_line.specs.Private.CommandLine.{IsCommand, IsJobOfRows, IsOptionalNumber, IsReadAs, AreCountRows, AreExplainRows, AreOptionRows, ArePlaceRows, AreScriptRows, IsBadReport, IsUsageOf, ReportsBadColumn, ReportsBadDelimiter, ReportsBadList, ReportsBadOption, AreCheckRows};
-ghost use Rattle.command_line.specs.CommandLine.{code_argument, count_app, draw_app, explain_app, flag, keycount_app, keycount_top, number_option, path, place_app, replay_app, run_app, text_option, trace_app, with_options, with_script, with_top, check_app, optional_path};
+ghost use Rattle.command_line.specs.CommandLine.{code_argument, count_app, draw_app, explain_app, flag, keycount_app, keycount_top, number_option, path, place_app, replay_app, run_app, text_option, trace_app, with_options, with_script, with_top, check_app, value_argument, with_numbers};
 
 use crate::columns::{is_numeral, parse_column};
 use crate::delimiters::parse_delimiter;
@@ -22,8 +22,9 @@ use crate::options::{
     MOST_BATCH, MOST_ROWS, Options, PlaceOptions,
 };
 use crate::topics;
+use clap::builder::ValueParser;
 use clap::error::ErrorKind;
-use clap::{Arg, ArgAction, ArgMatches, Command, Error, value_parser};
+use clap::{Arg, ArgAction, ArgMatches, Command, Error};
 use lane_words::MOST_PARTITIONS;
 use partitioner::Topic;
 use std::alloc::{AllocError, Global};
@@ -116,6 +117,8 @@ const GIVEN_HELP: &str = "Compare with the partitions in column N, 1 to 65535; n
 
 const SCRIPT_HELP: &str = "Script to check too; - is standard input";
 
+const CODE_HELP: &str = "Number of a refusal or fault; without it, all are listed";
+
 const PLAN_HELP: &str = "Read SCRIPT as a plan for run";
 
 const MOST_HELP: &str = "Report at most N faults of each file, 1 to 4294967295 [default: 20]";
@@ -130,16 +133,31 @@ const HINT: &str = "\n\nFor more information, try '--help'.\n";
 
 const BATCH_HELP: &str = "Maximum number of records per poll, 1 to 1000000 [default: 500]";
 
-/// A required path.
-fn path<'a>(alloc: Global, name: &'a str, shown: &'a str, help: &'a str) -> Arg<'a>
-    ensures rule { rule_of result ≡ path name.now }
+/// An argument that takes a value, and may be left out.
+fn value_argument<'a>(alloc: Global, name: &'a str, shown: &'a str, help: &'a str) -> Arg<'a>
+    ensures rule { rule_of result ≡ value_argument name.now }
     ensures local { result.global ≡ false }
 {
     Arg::new(alloc, name)
         .value_name(shown)
         .help(help)
-        .required(true)
         .action(ArgAction::Set)
+}
+
+/// The argument whose value is a number from 1 to `most`.
+fn with_numbers<'a>(argument: Arg<'a>, most: u32) -> Arg<'a>
+    ensures rule { rule_of result ≡ with_numbers (rule_of argument.entry) most }
+    ensures local { result.global ≡ argument.entry.global }
+{
+    argument.value_parser(ValueParser::signed(1, i64::from(most)))
+}
+
+/// A required path.
+fn path<'a>(alloc: Global, name: &'a str, shown: &'a str, help: &'a str) -> Arg<'a>
+    ensures rule { rule_of result ≡ path name.now }
+    ensures local { result.global ≡ false }
+{
+    value_argument(alloc, name, shown, help).required(true)
 }
 
 fn file_path<'a>(alloc: Global) -> Arg<'a>
@@ -154,29 +172,20 @@ fn file_path<'a>(alloc: Global) -> Arg<'a>
     )
 }
 
-/// An option that takes a number from 1 to `most`.
-fn number_option<'a>(alloc: Global, name: &'a str, help: &'a str, most: u32) -> Arg<'a>
-    ensures rule { rule_of result ≡ number_option name.now most }
-    ensures local { result.global ≡ false }
-{
-    Arg::new(alloc, name)
-        .long(name)
-        .value_name("N")
-        .help(help)
-        .value_parser(value_parser!(u32).range(1..=i64::from(most)))
-        .action(ArgAction::Set)
-}
-
 /// An option that takes any text.
 fn text_option<'a>(alloc: Global, name: &'a str, shown: &'a str, help: &'a str) -> Arg<'a>
     ensures rule { rule_of result ≡ text_option name.now }
     ensures local { result.global ≡ false }
 {
-    Arg::new(alloc, name)
-        .long(name)
-        .value_name(shown)
-        .help(help)
-        .action(ArgAction::Set)
+    value_argument(alloc, name, shown, help).long(name)
+}
+
+/// An option that takes a number from 1 to `most`.
+fn number_option<'a>(alloc: Global, name: &'a str, help: &'a str, most: u32) -> Arg<'a>
+    ensures rule { rule_of result ≡ number_option name.now most }
+    ensures local { result.global ≡ false }
+{
+    with_numbers(text_option(alloc, name, "N", help), most)
 }
 
 /// A flag.
@@ -246,23 +255,39 @@ fn with_top<'a>(
     with_arg(command, number_option(alloc, "top", TOP_HELP, MOST_ROWS))
 }
 
+/// A command with its help.
+fn new_command<'a>(alloc: Global, name: &'a str, about: &'a str, after: &'a str) -> Command<'a>
+    ensures { IsCommand (new_app name.now) result }
+{
+    Command::new(alloc, name).about(about).after_help(after)
+}
+
+/// A command that reads a file.
+fn file_command<'a>(
+    alloc: Global,
+    name: &'a str,
+    about: &'a str,
+    after: &'a str,
+) -> Result<Command<'a>, AllocError>
+    ensures { IfOk result (IsCommand (with_rule (new_app name.now) (path (codes "file")))) }
+{
+    let command = new_command(alloc, name, about, after);
+    with_arg(Ok(command), file_path(alloc))
+}
+
 fn count_command<'a>(alloc: Global) -> Result<Command<'a>, AllocError>
     ensures { IfOk result (IsCommand count_app) }
 {
-    let command = Command::new(alloc, "count")
-        .about("Count how often each key occurs in a CSV file")
-        .after_help(AFTER_COUNT)
-        .arg(file_path(alloc));
+    let about = "Count how often each key occurs in a CSV file";
+    let command = file_command(alloc, "count", about, AFTER_COUNT);
     with_top(alloc, with_options(alloc, command))
 }
 
 fn place_command<'a>(alloc: Global) -> Result<Command<'a>, AllocError>
     ensures { IfOk result (IsCommand place_app) }
 {
-    let command = Command::new(alloc, "place")
-        .about("Show where the records of a CSV file go, and how evenly")
-        .after_help(AFTER_PLACE)
-        .arg(file_path(alloc));
+    let about = "Show where the records of a CSV file go, and how evenly";
+    let command = file_command(alloc, "place", about, AFTER_PLACE);
     let command = with_options(alloc, command);
     let command = with_arg(command, flag(alloc, "keys", KEYS_HELP));
     with_arg(
@@ -271,31 +296,19 @@ fn place_command<'a>(alloc: Global) -> Result<Command<'a>, AllocError>
     )
 }
 
-/// A path that may be left out.
-fn optional_path<'a>(alloc: Global, name: &'a str, shown: &'a str, help: &'a str) -> Arg<'a>
-    ensures rule { rule_of result ≡ optional_path name.now }
-    ensures local { result.global ≡ false }
-{
-    Arg::new(alloc, name)
-        .value_name(shown)
-        .help(help)
-        .action(ArgAction::Set)
-}
-
 fn check_command<'a>(alloc: Global) -> Result<Command<'a>, AllocError>
     ensures { IfOk result (IsCommand check_app) }
 {
-    let command = Command::new(alloc, "check")
-        .about("Find what is wrong with a CSV file, and with a script, and where")
-        .after_help(AFTER_CHECK)
-        .arg(file_path(alloc));
-    let script = optional_path(alloc, "script", "SCRIPT", SCRIPT_HELP);
+    let about = "Find what is wrong with a CSV file, and with a script, and where";
+    let command = file_command(alloc, "check", about, AFTER_CHECK);
+    let script = value_argument(alloc, "script", "SCRIPT", SCRIPT_HELP);
     let command = with_options(alloc, with_arg(command, script));
     let command = with_arg(command, flag(alloc, "plan", PLAN_HELP));
     with_arg(command, number_option(alloc, "most", MOST_HELP, MOST_ROWS))
 }
 
-/// Adds what `replay`, `trace`, `draw` and `run` have: a file, a script, the common options and `--batch`.
+/// Adds what `replay`, `trace`, `draw` and `run` have: a file, a script, the common options and
+/// `--batch`.
 fn with_script<'a>(
     alloc: Global,
     command: Command<'a>,
@@ -304,7 +317,7 @@ fn with_script<'a>(
     ensures { (app : App) → IsCommand app command.entry
         → IfOk result (IsCommand (with_script app)) }
 {
-    let command = command.arg(file_path(alloc));
+    let command = with_arg(Ok(command), file_path(alloc));
     let command = with_arg(command, path(alloc, "script", "SCRIPT", help));
     let command = with_options(alloc, command);
     with_arg(
@@ -316,9 +329,8 @@ fn with_script<'a>(
 fn replay_command<'a>(alloc: Global) -> Result<Command<'a>, AllocError>
     ensures { IfOk result (IsCommand replay_app) }
 {
-    let command = Command::new(alloc, "replay")
-        .about("Replay a script of group events over the keys of a CSV file")
-        .after_help(AFTER_REPLAY);
+    let about = "Replay a script of group events over the keys of a CSV file";
+    let command = new_command(alloc, "replay", about, AFTER_REPLAY);
     let command = with_script(alloc, command, "Script to replay; - is standard input");
     with_top(alloc, command)
 }
@@ -326,27 +338,24 @@ fn replay_command<'a>(alloc: Global) -> Result<Command<'a>, AllocError>
 fn trace_command<'a>(alloc: Global) -> Result<Command<'a>, AllocError>
     ensures { IfOk result (IsCommand trace_app) }
 {
-    let command = Command::new(alloc, "trace")
-        .about("Replay a script, and report each event with the group after it")
-        .after_help(AFTER_TRACE);
+    let about = "Replay a script, and report each event with the group after it";
+    let command = new_command(alloc, "trace", about, AFTER_TRACE);
     with_script(alloc, command, "Script to trace; - is standard input")
 }
 
 fn draw_command<'a>(alloc: Global) -> Result<Command<'a>, AllocError>
     ensures { IfOk result (IsCommand draw_app) }
 {
-    let command = Command::new(alloc, "draw")
-        .about("Replay a script, and draw who reads which partition, as SVG")
-        .after_help(AFTER_DRAW);
+    let about = "Replay a script, and draw who reads which partition, as SVG";
+    let command = new_command(alloc, "draw", about, AFTER_DRAW);
     with_script(alloc, command, "Script to draw; - is standard input")
 }
 
 fn run_command<'a>(alloc: Global) -> Result<Command<'a>, AllocError>
     ensures { IfOk result (IsCommand run_app) }
 {
-    let command = Command::new(alloc, "run")
-        .about("Count the keys with one thread per member, while members join and leave")
-        .after_help(AFTER_RUN);
+    let about = "Count the keys with one thread per member, while members join and leave";
+    let command = new_command(alloc, "run", about, AFTER_RUN);
     let command = with_script(
         alloc,
         command,
@@ -360,29 +369,24 @@ fn code_argument<'a>(alloc: Global) -> Arg<'a>
     ensures rule { rule_of result ≡ code_argument }
     ensures local { result.global ≡ false }
 {
-    Arg::new(alloc, "code")
-        .value_name("CODE")
-        .help("Number of a refusal or fault; without it, all are listed")
-        .value_parser(value_parser!(u32).range(1..=i64::from(LAST_CODE)))
-        .action(ArgAction::Set)
+    let code = value_argument(alloc, "code", "CODE", CODE_HELP);
+    with_numbers(code, LAST_CODE)
 }
 
 fn explain_command<'a>(alloc: Global) -> Result<Command<'a>, AllocError>
     ensures { IfOk result (IsCommand explain_app) }
 {
-    Command::new(alloc, "explain")
-        .about("Explain the code of a refusal or of a fault")
-        .after_help(AFTER_EXPLAIN)
-        .arg(code_argument(alloc))
+    let about = "Explain the code of a refusal or of a fault";
+    let command = new_command(alloc, "explain", about, AFTER_EXPLAIN);
+    with_arg(Ok(command), code_argument(alloc))
 }
 
 /// The program, without its subcommands.
 fn top_command<'a>(alloc: Global) -> Result<Command<'a>, AllocError>
     ensures { IfOk result (IsReadAs keycount_top) }
 {
-    Command::new(alloc, "keycount")
-        .about("Count the keys of a CSV file in a cluster whose members join and leave")
-        .after_help(AFTER_KEYCOUNT)
+    let about = "Count the keys of a CSV file in a cluster whose members join and leave";
+    new_command(alloc, "keycount", about, AFTER_KEYCOUNT)
         .no_binary_name(true)
         .subcommand_required(true)
         .version(VERSION)
@@ -453,18 +457,24 @@ fn topics_of(alloc: Global, given: &ArgMatches) -> Result<Vec<Topic>, Usage>
     }
 }
 
-/// The error for a value of `--column` or `--topic-column` that is no column, as clap words it.
-fn bad_column_usage(alloc: Global, option: &str, value: &str) -> Usage
+/// The error for a value that an option does not take, as clap words it.
+fn bad_value_usage(alloc: Global, option: &str, shown: &str, value: &str, why: &str) -> Usage
     ensures { IsBadReport result }
 {
-    let why = if is_numeral(value) {
-        " is not in 1..=65535"
-    } else {
-        " is a name, which needs --header"
-    };
-    match format!(in alloc; "{BAD_VALUE} '{value}' for '--{option} <N>': {value}{why}{HINT}") {
+    match format!(in alloc;
+        "{BAD_VALUE} '{value}' for '--{option} <{shown}>': {value} {why}{HINT}"
+    ) {
         Ok(text) => Usage::Bad(text),
         Err(_) => Usage::Memory,
+    }
+}
+
+/// Why a value of `--column` or `--topic-column` is no column.
+fn why_no_column(value: &str) -> &'static str {
+    if is_numeral(value) {
+        "is not in 1..=65535"
+    } else {
+        "is a name, which needs --header"
     }
 }
 
@@ -486,20 +496,8 @@ fn column_of(
     };
     match parse_column(alloc, text, header) {
         Ok(Some(column)) => Ok(column),
-        Ok(None) => Err(bad_column_usage(alloc, id, text)),
+        Ok(None) => Err(bad_value_usage(alloc, id, "N", text, why_no_column(text))),
         Err(_) => Err(Usage::Memory),
-    }
-}
-
-/// The error for a value of `--delimiter` that is no delimiter, as clap words it.
-fn bad_delimiter_usage(alloc: Global, value: &str) -> Usage
-    ensures { IsBadReport result }
-{
-    match format!(in alloc;
-        "{BAD_VALUE} '{value}' for '--delimiter <C>': {value} {BAD_DELIMITER}{HINT}"
-    ) {
-        Ok(text) => Usage::Bad(text),
-        Err(_) => Usage::Memory,
     }
 }
 
@@ -515,7 +513,7 @@ fn delimiter_of(alloc: Global, given: &ArgMatches) -> Result<u8, Usage>
     };
     match parse_delimiter(text) {
         Some(delimiter) => Ok(delimiter),
-        None => Err(bad_delimiter_usage(alloc, text)),
+        None => Err(bad_value_usage(alloc, "delimiter", "C", text, BAD_DELIMITER)),
     }
 }
 
@@ -741,8 +739,8 @@ fn usage_of(alloc: Global, error: Error) -> Usage
 ///
 /// Errors: `Help` only where the words ask for help or for the version; `Bad` only where clap
 /// rejects them for another reason, or accepts them and the value of `--topics` is not a list of
-/// topics (the text is then `bad topics`), or that of `--column` or `--topic-column` not a column, or
-/// that of `--delimiter` not a delimiter; `Memory` where memory runs out.
+/// topics (the text is then `bad topics`), or that of `--column` or `--topic-column` not a column,
+/// or that of `--delimiter` not a delimiter; `Memory` where memory runs out.
 pub fn read_words<'a>(alloc: Global, words: &'a [&'a str]) -> Result<Job<'a>, Usage>
     ensures job { IfOk result (IsJobOf (map (λ w. w.now) words.now)) }
     ensures usage { IfErr result (IsRefusal (map (λ w. w.now) words.now)) }

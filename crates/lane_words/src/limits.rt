@@ -1,5 +1,7 @@
 //! Limits that several crates share.
 
+ghost use Rattle.lane_words.specs.Limits.{AreGroupLimits, AreRecordLimits};
+
 /// The largest number of partitions, over all topics.
 pub const MOST_PARTITIONS: u32 = 4096;
 
@@ -17,3 +19,9 @@ pub const MOST_RECORDS: u32 = u32::MAX;
 
 /// The number of the last generation of a group.
 pub const LAST_GENERATION: u32 = u32::MAX;
+
+/// A law: the limits have the numbers that the documents say.
+pub fn limits_are()
+    ensures group { AreGroupLimits }
+    ensures records { AreRecordLimits }
+{}

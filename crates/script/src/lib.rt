@@ -8,6 +8,7 @@
 //!   a `Plan` each line may follow those before it, and after each line somebody is present.
 //! - `first_line`, `parse_action`, `parse_change` and a `Roster` do the same line by line.
 //! - Either may instead fail with `Memory`.
+//! - By a law, `limits_are`, each limit has the number that the documents say.
 //!
 //! Tests: `driver_tests`, modules `scripts` and `plans`.
 #![tactic(auto)]
@@ -25,7 +26,7 @@ mod words;
 pub use action::{Action, Key};
 pub use forms::{FORMS, Form, PLAN_FORMS};
 pub use laws::{a_plan_is_short, forms_are_read, forms_are_shown, no_others_are_read};
-pub use limits::{LONGEST_LINE, MOST_DIGITS, NO_PARTITION};
+pub use limits::{LONGEST_LINE, MOST_DIGITS, NO_PARTITION, limits_are};
 pub use lines::{first_line, parse_action};
 pub use partitioner::Topic;
 pub use plan::{Change, Plan, Roster, parse_change, read_plan};

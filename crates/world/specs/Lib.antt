@@ -1,5 +1,6 @@
 pub mod Courses
 pub mod Draining
+pub mod Limits
 pub mod Observing
 pub mod Private
 pub mod Runs

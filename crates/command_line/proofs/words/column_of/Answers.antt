@@ -23,4 +23,4 @@ returns-in-Ok-None-clause-fault c =
     let found = found_of c.args.given.now in
     let text : first_of c.args.id.now (rows_of found) ≡ Some c.in-Some.text.now = sym (first_value-rows found c.args.id.now) ∙ sym c.in-Some.ensures in
     let parsed = rw c.in-Ok-None.field-0-is at c.in-Ok-None.ensures in
-    reports_bad_column c.args.header (first_of c.args.id.now (rows_of found)) c.bad_column_usage.result (rw text parsed) c.bad_column_usage.ensures
+    reports_bad_column c.args.header (first_of c.args.id.now (rows_of found)) c.bad_value_usage.result (rw text parsed) c.bad_value_usage.ensures

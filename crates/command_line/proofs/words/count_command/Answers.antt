@@ -1,19 +1,4 @@
-use Rattle.std.proofs.Common.{◌∙◌, ap, codes}
-use Rattle.std.proofs.lemmas.Result.{IfOk-weaker}
-use Rattle.clap.specs.Simple.{app_of_fields, new_app}
-use Rattle.clap.specs.declared.builder.command.Command.{Command}
-use Rattle.clap.specs.declared.builder.command.Command.TheOpen.{Command-F}
-use Rattle.command_line.specs.CommandLine.{path}
-use Rattle.command_line.specs.Private.CommandLine.{IsCommand}
-use Rattle.command_line.proofs.Entered.{added, described}
 use Rattle.command_line.proofs.words.count_command.Goals as goal
 
 pub returns : goal.returns
-returns c =
-    let texts = described c.new.result c.about.result c.after_help.result _ _ c.about.ensures c.after_help.ensures in
-    let start : IsCommand (new_app (codes "count")) c.after_help.result = record {
-      read_as = ap app_of_fields texts ∙ c.new.ensures.app;
-      local = ap (λ (f : Command-F Command). f.has_globals) texts ∙ c.new.ensures.local;
-    } in
-    let file = IfOk-weaker c.arg-command.result _ _ (λ r h. added _ r _ _ (path (codes "file")) h start c.file_path.ensures.rule c.file_path.ensures.local) c.arg-command.ensures in
-    c.with_top.ensures _ (c.with_options.ensures _ file)
+returns c = c.with_top.ensures _ (c.with_options.ensures _ c.file_command-command.ensures)

@@ -21,4 +21,4 @@ pub returns-in-None-clause-fault : goal.returns-in-None-clause-fault
 returns-in-None-clause-fault c =
     let found = found_of c.args.given.now in
     let text : first_of (codes "delimiter") (rows_of found) ≡ Some c.in-Some.text.now = sym (first_value-rows found (codes "delimiter")) ∙ sym c.in-Some.ensures in
-    reports_bad_delimiter (first_of (codes "delimiter") (rows_of found)) c.bad_delimiter_usage.result (rw text (sym c.in-None.ensures)) c.bad_delimiter_usage.ensures
+    reports_bad_delimiter (first_of (codes "delimiter") (rows_of found)) c.bad_value_usage.result (rw text (sym c.in-None.ensures)) c.bad_value_usage.ensures
