@@ -14,9 +14,9 @@ use crate::tally::counts_after;
 use byte_io::{Sink, Source, write_texts};
 use command_line::Options;
 use ingest::{FileRecords, file_records, logs_of};
+use key_index::KeyDictionary;
 use lane_words::{Memory, Refusal};
 use parallel::drop_each;
-use partition_log::Logs;
 use report_rows::count_rows::count_rows_texts;
 use report_rows::top_rows::top_text;
 use std::alloc::Global;
@@ -28,19 +28,19 @@ use std::thread::Threads;
 fn texts_of_count<R: Threads + Sync>(
     rt: &R,
     alloc: Global,
-    logs: &Logs,
+    keys: &KeyDictionary,
     counts: &[u64],
     records: u64,
     top: Option<u32>,
 ) -> Result<Vec<Vec<u8>>, Memory>
-    requires { length logs.now.keys ≡ length counts.now }
+    requires { length keys.now ≡ length counts.now }
     ensures { IfOk result (λ texts. flat_map vec_items texts.items
-        ≡ listed_rows top logs.now.keys counts.now ++ total_row records records) }
+        ≡ listed_rows top keys.now counts.now ++ total_row records records) }
 {
     let Some(most) = top else {
-        return count_rows_texts(rt, alloc, logs, counts, records, records);
+        return count_rows_texts(rt, alloc, keys, counts, records, records);
     };
-    let text = top_text(alloc, logs, counts, most, records, records)?;
+    let text = top_text(alloc, keys, counts, most, records, records)?;
     let mut texts = Vec::new(alloc);
     texts.push(text)?;
     Ok(texts)
@@ -64,7 +64,8 @@ fn plain_report<R: Threads + Sync + RandomSource>(
     let total = records.len() as u64;
     // The records can go: the logs have a copy of each key.
     let counts = counts_after(rt, alloc, records, &logs)?;
-    let texts = texts_of_count(rt, alloc, &logs, counts.counts(), total, options.top)?;
+    let keys = logs.dictionary();
+    let texts = texts_of_count(rt, alloc, keys, counts.counts(), total, options.top)?;
     logs.drop_parallel(rt);
     Ok(texts)
 }

@@ -77,8 +77,8 @@ fn names_of<'a>(alloc: Global, topics: &'a [Topic]) -> Result<Vec<&'a [u8]>, Mem
     Ok(names)
 }
 
-/// A column of a file, counted from 1. A named column is looked up in the header: `NoSuchColumn` for
-/// record 1 if there is none of that name.
+/// A column of a file, counted from 1. A named column is looked up in the header: `NoSuchColumn`
+/// for record 1 if there is none of that name.
 fn column_in(alloc: Global, file: &Blocks, column: &Column, header: bool) -> Result<u32, Refusal>
     requires { IsColumnIn header column.now }
     ensures answer { Answers (column_in file.now.delimiter file.now.bytes column.now) result }
@@ -135,10 +135,9 @@ fn records_among<R: Threads + Sync + RandomSource>(
     Ok(FileRecords::InTopics(keys))
 }
 
-/// The records of a file that is in memory, with the delimiter of the options. A long file is parsed
-/// in parallel. Fails with the fault
-/// of the first bad record (`BadCsv`, `NoSuchColumn`, `NoSuchTopic`), and with `Memory` if an
-/// allocation failed.
+/// The records of a file that is in memory, with the delimiter of the options. A long file is
+/// parsed in parallel. Fails with the fault of the first bad record (`BadCsv`, `NoSuchColumn`,
+/// `NoSuchTopic`), and with `Memory` if an allocation failed.
 #[tactic(auto, unfolding(crate::specs::Records::records_of))]
 pub fn read_records<R: Threads + Sync + RandomSource>(
     rt: &R,

@@ -298,7 +298,7 @@ const SHORT: [u8; 4] = [0xff; 4];
 /// Adds 6000 short keys and then this one.
 fn add_keys<'a>(keys: &mut Vec<&'a [u8]>, long: &'a [u8]) -> Result<(), Memory> {
     for i in 0..6000_usize {
-        keys.push(SHORT.get(..i % 5).unwrap_or(long))?;
+        keys.push(&SHORT[..i % 5])?;
     }
     keys.push(long)?;
     Ok(())

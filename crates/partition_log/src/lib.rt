@@ -171,6 +171,13 @@ impl Logs {
         self.partitions.topics()
     }
 
+    /// The keys, by their numbers.
+    pub fn dictionary(&self) -> &KeyDictionary
+        ensures { result.now ≡ self.now.keys }
+    {
+        &self.keys
+    }
+
     /// The partition of a key, appended or not, in the first topic. It allocates nothing.
     pub fn place_of(&self, key: &[u8]) -> u32
         ensures partition { result ≡ place_in self.now (of_first key.now) }

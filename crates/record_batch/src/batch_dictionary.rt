@@ -128,9 +128,9 @@ impl BatchDictionary {
         Ok(code)
     }
 
-    /// The place of a key that is two texts: where it stands, if it is looked up and found, and else
-    /// at the end, where it is added. None with a first text is looked up. Where memory is refused,
-    /// the keys stay as they were.
+    /// The place of a key that is two texts: where it stands, if it is looked up and found, and
+    /// else at the end, where it is added. None with a first text is looked up. Where memory is
+    /// refused, the keys stay as they were.
     pub fn code_of(&mut self, head: &[u8], key: &[u8], looks: bool) -> Result<usize, Memory>
         ensures code { IfOk result (TakesCode self.old self.new (head.now ++ key.now)) }
         ensures err { OnErr result (self.new ≡ self.old) }

@@ -11,8 +11,8 @@ use std::alloc::Global;
 use std::hash::RandomState;
 use std::marker::Model;
 
-/// How many keys are looked up at most: a look-up among more waits for memory as long as it takes to
-/// number the key again.
+/// How many keys are looked up at most: a look-up among more waits for memory as long as it takes
+/// to number the key again.
 const MOST_CACHED: u32 = 1 << 17;
 
 /// How many slots there are: half a megabyte, which stays in a processor's own cache.
@@ -24,8 +24,8 @@ const LONGEST_CACHED: usize = 11;
 /// The code in a slot that tells nothing.
 const NOTHING: u32 = u32::MAX;
 
-/// By what a key's word is multiplied, so that its high bits depend on all of it: 2^64 by the golden
-/// ratio (Knuth, The Art of Computer Programming, volume 3, 6.4).
+/// By what a key's word is multiplied, so that its high bits depend on all of it: 2^64 by the
+/// golden ratio (Knuth, The Art of Computer Programming, volume 3, 6.4).
 const MIX: u64 = 0x9E37_79B9_7F4A_7C15;
 
 /// A slot: a short key that came lately, and its code.
@@ -83,8 +83,8 @@ fn slot_of(key: &[u8]) -> usize {
     (word_of(key).wrapping_mul(MIX) >> 49) as usize
 }
 
-/// So many slots, which tell nothing. Without memory there are none, and each key is looked up in the
-/// table.
+/// So many slots, which tell nothing. Without memory there are none, and each key is looked up in
+/// the table.
 fn empty_slots(alloc: Global, count: usize) -> Vec<CachedKey>
     ensures { (keys : List Key) → All (IsCachedIn keys) result.items }
 {
@@ -139,8 +139,8 @@ fn note(lately: &mut [CachedKey], slot: usize, key: &[u8], code: u32)
     }
 }
 
-/// Where a key stands in a table, to which it is added where it is new, `grows` is told and there is
-/// room.
+/// Where a key stands in a table, to which it is added where it is new, `grows` is told and there
+/// is room.
 fn look_up(table: &mut KeyMap, key: &[u8], grows: bool) -> Result<Option<u32>, Memory>
     ensures found { IfOk result (λ found. IfSome found (TakesCode table.old table.new key.now)) }
     ensures none { IfOk result (λ found. IfNone found (table.new ≡ table.old)) }

@@ -8,8 +8,8 @@ ghost use Rattle.report_rows.specs.Rows.{AddsRows, total_row};
 use crate::rows;
 use csv::Writer;
 use itoa::Buffer;
+use key_index::KeyDictionary;
 use lane_words::Memory;
-use partition_log::LogRead;
 use std::alloc::Global;
 use std::thread;
 use std::thread::Threads;
@@ -29,39 +29,39 @@ pub fn write_count(writer: &mut Writer<Vec<u8>>, key: &[u8], count: u64) -> Resu
 }
 
 /// Writes the row of each key with its count, from key number `from` on, below `to`.
-fn write_counts<L: LogRead>(
+fn write_counts(
     writer: &mut Writer<Vec<u8>>,
-    logs: &L,
+    keys: &KeyDictionary,
     counts: &[u64],
     from: u32,
     to: u32,
 ) -> Result<(), Memory>
-    requires len { length (L.contents logs.now).keys ≡ length counts.now }
+    requires len { length keys.now ≡ length counts.now }
     requires range { (from ≤ to) × (to ≤ length counts.now) }
     ensures { OnOk result (AddsRows writer.old writer.new
-        (rows_between (L.contents logs.now).keys counts.now from to)) }
+        (rows_between keys.now counts.now from to)) }
 {
     for id in from..to {
-        write_count(writer, logs.key(id), counts[id as usize])?;
+        write_count(writer, keys.key(id), counts[id as usize])?;
     }
     Ok(())
 }
 
 /// The rows of the keys from number `from` on, below `to`, made on this thread.
-fn rows_sequential<L: LogRead>(
+fn rows_sequential(
     alloc: Global,
-    logs: &L,
+    keys: &KeyDictionary,
     counts: &[u64],
     from: u32,
     to: u32,
 ) -> Result<Vec<u8>, Memory>
-    requires len { length (L.contents logs.now).keys ≡ length counts.now }
+    requires len { length keys.now ≡ length counts.now }
     requires range { (from ≤ to) × (to ≤ length counts.now) }
     ensures { IfOk result (λ text. text.items
-        ≡ rows_between (L.contents logs.now).keys counts.now from to) }
+        ≡ rows_between keys.now counts.now from to) }
 {
     let mut writer = rows::new_writer(alloc);
-    write_counts(&mut writer, logs, counts, from, to)?;
+    write_counts(&mut writer, keys, counts, from, to)?;
     rows::text_of(writer)
 }
 
@@ -95,37 +95,37 @@ struct Span {
 
 /// The rows of a span of keys, in texts to be written one after another. More than `most` rows are
 /// made in two halves in parallel, and each half likewise.
-fn rows_parallel<R: Threads + Sync, L: LogRead + Sync>(
+fn rows_parallel<R: Threads + Sync>(
     rt: &R,
     alloc: Global,
-    logs: &L,
+    keys: &KeyDictionary,
     counts: &[u64],
     span: Span,
 ) -> Result<Vec<Vec<u8>>, Memory>
-    requires len { length (L.contents logs.now).keys ≡ length counts.now }
+    requires len { length keys.now ≡ length counts.now }
     requires range { (span.from ≤ span.to) × (span.to ≤ length counts.now) }
     requires bound { 1 ≤ span.most }
     ensures { IfOk result (λ texts. flat_map vec_items texts.items
-        ≡ rows_between (L.contents logs.now).keys counts.now span.from span.to) }
+        ≡ rows_between keys.now counts.now span.from span.to) }
 {
     let Span { from, to, most } = span;
     if to - from <= most {
-        return singleton(alloc, rows_sequential(alloc, logs, counts, from, to)?);
+        return singleton(alloc, rows_sequential(alloc, keys, counts, from, to)?);
     }
     let middle = from + (to - from) / 2;
     let (front, back) = thread::join(
         rt,
         || -> Result<Vec<Vec<u8>>, Memory>
-            requires { IsSync R.row × IsSync L.row
-                × (length (L.contents logs.now).keys ≡ length counts.now)
+            requires { IsSync R.row
+                × (length keys.now ≡ length counts.now)
                 × (from ≤ middle) × (middle ≤ length counts.now) × (1 ≤ most) }
             ensures { IfOk result (λ texts. flat_map vec_items texts.items
-                ≡ rows_between (L.contents logs.entry.now).keys counts.entry.now from middle) }
+                ≡ rows_between keys.entry.now counts.entry.now from middle) }
         {
             rows_parallel(
                 rt,
                 alloc,
-                logs,
+                keys,
                 counts,
                 Span {
                     from,
@@ -135,16 +135,16 @@ fn rows_parallel<R: Threads + Sync, L: LogRead + Sync>(
             )
         },
         || -> Result<Vec<Vec<u8>>, Memory>
-            requires { IsSync R.row × IsSync L.row
-                × (length (L.contents logs.now).keys ≡ length counts.now)
+            requires { IsSync R.row
+                × (length keys.now ≡ length counts.now)
                 × (middle ≤ to) × (to ≤ length counts.now) × (1 ≤ most) }
             ensures { IfOk result (λ texts. flat_map vec_items texts.items
-                ≡ rows_between (L.contents logs.entry.now).keys counts.entry.now middle to) }
+                ≡ rows_between keys.entry.now counts.entry.now middle to) }
         {
             rows_parallel(
                 rt,
                 alloc,
-                logs,
+                keys,
                 counts,
                 Span {
                     from: middle,
@@ -185,25 +185,25 @@ fn with_end(texts: Vec<Vec<u8>>, end: Vec<u8>) -> Result<Vec<Vec<u8>>, Memory>
 
 /// The text of a count: a row for each key, and the row of the totals. Few rows are one text; many
 /// are made in parallel and stay in several texts, to be written one after another.
-pub fn count_rows_texts<R: Threads + Sync, L: LogRead + Sync>(
+pub fn count_rows_texts<R: Threads + Sync>(
     rt: &R,
     alloc: Global,
-    logs: &L,
+    keys: &KeyDictionary,
     counts: &[u64],
     committed: u64,
     appended: u64,
 ) -> Result<Vec<Vec<u8>>, Memory>
-    requires { length (L.contents logs.now).keys ≡ length counts.now }
+    requires { length keys.now ≡ length counts.now }
     ensures { IfOk result (λ texts. flat_map vec_items texts.items
-        ≡ count_rows (L.contents logs.now).keys counts.now ++ total_row committed appended) }
+        ≡ count_rows keys.now counts.now ++ total_row committed appended) }
 {
-    let keys = logs.keys();
-    let most = (keys / PARTS).max(MIN_ROWS_PER_THREAD);
+    let count = keys.count();
+    let most = (count / PARTS).max(MIN_ROWS_PER_THREAD);
     let span = Span {
         from: 0,
-        to: keys,
+        to: count,
         most,
     };
-    let rows = rows_parallel(rt, alloc, logs, counts, span)?;
+    let rows = rows_parallel(rt, alloc, keys, counts, span)?;
     with_end(rows, total_text(alloc, committed, appended)?)
 }

@@ -9,6 +9,7 @@ use crate::{rows, top_rows};
 use csv::Writer;
 use group_machine::{Cluster, Move};
 use itoa::Buffer;
+use key_index::KeyDictionary;
 use lane_words::{Memory, Refusal};
 use partition_log::LogRead;
 use partitioner::Topic;
@@ -176,36 +177,36 @@ fn write_offsets(
 }
 
 /// Writes the rows of the keys with a count above 0, in the order of the keys.
-fn write_committed_counts<L: LogRead>(
+fn write_committed_counts(
     writer: &mut Writer<Vec<u8>>,
-    logs: &L,
+    keys: &KeyDictionary,
     counts: &[u64],
 ) -> Result<(), Memory>
-    requires { length (L.contents logs.now).keys ≡ length counts.now }
+    requires { length keys.now ≡ length counts.now }
     ensures { OnOk result (AddsRows writer.old writer.new
-        (committed_count_rows (L.contents logs.now).keys counts.now)) }
+        (committed_count_rows keys.now counts.now)) }
 {
-    for id in 0..logs.keys() {
-        top_rows::write_counted(writer, logs.key(id), counts[id as usize])?;
+    for id in 0..keys.count() {
+        top_rows::write_counted(writer, keys.key(id), counts[id as usize])?;
     }
     Ok(())
 }
 
 /// Writes the rows of all keys with a count above 0, or of those of the top.
-fn write_listed_counts<L: LogRead>(
+fn write_listed_counts(
     writer: &mut Writer<Vec<u8>>,
     alloc: Global,
-    logs: &L,
+    keys: &KeyDictionary,
     counts: &[u64],
     top: Option<u32>,
 ) -> Result<(), Memory>
-    requires { length (L.contents logs.now).keys ≡ length counts.now }
+    requires { length keys.now ≡ length counts.now }
     ensures { OnOk result (AddsRows writer.old writer.new
-        (listed_committed_rows top (L.contents logs.now).keys counts.now)) }
+        (listed_committed_rows top keys.now counts.now)) }
 {
     match top {
-        Some(most) => top_rows::write_top(writer, alloc, logs, counts, most),
-        None => write_committed_counts(writer, logs, counts),
+        Some(most) => top_rows::write_top(writer, alloc, keys, counts, most),
+        None => write_committed_counts(writer, keys, counts),
     }
 }
 
@@ -249,6 +250,6 @@ pub fn write_closing(
     write_owners(writer, topics, cluster)?;
     write_offsets(writer, topics, cluster)?;
     let counts = cluster.store().counts();
-    write_listed_counts(writer, alloc, cluster.logs(), counts, top)?;
+    write_listed_counts(writer, alloc, cluster.logs().dictionary(), counts, top)?;
     rows::write_total(writer, committed_total(cluster), appended_total(cluster))
 }

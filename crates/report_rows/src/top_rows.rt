@@ -7,8 +7,8 @@ ghost use Rattle.report_rows.specs.Rows.{AddsRows, total_row};
 
 use crate::{count_rows, rows};
 use csv::Writer;
+use key_index::KeyDictionary;
 use lane_words::Memory;
-use partition_log::LogRead;
 use std::alloc::Global;
 use std::cmp::Reverse;
 
@@ -43,42 +43,42 @@ pub fn write_counted(writer: &mut Writer<Vec<u8>>, key: &[u8], count: u64) -> Re
 
 /// Writes the rows of the `most` keys with the highest counts, the highest first; of equal counts,
 /// the key that came first. A key with count 0 has no row.
-pub fn write_top<L: LogRead>(
+pub fn write_top(
     writer: &mut Writer<Vec<u8>>,
     alloc: Global,
-    logs: &L,
+    keys: &KeyDictionary,
     counts: &[u64],
     most: u32,
 ) -> Result<(), Memory>
-    requires { length (L.contents logs.now).keys ≡ length counts.now }
+    requires { length keys.now ≡ length counts.now }
     ensures { OnOk result (AddsRows writer.old writer.new
-        (top_rows most (L.contents logs.now).keys counts.now)) }
+        (top_rows most keys.now counts.now)) }
 {
-    let ranked = ranked(alloc, logs.keys(), counts)?;
+    let ranked = ranked(alloc, keys.count(), counts)?;
     let shown = ranked.len().min(most as usize);
     for i in 0..shown {
         let (count, id) = ranked[i];
-        write_counted(writer, logs.key(id), count.0)?;
+        write_counted(writer, keys.key(id), count.0)?;
     }
     Ok(())
 }
 
 /// The text of a count of which the `most` keys with the highest counts are listed: a row for each
 /// of them, and the row of the totals, which are those of all keys.
-pub fn top_text<L: LogRead>(
+pub fn top_text(
     alloc: Global,
-    logs: &L,
+    keys: &KeyDictionary,
     counts: &[u64],
     most: u32,
     committed: u64,
     appended: u64,
 ) -> Result<Vec<u8>, Memory>
-    requires { length (L.contents logs.now).keys ≡ length counts.now }
+    requires { length keys.now ≡ length counts.now }
     ensures { IfOk result (λ text. text.items
-        ≡ top_rows most (L.contents logs.now).keys counts.now ++ total_row committed appended) }
+        ≡ top_rows most keys.now counts.now ++ total_row committed appended) }
 {
     let mut writer = rows::new_writer(alloc);
-    write_top(&mut writer, alloc, logs, counts, most)?;
+    write_top(&mut writer, alloc, keys, counts, most)?;
     rows::write_total(&mut writer, committed, appended)?;
     rows::text_of(writer)
 }

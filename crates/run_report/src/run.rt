@@ -146,8 +146,8 @@ fn devices_report<R: Threads + Wait + RandomSource + Sync, S: Source, T: Source,
 
 /// Runs a plan over the keys of a CSV file, with a thread for each member, and writes a row for
 /// each move, for each partition's owner and for its offsets, and the rows of a count of the keys;
-/// with `top`, of only so many keys. With topics, the rows name a partition by its topic and its number there. The text is the same
-/// for every schedule of the threads.
+/// with `top`, of only so many keys. With topics, the rows name a partition by its topic and its
+/// number there. The text is the same for every schedule of the threads.
 ///
 /// The whole file is read and parsed before the script is, and the whole text is made before the
 /// first write. So after `WriteFailed` a prefix of the text is written, and after any other refusal

@@ -12,7 +12,7 @@ use Rattle.report_rows.proofs.Counts.{counts-are}
 use Rattle.count_report.proofs.count.plain_report.Goals as goal
 
 pub texts_of_count-requires-after_bounds : goal.texts_of_count-requires-after_bounds
-texts_of_count-requires-after_bounds g c κs within = sym c.in_ok-counts.ensures.one_each ∙ ap length (sym c.counts-2.ensures)
+texts_of_count-requires-after_bounds g c κs within = ap length c.dictionary-keys.ensures ∙ sym c.in_ok-counts.ensures.one_each ∙ ap length (sym c.counts-2.ensures)
 
 pub returns-clause-answer : goal.returns-clause-answer
 returns-clause-answer g c =
@@ -23,7 +23,7 @@ returns-clause-answer g c =
     let counts = c.counts-2.ensures ∙ counts-are records c.in_ok-logs.logs _ logs.valid logs.logs c.in_ok-counts.ensures in
     let long = c.len-total.ensures ∙ sym (length-map records (λ (keyed : Keyed). keyed.1)) in
     let total = c.len-total.result in
-    let rows = c.in_ok-texts.ensures ∙ ap (λ (ks : List Key). listed_rows top ks c.counts-2.result.now ++ total_row total total) logs.logs.numbers
+    let rows = c.in_ok-texts.ensures ∙ ap (λ (ks : List Key). listed_rows top ks c.counts-2.result.now ++ total_row total total) (c.dictionary-keys.ensures ∙ logs.logs.numbers)
     ∙ ap (λ ns. listed_rows top (distinct keys) ns ++ total_row total total) counts ∙ ap (λ n. listed_rows top (distinct keys) (counts_of keys) ++ total_row n n) long in
     inl (sym (ap (λ fault. fault_or fault (plain_text top keys)) logs.answer ∙ ap Ok (sym rows)))
 

@@ -8,7 +8,7 @@ use Rattle.report_rows.proofs.replay_rows.write_closing.Goals as goal
 pub returns : goal.returns
 returns c =
     let s = c.args.cluster.now in
-    let keys = ap (λ l. l.keys) c.logs.ensures.logs in
+    let keys = c.dictionary.ensures ∙ ap (λ l. l.keys) c.logs.ensures.logs in
     let counts = c.counts-counts.ensures ∙ ap (λ x. x.counts) c.store.ensures.store in
     IfOk-weaker c.write_total.result _ _ (λ _ write text begun.
     let owners = c.in_ok-write_owners.ensures text begun in

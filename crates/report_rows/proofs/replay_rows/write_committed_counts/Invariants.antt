@@ -4,6 +4,6 @@ use Rattle.report_rows.specs.ReplayRows.{committed_count_rows}
 use Rattle.report_rows.proofs.replay_rows.write_committed_counts.Given as goal
 
 abbrev pub invariant-loop-id : goal.invariant-loop-id
-invariant-loop-id g l = (text : List ℕ) → HasText l.fn.writer text
+invariant-loop-id l = (text : List ℕ) → HasText l.fn.writer text
     → (now : List ℕ) × HasText l.writer now
-    × (now ++ committed_count_rows (drop l.id (g.L.LogRead.contents l.logs).keys) (drop l.id l.counts) ≡ text ++ committed_count_rows (g.L.LogRead.contents l.logs).keys l.counts)
+    × (now ++ committed_count_rows (drop l.id l.keys) (drop l.id l.counts) ≡ text ++ committed_count_rows l.keys l.counts)
