@@ -1,10 +1,11 @@
 -- The report of a check.
-use Rattle.std.specs.Prelude.{ℕ, Bool, List, [], ◌++◌, Option, None, Some, Result, Ok, take}
+use Rattle.std.specs.Prelude.{◌≡◌, ℕ, Bool, List, [], ◌++◌, Option, None, Some, Result, Ok, IfOk, IfSome, take}
 use Rattle.std.specs.Result.{result_map_both}
 use Rattle.lane_words.specs.declared.Refusal.{Refusal}
 use Rattle.command_line.specs.declared.options.CheckOptions.{CheckOptions}
 use Rattle.command_line.specs.declared.options.Options.{Options}
-use Rattle.check_report.specs.Findings.{Finding, finding_table}
+use Rattle.ingest.specs.Reports.{WritesIfKnown, WritesReport}
+use Rattle.check_report.specs.Findings.{Finding, finding_table, has_fault}
 use Rattle.check_report.specs.RecordFindings.{findings_of_file}
 use Rattle.check_report.specs.ScriptFindings.{findings_of_script}
 use Rattle.check_report.specs.Warnings.{warnings_of}
@@ -31,3 +32,33 @@ report_of_check options check file script =
 -- an answer without what it returns
 abbrev pub written : Result Bool Refusal → Result (Unit {0}) Refusal
 written answer = result_map_both (λ faulty. tt) (λ fault. fault) answer
+
+-- ---- a check of a file
+-- if its bytes are known, the report is written
+abbrev pub WritesCheckOfFile : Options → CheckOptions → Option (List ℕ) → Option (List ℕ)
+    → Option (List ℕ) → Result Bool Refusal → Type 0
+WritesCheckOfFile options check file old new answer =
+    IfSome file
+    (λ bytes. WritesReport (report_of_check options check bytes None) old new (written answer))
+
+-- if its bytes are known, the answer is whether there is a fault
+abbrev pub TellsFaultOfFile : Options → CheckOptions → Option (List ℕ) → Result Bool Refusal
+    → Type 0
+TellsFaultOfFile options check file answer =
+    IfOk answer (λ faulty.
+    IfSome file (λ bytes. faulty ≡ has_fault (findings_of options check bytes None)))
+
+-- ---- a check of a file and a script
+-- if the bytes of both are known, the report is written
+abbrev pub WritesCheckOfBoth : Options → CheckOptions → Option (List ℕ) → Option (List ℕ)
+    → Option (List ℕ) → Option (List ℕ) → Result Bool Refusal → Type 0
+WritesCheckOfBoth options check file script old new answer =
+    WritesIfKnown (λ bytes lines. report_of_check options check bytes (Some lines))
+    file script old new (written answer)
+
+-- if the bytes of both are known, the answer is whether there is a fault
+abbrev pub TellsFaultOfBoth : Options → CheckOptions → Option (List ℕ) → Option (List ℕ)
+    → Result Bool Refusal → Type 0
+TellsFaultOfBoth options check file script answer =
+    IfOk answer (λ faulty. IfSome file (λ bytes. IfSome script (λ lines.
+    faulty ≡ has_fault (findings_of options check bytes (Some lines)))))

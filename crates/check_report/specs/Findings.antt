@@ -4,7 +4,6 @@ use Rattle.std.specs.List.{list_any}
 use Rattle.std.specs.Option.{is_some, option_map_or}
 use Rattle.csv.specs.Writing.{row_text}
 use Rattle.report_rows.specs.Rows.{row_writer}
-use Rattle.check_report.specs.declared.findings.TheConstants.{MOST_SHOWN}
 
 -- one thing that is wrong, or may be: in which input, the code of the fault that a job would end
 -- with if it is one, the number of the record, the line and the byte if it has them, and in words
@@ -50,7 +49,7 @@ has_fault findings = list_any (λ finding. is_some finding.code) findings
 -- ---- words
 -- a text as it is shown: its first bytes, in single quotes
 abbrev pub shown : List ℕ → List ℕ
-shown text = codes "'" ++ take MOST_SHOWN text ++ codes "'"
+shown text = codes "'" ++ take 80 text ++ codes "'"
 
 -- what fields are called, by their number
 abbrev pub fields_word : ℕ → List ℕ

@@ -117,10 +117,14 @@ abbrev pub or_no_change : Bool → List Finding → List Finding
 or_no_change changes [] = if changes then [] else no_change ∷ []
 or_no_change changes (finding ∷ findings) = finding ∷ findings
 
+-- the findings of a plan, in order
+abbrev pub findings_of_plan : List ℕ → List Finding
+findings_of_plan script =
+    or_no_change (has_change (script_lines script))
+    (plan_findings_from nobody_yet (script_lines script))
+
 -- ---- either
 -- the findings of a script, or of a plan, in order
 abbrev pub findings_of_script : List Topic → Bool → List ℕ → List Finding
 findings_of_script topics false script = filter_map (line_finding topics) (script_lines script)
-findings_of_script topics true script =
-    or_no_change (has_change (script_lines script))
-    (plan_findings_from nobody_yet (script_lines script))
+findings_of_script topics true script = findings_of_plan script

@@ -4,7 +4,6 @@ use Rattle.strsim.specs.Edits.{levenshtein_row}
 use Rattle.script.specs.Forms.{parts_of, word_of}
 use Rattle.script.specs.Grammar.{first_word}
 use Rattle.script.specs.declared.forms.Form.{Form}
-use Rattle.check_report.specs.declared.suggestions.TheConstants.{MOST_EDITS}
 
 -- how many bytes are to be put in, taken out or replaced to make one word another
 abbrev pub edits : List ℕ → List ℕ → ℕ
@@ -20,9 +19,9 @@ nearer word so_far form =
     if nat_lt (edits_to word form) so_far.0 then (edits_to word form, Some form) else so_far
 
 -- the form whose first word is nearest to this word, of several the first; none if all are farther
--- than MOST_EDITS
+-- than 2
 unfoldable pub nearest : List ℕ → List Form → Option Form
-nearest word forms = (fold (nearer word) (MOST_EDITS + 1, None) forms).1
+nearest word forms = (fold (nearer word) (3, None) forms).1
 
 -- the two parts of a form, and with topics the word TOPIC between them, unless the second is empty
 abbrev pub joined_parts : Bool → List ℕ × List ℕ → List ℕ

@@ -1,10 +1,10 @@
 //! A check, from its sources to a sink.
 
-ghost use Rattle.std.specs.Prelude.{◌≡◌, ◌+◌, None, Some, IfOk, IfSome, option_map};
+ghost use Rattle.std.specs.Prelude.{◌≡◌, ◌+◌, IfOk, option_map};
 ghost use Rattle.byte_io.specs.Devices.{CanStillFail};
 ghost use Rattle.command_line.specs.Options.{IsCheckInRange};
-ghost use Rattle.ingest.specs.Reports.{AreInRange, CountsFailures, WritesAtEndAlone, WritesIfKnown, WritesReport, failed_reads, failed_writes};
-ghost use Rattle.check_report.specs.CheckReport.{findings_of, report_of_check, script_findings, written};
+ghost use Rattle.ingest.specs.Reports.{AreInRange, CountsFailures, WritesAtEndAlone, failed_reads, failed_writes};
+ghost use Rattle.check_report.specs.CheckReport.{TellsFaultOfBoth, TellsFaultOfFile, WritesCheckOfBoth, WritesCheckOfFile, findings_of, script_findings, written};
 ghost use Rattle.check_report.specs.Findings.{finding_table, has_fault};
 
 use crate::findings::{Finding, has_fault, table_of};
@@ -110,11 +110,9 @@ pub fn check_text<S: Source, K: Sink>(
     requires sink { CanStillFail (K.failures out.old) }
     requires options { AreInRange options.now }
     requires check { IsCheckInRange check.now }
-    ensures report { IfSome (S.left file.old) (λ bytes.
-        WritesReport (report_of_check options.now check.now bytes None)
-        (K.written out.old) (K.written out.new) (written result)) }
-    ensures faulty { IfOk result (λ faulty. IfSome (S.left file.old)
-        (λ bytes. faulty ≡ has_fault (findings_of options.now check.now bytes None))) }
+    ensures report { WritesCheckOfFile options.now check.now (S.left file.old)
+        (K.written out.old) (K.written out.new) result }
+    ensures faulty { TellsFaultOfFile options.now check.now (S.left file.old) result }
     ensures end { WritesAtEndAlone (K.written out.old) (K.written out.new) (written result) }
     ensures reads { S.failures file.new ≡ S.failures file.old + failed_reads result }
     ensures writes { K.failures out.new ≡ K.failures out.old + failed_writes (written result) }
@@ -142,13 +140,10 @@ pub fn check_both_text<S: Source, T: Source, K: Sink>(
     requires sink { CanStillFail (K.failures out.old) }
     requires options { AreInRange options.now }
     requires check { IsCheckInRange check.now }
-    ensures report { WritesIfKnown
-        (λ bytes lines. report_of_check options.now check.now bytes (Some lines))
-        (S.left file.old) (T.left script.old) (K.written out.old) (K.written out.new)
-        (written result) }
-    ensures faulty { IfOk result (λ faulty. IfSome (S.left file.old) (λ bytes.
-        IfSome (T.left script.old) (λ lines.
-        faulty ≡ has_fault (findings_of options.now check.now bytes (Some lines))))) }
+    ensures report { WritesCheckOfBoth options.now check.now (S.left file.old)
+        (T.left script.old) (K.written out.old) (K.written out.new) result }
+    ensures faulty { TellsFaultOfBoth options.now check.now (S.left file.old)
+        (T.left script.old) result }
     ensures end { WritesAtEndAlone (K.written out.old) (K.written out.new) (written result) }
     ensures reads { CountsFailures (S.failures file.old) (S.failures file.new)
         (T.failures script.old) (T.failures script.new) result }

@@ -1,6 +1,6 @@
 //! The records of a file that are bad, or whose key is too long.
 
-ghost use Rattle.std.specs.Prelude.{◌≡◌, ◌≤◌, ◌∷◌, ◌++◌, Err, IfErr, IfOk, IfSome, OnOk, codes, decimal, length, take};
+ghost use Rattle.std.specs.Prelude.{◌≡◌, ◌≤◌, ◌++◌, Err, IfErr, IfOk, IfSome, OnOk, codes, decimal, length, take};
 ghost use Rattle.std.specs.List.{filter_map, list_any};
 ghost use Rattle.std.specs.Option.{option_to_list};
 ghost use Rattle.std.specs.Str.{bytes_eq};
@@ -10,8 +10,8 @@ ghost use Rattle.command_line.specs.Options.{IsColumnIn};
 ghost use Rattle.ingest.specs.Reports.{AreInRange};
 ghost use Rattle.check_report.specs.Findings.{fields_word, shown};
 ghost use Rattle.check_report.specs.Private.PlacedRecords.{IsReading, records_left};
-ghost use Rattle.check_report.specs.Private.RecordFindings.{HasKeyOf, column_among, column_found, taken, topic_column_among};
-ghost use Rattle.check_report.specs.RecordFindings.{field_in, findings_among, findings_in, findings_of_file, found_at, lacking, record_finding, record_refusal, record_words, unnamed};
+ghost use Rattle.check_report.specs.Private.RecordFindings.{HasKeyOf, column_among, column_found, findings_behind, taken, topic_column_among};
+ghost use Rattle.check_report.specs.RecordFindings.{field_in, findings_among, findings_of_file, found_at, lacking, record_finding, record_refusal, record_words, unnamed};
 
 use crate::findings::{Finding, with_shown};
 use crate::places::Place;
@@ -316,11 +316,8 @@ fn findings_behind(
     requires options { AreInRange options.now }
     requires reads { IsReading records.old }
     requires most { 1 ≤ most }
-    ensures { IfOk result (λ found. found.items ≡ take most (findings_in options.now
-        (column_among (fields_of records.old.row) options.now.column)
-        (topic_column_among (fields_of records.old.row) options.now.topics.items
-        options.now.topic_column)
-        ((first, fields_of records.old.row) ∷ records_left records.old))) }
+    ensures { IfOk result (λ found. found.items ≡ take most (findings_behind options.now first
+        (fields_of records.old.row) (records_left records.old))) }
 {
     let Some(column) = column_among(&records.row, &options.column, options.header) else {
         return unnamed(alloc, &options.column, first);

@@ -9,7 +9,7 @@ ghost use Rattle.script.specs.Plan.{behind, is_no_plan_line, nobody_yet, parse_c
 ghost use Rattle.script.specs.Replay.{is_bad};
 ghost use Rattle.script.specs.declared.limits.TheConstants.{LONGEST_LINE};
 ghost use Rattle.check_report.specs.Findings.{shown};
-ghost use Rattle.check_report.specs.ScriptFindings.{behind_line, change_words, findings_of_script, found_in, has_change, line_finding, no_change, or_no_change, plan_finding, plan_findings_from, plan_words, script_lines, unread_in_plan, unread_in_script, unread_words};
+ghost use Rattle.check_report.specs.ScriptFindings.{behind_line, change_words, findings_of_plan, findings_of_script, found_in, has_change, line_finding, no_change, plan_finding, plan_findings_from, plan_words, script_lines, unread_in_plan, unread_in_script, unread_words};
 
 use crate::findings::{Finding, with_shown};
 use crate::suggestions::add_suggestion;
@@ -311,9 +311,7 @@ fn no_change(alloc: Global) -> Result<Finding, Memory>
 /// The first findings of a plan, at most `most`.
 fn findings_of_plan(alloc: Global, script: &[u8], most: usize) -> Result<Vec<Finding>, Memory>
     requires { 1 ≤ most }
-    ensures { IfOk result (λ found. found.items
-        ≡ take most (or_no_change (has_change (script_lines script.now))
-        (plan_findings_from nobody_yet (script_lines script.now)))) }
+    ensures { IfOk result (λ found. found.items ≡ take most (findings_of_plan script.now)) }
 {
     let mut found = Vec::new(alloc);
     let changes = check_plan(alloc, &mut found, script, most)?;

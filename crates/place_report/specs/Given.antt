@@ -13,7 +13,6 @@ use Rattle.ingest.specs.RecordFaults.{fault_or, first_fault}
 use Rattle.ingest.specs.Records.{partition_counts, partition_of_record, records_of}
 use Rattle.ingest.specs.Reports.{report_of_read}
 use Rattle.place_report.specs.PlaceRows.{topic_column}
-use Rattle.place_report.specs.declared.given.TheConstants.{MOST_TOLD}
 
 -- ---- the given column
 -- the number of the record that is at fault; 0 if no record is
@@ -85,7 +84,7 @@ misplaced_of options read =
 -- the table of the first of them
 abbrev pub given_table : List Topic → List (List ℕ) → List ℕ
 given_table topics misplaced =
-    given_header topics ++ flat_map (λ row. row) (take MOST_TOLD misplaced)
+    given_header topics ++ flat_map (λ row. row) (take 20 misplaced)
 
 -- the same of records and their given column, or the fault of the first that can't be appended
 abbrev pub given_of_records : Options → List Keyed × List (List ℕ) → Result (List ℕ) Refusal

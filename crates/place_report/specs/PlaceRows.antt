@@ -36,7 +36,8 @@ partition_header topics =
     ∷ codes "records_of_largest" ∷ [])
 
 -- the row of a partition whose records have these keys: how many records and how many different
--- keys it has, the most frequent key, which is empty if there is none, and how many records that has
+-- keys it has, the most frequent key, which is empty if there is none, and how many records that
+-- has
 unfoldable pub partition_row : List Topic → ℕ → List Key → List ℕ
 partition_row topics p keys =
     row_text row_writer

@@ -9,7 +9,8 @@ use Rattle.replay_steps.specs.Steps.{StepTaken}
 -- the answer and the world of this outcome, which does not end the script, and all its steps were
 -- shown
 pub record IsShownLine {O : Type 0} (Shows : O → List StepTaken → O → Type 0)
-    (outcome : LineOutcome) (o : O) (answer : Result (Unit {0}) Refusal) (w2 : WorldState) (o2 : O) : Type 0 where
+    (outcome : LineOutcome) (o : O) (answer : Result (Unit {0}) Refusal) (w2 : WorldState) (o2 : O)
+    : Type 0 where
   pub answer_is : answer ≡ outcome.answer
   pub after_is : w2 ≡ outcome.after
   pub shown : Shows o outcome.steps o2

@@ -91,12 +91,17 @@ step_of line number event member name outcome = record {
   after = outcome.after;
 }
 
+-- the step of an event with this reply, in the world after it
+abbrev pub step_replied : ℕ → ℕ → StepEvent → ℕ → List ℕ → Reply → WorldState → StepTaken
+step_replied line number event member name reply w =
+    step_of line number event member name (record { reply = reply; after = w })
+
 -- the step of an event that a settling or a draining chose
 abbrev pub step_of_seen : ℕ → ℕ → Seen → StepTaken
 step_of_seen line number seen =
     let member : ℕ = member_of seen.after seen.event in
-    step_of line number (step_event seen.event) member (name_of_member seen.after member)
-    (record { reply = seen.reply; after = seen.after })
+    step_replied line number (step_event seen.event) member (name_of_member seen.after member)
+    seen.reply seen.after
 
 -- the steps of such events, of which the first has this number
 abbrev pub steps_of_seen : ℕ → ℕ → List Seen → List StepTaken

@@ -6,7 +6,7 @@ ghost use Rattle.world.specs.Courses.{outcome_of};
 ghost use Rattle.world.specs.Draining.{draining};
 ghost use Rattle.world.specs.Settling.{settling};
 ghost use Rattle.replay_steps.specs.Lines.{number_named, outcome_of_action, outcome_of_course, outcome_of_event, outcome_of_line, steps_of_lines};
-ghost use Rattle.replay_steps.specs.Private.Walks.{IsEvent, IsEventOf, IsPerformed, name_for};
+ghost use Rattle.replay_steps.specs.Private.Walks.{IsEvent, IsEventOf, Performs, name_for};
 ghost use Rattle.replay_steps.specs.Shown.{AreShown, IsLineFault, IsScriptFault, IsShownLine};
 ghost use Rattle.replay_steps.specs.Steps.{closing_step, member_of, step_event};
 ghost use Rattle.replay_steps.specs.declared.step.StepEvent.TheVariants as what;
@@ -82,9 +82,9 @@ fn perform_event<O: StepObserver>(
 ) -> Result<Result<(), Refusal>, Memory>
     requires event { IsEvent action.now }
     requires start { walk.old.next ≡ 1 }
-    ensures { (batch : ℕ) → IfOk result (λ answer.
-        IsPerformed O.Shows (outcome_of_action batch world.old walk.old.line action.now)
-        walk.old.observer answer world.new walk.new.observer) }
+    ensures { (batch : ℕ) → Performs O.Shows
+        (outcome_of_action batch world.old walk.old.line action.now)
+        walk.old.observer result world.new walk.new.observer }
 {
     let event = event_of(world, action);
     let reply = world.step(event);
@@ -124,9 +124,9 @@ fn perform_settle<O: StepObserver>(
     walk: &mut Walk<O>,
 ) -> Result<Result<(), Refusal>, Memory>
     requires { walk.old.next ≡ 1 }
-    ensures { IfOk result (λ answer. IsPerformed O.Shows
+    ensures { Performs O.Shows
         (outcome_of_course walk.old.line what.Settle world.old (settling world.old))
-        walk.old.observer answer world.new walk.new.observer) }
+        walk.old.observer result world.new walk.new.observer }
 {
     let answer = world.settle_observed(walk);
     end_course(world, StepEvent::Settle, answer, walk)
@@ -140,9 +140,9 @@ fn perform_drain<O: StepObserver>(
 ) -> Result<Result<(), Refusal>, Memory>
     requires batch { 1 ≤ batch }
     requires start { walk.old.next ≡ 1 }
-    ensures { IfOk result (λ answer. IsPerformed O.Shows
+    ensures { Performs O.Shows
         (outcome_of_course walk.old.line what.Drain world.old (draining batch world.old))
-        walk.old.observer answer world.new walk.new.observer) }
+        walk.old.observer result world.new walk.new.observer }
 {
     let answer = world.drain_observed(batch, walk);
     end_course(world, StepEvent::Drain, answer, walk)
@@ -158,9 +158,8 @@ fn perform_action<O: StepObserver>(
 ) -> Result<Result<(), Refusal>, Memory>
     requires batch { 1 ≤ batch }
     requires start { walk.old.next ≡ 1 }
-    ensures { IfOk result (λ answer. IsPerformed O.Shows
-        (outcome_of_action batch world.old walk.old.line action.now)
-        walk.old.observer answer world.new walk.new.observer) }
+    ensures { Performs O.Shows (outcome_of_action batch world.old walk.old.line action.now)
+        walk.old.observer result world.new walk.new.observer }
 {
     match action {
         Action::Settle => perform_settle(world, walk),

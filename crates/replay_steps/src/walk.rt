@@ -2,7 +2,7 @@
 
 ghost use Rattle.std.specs.Prelude.{◌≡◌, ◌+◌, ◌∷◌, [], length, OnOk};
 ghost use Rattle.replay_steps.specs.Private.Walks.{ShowsOfLine};
-ghost use Rattle.replay_steps.specs.Steps.{closing_step, member_of, name_of_member, sender_of, step_event, step_of, steps_of_seen};
+ghost use Rattle.replay_steps.specs.Steps.{closing_step, member_of, name_of_member, sender_of, step_event, step_replied, steps_of_seen};
 ghost use Rattle.replay_steps.specs.Private.ShownLaws.{shows_of_none, shows_of_more};
 
 use crate::step::{Step, StepEvent, StepObserver};
@@ -52,8 +52,8 @@ impl<O: StepObserver> Walk<O> {
         world: &World,
     ) -> Result<(), Memory>
         ensures shown { OnOk result (O.Shows self.old.observer
-            (step_of self.old.line self.old.next event member name.now
-            (record { reply = reply; after = world.now }) ∷ []) self.new.observer) }
+            (step_replied self.old.line self.old.next event member name.now reply world.now ∷ [])
+            self.new.observer) }
         ensures same_line { self.new.line ≡ self.old.line }
         ensures same_next { self.new.next ≡ self.old.next }
     {

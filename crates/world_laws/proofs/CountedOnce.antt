@@ -1,7 +1,7 @@
 -- How often a record is counted, at each step of a cluster.
 use Rattle.std.proofs.Common.{◌≡◌, ◌∙◌, ◌⊎◌, ◌+◌, ◌<◌, ◌≤◌, ℕ, Bool, true, false, List, [], ◌∷◌, ◌++◌, Ok, cond, length, length-append, refl, sym, ap, inl, inr, arith}
 use Rattle.std.specs.Prelude.{◌&&◌, ◌==◌, filter, nat_le, nat_lt, slice_index_or, if◌then◌else◌}
-use Rattle.std.proofs.lemmas.Bool.{false≢true}
+use Rattle.std.proofs.lemmas.Bool.{cases_lt, false≢true}
 use Rattle.std.proofs.lemmas.Bool.Decides.{eqb_tells, nat_tests}
 use Rattle.std.proofs.lemmas.List.{get_or-set_other, get_or-set_same}
 use Rattle.std.proofs.lemmas.List.Elements.{filter-append}
@@ -13,7 +13,7 @@ use Rattle.world.specs.Courses.{after_all}
 use Rattle.world.specs.Valid.{IsValidWorld}
 use Rattle.world.specs.World.{WorldState}
 use Rattle.world.proofs.Clusters.{IsAccepted, committed_valid}
-use Rattle.world_laws.specs.Counting.{counts_record, times_counted}
+use Rattle.world_laws.specs.Counting.{GetsCommitted, accepted_in, counts_record, times_counted}
 use Rattle.world_laws.specs.Growth.{OnlyGrows}
 use Rattle.world_laws.proofs.Grown.{grows, grows_on, members_grow}
 use Rattle.world_laws.proofs.Steps.{GoesOn, HoldsOfMembers, HoldsOfSteps, holds_all}
@@ -114,13 +114,22 @@ is_not_below committed offset le = go (nat_lt offset committed) refl
     go true is = absurd (grind (arith, nat_tests))
     go false is = refl
 
-pub counted_once : (w : WorldState) (es : List Event) (p offset : ℕ) → IsValidWorld w → committed_at w.cluster.store p ≤ offset → offset < committed_at (after_all w es).cluster.store p → times_counted w es p offset ≡ 1
-counted_once w es p offset v from to =
-    omega (arith, holds_all AddsUp adds_on adds_up members_add_up w es v p offset, is_not_below (committed_at w.cluster.store p) offset from, is_below (committed_at (after_all w es).cluster.store p) offset to)
+pub counted_once : (w : WorldState) (es : List Event) (p offset : ℕ) → IsValidWorld w → GetsCommitted w es p offset → times_counted w es p offset ≡ 1
+counted_once w es p offset v gets =
+    omega (arith, holds_all AddsUp adds_on adds_up members_add_up w es v p offset, is_not_below (committed_at w.cluster.store p) offset gets.0, is_below (committed_at (after_all w es).cluster.store p) offset gets.1)
 
-pub never_counted : (w : WorldState) (es : List Event) (p offset : ℕ) → IsValidWorld w → (offset < committed_at w.cluster.store p) ⊎ (committed_at (after_all w es).cluster.store p ≤ offset) → times_counted w es p offset ≡ 0
-never_counted w es p offset v (inl before) =
-    let grown = (holds_all (λ commits. OnlyGrows) grows_on grows members_grow w es v).committed p in
-    omega (arith, holds_all AddsUp adds_on adds_up members_add_up w es v p offset, is_below (committed_at w.cluster.store p) offset before, is_below (committed_at (after_all w es).cluster.store p) offset (omega (arith, before, grown)))
-never_counted w es p offset v (inr behind) =
-    omega (arith, holds_all AddsUp adds_on adds_up members_add_up w es v p offset, is_not_below (committed_at (after_all w es).cluster.store p) offset behind)
+pub never_counted : (w : WorldState) (es : List Event) (p offset : ℕ) → IsValidWorld w → (GetsCommitted w es p offset → ⊥) → times_counted w es p offset ≡ 0
+never_counted w es p offset v gets_not = go (cases_lt offset (committed_at w.cluster.store p)) (cases_lt offset (committed_at (after_all w es).cluster.store p))
+  where
+    adds : AddsUp (accepted_in w es) w.cluster (after_all w es).cluster
+    adds = holds_all AddsUp adds_on adds_up members_add_up w es v
+
+    grown : committed_at w.cluster.store p ≤ committed_at (after_all w es).cluster.store p
+    grown = (holds_all (λ commits. OnlyGrows) grows_on grows members_grow w es v).committed p
+
+    go : (offset < committed_at w.cluster.store p) ⊎ (committed_at w.cluster.store p ≤ offset)
+        → (offset < committed_at (after_all w es).cluster.store p) ⊎ (committed_at (after_all w es).cluster.store p ≤ offset) → times_counted w es p offset ≡ 0
+    go (inl before) after =
+        omega (arith, adds p offset, is_below (committed_at w.cluster.store p) offset before, is_below (committed_at (after_all w es).cluster.store p) offset (omega (arith, before, grown)))
+    go (inr from) (inl to) = absurd (gets_not (from, to))
+    go (inr from) (inr behind) = omega (arith, adds p offset, is_not_below (committed_at (after_all w es).cluster.store p) offset behind)

@@ -1,8 +1,10 @@
 -- Who is a member, and under which name.
 use Rattle.std.specs.Prelude.{◌≡◌, ◌≤◌, ⊤, ℕ, List, Some, length, true, false}
+use Rattle.group_machine.specs.Settled.{is_settled}
 use Rattle.group_machine.specs.State.{GroupState, is_present, name_of}
 use Rattle.world.specs.declared.event.Event.{Event}
 use Rattle.world.specs.declared.event.Event.TheVariants as event
+use Rattle.world.specs.World.{WorldState}
 
 -- no two present members have the same name
 abbrev pub HaveDifferentNames : GroupState → Type 0
@@ -21,3 +23,7 @@ KeepsMembers (event.JoinKept name) = ⊥
 KeepsMembers (event.Leave member) = ⊥
 KeepsMembers (event.Lose member) = ⊥
 KeepsMembers event = ⊤
+
+-- the group of a world is settled
+abbrev pub IsSettled : WorldState → Type 0
+IsSettled w = is_settled w.cluster.group ≡ true

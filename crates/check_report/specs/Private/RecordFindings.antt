@@ -10,8 +10,11 @@ use Rattle.lane_words.specs.declared.Refusal.TheVariants as r
 use Rattle.partitioner.specs.declared.topic.Topic.{Topic}
 use Rattle.command_line.specs.declared.options.Column.{Column}
 use Rattle.command_line.specs.declared.options.Column.TheVariants.{Number, Named}
+use Rattle.command_line.specs.declared.options.Options.{Options}
 use Rattle.command_line.specs.declared.options.TheConstants.{LAST_COLUMN}
-use Rattle.check_report.specs.RecordFindings.{Wants, key_taken, taking_among}
+use Rattle.check_report.specs.Findings.{Finding}
+use Rattle.check_report.specs.RecordFindings.{Wants, findings_in, key_taken, taking_among}
+use Rattle.check_report.specs.declared.places.Place.{Place}
 
 -- a column of the file whose first record has these fields
 abbrev pub column_among : Record → Column → Result ℕ Refusal
@@ -23,6 +26,13 @@ column_among fields (Named name) =
 abbrev pub topic_column_among : Record → List Topic → Column → Result ℕ Refusal
 topic_column_among fields [] column = Ok 1
 topic_column_among fields (topic ∷ topics) column = column_among fields column
+
+-- the findings of a file whose first record, at this place, has these fields
+abbrev pub findings_behind : Options → Place → Record → List (Place × Record) → List Finding
+findings_behind options place fields rest =
+    findings_in options (column_among fields options.column)
+    (topic_column_among fields options.topics.items options.topic_column)
+    ((place, fields) ∷ rest)
 
 -- a column that was found, or the fault of a header that does not name it
 abbrev pub column_found : Option ℕ → Result ℕ Refusal

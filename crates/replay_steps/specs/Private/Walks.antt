@@ -1,5 +1,5 @@
 -- Walks over the steps of a line.
-use Rattle.std.specs.Prelude.{◌≡◌, ◌+◌, ℕ, List, [], Result, length, ⊤}
+use Rattle.std.specs.Prelude.{◌≡◌, ◌+◌, ℕ, List, [], Result, IfOk, length, ⊤}
 use Rattle.lane_words.specs.declared.Refusal.{Refusal}
 use Rattle.script.specs.declared.action.Action.{Action}
 use Rattle.script.specs.declared.action.Action.TheVariants.{Join, Keep, Return, Rejoin, Sync, Leave, Lose, Poll, Send, Deliver, Unanswered, Settle, Drain}
@@ -26,10 +26,17 @@ IsEvent action = ⊤
 
 -- a line was performed, and all its steps were shown
 pub record IsPerformed {O : Type 0} (Shows : O → List StepTaken → O → Type 0)
-    (outcome : LineOutcome) (o : O) (answer : Result (Unit {0}) Refusal) (w2 : WorldState) (o2 : O) : Type 0 where
+    (outcome : LineOutcome) (o : O) (answer : Result (Unit {0}) Refusal) (w2 : WorldState) (o2 : O)
+    : Type 0 where
   pub answer_is : answer ≡ outcome.answer
   pub after_is : w2 ≡ outcome.after
   pub shown : Shows o outcome.steps o2
+
+-- it was performed, unless memory ran out
+abbrev pub Performs : {O E : Type 0} → (O → List StepTaken → O → Type 0) → LineOutcome → O
+    → Result (Result (Unit {0}) Refusal) E → WorldState → O → Type 0
+Performs Shows outcome o result w2 o2 =
+    IfOk result (λ answer. IsPerformed Shows outcome o answer w2 o2)
 
 -- the name that an action gives; else that of the member
 abbrev pub name_for : WorldState → Action → ℕ → List ℕ

@@ -12,6 +12,6 @@ returns-clause-out c w events commit valid out =
     out_refused (after_all w events).cluster commit still.1
 
 pub returns-clause-over : goal.returns-clause-over
-returns-clause-over c w events commit offset valid over accepted =
+returns-clause-over c w events commit valid over offset accepted =
     let grown = holds_all (λ commits. OnlyGrows) grows_on grows members_grow w events valid in
     over_refused (after_all w events).cluster commit offset (omega (arith, over, grown.generation)) accepted
