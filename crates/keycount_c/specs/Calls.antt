@@ -1,16 +1,18 @@
 -- The forms of a call on the cluster behind a handle: the cluster before it, what it returns and
 -- writes, and the cluster after it. There may be none behind the handle.
-use Rattle.std.specs.Prelude.{◌≡◌, ℕ, ◌<◌, ◌≤◌, ◌==◌, ◌⊎◌, All, Bool, true, false, Option, None, Some, Result, Ok, Err, List, [], drop, length, map, OnOk, OnErr}
+use Rattle.std.specs.Prelude.{◌≡◌, ℕ, ◌<◌, ◌≤◌, ◌==◌, ◌⊎◌, All, Bool, true, false, Option, None, Some, Result, Ok, List, [], drop, length, map, nat_lt, OnOk, OnErr}
 use Rattle.std.specs.List.{list_any, sum}
 use Rattle.lane_words.specs.Answers.{Answers}
 use Rattle.lane_words.specs.declared.Refusal.{Refusal}
 use Rattle.lane_words.specs.declared.Refusal.TheVariants.{UnknownMember}
 use Rattle.lane_words.specs.Refusal.{code_of}
 use Rattle.bit_planes.specs.PartitionSet.{PartitionSet, elements, is_in, partitions_of}
+use Rattle.partitioner.specs.Name.{is_name}
+use Rattle.partition_log.specs.Keys.{key_at}
 use Rattle.partition_log.specs.Logs.{log_at}
-use Rattle.group_machine.specs.State.{is_present, opening}
-use Rattle.group_machine.specs.Steps.{rejoin_answer, rejoined_by, synced_by}
-use Rattle.group_machine.specs.Cluster.{AreCounts, AreLogsOf, ClusterState, CommitTerms, IsValidCluster, LeaseTerms, cluster_commit_answer, cluster_sync_answer, committed_at, committed_by, start_of, with_group}
+use Rattle.group_machine.specs.State.{GroupState, is_present, opening}
+use Rattle.group_machine.specs.Steps.{leave_answer, left_by, rejoin_answer, rejoined_by, synced_by}
+use Rattle.group_machine.specs.Cluster.{AreCounts, AreLogsOf, ClusterState, CommitTerms, IsValidCluster, LeaseTerms, append_answer, appended_to, cluster_commit_answer, cluster_sync_answer, committed_at, committed_by, start_of, with_group}
 use Rattle.keycount_c.specs.Answers.{number_of, offset_of, value_of}
 use Rattle.keycount_c.specs.Lists.{IsCopied, IsListed, with_front}
 use Rattle.keycount_c.specs.declared.answers.TheConstants.{BAD_ARGUMENT, DONE, HAS_VALUE, MEMORY, NO_VALUE, TOO_SHORT}
@@ -57,6 +59,28 @@ StepsIf may write answer next (Some s) out number out' after =
     ((may s ≡ true) × MakesStep write (answer s) s (next s) out number out' after)
     ⊎ ((may s ≡ false) × Refuses BAD_ARGUMENT (Some s) out number out' after)
 
+-- an append to the topic of this index, if there is one
+abbrev pub Appends : ℕ → List ℕ → Option ClusterState → ℕ × ℕ → ℕ → ℕ × ℕ → Option ClusterState
+    → Type 0
+Appends topic key before out number out' after =
+    StepsIf (λ s. nat_lt topic (length s.logs.counts)) value_of
+    (λ s. append_answer s.logs (topic, key)) (λ s. appended_to s (topic, key))
+    before out number out' after
+
+-- a step of the group for this name, if it is one; a member number is written
+abbrev pub StepsByName : (GroupState → List ℕ → Result ℕ Refusal)
+    → (GroupState → List ℕ → GroupState) → List ℕ → Option ClusterState → ℕ → ℕ → ℕ
+    → Option ClusterState → Type 0
+StepsByName answer next name before out number out' after =
+    StepsIf (λ s. is_name name) value_of (λ s. answer s.group name)
+    (λ s. with_group s (next s.group name)) before out number out' after
+
+-- a member leaves, or is lost
+abbrev pub Leaves : ℕ → Option ClusterState → ℕ → Option ClusterState → Type 0
+Leaves member before number after =
+    Steps value_of (λ s. leave_answer s.group member)
+    (λ s. with_group s (left_by s.group member)) before tt number tt after
+
 -- a rejoin with a claim of these numbers, all of partitions: the claim is the set of them
 pub record RejoinsWith (member generation : ℕ) (numbers : List ℕ) (s : ClusterState) (number : ℕ)
     (after : Option ClusterState) : Type 0 where
@@ -79,26 +103,47 @@ Rejoins member generation numbers (Some s) number after =
 abbrev pub Leased : Type 0
 Leased = ℕ × List ℕ × List ℕ × ℕ
 
-abbrev pub lease_written : Result LeaseTerms Refusal → Leased → Leased
-lease_written (Err refusal) out = out
-lease_written (Ok lease) (generation, partitions, offsets, count) = (
+abbrev pub lease_written : LeaseTerms → List ℕ × List ℕ → Leased
+lease_written lease (partitions, offsets) = (
   lease.generation,
   with_front (elements lease.assigned) partitions,
   with_front (map (start_of lease) (elements lease.assigned)) offsets,
   length (elements lease.assigned),
 )
 
-abbrev pub HasRoom : ClusterState → Leased → Type 0
-HasRoom s out = (s.group.partitions ≤ length out.1) × (s.group.partitions ≤ length out.2)
+-- both lists have room for all partitions
+abbrev pub HasRoom : ClusterState → List ℕ × List ℕ → Type 0
+HasRoom s lists = (s.group.partitions ≤ length lists.0) × (s.group.partitions ≤ length lists.1)
 
 -- a sync, if both lists have room for all partitions
-abbrev pub Syncs : ℕ → Option ClusterState → Leased → ℕ → Leased → Option ClusterState → Type 0
-Syncs member None out number out' after = Refuses NO_VALUE None out number out' after
-Syncs member (Some s) out number out' after =
-    (HasRoom s out
-    × MakesStep lease_written (cluster_sync_answer s member) s
-    (with_group s (synced_by s.group member)) out number out' after)
-    ⊎ ((HasRoom s out → ⊥) × Refuses TOO_SHORT (Some s) out number out' after)
+abbrev pub Syncs : ℕ → Option ClusterState → List ℕ × List ℕ → ℕ → Option ClusterState → Type 0
+Syncs member None lists number after = (number ≡ NO_VALUE) × (after ≡ None)
+Syncs member (Some s) lists number after =
+    (HasRoom s lists
+    × MakesStep {O = Unit {0}} (λ answer out. out) (cluster_sync_answer s member) s
+    (with_group s (synced_by s.group member)) tt number tt after)
+    ⊎ ((HasRoom s lists → ⊥) × (number ≡ TOO_SHORT) × (after ≡ Some s))
+
+-- what a sync writes is as it was
+abbrev pub KeepsLeased : Leased → Leased → Type 0
+KeepsLeased old new = new ≡ old
+
+-- the lease of a sync is written
+abbrev pub WritesLease : ℕ → Option ClusterState → List ℕ × List ℕ → Leased → Type 0
+WritesLease member None lists out = ⊥
+WritesLease member (Some s) lists out =
+    (lease : LeaseTerms) × (cluster_sync_answer s member ≡ Ok lease)
+    × (out ≡ lease_written lease lists)
+
+-- the terms of a commit of records by their key numbers
+abbrev pub commit_of : ℕ → ℕ → ℕ → ℕ → List ℕ → CommitTerms
+commit_of member generation partition from ids = record {
+  member = member;
+  generation = generation;
+  partition = partition;
+  from = from;
+  ids = ids;
+}
 
 -- a commit
 abbrev pub Commits : CommitTerms → Option ClusterState → ℕ → ℕ → ℕ → Option ClusterState → Type 0
@@ -150,13 +195,13 @@ abbrev pub Lists : {X : Type 0} → (ClusterState → List X) → Option Cluster
 Lists items None out number out' = (number ≡ NO_VALUE) × (out' ≡ out)
 Lists items (Some s) out number out' = IsListed (items s) out.0 number out'.0 out'.1
 
--- the same, if what it requires holds
-abbrev pub ListsIf : {X : Type 0} → (ClusterState → Bool) → (ClusterState → List X)
-    → Option ClusterState → List X × ℕ → ℕ → List X × ℕ → Type 0
-ListsIf may items None out number out' = (number ≡ NO_VALUE) × (out' ≡ out)
-ListsIf may items (Some s) out number out' =
-    ((may s ≡ true) × IsListed (items s) out.0 number out'.0 out'.1)
-    ⊎ ((may s ≡ false) × (number ≡ BAD_ARGUMENT) × (out' ≡ out))
+-- the same, of the key of a number, if there is one
+abbrev pub ListsKey : ℕ → Option ClusterState → List ℕ × ℕ → ℕ → List ℕ × ℕ → Type 0
+ListsKey id None out number out' = (number ≡ NO_VALUE) × (out' ≡ out)
+ListsKey id (Some s) out number out' =
+    ((nat_lt id (length s.logs.keys) ≡ true)
+    × IsListed (key_at s.logs.keys id) out.0 number out'.0 out'.1)
+    ⊎ ((nat_lt id (length s.logs.keys) ≡ false) × (number ≡ BAD_ARGUMENT) × (out' ≡ out))
 
 -- the same, of a member, if it is present
 abbrev pub ListsOf : ℕ → (ClusterState → List ℕ) → Option ClusterState → List ℕ × ℕ → ℕ

@@ -63,8 +63,8 @@ pending_of c partition (Ok ready) out =
     (unwrap_or c.member 0, c.generation, base_of c partition, position_of c partition)
 
 -- a call that reads the commit of all pending records of a partition
-abbrev pub ReadsPending : ℕ → Option ConsumerState → Pending → ℕ → Pending → Type 0
-ReadsPending partition None out number out' = (number ≡ NO_VALUE) × (out' ≡ out)
-ReadsPending partition (Some c) out number out' =
+abbrev pub ReadsCommit : ℕ → Option ConsumerState → Pending → ℕ → Pending → Type 0
+ReadsCommit partition None out number out' = (number ≡ NO_VALUE) × (out' ≡ out)
+ReadsCommit partition (Some c) out number out' =
     (number ≡ number_of (sendable_answer c partition))
     × (out' ≡ pending_of c partition (sendable_answer c partition) out)

@@ -3,14 +3,13 @@
 ghost use Rattle.std.specs.Prelude.{◌≡◌, ◌<◌, ◌≤◌, drop, map, nat_lt, length, unwrap_or};
 ghost use Rattle.bit_planes.specs.PartitionSet.{elements};
 ghost use Rattle.partitioner.specs.Name.{is_name};
-ghost use Rattle.partition_log.specs.Keys.{key_at};
 ghost use Rattle.partition_log.specs.Logs.{log_at};
 ghost use Rattle.commit_store.specs.Commits.{committed_at, count_at};
 ghost use Rattle.group_machine.specs.State.{assigned_of, granted_of, is_kept, member_named, members as members_of, name_of, owner_of};
 ghost use Rattle.group_machine.specs.NextSteps.{next_step};
 ghost use Rattle.group_machine.specs.Settled.{is_settled};
 ghost use Rattle.keycount_c.specs.Answers.{number_of_phase, number_of_step, number_of_truth};
-ghost use Rattle.keycount_c.specs.Calls.{Lists, ListsIf, ListsIfAny, ListsOf, Reads, ReadsIf, ReadsRecords};
+ghost use Rattle.keycount_c.specs.Calls.{Lists, ListsIfAny, ListsKey, ListsOf, Reads, ReadsIf, ReadsRecords};
 ghost use Rattle.keycount_c.specs.Held.{cluster_in};
 ghost use Rattle.keycount_c.specs.Lists.{IsCopied};
 ghost use Rattle.keycount_c.specs.Moves.{row_of_move};
@@ -384,9 +383,8 @@ pub extern "C" fn keycount_cluster_key(
     key: &mut [u8],
     count: &mut usize,
 ) -> u32
-    ensures answer { ListsIf (λ s. nat_lt number (length s.logs.keys))
-        (λ s. key_at s.logs.keys number)
-        (cluster_in cluster.old) (key.old, count.old) result (key.new, count.new) }
+    ensures answer { ListsKey number (cluster_in cluster.old) (key.old, count.old) result
+        (key.new, count.new) }
     ensures same { cluster_in cluster.new ≡ cluster_in cluster.old }
 {
     let Some(held) = take(cluster, alloc) else {

@@ -1,13 +1,12 @@
 //! The steps of a cluster.
 
-ghost use Rattle.std.specs.Prelude.{◌≡◌, ◌<◌, ◌≤◌, ◌↔◌, All, IfOk, IsTrue, None, length, nat_lt};
+ghost use Rattle.std.specs.Prelude.{◌≡◌, ◌≢◌, ◌<◌, ◌≤◌, ◌↔◌, All, IfOk, IsTrue, None, length};
 ghost use Rattle.std.specs.List.{sum};
-ghost use Rattle.partitioner.specs.Name.{is_name};
-ghost use Rattle.group_machine.specs.Steps.{join_answer, joined_by, joined_static_by, leave_answer, left_by, take_over_answer, taken_over_by};
-ghost use Rattle.group_machine.specs.Cluster.{AreCounts, append_answer, appended_to, with_group};
-ghost use Rattle.keycount_c.specs.Answers.{value_of};
-ghost use Rattle.keycount_c.specs.Calls.{Begins, Commits, Frees, Rejoins, Steps, StepsIf, Syncs};
+ghost use Rattle.group_machine.specs.Steps.{join_answer, joined_by, joined_static_by, take_over_answer, taken_over_by};
+ghost use Rattle.group_machine.specs.Cluster.{AreCounts};
+ghost use Rattle.keycount_c.specs.Calls.{Appends, Begins, Commits, Frees, KeepsLeased, Leaves, Rejoins, StepsByName, Syncs, WritesLease, commit_of};
 ghost use Rattle.keycount_c.specs.Held.{cluster_in};
+ghost use Rattle.keycount_c.specs.declared.answers.TheConstants.{DONE};
 
 use super::access::{put, take};
 use super::handle::ClusterHandle;
@@ -82,9 +81,7 @@ pub extern "C" fn keycount_cluster_append(
     partition: &mut u32,
     offset: &mut u32,
 ) -> u32
-    ensures { StepsIf (λ s. nat_lt topic (length s.logs.counts)) value_of
-        (λ s. append_answer s.logs (topic, key.now)) (λ s. appended_to s (topic, key.now))
-        (cluster_in cluster.old) (partition.old, offset.old) result
+    ensures { Appends topic key.now (cluster_in cluster.old) (partition.old, offset.old) result
         (partition.new, offset.new) (cluster_in cluster.new) }
 {
     let Some(mut held) = take(cluster, alloc) else {
@@ -114,8 +111,7 @@ pub extern "C" fn keycount_cluster_join(
     name: &[u8],
     member: &mut u32,
 ) -> u32
-    ensures { StepsIf (λ s. is_name name.now) value_of (λ s. join_answer s.group name.now)
-        (λ s. with_group s (joined_by s.group name.now))
+    ensures { StepsByName join_answer joined_by name.now
         (cluster_in cluster.old) member.old result member.new (cluster_in cluster.new) }
 {
     let Some(mut held) = take(cluster, alloc) else {
@@ -144,8 +140,7 @@ pub extern "C" fn keycount_cluster_join_kept(
     name: &[u8],
     member: &mut u32,
 ) -> u32
-    ensures { StepsIf (λ s. is_name name.now) value_of (λ s. join_answer s.group name.now)
-        (λ s. with_group s (joined_static_by s.group name.now))
+    ensures { StepsByName join_answer joined_static_by name.now
         (cluster_in cluster.old) member.old result member.new (cluster_in cluster.new) }
 {
     let Some(mut held) = take(cluster, alloc) else {
@@ -174,8 +169,7 @@ pub extern "C" fn keycount_cluster_take_over(
     name: &[u8],
     member: &mut u32,
 ) -> u32
-    ensures { StepsIf (λ s. is_name name.now) value_of (λ s. take_over_answer s.group name.now)
-        (λ s. with_group s (taken_over_by s.group name.now))
+    ensures { StepsByName take_over_answer taken_over_by name.now
         (cluster_in cluster.old) member.old result member.new (cluster_in cluster.new) }
 {
     let Some(mut held) = take(cluster, alloc) else {
@@ -203,9 +197,7 @@ pub extern "C" fn keycount_cluster_leave(
     cluster: &mut ClusterHandle,
     member: u32,
 ) -> u32
-    ensures { Steps value_of (λ s. leave_answer s.group member)
-        (λ s. with_group s (left_by s.group member))
-        (cluster_in cluster.old) tt result tt (cluster_in cluster.new) }
+    ensures { Leaves member (cluster_in cluster.old) result (cluster_in cluster.new) }
 {
     let Some(mut held) = take(cluster, alloc) else {
         return NO_VALUE;
@@ -225,9 +217,7 @@ pub extern "C" fn keycount_cluster_lose(
     cluster: &mut ClusterHandle,
     member: u32,
 ) -> u32
-    ensures { Steps value_of (λ s. leave_answer s.group member)
-        (λ s. with_group s (left_by s.group member))
-        (cluster_in cluster.old) tt result tt (cluster_in cluster.new) }
+    ensures { Leaves member (cluster_in cluster.old) result (cluster_in cluster.new) }
 {
     let Some(mut held) = take(cluster, alloc) else {
         return NO_VALUE;
@@ -286,9 +276,13 @@ pub extern "C" fn keycount_cluster_sync(
     offsets: &mut [u32],
     count: &mut usize,
 ) -> u32
-    ensures { Syncs member (cluster_in cluster.old)
-        (generation.old, partitions.old, offsets.old, count.old) result
-        (generation.new, partitions.new, offsets.new, count.new) (cluster_in cluster.new) }
+    ensures answer { Syncs member (cluster_in cluster.old) (partitions.old, offsets.old) result
+        (cluster_in cluster.new) }
+    ensures ok { result ≡ DONE → WritesLease member (cluster_in cluster.old)
+        (partitions.old, offsets.old) (generation.new, partitions.new, offsets.new, count.new) }
+    ensures err { result ≢ DONE → KeepsLeased
+        (generation.old, partitions.old, offsets.old, count.old)
+        (generation.new, partitions.new, offsets.new, count.new) }
 {
     let Some(mut held) = take(cluster, alloc) else {
         return NO_VALUE;
@@ -325,13 +319,8 @@ pub extern "C" fn keycount_cluster_commit(
     keys: &[u32],
     committed: &mut u32,
 ) -> u32
-    ensures { Commits (record {
-      member = member;
-      generation = generation;
-      partition = partition;
-      from = from;
-      ids = keys.now;
-    }) (cluster_in cluster.old) committed.old result committed.new (cluster_in cluster.new) }
+    ensures { Commits (commit_of member generation partition from keys.now)
+        (cluster_in cluster.old) committed.old result committed.new (cluster_in cluster.new) }
 {
     let Some(mut held) = take(cluster, alloc) else {
         return NO_VALUE;

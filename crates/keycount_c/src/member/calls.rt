@@ -3,7 +3,7 @@
 ghost use Rattle.std.specs.Prelude.{◌≡◌, None, Some, unwrap_or};
 ghost use Rattle.bit_planes.specs.PartitionSet.{elements};
 ghost use Rattle.consumer.specs.Consumer.{answered_by, base_of, given_up, joined_as, out_of_group, position_of};
-ghost use Rattle.keycount_c.specs.Consumers.{BeginsConsumer, Changes, FreesConsumer, ListsConsumer, ReadsConsumer, ReadsPending, held_by, reply_of};
+ghost use Rattle.keycount_c.specs.Consumers.{BeginsConsumer, Changes, FreesConsumer, ListsConsumer, ReadsConsumer, ReadsCommit, held_by, reply_of};
 ghost use Rattle.keycount_c.specs.Held.{consumer_in};
 
 use super::access::{put, take};
@@ -221,7 +221,7 @@ pub extern "C" fn keycount_consumer_pending(
     from: &mut u32,
     to: &mut u32,
 ) -> u32
-    ensures answer { ReadsPending partition (consumer_in consumer.old)
+    ensures answer { ReadsCommit partition (consumer_in consumer.old)
         (member.old, generation.old, from.old, to.old) result
         (member.new, generation.new, from.new, to.new) }
     ensures same { consumer_in consumer.new ≡ consumer_in consumer.old }
@@ -264,7 +264,7 @@ fn pending(
     from: &mut u32,
     to: &mut u32,
 ) -> u32
-    ensures { ReadsPending partition (Some consumer.now)
+    ensures { ReadsCommit partition (Some consumer.now)
         (member.old, generation.old, from.old, to.old) result
         (member.new, generation.new, from.new, to.new) }
 {

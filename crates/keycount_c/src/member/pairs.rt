@@ -86,7 +86,7 @@ pub extern "C" fn keycount_consumer_poll(
     from: &mut u32,
     count: &mut u32,
 ) -> u32
-    ensures answer { Polls partition most (consumer_in consumer.old) (cluster_in cluster.old)
+    ensures step { Polls partition most (consumer_in consumer.old) (cluster_in cluster.old)
         (from.old, count.old) result (from.new, count.new) (consumer_in consumer.new) }
     ensures same { cluster_in cluster.new ≡ cluster_in cluster.old }
 {
