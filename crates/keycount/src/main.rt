@@ -25,9 +25,7 @@ struct Host<'a> {
 impl<'a> System for Host<'a> {
     ghost use Rattle.std.specs.Prelude.{None};
 
-    ghost bytes_at = { λ s path. None };
-
-    ghost CannotOpen = { λ s. Unit {0} };
+    ghost files = { λ s. record { bytes_at = λ path. None; HasFailed = Unit {0} } };
 
     type File = FromRead<File>;
 
@@ -59,6 +57,10 @@ impl<'a> System for Host<'a> {
             None
         }
     }
+
+    ghost failed_file_is_failure = { λ s file failed. tt };
+
+    ghost failed_stdin_is_failure = { λ s stdin failed. tt };
 }
 
 /// Why a word could not be read.

@@ -1,7 +1,7 @@
 pub mod Explain
 pub mod Faults
+pub mod Files
 pub mod Input
-pub mod Limits
 pub mod Private
 pub mod Program
 pub use Rattle.check_report.specs.CheckReport

@@ -1,6 +1,8 @@
 -- What the program does with the words of its command line: what it writes, and its exit status.
-use Rattle.std.specs.Prelude.{◌≡◌, ◌⊎◌, ◌+◌, ℕ, Bool, false, if◌then◌else◌, List, Option, Some, None, Result, Ok, Err, IfOk, IfSome, IsErrAnd, MatchResult, codes, string_bytes}
+use Rattle.std.specs.Prelude.{◌≡◌, ◌⊎◌, ◌+◌, ℕ, Bool, false, if◌then◌else◌, List, Option, Some, None, Result, Ok, Err, IfOk, IfSome, IsErrAnd, MatchResult, codes, map, string_bytes}
+use Rattle.std.specs.Borrow.{Bor}
 use Rattle.std.specs.Io.KnownBytes.{Appends, Keeps}
+use Rattle.std.specs.Result.{result_map_both}
 use Rattle.lane_words.specs.Refusal.{code_of}
 use Rattle.lane_words.specs.declared.Refusal.{Refusal}
 use Rattle.lane_words.specs.declared.Refusal.TheVariants as r
@@ -22,6 +24,7 @@ use Rattle.replay_report.specs.ReplayReport.{report_of_replay}
 use Rattle.run_report.specs.RunReport.{WritesRunIfKnown, report_of_run}
 use Rattle.trace_report.specs.TraceReport.{report_of_trace}
 use Rattle.report_cli.specs.Faults.{fault_text, status_of}
+use Rattle.report_cli.specs.Files.{Files}
 use Rattle.report_cli.specs.Input.{AsksForTwoTables, HasNoCode, ReadsInputTwice}
 use Rattle.report_cli.specs.declared.program.NoWords.{NoWords}
 use Rattle.report_cli.specs.declared.program.NoWords.TheVariants as none
@@ -32,19 +35,34 @@ pub record Stream : Type 0 where
   pub written : Option (List ℕ)
   pub failures : ℕ
 
+-- a stream before and after
+pub record Change : Type 0 where
+  pub old : Stream
+  pub new : Stream
+
 -- a sink as a stream
-abbrev pub stream : {K : Type 0} → (K → Option (List ℕ)) → (K → ℕ) → K → Stream
-stream contents count sink = record { written = contents sink; failures = count sink }
+abbrev pub stream_of : {K : Type 0} → (K → Option (List ℕ)) → (K → ℕ) → K → Stream
+stream_of contents count sink = record { written = contents sink; failures = count sink }
+
+-- what became of a sink
+abbrev pub change : {K : Type 0} → (K → Option (List ℕ)) → (K → ℕ) → K → K → Change
+change contents count old new = record {
+  old = stream_of contents count old;
+  new = stream_of contents count new;
+}
 
 -- nothing is written
-abbrev pub IsSilent : Stream → Stream → Type 0
-IsSilent old new = Keeps old.written new.written × (new.failures ≡ old.failures)
+abbrev pub IsSilent : Change → Type 0
+IsSilent stream =
+    Keeps stream.old.written stream.new.written × (stream.new.failures ≡ stream.old.failures)
 
 -- a text is written, or a prefix of it if a write failed
-abbrev pub Prints : List ℕ → Stream → Stream → Type 0
-Prints text old new =
-    (Appends old.written new.written text × (new.failures ≡ old.failures))
-    ⊎ (AppendsPrefix old.written new.written text × (new.failures ≡ old.failures + 1))
+abbrev pub Prints : List ℕ → Change → Type 0
+Prints text stream =
+    (Appends stream.old.written stream.new.written text
+    × (stream.new.failures ≡ stream.old.failures))
+    ⊎ (AppendsPrefix stream.old.written stream.new.written text
+    × (stream.new.failures ≡ stream.old.failures + 1))
 
 -- ---- a job
 -- what a job with this answer writes, given the bytes that paths stand for: its report
@@ -91,41 +109,40 @@ FindsOf named (Check file (Some script) options check) found =
     found ≡ has_fault (findings_of options check bytes (Some lines))))
 FindsOf named job found = found ≡ false
 
--- a file could not be opened, or a read of one or of standard input failed
-abbrev pub HasReadFault : {F I : Type 0} → Type 0 → (F → ℕ) → (I → ℕ) → Type 0
-HasReadFault {F} {I} CannotOpen file_failures input_failures =
-    CannotOpen
-    ⊎ (((file : F) × (file_failures file ≡ 1)) ⊎ ((input : I) × (input_failures input ≡ 1)))
-
 -- what a job writes to standard output, and its answer: what it found, or its fault. It fails with
--- `ReadFailed` only if a read failed
-pub record HasAnswer (named : List ℕ → Option (List ℕ)) (ReadFault : Type 0) (job : Job)
-    (out out2 : Stream) (answer : Result Bool Refusal) : Type 0 where
-  pub writes : WritesOf named job out.written out2.written answer
-  pub found : IfOk answer (FindsOf named job)
-  pub at_end : WritesAtEndAlone out.written out2.written (written answer)
-  pub failures : out2.failures ≡ out.failures + failed_writes (written answer)
-  pub cause : answer ≡ Err r.ReadFailed → ReadFault
+-- `ReadFailed` only if an open or a read failed
+pub record HasAnswer (files : Files) (job : Job) (out : Change) (answer : Result Bool Refusal)
+    : Type 0 where
+  pub writes : WritesOf files.bytes_at job out.old.written out.new.written answer
+  pub found : IfOk answer (FindsOf files.bytes_at job)
+  pub at_end : WritesAtEndAlone out.old.written out.new.written (written answer)
+  pub failures : out.new.failures ≡ out.old.failures + failed_writes (written answer)
+  pub cause : answer ≡ Err r.ReadFailed → files.HasFailed
 
 -- how the program ends with an answer: silently, with status 1 if something was found and otherwise
 -- 0, or with the line of the fault on standard error, and its status
-abbrev pub Ends : Result Bool Refusal → Stream → Stream → ℕ → Type 0
-Ends (Ok found) err err2 status = IsSilent err err2 × (status ≡ (if found then 1 else 0))
-Ends (Err fault) err err2 status =
-    Prints (fault_text fault) err err2 × (status ≡ status_of fault)
+abbrev pub Ends : Result Bool Refusal → Change → ℕ → Type 0
+Ends (Ok found) err status = IsSilent err × (status ≡ (if found then 1 else 0))
+Ends (Err fault) err status = Prints (fault_text fault) err × (status ≡ status_of fault)
 
 -- a job is done
-abbrev pub DoesJob : (List ℕ → Option (List ℕ)) → Type 0 → Job → Stream → Stream → Stream → Stream
-    → ℕ → Type 0
-DoesJob named ReadFault job out out2 err err2 status =
-    (answer : Result Bool Refusal)
-    × HasAnswer named ReadFault job out out2 answer × Ends answer err err2 status
+abbrev pub DoesJob : Files → Job → Change → Change → ℕ → Type 0
+DoesJob files job out err status =
+    (answer : Result Bool Refusal) × HasAnswer files job out answer × Ends answer err status
 
 -- ---- the words
+-- the texts of words
+abbrev pub lent_texts : List (Bor (List ℕ)) → List (List ℕ)
+lent_texts words = map (λ word. word.now) words
+
+-- the texts of the words that the program was given, or why it has none
+abbrev pub texts_of : Result (Bor (List (Bor (List ℕ)))) NoWords
+    → Result (List (List ℕ)) NoWords
+texts_of words = result_map_both (λ given. lent_texts given.now) (λ why. why) words
+
 -- a usage error with this text, on standard error alone
-abbrev pub IsUsageError : List ℕ → Stream → Stream → Stream → Stream → ℕ → Type 0
-IsUsageError text out out2 err err2 status =
-    IsSilent out out2 × Prints text err err2 × (status ≡ 2)
+abbrev pub IsUsageError : List ℕ → Change → Change → ℕ → Type 0
+IsUsageError text out err status = IsSilent out × Prints text err × (status ≡ 2)
 
 -- why a job that clap accepts can't be done
 abbrev pub two_inputs : List ℕ
@@ -144,45 +161,36 @@ IsUnusable job text =
     ⊎ ((AsksForTwoTables job × (text ≡ two_tables)) ⊎ (HasNoCode job × (text ≡ no_such_code)))
 
 -- a job is done, or can't be, and then it is a usage error
-abbrev pub DoesIfUsable : (List ℕ → Option (List ℕ)) → Type 0 → Job → Stream → Stream → Stream
-    → Stream → ℕ → Type 0
-DoesIfUsable named ReadFault job out out2 err err2 status =
-    ((text : List ℕ) × IsUnusable job text × IsUsageError text out out2 err err2 status)
-    ⊎ (((text : List ℕ) → IsUnusable job text → ⊥)
-    × DoesJob named ReadFault job out out2 err err2 status)
+abbrev pub DoesIfUsable : Files → Job → Change → Change → ℕ → Type 0
+DoesIfUsable files job out err status =
+    ((text : List ℕ) × IsUnusable job text × IsUsageError text out err status)
+    ⊎ (((text : List ℕ) → IsUnusable job text → ⊥) × DoesJob files job out err status)
 
 -- there is no job: help and the version go to standard output
-abbrev pub Refuses : Usage → Stream → Stream → Stream → Stream → ℕ → Type 0
-Refuses (Help text) out out2 err err2 status =
-    Prints (string_bytes text) out out2 × IsSilent err err2 × (status ≡ 0)
-Refuses (Bad text) out out2 err err2 status =
-    IsUsageError (string_bytes text) out out2 err err2 status
-Refuses Memory out out2 err err2 status =
-    IsSilent out out2 × Ends (Err r.Memory) err err2 status
+abbrev pub Refuses : Usage → Change → Change → ℕ → Type 0
+Refuses (Help text) out err status =
+    Prints (string_bytes text) out × IsSilent err × (status ≡ 0)
+Refuses (Bad text) out err status = IsUsageError (string_bytes text) out err status
+Refuses Memory out err status = IsSilent out × Ends (Err r.Memory) err status
 
 -- what is done with what the words ask for
-abbrev pub Does : (List ℕ → Option (List ℕ)) → Type 0 → Result Job Usage → Stream → Stream → Stream
-    → Stream → ℕ → Type 0
-Does named ReadFault (Ok job) out out2 err err2 status =
-    DoesIfUsable named ReadFault job out out2 err err2 status
-Does named ReadFault (Err usage) out out2 err err2 status = Refuses usage out out2 err err2 status
+abbrev pub Does : Files → Result Job Usage → Change → Change → ℕ → Type 0
+Does files (Ok job) out err status = DoesIfUsable files job out err status
+Does files (Err usage) out err status = Refuses usage out err status
 
 -- the words are understood, and done
-pub record Obeys (named : List ℕ → Option (List ℕ)) (ReadFault : Type 0) (words : List (List ℕ))
-    (out out2 err err2 : Stream) (status : ℕ) : Type 0 where
+pub record Obeys (files : Files) (words : List (List ℕ)) (out err : Change) (status : ℕ)
+    : Type 0 where
   pub read : Result Job Usage
   pub understood : MatchResult read (IsJobOf words) (IsRefusal words)
   pub bad_topics : HaveBadList words → IsErrAnd read IsBadListReport
-  pub does : Does named ReadFault read out out2 err err2 status
+  pub does : Does files read out err status
 
 -- what the program does with its words; without them it ends with a usage error if they are no
 -- text, and otherwise for want of memory
-abbrev pub RunsProgram : (List ℕ → Option (List ℕ)) → Type 0 → Result (List (List ℕ)) NoWords
-    → Stream → Stream → Stream → Stream → ℕ → Type 0
-RunsProgram named ReadFault (Ok words) out out2 err err2 status =
-    Obeys named ReadFault words out out2 err err2 status
-RunsProgram named ReadFault (Err none.NotText) out out2 err err2 status =
-    IsUsageError (codes "error: a word of the command line is not UTF-8 text\n")
-    out out2 err err2 status
-RunsProgram named ReadFault (Err none.Memory) out out2 err err2 status =
-    IsSilent out out2 × Ends (Err r.Memory) err err2 status
+abbrev pub RunsProgram : Files → Result (List (List ℕ)) NoWords → Change → Change → ℕ → Type 0
+RunsProgram files (Ok words) out err status = Obeys files words out err status
+RunsProgram files (Err none.NotText) out err status =
+    IsUsageError (codes "error: a word of the command line is not UTF-8 text\n") out err status
+RunsProgram files (Err none.Memory) out err status =
+    IsSilent out × Ends (Err r.Memory) err status

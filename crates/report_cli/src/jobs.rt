@@ -1,11 +1,11 @@
 //! The jobs, from the paths of their files.
 
-ghost use Rattle.std.specs.Prelude.{◌≡◌, Some, None, option_map};
+ghost use Rattle.std.specs.Prelude.{Some, None, option_map};
 ghost use Rattle.lane_words.specs.Refusal.{code_of};
 ghost use Rattle.byte_io.specs.Devices.{CanStillFail};
 ghost use Rattle.command_line.specs.Options.{AreInRange, IsCheckInRange, IsPlaceInRange};
 ghost use Rattle.command_line.specs.declared.words.Job.TheVariants as job;
-ghost use Rattle.report_cli.specs.Program.{HasAnswer, HasReadFault, stream};
+ghost use Rattle.report_cli.specs.Program.{HasAnswer, change};
 
 use crate::explain::explain_text;
 use crate::opened::{open_file, open_input};
@@ -46,10 +46,8 @@ pub fn count<R: Threads + Sync + RandomSource, Y: System, K: Sink>(
 ) -> Result<bool, Refusal>
     requires sink { CanStillFail (K.failures out.old) }
     requires options { AreInRange options.now }
-    ensures { HasAnswer (Y.bytes_at system.now)
-        (HasReadFault (Y.CannotOpen system.now) Y.File.failures Y.Stdin.failures)
-        (job.Count file.entry options.now)
-        (stream K.written K.failures out.old) (stream K.written K.failures out.new) result }
+    ensures { HasAnswer (Y.files system.now) (job.Count file.entry options.now)
+        (change K.written K.failures out.old out.new) result }
 {
     let mut file = open_file(system, file)?;
     count_text(rt, alloc, &mut file, options, out)?;
@@ -69,10 +67,8 @@ pub fn place<R: Threads + Sync + RandomSource, Y: System, K: Sink>(
     requires sink { CanStillFail (K.failures out.old) }
     requires options { AreInRange options.now }
     requires place { IsPlaceInRange with.now }
-    ensures { HasAnswer (Y.bytes_at system.now)
-        (HasReadFault (Y.CannotOpen system.now) Y.File.failures Y.Stdin.failures)
-        (job.Place file.entry options.now with.now)
-        (stream K.written K.failures out.old) (stream K.written K.failures out.new) result }
+    ensures { HasAnswer (Y.files system.now) (job.Place file.entry options.now with.now)
+        (change K.written K.failures out.old out.new) result }
 {
     let mut file = open_file(system, file)?;
     place_text(rt, alloc, &mut file, options, with, out)
@@ -90,10 +86,8 @@ pub fn check<Y: System, K: Sink>(
     requires sink { CanStillFail (K.failures out.old) }
     requires options { AreInRange options.now }
     requires check { IsCheckInRange with.now }
-    ensures { HasAnswer (Y.bytes_at system.now)
-        (HasReadFault (Y.CannotOpen system.now) Y.File.failures Y.Stdin.failures)
-        (job.Check file.entry None options.now with.now)
-        (stream K.written K.failures out.old) (stream K.written K.failures out.new) result }
+    ensures { HasAnswer (Y.files system.now) (job.Check file.entry None options.now with.now)
+        (change K.written K.failures out.old out.new) result }
 {
     let mut file = open_file(system, file)?;
     check_text(alloc, &mut file, options, with, out)
@@ -112,10 +106,9 @@ pub fn check_both<Y: System, K: Sink>(
     requires sink { CanStillFail (K.failures out.old) }
     requires options { AreInRange options.now }
     requires check { IsCheckInRange with.now }
-    ensures { HasAnswer (Y.bytes_at system.now)
-        (HasReadFault (Y.CannotOpen system.now) Y.File.failures Y.Stdin.failures)
+    ensures { HasAnswer (Y.files system.now)
         (job.Check file.entry (Some script.entry) options.now with.now)
-        (stream K.written K.failures out.old) (stream K.written K.failures out.new) result }
+        (change K.written K.failures out.old out.new) result }
 {
     let mut file = open_file(system, file)?;
     let mut script = open_input(system, script)?;
@@ -134,10 +127,8 @@ pub fn replay<R: Threads + Sync + RandomSource, Y: System, K: Sink>(
 ) -> Result<bool, Refusal>
     requires sink { CanStillFail (K.failures out.old) }
     requires options { AreInRange options.now }
-    ensures { HasAnswer (Y.bytes_at system.now)
-        (HasReadFault (Y.CannotOpen system.now) Y.File.failures Y.Stdin.failures)
-        (job.Replay file.entry script.entry options.now)
-        (stream K.written K.failures out.old) (stream K.written K.failures out.new) result }
+    ensures { HasAnswer (Y.files system.now) (job.Replay file.entry script.entry options.now)
+        (change K.written K.failures out.old out.new) result }
 {
     let mut file = open_file(system, file)?;
     let mut script = open_input(system, script)?;
@@ -157,10 +148,8 @@ pub fn trace<R: Threads + Sync + RandomSource, Y: System, K: Sink>(
 ) -> Result<bool, Refusal>
     requires sink { CanStillFail (K.failures out.old) }
     requires options { AreInRange options.now }
-    ensures { HasAnswer (Y.bytes_at system.now)
-        (HasReadFault (Y.CannotOpen system.now) Y.File.failures Y.Stdin.failures)
-        (job.Trace file.entry script.entry options.now)
-        (stream K.written K.failures out.old) (stream K.written K.failures out.new) result }
+    ensures { HasAnswer (Y.files system.now) (job.Trace file.entry script.entry options.now)
+        (change K.written K.failures out.old out.new) result }
 {
     let mut file = open_file(system, file)?;
     let mut script = open_input(system, script)?;
@@ -180,10 +169,8 @@ pub fn draw<R: Threads + Sync + RandomSource, Y: System, K: Sink>(
 ) -> Result<bool, Refusal>
     requires sink { CanStillFail (K.failures out.old) }
     requires options { AreInRange options.now }
-    ensures { HasAnswer (Y.bytes_at system.now)
-        (HasReadFault (Y.CannotOpen system.now) Y.File.failures Y.Stdin.failures)
-        (job.Draw file.entry script.entry options.now)
-        (stream K.written K.failures out.old) (stream K.written K.failures out.new) result }
+    ensures { HasAnswer (Y.files system.now) (job.Draw file.entry script.entry options.now)
+        (change K.written K.failures out.old out.new) result }
 {
     let mut file = open_file(system, file)?;
     let mut script = open_input(system, script)?;
@@ -203,10 +190,8 @@ pub fn run<R: Threads + Wait + RandomSource + Sync, Y: System, K: Sink>(
 ) -> Result<bool, Refusal>
     requires sink { CanStillFail (K.failures out.old) }
     requires options { AreInRange options.now }
-    ensures { HasAnswer (Y.bytes_at system.now)
-        (HasReadFault (Y.CannotOpen system.now) Y.File.failures Y.Stdin.failures)
-        (job.Run file.entry script.entry options.now)
-        (stream K.written K.failures out.old) (stream K.written K.failures out.new) result }
+    ensures { HasAnswer (Y.files system.now) (job.Run file.entry script.entry options.now)
+        (change K.written K.failures out.old out.new) result }
 {
     let mut file = open_file(system, file)?;
     let mut script = open_input(system, script)?;
@@ -222,10 +207,8 @@ pub fn explain<Y: System, K: Sink>(
     out: &mut K,
 ) -> Result<bool, Refusal>
     requires sink { CanStillFail (K.failures out.old) }
-    ensures { HasAnswer (Y.bytes_at system.now)
-        (HasReadFault (Y.CannotOpen system.now) Y.File.failures Y.Stdin.failures)
-        (job.Explain (option_map code_of refusal))
-        (stream K.written K.failures out.old) (stream K.written K.failures out.new) result }
+    ensures { HasAnswer (Y.files system.now) (job.Explain (option_map code_of refusal))
+        (change K.written K.failures out.old out.new) result }
 {
     explain_text(alloc, refusal, out)?;
     Ok(false)

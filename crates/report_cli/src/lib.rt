@@ -8,7 +8,6 @@
 //! - `explain_text` writes what a refusal means, or a line for each.
 //! - `reads_input_twice` says whether both files of a job are standard input, and
 //!   `asks_for_two_tables` whether a place has options that exclude each other.
-//! - `limits_are` is a law: the limits have the numbers that the documents say.
 //! - The other calls are those of `command_line`, `byte_io` and the reports.
 //!
 //! Tests: `report_tests`, and the program's black-box tests.
@@ -18,7 +17,6 @@ mod explain;
 mod faults;
 mod input;
 mod jobs;
-mod limits;
 mod opened;
 mod program;
 mod system;
@@ -33,7 +31,6 @@ pub use draw_report::draw_text;
 pub use explain::explain_text;
 pub use faults::{fault_line, status};
 pub use input::{asks_for_two_tables, reads_input_twice};
-pub use limits::limits_are;
 pub use place_report::place_text;
 pub use program::{NoWords, run_program};
 pub use replay_report::replay_text;

@@ -1,9 +1,8 @@
 //! What a job reads from.
 
-ghost use Rattle.std.specs.Prelude.{◌≡◌, IfOk, IfErr};
+ghost use Rattle.std.specs.Prelude.{◌≡◌, IfOk, IfErr, OnErr};
 ghost use Rattle.lane_words.specs.declared.Refusal.TheVariants as refusal;
 ghost use Rattle.report_cli.specs.Private.Input.{of_input};
-ghost use Rattle.report_cli.specs.Program.{HasReadFault};
 
 use crate::input::is_standard_input;
 use crate::system::System;
@@ -43,12 +42,11 @@ impl<F: Source, I: Source> Source for Input<F, I> {
 /// Opens what a path stands for.
 pub fn open_input<Y: System>(system: &Y, path: &str) -> Result<Input<Y::File, Y::Stdin>, Refusal>
     ensures bytes { IfOk result (λ input. of_input Y.File.left Y.Stdin.left input
-        ≡ Y.bytes_at system.now path.now) }
+        ≡ (Y.files system.now).bytes_at path.now) }
     ensures failures { IfOk result
         (λ input. of_input Y.File.failures Y.Stdin.failures input ≡ 0) }
     ensures kind { IfErr result (λ e. e ≡ refusal.ReadFailed) }
-    ensures cause { IfErr result (λ e.
-        HasReadFault (Y.CannotOpen system.now) Y.File.failures Y.Stdin.failures) }
+    ensures cause { OnErr result (Y.files system.now).HasFailed }
 {
     if is_standard_input(path) {
         return Ok(Input::Stdin(system.stdin()));
@@ -66,12 +64,11 @@ pub fn open_file<Y: System>(
 ) -> Result<Watched<Input<Y::File, Y::Stdin>, Y::Watcher>, Refusal>
     ensures bytes { IfOk result (λ file.
         ⟦<Watched<Input<Y::File, Y::Stdin>, Y::Watcher> as Source>⟧.left file
-        ≡ Y.bytes_at system.now path.now) }
+        ≡ (Y.files system.now).bytes_at path.now) }
     ensures failures { IfOk result (λ file.
         ⟦<Watched<Input<Y::File, Y::Stdin>, Y::Watcher> as Source>⟧.failures file ≡ 0) }
     ensures kind { IfErr result (λ e. e ≡ refusal.ReadFailed) }
-    ensures cause { IfErr result (λ e.
-        HasReadFault (Y.CannotOpen system.now) Y.File.failures Y.Stdin.failures) }
+    ensures cause { OnErr result (Y.files system.now).HasFailed }
 {
     let input = open_input(system, path)?;
     let watcher = system.watcher(input.expected());

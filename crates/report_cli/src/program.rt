@@ -1,12 +1,11 @@
 //! The program, from the words of its command line to its exit status.
 
-ghost use Rattle.std.specs.Prelude.{◌≡◌, IfNone, IfOk, IfSome, map};
-ghost use Rattle.std.specs.Result.{result_map_both};
+ghost use Rattle.std.specs.Prelude.{◌≡◌, IfNone, IfOk, IfSome};
 ghost use Rattle.byte_io.specs.Devices.{CanStillFail};
 ghost use Rattle.command_line.specs.declared.words.Job.TheVariants as job;
 ghost use Rattle.report_cli.specs.Input.{HasNoCode};
 ghost use Rattle.report_cli.specs.Private.Jobs.{IsDone, IsJobInRange};
-ghost use Rattle.report_cli.specs.Program.{Does, DoesIfUsable, Ends, HasReadFault, Obeys, Prints, Refuses, RunsProgram, stream};
+ghost use Rattle.report_cli.specs.Program.{Does, DoesIfUsable, Ends, Obeys, Prints, Refuses, RunsProgram, change, lent_texts, texts_of};
 
 use crate::faults::{fault_line, status};
 use crate::input::{asks_for_two_tables, reads_input_twice};
@@ -48,8 +47,7 @@ pub enum NoWords {
 /// Prints on standard error what is wrong with the words.
 fn usage_error<E: Sink>(err: &mut E, text: &str) -> u8
     requires { CanStillFail (E.failures err.old) }
-    ensures prints { Prints text.now (stream E.written E.failures err.old)
-        (stream E.written E.failures err.new) }
+    ensures prints { Prints text.now (change E.written E.failures err.old err.new) }
     ensures status { result ≡ 2 }
 {
     // If standard error fails, there is still the status.
@@ -60,8 +58,7 @@ fn usage_error<E: Sink>(err: &mut E, text: &str) -> u8
 /// The exit status of an answer. The line of a fault is printed.
 fn end<E: Sink>(answer: &Result<bool, Refusal>, err: &mut E) -> u8
     requires { CanStillFail (E.failures err.old) }
-    ensures { Ends answer.now (stream E.written E.failures err.old)
-        (stream E.written E.failures err.new) result }
+    ensures { Ends answer.now (change E.written E.failures err.old err.new) result }
 {
     match answer {
         Ok(true) => 1,
@@ -82,10 +79,8 @@ fn explain<Y: System, K: Sink>(
     out: &mut K,
 ) -> Option<Result<bool, Refusal>>
     requires { CanStillFail (K.failures out.old) }
-    ensures done { IfSome result (IsDone (Y.bytes_at system.now)
-        (HasReadFault (Y.CannotOpen system.now) Y.File.failures Y.Stdin.failures)
-        (job.Explain code)
-        (stream K.written K.failures out.old) (stream K.written K.failures out.new)) }
+    ensures done { IfSome result (IsDone (Y.files system.now) (job.Explain code)
+        (change K.written K.failures out.old out.new)) }
     ensures none { IfNone result (HasNoCode (job.Explain code) × (out.new ≡ out.old)) }
 {
     let Some(code) = code else {
@@ -105,9 +100,8 @@ fn do_job<R: Threads + Wait + RandomSource + Sync, Y: System, K: Sink>(
 ) -> Option<Result<bool, Refusal>>
     requires sink { CanStillFail (K.failures out.old) }
     requires job { IsJobInRange job.now }
-    ensures done { IfSome result (IsDone (Y.bytes_at system.now)
-        (HasReadFault (Y.CannotOpen system.now) Y.File.failures Y.Stdin.failures) job.now
-        (stream K.written K.failures out.old) (stream K.written K.failures out.new)) }
+    ensures done { IfSome result (IsDone (Y.files system.now) job.now
+        (change K.written K.failures out.old out.new)) }
     ensures none { IfNone result (HasNoCode job.now × (out.new ≡ out.old)) }
 {
     match job {
@@ -165,10 +159,9 @@ fn run_job<R: Threads + Wait + RandomSource + Sync, Y: System, K: Sink, E: Sink>
     requires out { CanStillFail (K.failures out.old) }
     requires err { CanStillFail (E.failures err.old) }
     requires job { IsJobInRange job.now }
-    ensures { DoesIfUsable (Y.bytes_at system.now)
-        (HasReadFault (Y.CannotOpen system.now) Y.File.failures Y.Stdin.failures) job.now
-        (stream K.written K.failures out.old) (stream K.written K.failures out.new)
-        (stream E.written E.failures err.old) (stream E.written E.failures err.new) result }
+    ensures { DoesIfUsable (Y.files system.now) job.now
+        (change K.written K.failures out.old out.new)
+        (change E.written E.failures err.old err.new) result }
 {
     if reads_input_twice(job) {
         return usage_error(err, TWO_STANDARD_INPUTS);
@@ -186,9 +179,8 @@ fn run_job<R: Threads + Wait + RandomSource + Sync, Y: System, K: Sink, E: Sink>
 fn refuse<K: Sink, E: Sink>(usage: &Usage, out: &mut K, err: &mut E) -> u8
     requires out { CanStillFail (K.failures out.old) }
     requires err { CanStillFail (E.failures err.old) }
-    ensures { Refuses usage.now
-        (stream K.written K.failures out.old) (stream K.written K.failures out.new)
-        (stream E.written E.failures err.old) (stream E.written E.failures err.new) result }
+    ensures { Refuses usage.now (change K.written K.failures out.old out.new)
+        (change E.written E.failures err.old err.new) result }
 {
     match usage {
         Usage::Help(text) => {
@@ -212,10 +204,9 @@ fn run_read<R: Threads + Wait + RandomSource + Sync, Y: System, K: Sink, E: Sink
     requires out { CanStillFail (K.failures out.old) }
     requires err { CanStillFail (E.failures err.old) }
     requires job { IfOk read.now IsJobInRange }
-    ensures { Does (Y.bytes_at system.now)
-        (HasReadFault (Y.CannotOpen system.now) Y.File.failures Y.Stdin.failures) read.now
-        (stream K.written K.failures out.old) (stream K.written K.failures out.new)
-        (stream E.written E.failures err.old) (stream E.written E.failures err.new) result }
+    ensures { Does (Y.files system.now) read.now
+        (change K.written K.failures out.old out.new)
+        (change E.written E.failures err.old err.new) result }
 {
     match read {
         Ok(job) => run_job(rt, alloc, system, job, out, err),
@@ -234,11 +225,9 @@ fn run_words<R: Threads + Wait + RandomSource + Sync, Y: System, K: Sink, E: Sin
 ) -> u8
     requires out { CanStillFail (K.failures out.old) }
     requires err { CanStillFail (E.failures err.old) }
-    ensures { Obeys (Y.bytes_at system.now)
-        (HasReadFault (Y.CannotOpen system.now) Y.File.failures Y.Stdin.failures)
-        (map (λ word. word.now) words.now)
-        (stream K.written K.failures out.old) (stream K.written K.failures out.new)
-        (stream E.written E.failures err.old) (stream E.written E.failures err.new) result }
+    ensures { Obeys (Y.files system.now) (lent_texts words.now)
+        (change K.written K.failures out.old out.new)
+        (change E.written E.failures err.old err.new) result }
 {
     let read = read_words(alloc, words);
     run_read(rt, alloc, system, &read, out, err)
@@ -260,11 +249,9 @@ pub fn run_program<R: Threads + Wait + RandomSource + Sync, Y: System, K: Sink, 
 ) -> u8
     requires out { CanStillFail (K.failures out.old) }
     requires err { CanStillFail (E.failures err.old) }
-    ensures { RunsProgram (Y.bytes_at system.now)
-        (HasReadFault (Y.CannotOpen system.now) Y.File.failures Y.Stdin.failures)
-        (result_map_both (λ words. map (λ word. word.now) words.now) (λ why. why) words.entry)
-        (stream K.written K.failures out.old) (stream K.written K.failures out.new)
-        (stream E.written E.failures err.old) (stream E.written E.failures err.new) result }
+    ensures { RunsProgram (Y.files system.now) (texts_of words.entry)
+        (change K.written K.failures out.old out.new)
+        (change E.written E.failures err.old err.new) result }
 {
     match words {
         Ok(words) => run_words(rt, alloc, system, words, out, err),

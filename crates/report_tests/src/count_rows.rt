@@ -31,7 +31,7 @@ fn reported<R: Threads + Sync>(
     if keys as usize != counts.len() {
         return Ok((keys, false));
     }
-    let texts = count_rows_texts(rt, alloc, logs, counts, 12, 18)?;
+    let texts = count_rows_texts(rt, alloc, logs.dictionary(), counts, 12, 18)?;
     Ok((keys, texts.len() == 1 && texts[0].as_slice() == wanted))
 }
 
@@ -117,7 +117,7 @@ fn are_written_sequentially<R: Threads + Sync>(
 ) -> Result<bool, Memory>
     requires { length logs.now.keys ≡ length counts.now }
 {
-    let texts = count_rows_texts(rt, alloc, logs, counts, 1, 2)?;
+    let texts = count_rows_texts(rt, alloc, logs.dictionary(), counts, 1, 2)?;
     are_made_sequentially(alloc, logs, counts, texts.as_slice())
 }
 

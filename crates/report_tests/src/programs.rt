@@ -35,10 +35,11 @@ impl<'a> System for Memory<'a> {
     ghost use Rattle.std.specs.Prelude.{◌≢◌, Some, codes, if◌then◌else◌};
     ghost use Rattle.std.specs.Str.{bytes_eq};
 
-    ghost bytes_at = { λ s path. if bytes_eq path (codes "-") then Some s.input.now
-        else if bytes_eq path (codes "keys") then Some s.keys.now else Some s.other.now };
-
-    ghost CannotOpen = { λ s. Unit {0} };
+    ghost files = { λ s. record {
+        bytes_at = λ path. if bytes_eq path (codes "-") then Some s.input.now
+            else if bytes_eq path (codes "keys") then Some s.keys.now else Some s.other.now;
+        HasFailed = Unit {0};
+    } };
 
     type File = FromRead<&'a [u8]>;
 
@@ -61,6 +62,10 @@ impl<'a> System for Memory<'a> {
     fn watcher(&self, _expected: usize) -> Nobody {
         Nobody
     }
+
+    ghost failed_file_is_failure = { λ s file failed. tt };
+
+    ghost failed_stdin_is_failure = { λ s stdin failed. tt };
 }
 
 /// What a program did: the texts of its two streams, and its status.

@@ -1,11 +1,12 @@
 -- A job on its way.
-use Rattle.std.specs.Prelude.{ℕ, Bool, List, Option, Result}
+use Rattle.std.specs.Prelude.{Bool, Result}
 use Rattle.lane_words.specs.declared.Refusal.{Refusal}
 use Rattle.command_line.specs.Options.{AreInRange, IsCheckInRange, IsPlaceInRange}
 use Rattle.command_line.specs.declared.words.Job.{Job}
 use Rattle.command_line.specs.declared.words.Job.TheVariants.{Count, Place, Check, Replay, Trace, Draw, Run, Explain}
+use Rattle.report_cli.specs.Files.{Files}
 use Rattle.report_cli.specs.Input.{HasNoCode}
-use Rattle.report_cli.specs.Program.{HasAnswer, Stream}
+use Rattle.report_cli.specs.Program.{Change, HasAnswer}
 
 -- the options of a job are within their bounds
 abbrev pub IsJobInRange : Job → Type 0
@@ -19,7 +20,5 @@ IsJobInRange (Run file script options) = AreInRange options
 IsJobInRange (Explain code) = Unit {0}
 
 -- a job has this answer, and explains no number that no refusal has
-abbrev pub IsDone : (List ℕ → Option (List ℕ)) → Type 0 → Job → Stream → Stream
-    → Result Bool Refusal → Type 0
-IsDone named ReadFault job out out2 answer =
-    (HasNoCode job → ⊥) × HasAnswer named ReadFault job out out2 answer
+abbrev pub IsDone : Files → Job → Change → Result Bool Refusal → Type 0
+IsDone files job out answer = (HasNoCode job → ⊥) × HasAnswer files job out answer

@@ -9,6 +9,6 @@ returns g c = record {
   at_end = search rules;
   failures = search rules;
   cause =
-      cause-two (g.Y.System.CannotOpen c.args.system.now) g.Y.File.Source.failures g.Y.Stdin.Source.failures c.check_both_text.result c.check_both_text.new.file.source c.check_both_text.new.script
+      cause-two (g.Y.System.files c.args.system.now).HasFailed g.Y.File.Source.failures g.Y.Stdin.Source.failures (g.met.Y.System.failed_file_is_failure c.args.system.now) (g.met.Y.System.failed_stdin_is_failure c.args.system.now) c.check_both_text.result c.check_both_text.new.file.source c.check_both_text.new.script
       _ _ _ _ c.in_ok-file.ensures.failures c.in_ok-script.ensures.failures refl refl c.check_both_text.ensures.reads;
 }

@@ -13,6 +13,6 @@ returns-in_err-trace_text g c =
       at_end = search rules;
       failures = search rules;
       cause = λ e.
-          cause-of-fault (g.Y.System.CannotOpen c.args.system.now) g.Y.File.Source.failures g.Y.Stdin.Source.failures fault c.trace_text.new.file.source c.trace_text.new.script
+          cause-of-fault (g.Y.System.files c.args.system.now).HasFailed g.Y.File.Source.failures g.Y.Stdin.Source.failures (g.met.Y.System.failed_file_is_failure c.args.system.now) (g.met.Y.System.failed_stdin_is_failure c.args.system.now) fault c.trace_text.new.file.source c.trace_text.new.script
           _ _ _ _ c.in_ok-file.ensures.failures c.in_ok-script.ensures.failures refl refl c.in_err-trace_text.ensures.reads (same-fault answer.result fault r.ReadFailed (search rules) e);
     }
