@@ -36,9 +36,9 @@ impl<'a> System for Memory<'a> {
     ghost use Rattle.std.specs.Str.{bytes_eq};
 
     ghost files = { λ s. record {
-        bytes_at = λ path. if bytes_eq path (codes "-") then Some s.input.now
-            else if bytes_eq path (codes "keys") then Some s.keys.now else Some s.other.now;
-        HasFailed = Unit {0};
+      bytes_at = λ path. if bytes_eq path (codes "-") then Some s.input.now
+          else if bytes_eq path (codes "keys") then Some s.keys.now else Some s.other.now;
+      HasFailed = Unit {0};
     } };
 
     type File = FromRead<&'a [u8]>;

@@ -11,9 +11,9 @@ steps_append line next [] ys = ap (λ n. steps_of_seen line n ys) (omega arith)
 steps_append line next (x ∷ xs) ys =
     let same : next + 1 + length xs ≡ next + suc (length xs) = omega arith in
     let later : ℕ → List StepTaken =
-        λ n. steps_of_seen line (next + 1) xs ++ steps_of_seen line n ys in
+    λ n. steps_of_seen line (next + 1) xs ++ steps_of_seen line n ys in
     ap (λ rest. step_of_seen line next x ∷ rest)
-        (steps_append line (next + 1) xs ys ∙ ap later same)
+    (steps_append line (next + 1) xs ys ∙ ap later same)
 
 pub shows_of_none : {O : Type 0} (Shows : O → List StepTaken → O → Type 0)
     → ((o : O) → Shows o [] o) → (line next : ℕ) (o : O)
