@@ -1,6 +1,6 @@
 //! The rows of the counts, in pieces that are made side by side while others are written.
 
-use crate::table::{SHORT, Table};
+use crate::table::{Table, SHORT};
 use crate::text::{any, bits, is};
 use crate::worker::{New, Worker};
 use std::arch::x86_64::_mm_set_epi64x;

@@ -94,11 +94,8 @@ fn scan_records(
             key = end + 1;
         }
         let is_quoted = text.byte(key) == b'"';
-        let (end, is_verbatim) = if is_quoted {
-            fields.quoted_end(key)
-        } else {
-            (fields.bare_end(), true)
-        };
+        let (end, is_verbatim) =
+            if is_quoted { fields.quoted_end(key) } else { (fields.bare_end(), true) };
         let mut last = end;
         let mut width = layout.column + 1;
         while text.byte(last) == b',' {
@@ -138,7 +135,11 @@ impl<'a> Fields<'a> {
     /// The end of the next field, which begins at `start`.
     #[inline(always)]
     fn end(&mut self, start: usize) -> usize {
-        if self.text.byte(start) == b'"' { self.quoted_end(start).0 } else { self.bare_end() }
+        if self.text.byte(start) == b'"' {
+            self.quoted_end(start).0
+        } else {
+            self.bare_end()
+        }
     }
 
     /// The end of the next field, if it begins without a quote.

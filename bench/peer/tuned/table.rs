@@ -2,7 +2,7 @@
 //! they were added.
 
 use crate::text::Text;
-use std::arch::x86_64::{_MM_HINT_T0, _mm_prefetch};
+use std::arch::x86_64::{_mm_prefetch, _MM_HINT_T0};
 use std::hash::{BuildHasher, RandomState};
 
 /// How many keys are hashed before they are looked up, while memory is on its way to the cache.

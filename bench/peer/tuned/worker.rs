@@ -1,7 +1,7 @@
 //! What a thread keeps from round to round.
 
 use crate::scan::{self, Layout, Uneven};
-use crate::table::{BATCH, Key, KeyedHash, LONGEST, Table};
+use crate::table::{Key, KeyedHash, Table, BATCH, LONGEST};
 use crate::text::{Buffer, Text};
 use std::ops::Range;
 
