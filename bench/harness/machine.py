@@ -37,5 +37,5 @@ def machine_line() -> str:
 
 def versions_line(names: Iterable[str]) -> str:
     """The versions of the peers, and of Python, which made the inputs."""
-    versions = [version_of(name) for name in names]
+    versions = dict.fromkeys(version_of(name) for name in names)
     return f"Versions: {'; '.join([*versions, f'Python {platform.python_version()}'])}."

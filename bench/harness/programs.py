@@ -39,6 +39,22 @@ TOOLS = {
     "sort | uniq -c": Tool("sort", "coreutils", ("--version",)),
     "mlr": Tool("mlr", "miller", ("--version",)),
     "Rust peer": Tool("rustc", "rustc", ("--version",)),
+    "tuned Rust": Tool("rustc", "rustc", ("--version",)),
+}
+
+
+@dataclass(frozen=True)
+class RustPeer:
+    """A Rust program in bench/peer: its main file, and the options of its build besides those of all."""
+
+    source: str
+    options: tuple[str, ...] = ()
+
+
+# The tuned one is built for the processors that keycount is built for.
+RUST_PEERS = {
+    "Rust peer": RustPeer("count.rs"),
+    "tuned Rust": RustPeer("tuned/main.rs", ("-C", "target-cpu=x86-64-v2")),
 }
 
 
@@ -70,10 +86,15 @@ def miller(target: Input) -> Program:
     return Program("mlr", [["mlr", *form, *work, str(target.path)]], key_rows)
 
 
-def rust_peer(built: Path, target: Input) -> Program:
-    """The Rust program in bench/peer."""
-    words = [str(built), str(target.path), str(target.shape.column)]
-    return Program("Rust peer", [words], counted_rows)
+def built_peer(name: str, folder: Path) -> Path:
+    """A Rust program that was built in a folder."""
+    return folder / name.replace(" ", "-")
+
+
+def rust_peer(name: str, folder: Path, target: Input) -> Program:
+    """A Rust program in bench/peer, built in a folder."""
+    words = [str(built_peer(name, folder)), str(target.path), str(target.shape.column)]
+    return Program(name, [words], counted_rows)
 
 
 def limits(target: Input) -> list[Program]:
@@ -82,20 +103,23 @@ def limits(target: Input) -> list[Program]:
     return [Program("cat", [["cat", path]], None), Program("wc -l", [["wc", "-l", path]], None)]
 
 
-def makers(built: Path) -> dict[str, Callable[[Input], Program]]:
-    """The makers of the peers, by name."""
+def makers(folder: Path) -> dict[str, Callable[[Input], Program]]:
+    """The makers of the peers, by name. The Rust programs were built in a folder."""
     return {
         "mawk": lambda target: awk("mawk", target),
         "gawk": lambda target: awk("gawk", target),
         "sort | uniq -c": sort_uniq,
         "mlr": miller,
-        "Rust peer": lambda target: rust_peer(built, target),
+        "Rust peer": lambda target: rust_peer("Rust peer", folder, target),
+        "tuned Rust": lambda target: rust_peer("tuned Rust", folder, target),
     }
 
 
-def build_peer(source: Path, built: Path) -> bool:
-    """Builds the Rust peer, and returns whether that succeeded."""
-    command = ["rustc", "--edition", "2021", "-O", "-o", str(built), str(source)]
+def build_peer(name: str, sources: Path, folder: Path) -> bool:
+    """Builds a Rust program in a folder, and returns whether that succeeded."""
+    peer = RUST_PEERS[name]
+    output = ["-o", str(built_peer(name, folder)), str(sources / peer.source)]
+    command = ["rustc", "--edition", "2021", "-O", *peer.options, *output]
     return subprocess.run(command, stderr=subprocess.DEVNULL, check=False).returncode == 0
 
 

@@ -4,7 +4,7 @@ from __future__ import annotations
 
 from dataclasses import dataclass, field
 from statistics import fmean, median
-from typing import Iterable, Sequence
+from typing import Container, Iterable, Sequence
 
 from harness.measure import Run
 
@@ -101,6 +101,13 @@ def markdown(rows: Sequence[Sequence[str]]) -> str:
 def markdown_line(row: Sequence[str]) -> str:
     """A row of a Markdown table."""
     return "| " + " | ".join(cell.replace("|", "\\|").replace("*", "\\*") for cell in row) + " |"
+
+
+def ratios(results: Sequence[Result], peers: Container[str]) -> list[str]:
+    """The ratios of our time, the first result, to those of some peers."""
+    ours, *others = results
+    found = [f"{peer.name} {ours.wall / peer.wall:.2f}" for peer in others if peer.name in peers and peer.runs]
+    return [f"time/peer of {ours.name}: {', '.join(found)}"] if found else []
 
 
 def notes(results: Iterable[Result], scale: Scale) -> list[str]:
