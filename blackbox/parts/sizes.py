@@ -1,12 +1,14 @@
 """Files and outputs of many sizes, up to some MiB, and each limit that can be reached. The expected output is computed here:
 the partitions of keys by murmur2, and the counts by a Counter."""
+import os
+import subprocess
 import tempfile
 from collections import Counter
 from functools import lru_cache
 from pathlib import Path
 from typing import Callable, Iterator
 
-from .program import Cases, Outcome, run
+from .program import Cases, Outcome, program, run
 
 MIB = 1 << 20
 TABLE = b"line,step,event,member,partition,from,to,commit,code,reason,generation,phase,waiting,granted,unread,lag"
@@ -93,7 +95,31 @@ def size_faults(power: int) -> Iterator[str]:
         yield from faults("count f", {"f": lines(keys)}, counts(keys))
 
 
+def peak_memory(process: int) -> int:
+    """The highest resident memory of a process so far, in bytes."""
+    lines = Path(f"/proc/{process}/status").read_text(encoding="ascii").splitlines()
+    return next(int(line.split()[1]) * 1024 for line in lines if line.startswith("VmHWM:"))
+
+
+def stream_faults(blocks: int) -> Iterator[str]:
+    """So many megabytes through a pipe, of records of 100 bytes: their counts, in memory that has nothing to do with how many
+    there are."""
+    block = b"".join(b"%04d,%s\n" % (n, b"z" * 94) for n in range(10_000))
+    most = (24 + 8 * (os.cpu_count() or 1)) * MIB
+    with subprocess.Popen([program(), "count", "-"], stdin=subprocess.PIPE, stdout=subprocess.PIPE) as job:
+        for _ in range(blocks):
+            job.stdin.write(block)
+        peak = peak_memory(job.pid)
+        text, _ = job.communicate(timeout=120)
+    if text != counts([b"%04d" % n for n in range(10_000)]).replace(b",1\n", b",%d\n" % blocks).replace(
+            b"total,10000,10000", b"total,%d,%d" % (10_000 * blocks, 10_000 * blocks)):
+        yield f"it prints {text[:300]!r} ({len(text)} bytes)"
+    if peak > most:
+        yield f"it takes {peak} bytes, and not at most {most}"
+
+
 def file_sizes() -> Cases:
+    yield "a count of 400 MB through a pipe", stream_faults(400)
     for power in range(5, 24):
         yield f"a file and an output of about {1 << power} bytes", size_faults(power)
     for size in (MIB, 2 * MIB, 4 * MIB, 8 * MIB):

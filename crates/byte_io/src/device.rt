@@ -194,7 +194,7 @@ pub fn read_all<S: Source>(alloc: Global, source: &mut S) -> Result<Vec<u8>, Ref
 }
 
 /// Reads until the buffer is full or the source is at its end. Returns the number of bytes read.
-fn fill<S: Source>(source: &mut S, buffer: &mut [u8]) -> Result<usize, Refusal>
+pub fn fill<S: Source>(source: &mut S, buffer: &mut [u8]) -> Result<usize, Refusal>
     requires { CanStillFail (S.failures source.old) }
     ensures range { IfOk result (λ n. n ≤ length buffer.new) }
     ensures bytes { IfOk result

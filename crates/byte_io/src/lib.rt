@@ -10,5 +10,6 @@
 mod device;
 
 pub use device::{
-    DeviceFailed, FromRead, FromWrite, Sink, Source, read_all, read_blocks, write_all, write_texts,
+    DeviceFailed, FromRead, FromWrite, Sink, Source, fill, read_all, read_blocks, write_all,
+    write_texts,
 };

@@ -1,10 +1,9 @@
 -- The report of a check.
 use Rattle.std.specs.Prelude.{◌≡◌, ℕ, Bool, List, [], ◌++◌, Option, None, Some, Result, Ok, IfOk, IfSome, take}
-use Rattle.std.specs.Result.{result_map_both}
 use Rattle.lane_words.specs.declared.Refusal.{Refusal}
 use Rattle.command_line.specs.declared.options.CheckOptions.{CheckOptions}
 use Rattle.command_line.specs.declared.options.Options.{Options}
-use Rattle.ingest.specs.Reports.{WritesIfKnown, WritesReport}
+use Rattle.ingest.specs.Reports.{WritesIfKnown, written}
 use Rattle.check_report.specs.Findings.{Finding, finding_table, has_fault}
 use Rattle.check_report.specs.RecordFindings.{findings_of_file}
 use Rattle.check_report.specs.ScriptFindings.{findings_of_script}
@@ -29,18 +28,7 @@ abbrev pub report_of_check : Options → CheckOptions → List ℕ → Option (L
 report_of_check options check file script =
     Ok (finding_table (findings_of options check file script))
 
--- an answer without what it returns
-abbrev pub written : Result Bool Refusal → Result (Unit {0}) Refusal
-written answer = result_map_both (λ faulty. tt) (λ fault. fault) answer
-
 -- ---- a check of a file
--- if its bytes are known, the report is written
-abbrev pub WritesCheckOfFile : Options → CheckOptions → Option (List ℕ) → Option (List ℕ)
-    → Option (List ℕ) → Result Bool Refusal → Type 0
-WritesCheckOfFile options check file old new answer =
-    IfSome file
-    (λ bytes. WritesReport (report_of_check options check bytes None) old new (written answer))
-
 -- if its bytes are known, the answer is whether there is a fault
 abbrev pub TellsFaultOfFile : Options → CheckOptions → Option (List ℕ) → Result Bool Refusal
     → Type 0

@@ -1,10 +1,10 @@
 //! A check, from its sources to a sink.
 
-ghost use Rattle.std.specs.Prelude.{◌≡◌, ◌+◌, IfOk, option_map};
+ghost use Rattle.std.specs.Prelude.{◌≡◌, ◌+◌, IfOk, None, option_map};
 ghost use Rattle.byte_io.specs.Devices.{CanStillFail};
 ghost use Rattle.command_line.specs.Options.{IsCheckInRange};
-ghost use Rattle.ingest.specs.Reports.{AreInRange, CountsFailures, WritesAtEndAlone, failed_reads, failed_writes};
-ghost use Rattle.check_report.specs.CheckReport.{TellsFaultOfBoth, TellsFaultOfFile, WritesCheckOfBoth, WritesCheckOfFile, findings_of, script_findings, written};
+ghost use Rattle.ingest.specs.Reports.{AreInRange, CountsFailures, WritesAtEndAlone, WritesIfFileKnown, failed_reads, failed_writes, written};
+ghost use Rattle.check_report.specs.CheckReport.{TellsFaultOfBoth, TellsFaultOfFile, WritesCheckOfBoth, findings_of, report_of_check, script_findings};
 ghost use Rattle.check_report.specs.Findings.{finding_table, has_fault};
 
 use crate::findings::{Finding, has_fault, table_of};
@@ -110,8 +110,9 @@ pub fn check_text<S: Source, K: Sink>(
     requires sink { CanStillFail (K.failures out.old) }
     requires options { AreInRange options.now }
     requires check { IsCheckInRange check.now }
-    ensures report { WritesCheckOfFile options.now check.now (S.left file.old)
-        (K.written out.old) (K.written out.new) result }
+    ensures report { WritesIfFileKnown
+        (λ bytes. report_of_check options.now check.now bytes None)
+        (S.left file.old) (K.written out.old) (K.written out.new) (written result) }
     ensures faulty { TellsFaultOfFile options.now check.now (S.left file.old) result }
     ensures end { WritesAtEndAlone (K.written out.old) (K.written out.new) (written result) }
     ensures reads { S.failures file.new ≡ S.failures file.old + failed_reads result }

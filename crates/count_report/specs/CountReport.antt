@@ -1,7 +1,5 @@
 -- The report of a count: a text, or a fault.
-use Rattle.std.specs.Prelude.{ℕ, List, [], Option, Result, Vec, flat_map, vec_items}
-use Rattle.std.specs.Global.{Global}
-use Rattle.std.specs.Result.{result_map_both}
+use Rattle.std.specs.Prelude.{ℕ, List, [], Option, Result}
 use Rattle.lane_words.specs.declared.Refusal.{Refusal}
 use Rattle.partition_log.specs.Keys.{Keyed, keys_in}
 use Rattle.command_line.specs.declared.options.Options.{Options}
@@ -21,8 +19,3 @@ abbrev pub report_of_count : Options → List ℕ → Result (List ℕ) Refusal
 report_of_count options file =
     report_of_read (report_of_records options.top (partition_counts options))
     (records_of options file)
-
--- an answer as the text that it returns in parts
-abbrev pub texts_seen : Result (Vec (Vec ℕ Global) Global) Refusal → Result (List ℕ) Refusal
-texts_seen answer =
-    result_map_both (λ texts. flat_map vec_items texts.items) (λ fault. fault) answer

@@ -1,41 +1,52 @@
 //! A count, from a source to a sink.
 
-ghost use Rattle.std.specs.Prelude.{◌≡◌, ◌<◌, ◌+◌, ◌-◌, ◌++◌, Ok, IfOk, IfErr, IfSome, flat_map, length, vec_items};
-ghost use Rattle.lane_words.specs.Answers.{Answers};
-ghost use Rattle.count_report.specs.CountReport.{report_of_count, report_of_records, texts_seen};
+ghost use Rattle.std.specs.Prelude.{◌≡◌, ◌+◌, ◌++◌, List, Ok, IfErr, IfOk, IfSome, flat_map, length, vec_items};
+ghost use Rattle.count_report.specs.CountReport.{report_of_count};
+ghost use Rattle.count_report.specs.Private.Counted.{ReportsCounted, TellsCounters, skipped};
 ghost use Rattle.report_rows.specs.CountRows.{listed_rows};
 ghost use Rattle.report_rows.specs.Rows.{total_row};
 ghost use Rattle.byte_io.specs.Devices.{CanStillFail};
-ghost use Rattle.ingest.specs.Records.{AreOfTopics, partition_counts, records_in};
-ghost use Rattle.ingest.specs.Reports.{AreInRange, IsFaultOf, IsNoWrite, WritesAtEndAlone, WritesReport, failed_reads, failed_writes};
-ghost use Rattle.ingest.specs.RecordFaults.{IsKeyFault};
+ghost use Rattle.key_index.specs.Keys.{Key};
+ghost use Rattle.key_stream.specs.Tally.{HaveCounted};
+ghost use Rattle.ingest.specs.Counted.{CountsFile};
+ghost use Rattle.ingest.specs.Records.{names_topics};
+ghost use Rattle.ingest.specs.Reports.{AreInRange, IsFaultOf, IsNoWrite, WritesAtEndAlone, WritesIfFileKnown, failed_reads, failed_writes};
 
-use crate::tally::counts_after;
 use byte_io::{Sink, Source, write_texts};
 use command_line::Options;
-use ingest::{FileRecords, file_records, logs_of};
-use key_index::KeyDictionary;
+use ingest::count_file;
+use key_counts::KeyCounts;
+use key_index::KeyList;
+use key_stream::{Counters, Counting};
 use lane_words::{Memory, Refusal};
-use parallel::drop_each;
+use parallel::{LEAST_BYTES, LEAST_DROPS, drop_each};
 use report_rows::count_rows::count_rows_texts;
 use report_rows::top_rows::top_text;
 use std::alloc::Global;
+use std::hash::RandomState;
 use std::random::RandomSource;
+use std::thread;
 use std::thread::Threads;
+
+/// The number of threads that count, if the number of processors is unknown.
+const DEFAULT_WORKERS: usize = 4;
+
+/// How many bytes are read at once for each thread.
+const WINDOW: usize = 2 << 20;
 
 /// The text of a count: the rows of all keys or of the top, and the number of records as both
 /// totals.
-fn texts_of_count<R: Threads + Sync>(
+fn texts_of_count<R: Threads + Sync, K: KeyList + Sync>(
     rt: &R,
     alloc: Global,
-    keys: &KeyDictionary,
+    keys: &K,
     counts: &[u64],
     records: u64,
     top: Option<u32>,
 ) -> Result<Vec<Vec<u8>>, Memory>
-    requires { length keys.now ≡ length counts.now }
+    requires { length (K.keys keys.now) ≡ length counts.now }
     ensures { IfOk result (λ texts. flat_map vec_items texts.items
-        ≡ listed_rows top keys.now counts.now ++ total_row records records) }
+        ≡ listed_rows top (K.keys keys.now) counts.now ++ total_row records records) }
 {
     let Some(most) = top else {
         return count_rows_texts(rt, alloc, keys, counts, records, records);
@@ -46,28 +57,77 @@ fn texts_of_count<R: Threads + Sync>(
     Ok(texts)
 }
 
-/// The text of a count of these records, in texts to be written one after another.
-fn plain_report<R: Threads + Sync + RandomSource>(
+/// The number of threads that count.
+fn workers_for(rt: &impl Threads) -> usize {
+    match thread::available_parallelism(rt) {
+        Ok(count) => count.get(),
+        Err(_) => DEFAULT_WORKERS,
+    }
+}
+
+/// How many bytes stand before each key: with topics the index of its topic.
+fn bytes_before_keys(options: &Options) -> usize
+    ensures { result ≡ skipped (names_topics options.now) }
+{
+    if options.topics.as_slice().is_empty() {
+        0
+    } else {
+        1
+    }
+}
+
+/// The text of what these counters counted, of so many records, in texts to be written one after
+/// another.
+fn texts_of_counters<R: Threads + Sync + RandomSource>(
     rt: &R,
     alloc: Global,
-    records: FileRecords,
+    hasher: RandomState,
+    counters: &Counters,
+    records: u64,
     options: &Options,
-) -> Result<Vec<Vec<u8>>, Refusal>
-    requires options { AreInRange options.now }
-    requires topics { AreOfTopics (partition_counts options.now) (records_in records) }
-    ensures answer { Answers
-        (report_of_records options.now.top (partition_counts options.now) (records_in records))
-        (texts_seen result) }
-    ensures kind { IfErr result IsKeyFault }
+) -> Result<Vec<Vec<u8>>, Memory>
+    requires { (keys : List Key) × HaveCounted keys counters.now }
+    ensures { IfOk result (TellsCounters options.now counters.now records) }
 {
-    let logs = logs_of(rt, alloc, &records, options)?;
-    let total = records.len() as u64;
-    // The records can go: the logs have a copy of each key.
-    let counts = counts_after(rt, alloc, records, &logs)?;
-    let keys = logs.dictionary();
-    let texts = texts_of_count(rt, alloc, keys, counts.counts(), total, options.top)?;
-    logs.drop_parallel(rt);
-    Ok(texts)
+    let skip = bytes_before_keys(options);
+    let merged = counters.totals(rt, alloc, hasher, skip)?;
+    let counts = merged.counts.as_slice();
+    texts_of_count(rt, alloc, &merged.keys, counts, records, options.top)
+}
+
+/// How many entries counters have together.
+fn entries_of(workers: &[KeyCounts]) -> usize {
+    let mut entries: usize = 0;
+    for worker in workers {
+        entries = entries.saturating_add(worker.len());
+    }
+    entries
+}
+
+/// Drops counters: each on a thread of its own, if they have many entries.
+fn drop_counters<R: Threads + Sync>(rt: &R, workers: Vec<KeyCounts>) {
+    if entries_of(workers.as_slice()) < LEAST_DROPS {
+        return;
+    }
+    drop_each(rt, workers);
+}
+
+/// The text of a count of what was counted of a file, in texts to be written one after another.
+fn counted_report<R: Threads + Sync + RandomSource>(
+    rt: &R,
+    alloc: Global,
+    hasher: RandomState,
+    counting: Counting,
+    options: &Options,
+) -> Result<Vec<Vec<u8>>, Memory>
+    requires { (left left2 : _) × CountsFile options.now left left2 counting }
+    ensures { IfOk result (ReportsCounted options.now counting) }
+{
+    let records = counting.round.keys;
+    let counters = Counters::of(alloc, counting)?;
+    let texts = texts_of_counters(rt, alloc, hasher, &counters, records, options);
+    drop_counters(rt, counters.workers);
+    texts
 }
 
 /// The text of a count of a file, in texts to be written one after another.
@@ -86,16 +146,30 @@ fn file_report<R: Threads + Sync + RandomSource, S: Source>(
     ensures kind { IfErr result IsNoWrite }
     ensures reads { S.failures file.new ≡ S.failures file.old + failed_reads result }
 {
-    let records = file_records(rt, alloc, file, options)?;
-    plain_report(rt, alloc, records, options)
+    let Ok(hasher) = RandomState::new(rt) else {
+        return Err(Refusal::Memory);
+    };
+    let workers = workers_for(rt);
+    let mut counting = Counting::new(alloc, hasher, workers, LEAST_BYTES)?;
+    count_file(
+        rt,
+        alloc,
+        file,
+        options,
+        workers.saturating_mul(WINDOW),
+        &mut counting,
+    )?;
+    Ok(counted_report(rt, alloc, hasher, counting, options)?)
 }
 
 /// Counts how often each key occurs in a CSV file, and writes a row for each key, in the order of
 /// first appearance, and a row of the totals. With `top`, only so many keys have rows: those with
 /// the most records, most first, and of equal counts the one that came first.
 ///
-/// The whole file is read and the whole text is made before the first write. So after `WriteFailed`
-/// a prefix of the text is written, and after any other refusal nothing.
+/// The file is read as a stream, to its end, and the whole text is made before the first write. So
+/// after `WriteFailed` a prefix of the text is written, and after any other refusal nothing. In
+/// memory are the distinct keys of each thread, and of the file a few megabytes, or its longest
+/// record.
 ///
 /// Errors, in this order:
 /// - `ReadFailed`: a read failed.
@@ -114,9 +188,8 @@ pub fn count_text<R: Threads + Sync + RandomSource, S: Source, K: Sink>(
     requires source { CanStillFail (S.failures file.old) }
     requires sink { CanStillFail (K.failures out.old) }
     requires options { AreInRange options.now }
-    ensures report { IfSome (S.left file.old) (λ bytes.
-        WritesReport (report_of_count options.now bytes)
-        (K.written out.old) (K.written out.new) result) }
+    ensures report { WritesIfFileKnown (report_of_count options.now)
+        (S.left file.old) (K.written out.old) (K.written out.new) result }
     ensures end { WritesAtEndAlone (K.written out.old) (K.written out.new) result }
     ensures reads { S.failures file.new ≡ S.failures file.old + failed_reads result }
     ensures writes { K.failures out.new ≡ K.failures out.old + failed_writes result }

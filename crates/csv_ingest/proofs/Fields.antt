@@ -7,7 +7,7 @@ use Rattle.std.proofs.lemmas.List.Elements.{All-head, All-tail}
 use native.Mathlib.Decide.{dec_lt}
 use Rattle.csv.proofs.WriteFacts.{slice-end}
 use Rattle.std.proofs.lemmas.Bool.Decides.{eqb_tells}
-use Rattle.std.specs.Prelude.{◌==◌, ◌||◌, ◌⊎◌, All, IfOk, if◌then◌else◌, suc, zero}
+use Rattle.std.specs.Prelude.{◌==◌, ◌||◌, ◌⊎◌, All, IfOk, OnOk, if◌then◌else◌, suc, zero}
 use Rattle.csv.specs.Reading.{is_bom, records, strip_bom}
 use Rattle.csv.specs.Records.{field_at}
 use Rattle.csv.specs.declared.parser.State.{State}
@@ -15,7 +15,7 @@ use Rattle.csv.specs.declared.parser.State.TheVariants as st
 use Rattle.csv_ingest.specs.KeyFile.{Record, after_keys, dialect, field_or_lack, key_in, keys_from}
 use Rattle.csv_ingest.specs.Pieces.{file_records, piece_keys, bom_length}
 use Rattle.csv_ingest.specs.Private.FieldEnds.{ends_field}
-use Rattle.csv_ingest.specs.Private.Fields.{EndsField, IsLineEnd, IsRow, IsWhole, ReadsField, ReadsRow, kept}
+use Rattle.csv_ingest.specs.Private.Fields.{EndsField, IsLineEnd, IsRow, IsWhole, ReadsField, ReadsKey, ReadsRow, bytes_in, kept, key_of}
 use Rattle.csv_ingest.specs.Private.KeyFile.{IsFaultAt, TakesKey}
 use Rattle.csv_ingest.specs.Private.Walk.{walk}
 use Rattle.csv_ingest.specs.Stand.{is_line_end}
@@ -310,21 +310,17 @@ field-in-quotes delimiter text at end wanted old new lt quote reads = record {
   keeps = reads.keeps;
 }
 
-pub field-without : (delimiter : ℕ) (text : List ℕ) (at end : ℕ) (wanted : Bool) (old new : List ℕ) → at < length text → get_or text at 0 ≢ 34
-    → ReadsField delimiter st.InField text at end wanted old new → ReadsField delimiter st.StartField text at end wanted old new
-field-without delimiter text at end wanted old new lt other reads = record {
-  more = reads.more;
-  ends = record {
-    order = reads.ends.order;
-    within = reads.ends.within;
-    ended = reads.ends.ended;
-    walked = λ fields field.
-        ap (walk delimiter st.StartField fields field) (next-byte text at lt)
-        ∙ field-bare delimiter (get_or text at 0) fields field (drop (at + 1) text) other
-        ∙ ap (walk delimiter st.InField fields field) (sym (next-byte text at lt))
-        ∙ reads.ends.walked fields field;
-  };
-  keeps = reads.keeps;
+ends-without : (delimiter : ℕ) (text : List ℕ) (at end : ℕ) (more : List ℕ) → at < length text → get_or text at 0 ≢ 34
+    → EndsField delimiter st.InField text at end more → EndsField delimiter st.StartField text at end more
+ends-without delimiter text at end more lt other ends = record {
+  order = ends.order;
+  within = ends.within;
+  ended = ends.ended;
+  walked = λ fields field.
+      ap (walk delimiter st.StartField fields field) (next-byte text at lt)
+      ∙ field-bare delimiter (get_or text at 0) fields field (drop (at + 1) text) other
+      ∙ ap (walk delimiter st.InField fields field) (sym (next-byte text at lt))
+      ∙ ends.walked fields field;
 }
 
 -- ---- the fields of a record
@@ -350,31 +346,59 @@ no_fields : (fields : Record) → length fields ≡ 0 → fields ≡ []
 no_fields [] e = refl
 no_fields (f ∷ fields) e = absurd (omega (arith, e))
 
+-- a field is the key where it is wanted, and else the key stays
+pub key-in-quotes : (delimiter : ℕ) (text : List ℕ) (at end : ℕ) (wanted : Bool) (buffer key : List ℕ) (old new : Row) → at < length text → get_or text at 0 ≡ 34
+    → wanted ≡ true → buffer ≡ [] → ReadsField delimiter st.InQuoted text (at + 1) end true buffer key → key_of new ≡ key
+    → ReadsKey delimiter text at end wanted old new
+key-in-quotes delimiter text at end wanted buffer key old new lt quote is none reads same =
+    let whole = field-in-quotes delimiter text at end true buffer key lt quote reads in
+    record {
+      field = whole.more;
+      ends = whole.ends;
+      key = same ∙ whole.keeps ∙ ap (λ b. b ++ whole.more) none ∙ sym (ap (λ b. if b then whole.more else key_of old) is);
+    }
+
+pub other-in-quotes : (delimiter : ℕ) (text : List ℕ) (at end : ℕ) (wanted : Bool) (buffer : List ℕ) (old new : Row) → at < length text → get_or text at 0 ≡ 34
+    → wanted ≡ false → ReadsField delimiter st.InQuoted text (at + 1) end false old.buffer.items buffer → key_of new ≡ bytes_in old.place buffer
+    → ReadsKey delimiter text at end wanted old new
+other-in-quotes delimiter text at end wanted buffer old new lt quote is reads same =
+    let whole = field-in-quotes delimiter text at end false old.buffer.items buffer lt quote reads in
+    record {
+      field = whole.more;
+      ends = whole.ends;
+      key = same ∙ ap (bytes_in old.place) whole.keeps ∙ sym (ap (λ b. if b then whole.more else key_of old) is);
+    }
+
+pub key-without : (delimiter : ℕ) (text : List ℕ) (at end : ℕ) (wanted : Bool) (old new : Row) → at < length text → get_or text at 0 ≢ 34
+    → EndsField delimiter st.InField text at end (slice_range text at end)
+    → key_of new ≡ (if wanted then slice_range text at end else key_of old) → ReadsKey delimiter text at end wanted old new
+key-without delimiter text at end wanted old new lt other ends key =
+    record { field = slice_range text at end; ends = ends-without delimiter text at end (slice_range text at end) lt other ends; key = key }
+
 -- a field that was read to its end makes the fields whole
-pub row-whole : (delimiter : ℕ) (text : List ℕ) (at end column : ℕ) (old new : Row) → ReadsField delimiter st.StartField text at end (old.count == column) old.key.items new.key.items
+pub row-whole : (delimiter : ℕ) (text : List ℕ) (at end column : ℕ) (old new : Row) → ReadsKey delimiter text at end (old.count == column) old new
     → new.count ≡ old.count → ReadsRow delimiter text at end column old new
 row-whole delimiter text at end column old new reads same = record {
-  field = reads.more;
+  field = reads.field;
   ends = reads.ends;
   whole = λ fields is.
-      let long : length (fields ++ reads.more ∷ []) ≡ length fields + 1 = length-append fields (reads.more ∷ []) in
+      let long : length (fields ++ reads.field ∷ []) ≡ length fields + 1 = length-append fields (reads.field ∷ []) in
       elim (eqb_tells old.count column) [
         | inl here ↦
-            let own : new.key.items ≡ reads.more =
-            reads.keeps ∙ ap (λ b. kept b old.key.items reads.more) here.0 ∙ ap (λ k. k ++ reads.more) (is.before (omega (arith, here.1))) in
+            let own : key_of new ≡ reads.field = reads.key ∙ ap (λ b. if b then reads.field else key_of old) here.0 in
             let there : length fields ≡ column = sym is.count ∙ here.1 in
             record {
               count = omega (arith, same, is.count, long);
-              key = λ below. ap (field_at (fields ++ reads.more ∷ [])) (sym there) ∙ field-last fields reads.more ∙ ap Some (sym own);
+              key = λ below. ap (field_at (fields ++ reads.field ∷ [])) (sym there) ∙ field-last fields reads.field ∙ ap Some (sym own);
               before = λ below. absurd (omega (arith, below, same, here.1));
             }
         | inr other ↦
-            let own : new.key.items ≡ old.key.items = reads.keeps ∙ ap (λ b. kept b old.key.items reads.more) other.0 in
+            let own : key_of new ≡ key_of old = reads.key ∙ ap (λ b. if b then reads.field else key_of old) other.0 in
             record {
               count = omega (arith, same, is.count, long);
               key = λ below.
                   let less : column < old.count = omega (arith, below, same, other.1) in
-                  field-front fields reads.more column (omega (arith, less, is.count)) ∙ is.key less ∙ ap Some (sym own);
+                  field-front fields reads.field column (omega (arith, less, is.count)) ∙ is.key less ∙ ap Some (sym own);
               before = λ below. own ∙ is.before (omega (arith, below, same));
             }
       ];
@@ -396,11 +420,11 @@ row-lacks column row width nth fields same past is rest =
     let none = field-past fields column (omega (arith, is.count, past)) in
     keys_from-lacks (key_in (column + 1)) width nth fields rest l.Column (sym is.count ∙ same) (column-taken column fields None none)
 
-pub row-takes : (column : ℕ) (row : Row) (width nth : ℕ) (old new : List (List ℕ)) (fields : Record) → row.count + 1 ≡ width → column ≤ row.count → new ≡ old ++ row.key.items ∷ []
+pub row-takes : (column : ℕ) (row : Row) (width nth : ℕ) (old new : List (List ℕ)) (fields : Record) → row.count + 1 ≡ width → column ≤ row.count → new ≡ old ++ key_of row ∷ []
     → IsWhole column row fields → TakesKey (key_in (column + 1)) width nth old new fields
 row-takes column row width nth old new fields same here grown is rest =
-    rw (grown, keys_from-key (key_in (column + 1)) width nth fields rest row.key.items (sym is.count ∙ same) (column-taken column fields (Some row.key.items) (is.key (omega (arith, here)))))
-    (sym (after_keys-more old row.key.items (keys_from (key_in (column + 1)) width (nth + 1) rest)))
+    rw (grown, keys_from-key (key_in (column + 1)) width nth fields rest (key_of row) (sym is.count ∙ same) (column-taken column fields (Some (key_of row)) (is.key (omega (arith, here)))))
+    (sym (after_keys-more old (key_of row) (keys_from (key_in (column + 1)) width (nth + 1) rest)))
 
 -- ---- what a search for a double quote finds
 pub none-before : (text xs : List ℕ) (at n : ℕ) → xs ≡ drop at text → n ≤ length xs → ((k : ℕ) → 0 ≤ k → k < n → Passes (is_byte 34) xs k → ⊥) → All (λ c. c ≢ 34) (take n (drop at text))
@@ -414,6 +438,10 @@ quote-there text xs at n same passes = sym (get_or-drop at text n 0) ∙ ap (λ 
 
 pub inside-text : (text xs : List ℕ) (at n : ℕ) → xs ≡ drop at text → n < length xs → at + n < length text
 inside-text text xs at n same lt = omega (arith, ap length same, length-drop at text, lt)
+
+pub ok-both : {T E : Type 0} (r : Result T E) (P Q : T → Type 0) (C : Type 0) → ((x : T) → P x → C → Q x) → IfOk r P → OnOk r C → IfOk r Q
+ok-both (Ok x) P Q C f h g = f x h g
+ok-both (Err e) P Q C f h g = tt
 
 pub ok-then : {T E : Type 0} (r : Result T E) (P Q : T → Type 0) → ((x : T) → P x → Q x) → IfOk r P → IfOk r Q
 ok-then (Ok x) P Q f h = f x h

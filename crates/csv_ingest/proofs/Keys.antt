@@ -1,12 +1,12 @@
 -- The keys found so far, and the keys of the records that are left.
-use Rattle.std.proofs.Common.{◌≡◌, ◌+◌, ℕ, List, [], ◌∷◌, ◌++◌, Result, Ok, Err, length, ap, refl, inl, inr, ◌≢◌}
+use Rattle.std.proofs.Common.{◌≡◌, ◌∙◌, ◌+◌, ℕ, Bool, false, ap₂, List, [], ◌∷◌, ◌++◌, Result, Ok, Err, length, ap, sym, refl, inl, inr, ◌≢◌}
 use Rattle.std.proofs.lemmas.Bool.{eq-eqb}
 use Rattle.std.proofs.lemmas.Bool.Decides.{eqb_tells}
 use Rattle.std.specs.Prelude.{◌⊎◌}
 use Rattle.lane_words.specs.declared.Refusal.{Refusal}
 use Rattle.lane_words.specs.declared.Refusal.TheVariants as r
 use Rattle.csv_ingest.specs.declared.lack.Lack.{Lack}
-use Rattle.csv_ingest.specs.KeyFile.{Record, Taking, keys_from, key_before, lack_at}
+use Rattle.csv_ingest.specs.KeyFile.{Record, Taking, keys_from, keys_of_records, key_before, lack_at}
 use Rattle.csv_ingest.specs.KeyFile.{after_keys}
 
 pub after_keys-ok : (ks : List (List ℕ)) → after_keys ks (Ok []) ≡ Ok ks
@@ -51,3 +51,29 @@ pub fault_after : (keys : List (List ℕ)) (total : Result (List (List ℕ)) Ref
     → (e ≡ r.Memory) ⊎ (total ≡ Err e)
 fault_after keys total rows wanted width nth fields rest e t w (inl h) = inl h
 fault_after keys total rows wanted width nth fields rest e t w (inr h) = inr (rw (t, w, h rest) (after_keys-err keys e))
+
+-- the key of the first of the records that are left
+pub key_behind_keys : (keys : List (List ℕ)) (total : Result (List (List ℕ)) Refusal) (rows : List Record) (wanted : Taking) (width nth : ℕ) (fields : Record) (rest : List Record) (key : List ℕ)
+    → total ≡ after_keys keys (keys_from wanted width nth rows) → rows ≡ fields ∷ rest → length fields ≡ width → wanted fields ≡ Ok key
+    → total ≡ after_keys (keys ++ key ∷ []) (keys_from wanted width (nth + 1) rest)
+key_behind_keys keys total rows wanted width nth fields rest key t w long is =
+    t ∙ ap (λ rows. after_keys keys (keys_from wanted width nth rows)) w
+    ∙ ap (after_keys keys) (keys_from-key wanted width nth fields rest key long is)
+    ∙ sym (after_keys-more keys key (keys_from wanted width (nth + 1) rest))
+
+-- the key of the first record of a file without a header, and what is found behind it
+pub first_keys : (wanted : Taking) (header : Bool) (rows rest : List Record) (width : ℕ) (fields : Record) (key : List ℕ) (found : Result (List (List ℕ)) Refusal)
+    → header ≡ false → rows ≡ fields ∷ rest → length fields ≡ width → wanted fields ≡ Ok key → keys_from wanted width 2 rest ≡ found
+    → keys_of_records wanted header rows ≡ key_before key found
+first_keys wanted header rows rest width fields key found none w long is behind =
+    ap₂ (λ h rs. keys_of_records wanted h rs) none w
+    ∙ ap (λ n. keys_from wanted n 1 (fields ∷ rest)) long
+    ∙ keys_from-key wanted width 1 fields rest key long is
+    ∙ ap (key_before key) behind
+
+pub first_keys_fault : (wanted : Taking) (header : Bool) (rows rest : List Record) (width : ℕ) (fields : Record) (key : List ℕ) (e : Refusal)
+    → header ≡ false → rows ≡ fields ∷ rest → length fields ≡ width → wanted fields ≡ Ok key
+    → (e ≡ r.Memory) ⊎ (keys_from wanted width 2 rest ≡ Err e)
+    → (e ≡ r.Memory) ⊎ (keys_of_records wanted header rows ≡ Err e)
+first_keys_fault wanted header rows rest width fields key e none w long is (inl memory) = inl memory
+first_keys_fault wanted header rows rest width fields key e none w long is (inr bad) = inr (first_keys wanted header rows rest width fields key (Err e) none w long is bad)

@@ -8,6 +8,7 @@ pub mod Keys
 pub mod Listed
 pub mod Pieces
 pub mod Progress
+pub mod Rounds
 pub mod Short
 pub mod Stands
 pub mod Starts

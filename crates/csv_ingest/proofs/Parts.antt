@@ -45,7 +45,7 @@ pieces-split delimiter [] front rest file h q = (rest, h, q, refl)
 pieces-split delimiter (piece ∷ []) front rest file h q = (h.0, h.1, h.2, pieces-split delimiter [] front rest (10 ∷ h.0) h.3 q)
 pieces-split delimiter (piece ∷ next ∷ pieces) front rest file h q = (h.0, h.1, h.2, pieces-split delimiter (next ∷ pieces) front rest (10 ∷ h.0) h.3 q)
 
-drop-step : {X : Type 0} (xs : List X) (n : ℕ) (d : X) → n < length xs → drop n xs ≡ get_or xs n d ∷ drop (n + 1) xs
+pub drop-step : {X : Type 0} (xs : List X) (n : ℕ) (d : X) → n < length xs → drop n xs ≡ get_or xs n d ∷ drop (n + 1) xs
 drop-step [] n d h = absurd (omega arith)
 drop-step (x ∷ xs) zero d h = refl
 drop-step (x ∷ xs) (suc n) d h = let up : suc n + 1 ≡ suc (n + 1) = omega arith in rw up (drop-step xs n d (omega arith))
@@ -179,7 +179,7 @@ pub left-count : (delimiter : ℕ) (wanted : Taking) (header : Bool) (width : �
     → without_key header + length (all_keys lists) ≤ length file
 left-count delimiter wanted header width file pieces n lists so = let short = file_records-short delimiter file in omega (arith, so.fits, short)
 
-drop-none : {X : Type 0} (xs : List X) (n : ℕ) → n ≡ length xs → drop n xs ≡ []
+pub drop-none : {X : Type 0} (xs : List X) (n : ℕ) → n ≡ length xs → drop n xs ≡ []
 drop-none [] zero h = refl
 drop-none [] (suc n) h = refl
 drop-none (x ∷ xs) zero h = absurd (omega (arith, h))

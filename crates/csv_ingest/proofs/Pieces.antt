@@ -65,13 +65,13 @@ keys_from-later wanted width nth earlier (x ∷ xs) =
     let same : nth + earlier + 1 ≡ nth + 1 + earlier = omega arith in
     rw (same, keys_from-later wanted width (nth + 1) earlier xs) (keyed-later (length x == width) nth earlier (wanted x) (keys_from wanted width (nth + 1) xs))
 
-nothing : (delimiter : ℕ) → file_records delimiter [] ≡ []
+pub no_records : (delimiter : ℕ) → file_records delimiter [] ≡ []
 unfolding records_from next_record strip_bom
-nothing delimiter = refl
+no_records delimiter = refl
 
 pub pieces-records : (delimiter : ℕ) (pieces : List (List ℕ)) (file : List ℕ) → ArePieces delimiter file pieces → file_records delimiter file ≡ flat_map (file_records delimiter) pieces
 unfolding ArePieces
-pieces-records delimiter [] file h = rw h (nothing delimiter)
+pieces-records delimiter [] file h = rw h (no_records delimiter)
 pieces-records delimiter (piece ∷ []) file h = rw h (sym (append-nil (file_records delimiter piece)))
 pieces-records delimiter (piece ∷ next ∷ pieces) file h =
     rw h.1 (cut_file delimiter piece h.0 h.2 ∙ ap (λ rest. file_records delimiter piece ++ rest) (pieces-records delimiter (next ∷ pieces) (10 ∷ h.0) h.3))

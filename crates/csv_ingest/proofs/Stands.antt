@@ -174,7 +174,7 @@ pub cut_without_quotes : (delimiter : ℕ) (a b : List ℕ) → is_line_end deli
     → records (dialect delimiter) ((a ++ 10 ∷ []) ++ b) ≡ records (dialect delimiter) (a ++ 10 ∷ []) ++ records (dialect delimiter) b
 cut_without_quotes delimiter a b free n = cut_behind delimiter (a ++ 10 ∷ []) b (line-record delimiter a k.Record free (no_quote-outside delimiter a k.Record n refl))
 
-line-no_bom : (b : List ℕ) → strip_bom (10 ∷ b) ≡ 10 ∷ b
+pub line-no_bom : (b : List ℕ) → strip_bom (10 ∷ b) ≡ 10 ∷ b
 unfolding strip_bom
 line-no_bom [] = refl
 line-no_bom (x ∷ []) = refl
@@ -184,7 +184,7 @@ drop_if : (t : Bool) (x y z : List ℕ) → (if t then x ++ z else y ++ z) ≡ (
 drop_if true x y z = refl
 drop_if false x y z = refl
 
-bom-before : (a b : List ℕ) → strip_bom (a ++ 10 ∷ b) ≡ strip_bom a ++ 10 ∷ b
+pub bom-before : (a b : List ℕ) → strip_bom (a ++ 10 ∷ b) ≡ strip_bom a ++ 10 ∷ b
 unfolding strip_bom
 bom-before [] b = line-no_bom b
 bom-before (x ∷ []) [] = refl

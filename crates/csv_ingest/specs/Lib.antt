@@ -3,5 +3,7 @@ pub mod KeyFile
 pub mod Pieces
 pub mod Private
 pub mod Records
+pub mod Rounds
+pub mod Sinks
 pub mod Stand
 pub mod Starts

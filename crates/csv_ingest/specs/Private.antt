@@ -5,5 +5,6 @@ pub mod FileKeys
 pub mod Header
 pub mod KeyFile
 pub mod Pieces
+pub mod Sinks
 pub mod Walk
 pub mod Wanted

@@ -1,17 +1,20 @@
 //! The columns that the header of a file names.
 
-ghost use Rattle.std.specs.Prelude.{◌≡◌, ◌≤◌, ◌<◌, IfOk, IfErr, IfSome, flat_map, take};
+ghost use Rattle.std.specs.Prelude.{◌≡◌, ◌≤◌, ◌<◌, false, true, IfOk, IfErr, IfSome, flat_map, take};
 ghost use Rattle.std.specs.List.{position_from};
 ghost use Rattle.std.specs.Str.{bytes_eq};
 ghost use Rattle.csv.specs.Records.{fields_of};
-ghost use Rattle.csv_ingest.specs.Header.{column_named};
+ghost use Rattle.csv_ingest.specs.Header.{HasHeader, column_at, column_named};
 ghost use Rattle.csv_ingest.specs.KeyFile.{IsFileFault};
 ghost use Rattle.csv_ingest.specs.Pieces.{file_records};
 ghost use Rattle.csv_ingest.specs.Private.Header.{BeginsWith};
 ghost use Rattle.csv_ingest.specs.Private.Pieces.{lent};
+ghost use Rattle.csv_ingest.specs.Stand.{is_line_end};
 ghost use Rattle.lane_words.specs.Answers.{Answers};
 
 use crate::blocks::Blocks;
+use crate::cuts::pieces_of;
+use crate::piece::first_width;
 use crate::records::{next_record, records_of};
 use csv::ByteRecord;
 use lane_words::{Memory, Refusal};
@@ -66,6 +69,19 @@ pub fn field_named(row: &ByteRecord, name: &[u8], most: u32) -> Option<u32>
     None
 }
 
+/// The column of the first field of a header with this name, among the first `most` fields.
+fn column_among(header: &ByteRecord, name: &[u8], most: u32) -> Result<u32, Refusal>
+    ensures value { result
+        ≡ column_at (position_from (bytes_eq name.now) 0 (take most (fields_of header.now))) }
+    ensures range { IfOk result (λ column. 1 ≤ column) }
+    ensures kind { IfErr result IsFileFault }
+{
+    match field_named(header, name, most) {
+        Some(index) => Ok(index + 1),
+        None => Err(Refusal::NoSuchColumn { nth: 1 }),
+    }
+}
+
 /// The column of the first field of a file's header with this name, byte for byte, among the first
 /// `most` fields. Columns are counted from 1. The header is the first record; where there is none,
 /// the column is the first.
@@ -82,8 +98,39 @@ pub fn column_named(alloc: Global, file: &Blocks, name: &[u8], most: u32) -> Res
     if !read_header(alloc, &pieces, file.delimiter(), &mut row)? {
         return Ok(1);
     }
-    match field_named(&row, name, most) {
-        Some(index) => Ok(index + 1),
-        None => Err(Refusal::NoSuchColumn { nth: 1 }),
+    column_among(&row, name, most)
+}
+
+/// The same of a file with this delimiter, by its first bytes, which have the header whole.
+pub fn column_named_in(
+    alloc: Global,
+    text: &[u8],
+    delimiter: u8,
+    name: &[u8],
+    most: u32,
+) -> Result<u32, Refusal>
+    ensures answer { Answers
+        (column_named most name.now (file_records delimiter text.now)) result }
+    ensures range { IfOk result (λ column. 1 ≤ column) }
+    ensures kind { IfErr result IsFileFault }
+{
+    let mut row = ByteRecord::new(alloc);
+    if !read_first(alloc, text, delimiter, &mut row)? {
+        return Ok(1);
     }
+    column_among(&row, name, most)
+}
+
+/// Whether the first bytes of a file are seen to have its header, whatever comes behind them: a
+/// split point is found among them, and a record before it.
+pub fn has_header(alloc: Global, text: &[u8], delimiter: u8) -> Result<bool, Memory>
+    requires { is_line_end delimiter ≡ false }
+    ensures { IfOk result (λ has. has ≡ true → HasHeader delimiter text.now) }
+{
+    let pieces = pieces_of(alloc, text, delimiter, 2)?;
+    if pieces.len() < 2 {
+        return Ok(false);
+    }
+    let width = first_width(alloc, pieces[0], delimiter)?;
+    Ok(width.is_some())
 }

@@ -4,6 +4,7 @@ ghost use Rattle.std.specs.Prelude.{◌≡◌, ◌≢◌, ◌+◌, ◌++◌, ◌
 ghost use Rattle.csv.specs.Reading.{records, strip_bom};
 ghost use Rattle.csv_ingest.specs.KeyFile.{Record, Taking, dialect, keys_from, taken_of};
 ghost use Rattle.csv_ingest.specs.Pieces.{ArePieces, file_records, joined, later_keys, piece_keys, then_keys};
+ghost use Rattle.csv_ingest.specs.Rounds.{IsSplitPoint, chunk_keys, width_of};
 ghost use Rattle.csv_ingest.specs.Stand.{IsCut, in_quotes, is_line_end, stand_after};
 ghost use Rattle.csv_ingest.specs.Starts.{BeginsAt, starts};
 ghost use Rattle.csv_ingest.specs.declared.stand.Stand.{Stand};
@@ -95,6 +96,17 @@ pub fn keys_of_pieces()
         → taken_of delimiter wanted header file
         ≡ then_keys (taken_of delimiter wanted header piece)
         (joined (length (first ∷ more)) (map (piece_keys delimiter wanted (length first)) pieces)) }
+{}
+
+/// The keys of a file that is split in two: those of the first part, and then those of the second,
+/// whose faults count on.
+pub fn keys_of_two_chunks()
+    ensures { (delimiter : ℕ) (wanted : Taking) (header : Bool) (read chunk : List ℕ)
+        → IsSplitPoint delimiter read chunk
+        → taken_of delimiter wanted header (read ++ chunk)
+        ≡ then_keys (taken_of delimiter wanted header read)
+        (later_keys (length (file_records delimiter read))
+        (chunk_keys delimiter wanted header (width_of (file_records delimiter read)) chunk)) }
 {}
 
 /// A file has a start for each record.

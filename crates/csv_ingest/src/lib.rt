@@ -4,7 +4,9 @@
 //! - Each read returns the keys of a column, with their topics or without, or the first fault,
 //!   exactly as the definition by records says (`keys_of`), however the file is split. The only
 //!   other error is running out of memory.
-//! - `column_named` returns the column of the header's first field with a name.
+//! - A `KeySink` takes the keys of a chunk as they are read, one after another (`take_chunk`).
+//! - `column_named` returns the column of the header's first field with a name, and
+//!   `column_named_in` by the first bytes of a file, once `has_header` sees the header in them.
 //! - `records_of` and `next_record` read a file's records one by one.
 //! - Laws: when a file can be split at a line feed, how the records and keys of a file follow from
 //!   those of its chunks, and where its records begin.
@@ -14,6 +16,7 @@
 
 mod apart;
 mod blocks;
+mod chunk;
 mod cuts;
 mod field_ends;
 mod file_keys;
@@ -24,6 +27,7 @@ mod laws;
 mod piece;
 mod records;
 mod scan;
+mod sink;
 mod stand;
 mod topic_keys;
 mod wanted;
@@ -34,17 +38,21 @@ pub use apart::{
     read_topic_keys_in_pieces,
 };
 pub use blocks::Blocks;
-pub use cuts::mark_length;
+pub use chunk::{take_chunk, width_behind};
+pub use cuts::{mark_length, pieces_of};
 pub use file_keys::FileKeys;
-pub use header::{column_named, field_named};
+pub use header::{column_named, column_named_in, field_named, has_header};
 pub use lack::Lack;
 pub use laws::{
     a_key_a_record, a_start_a_record, cut_before_a_line_feed, cut_behind_a_record, cut_file,
-    cut_without_quotes, keys_later, keys_of_pieces, keys_of_two_pieces, line_feed_ends_a_record,
-    outside_without_quotes, records_begin_at_starts, records_of_pieces, stand_after_two,
+    cut_without_quotes, keys_later, keys_of_pieces, keys_of_two_chunks, keys_of_two_pieces,
+    line_feed_ends_a_record, outside_without_quotes, records_begin_at_starts, records_of_pieces,
+    stand_after_two,
 };
 pub use record_batch::RecordBatch;
 pub use records::{next_record, records_of};
+pub use sink::KeySink;
 pub use stand::{Stand, is_line_end};
 pub use topic_keys::TopicKeys;
+pub use wanted::Wanted;
 pub use whole::read_keys;

@@ -1,22 +1,24 @@
 //! The keys of a piece, scanned field by field. `csv` says what its fields are; of all but one of
 //! each record nothing is wanted here but the end.
 
-ghost use Rattle.std.specs.Prelude.{◌≡◌, ◌≤◌, ◌<◌, ◌+◌, ◌-◌, ◌^◌, ◌⊎◌, ◌∷◌, ◌++◌, [], ℕ, IfErr, IfOk, List, Ok, OnOk, Err, get_or, length, slice_range, true, false};
+ghost use Rattle.std.specs.Prelude.{◌≡◌, ◌≢◌, ◌≤◌, ◌<◌, ◌+◌, ◌-◌, ◌^◌, ◌⊎◌, ◌∷◌, ◌++◌, [], ℕ, IfErr, IfOk, List, Ok, OnOk, Err, get_or, length, slice_range, true, false};
 ghost use Rattle.csv.specs.declared.parser.State.TheVariants as st;
 ghost use Rattle.csv_ingest.specs.KeyFile.{IsFileFault, Record, key_in, taken_of};
 ghost use Rattle.csv_ingest.specs.Pieces.{bom_length, file_records, piece_keys};
-ghost use Rattle.csv_ingest.specs.Private.Fields.{EndsField, IsRow, IsWhole, ReadsField, ReadsRow, kept};
+ghost use Rattle.csv_ingest.specs.Private.Fields.{EndsField, IsRow, IsWhole, ReadsField, ReadsKey, ReadsRow, kept, key_of};
 ghost use Rattle.csv_ingest.specs.Private.Pieces.{IsWidthOf};
-ghost use Rattle.csv_ingest.specs.Private.KeyFile.{IsFaultAt, TakesKey};
+ghost use Rattle.csv_ingest.specs.Private.KeyFile.{IsFaultAt};
 ghost use Rattle.csv_ingest.specs.Private.Wanted.{taking};
+ghost use Rattle.csv_ingest.specs.Sinks.{TakesFound};
 ghost use Rattle.lane_words.specs.declared.Refusal.TheVariants as refusal;
 
 use crate::cuts::mark_length;
 use crate::field_ends::FieldEnds;
-use crate::piece::keys_of_piece;
+use crate::piece::take_piece;
+use crate::sink::KeySink;
 use crate::stand::is_line_end;
 use crate::wanted::Wanted;
-use crate::whole::read_taken;
+use crate::whole::take_file;
 use lane_words::{Memory, Refusal};
 use memchr::memchr;
 use record_batch::RecordBatch;
@@ -81,8 +83,8 @@ fn read_quoted(
 ) -> Result<usize, Memory>
     requires { start ≤ length text.now }
     ensures { IfOk result
-        (λ end. ReadsField ends.now st.InQuoted text.now start end wanted key.old.items
-        key.new.items) }
+        (λ end. ReadsField ends.now st.InQuoted text.now start end wanted
+        key.old.items key.new.items) }
 {
     let mut at = start;
     'quotes: while let Some(more) = memchr(b'"', &text[at..]) {
@@ -98,45 +100,103 @@ fn read_quoted(
     Ok(text.len())
 }
 
-/// The record at hand.
-#[derive(Drop)]
-struct Row {
-    /// How many fields come before the one at hand.
-    count: usize,
-    /// The bytes of the key, as far as they were read.
-    key: Vec<u8>,
+/// Where the key of the record at hand is.
+#[derive(Clone, Copy)]
+enum Place<'t> {
+    /// In the text, as it stands.
+    Text(&'t [u8]),
+    /// In the buffer of the row.
+    Buffer,
 }
 
-impl Row {
+/// The record at hand.
+#[derive(Drop)]
+struct Row<'t> {
+    /// How many fields come before the one at hand.
+    count: usize,
+    /// Where the bytes of the key are, as far as they were read.
+    place: Place<'t>,
+    /// The bytes of a key in quotes. It keeps its memory from record to record.
+    buffer: Vec<u8>,
+}
+
+impl<'t> Row<'t> {
     /// A record of which nothing was read.
-    fn new(alloc: Global) -> Row
+    fn new(alloc: Global) -> Row<'t>
         ensures none { result.count ≡ 0 }
         ensures row { (column : ℕ) → IsRow column result [] }
     {
         Row {
             count: 0,
-            key: Vec::new(alloc),
+            place: Place::Text(&[]),
+            buffer: Vec::new(alloc),
         }
     }
 
+    /// The bytes of the key, as far as they were read.
+    fn key(&self) -> &[u8]
+        ensures { result.now ≡ key_of self.now }
+    {
+        match self.place {
+            Place::Text(key) => key,
+            Place::Buffer => self.buffer.as_slice(),
+        }
+    }
+
+    /// Reads the field at hand, which starts here with a double quote, and tells where it ends.
+    fn read_in_quotes(
+        &mut self,
+        text: &'t [u8],
+        ends: &FieldEnds,
+        at: usize,
+        wanted: bool,
+    ) -> Result<usize, Memory>
+        requires { (at < length text.now) × (get_or text.now at 0 ≡ 34) }
+        ensures count { OnOk result (self.new.count ≡ self.old.count) }
+        ensures key { IfOk result
+            (λ end. ReadsKey ends.now text.now at end wanted self.old self.new) }
+    {
+        if wanted {
+            self.place = Place::Buffer;
+            self.buffer.clear();
+            return read_quoted(text, ends, at + 1, true, &mut self.buffer);
+        }
+        read_quoted(text, ends, at + 1, false, &mut self.buffer)
+    }
+
+    /// Reads the field at hand, which starts here without quotes, and tells where it ends.
+    #[inline(always)]
+    fn read_without(&mut self, text: &'t [u8], ends: &FieldEnds, at: usize, wanted: bool) -> usize
+        requires { (at < length text.now) × (get_or text.now at 0 ≢ 34) }
+        ensures count { self.new.count ≡ self.old.count }
+        ensures key { ReadsKey ends.now text.now at result wanted self.old self.new }
+    {
+        let end = bare_end(text, ends, at);
+        if wanted {
+            self.place = Place::Text(&text[at..end]);
+        }
+        end
+    }
+
     /// Reads the field at hand, which starts here, and tells where it ends.
+    #[inline(always)]
     fn read_field(
         &mut self,
-        text: &[u8],
+        text: &'t [u8],
         ends: &FieldEnds,
         at: usize,
         column: usize,
     ) -> Result<usize, Memory>
         requires { at < length text.now }
         ensures count { OnOk result (self.new.count ≡ self.old.count) }
-        ensures field { IfOk result (λ end.
-            ReadsRow ends.now text.now at end column self.old self.new) }
+        ensures field { IfOk result
+            (λ end. ReadsRow ends.now text.now at end column self.old self.new) }
     {
         let wanted = self.count == column;
         if text[at] == b'"' {
-            read_quoted(text, ends, at + 1, wanted, &mut self.key)
+            self.read_in_quotes(text, ends, at, wanted)
         } else {
-            read_bare(text, ends, at, wanted, &mut self.key)
+            Ok(self.read_without(text, ends, at, wanted))
         }
     }
 
@@ -156,23 +216,21 @@ impl Row {
         ensures row { (column : ℕ) → IsRow column self.new [] }
     {
         self.count = 0;
-        self.key.clear();
+        self.place = Place::Text(&[]);
     }
 
-    /// Adds the key of this record, which was read to its end, as record number nth, which has to
-    /// be `width` fields long.
-    fn add_to(
+    /// Takes the key of this record, which was read to its end, as that of record number nth, which
+    /// has to be `width` fields long.
+    fn give_to<K: KeySink>(
         &self,
-        keys: &mut RecordBatch,
+        keys: &mut K,
         column: usize,
         width: usize,
         nth: u64,
     ) -> Result<(), Refusal>
         requires { self.now.count < 2 ^ 64 - 1 }
-        ensures bound { OnOk result (length keys.new < 2 ^ 63) }
-        ensures value { OnOk result (length keys.new ≡ length keys.old + 1) }
-        ensures key { OnOk result ((fields : Record) → IsWhole column self.now fields
-            → TakesKey (key_in (column + 1)) width nth keys.old keys.new fields) }
+        ensures key { OnOk result (K.Takes keys.old (key_of self.now ∷ []) keys.new) }
+        ensures count { OnOk result ((self.now.count + 1 ≡ width) × (column ≤ self.now.count)) }
         ensures kind { IfErr result IsFileFault }
         ensures fault { IfErr result (λ e. (e ≡ refusal.Memory)
             ⊎ ((fields : Record) → IsWhole column self.now fields
@@ -184,32 +242,29 @@ impl Row {
         if self.count < column {
             return Err(Refusal::NoSuchColumn { nth });
         }
-        Ok(keys.push(self.key.as_slice())?)
+        Ok(keys.take(None, self.key())?)
     }
 }
 
-/// Reads the keys of a piece without a byte order mark into an empty list: of each record the field
-/// in this column, which is counted from 0.
-fn scan(
-    keys: &mut RecordBatch,
+/// Takes the keys of a piece without a byte order mark, of each record the field in this column,
+/// which is counted from 0, and returns how many there are.
+fn scan<K: KeySink>(
+    keys: &mut K,
     alloc: Global,
     text: &[u8],
     delimiter: u8,
     column: usize,
     width: usize,
-) -> Result<(), Refusal>
-    requires empty { keys.old ≡ [] }
+) -> Result<u64, Refusal>
     requires unmarked { bom_length text.now ≡ 0 }
-    ensures keys { OnOk result (piece_keys delimiter (key_in (column + 1)) width text.now
-        ≡ Ok keys.new) }
+    ensures keys { TakesFound K.Takes (piece_keys delimiter (key_in (column + 1)) width text.now)
+        keys.old keys.new result }
     ensures kind { IfErr result IsFileFault }
-    ensures fault { IfErr result (λ e. (e ≡ refusal.Memory)
-        ⊎ (piece_keys delimiter (key_in (column + 1)) width text.now ≡ Err e)) }
 {
     let ends = FieldEnds::of(delimiter);
     let mut row = Row::new(alloc);
     let mut at = 0;
-    let mut nth = 1;
+    let mut taken = 0;
     while at < text.len() {
         if row.count == 0 && is_line_end(text[at]) {
             at += 1;
@@ -218,45 +273,67 @@ fn scan(
             if is_at(text, end, delimiter) {
                 row.go_on();
             } else {
-                row.add_to(keys, column, width, nth)?;
+                row.give_to(keys, column, width, taken + 1)?;
                 row.start_over();
-                nth += 1;
+                taken += 1;
             }
             at = end + 1;
         }
     }
     // Behind a last delimiter there is one field more.
     if row.count > 0 {
-        row.add_to(keys, column, width, nth)?;
+        row.give_to(keys, column, width, taken + 1)?;
+        taken += 1;
     }
-    Ok(())
+    Ok(taken)
 }
 
-/// The keys of a piece without a byte order mark, as `keys_of_piece` has them.
-fn scanned(
+/// Takes the keys of one piece of a file, as `take_piece` does, which is asked where more than the
+/// key is wanted, or where there is a byte order mark.
+pub fn take_keys<K: KeySink>(
     alloc: Global,
-    text: &[u8],
+    keys: &mut K,
+    piece: &[u8],
     delimiter: u8,
     wanted: &Wanted<'_>,
-    column: usize,
     width: usize,
-) -> Result<RecordBatch, Refusal>
-    requires unmarked { bom_length text.now ≡ 0 }
-    requires column { taking wanted.now ≡ key_in (column + 1) }
-    ensures keys { IfOk result (λ keys. piece_keys delimiter (taking wanted.now) width text.now
-        ≡ Ok keys) }
+) -> Result<u64, Refusal>
+    ensures keys { TakesFound K.Takes (piece_keys delimiter (taking wanted.now) width piece.now)
+        keys.old keys.new result }
     ensures kind { IfErr result IsFileFault }
-    ensures fault { IfErr result
-        (λ e. (e ≡ refusal.Memory)
-        ⊎ (piece_keys delimiter (taking wanted.now) width text.now ≡ Err e)) }
 {
-    let mut keys = wanted.new_list(alloc);
-    scan(&mut keys, alloc, text, delimiter, column, width)?;
-    Ok(keys)
+    match wanted.key_column() {
+        Some(column) if mark_length(piece) == 0 => {
+            scan(keys, alloc, piece, delimiter, column, width)
+        }
+        _ => take_piece(alloc, keys, piece, delimiter, wanted, width),
+    }
 }
 
-/// The keys of one piece of a file, as `keys_of_piece` has them, which is asked where more than the
-/// key is wanted, or where there is a byte order mark.
+/// Takes the keys of the first piece of a file, whose first record is `width` fields long, and
+/// returns how many there are.
+pub fn take_first_keys<K: KeySink>(
+    alloc: Global,
+    keys: &mut K,
+    piece: &[u8],
+    delimiter: u8,
+    wanted: &Wanted<'_>,
+    header: bool,
+    width: usize,
+) -> Result<u64, Refusal>
+    requires { IsWidthOf width (file_records delimiter piece.now) }
+    ensures keys { TakesFound K.Takes (taken_of delimiter (taking wanted.now) header piece.now)
+        keys.old keys.new result }
+    ensures kind { IfErr result IsFileFault }
+{
+    if header {
+        take_file(alloc, keys, piece, delimiter, wanted, header)
+    } else {
+        take_keys(alloc, keys, piece, delimiter, wanted, width)
+    }
+}
+
+/// The keys of one piece of a file, as `take_keys` takes them.
 pub fn keys_of(
     alloc: Global,
     piece: &[u8],
@@ -264,19 +341,16 @@ pub fn keys_of(
     wanted: &Wanted<'_>,
     width: usize,
 ) -> Result<RecordBatch, Refusal>
-    ensures keys { IfOk result (λ keys. piece_keys delimiter (taking wanted.now) width piece.now
-        ≡ Ok keys) }
+    ensures keys { IfOk result
+        (λ keys. piece_keys delimiter (taking wanted.now) width piece.now ≡ Ok keys) }
     ensures kind { IfErr result IsFileFault }
     ensures fault { IfErr result
         (λ e. (e ≡ refusal.Memory)
         ⊎ (piece_keys delimiter (taking wanted.now) width piece.now ≡ Err e)) }
 {
-    match wanted.key_column() {
-        Some(column) if mark_length(piece) == 0 => {
-            scanned(alloc, piece, delimiter, wanted, column, width)
-        }
-        _ => keys_of_piece(alloc, piece, delimiter, wanted, width),
-    }
+    let mut keys = wanted.new_list(alloc);
+    let taken = take_keys(alloc, &mut keys, piece, delimiter, wanted, width);
+    taken.and(Ok(keys))
 }
 
 /// The keys of the first piece of a file, whose first record is `width` fields long.
@@ -289,16 +363,14 @@ pub fn first_keys(
     width: usize,
 ) -> Result<RecordBatch, Refusal>
     requires { IsWidthOf width (file_records delimiter piece.now) }
-    ensures keys { IfOk result (λ keys. taken_of delimiter (taking wanted.now) header piece.now
-        ≡ Ok keys) }
+    ensures keys { IfOk result
+        (λ keys. taken_of delimiter (taking wanted.now) header piece.now ≡ Ok keys) }
     ensures kind { IfErr result IsFileFault }
     ensures fault { IfErr result
         (λ e. (e ≡ refusal.Memory)
         ⊎ (taken_of delimiter (taking wanted.now) header piece.now ≡ Err e)) }
 {
-    if header {
-        read_taken(alloc, piece, delimiter, wanted, header)
-    } else {
-        keys_of(alloc, piece, delimiter, wanted, width)
-    }
+    let mut keys = wanted.new_list(alloc);
+    let taken = take_first_keys(alloc, &mut keys, piece, delimiter, wanted, header, width);
+    taken.and(Ok(keys))
 }

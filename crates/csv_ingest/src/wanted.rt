@@ -5,7 +5,8 @@ ghost use Rattle.std.specs.List.{position_from};
 ghost use Rattle.std.specs.Str.{bytes_eq};
 ghost use Rattle.csv.specs.Records.{fields_of};
 ghost use Rattle.csv_ingest.specs.KeyFile.{key_in, lack_at};
-ghost use Rattle.csv_ingest.specs.Private.Wanted.{item, taking};
+ghost use Rattle.csv_ingest.specs.Private.Wanted.{taking};
+ghost use Rattle.csv_ingest.specs.Sinks.{item};
 
 use crate::lack::Lack;
 use csv::ByteRecord;

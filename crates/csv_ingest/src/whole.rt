@@ -1,47 +1,34 @@
 //! The keys of a file that is read in one piece.
 
-ghost use Rattle.std.specs.Prelude.{◌≡◌, ◌≤◌, ◌+◌, ◌<◌, ◌^◌, ◌⊎◌, ◌∷◌, ◌++◌, ◌-◌, Some, None, [], ℕ, List, Ok, Err, IfOk, IfErr, OnErr, OnOk, length, Bool};
-ghost use Rattle.csv.specs.Reading.{default_config, records, strip_bom};
-ghost use Rattle.csv.specs.Records.{field_at, fields_of};
-ghost use Rattle.csv_ingest.specs.KeyFile.{IsFileFault, keys_of, keys_of_records, taken_of};
-ghost use Rattle.csv_ingest.specs.Private.KeyFile.{IsFaultAt, TakesKey, keys_then};
-ghost use Rattle.csv_ingest.specs.Records.{ReadsRecords, TakesNext, records_left};
-ghost use Rattle.csv_ingest.specs.Private.Wanted.{item, taking};
+ghost use Rattle.std.specs.Prelude.{◌≡◌, ◌≤◌, ◌+◌, ◌<◌, ◌^◌, ◌⊎◌, Ok, Err, IfOk, IfErr, OnOk};
+ghost use Rattle.csv.specs.Records.{fields_of};
+ghost use Rattle.csv_ingest.specs.KeyFile.{IsFileFault, keys_from, keys_of, keys_of_records, taken_of};
+ghost use Rattle.csv_ingest.specs.Private.KeyFile.{IsFaultAt};
+ghost use Rattle.csv_ingest.specs.Private.Sinks.{TakesRecord};
+ghost use Rattle.csv_ingest.specs.Private.Wanted.{taking};
+ghost use Rattle.csv_ingest.specs.Records.{ReadsRecords, records_left};
+ghost use Rattle.csv_ingest.specs.Sinks.{TakesFound};
 ghost use Rattle.lane_words.specs.declared.Refusal.TheVariants as refusal;
 
 use crate::records::{next_record, records_of};
+use crate::sink::KeySink;
 use crate::wanted::{Wanted, lack_at};
 use csv::{ByteRecord, Reader};
-use lane_words::{Memory, Refusal};
+use lane_words::Refusal;
 use record_batch::RecordBatch;
 use std::alloc::Global;
 use std::io::Read;
 
-/// Adds a key behind the index of its topic, if it has one. Where memory is refused, the list stays
-/// as it was.
-fn push_taken(keys: &mut RecordBatch, topic: Option<u8>, key: &[u8]) -> Result<(), Memory>
-    ensures ok { OnOk result (keys.new ≡ keys.old ++ item topic key.now ∷ []) }
-    ensures err { OnErr result (keys.new ≡ keys.old) }
-    ensures bound { OnOk result (length keys.new < 2 ^ 63) }
-{
-    match topic {
-        Some(index) => keys.push_two(&[index], key),
-        None => keys.push(key),
-    }
-}
-
-/// Adds what is taken of record number nth, which has to be as long as the first.
-pub fn add_key(
-    keys: &mut RecordBatch,
+/// Takes the key of record number nth, which has to be as long as the first.
+pub fn take_record<K: KeySink>(
+    keys: &mut K,
     row: &ByteRecord,
     wanted: &Wanted<'_>,
     width: usize,
     nth: u64,
 ) -> Result<(), Refusal>
-    ensures bound { OnOk result (length keys.new < 2 ^ 63) }
-    ensures value { OnOk result (length keys.new ≡ length keys.old + 1) }
-    ensures key { OnOk result
-        (TakesKey (taking wanted.now) width nth keys.old keys.new (fields_of row.now)) }
+    ensures ok { OnOk result
+        (TakesRecord K.Takes (taking wanted.now) width keys.old keys.new (fields_of row.now)) }
     ensures kind { IfErr result IsFileFault }
     ensures fault { IfErr result
         (λ e. (e ≡ refusal.Memory)
@@ -51,95 +38,86 @@ pub fn add_key(
         return Err(Refusal::BadCsv { nth });
     }
     match wanted.of(row) {
-        Ok(taken) => Ok(push_taken(keys, taken.topic, taken.key)?),
+        Ok(taken) => Ok(keys.take(taken.topic, taken.key)?),
         Err(lack) => Err(lack_at(nth, lack)),
     }
 }
 
-/// Adds what is taken of the records that are left, which are numbered from this one on and have to
-/// be `width` fields long.
+/// Takes the keys of the records that are left, which are numbered from this one on and have to be
+/// `width` fields long, and returns how many there are.
 ///
-/// It owns nothing, as `add_all`: who owns the list, the reader and the row returns in few places.
-pub fn add_rest(
-    keys: &mut RecordBatch,
+/// It owns nothing, as `take_all`: who owns the keys, the reader and the row returns in few places.
+pub fn take_rest<K: KeySink>(
+    keys: &mut K,
     reader: &mut Reader<&[u8]>,
     row: &mut ByteRecord,
     wanted: &Wanted<'_>,
     width: usize,
     from: u64,
-) -> Result<(), Refusal>
+) -> Result<u64, Refusal>
     requires reads { ReadsRecords ⟦<&'static [u8] as Read>⟧.remaining reader.old }
-    requires bound { length keys.old < 2 ^ 63 }
-    requires from { from ≤ length keys.old + 2 }
-    ensures keys { OnOk result (keys_then (taking wanted.now) width from keys.old
-        (records_left ⟦<&'static [u8] as Read>⟧.remaining reader.old) ≡ Ok keys.new) }
+    ensures keys { TakesFound K.Takes (keys_from (taking wanted.now) width from
+        (records_left ⟦<&'static [u8] as Read>⟧.remaining reader.old)) keys.old keys.new result }
     ensures kind { IfErr result IsFileFault }
-    ensures fault { IfErr result (λ e. (e ≡ refusal.Memory)
-        ⊎ (keys_then (taking wanted.now) width from keys.old
-        (records_left ⟦<&'static [u8] as Read>⟧.remaining reader.old) ≡ Err e)) }
+    ensures bound { IfOk result (λ n. from + n < 2 ^ 64) }
 {
     for nth in from..u64::MAX {
         let Ok(found) = next_record(reader, row) else {
             return Err(Refusal::Memory);
         };
         if !found {
-            return Ok(());
+            return Ok(nth - from);
         }
-        add_key(keys, row, wanted, width, nth)?;
+        take_record(keys, row, wanted, width, nth)?;
     }
-    unreachable!()
+    Err(Refusal::Memory)
 }
 
-/// Adds what is taken of all records to a list that has nothing yet. They are as long as the first.
-fn add_all(
-    keys: &mut RecordBatch,
+/// Takes the keys of all records, which are as long as the first, and returns how many there are.
+fn take_all<K: KeySink>(
+    keys: &mut K,
     reader: &mut Reader<&[u8]>,
     row: &mut ByteRecord,
     wanted: &Wanted<'_>,
     header: bool,
-) -> Result<(), Refusal>
+) -> Result<u64, Refusal>
     requires reads { ReadsRecords ⟦<&'static [u8] as Read>⟧.remaining reader.old }
-    requires none { keys.old ≡ [] }
-    ensures keys { OnOk result (keys_of_records (taking wanted.now) header
-        (records_left ⟦<&'static [u8] as Read>⟧.remaining reader.old) ≡ Ok keys.new) }
+    ensures keys { TakesFound K.Takes (keys_of_records (taking wanted.now) header
+        (records_left ⟦<&'static [u8] as Read>⟧.remaining reader.old)) keys.old keys.new result }
     ensures kind { IfErr result IsFileFault }
-    ensures fault { IfErr result (λ e. (e ≡ refusal.Memory)
-        ⊎ (keys_of_records (taking wanted.now) header
-        (records_left ⟦<&'static [u8] as Read>⟧.remaining reader.old) ≡ Err e)) }
 {
     let Ok(found) = next_record(reader, row) else {
         return Err(Refusal::Memory);
     };
     if !found {
-        return Ok(());
+        return Ok(0);
     }
     let width = row.len();
-    if !header {
-        add_key(keys, row, wanted, width, 1)?;
+    if header {
+        return take_rest(keys, reader, row, wanted, width, 2);
     }
-    add_rest(keys, reader, row, wanted, width, 2)
+    take_record(keys, row, wanted, width, 1)?;
+    let rest = take_rest(keys, reader, row, wanted, width, 2)?;
+    Ok(rest + 1)
 }
 
-/// Adds what is taken of a file to a list that has nothing yet.
-fn add_file(
+/// Takes the keys of the records of a file, as `read_keys` has them, and returns how many there
+/// are.
+pub fn take_file<K: KeySink>(
     alloc: Global,
-    keys: &mut RecordBatch,
+    keys: &mut K,
     file: &[u8],
     delimiter: u8,
     wanted: &Wanted<'_>,
     header: bool,
-) -> Result<(), Refusal>
-    requires none { keys.old ≡ [] }
-    ensures keys { OnOk result (taken_of delimiter (taking wanted.now) header file.now
-        ≡ Ok keys.new) }
+) -> Result<u64, Refusal>
+    ensures keys { TakesFound K.Takes (taken_of delimiter (taking wanted.now) header file.now)
+        keys.old keys.new result }
     ensures kind { IfErr result IsFileFault }
-    ensures fault { IfErr result
-        (λ e. (e ≡ refusal.Memory)
-        ⊎ (taken_of delimiter (taking wanted.now) header file.now ≡ Err e)) }
 {
     let mut reader = records_of(alloc, file, delimiter);
     let mut row = ByteRecord::new(alloc);
-    add_all(keys, &mut reader, &mut row, wanted, header)
+    take_all(keys, &mut reader, &mut row, wanted, header)
 }
 
 /// What is taken of the records of a file, in their order: of each its key, behind the index of its
@@ -151,16 +129,16 @@ pub fn read_taken(
     wanted: &Wanted<'_>,
     header: bool,
 ) -> Result<RecordBatch, Refusal>
-    ensures keys { IfOk result (λ keys. taken_of delimiter (taking wanted.now) header file.now
-        ≡ Ok keys) }
+    ensures keys { IfOk result
+        (λ keys. taken_of delimiter (taking wanted.now) header file.now ≡ Ok keys) }
     ensures kind { IfErr result IsFileFault }
     ensures fault { IfErr result
         (λ e. (e ≡ refusal.Memory)
         ⊎ (taken_of delimiter (taking wanted.now) header file.now ≡ Err e)) }
 {
     let mut keys = wanted.new_list(alloc);
-    let added = add_file(alloc, &mut keys, file, delimiter, wanted, header);
-    added.and(Ok(keys))
+    let taken = take_file(alloc, &mut keys, file, delimiter, wanted, header);
+    taken.and(Ok(keys))
 }
 
 /// The keys of a file of records with this delimiter: of each record the field in this column, in

@@ -4,3 +4,10 @@ pub mod Faulted
 pub mod Placed
 pub mod Taken
 pub mod ReadFaults
+pub mod Failures
+pub mod FirstFault
+pub mod GoingOn
+pub mod EntryLimits
+pub mod Checking
+pub mod FoundColumns
+pub mod CountedFile

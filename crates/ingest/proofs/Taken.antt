@@ -1,24 +1,28 @@
 -- The records of a file, from the keys that are read.
 use Rattle.std.proofs.Common.{◌≡◌, ◌∙◌, ◌<◌, ◌+◌, ℕ, Bool, true, false, List, [], ◌∷◌, length, map, cond, sym, ap, refl, arith, inl, inr, subst}
-use Rattle.std.specs.Prelude.{◌==◌, ◌≤◌, ◌⊎◌, All, Option, Some, None, Result, Ok, Err, zip}
+use Rattle.std.specs.Prelude.{◌==◌, ◌≤◌, not, ◌⊎◌, All, Option, Some, None, Result, Ok, Err, zip}
 use Rattle.std.specs.Borrow.{Bor}
 use Rattle.std.specs.List.{position_from}
 use Rattle.std.specs.Result.{result_map_both}
 use Rattle.std.specs.Str.{bytes_eq}
+use Rattle.std.proofs.lemmas.Bool.Decides.{eqb_tells}
 use Rattle.std.proofs.lemmas.List.{length-map}
 use Rattle.std.proofs.lemmas.List.Elements.{All-cons, All-head, All-map, All-nil, All-tail}
 use Rattle.lane_words.specs.declared.Refusal.{Refusal}
 use Rattle.lane_words.specs.declared.Refusal.TheVariants as r
 use Rattle.csv.specs.Records.{field_at}
-use Rattle.csv_ingest.specs.KeyFile.{Record, Taking, behind_index, behind_topic, key_before, key_behind, keyed, keys_from, keys_of_records, topic_key_in, topic_keys_of, topic_of}
+use Rattle.csv_ingest.specs.KeyFile.{Record, Taking, behind_index, behind_topic, key_before, key_behind, key_in, keyed, keys_from, keys_of, keys_of_records, taken_of, topic_key_in, topic_keys_of, topic_of}
 use Rattle.csv_ingest.specs.Pieces.{file_records}
+use Rattle.csv_ingest.specs.Rounds.{chunk_keys}
 use Rattle.csv_ingest.specs.declared.lack.Lack.{Lack}
 use Rattle.partitioner.specs.Place.{AreTopics}
 use Rattle.partition_log.specs.Appends.{in_first, lent}
 use Rattle.partition_log.specs.Keys.{Key, Keyed, of_first}
 use Rattle.partitioner.specs.declared.topic.Topic.{Topic}
 use Rattle.command_line.specs.declared.options.Options.{Options}
-use Rattle.ingest.specs.Records.{AreOfTopics, counts_among, record_of, records_among}
+use Rattle.ingest.specs.Private.Counted.{TakesColumns, TakesTopics}
+use Rattle.ingest.specs.Limits.{record_taken, records_taken}
+use Rattle.ingest.specs.Records.{AreOfTopics, counts_among, names_topics, record_of, records_among}
 
 -- ---- the topic of a record is one of the names
 position-below : (t : List ℕ → Bool) (i n : ℕ) (names : List (List ℕ)) → position_from t i names ≡ Some n → n < i + length names
@@ -64,27 +68,49 @@ module _ (P : List ℕ → Type 0) (wanted : Taking) (each : (fields : Record) (
   taken-of false (first ∷ rows) all e = taken-from (length first) 1 (first ∷ rows) all e
   taken-of true (first ∷ rows) all e = taken-from (length first) 2 rows all e
 
-pub topics-among : (delimiter column topic_column : ℕ) (header : Bool) (partitions : ℕ) (topics : List Topic) (bytes : List ℕ) (names keys : List (List ℕ)) → (length topics == 0) ≡ false → names ≡ map (λ (t : Topic). t.name) topics
-    → topic_keys_of delimiter column topic_column names header bytes ≡ Ok keys → AreOfTopics (counts_among partitions topics) (map record_of keys)
-topics-among delimiter column topic_column header partitions [] bytes names keys some is e = absurd (cc some)
-topics-among delimiter column topic_column header partitions (topic ∷ topics) bytes names keys some is e =
+-- ---- what is taken of the records of a file, or of a chunk, is of the topics that there are
+of-topics : (counts : List ℕ) (has_topics : Bool) (keys : List Key) → All (λ key. (record_taken has_topics key).0 < length counts) keys → AreOfTopics counts (records_taken has_topics keys)
+of-topics counts has_topics keys all = All-map (λ (k : Keyed). k.0 < length counts) (record_taken has_topics) keys all
+
+pub file-topics : (delimiter : ℕ) (wanted : Taking) (header : Bool) (counts : List ℕ) (has_topics : Bool) (bytes : List ℕ) (keys : List Key) → TakesTopics wanted counts has_topics
+    → taken_of delimiter wanted header bytes ≡ Ok keys → AreOfTopics counts (records_taken has_topics keys)
+file-topics delimiter wanted header counts has_topics bytes keys topics e =
+    of-topics counts has_topics keys (taken-of (λ key. (record_taken has_topics key).0 < length counts) wanted topics header (file_records delimiter bytes) keys e)
+
+pub chunk-topics : (delimiter : ℕ) (wanted : Taking) (header : Bool) (counts : List ℕ) (has_topics : Bool) (width : Option ℕ) (chunk : List ℕ) (keys : List Key) → TakesTopics wanted counts has_topics
+    → chunk_keys delimiter wanted header width chunk ≡ Ok keys → AreOfTopics counts (records_taken has_topics keys)
+chunk-topics delimiter wanted header counts has_topics None chunk keys topics e = file-topics delimiter wanted header counts has_topics chunk keys topics e
+chunk-topics delimiter wanted header counts has_topics (Some width) chunk keys topics e =
+    of-topics counts has_topics keys (taken-from (λ key. (record_taken has_topics key).0 < length counts) wanted topics width 1 (file_records delimiter chunk) keys e)
+
+some-count : (partitions : ℕ) (topics : List Topic) → 1 ≤ length (counts_among partitions topics)
+some-count partitions [] = omega arith
+some-count partitions (topic ∷ topics) = omega arith
+
+-- a key alone is of the first topic
+pub takes-first : (column partitions : ℕ) (topics : List Topic) → TakesTopics (key_in column) (counts_among partitions topics) false
+takes-first column partitions topics = λ fields key is. some-count partitions topics
+
+-- a key behind the index of its topic is of one of those that are named
+pub takes-among : (column topic_column partitions : ℕ) (topics : List Topic) (names : List (List ℕ)) → (length topics == 0) ≡ false → names ≡ map (λ (t : Topic). t.name) topics
+    → TakesTopics (topic_key_in column topic_column names) (counts_among partitions topics) true
+takes-among column topic_column partitions [] names some is = absurd (cc some)
+takes-among column topic_column partitions (topic ∷ topics) names some is =
     let long : length names ≡ length (map (λ (t : Topic). t.partitions) (topic ∷ topics)) =
     ap length is ∙ length-map (topic ∷ topics) (λ (t : Topic). t.name) ∙ sym (length-map (topic ∷ topics) (λ (t : Topic). t.partitions)) in
-    All-map (λ (k : Keyed). k.0 < length (map (λ (t : Topic). t.partitions) (topic ∷ topics))) record_of keys
-    (subst (λ n. All (λ k. topic_of k < n) keys) long
-    (taken-of (λ k. topic_of k < length names) (topic_key_in column topic_column names)
-    (λ fields key. topic-among names (field_at fields _) (field_at fields _) key) header (file_records delimiter bytes) keys e))
+    λ fields key e. subst (λ n. topic_of key < n) long (topic-among names (field_at fields _) (field_at fields _) key e)
+
+pub topics-among : (delimiter column topic_column : ℕ) (header : Bool) (partitions : ℕ) (topics : List Topic) (bytes : List ℕ) (names keys : List (List ℕ)) → (length topics == 0) ≡ false → names ≡ map (λ (t : Topic). t.name) topics
+    → topic_keys_of delimiter column topic_column names header bytes ≡ Ok keys → AreOfTopics (counts_among partitions topics) (map record_of keys)
+topics-among delimiter column topic_column header partitions topics bytes names keys some is e =
+    file-topics delimiter (topic_key_in column topic_column names) header (counts_among partitions topics) true bytes keys (takes-among column topic_column partitions topics names some is) e
 
 firsts : (n : ℕ) → 1 ≤ n → (keys : List Key) → All (λ (k : Keyed). k.0 < n) (in_first keys)
 firsts n some [] = All-nil (λ (k : Keyed). k.0 < n)
 firsts n some (key ∷ keys) = All-cons (λ (k : Keyed). k.0 < n) (of_first key) (in_first keys) some (firsts n some keys)
 
 pub first-among : (partitions : ℕ) (topics : List Topic) (keys : List Key) → AreOfTopics (counts_among partitions topics) (in_first keys)
-first-among partitions topics keys = firsts (length (counts_among partitions topics)) (go topics) keys
-  where
-    go : (topics : List Topic) → 1 ≤ length (counts_among partitions topics)
-    go [] = omega arith
-    go (topic ∷ topics) = omega arith
+first-among partitions topics keys = firsts (length (counts_among partitions topics)) (some-count partitions topics) keys
 
 -- ---- the keys read are those of the records
 pub topic-records : (delimiter : ℕ) (header : Bool) (column topic_column : ℕ) (bytes : List ℕ) (topics : List Topic) (names : List (List ℕ)) → (length topics == 0) ≡ false → names ≡ map (λ (t : Topic). t.name) topics
@@ -96,6 +122,23 @@ topic-records delimiter header column topic_column bytes (topic ∷ topics) name
 pub records-refused : {A B : Type 0} (f : A → B) (taken : Result A Refusal) (all : Result B Refusal) (e : Refusal) → all ≡ result_map_both f (λ fault. fault) taken → (e ≡ r.Memory) ⊎ (taken ≡ Err e) → (e ≡ r.Memory) ⊎ (all ≡ Err e)
 records-refused f taken all e is (inl m) = inl m
 records-refused f taken all e is (inr h) = inr (is ∙ ap (result_map_both f (λ fault. fault)) h)
+
+-- what is taken for a count are the records of the columns
+pub takes-key : (options : Options) (column topic_column : ℕ) → (length options.topics.items == 0) ≡ true → TakesColumns options column topic_column (key_in column)
+takes-key options column topic_column none = λ file. go options.topics.items none file
+  where
+    go : (topics : List Topic) → (length topics == 0) ≡ true → (file : List ℕ)
+        → records_among options.delimiter options.header topics file column topic_column
+        ≡ result_map_both (records_taken (not (length topics == 0))) (λ fault. fault) (keys_of options.delimiter column options.header file)
+    go [] none file = refl
+    go (topic ∷ topics) none file = absurd (elim (eqb_tells (length (topic ∷ topics)) 0) [ inl same ↦ omega (arith, same.1) | inr other ↦ cc (sym none ∙ other.0) ])
+
+pub takes-topic_key : (options : Options) (column topic_column : ℕ) (names : List (List ℕ)) → (length options.topics.items == 0) ≡ false → names ≡ map (λ (t : Topic). t.name) options.topics.items
+    → TakesColumns options column topic_column (topic_key_in column topic_column names)
+takes-topic_key options column topic_column names some is =
+    let named : names_topics options ≡ true = ap not some in
+    λ file. topic-records options.delimiter options.header column topic_column file options.topics.items names some is
+    ∙ ap (λ b. result_map_both (records_taken b) (λ fault. fault) (topic_keys_of options.delimiter column topic_column names options.header file)) (sym named)
 
 -- ---- records as pairs
 zipped-records : (keys : List (List ℕ)) → zip (map topic_of keys) (map key_behind keys) ≡ map record_of keys

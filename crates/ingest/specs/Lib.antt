@@ -1,3 +1,5 @@
+pub mod Counted
+pub mod Limits
 pub mod Private
 pub mod RecordFaults
 pub mod Records

@@ -1,5 +1,5 @@
 -- The records of a file, and their partitions.
-use Rattle.std.specs.Prelude.{ℕ, ◌<◌, Bool, List, [], ◌∷◌, All, length, map, replicate, Result, Ok, Err}
+use Rattle.std.specs.Prelude.{ℕ, ◌==◌, ◌<◌, Bool, not, List, [], ◌∷◌, All, length, map, replicate, Result, Ok, Err}
 use Rattle.std.specs.List.{sum}
 use Rattle.std.specs.Result.{result_map_both}
 use Rattle.lane_words.specs.declared.Refusal.{Refusal}
@@ -25,6 +25,10 @@ counts_among partitions (topic ∷ topics) = map (λ t. t.partitions) (topic ∷
 -- the number of partitions of each topic
 abbrev pub partition_counts : Options → List ℕ
 partition_counts options = counts_among options.partitions options.topics.items
+
+-- whether topics are named
+abbrev pub names_topics : Options → Bool
+names_topics options = not (length options.topics.items == 0)
 
 -- a record whose key was read after the index of its topic
 abbrev pub record_of : List ℕ → Keyed

@@ -1,5 +1,5 @@
 -- What a report says of the bytes that it reads and writes.
-use Rattle.std.specs.Prelude.{◌≡◌, ◌⊎◌, ◌+◌, ◌<◌, ⊤, ℕ, List, Option, Result, Ok, Err, IfErr, IfSome, Vec}
+use Rattle.std.specs.Prelude.{◌≡◌, ◌⊎◌, ◌+◌, ◌<◌, ⊤, ℕ, Bool, List, Option, Result, Ok, Err, IfErr, IfSome, Vec}
 use Rattle.std.specs.Global.{Global}
 use Rattle.std.specs.Io.KnownBytes.{Appends, Keeps}
 use Rattle.std.specs.Result.{result_map_both}
@@ -27,11 +27,21 @@ WritesReport report old new (Err r.ReadFailed) = Keeps old new
 WritesReport report old new (Err r.Memory) = Keeps old new
 WritesReport report old new (Err fault) = (report ≡ Err fault) × Keeps old new
 
+-- if the bytes of a file are known, their report is written
+abbrev pub WritesIfFileKnown : (List ℕ → Result (List ℕ) Refusal) → Option (List ℕ)
+    → Option (List ℕ) → Option (List ℕ) → Result (Unit {0}) Refusal → Type 0
+WritesIfFileKnown report file old new result =
+    IfSome file (λ bytes. WritesReport (report bytes) old new result)
+
 -- if the bytes of a file and of a script are known, their report is written
 abbrev pub WritesIfKnown : (List ℕ → List ℕ → Result (List ℕ) Refusal) → Option (List ℕ)
     → Option (List ℕ) → Option (List ℕ) → Option (List ℕ) → Result (Unit {0}) Refusal → Type 0
 WritesIfKnown report file script old new result =
     IfSome file (λ bytes. IfSome script (λ lines. WritesReport (report bytes lines) old new result))
+
+-- an answer without what it returns
+abbrev pub written : Result Bool Refusal → Result (Unit {0}) Refusal
+written answer = result_map_both (λ found. tt) (λ fault. fault) answer
 
 -- nothing was written, whatever was read, unless all went well or a write failed
 abbrev pub WritesAtEndAlone : Option (List ℕ) → Option (List ℕ) → Result (Unit {0}) Refusal → Type 0

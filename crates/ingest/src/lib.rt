@@ -4,6 +4,9 @@
 //!   the same of a file in memory.
 //! - `logs_of` returns logs of exactly these records, in order, or the fault of the first record
 //!   that can't be appended.
+//! - `count_file` counts the records of a source to its end, in the memory of its distinct keys,
+//!   and refuses those that `file_records` and `logs_of` refuse. It reports a failed read only if
+//!   the source failed during the call.
 //! - `partition_counts` returns the number of partitions of each topic that the options name.
 //!
 //! `specs/Reports.antt` has what all three reports say of the bytes that they read and write.
@@ -11,7 +14,12 @@
 #![tactic(auto)]
 
 mod appending;
+mod columns;
+mod counted;
+mod limits;
 mod reading;
+mod windows;
 
 pub use appending::logs_of;
+pub use counted::count_file;
 pub use reading::{FileRecords, file_records, partition_counts, read_records};

@@ -3,16 +3,19 @@
 ghost use Rattle.std.specs.Prelude.{◌≡◌, ◌≤◌, ◌+◌, ◌<◌, ◌-◌, Ok, IfOk, IfErr, IfSome, length, map};
 ghost use Rattle.byte_io.specs.Devices.{CanStillFail};
 ghost use Rattle.csv_ingest.specs.KeyFile.{IsFileFault};
+ghost use Rattle.csv_ingest.specs.Private.Wanted.{taking};
 ghost use Rattle.lane_words.specs.Answers.{Answers};
 ghost use Rattle.partition_log.specs.Logs.{AreCounts};
 ghost use Rattle.command_line.specs.Options.{IsColumnIn};
-ghost use Rattle.ingest.specs.Records.{AreOfTopics, column_in, partition_counts, records_among, records_in, records_of, records_seen, topic_column_in};
+ghost use Rattle.ingest.specs.Private.Counted.{TakesColumns, TakesTopics};
+ghost use Rattle.ingest.specs.Records.{AreOfTopics, column_in, names_topics, partition_counts, records_among, records_in, records_of, records_seen, topic_column_in};
 ghost use Rattle.ingest.specs.Reports.{AreInRange, IsFaultOf, IsNoStop, IsNoWrite, failed_reads};
 
 use byte_io::{Source, read_blocks};
 use command_line::{Column, LAST_COLUMN, Options};
 use csv_ingest::{
-    Blocks, FileKeys, TopicKeys, column_named, pieces_for, read_keys_apart, read_topic_keys_apart,
+    Blocks, FileKeys, TopicKeys, Wanted, column_named, pieces_for, read_keys_apart,
+    read_topic_keys_apart,
 };
 use lane_words::{Memory, Refusal};
 use partitioner::Topic;
@@ -66,7 +69,8 @@ pub fn partition_counts(alloc: Global, options: &Options) -> Result<Vec<u32>, Me
     }
 }
 
-fn names_of<'a>(alloc: Global, topics: &'a [Topic]) -> Result<Vec<&'a [u8]>, Memory>
+/// The names of these topics.
+pub fn names_of<'a>(alloc: Global, topics: &'a [Topic]) -> Result<Vec<&'a [u8]>, Memory>
     ensures { IfOk result (λ names. map (λ name. name.now) names.items
         ≡ map (λ topic. topic.name) topics.now) }
 {
@@ -103,6 +107,30 @@ fn topic_column_in(alloc: Global, file: &Blocks, options: &Options) -> Result<u3
         return Ok(1);
     }
     column_in(alloc, file, &options.topic_column, options.header)
+}
+
+/// What is taken of each record of a file: the key in this column, and with topics, whose names
+/// these are, the topic in that one.
+pub fn wanted_among<'a>(
+    options: &Options,
+    column: u32,
+    topic_column: u32,
+    names: &'a [&'a [u8]],
+) -> Wanted<'a>
+    requires options { AreInRange options.now }
+    requires columns { (1 ≤ column) × (1 ≤ topic_column) }
+    requires names { map (λ name. name.now) names.now
+        ≡ map (λ topic. topic.name) options.now.topics.items }
+    ensures records { TakesColumns options.now column topic_column (taking result) }
+    ensures topics { TakesTopics (taking result) (partition_counts options.now)
+        (names_topics options.now) }
+{
+    let topics = options.topics.as_slice();
+    if topics.is_empty() {
+        Wanted::key(column, None)
+    } else {
+        Wanted::topic_and_key(column, topic_column, names)
+    }
 }
 
 /// The records of a file that is in memory, with the key in this column, and with topics the topic

@@ -13,3 +13,4 @@ pub mod ReadBack
 pub mod ShardRecords
 pub mod Assigned
 pub mod Whole
+pub mod Words

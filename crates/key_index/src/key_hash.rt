@@ -1,11 +1,11 @@
 //! The hash of keys. It is keyed by random seeds, since the keys may be chosen by an attacker.
 
-ghost use Rattle.std.specs.Prelude.{◌≡◌, ◌≤◌, ◌<◌, ◌+◌, ◌∷◌, [], bit_xor, length};
+ghost use Rattle.std.specs.Prelude.{◌≡◌, ◌≤◌, ◌<◌, ◌+◌, ◌/◌, ◌^◌, ◌∷◌, [], bit_xor, length};
 ghost use Rattle.std.specs.Hash.DefaultHasher.{finish, write};
 ghost use Rattle.std.specs.RandomState.{initial_hasher};
 ghost use Rattle.key_index.specs.Private.KeyHash.{IsDrawn, hash_of, sum_of, with_product, with_products, word_from};
 
-use crate::stored_key::LONGEST_INLINE;
+use crate::stored_key::{LONGEST_INLINE, ShortKey};
 use std::fmt;
 use std::fmt::{Debug, Formatter};
 use std::hash::{BuildHasher, Hasher, RandomState};
@@ -75,19 +75,19 @@ fn with_rest(sum: u64, seed: u64, rest: &[u8]) -> u64
     with_product(sum, seed, word)
 }
 
-/// The sum of all products of a short key.
+/// The sum of all products of a text that begins with a short key of this length.
 #[inline(always)]
 #[tactic(auto, unfolding(crate::specs::Private::KeyHash::sum_of))]
-fn sum_of(seeds: &[u64; SEEDS], key: &[u8]) -> u64
-    requires { length key.now ≤ LONGEST_INLINE }
-    ensures { result ≡ sum_of seeds.now key.now }
+fn sum_of(seeds: &[u64; SEEDS], text: &[u8], len: u32) -> u64
+    requires { length text.now ≤ LONGEST_INLINE }
+    ensures { result ≡ sum_of seeds.now text.now len }
 {
-    let words = key.len() / 4;
-    let mut sum = with_product(seeds[ADDED], seeds[OF_LENGTH], key.len() as u32);
+    let words = text.len() / 4;
+    let mut sum = with_product(seeds[ADDED], seeds[OF_LENGTH], len);
     for i in 0..words {
-        sum = with_product(sum, seeds[i], word_at(key, 4 * i));
+        sum = with_product(sum, seeds[i], word_at(text, 4 * i));
     }
-    with_rest(sum, seeds[words], &key[4 * words..])
+    with_rest(sum, seeds[words], &text[4 * words..])
 }
 
 /// The hash of a long key.
@@ -121,10 +121,19 @@ impl KeyHash {
         ensures { result ≡ hash_of self.now key.now }
     {
         if key.len() <= LONGEST_INLINE {
-            sum_of(&self.seeds, key) >> 31
+            sum_of(&self.seeds, key, key.len() as u32) >> 31
         } else {
             sip_hash_of(self.long, key)
         }
+    }
+
+    /// The hash of a short key, from all bytes of its copy. It is another than `hash_of` only if
+    /// they are not zeros behind the key.
+    #[inline(always)]
+    pub fn hash_of_copy(&self, key: &ShortKey) -> u64
+        ensures { result ≡ sum_of self.now.seeds key.now.bytes key.now.size / 2 ^ 31 }
+    {
+        sum_of(&self.seeds, key.bytes(), u32::from(key.size())) >> 31
     }
 }
 

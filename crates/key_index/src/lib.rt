@@ -3,15 +3,17 @@
 //! It promises:
 //! - `KeyDictionary` is a dictionary of distinct keys. Its `intern_all` interns whole lists in
 //!   parallel, shard by shard, with the same result as one record after another.
+//! - `KeyList` is a list of keys by number: a dictionary, or references to keys stored elsewhere.
 //! - `KeyMap` is the map below it: at most as many distinct keys as there are key numbers.
-//! - `KeyHash` is a keyed hash: multilinear for short keys, SipHash for long ones. No contract of
-//!   another crate depends on it.
+//! - `KeyHash` is a keyed hash: multilinear for short keys, SipHash for long ones. Other crates
+//!   rely on no more than that equal keys have the same hash.
 //!
 //! Tests: `log_tests`.
 #![tactic(auto)]
 
 mod interning;
 mod key_hash;
+mod key_list;
 mod key_map;
 mod keys;
 mod scattered_key;
@@ -20,8 +22,9 @@ mod shards;
 mod stored_key;
 
 pub use key_hash::KeyHash;
+pub use key_list::KeyList;
 pub use key_map::KeyMap;
 pub use keys::KeyDictionary;
 pub use scattering::split_keys;
 pub use shards::{Interned, ShardedMap};
-pub use stored_key::LONGEST_INLINE;
+pub use stored_key::{LONGEST_INLINE, ShortKey, StoredKey};

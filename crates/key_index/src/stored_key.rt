@@ -1,6 +1,7 @@
 //! A key as the key map stores it.
 
-ghost use Rattle.std.specs.Prelude.{◌≡◌, ◌≤◌, length, Some, IfSome, vec_capacity};
+ghost use Rattle.std.specs.Int.{to_le_bytes, w64};
+ghost use Rattle.std.specs.Prelude.{◌≡◌, ◌≤◌, ◌+◌, length, Some, IfSome, slice_range, true, vec_capacity};
 ghost use Rattle.std.proofs.Common.{rules};
 ghost use Rattle.std.specs.Cmp as compare;
 ghost use Rattle.std.specs.Cmp.Lexicographic.{nat_list_eq_equiv};
@@ -35,8 +36,44 @@ pub struct ShortKey {
     size: u8,
 }
 
+/// Eight bytes of an array, from an index on, as a little-endian word.
+#[inline(always)]
+fn word_at(bytes: &[u8; LONGEST_INLINE], at: usize) -> u64
+    requires { at + 8 ≤ LONGEST_INLINE }
+    ensures { to_le_bytes w64 result ≡ slice_range bytes.now at (at + 8) }
+{
+    u64::from_le_bytes([
+        bytes[at],
+        bytes[at + 1],
+        bytes[at + 2],
+        bytes[at + 3],
+        bytes[at + 4],
+        bytes[at + 5],
+        bytes[at + 6],
+        bytes[at + 7],
+    ])
+}
+
+/// Whether two arrays have the same word from an index on.
+#[inline(always)]
+fn same_word(a: &[u8; LONGEST_INLINE], b: &[u8; LONGEST_INLINE], at: usize) -> bool
+    requires { at + 8 ≤ LONGEST_INLINE }
+    ensures { result ≡ true → slice_range a.now at (at + 8) ≡ slice_range b.now at (at + 8) }
+{
+    word_at(a, at) == word_at(b, at)
+}
+
+/// Whether two arrays have the same bytes: three words each, of which the last two overlap.
+#[inline(always)]
+fn same_bytes(a: &[u8; LONGEST_INLINE], b: &[u8; LONGEST_INLINE]) -> bool
+    ensures { result ≡ true → a.now ≡ b.now }
+{
+    same_word(a, b, 0) && same_word(a, b, 8) && same_word(a, b, 14)
+}
+
 impl ShortKey {
     /// A copy of a key.
+    #[inline(always)]
     pub fn of(key: &[u8]) -> ShortKey
         requires { length key.now ≤ LONGEST_INLINE }
         ensures { IsCopyOf key.now result }
@@ -47,6 +84,23 @@ impl ShortKey {
             bytes,
             size: key.len() as u8,
         }
+    }
+
+    /// The bytes of the key, and those behind it.
+    #[inline(always)]
+    pub(crate) fn bytes(&self) -> &[u8]
+        ensures value { result.now ≡ self.now.bytes }
+        ensures len { length result.now ≡ LONGEST_INLINE }
+    {
+        &self.bytes
+    }
+
+    /// The length of the key.
+    #[inline(always)]
+    pub(crate) fn size(&self) -> u8
+        ensures { result ≡ self.now.size }
+    {
+        self.size
     }
 }
 
@@ -88,6 +142,18 @@ impl StoredKey {
     {
         StoredKey {
             storage: Storage::Heap(text),
+        }
+    }
+
+    /// Whether it is this short key. The bytes behind the keys have to be the same, too, as they
+    /// are in copies of the same key.
+    #[inline(always)]
+    pub fn is_copy(&self, key: &ShortKey) -> bool
+        ensures { result ≡ true → self.now ≡ bytes_of key.now }
+    {
+        match &self.storage {
+            Storage::Inline { bytes, size } => *size == key.size && same_bytes(bytes, &key.bytes),
+            Storage::Heap(_) => false,
         }
     }
 

@@ -1,13 +1,12 @@
 -- The report of places: a text, or a fault.
-use Rattle.std.specs.Prelude.{ℕ, Bool, true, false, List, [], Option, Some, None, Result, IfSome}
-use Rattle.std.specs.Result.{result_map_both}
+use Rattle.std.specs.Prelude.{ℕ, Bool, true, false, List, [], Option, Some, None, Result}
 use Rattle.lane_words.specs.declared.Refusal.{Refusal}
 use Rattle.partition_log.specs.Keys.{Keyed}
 use Rattle.command_line.specs.declared.options.Options.{Options}
 use Rattle.command_line.specs.declared.options.PlaceOptions.{PlaceOptions}
 use Rattle.ingest.specs.RecordFaults.{fault_or, first_fault}
 use Rattle.ingest.specs.Records.{partition_counts, records_of}
-use Rattle.ingest.specs.Reports.{WritesReport, report_of_read}
+use Rattle.ingest.specs.Reports.{report_of_read}
 use Rattle.place_report.specs.Given.{report_of_given}
 use Rattle.place_report.specs.PlaceRows.{key_table, partition_table}
 
@@ -32,14 +31,3 @@ report_with (Some given) keys options file = report_of_given options given file
 
 abbrev pub report_of_place : Options → PlaceOptions → List ℕ → Result (List ℕ) Refusal
 report_of_place options place file = report_with place.given place.keys options file
-
--- an answer without what it returns
-abbrev pub written : Result Bool Refusal → Result (Unit {0}) Refusal
-written answer = result_map_both (λ misplaced. tt) (λ fault. fault) answer
-
--- if the bytes of a file are known, their report is written
-abbrev pub WritesPlaces : Options → PlaceOptions → Option (List ℕ) → Option (List ℕ)
-    → Option (List ℕ) → Result Bool Refusal → Type 0
-WritesPlaces options place file old new answer =
-    IfSome file
-    (λ bytes. WritesReport (report_of_place options place bytes) old new (written answer))

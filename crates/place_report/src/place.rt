@@ -4,13 +4,13 @@ ghost use Rattle.std.specs.Prelude.{◌≡◌, ◌≤◌, ◌<◌, ◌+◌, ◌-
 ghost use Rattle.byte_io.specs.Devices.{CanStillFail};
 ghost use Rattle.ingest.specs.RecordFaults.{IsKeyFault};
 ghost use Rattle.ingest.specs.Records.{AreOfTopics, partition_counts, records_in};
-ghost use Rattle.ingest.specs.Reports.{AreInRange, IsFaultOf, IsNoWrite, WritesAtEndAlone, failed_reads, failed_writes, text_seen};
+ghost use Rattle.ingest.specs.Reports.{AreInRange, IsFaultOf, IsNoWrite, WritesAtEndAlone, WritesIfFileKnown, failed_reads, failed_writes, text_seen, written};
 ghost use Rattle.lane_words.specs.Answers.{Answers};
 ghost use Rattle.partition_log.specs.Keys.{Keyed};
 ghost use Rattle.partition_log.specs.Logs.{AreLogsOf, IsValidLogs};
 ghost use Rattle.command_line.specs.Options.{IsPlaceInRange};
 ghost use Rattle.place_report.specs.Given.{has_misplaced, report_of_given};
-ghost use Rattle.place_report.specs.PlaceReport.{WritesPlaces, report_of_place, report_with, table_of, table_of_records, written};
+ghost use Rattle.place_report.specs.PlaceReport.{report_of_place, report_with, table_of, table_of_records};
 
 use crate::given::{Told, told_of_file};
 use crate::key_rows::keys_text;
@@ -177,8 +177,8 @@ pub fn place_text<R: Threads + Sync + RandomSource, S: Source, K: Sink>(
     requires sink { CanStillFail (K.failures out.old) }
     requires options { AreInRange options.now }
     requires place { IsPlaceInRange place.now }
-    ensures report { WritesPlaces options.now place.now (S.left file.old)
-        (K.written out.old) (K.written out.new) result }
+    ensures report { WritesIfFileKnown (report_of_place options.now place.now)
+        (S.left file.old) (K.written out.old) (K.written out.new) (written result) }
     ensures misplaced { IfOk result (λ misplaced. IfSome (S.left file.old)
         (λ bytes. misplaced ≡ has_misplaced options.now place.now.given bytes)) }
     ensures end { WritesAtEndAlone (K.written out.old) (K.written out.new) (written result) }

@@ -17,9 +17,9 @@ use Rattle.command_line.specs.declared.words.Usage.{Usage}
 use Rattle.command_line.specs.declared.words.Usage.TheVariants.{Help, Bad, Memory}
 use Rattle.count_report.specs.CountReport.{report_of_count}
 use Rattle.draw_report.specs.DrawReport.{report_of_draw}
-use Rattle.ingest.specs.Reports.{WritesAtEndAlone, WritesIfKnown, WritesReport, failed_writes}
+use Rattle.ingest.specs.Reports.{WritesAtEndAlone, WritesIfFileKnown, WritesIfKnown, WritesReport, failed_writes, written}
 use Rattle.place_report.specs.Given.{has_misplaced}
-use Rattle.place_report.specs.PlaceReport.{report_of_place, written}
+use Rattle.place_report.specs.PlaceReport.{report_of_place}
 use Rattle.replay_report.specs.ReplayReport.{report_of_replay}
 use Rattle.run_report.specs.RunReport.{WritesRunIfKnown, report_of_run}
 use Rattle.trace_report.specs.TraceReport.{report_of_trace}
@@ -69,14 +69,12 @@ Prints text stream =
 abbrev pub WritesOf : (List ℕ → Option (List ℕ)) → Job → Option (List ℕ) → Option (List ℕ)
     → Result Bool Refusal → Type 0
 WritesOf named (Count file options) old new answer =
-    IfSome (named file.now)
-    (λ bytes. WritesReport (report_of_count options bytes) old new (written answer))
+    WritesIfFileKnown (report_of_count options) (named file.now) old new (written answer)
 WritesOf named (Place file options place) old new answer =
-    IfSome (named file.now)
-    (λ bytes. WritesReport (report_of_place options place bytes) old new (written answer))
+    WritesIfFileKnown (report_of_place options place) (named file.now) old new (written answer)
 WritesOf named (Check file None options check) old new answer =
-    IfSome (named file.now)
-    (λ bytes. WritesReport (report_of_check options check bytes None) old new (written answer))
+    WritesIfFileKnown (λ bytes. report_of_check options check bytes None)
+    (named file.now) old new (written answer)
 WritesOf named (Check file (Some script) options check) old new answer =
     WritesIfKnown (λ bytes lines. report_of_check options check bytes (Some lines))
     (named file.now) (named script.now) old new (written answer)

@@ -8,7 +8,7 @@ use progress::Watcher;
 
 /// The system that a program runs on.
 pub trait System {
-    // The bytes that paths stand for, `-` for standard input, and what a failure means.
+    // The bytes that paths stand for, `-` for standard input, and whether one of them failed.
     ghost files: { Self → Files };
 
     /// A file that is open.

@@ -8,17 +8,17 @@ ghost use Rattle.report_rows.specs.Rows.{AddsRows, total_row};
 use crate::rows;
 use csv::Writer;
 use itoa::Buffer;
-use key_index::KeyDictionary;
+use key_index::KeyList;
 use lane_words::Memory;
 use std::alloc::Global;
 use std::thread;
 use std::thread::Threads;
 
 /// The number of parts, about, that the rows are made in, in parallel.
-const PARTS: u32 = 8;
+const PARTS: usize = 8;
 
 /// The fewest rows that are worth a thread.
-const MIN_ROWS_PER_THREAD: u32 = 16_384;
+const MIN_ROWS_PER_THREAD: usize = 16_384;
 
 /// Writes the row of a key with its count.
 pub fn write_count(writer: &mut Writer<Vec<u8>>, key: &[u8], count: u64) -> Result<(), Memory>
@@ -29,36 +29,36 @@ pub fn write_count(writer: &mut Writer<Vec<u8>>, key: &[u8], count: u64) -> Resu
 }
 
 /// Writes the row of each key with its count, from key number `from` on, below `to`.
-fn write_counts(
+fn write_counts<K: KeyList>(
     writer: &mut Writer<Vec<u8>>,
-    keys: &KeyDictionary,
+    keys: &K,
     counts: &[u64],
-    from: u32,
-    to: u32,
+    from: usize,
+    to: usize,
 ) -> Result<(), Memory>
-    requires len { length keys.now ≡ length counts.now }
+    requires len { length (K.keys keys.now) ≡ length counts.now }
     requires range { (from ≤ to) × (to ≤ length counts.now) }
     ensures { OnOk result (AddsRows writer.old writer.new
-        (rows_between keys.now counts.now from to)) }
+        (rows_between (K.keys keys.now) counts.now from to)) }
 {
     for id in from..to {
-        write_count(writer, keys.key(id), counts[id as usize])?;
+        write_count(writer, keys.key(id), counts[id])?;
     }
     Ok(())
 }
 
 /// The rows of the keys from number `from` on, below `to`, made on this thread.
-fn rows_sequential(
+fn rows_sequential<K: KeyList>(
     alloc: Global,
-    keys: &KeyDictionary,
+    keys: &K,
     counts: &[u64],
-    from: u32,
-    to: u32,
+    from: usize,
+    to: usize,
 ) -> Result<Vec<u8>, Memory>
-    requires len { length keys.now ≡ length counts.now }
+    requires len { length (K.keys keys.now) ≡ length counts.now }
     requires range { (from ≤ to) × (to ≤ length counts.now) }
     ensures { IfOk result (λ text. text.items
-        ≡ rows_between keys.now counts.now from to) }
+        ≡ rows_between (K.keys keys.now) counts.now from to) }
 {
     let mut writer = rows::new_writer(alloc);
     write_counts(&mut writer, keys, counts, from, to)?;
@@ -88,25 +88,25 @@ fn concatenated(front: Vec<Vec<u8>>, back: Vec<Vec<u8>>) -> Result<Vec<Vec<u8>>,
 /// them on a thread.
 #[derive(Clone, Copy)]
 struct Span {
-    from: u32,
-    to: u32,
-    most: u32,
+    from: usize,
+    to: usize,
+    most: usize,
 }
 
 /// The rows of a span of keys, in texts to be written one after another. More than `most` rows are
 /// made in two halves in parallel, and each half likewise.
-fn rows_parallel<R: Threads + Sync>(
+fn rows_parallel<R: Threads + Sync, K: KeyList + Sync>(
     rt: &R,
     alloc: Global,
-    keys: &KeyDictionary,
+    keys: &K,
     counts: &[u64],
     span: Span,
 ) -> Result<Vec<Vec<u8>>, Memory>
-    requires len { length keys.now ≡ length counts.now }
+    requires len { length (K.keys keys.now) ≡ length counts.now }
     requires range { (span.from ≤ span.to) × (span.to ≤ length counts.now) }
     requires bound { 1 ≤ span.most }
     ensures { IfOk result (λ texts. flat_map vec_items texts.items
-        ≡ rows_between keys.now counts.now span.from span.to) }
+        ≡ rows_between (K.keys keys.now) counts.now span.from span.to) }
 {
     let Span { from, to, most } = span;
     if to - from <= most {
@@ -117,10 +117,10 @@ fn rows_parallel<R: Threads + Sync>(
         rt,
         || -> Result<Vec<Vec<u8>>, Memory>
             requires { IsSync R.row
-                × (length keys.now ≡ length counts.now)
+                × (length (K.keys keys.now) ≡ length counts.now)
                 × (from ≤ middle) × (middle ≤ length counts.now) × (1 ≤ most) }
             ensures { IfOk result (λ texts. flat_map vec_items texts.items
-                ≡ rows_between keys.entry.now counts.entry.now from middle) }
+                ≡ rows_between (K.keys keys.entry.now) counts.entry.now from middle) }
         {
             rows_parallel(
                 rt,
@@ -136,10 +136,10 @@ fn rows_parallel<R: Threads + Sync>(
         },
         || -> Result<Vec<Vec<u8>>, Memory>
             requires { IsSync R.row
-                × (length keys.now ≡ length counts.now)
+                × (length (K.keys keys.now) ≡ length counts.now)
                 × (middle ≤ to) × (to ≤ length counts.now) × (1 ≤ most) }
             ensures { IfOk result (λ texts. flat_map vec_items texts.items
-                ≡ rows_between keys.entry.now counts.entry.now middle to) }
+                ≡ rows_between (K.keys keys.entry.now) counts.entry.now middle to) }
         {
             rows_parallel(
                 rt,
@@ -185,19 +185,19 @@ fn with_end(texts: Vec<Vec<u8>>, end: Vec<u8>) -> Result<Vec<Vec<u8>>, Memory>
 
 /// The text of a count: a row for each key, and the row of the totals. Few rows are one text; many
 /// are made in parallel and stay in several texts, to be written one after another.
-pub fn count_rows_texts<R: Threads + Sync>(
+pub fn count_rows_texts<R: Threads + Sync, K: KeyList + Sync>(
     rt: &R,
     alloc: Global,
-    keys: &KeyDictionary,
+    keys: &K,
     counts: &[u64],
     committed: u64,
     appended: u64,
 ) -> Result<Vec<Vec<u8>>, Memory>
-    requires { length keys.now ≡ length counts.now }
+    requires { length (K.keys keys.now) ≡ length counts.now }
     ensures { IfOk result (λ texts. flat_map vec_items texts.items
-        ≡ count_rows keys.now counts.now ++ total_row committed appended) }
+        ≡ count_rows (K.keys keys.now) counts.now ++ total_row committed appended) }
 {
-    let count = keys.count();
+    let count = counts.len();
     let most = (count / PARTS).max(MIN_ROWS_PER_THREAD);
     let span = Span {
         from: 0,

@@ -7,25 +7,24 @@ ghost use Rattle.report_rows.specs.Rows.{AddsRows, total_row};
 
 use crate::{count_rows, rows};
 use csv::Writer;
-use key_index::KeyDictionary;
+use key_index::KeyList;
 use lane_words::Memory;
 use std::alloc::Global;
 use std::cmp::Reverse;
 
 /// A key number behind its count, so that they compare by count, the highest first, and then by
 /// number.
-type Numbered = (Reverse<u64>, u32);
+type Numbered = (Reverse<u64>, usize);
 
 /// The numbers of all keys with their counts, the highest first.
-fn ranked(alloc: Global, keys: u32, counts: &[u64]) -> Result<Vec<Numbered>, Memory>
-    requires { keys ≡ length counts.now }
+fn ranked(alloc: Global, counts: &[u64]) -> Result<Vec<Numbered>, Memory>
     ensures value { IfOk result (λ ranked. AreRanked counts.now ranked.items) }
     ensures bound { IfOk result
         (λ ranked. All (λ numbered. numbered.1 < length counts.now) ranked.items) }
 {
     let mut ranked = Vec::with_capacity(alloc, counts.len())?;
-    for id in 0..keys {
-        ranked.push((Reverse(counts[id as usize]), id))?;
+    for id in 0..counts.len() {
+        ranked.push((Reverse(counts[id]), id))?;
     }
     ranked.sort_unstable();
     Ok(ranked)
@@ -43,18 +42,18 @@ pub fn write_counted(writer: &mut Writer<Vec<u8>>, key: &[u8], count: u64) -> Re
 
 /// Writes the rows of the `most` keys with the highest counts, the highest first; of equal counts,
 /// the key that came first. A key with count 0 has no row.
-pub fn write_top(
+pub fn write_top<K: KeyList>(
     writer: &mut Writer<Vec<u8>>,
     alloc: Global,
-    keys: &KeyDictionary,
+    keys: &K,
     counts: &[u64],
     most: u32,
 ) -> Result<(), Memory>
-    requires { length keys.now ≡ length counts.now }
+    requires { length (K.keys keys.now) ≡ length counts.now }
     ensures { OnOk result (AddsRows writer.old writer.new
-        (top_rows most keys.now counts.now)) }
+        (top_rows most (K.keys keys.now) counts.now)) }
 {
-    let ranked = ranked(alloc, keys.count(), counts)?;
+    let ranked = ranked(alloc, counts)?;
     let shown = ranked.len().min(most as usize);
     for i in 0..shown {
         let (count, id) = ranked[i];
@@ -65,17 +64,17 @@ pub fn write_top(
 
 /// The text of a count of which the `most` keys with the highest counts are listed: a row for each
 /// of them, and the row of the totals, which are those of all keys.
-pub fn top_text(
+pub fn top_text<K: KeyList>(
     alloc: Global,
-    keys: &KeyDictionary,
+    keys: &K,
     counts: &[u64],
     most: u32,
     committed: u64,
     appended: u64,
 ) -> Result<Vec<u8>, Memory>
-    requires { length keys.now ≡ length counts.now }
+    requires { length (K.keys keys.now) ≡ length counts.now }
     ensures { IfOk result (λ text. text.items
-        ≡ top_rows most keys.now counts.now ++ total_row committed appended) }
+        ≡ top_rows most (K.keys keys.now) counts.now ++ total_row committed appended) }
 {
     let mut writer = rows::new_writer(alloc);
     write_top(&mut writer, alloc, keys, counts, most)?;

@@ -32,7 +32,7 @@ mod runs;
 #[cfg(test)]
 mod slow;
 #[cfg(test)]
-mod tallies;
+mod streams;
 #[cfg(test)]
 mod traces;
 #[cfg(test)]

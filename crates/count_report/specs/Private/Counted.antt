@@ -1,18 +1,40 @@
--- Counts by key number while the logs are counted one by one.
-use Rattle.std.specs.Prelude.{◌≡◌, ◌<◌, ◌+◌, ℕ, List, IfOk, Result, length, slice_index_or}
-use Rattle.keyed_table.specs.Counts as table
-use Rattle.partition_log.specs.Logs.{PartitionLogs, log_at, sum_below}
+-- The text of what was counted.
+use Rattle.std.specs.Prelude.{◌≡◌, ◌++◌, ℕ, Bool, List, Ok, Option, Vec, drop, flat_map, if◌then◌else◌, map, vec_items}
+use Rattle.std.specs.Global.{Global}
+use Rattle.command_line.specs.declared.options.Options.{Options}
+use Rattle.ingest.specs.Counted.{CountsFile}
+use Rattle.ingest.specs.Records.{names_topics}
+use Rattle.key_stream.specs.Tally.{HaveCounted}
+use Rattle.key_stream.specs.declared.counting.Counting.{Counting}
+use Rattle.key_stream.specs.declared.tally.Counters.{Counters}
+use Rattle.count_report.specs.CountReport.{report_of_count}
+use Rattle.key_index.specs.Keys.{Key, distinct}
+use Rattle.key_stream.specs.Counting.{occurrences}
+use Rattle.report_rows.specs.CountRows.{listed_rows}
+use Rattle.report_rows.specs.Rows.{total_row}
 
--- how often a key number occurs in the logs below p
-abbrev pub so_far : PartitionLogs → ℕ → ℕ → ℕ
-so_far l p n = sum_below p (λ q. table.plain (log_at l q) n)
+-- how many bytes stand before each key: with topics the index of its topic
+abbrev pub skipped : Bool → ℕ
+skipped has_topics = if has_topics then 1 else 0
 
--- the counters of the logs below p
-pub record AreCountsBelow (l : PartitionLogs) (p : ℕ) (counts : List ℕ) : Type 0 where
-  pub one_each : length counts ≡ length l.keys
-  pub counted : (n : ℕ) → n < length l.keys → slice_index_or counts n 0 ≡ so_far l p n
+-- keys as they were read, without what stands before them
+abbrev pub keys_read : Bool → List Key → List Key
+keys_read has_topics keys = map (drop (skipped has_topics)) keys
 
--- these are the partial counts of `count` logs from one on, except those refused
-abbrev pub AreCountsFrom : {E : Type 0} → PartitionLogs → ℕ → ℕ → List (Result (List ℕ) E) → Type 0
-AreCountsFrom {E} l from count group = (i : ℕ) (d : Result (List ℕ) E) → i < count
-    → IfOk (slice_index_or group i d) (λ partial. partial ≡ log_at l (from + i))
+-- the rows of keys, and the number of records as both totals
+abbrev pub text_of : Option ℕ → List Key → ℕ → List ℕ
+text_of top keys records =
+    listed_rows top (distinct keys) (occurrences keys) ++ total_row records records
+
+-- texts are those of whatever keys counters have counted
+abbrev pub TellsCounters : Options → Counters → ℕ → Vec (Vec ℕ Global) Global → Type 0
+TellsCounters options counters records texts =
+    (keys : List Key) → HaveCounted keys counters
+    → flat_map vec_items texts.items
+    ≡ text_of options.top (keys_read (names_topics options) keys) records
+
+-- texts are the report of the file that was counted
+abbrev pub ReportsCounted : Options → Counting → Vec (Vec ℕ Global) Global → Type 0
+ReportsCounted options counting texts =
+    (left left2 : Option (List ℕ)) (file : CountsFile options left left2 counting)
+    → report_of_count options file.read ≡ Ok (flat_map vec_items texts.items)

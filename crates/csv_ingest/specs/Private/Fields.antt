@@ -5,6 +5,8 @@ use Rattle.csv.specs.declared.parser.State.{State}
 use Rattle.csv.specs.declared.parser.State.TheVariants as st
 use Rattle.csv_ingest.specs.KeyFile.{Record}
 use Rattle.csv_ingest.specs.Private.Walk.{walk}
+use Rattle.csv_ingest.specs.declared.scan.Place.{Place}
+use Rattle.csv_ingest.specs.declared.scan.Place.TheVariants as place
 use Rattle.csv_ingest.specs.declared.scan.Row.{Row}
 
 -- a byte that ends a line
@@ -33,18 +35,34 @@ pub record ReadsField (delimiter : ℕ) (s : State) (text : List ℕ) (at end : 
   pub ends : EndsField delimiter s text at end more
   pub keeps : new ≡ kept wanted old more
 
+-- the bytes of a key that is in a place
+abbrev pub bytes_in : Place → List ℕ → List ℕ
+bytes_in (place.Text key) buffer = key.now
+bytes_in place.Buffer buffer = buffer
+
+-- the bytes of the key of the record at hand, as far as they were read
+abbrev pub key_of : Row → List ℕ
+key_of row = bytes_in row.place row.buffer.items
+
 -- these fields of the record at hand are complete, and the key is that of this column, counted from
 -- 0, as soon as its field is
 pub record IsRow (column : ℕ) (row : Row) (fields : Record) : Type 0 where
   pub count : row.count ≡ length fields
-  pub key : column < row.count → field_at fields column ≡ Some row.key.items
-  pub before : row.count ≤ column → row.key.items ≡ []
+  pub key : column < row.count → field_at fields column ≡ Some (key_of row)
+  pub before : row.count ≤ column → key_of row ≡ []
 
 -- these are all fields of a record, the one at hand included
 pub record IsWhole (column : ℕ) (row : Row) (fields : Record) : Type 0 where
   pub count : row.count + 1 ≡ length fields
-  pub key : column < row.count + 1 → field_at fields column ≡ Some row.key.items
-  pub before : row.count < column → row.key.items ≡ []
+  pub key : column < row.count + 1 → field_at fields column ≡ Some (key_of row)
+  pub before : row.count < column → key_of row ≡ []
+
+-- the field at hand was read to its end, and it is the key where it is wanted
+pub record ReadsKey (delimiter : ℕ) (text : List ℕ) (at end : ℕ) (wanted : Bool) (old new : Row)
+    : Type 0 where
+  pub field : List ℕ
+  pub ends : EndsField delimiter st.StartField text at end field
+  pub key : key_of new ≡ (if wanted then field else key_of old)
 
 -- the field at hand was read to its end
 pub record ReadsRow (delimiter : ℕ) (text : List ℕ) (at end column : ℕ) (old new : Row)

@@ -1,5 +1,5 @@
 -- What is taken of each record of a file.
-use Rattle.std.specs.Prelude.{⊤, ◌≤◌, ◌<◌, ◌^◌, ℕ, List, ◌∷◌, length, map, Option, Some, None}
+use Rattle.std.specs.Prelude.{⊤, ◌≤◌, ◌<◌, ◌^◌, ℕ, List, length, map, Option, Some, None}
 use Rattle.csv_ingest.specs.KeyFile.{Taking, key_in, topic_key_in}
 use Rattle.csv_ingest.specs.declared.wanted.Topics.{Topics}
 
@@ -25,8 +25,3 @@ abbrev pub AreValidTopics : Option Topics → Type 0
 AreValidTopics None = ⊤
 AreValidTopics (Some topics) =
     (1 ≤ topics.column) × (topics.column < 2 ^ 32) × (length topics.names.now ≤ 2 ^ 8)
-
--- the key, behind the index of its topic where there is one
-abbrev pub item : Option ℕ → List ℕ → List ℕ
-item None key = key
-item (Some index) key = index ∷ key

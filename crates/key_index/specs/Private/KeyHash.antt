@@ -46,13 +46,14 @@ with_products sum (seed ∷ seeds) (a ∷ b ∷ c ∷ []) =
 with_products sum (seed ∷ seeds) (a ∷ b ∷ c ∷ d ∷ text) =
     with_products (with_product sum seed (word_of a b c d)) seeds text
 
--- the sum of all products of a short key, that of its length included
-unfoldable pub sum_of : List ℕ → List ℕ → ℕ
-sum_of seeds key = with_products
-    (with_product (slice_index seeds ADDED) (slice_index seeds OF_LENGTH) (length key)) seeds key
+-- the sum of all products of a text that begins with a short key of this length, that of the length
+-- included
+unfoldable pub sum_of : List ℕ → List ℕ → ℕ → ℕ
+sum_of seeds text len = with_products
+    (with_product (slice_index seeds ADDED) (slice_index seeds OF_LENGTH) len) seeds text
 
 -- the hash of a key
 unfoldable pub hash_of : KeyHash → List ℕ → ℕ
 hash_of hasher key =
-    if nat_le (length key) LONGEST_INLINE then sum_of hasher.seeds key / 2 ^ 31
+    if nat_le (length key) LONGEST_INLINE then sum_of hasher.seeds key (length key) / 2 ^ 31
     else finish (write (initial_hasher hasher.long) key)

@@ -1,4 +1,4 @@
-use Rattle.std.proofs.Common.{◌≡◌, ◌∙◌, Bor, List, ℕ, Some, None, false, true, inl, ap, rules, sym}
+use Rattle.std.proofs.Common.{◌≡◌, ◌∙◌, Bor, List, ℕ, false, true, inl, ap, refl, rules, sym}
 use Rattle.std.specs.Prelude.{flat_map}
 use Rattle.csv_ingest.specs.Pieces.{file_records}
 use Rattle.csv_ingest.specs.Private.Pieces.{lent}
@@ -17,16 +17,9 @@ returns-then-not-branch-clause-answer c =
     let empty = rw (none, c.delimiter.ensures) at c.in_ok-read_header.ensures in
     inl (column-none c.args.most c.args.name.now (file_records c.args.file.now.delimiter c.args.file.now.bytes) (rows ∙ empty))
 
-pub returns-in-Some-clause-answer : goal.returns-in-Some-clause-answer
-returns-in-Some-clause-answer c =
-    let some : c.in_ok-read_header.field-0 ≡ true = search rules in
-    let rows = records_are c.args.file.now.delimiter c.deref.result.now c.in_ok-pieces.pieces.items c.args.file.now.bytes c.deref.ensures.value (pieces-records c.args.file.now.delimiter (lent c.in_ok-pieces.pieces.items) c.args.file.now.bytes c.in_ok-pieces.ensures) in
-    let first = rw (some, c.delimiter.ensures) at c.in_ok-read_header.ensures in
-    inl (column-found c.args.most c.args.name.now (file_records c.args.file.now.delimiter c.args.file.now.bytes) _ first.0 (Some c.in-Some.index) (rows ∙ first.1) c.in-Some.ensures.value)
-
 pub returns-clause-answer : goal.returns-clause-answer
 returns-clause-answer c =
     let some : c.in_ok-read_header.field-0 ≡ true = search rules in
     let rows = records_are c.args.file.now.delimiter c.deref.result.now c.in_ok-pieces.pieces.items c.args.file.now.bytes c.deref.ensures.value (pieces-records c.args.file.now.delimiter (lent c.in_ok-pieces.pieces.items) c.args.file.now.bytes c.in_ok-pieces.ensures) in
     let first = rw (some, c.delimiter.ensures) at c.in_ok-read_header.ensures in
-    inl (column-found c.args.most c.args.name.now (file_records c.args.file.now.delimiter c.args.file.now.bytes) _ first.0 None (rows ∙ first.1) c.in-None.ensures.value)
+    inl (c.column_among.ensures.value ∙ column-found c.args.most c.args.name.now (file_records c.args.file.now.delimiter c.args.file.now.bytes) _ first.0 _ (rows ∙ first.1) refl)

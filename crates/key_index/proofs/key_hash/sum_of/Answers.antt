@@ -5,7 +5,7 @@ use Rattle.key_index.proofs.key_hash.sum_of.Goals as goal
 
 pub loop-i-preserved : goal.loop-i-preserved
 loop-i-preserved c =
-    let key = c.args.key.now in
+    let key = c.args.text.now in
     let seeds = c.args.seeds.now in
     let i = c.loop-i.i in
     let lt : i < length seeds = omega (arith, c.told-seeds, c.requires, c.loop-i-test.true) in
@@ -15,7 +15,7 @@ loop-i-preserved c =
 
 pub returns : goal.returns
 returns c =
-    let key = c.args.key.now in
+    let key = c.args.text.now in
     let seeds = c.args.seeds.now in
     let words = length key / 4 in
     let sum = c.loop-i.sum in

@@ -6,7 +6,7 @@ use Rattle.report_rows.proofs.count_rows.+fn-rows_parallel-join+arg2+fn-rows_par
 
 pub returns : goal.returns
 returns g t c =
-    let keys = c.args.keys.now in
+    let keys = g.K.KeyList.keys c.args.keys.now in
     let counts = c.args.counts.now in
     let from = c.args.span.from in
     let to = c.args.span.to in

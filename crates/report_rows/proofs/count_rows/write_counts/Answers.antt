@@ -5,14 +5,14 @@ use Rattle.report_rows.proofs.Steps.{rows_more, rows_none}
 use Rattle.report_rows.proofs.count_rows.write_counts.Goals as goal
 
 pub loop-id-init : goal.loop-id-init
-loop-id-init c = record {
+loop-id-init g c = record {
   within = omega arith;
-  rows = λ text begun. rw (rows_none c.args.keys.now c.args.counts.now c.args.from, append-nil text) begun;
+  rows = λ text begun. rw (rows_none (g.K.KeyList.keys c.args.keys.now) c.args.counts.now c.args.from, append-nil text) begun;
 }
 
 pub loop-id-preserved : goal.loop-id-preserved
-loop-id-preserved c =
-    let keys = c.args.keys.now in
+loop-id-preserved g c =
+    let keys = g.K.KeyList.keys c.args.keys.now in
     let counts = c.args.counts.now in
     let from = c.args.from in
     let id = c.loop-id.id in
@@ -28,7 +28,7 @@ loop-id-preserved c =
     }
 
 pub returns : goal.returns
-returns c = λ text begun.
+returns g c = λ text begun.
     let inv = c.loop-id.invariant in
     let last : c.loop-id.id ≡ c.args.to = omega arith in
     rw last at (inv.rows text begun)

@@ -4,7 +4,7 @@ use Rattle.report_rows.specs.Rows.{HasText}
 use Rattle.report_rows.proofs.count_rows.write_counts.Given as goal
 
 abbrev pub invariant-loop-id : goal.invariant-loop-id
-invariant-loop-id l = record {
+invariant-loop-id g l = record {
   within : l.from ≤ l.id;
-  rows : (text : List ℕ) → HasText l.fn.writer text → HasText l.writer (text ++ rows_between l.keys l.counts l.from l.id);
+  rows : (text : List ℕ) → HasText l.fn.writer text → HasText l.writer (text ++ rows_between (g.K.KeyList.keys l.keys) l.counts l.from l.id);
 }

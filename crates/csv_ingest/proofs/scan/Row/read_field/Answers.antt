@@ -1,25 +1,12 @@
-use Rattle.std.proofs.Common.{refl, ◌==◌}
-use Rattle.csv_ingest.proofs.Fields.{field-in-quotes, field-without, ok-then, row-whole}
+use Rattle.csv_ingest.proofs.Fields.{ok-both, row-whole}
 use Rattle.csv_ingest.proofs.scan.Row.read_field.Goals as goal
 
 pub returns-then-text-at-eq34-clause-field : goal.returns-then-text-at-eq34-clause-field
 returns-then-text-at-eq34-clause-field c =
-    let text = c.args.text.now in
-    let old = c.args.self.now in
-    let new = record old { key = c.read_quoted.new.key } in
-    ok-then c.read_quoted.result _ _
-    (λ end reads.
-    row-whole c.args.ends.now text c.args.at end c.args.column old new
-    (field-in-quotes c.args.ends.now text c.args.at end (old.count == c.args.column) old.key.items new.key.items c.requires c.if-text-at-eq34.true reads) refl)
-    c.read_quoted.ensures
+    ok-both c.read_in_quotes.result _ _ _
+    (λ end reads same. row-whole c.args.ends.now c.args.text.now c.args.at end c.args.column c.args.self.now c.read_in_quotes.new.self reads same)
+    c.read_in_quotes.ensures.key c.read_in_quotes.ensures.count
 
 pub returns-else-text-at-eq34-clause-field : goal.returns-else-text-at-eq34-clause-field
 returns-else-text-at-eq34-clause-field c =
-    let text = c.args.text.now in
-    let old = c.args.self.now in
-    let new = record old { key = c.read_bare.new.key } in
-    ok-then c.read_bare.result _ _
-    (λ end reads.
-    row-whole c.args.ends.now text c.args.at end c.args.column old new
-    (field-without c.args.ends.now text c.args.at end (old.count == c.args.column) old.key.items new.key.items c.requires c.if-text-at-eq34.false reads) refl)
-    c.read_bare.ensures
+    row-whole c.args.ends.now c.args.text.now c.args.at c.read_without.result c.args.column c.args.self.now c.read_without.new.self c.read_without.ensures.key c.read_without.ensures.count

@@ -1,0 +1,10 @@
+pub mod Growing
+pub mod HashLists
+pub mod Marks
+pub mod Partition
+pub mod Parts
+pub mod Rounds
+pub mod Segmented
+pub mod Steps
+pub mod Totals
+pub mod Walks

@@ -1,0 +1,68 @@
+-- Which keys may have a twin.
+use Rattle.std.specs.Prelude.{◌≡◌, ◌<◌, ◌≤◌, ◌==◌, ◌/◌, ◌%◌, ◌^◌, ℕ, Bool, false, List, [], Vec, bit_and, count_by, if◌then◌else◌, length, map, min, slice_index, slice_index_or, vec_items}
+use Rattle.std.specs.Global.{Global}
+use Rattle.std.specs.Str.{bytes_eq}
+use Rattle.key_index.specs.Keys.{Key}
+use Rattle.key_index.specs.Private.KeyHash.{hash_of}
+use Rattle.key_counts.specs.Counts.{Entries}
+use Rattle.key_counts.specs.Private.Hashes.{AreHashed}
+use Rattle.key_counts.specs.Segments.{keys_behind}
+use Rattle.key_counts.specs.declared.filter.Filter.{Filter}
+use Rattle.key_counts.specs.declared.filter.Place.{Place}
+use Rattle.key_counts.specs.declared.filter.TheConstants.{PARTS}
+use Rattle.key_counts.specs.declared.merging.Segment.{Segment}
+
+-- the part of the cell of a hash, and the index of the cell there
+abbrev pub part_of : ℕ → ℕ
+part_of hash = hash / 2 ^ 31 % PARTS
+
+abbrev pub cell_of : Place → ℕ → ℕ
+cell_of place hash = bit_and hash place.mask
+
+-- whether a key has this cell
+unfoldable pub is_at : Place → ℕ → ℕ → Key → Bool
+is_at place part cell key =
+    if part_of (hash_of place.hasher key) == part
+    then cell_of place (hash_of place.hasher key) == cell else false
+
+-- the marks of the cells of a part: how many of these keys have each, 2 for two and more
+abbrev pub AreMarked : Place → ℕ → List Key → List ℕ → Type 0
+AreMarked place part keys cells = (cell : ℕ) → cell < length cells
+    → slice_index cells cell ≡ min 2 (count_by (is_at place part cell) keys)
+
+-- cells that no key had, marked from the hashes of the entries of these segments
+abbrev pub AreMarkedFrom : Place → ℕ → List (Vec ℕ Global) → List Segment → Vec ℕ Global
+    → Vec ℕ Global → Type 0
+AreMarkedFrom place part hashes segments old new =
+    (workers : List Entries) (skip : ℕ) → AreHashed place.hasher skip workers hashes
+    → AreMarked place part [] old.items
+    → AreMarked place part (keys_behind skip workers segments) new.items
+
+-- each part
+pub record ArePartsMarked (place : Place) (hashes : List (Vec ℕ Global)) (segments : List Segment)
+    (olds news : List (Vec ℕ Global)) : Type 0 where
+  pub len : length news ≡ length olds
+  pub each : (part : ℕ) (d : Vec ℕ Global) → part < length olds
+      → AreMarkedFrom place part hashes segments (slice_index_or olds part d)
+      (slice_index_or news part d)
+
+-- the marked cells of all parts
+pub record ArePartsOf (place : Place) (keys : List Key) (parts : List (Vec ℕ Global))
+    : Type 0 where
+  pub len : length parts ≡ PARTS
+  pub each : (part : ℕ) → part < PARTS
+      → AreMarked place part keys (slice_index_or (map vec_items parts) part [])
+
+-- the mark of a cell
+abbrev pub mark_at : List (List ℕ) → ℕ → ℕ → ℕ
+mark_at parts part cell = slice_index_or (slice_index_or parts part []) cell 2
+
+-- whether a key may have a twin
+unfoldable pub is_shared : Filter → Key → Bool
+is_shared filter key =
+    mark_at (map vec_items filter.parts.items) (part_of (hash_of filter.place.hasher key))
+    (cell_of filter.place (hash_of filter.place.hasher key)) == 2
+
+-- a key that is not shared is among these once at most
+abbrev pub AreOnce : (Key → Bool) → List Key → Type 0
+AreOnce shared keys = (x : Key) → shared x ≡ false → count_by (bytes_eq x) keys ≤ 1

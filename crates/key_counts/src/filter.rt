@@ -1,0 +1,212 @@
+//! A filter of keys: which of them may have a twin.
+
+ghost use Rattle.std.specs.Prelude.{◌≡◌, ◌<◌, ◌≤◌, ◌++◌, ◌∷◌, ◌/◌, ◌%◌, ◌^◌, [], All, IfOk, List, ℕ, bit_and, length, map, slice_index_or, vec_items};
+ghost use Rattle.key_index.specs.Keys.{Key};
+ghost use Rattle.key_index.specs.Private.KeyHash.{hash_of};
+ghost use Rattle.key_counts.specs.Counts.{Entries};
+ghost use Rattle.key_counts.specs.Private.Filter.{AreMarked, AreMarkedFrom, AreOnce, ArePartsMarked, ArePartsOf, cell_of, is_shared, mark_at, part_of};
+ghost use Rattle.key_counts.specs.Private.Hashes.{AreHashesOf, HasHashes, IsHashed, hashes_in};
+ghost use Rattle.key_counts.specs.Private.Parts.{part_behind};
+ghost use Rattle.key_counts.specs.Segments.{IsSegment, keys_behind};
+
+use crate::counts::KeyCounts;
+use crate::hashes::{hashes_in, hashes_of};
+use crate::merging::Segment;
+use key_index::KeyHash;
+use lane_words::Memory;
+use parallel::LEAST_KEYS;
+use std::alloc::Global;
+use std::thread;
+use std::thread::Threads;
+
+/// In how many parts the cells are marked, each in a thread of its own.
+pub const PARTS: usize = 4;
+
+/// The mark of a cell that several keys have.
+const SEVERAL: u8 = 2;
+
+/// How keys are placed in cells.
+#[derive(Clone, Copy, Debug)]
+pub struct Place {
+    /// The hash of the keys.
+    pub hasher: KeyHash,
+    /// The number of cells of a part, a power of two, less 1.
+    pub mask: usize,
+}
+
+/// A filter of keys. Whoever has a cell of its own has no twin.
+#[derive(Debug, Drop)]
+pub struct Filter {
+    /// How keys are placed in cells.
+    place: Place,
+    /// The marks of the cells of each part: how many keys have the cell, 2 for two and more.
+    parts: Vec<Vec<u8>>,
+    /// The hash of each entry of each worker.
+    hashes: Vec<Vec<u64>>,
+}
+
+/// The part of the cell of a hash.
+#[inline(always)]
+fn part_of(hash: u64) -> usize
+    ensures { result ≡ part_of hash }
+{
+    (hash >> 31) as usize % PARTS
+}
+
+/// The index of the cell of a hash in its part.
+#[inline(always)]
+fn cell_of(place: &Place, hash: u64) -> usize
+    ensures { result ≡ cell_of place.now hash }
+{
+    hash as usize & place.mask
+}
+
+/// Marks the cell of a key of this hash, if it is in this part.
+#[inline(always)]
+fn mark_key(cells: &mut [u8], place: &Place, part: usize, hash: u64)
+    ensures { (done : List Key) (key : Key) → hash ≡ hash_of place.now.hasher key
+        → AreMarked place.now part done cells.old
+        → AreMarked place.now part (done ++ key ∷ []) cells.new }
+{
+    let cell = cell_of(place, hash);
+    if part_of(hash) == part && cell < cells.len() {
+        cells[cell] = cells[cell].saturating_add(1).min(SEVERAL);
+    }
+}
+
+/// Marks the cells of the keys of a segment, from the hashes of its worker's entries.
+fn mark_segment(cells: &mut [u8], place: &Place, part: usize, hashes: &[u64], segment: Segment)
+    requires order { segment.from ≤ segment.to }
+    requires within { segment.to ≤ length hashes.now }
+    ensures { (entries : Entries) (skip : ℕ) (done : List Key)
+        → AreHashesOf place.now.hasher skip entries hashes.now
+        → AreMarked place.now part done cells.old
+        → AreMarked place.now part (done ++ part_behind skip entries segment) cells.new }
+{
+    for code in segment.from..segment.to {
+        mark_key(cells, place, part, hashes[code]);
+    }
+}
+
+/// Marks the cells of the keys of these segments, from the hashes of each worker's entries.
+fn mark_segments(
+    cells: &mut Vec<u8>,
+    place: &Place,
+    part: usize,
+    hashes: &[Vec<u64>],
+    segments: &[Segment],
+)
+    requires { All (IsHashed hashes.now) segments.now }
+    ensures { AreMarkedFrom place.now part hashes.now segments.now cells.old cells.new }
+{
+    for i in 0..segments.len() {
+        let segment = segments[i];
+        let own = hashes_in(hashes, segment.worker);
+        mark_segment(cells, place, part, own, segment);
+    }
+}
+
+/// Marks the cells of each part, in so many threads at most.
+fn mark_parts<R: Threads + Sync>(
+    rt: &R,
+    parts: &mut [Vec<u8>],
+    place: &Place,
+    hashes: &[Vec<u64>],
+    segments: &[Segment],
+    threads: usize,
+)
+    requires threads { 0 < threads }
+    requires segments { All (IsHashed hashes.now) segments.now }
+    ensures { ArePartsMarked place.now hashes.now segments.now parts.old parts.new }
+{
+    thread::for_each_mut(
+        rt,
+        parts,
+        threads,
+        &|part, cells: &mut Vec<u8>| mark_segments(cells, place, part, hashes, segments),
+    );
+}
+
+/// The cells of each part, which no key has.
+fn no_marks(alloc: Global, place: &Place) -> Result<Vec<Vec<u8>>, Memory>
+    ensures { IfOk result (λ parts. ArePartsOf place.now [] parts.items) }
+{
+    let mut parts = Vec::with_capacity(alloc, PARTS)?;
+    for _part in 0..PARTS {
+        parts.push(vec![in alloc; 0u8; place.mask.saturating_add(1)]?)?;
+    }
+    Ok(parts)
+}
+
+/// In how many threads work on so many pieces is done. Few entries are not worth a thread.
+fn threads_for(place: &Place, pieces: usize) -> usize
+    ensures { 0 < result }
+{
+    // A part has as many cells as there are entries, or more.
+    if place.mask < LEAST_KEYS {
+        return 1;
+    }
+    pieces.max(1)
+}
+
+/// The mark of a cell. A cell that is not there counts as one of several keys.
+#[inline(always)]
+fn mark_at(parts: &[Vec<u8>], part: usize, cell: usize) -> u8
+    ensures { result ≡ mark_at (map vec_items parts.now) part cell }
+{
+    let Some(cells) = parts.get(part) else {
+        return SEVERAL;
+    };
+    match cells.get(cell) {
+        Some(mark) => *mark,
+        None => SEVERAL,
+    }
+}
+
+impl Filter {
+    /// The filter of the keys of these segments, each without its first `skip` bytes.
+    pub fn of<R: Threads + Sync>(
+        rt: &R,
+        alloc: Global,
+        place: Place,
+        workers: &[KeyCounts],
+        segments: &[Segment],
+        skip: usize,
+    ) -> Result<Filter, Memory>
+        requires { All (IsSegment workers.now) segments.now }
+        ensures once { IfOk result (λ filter.
+            AreOnce (is_shared filter) (keys_behind skip workers.now segments.now)) }
+        ensures hashes { IfOk result (λ filter. HasHashes filter skip workers.now) }
+    {
+        let threads = threads_for(&place, workers.len());
+        let hashes = hashes_of(rt, alloc, &place.hasher, workers, skip, threads)?;
+        let mut parts = no_marks(alloc, &place)?;
+        let threads = threads_for(&place, PARTS);
+        mark_parts(rt, &mut parts, &place, hashes.as_slice(), segments, threads);
+        Ok(Filter {
+            place,
+            parts,
+            hashes,
+        })
+    }
+
+    /// The hashes of one worker's entries.
+    #[inline(always)]
+    pub fn hashes_in(&self, worker: usize) -> &[u64]
+        requires { worker < length self.now.hashes.items }
+        ensures { result.now ≡ hashes_in self.now.hashes.items worker }
+    {
+        hashes_in(self.hashes.as_slice(), worker)
+    }
+
+    /// Whether a key of this hash may have a twin.
+    #[inline(always)]
+    #[tactic(auto, unfolding(crate::specs::Private::Filter::is_shared))]
+    pub fn is_shared(&self, hash: u64) -> bool
+        ensures { (key : Key) → hash ≡ hash_of self.now.place.hasher key
+            → result ≡ is_shared self.now key }
+    {
+        let cell = cell_of(&self.place, hash);
+        mark_at(self.parts.as_slice(), part_of(hash), cell) == SEVERAL
+    }
+}

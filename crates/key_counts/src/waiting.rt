@@ -1,0 +1,82 @@
+//! Short keys that wait to be looked up together.
+
+ghost use Rattle.std.specs.Prelude.{◌≡◌, ◌≤◌, ◌∷◌, [], OnOk};
+ghost use Rattle.key_counts.specs.Counts.{Takes};
+ghost use Rattle.key_index.specs.Private.StoredKey.{bytes_of};
+
+use crate::counts::KeyCounts;
+use key_index::{LONGEST_INLINE, ShortKey};
+use lane_words::Memory;
+use std::marker::Model;
+
+/// How many keys are looked up together.
+pub const MOST_WAITING: usize = 32;
+
+/// A short key that waits to be looked up.
+#[derive(Debug, Drop)]
+pub struct WaitingKey {
+    /// The key.
+    key: ShortKey,
+    /// 32 bits of its hash.
+    hash: u32,
+}
+
+impl Model for WaitingKey {
+    ghost use Rattle.std.specs.Prelude.{◌≤◌, ℕ, List};
+    ghost use Rattle.key_index.specs.Private.StoredKey.{bytes_of};
+    ghost use Rattle.key_index.specs.declared.stored_key.TheConstants.{LONGEST_INLINE};
+
+    ghost Value = { List ℕ };
+
+    ghost view = { λ s. bytes_of s.key };
+
+    ghost invariant = { λ s. s.key.size ≤ LONGEST_INLINE };
+}
+
+impl WaitingKey {
+    /// A key and 32 bits of its hash.
+    #[inline(always)]
+    pub fn new(key: ShortKey, hash: u32) -> WaitingKey
+        requires { key.size ≤ LONGEST_INLINE }
+        ensures { result ≡ bytes_of key }
+    {
+        WaitingKey { key, hash }
+    }
+
+    /// The code of the entry that most likely has the key.
+    #[inline(always)]
+    fn likely_code(&self, counts: &KeyCounts) -> u32 {
+        counts.likely_code(self.hash)
+    }
+
+    /// Counts a record of the key, which the entry of this code most likely has.
+    #[inline(always)]
+    fn count_in(&self, counts: &mut KeyCounts, likely: u32) -> Result<(), Memory>
+        ensures { OnOk result (Takes counts.old counts.new (self.now ∷ [])) }
+    {
+        counts.take_short(self.hash, likely, &self.key)
+    }
+}
+
+/// The codes of the entries that most likely have the first of these keys. All slots are read
+/// before any entry, so that a processor need not wait for one before it asks for the next.
+#[inline(always)]
+fn likely_codes(counts: &KeyCounts, waiting: &[WaitingKey]) -> [u32; MOST_WAITING] {
+    let mut codes = [u32::MAX; MOST_WAITING];
+    for i in 0..waiting.len().min(MOST_WAITING) {
+        codes[i] = waiting[i].likely_code(counts);
+    }
+    codes
+}
+
+/// Counts a record of each of these keys.
+#[inline(never)]
+pub fn count_all(counts: &mut KeyCounts, waiting: &[WaitingKey]) -> Result<(), Memory>
+    ensures { OnOk result (Takes counts.old counts.new waiting.now) }
+{
+    let codes = likely_codes(counts, waiting);
+    for i in 0..waiting.len() {
+        waiting[i].count_in(counts, codes[i % MOST_WAITING])?;
+    }
+    Ok(())
+}

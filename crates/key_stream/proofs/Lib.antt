@@ -1,0 +1,13 @@
+pub mod Chunked
+pub mod Filled
+pub mod Firsts
+pub mod Judged
+pub mod Lengths
+pub mod Marked
+pub mod Revealed
+pub mod Rounded
+pub mod Started
+pub mod Taken
+pub mod TakenFirst
+pub mod Totalled
+pub mod Widths

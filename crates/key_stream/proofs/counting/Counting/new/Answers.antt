@@ -1,0 +1,7 @@
+use Rattle.std.proofs.Common.{refl}
+use Rattle.key_stream.proofs.Started.{starts}
+use Rattle.key_stream.proofs.counting.Counting.new.Goals as goal
+
+pub returns-clause-state : goal.returns-clause-state
+returns-clause-state c = λ delimiter wanted header.
+    starts delimiter wanted header c.args.workers _ c.in_ok-idle_workers.ensures c.new.ensures.items (c.in_ok-vec.ensures.items_if_clones_equal (λ y e. e)) refl refl

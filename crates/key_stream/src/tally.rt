@@ -1,0 +1,76 @@
+//! How often each key of a file occurs.
+
+ghost use Rattle.std.specs.Prelude.{◌≡◌, IfOk, List, drop, map};
+ghost use Rattle.key_index.specs.Keys.{Key, distinct, lent};
+ghost use Rattle.key_stream.specs.Counting.{occurrences};
+ghost use Rattle.key_stream.specs.Rounds.{entries_in};
+ghost use Rattle.key_stream.specs.Tally.{AreCountersOf, HaveCounted};
+
+use crate::counting::Counting;
+use crate::worker::Worker;
+use key_counts::{KeyCounts, Merged, Segment, are_counted, merge};
+use lane_words::Memory;
+use std::alloc::Global;
+use std::hash::RandomState;
+use std::random::RandomSource;
+use std::thread::Threads;
+
+/// The counters of all workers, and which entries each chunk brought.
+#[derive(Drop)]
+pub struct Counters {
+    /// The counters.
+    pub workers: Vec<KeyCounts>,
+    /// The entries, in the order in which chunks brought them.
+    pub segments: Vec<Segment>,
+}
+
+/// The counters of workers.
+fn counters_of(alloc: Global, workers: Vec<Worker>) -> Result<Vec<KeyCounts>, Memory>
+    ensures { IfOk result (λ counters. counters.items ≡ entries_in workers.items) }
+{
+    let mut counters = Vec::with_capacity(alloc, workers.len())?;
+    for worker in workers {
+        let Worker { counter, .. } = worker;
+        counters.push(counter.into_counts())?;
+    }
+    Ok(counters)
+}
+
+impl Counters {
+    /// The counters of what was counted.
+    pub fn of(alloc: Global, counting: Counting) -> Result<Counters, Memory>
+        ensures { IfOk result (AreCountersOf counting) }
+    {
+        let Counting {
+            workers,
+            segments,
+            ..
+        } = counting;
+        Ok(Counters {
+            workers: counters_of(alloc, workers)?,
+            segments,
+        })
+    }
+
+    /// The distinct keys of what was counted, in the order of their first appearance, and how often
+    /// each occurs. The first `skip` bytes of each key are left out. Keys are hashed by this
+    /// hasher, which a stranger must not know. Fails if an allocation or the random source failed,
+    /// or with more than `MOST_RECORDS` entries.
+    pub fn totals<R: Threads + Sync + RandomSource>(
+        &self,
+        rt: &R,
+        alloc: Global,
+        hasher: RandomState,
+        skip: usize,
+    ) -> Result<Merged<'_>, Memory>
+        requires { (keys : List Key) × HaveCounted keys self.now }
+        ensures keys { (keys : List Key) → HaveCounted keys self.now
+            → IfOk result (λ merged. lent merged.keys.items ≡ distinct (map (drop skip) keys)) }
+        ensures counts { (keys : List Key) → HaveCounted keys self.now
+            → IfOk result (λ merged. merged.counts.items ≡ occurrences (map (drop skip) keys)) }
+    {
+        let workers = self.workers.as_slice();
+        are_counted(workers);
+        merge(rt, alloc, hasher, workers, self.segments.as_slice(), skip)
+    }
+}

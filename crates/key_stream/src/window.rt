@@ -1,0 +1,108 @@
+//! The part of a file that is in memory.
+
+ghost use Rattle.std.specs.Prelude.{◌≡◌, ◌≤◌, ◌+◌, ◌<◌, [], true, IfOk, IfErr, OnOk, length, take};
+ghost use Rattle.std.specs.Io.KnownBytes.{IsAtEnd};
+ghost use Rattle.byte_io.specs.Devices.{CanStillFail, IsReadFault};
+ghost use Rattle.key_stream.specs.Reading.{Fills};
+
+use byte_io::{Source, fill};
+use lane_words::{Memory, Refusal};
+use std::alloc::Global;
+use std::marker::Model;
+
+/// The bytes of a file that were read and not yet taken.
+#[derive(Debug, Drop)]
+pub struct Window {
+    /// The buffer. It is used again, so that the system clears its pages once.
+    buffer: Vec<u8>,
+    /// How many bytes of the buffer are filled.
+    filled: usize,
+}
+
+impl Model for Window {
+    ghost use Rattle.std.specs.Prelude.{◌≤◌, ℕ, List, length, take};
+
+    ghost Value = { List ℕ };
+
+    ghost view = { λ s. take s.filled s.buffer.items };
+
+    ghost invariant = { λ s. s.filled ≤ length s.buffer.items };
+}
+
+/// Copies bytes to the front of a buffer.
+fn copy_front(buffer: &mut [u8], bytes: &[u8])
+    requires { length bytes.now ≤ length buffer.old }
+    ensures bytes { take (length bytes.now) buffer.new ≡ bytes.now }
+    ensures len { length buffer.new ≡ length buffer.old }
+{
+    buffer[..bytes.len()].copy_from_slice(bytes);
+}
+
+/// Reads into a buffer behind its first bytes, until it is full or the source is at its end.
+fn fill_behind<S: Source>(
+    source: &mut S,
+    buffer: &mut [u8],
+    filled: usize,
+) -> Result<usize, Refusal>
+    requires failures { CanStillFail (S.failures source.old) }
+    requires filled { filled ≤ length buffer.old }
+    ensures len { length buffer.new ≡ length buffer.old }
+    ensures range { IfOk result (λ n. filled + n ≤ length buffer.old) }
+    ensures bytes { IfOk result (λ n. Fills (S.left source.old) (S.left source.new)
+        (take filled buffer.old) (take (filled + n) buffer.new)) }
+    ensures end { IfOk result
+        (λ n. filled + n < length buffer.old → IsAtEnd (S.left source.new)) }
+    ensures no_failures { OnOk result (S.failures source.new ≡ S.failures source.old) }
+    ensures failures { IfErr result
+        (IsReadFault (S.failures source.old) (S.failures source.new)) }
+{
+    fill(source, &mut buffer[filled..])
+}
+
+impl Window {
+    /// No bytes yet, and a buffer of this size.
+    pub fn new(alloc: Global, size: usize) -> Result<Window, Memory>
+        ensures { IfOk result (λ window. window ≡ []) }
+    {
+        Ok(Window {
+            buffer: vec![in alloc; 0u8; size]?,
+            filled: 0,
+        })
+    }
+
+    /// The bytes.
+    pub fn text(&self) -> &[u8]
+        ensures { result.now ≡ self.now }
+    {
+        &self.buffer[..self.filled]
+    }
+
+    /// Replaces the bytes by these, which come first in the buffer then. It grows if they fill it,
+    /// to twice their number.
+    pub fn begin_with(&mut self, bytes: &[u8]) -> Result<(), Memory>
+        ensures { OnOk result (self.new ≡ bytes.now) }
+    {
+        if bytes.len() >= self.buffer.len() {
+            self.filled = 0;
+            self.buffer.resize(bytes.len().saturating_mul(2), 0)?;
+        }
+        copy_front(self.buffer.as_mut_slice(), bytes);
+        self.filled = bytes.len();
+        Ok(())
+    }
+
+    /// Reads on until the buffer is full or the source is at its end, and returns whether it is at
+    /// its end.
+    pub fn read_on<S: Source>(&mut self, source: &mut S) -> Result<bool, Refusal>
+        requires { CanStillFail (S.failures source.old) }
+        ensures bytes { OnOk result
+            (Fills (S.left source.old) (S.left source.new) self.old self.new) }
+        ensures end { IfOk result (λ at_end. at_end ≡ true → IsAtEnd (S.left source.new)) }
+        ensures no_failures { OnOk result (S.failures source.new ≡ S.failures source.old) }
+        ensures failures { IfErr result
+            (IsReadFault (S.failures source.old) (S.failures source.new)) }
+    {
+        self.filled += fill_behind(source, self.buffer.as_mut_slice(), self.filled)?;
+        Ok(self.filled < self.buffer.len())
+    }
+}

@@ -1,0 +1,303 @@
+//! Files counted as streams, in windows of a few bytes, compared with files whose records are
+//! appended to logs.
+
+ghost use Rattle.std.specs.Prelude.{◌<◌, List};
+ghost use Rattle.ingest.specs.Counted.{CountsFile};
+ghost use Rattle.ingest.specs.Reports.{AreInRange};
+ghost use Rattle.key_index.specs.Keys.{Key};
+ghost use Rattle.key_stream.specs.Tally.{HaveCounted};
+
+use crate::options;
+use crate::two_topics::options_of_two;
+use byte_io::FromRead;
+use command_line::{Column, Options};
+use csv_ingest::Blocks;
+use ingest::{count_file, logs_of, read_records};
+use key_counts::Merged;
+use key_stream::{Counters, Counting};
+use lane_words::{Memory, Refusal};
+use partition_log::{LogRead, Logs};
+use std::alloc::Global;
+use std::hash::RandomState;
+use std::process::Abort;
+use std::random::RandomSource;
+use std::test::Fail;
+use std::thread::Threads;
+
+/// Numbers of threads that count, and sizes of windows in bytes.
+const STREAMS: [(usize, usize); 6] = [(1, 1), (1, 8), (2, 3), (3, 20), (4, 0), (4, 200)];
+
+/// Adds a key and its count to a text.
+fn add_count(text: &mut Vec<u8>, key: &[u8], count: u64) -> Result<(), Memory> {
+    text.extend_from_slice(&(key.len() as u64).to_le_bytes())?;
+    text.extend_from_slice(key)?;
+    text.extend_from_slice(&count.to_le_bytes())?;
+    Ok(())
+}
+
+/// How many of these key numbers are this one.
+fn occurrences(ids: &[u32], id: u32) -> u64 {
+    let mut count: u64 = 0;
+    for other in ids {
+        count = count.wrapping_add(u64::from(*other == id));
+    }
+    count
+}
+
+/// How often a key occurs in all logs.
+fn occurrences_in(logs: &Logs, id: u32) -> u64 {
+    let mut count: u64 = 0;
+    for p in 0..logs.partitions() {
+        count = count.wrapping_add(occurrences(logs.ids(p, 0, logs.len(p)), id));
+    }
+    count
+}
+
+/// The keys of logs and how often each occurs, in one text.
+fn text_of_logs(alloc: Global, logs: &Logs) -> Result<Vec<u8>, Memory> {
+    let mut text = Vec::new(alloc);
+    for id in 0..logs.keys() {
+        add_count(&mut text, logs.key(id), occurrences_in(logs, id))?;
+    }
+    Ok(text)
+}
+
+/// The same of a file that is read whole and appended to logs.
+fn text_by_logs<R: Threads + Sync + RandomSource>(
+    rt: &R,
+    alloc: Global,
+    file: &[u8],
+    options: &Options,
+) -> Result<Vec<u8>, Refusal>
+    requires { AreInRange options.now }
+{
+    let mut parts = Vec::new(alloc);
+    parts.push(Vec::from_slice(alloc, file)?)?;
+    let blocks = Blocks::of(alloc, parts, options.delimiter)?;
+    let records = read_records(rt, alloc, &blocks, options)?;
+    let logs = logs_of(rt, alloc, &records, options)?;
+    Ok(text_of_logs(alloc, &logs)?)
+}
+
+/// Keys and their counts, in one text.
+fn text_of_merged(alloc: Global, merged: &Merged<'_>) -> Result<Vec<u8>, Memory> {
+    let mut text = Vec::new(alloc);
+    for i in 0..merged.keys.len().min(merged.counts.len()) {
+        add_count(&mut text, merged.keys[i], merged.counts[i])?;
+    }
+    Ok(text)
+}
+
+/// The keys of what counters counted and how often each occurs, in one text.
+fn text_of_counters<R: Threads + Sync + RandomSource>(
+    rt: &R,
+    alloc: Global,
+    hasher: RandomState,
+    counters: &Counters,
+    skip: usize,
+) -> Result<Vec<u8>, Memory>
+    requires { (keys : List Key) × HaveCounted keys counters.now }
+{
+    let merged = counters.totals(rt, alloc, hasher, skip)?;
+    text_of_merged(alloc, &merged)
+}
+
+/// The same of what was counted of a file.
+fn text_of_counting<R: Threads + Sync + RandomSource>(
+    rt: &R,
+    alloc: Global,
+    hasher: RandomState,
+    counting: Counting,
+    options: &Options,
+) -> Result<Vec<u8>, Memory>
+    requires { (left left2 : _) × CountsFile options.now left left2 counting }
+{
+    let skip = usize::from(options.topics.len() != 0);
+    let counters = Counters::of(alloc, counting)?;
+    text_of_counters(rt, alloc, hasher, &counters, skip)
+}
+
+/// The same of a file that this many threads count, in windows of this size.
+fn text_by_stream<R: Threads + Sync + RandomSource>(
+    rt: &R,
+    alloc: Global,
+    file: &[u8],
+    options: &Options,
+    stream: (usize, usize),
+) -> Result<Vec<u8>, Refusal>
+    requires { AreInRange options.now }
+{
+    let Ok(hasher) = RandomState::new(rt) else {
+        return Err(Refusal::Memory);
+    };
+    let mut counting = Counting::new(alloc, hasher, stream.0, 1)?;
+    let mut source = FromRead::new(file);
+    count_file(rt, alloc, &mut source, options, stream.1, &mut counting)?;
+    Ok(text_of_counting(rt, alloc, hasher, counting, options)?)
+}
+
+/// Whether a file has the same counts, or the same fault, in all these ways.
+fn is_counted_alike<R: Threads + Sync + RandomSource>(
+    rt: &R,
+    alloc: Global,
+    file: &[u8],
+    options: &Options,
+) -> bool
+    requires { AreInRange options.now }
+{
+    let whole = text_by_logs(rt, alloc, file, options);
+    for stream in STREAMS {
+        if text_by_stream(rt, alloc, file, options, stream) != whole {
+            return false;
+        }
+    }
+    true
+}
+
+/// Pseudo-random numbers, from a linear congruential generator.
+#[derive(Drop)]
+struct Random {
+    state: u64,
+}
+
+impl Random {
+    /// A number below a bound.
+    fn below(&mut self, bound: u64) -> u64
+        requires { 0 < bound }
+        ensures { result < bound }
+    {
+        self.state = self
+            .state
+            .wrapping_mul(6_364_136_223_846_793_005)
+            .wrapping_add(1_442_695_040_888_963_407);
+        (self.state >> 33) % bound
+    }
+}
+
+/// The pieces of text that files are made of. The last ones are bad records.
+fn piece(n: u64) -> &'static str {
+    match n {
+        0..8 => "a,b\n",
+        8..16 => "b,a\r\n",
+        16..24 => "\"c\n,d\",b\n",
+        24..32 => "\"e\"\"\n\"\"\",a\r",
+        32..40 => "\n\r\n\n,b\n",
+        40..48 => "k,a\n",
+        48..56 => "\u{feff},\"b\"\n",
+        56 => "g\n",
+        57 => "h,i,j\n",
+        _ => "k,\"",
+    }
+}
+
+/// A file that begins with a header or not.
+fn file_of(alloc: Global, random: &mut Random, pieces: u64) -> Result<Vec<u8>, Memory> {
+    let mut file = Vec::from_slice(alloc, b"\r\nk,b\n")?;
+    for _ in 0..pieces {
+        file.extend_from_slice(piece(random.below(59)).as_bytes())?;
+    }
+    Ok(file)
+}
+
+/// The name of a column in some of these files' headers.
+fn named(alloc: Global, name: &[u8]) -> Result<Column, Memory> {
+    Ok(Column::Named(Vec::from_slice(alloc, name)?))
+}
+
+/// Whether a drawn file with a column of this number is counted alike.
+fn is_drawn_alike<R: Threads + Sync + RandomSource>(
+    rt: &R,
+    alloc: Global,
+    random: &mut Random,
+) -> Result<bool, Memory> {
+    let pieces = random.below(30);
+    let file = file_of(alloc, random, pieces)?;
+    let mut options = options(alloc, 4);
+    options.column = Column::Number(1 + random.below(2) as u32);
+    options.header = random.below(2) == 0;
+    Ok(is_counted_alike(rt, alloc, &file, &options))
+}
+
+/// The same of the column that a name in the header has, if it is there.
+fn is_named_alike<R: Threads + Sync + RandomSource>(
+    rt: &R,
+    alloc: Global,
+    random: &mut Random,
+    name: &[u8],
+) -> Result<bool, Memory> {
+    let pieces = random.below(30);
+    let file = file_of(alloc, random, pieces)?;
+    let mut options = options(alloc, 4);
+    options.header = true;
+    options.column = named(alloc, name)?;
+    Ok(is_counted_alike(rt, alloc, &file, &options))
+}
+
+/// The same of two topics, whose column has this name.
+fn are_topics_alike<R: Threads + Sync + RandomSource + Abort>(
+    rt: &R,
+    alloc: Global,
+    random: &mut Random,
+    name: &[u8],
+) -> Result<bool, Memory> {
+    let pieces = random.below(30);
+    let file = file_of(alloc, random, pieces)?;
+    let mut options = options_of_two(rt, alloc)?;
+    options.header = true;
+    options.topic_column = named(alloc, name)?;
+    Ok(is_counted_alike(rt, alloc, &file, &options))
+}
+
+#[test]
+fn any_file_is_counted_alike(rt: HostRuntime) -> Result<(), Fail> {
+    let mut random = Random { state: 1 };
+    for _ in 0..60 {
+        assert!(rt; is_drawn_alike(&rt, rt.alloc(), &mut random)?);
+    }
+    Ok(())
+}
+
+#[test]
+fn named_columns_are_counted_alike(rt: HostRuntime) -> Result<(), Fail> {
+    let mut random = Random { state: 2 };
+    for _ in 0..10 {
+        for name in [b"k", b"b", b"x"] {
+            assert!(rt; is_named_alike(&rt, rt.alloc(), &mut random, name)?);
+            assert!(rt; are_topics_alike(&rt, rt.alloc(), &mut random, name)?);
+        }
+    }
+    Ok(())
+}
+
+/// A file whose second record has a key of this length, with line feeds in it, and whose last has
+/// these fields.
+fn file_with_key(alloc: Global, len: usize, last: &[u8]) -> Result<Vec<u8>, Memory> {
+    let mut file = Vec::from_slice(alloc, b"a,b\n\"")?;
+    for _ in 0..len {
+        file.push(b'\n')?;
+    }
+    file.extend_from_slice(b"\",b\na,c\n")?;
+    file.extend_from_slice(last)?;
+    Ok(file)
+}
+
+/// Whether such a file is counted alike.
+fn is_key_alike<R: Threads + Sync + RandomSource>(
+    rt: &R,
+    alloc: Global,
+    len: usize,
+    last: &[u8],
+) -> Result<bool, Memory> {
+    let file = file_with_key(alloc, len, last)?;
+    Ok(is_counted_alike(rt, alloc, &file, &options(alloc, 4)))
+}
+
+#[test]
+fn long_keys_are_counted_alike(rt: HostRuntime) -> Result<(), Fail> {
+    for len in [22, 23, 65_535, 65_536] {
+        for last in [b"a,d\n", b"a,\"d", b"a\na\n"] {
+            assert!(rt; is_key_alike(&rt, rt.alloc(), len, last)?);
+        }
+    }
+    Ok(())
+}
