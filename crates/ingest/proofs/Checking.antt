@@ -146,6 +146,11 @@ checking-refills delimiter wanted header counts has_topics false end first first
       within = r.within;
     }
 
+-- at the end of a source nothing is read
+pub ended-reads : (at_end end : Bool) (left left2 : Option (List ℕ)) (window window2 : List ℕ) → at_end ≡ true → Refills at_end end left left2 window window2 → left2 ≡ left
+ended-reads true end left left2 window window2 is f = f.1
+ended-reads false end left left2 window window2 is f = absurd (cc is)
+
 -- a check has begun, if a log could be full behind the window
 pub record IsReady (delimiter : ℕ) (wanted : Taking) (header : Bool) (counts : List ℕ) (has_topics at_end : Bool) (first : List ℕ) (first_end : Bool) (left left2 : Option (List ℕ)) (window : List ℕ) (counting : Counting) (check : Option Limits) : Type 0 where
   pub checking : IsChecking delimiter wanted header counts has_topics at_end first first_end left left2 window counting check

@@ -1,5 +1,5 @@
 -- Which device failed, if a file is not counted to its end.
-use Rattle.std.proofs.Common.{◌≡◌, ℕ, Bool, true, false, List, [], ◌∷◌, ◌++◌, Option, Some, None, Result, Ok, Err, length, subst, sym, refl, inl, inr}
+use Rattle.std.proofs.Common.{◌≡◌, ◌+◌, ℕ, Bool, true, false, List, [], ◌∷◌, ◌++◌, Option, Some, None, Result, Ok, Err, length, subst, sym, refl, arith, inl, inr}
 use Rattle.std.specs.Prelude.{◌⊎◌, IfErr, if◌then◌else◌, nat_lt}
 use Rattle.std.specs.Option.{option_or}
 use Rattle.byte_io.specs.Devices.{IsReadFault}
@@ -95,6 +95,16 @@ pub read-count : (before after : ℕ) (e : Refusal) → IsReadFault before after
 read-count before after r.ReadFailed k = tt
 read-count before after r.Memory k = tt
 read-count before after e k = absurd k
+
+pub read-reads : (before after : ℕ) (e : Refusal) → IsReadFault before after e → after ≡ before + reads_of e
+read-reads before after r.ReadFailed k = k
+read-reads before after r.Memory k = omega (arith, k)
+read-reads before after e k = absurd k
+
+pub read-device : (before after : ℕ) (e : Refusal) → IsReadFault before after e → (e ≡ r.Memory) ⊎ (e ≡ r.ReadFailed)
+read-device before after r.ReadFailed k = inr refl
+read-device before after r.Memory k = inl refl
+read-device before after e k = absurd k
 
 pub device-count : (e : Refusal) → (e ≡ r.Memory) ⊎ (e ≡ r.ReadFailed) → IsCountFault e
 device-count e (inl memory) = subst IsCountFault (sym memory) tt

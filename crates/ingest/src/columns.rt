@@ -113,7 +113,7 @@ fn read_header<S: Source>(
         if has_header(alloc, windows.window.text(), delimiter)? {
             return Ok(());
         }
-        windows.go_on(0)?;
+        windows.grow()?;
     }
     Err(Refusal::Memory)
 }

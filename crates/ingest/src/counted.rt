@@ -2,7 +2,7 @@
 
 ghost use Rattle.std.specs.Prelude.{◌≡◌, ◌⊎◌, ◌+◌, ◌<◌, ◌≤◌, true, false, Err, IfErr, IfOk, List, None, OnOk, length, vec_len};
 ghost use Rattle.std.specs.Io.KnownBytes.{IsAtEnd};
-ghost use Rattle.byte_io.specs.Devices.{CanStillFail};
+ghost use Rattle.byte_io.specs.Devices.{CanStillFail, IsReadFault};
 ghost use Rattle.csv_ingest.specs.Private.Wanted.{taking};
 ghost use Rattle.csv_ingest.specs.Stand.{is_line_end};
 ghost use Rattle.key_counts.specs.Counts.{Entries};
@@ -13,7 +13,7 @@ ghost use Rattle.lane_words.specs.declared.limits.TheConstants.{MOST_RECORDS};
 ghost use Rattle.partitioner.specs.Place.{AreCounts};
 ghost use Rattle.ingest.specs.Counted.{CountsFile, HasCountedNothing, IsFileRefusal};
 ghost use Rattle.ingest.specs.Limits.{AreEntriesOfTopics};
-ghost use Rattle.ingest.specs.Private.Counted.{BeginsCheckBy, ChecksFound, ChecksWindowBy, Concludes, CountsColumns, CountsSourceBy, HasFaultBy, IsCheckedBy, IsCountFault, IsFirstFault, IsRefusalBy, IsRefusalWith, StartsBy, TakesTopics, keys_in_chunk};
+ghost use Rattle.ingest.specs.Private.Counted.{BeginsCheckBy, ChecksFound, ChecksRoundBy, Concludes, CountsColumns, CountsSourceBy, HasFaultBy, IsCheckedBy, IsCountFault, IsFirstFault, IsRefusalBy, IsRefusalWith, StartsBy, TakesTopics, keys_in_chunk};
 ghost use Rattle.ingest.specs.Reports.{AreInRange, IsNoStop, IsNoWrite, failed_reads};
 
 use crate::columns::{Columns, find_columns};
@@ -25,9 +25,10 @@ use byte_io::Source;
 use command_line::Options;
 use csv_ingest::take_chunk;
 use key_counts::Segment;
-use key_stream::{Counting, Layout};
+use key_stream::{Counting, Layout, take_and_read};
 use lane_words::{MOST_RECORDS, Memory, Refusal};
 use std::alloc::Global;
+use std::mem;
 use std::thread::Threads;
 
 /// How a file is counted.
@@ -111,36 +112,48 @@ fn check_chunk(
     }
 }
 
-/// Counts a window's first chunks, and gives their keys to a check, if there is one. Returns
-/// whether nothing is left of the file.
-fn count_window<R: Threads + Sync>(
+/// Counts a window's first chunks, and gives their keys to a check, if there is one. Meanwhile the
+/// next window is filled from the source. Returns whether nothing is left of the file.
+fn count_window<R: Threads + Sync, S: Source>(
     rt: &R,
     alloc: Global,
+    source: &mut S,
     counting: &mut Counting,
     check: &mut Option<LimitCheck>,
     windows: &mut Windows,
     layout: &Layout<'_>,
 ) -> Result<bool, Refusal>
+    requires failures { CanStillFail (S.failures source.old) }
     requires delimiter { is_line_end layout.now.delimiter ≡ false }
     requires marks { vec_len counting.old.marks ≡ vec_len counting.old.workers }
-    ensures ok { IfOk result (λ done. ChecksWindowBy layout.now windows.old done
-        counting.old counting.new windows.new.window check.old check.new) }
-    ensures end { OnOk result (windows.new.at_end ≡ windows.old.at_end) }
-    ensures err { IfErr result (λ e. (e ≡ refusal.Memory)
-        ⊎ HasFaultBy layout.now windows.old counting.old e) }
+    ensures marks { OnOk result (vec_len counting.new.marks ≡ vec_len counting.new.workers) }
+    ensures ok { IfOk result (λ done. ChecksRoundBy layout.now windows.old windows.new done
+        (S.left source.old) (S.left source.new) counting.old counting.new check.old check.new) }
+    ensures no_failures { OnOk result (S.failures source.new ≡ S.failures source.old) }
+    ensures err { IfErr result (λ e. IsReadFault (S.failures source.old) (S.failures source.new) e
+        ⊎ ((S.failures source.new ≡ S.failures source.old)
+        × ((e ≡ refusal.Memory) ⊎ HasFaultBy layout.now windows.old counting.old e))) }
 {
-    let at_end = windows.at_end;
     let width = counting.round.width;
-    let taken = match counting.take(rt, alloc, windows.window.text(), at_end, layout) {
-        Ok(taken) => taken,
+    let Windows {
+        window,
+        spare,
+        at_end,
+    } = windows;
+    let text = window.text();
+    let split = counting.split(alloc, text, *at_end, layout.delimiter)?;
+    let end = match take_and_read(rt, alloc, counting, &split, layout, source, spare) {
+        Ok(end) => end,
         Err(fault) => return Err(fault),
     };
-    match check_chunk(alloc, check, &windows.window.text()[..taken], width, layout) {
+    match check_chunk(alloc, check, &text[..split.taken], width, layout) {
         Ok(()) => {}
         Err(fault) => return Err(fault),
     }
-    let done = at_end && taken == windows.window.text().len();
-    windows.go_on(taken)?;
+    let done = *at_end && split.taken == text.len();
+    drop(split);
+    mem::swap(window, spare);
+    *at_end = end;
     Ok(done)
 }
 
@@ -170,16 +183,16 @@ fn count_windows<R: Threads + Sync, S: Source>(
     ensures kind { IfErr result IsCountFault }
     ensures reads { S.failures source.new ≡ S.failures source.old + failed_reads result }
 {
+    match windows.read_on(source) {
+        Ok(()) => {}
+        Err(fault) => return Err(fault),
+    }
     for _ in 0..u64::MAX {
-        match windows.read_on(source) {
-            Ok(()) => {}
-            Err(fault) => return Err(fault),
-        }
         let more = windows.window.text().len();
         let Ok(()) = begin_check(alloc, counting, check, more, plan) else {
             return Err(Refusal::Memory);
         };
-        match count_window(rt, alloc, counting, check, windows, &plan.layout) {
+        match count_window(rt, alloc, source, counting, check, windows, &plan.layout) {
             Ok(true) => return Ok(()),
             Ok(false) => {}
             Err(fault) => return Err(fault),

@@ -1,11 +1,11 @@
 //! The part of a source that is in memory.
 
-ghost use Rattle.std.specs.Prelude.{◌≡◌, ◌≤◌, [], false, IfErr, IfOk, OnOk, drop, length};
+ghost use Rattle.std.specs.Prelude.{◌≡◌, [], false, IfErr, IfOk, OnOk};
 ghost use Rattle.byte_io.specs.Devices.{CanStillFail, IsReadFault};
 ghost use Rattle.key_stream.specs.Counting.{Refills};
 
 use byte_io::Source;
-use key_stream::{Window, keep_rest, refill};
+use key_stream::{Window, refill};
 use lane_words::{Memory, Refusal};
 use std::alloc::Global;
 
@@ -46,13 +46,11 @@ impl Windows {
         Ok(())
     }
 
-    /// Goes on to the bytes behind the first `taken` ones of the window. If they fill the next
-    /// window, it grows.
-    pub fn go_on(&mut self, taken: usize) -> Result<(), Memory>
-        requires { taken ≤ length self.old.window }
-        ensures rest { OnOk result (self.new.window ≡ drop taken self.old.window) }
+    /// Makes the window larger, so that more of the source fits behind its bytes.
+    pub fn grow(&mut self) -> Result<(), Memory>
+        ensures window { OnOk result (self.new.window ≡ self.old.window) }
         ensures end { self.new.at_end ≡ self.old.at_end }
     {
-        keep_rest(&mut self.window, &mut self.spare, taken)
+        self.window.grow()
     }
 }

@@ -6,6 +6,7 @@ pub mod Lengths
 pub mod Marked
 pub mod Revealed
 pub mod Rounded
+pub mod Splits
 pub mod Started
 pub mod Taken
 pub mod TakenFirst

@@ -8,7 +8,9 @@ use Rattle.csv_ingest.specs.Rounds.{width_after_all}
 use Rattle.key_stream.specs.Chunks.{TakesChunk}
 use Rattle.key_stream.specs.Counting.{TakesPieces}
 use Rattle.key_stream.specs.Rounds.{HasFault, ReadsRound, entries_in}
+use Rattle.key_stream.specs.Splits.{HasSplitFault, TakesSplit}
 use Rattle.key_stream.specs.declared.counting.Counting.{Counting}
+use Rattle.key_stream.specs.declared.counting.Split.{Split}
 use Rattle.key_stream.specs.declared.round.Round.{Round}
 use Rattle.key_stream.specs.declared.worker.Layout.{Layout}
 use Rattle.key_stream.specs.declared.worker.Worker.{Worker}
@@ -50,3 +52,11 @@ HasFaultBy layout before pieces count fault =
 abbrev pub TakesPiecesBy : Layout → List (List ℕ) → ℕ → Counting → Counting → Type 0
 TakesPiecesBy layout pieces count old new =
     TakesPieces layout.delimiter (taking layout.wanted.now) layout.header pieces count old new
+
+abbrev pub TakesSplitBy : Layout → Split → Counting → Counting → Type 0
+TakesSplitBy layout split old new =
+    TakesSplit layout.delimiter (taking layout.wanted.now) layout.header split old new
+
+abbrev pub HasFaultInSplit : Layout → Split → Counting → Refusal → Type 0
+HasFaultInSplit layout split old fault =
+    HasSplitFault layout.delimiter (taking layout.wanted.now) layout.header split old fault

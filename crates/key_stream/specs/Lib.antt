@@ -4,4 +4,5 @@ pub mod Founds
 pub mod Layouts
 pub mod Reading
 pub mod Rounds
+pub mod Splits
 pub mod Tally

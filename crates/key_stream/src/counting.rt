@@ -1,13 +1,14 @@
 //! What was counted of a file so far.
 
-ghost use Rattle.std.specs.Prelude.{◌≡◌, ◌⊎◌, ◌≤◌, ◌<◌, ◌^◌, [], Bool, false, IfErr, IfOk, List, ℕ, OnOk, length, replicate, vec_len};
+ghost use Rattle.std.specs.Prelude.{◌≡◌, ◌⊎◌, ◌≤◌, ◌<◌, ◌^◌, [], Bool, false, IfErr, IfOk, List, ℕ, OnOk, drop, length, replicate, vec_len};
 ghost use Rattle.csv_ingest.specs.KeyFile.{Taking};
 ghost use Rattle.csv_ingest.specs.Stand.{is_line_end};
 ghost use Rattle.csv_ingest.specs.Private.Pieces.{bytes_of, lent};
 ghost use Rattle.csv_ingest.specs.Private.Wanted.{taking};
-ghost use Rattle.key_stream.specs.Counting.{HasFaultIn, IsCounted, TakesFirst, none};
-ghost use Rattle.key_stream.specs.Layouts.{HasFaultBy, TakesPiecesBy};
+ghost use Rattle.key_stream.specs.Counting.{IsCounted, none};
+ghost use Rattle.key_stream.specs.Layouts.{HasFaultBy, HasFaultInSplit, TakesPiecesBy, TakesSplitBy};
 ghost use Rattle.key_stream.specs.Rounds.{entries_in};
+ghost use Rattle.key_stream.specs.Splits.{IsSplitOf};
 ghost use Rattle.lane_words.specs.declared.Refusal.TheVariants as refusal;
 
 use crate::round::{Round, take_first};
@@ -35,6 +36,21 @@ pub struct Counting {
     pub least: usize,
 }
 
+/// A text that is split into the chunks of a round.
+#[derive(Debug, Drop)]
+pub struct Split<'t> {
+    /// The pieces of the text, one after another.
+    pub pieces: Vec<&'t [u8]>,
+    /// How many of them the workers take: the first ones.
+    pub count: usize,
+    /// How many bytes these have together.
+    pub taken: usize,
+    /// The bytes behind these.
+    pub rest: &'t [u8],
+    /// Whether nothing comes behind the text.
+    pub at_end: bool,
+}
+
 /// Workers that have taken nothing.
 fn idle_workers(alloc: Global, hasher: RandomState, count: usize) -> Result<Vec<Worker>, Memory>
     ensures { IfOk result (λ workers. entries_in workers.items ≡ replicate count none) }
@@ -60,6 +76,14 @@ fn length_of(pieces: &[&[u8]]) -> usize
         sum += pieces[i].len();
     }
     sum
+}
+
+/// The bytes of a text behind the first ones.
+fn rest_of(text: &[u8], taken: usize) -> &[u8]
+    requires { taken ≤ length text.now }
+    ensures { result.now ≡ drop taken text.now }
+{
+    &text[taken..]
 }
 
 /// How many chunks a text of this length is worth: one for each `least` bytes that it has, at most
@@ -139,42 +163,56 @@ impl Counting {
         Ok(())
     }
 
-    /// Takes the first chunks of a text, one for each worker at most, and returns how many bytes
-    /// they have: none if the text can't be split yet. `at_end` says that nothing comes behind it.
-    /// A short text is one chunk, which the calling thread takes. Fails with the fault of the first
-    /// bad record.
-    pub fn take<R: Threads + Sync>(
-        &mut self,
-        rt: &R,
+    /// Splits a text into the chunks of a round, one for each worker at most; a short text is one
+    /// chunk. `at_end` says that nothing comes behind it. Otherwise what is behind the last line
+    /// feed that is seen to end a record is left, and no byte is taken if there is none.
+    pub fn split<'t>(
+        &self,
         alloc: Global,
-        text: &[u8],
+        text: &'t [u8],
         at_end: bool,
-        layout: &Layout<'_>,
-    ) -> Result<usize, Refusal>
-        requires delimiter { is_line_end layout.now.delimiter ≡ false }
-        requires marks { vec_len self.old.marks ≡ vec_len self.old.workers }
-        ensures marks { OnOk result (vec_len self.new.marks ≡ vec_len self.new.workers) }
-        ensures len { vec_len self.new.workers ≡ vec_len self.old.workers }
-        ensures bound { IfOk result (λ n. n ≤ length text.now) }
-        ensures ok { IfOk result
-            (λ n. TakesFirst layout.now.delimiter (taking layout.now.wanted.now) layout.now.header
-            at_end text.now n self.old self.new) }
-        ensures err { IfErr result (λ e. (e ≡ refusal.Memory)
-            ⊎ HasFaultIn layout.now.delimiter
-            (taking layout.now.wanted.now) layout.now.header at_end text.now
-            self.old e) }
+        delimiter: u8,
+    ) -> Result<Split<'t>, Memory>
+        requires { is_line_end delimiter ≡ false }
+        ensures { IfOk result
+            (IsSplitOf delimiter at_end text.now (vec_len self.now.workers)) }
     {
         let behind = usize::from(!at_end);
         let workers = self.workers.len();
         let most = chunks_for(workers, text.len(), self.least).saturating_add(behind);
-        let pieces = pieces_of(alloc, text, layout.delimiter, most)?;
+        let pieces = pieces_of(alloc, text, delimiter, most)?;
         let count = workers.min(pieces.len().saturating_sub(behind));
-        if count == 0 {
-            return Ok(0);
+        let taken = length_of(&pieces[..count]);
+        Ok(Split {
+            pieces,
+            count,
+            taken,
+            rest: rest_of(text, taken),
+            at_end,
+        })
+    }
+
+    /// Takes the chunks of a split text, each in a thread of its own; one alone is taken by the
+    /// calling thread. Fails with the fault of the first bad record.
+    pub fn take<R: Threads + Sync>(
+        &mut self,
+        rt: &R,
+        alloc: Global,
+        split: &Split<'_>,
+        layout: &Layout<'_>,
+    ) -> Result<(), Refusal>
+        requires marks { vec_len self.old.marks ≡ vec_len self.old.workers }
+        requires split { (split.now.count ≤ vec_len self.old.workers)
+            × (split.now.count ≤ vec_len split.now.pieces) }
+        ensures marks { OnOk result (vec_len self.new.marks ≡ vec_len self.new.workers) }
+        ensures len { vec_len self.new.workers ≡ vec_len self.old.workers }
+        ensures ok { OnOk result (TakesSplitBy layout.now split.now self.old self.new) }
+        ensures err { IfErr result (λ e. (e ≡ refusal.Memory)
+            ⊎ HasFaultInSplit layout.now split.now self.old e) }
+    {
+        if split.count == 0 {
+            return Ok(());
         }
-        match self.take_pieces(rt, alloc, pieces.as_slice(), count, layout) {
-            Ok(()) => Ok(length_of(&pieces[..count])),
-            Err(fault) => Err(fault),
-        }
+        self.take_pieces(rt, alloc, split.pieces.as_slice(), split.count, layout)
     }
 }

@@ -1,11 +1,11 @@
 //! The keys of a file that is read as a stream, in rounds.
 //!
 //! It promises:
-//! - `Window` has the bytes that were read and not yet taken. `refill` reads on, and `keep_rest`
-//!   drops what was taken.
-//! - `Counting::take` counts the first chunks of a text, a thread for each, or a short text in the
-//!   calling thread: what is counted are the keys of the bytes that were taken, and a fault is that
-//!   of the file's first bad record.
+//! - `Window` has the bytes that were read and not yet taken, and `refill` reads on.
+//! - `Counting::split` splits a text into chunks, and `Counting::take` counts them, a thread for
+//!   each, or a short text in the calling thread: what is counted are the keys of the bytes that
+//!   were taken, and a fault is that of the file's first bad record.
+//! - `take_and_read` does so while it reads on into the next window.
 //! - `Counters::totals` returns the distinct keys in the order of their first appearance, and how
 //!   often each occurs.
 //!
@@ -13,6 +13,7 @@
 #![tactic(auto)]
 
 mod counting;
+mod overlap;
 mod round;
 mod segments;
 mod source;
@@ -21,9 +22,10 @@ mod verdict;
 mod window;
 mod worker;
 
-pub use counting::Counting;
+pub use counting::{Counting, Split};
+pub use overlap::take_and_read;
 pub use round::Round;
-pub use source::{keep_rest, refill};
+pub use source::refill;
 pub use tally::Counters;
 pub use window::Window;
 pub use worker::{Layout, Worker};

@@ -1,13 +1,12 @@
 //! A window that follows its source.
 
-ghost use Rattle.std.specs.Prelude.{◌≡◌, ◌≤◌, IfErr, IfOk, OnOk, drop, length};
+ghost use Rattle.std.specs.Prelude.{◌≡◌, IfErr, IfOk, OnOk};
 ghost use Rattle.byte_io.specs.Devices.{CanStillFail, IsReadFault};
 ghost use Rattle.key_stream.specs.Counting.{Refills};
 
 use crate::window::Window;
 use byte_io::Source;
-use lane_words::{Memory, Refusal};
-use std::mem;
+use lane_words::Refusal;
 
 /// Reads on into a window, unless its source is at its end, and returns whether it is now.
 pub fn refill<S: Source>(source: &mut S, window: &mut Window, at_end: bool) -> Result<bool, Refusal>
@@ -23,15 +22,4 @@ pub fn refill<S: Source>(source: &mut S, window: &mut Window, at_end: bool) -> R
     } else {
         window.read_on(source)
     }
-}
-
-/// Goes on to the bytes behind the first `taken` ones of a window. They go into the spare window,
-/// which is then the next.
-pub fn keep_rest(window: &mut Window, spare: &mut Window, taken: usize) -> Result<(), Memory>
-    requires { taken ≤ length window.old }
-    ensures { OnOk result (window.new ≡ drop taken window.old) }
-{
-    spare.begin_with(&window.text()[taken..])?;
-    mem::swap(window, spare);
-    Ok(())
 }

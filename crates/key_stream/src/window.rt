@@ -91,6 +91,15 @@ impl Window {
         Ok(())
     }
 
+    /// Makes the buffer twice as large.
+    pub fn grow(&mut self) -> Result<(), Memory>
+        ensures { OnOk result (self.new ≡ self.old) }
+    {
+        let size = self.buffer.len().saturating_mul(2).max(1);
+        self.buffer.resize(size, 0)?;
+        Ok(())
+    }
+
     /// Reads on until the buffer is full or the source is at its end, and returns whether it is at
     /// its end.
     pub fn read_on<S: Source>(&mut self, source: &mut S) -> Result<bool, Refusal>

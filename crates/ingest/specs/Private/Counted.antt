@@ -13,7 +13,7 @@ use Rattle.key_counts.specs.Counts.{Entries}
 use Rattle.key_counts.specs.Rounds.{HaveTaken}
 use Rattle.key_counts.specs.Segments.{keys_of}
 use Rattle.key_counts.specs.declared.merging.Segment.{Segment}
-use Rattle.key_stream.specs.Counting.{CountsWindow, HasFaultIn, IsCounted}
+use Rattle.key_stream.specs.Counting.{CountsWindow, HasFaultIn, IsCounted, Refills}
 use Rattle.key_stream.specs.Rounds.{entries_in}
 use Rattle.key_stream.specs.declared.counting.Counting.{Counting}
 use Rattle.key_stream.specs.declared.worker.Layout.{Layout}
@@ -90,6 +90,14 @@ pub record ChecksWindow (delimiter : ℕ) (wanted : Taking) (header at_end done 
   pub checks : ChecksFound
       (chunk_keys delimiter wanted header old.round.width (take counts.n window)) check check2
 
+-- the same, and the next window was filled behind what was left
+pub record ChecksRound (delimiter : ℕ) (wanted : Taking) (header at_end end done : Bool)
+    (left left2 : Option (List ℕ)) (old new : Counting) (window window2 : List ℕ)
+    (check check2 : Option Limits) : Type 0 where
+  pub rest : List ℕ
+  pub checks : ChecksWindow delimiter wanted header at_end done old new window rest check check2
+  pub reads : Refills at_end end left left2 rest window2
+
 -- ---- a source that is counted
 -- bytes of a file: those that a window had, and those that were read from its source since, which
 -- may have been at its end before
@@ -152,11 +160,11 @@ abbrev pub keys_in_chunk : Layout → Option ℕ → List ℕ → Result (List K
 keys_in_chunk layout width chunk =
     chunk_keys layout.delimiter (taking layout.wanted.now) layout.header width chunk
 
-abbrev pub ChecksWindowBy : Layout → Windows → Bool → Counting → Counting → List ℕ
-    → Option Limits → Option Limits → Type 0
-ChecksWindowBy layout windows done old new window2 check check2 =
-    ChecksWindow layout.delimiter (taking layout.wanted.now) layout.header windows.at_end done
-    old new windows.window window2 check check2
+abbrev pub ChecksRoundBy : Layout → Windows → Windows → Bool → Option (List ℕ)
+    → Option (List ℕ) → Counting → Counting → Option Limits → Option Limits → Type 0
+ChecksRoundBy layout windows windows2 done left left2 old new check check2 =
+    ChecksRound layout.delimiter (taking layout.wanted.now) layout.header windows.at_end
+    windows2.at_end done left left2 old new windows.window windows2.window check check2
 
 abbrev pub HasFaultBy : Layout → Windows → Counting → Refusal → Type 0
 HasFaultBy layout windows old fault =
