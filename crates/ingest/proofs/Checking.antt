@@ -10,6 +10,7 @@ use Rattle.lane_words.specs.declared.Refusal.TheVariants as refusal
 use Rattle.lane_words.specs.declared.limits.TheConstants.{MOST_RECORDS}
 use Rattle.csv_ingest.specs.KeyFile.{Taking, taken_of}
 use Rattle.csv_ingest.specs.Pieces.{file_records}
+use Rattle.csv_ingest.specs.Private.Pieces.{lent}
 use Rattle.csv_ingest.specs.Rounds.{HasRead, IsSplitPoint, chunk_keys}
 use Rattle.csv_ingest.proofs.Joined.{keys_of-few}
 use Rattle.csv_ingest.proofs.Pieces.{keys_from-count}
@@ -20,7 +21,10 @@ use Rattle.key_counts.specs.Segments.{keys_of}
 use Rattle.key_counts.specs.declared.merging.Segment.{Segment}
 use Rattle.key_stream.specs.Counting.{HasFaultIn, IsCounted, Refills, TakesFirst}
 use Rattle.key_stream.specs.Rounds.{entries_in}
+use Rattle.key_stream.specs.Splits.{IsSplitOf}
 use Rattle.key_stream.specs.declared.counting.Counting.{Counting}
+use Rattle.key_stream.specs.declared.counting.Split.{Split}
+use Rattle.key_stream.proofs.TakenFirst.{front-within}
 use Rattle.partition_log.specs.Keys.{Key, distinct}
 use Rattle.partition_log.specs.Keys.{keys_in as keys_in_records}
 use Rattle.ingest.specs.Limits.{AreEntriesOfTopics, BeginsAfter, IsLimitCheck, Limits, record_taken, records_taken}
@@ -145,6 +149,13 @@ checking-refills delimiter wanted header counts has_topics false end first first
       split = λ more end_is. subst (IsSplitPoint delimiter r.read) (sym (append_assoc window got more) ∙ ap (λ xs. xs ++ more) (sym f.0.1)) (r.split (got ++ more) (λ e. cc e));
       within = r.within;
     }
+
+-- what is taken of a split text are bytes of it
+pub split-within : (delimiter : ℕ) (at_end : Bool) (text : List ℕ) (workers : ℕ) (split : Split) → IsSplitOf delimiter at_end text workers split → split.taken ≤ length text
+split-within delimiter at_end text workers split so =
+    let few = front-within delimiter (lent split.pieces.items) text split.count so.pieces in
+    let is = so.taken in
+    omega (arith, few, is)
 
 -- at the end of a source nothing is read
 pub ended-reads : (at_end end : Bool) (left left2 : Option (List ℕ)) (window window2 : List ℕ) → at_end ≡ true → Refills at_end end left left2 window window2 → left2 ≡ left

@@ -1,4 +1,4 @@
-use Rattle.std.proofs.Common.{◌∙◌, [], ap, arith, inl, inr, length, subst, sym, true}
+use Rattle.std.proofs.Common.{◌∙◌, [], ℕ, List, Option, ap, arith, inl, inr, length, subst, sym, true}
 use Rattle.csv_ingest.specs.Private.Wanted.{taking}
 use Rattle.ingest.specs.Private.Counted.{IsChecking}
 use Rattle.ingest.proofs.Checking.{checking-begins, checking-counts, checking-ends, checking-fails, checking-refills, checking-starts, ended-reads, entries-topics}
@@ -23,8 +23,8 @@ returns-in-Ok-true-clause-ok g c =
     let round = c.in-Ok-true.ensures.ok in
     let ready = checking-begins _ _ _ _ _ _ _ _ _ _ _ _ c.loop.check c.begin_check.new.check (length c.text-more.result.now) c.loop.invariant.checking (ap length c.text-more.ensures) c.in-Ok-begin_check.ensures in
     let all = round.checks.counts.all c.in-Ok-true.field-0-test in
-    let left = ended-reads _ _ _ _ _ _ all.0 round.reads in
-    subst (λ left2. IsChecking layout.delimiter (taking layout.wanted.now) layout.header c.args.plan.now.counts.now c.args.plan.now.has_topics true c.args.windows.now.window c.args.windows.now.at_end _ left2 [] c.count_window.new.counting c.count_window.new.check) (sym left)
+    let left = ended-reads _ c.count_window.new.windows.at_end _ _ _ _ all.0 round.reads in
+    subst (λ (left2 : Option (List ℕ)). IsChecking layout.delimiter (taking layout.wanted.now) layout.header c.args.plan.now.counts.now c.args.plan.now.has_topics true c.args.windows.now.window c.args.windows.now.at_end (g.S.Source.left c.args.source.now) left2 [] c.count_window.new.counting c.count_window.new.check) (sym left)
     (checking-ends _ _ _ _ _ _ _ _ _ _ _ _ _ _ _ _ _ c.requires.topics ready round.checks c.in-Ok-true.field-0-test)
 
 pub loop-preserved : goal.loop-preserved
