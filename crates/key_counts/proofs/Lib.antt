@@ -1,5 +1,6 @@
+pub mod Flags
 pub mod Growing
-pub mod HashLists
+pub mod Made
 pub mod Marks
 pub mod Partition
 pub mod Parts

@@ -1,5 +1,5 @@
 -- Marked cells, and the keys that have no twin.
-use Rattle.std.proofs.Common.{◌≡◌, ◌≢◌, ◌∙◌, ◌+◌, ◌<◌, ◌≤◌, ℕ, true, false, List, [], ◌∷◌, ◌++◌, Vec, Global, length, map, min, cond, get_or, sym, ap, refl, subst, arith, inl, inr, get_or-set_same, get_or-set_other}
+use Rattle.std.proofs.Common.{◌≡◌, ◌≢◌, ◌∙◌, ◌+◌, ◌<◌, ◌≤◌, ℕ, true, false, List, [], ◌∷◌, ◌++◌, length, map, min, cond, get_or, sym, ap, refl, subst, arith, inl, inr, get_or-set_same, get_or-set_other}
 use Rattle.std.specs.Prelude.{count_by, slice_set, vec_items}
 use Rattle.std.specs.Str.{bytes_eq}
 use Rattle.std.proofs.lemmas.Bool.{both_ways, cases_Bool, cases_eq, cases_lt, eq-eqb, ne_eqb}
@@ -57,10 +57,6 @@ marked-yes place part done key cells at new p c below is marked = λ cell lt.
     ]
 
 -- ---- the marks of all parts
-pub part-default : (parts : List (Vec ℕ Global)) (w : ℕ) → w < length parts → Vec ℕ Global
-part-default [] w lt = absurd (omega arith)
-part-default (v ∷ parts) w lt = v
-
 pub once : (filter : Filter) (keys : List Key) → ((part : ℕ) → part < PARTS → AreMarked filter.place part keys (get_or (map vec_items filter.parts.items) part [])) → AreOnce (is_shared filter) keys
 unfolding is_shared
 once filter keys marked = λ x alone.

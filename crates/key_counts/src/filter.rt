@@ -4,17 +4,17 @@ ghost use Rattle.std.specs.Prelude.{◌≡◌, ◌<◌, ◌≤◌, ◌++◌, ◌
 ghost use Rattle.key_index.specs.Keys.{Key};
 ghost use Rattle.key_index.specs.Private.KeyHash.{hash_of};
 ghost use Rattle.key_counts.specs.Counts.{Entries};
-ghost use Rattle.key_counts.specs.Private.Filter.{AreMarked, AreMarkedFrom, AreOnce, ArePartsMarked, ArePartsOf, cell_of, is_shared, mark_at, part_of};
-ghost use Rattle.key_counts.specs.Private.Hashes.{AreHashesOf, HasHashes, IsHashed, hashes_in};
+ghost use Rattle.key_counts.specs.Private.Filter.{AreMarked, AreMarkedFrom, IsFilterOf, cell_of, is_shared, mark_at, part_of};
+ghost use Rattle.key_counts.specs.Private.Hashes.{AreHashesOf, IsHashed};
 ghost use Rattle.key_counts.specs.Private.Parts.{part_behind};
-ghost use Rattle.key_counts.specs.Segments.{IsSegment, keys_behind};
+ghost use Rattle.key_counts.specs.Private.Results.{AreFound};
 
-use crate::counts::KeyCounts;
-use crate::hashes::{hashes_in, hashes_of};
+use crate::hashes::hashes_in;
 use crate::merging::Segment;
+use crate::results::no_results;
 use key_index::KeyHash;
 use lane_words::Memory;
-use parallel::LEAST_KEYS;
+use parallel::{LEAST_KEYS, collected};
 use std::alloc::Global;
 use std::thread;
 use std::thread::Threads;
@@ -41,8 +41,6 @@ pub struct Filter {
     place: Place,
     /// The marks of the cells of each part: how many keys have the cell, 2 for two and more.
     parts: Vec<Vec<u8>>,
-    /// The hash of each entry of each worker.
-    hashes: Vec<Vec<u64>>,
 }
 
 /// The part of the cell of a hash.
@@ -88,58 +86,55 @@ fn mark_segment(cells: &mut [u8], place: &Place, part: usize, hashes: &[u64], se
     }
 }
 
-/// Marks the cells of the keys of these segments, from the hashes of each worker's entries.
-fn mark_segments(
-    cells: &mut Vec<u8>,
+/// The cells of a part, marked from the hashes of each worker's entries.
+fn marked_cells(
+    alloc: Global,
     place: &Place,
-    part: usize,
     hashes: &[Vec<u64>],
     segments: &[Segment],
-)
+    part: usize,
+) -> Result<Vec<u8>, Memory>
     requires { All (IsHashed hashes.now) segments.now }
-    ensures { AreMarkedFrom place.now part hashes.now segments.now cells.old cells.new }
+    ensures { IfOk result (λ cells.
+        AreMarkedFrom place.now hashes.now segments.now part cells.items) }
 {
+    let mut cells = vec![in alloc; 0u8; place.mask.saturating_add(1)]?;
     for i in 0..segments.len() {
         let segment = segments[i];
         let own = hashes_in(hashes, segment.worker);
-        mark_segment(cells, place, part, own, segment);
+        mark_segment(&mut cells, place, part, own, segment);
     }
+    Ok(cells)
 }
 
 /// Marks the cells of each part, in so many threads at most.
-fn mark_parts<R: Threads + Sync>(
+fn mark_parallel<R: Threads + Sync>(
     rt: &R,
-    parts: &mut [Vec<u8>],
+    alloc: Global,
     place: &Place,
     hashes: &[Vec<u64>],
     segments: &[Segment],
     threads: usize,
-)
+) -> Result<Vec<Result<Vec<u8>, Memory>>, Memory>
     requires threads { 0 < threads }
     requires segments { All (IsHashed hashes.now) segments.now }
-    ensures { ArePartsMarked place.now hashes.now segments.now parts.old parts.new }
+    ensures { IfOk result (λ found.
+        AreFound PARTS (AreMarkedFrom place.now hashes.now segments.now) found.items) }
 {
+    let mut found = no_results(alloc, PARTS)?;
     thread::for_each_mut(
         rt,
-        parts,
+        &mut found,
         threads,
-        &|part, cells: &mut Vec<u8>| mark_segments(cells, place, part, hashes, segments),
+        &|part, own: &mut Result<Vec<u8>, Memory>| {
+            *own = marked_cells(alloc, place, hashes, segments, part);
+        },
     );
-}
-
-/// The cells of each part, which no key has.
-fn no_marks(alloc: Global, place: &Place) -> Result<Vec<Vec<u8>>, Memory>
-    ensures { IfOk result (λ parts. ArePartsOf place.now [] parts.items) }
-{
-    let mut parts = Vec::with_capacity(alloc, PARTS)?;
-    for _part in 0..PARTS {
-        parts.push(vec![in alloc; 0u8; place.mask.saturating_add(1)]?)?;
-    }
-    Ok(parts)
+    Ok(found)
 }
 
 /// In how many threads work on so many pieces is done. Few entries are not worth a thread.
-fn threads_for(place: &Place, pieces: usize) -> usize
+pub fn threads_for(place: &Place, pieces: usize) -> usize
     ensures { 0 < result }
 {
     // A part has as many cells as there are entries, or more.
@@ -164,39 +159,23 @@ fn mark_at(parts: &[Vec<u8>], part: usize, cell: usize) -> u8
 }
 
 impl Filter {
-    /// The filter of the keys of these segments, each without its first `skip` bytes.
+    /// The filter of the keys of these segments, from the hashes of each worker's entries.
     pub fn of<R: Threads + Sync>(
         rt: &R,
         alloc: Global,
         place: Place,
-        workers: &[KeyCounts],
+        hashes: &[Vec<u64>],
         segments: &[Segment],
-        skip: usize,
     ) -> Result<Filter, Memory>
-        requires { All (IsSegment workers.now) segments.now }
-        ensures once { IfOk result (λ filter.
-            AreOnce (is_shared filter) (keys_behind skip workers.now segments.now)) }
-        ensures hashes { IfOk result (λ filter. HasHashes filter skip workers.now) }
+        requires segments { All (IsHashed hashes.now) segments.now }
+        ensures { IfOk result (IsFilterOf place hashes.now segments.now) }
     {
-        let threads = threads_for(&place, workers.len());
-        let hashes = hashes_of(rt, alloc, &place.hasher, workers, skip, threads)?;
-        let mut parts = no_marks(alloc, &place)?;
         let threads = threads_for(&place, PARTS);
-        mark_parts(rt, &mut parts, &place, hashes.as_slice(), segments, threads);
+        let found = mark_parallel(rt, alloc, &place, hashes, segments, threads)?;
         Ok(Filter {
             place,
-            parts,
-            hashes,
+            parts: collected(alloc, found)?,
         })
-    }
-
-    /// The hashes of one worker's entries.
-    #[inline(always)]
-    pub fn hashes_in(&self, worker: usize) -> &[u64]
-        requires { worker < length self.now.hashes.items }
-        ensures { result.now ≡ hashes_in self.now.hashes.items worker }
-    {
-        hashes_in(self.hashes.as_slice(), worker)
     }
 
     /// Whether a key of this hash may have a twin.

@@ -16,8 +16,10 @@ mod counts;
 mod filter;
 mod hashes;
 mod merging;
+mod results;
 mod shared;
 mod slots;
+mod twins;
 mod waiting;
 
 pub use counter::KeyCounter;

@@ -3,16 +3,16 @@
 ghost use Rattle.std.specs.Prelude.{◌≡◌, ◌<◌, ◌≤◌, ◌+◌, ◌-◌, ◌^◌, ℕ, List, All, IfOk, OnOk, drop, length, true, false};
 ghost use Rattle.key_counts.specs.Counts.{total};
 ghost use Rattle.key_counts.specs.Partition.{HasCounts};
-ghost use Rattle.key_counts.specs.Private.Filter.{is_shared};
-ghost use Rattle.key_counts.specs.Private.Hashes.{HasHashes, HasHashesOf};
 ghost use Rattle.key_counts.specs.Private.Parts.{IsPartOf};
+ghost use Rattle.key_counts.specs.Private.Twins.{HasFlags, HasFlagsOf, may_have_twin};
 ghost use Rattle.key_counts.specs.Private.Walks.{AreTotalled, IsStart, WalksOn, WalksOver};
 ghost use Rattle.key_counts.specs.Segments.{IsSegment, counts_of, is_key, keys_behind, keys_of, merged_counts};
 ghost use Rattle.key_index.specs.Keys.{Key, distinct, lent};
 
 use crate::counts::KeyCounts;
-use crate::filter::{Filter, Place};
+use crate::filter::Place;
 use crate::shared::{Totals, gathered};
+use crate::twins::Twins;
 use key_index::KeyHash;
 use lane_words::{MOST_RECORDS, Memory};
 use std::alloc::Global;
@@ -132,22 +132,22 @@ impl<'a> Walk<'a> {
     /// Takes the entries of a segment.
     fn take_segment(
         &mut self,
-        marks: &Filter,
+        twins: &Twins,
         shared: &Totals,
         entries: &'a KeyCounts,
         segment: Segment,
         skip: usize,
     ) -> Result<(), Memory>
         requires part { IsPartOf entries.now segment }
-        requires hashes { HasHashesOf marks.now skip entries.now segment.worker }
-        ensures { OnOk result (WalksOver (is_shared marks.now) shared.now skip entries.now segment
+        requires flags { HasFlagsOf twins.now skip entries.now segment.worker }
+        ensures { OnOk result (WalksOver (may_have_twin twins.now) shared.now skip entries.now segment
             self.old self.new) }
     {
         let counts = entries.counts();
-        let hashes = marks.hashes_in(segment.worker);
+        let flags = twins.flags_in(segment.worker);
         for code in segment.from..segment.to {
             let key = behind(entries.key(code), skip);
-            if marks.is_shared(hashes[code]) {
+            if flags[code] {
                 self.take_shared(key, shared)?;
             } else {
                 self.take_unique(key, counts[code], shared)?;
@@ -160,7 +160,7 @@ impl<'a> Walk<'a> {
 /// Merges the entries of these segments, in their order.
 fn walked<'a>(
     mut walk: Walk<'a>,
-    marks: &Filter,
+    twins: &Twins,
     shared: &Totals,
     workers: &'a [KeyCounts],
     segments: &[Segment],
@@ -169,8 +169,8 @@ fn walked<'a>(
     requires start { IsStart walk }
     requires counted { All HasCounts workers.now }
     requires segments { All (IsSegment workers.now) segments.now }
-    requires hashes { HasHashes marks.now skip workers.now }
-    requires shared { AreTotalled (is_shared marks.now) (keys_behind skip workers.now segments.now)
+    requires flags { HasFlags twins.now skip workers.now }
+    requires shared { AreTotalled (may_have_twin twins.now) (keys_behind skip workers.now segments.now)
         (counts_of workers.now segments.now) shared.now }
     ensures keys { IfOk result
         (λ m. lent m.keys.items ≡ distinct (keys_behind skip workers.now segments.now)) }
@@ -180,7 +180,7 @@ fn walked<'a>(
     for i in 0..segments.len() {
         let segment = segments[i];
         let entries = &workers[segment.worker];
-        walk.take_segment(marks, shared, entries, segment, skip)?;
+        walk.take_segment(twins, shared, entries, segment, skip)?;
     }
     let Walk { keys, counts, .. } = walk;
     Ok(Merged { keys, counts })
@@ -219,12 +219,12 @@ pub fn merge<'a, R: Threads + Sync + RandomSource>(
     are_counted(workers);
     let entries = len_of(workers, segments)?;
     let place = place_of(hasher, entries);
-    let marks = Filter::of(rt, alloc, place, workers, segments, skip)?;
-    let shared = gathered(alloc, &marks, workers, segments, skip)?;
+    let twins = Twins::of(rt, alloc, place, workers, segments, skip)?;
+    let shared = gathered(alloc, &twins, workers, segments, skip)?;
     let totals = shared.totals(rt, alloc, most_entries(workers).min(shared.keys.len()))?;
     let unique = entries.saturating_sub(totals.ids.len());
     let walk = Walk::new(alloc, unique.saturating_add(totals.totals.len()))?;
-    walked(walk, &marks, &totals, workers, segments, skip)
+    walked(walk, &twins, &totals, workers, segments, skip)
 }
 
 /// Each of these workers' entries has a count.

@@ -3,17 +3,16 @@
 ghost use Rattle.std.specs.Prelude.{◌≡◌, ◌<◌, ◌≤◌, ◌+◌, ◌++◌, ◌^◌, ℕ, All, IfOk, OnOk, filter, length, map, slice_index};
 ghost use Rattle.key_counts.specs.Counts.{total};
 ghost use Rattle.key_counts.specs.Partition.{HasCounts};
-ghost use Rattle.key_counts.specs.Private.Filter.{is_shared};
-ghost use Rattle.key_counts.specs.Private.Hashes.{HasHashes, HasHashesOf};
 ghost use Rattle.key_counts.specs.Private.Parts.{IsPartOf, part_behind};
 ghost use Rattle.key_counts.specs.Private.Totals.{AreAddable, AreAdded, AreNumbered, AreTotals, added};
+ghost use Rattle.key_counts.specs.Private.Twins.{HasFlags, HasFlagsOf, may_have_twin};
 ghost use Rattle.key_counts.specs.Private.Walks.{kept_in, kept_of};
 ghost use Rattle.key_counts.specs.Segments.{IsSegment, is_key, keys_behind, totals_of};
 ghost use Rattle.key_index.specs.Keys.{Key, distinct, id_of, lent};
 
 use crate::counts::KeyCounts;
-use crate::filter::Filter;
 use crate::merging::{Segment, behind};
+use crate::twins::Twins;
 use key_index::{KeyDictionary, KeyMap, split_keys};
 use lane_words::{MOST_RECORDS, Memory};
 use parallel::LEAST_KEYS;
@@ -44,22 +43,22 @@ pub struct Totals {
 fn gather<'a>(
     keys: &mut Vec<&'a [u8]>,
     counts: &mut Vec<u64>,
-    marks: &Filter,
+    twins: &Twins,
     entries: &'a KeyCounts,
     segment: Segment,
     skip: usize,
 ) -> Result<(), Memory>
     requires part { IsPartOf entries.now segment }
-    requires hashes { HasHashesOf marks.now skip entries.now segment.worker }
+    requires flags { HasFlagsOf twins.now skip entries.now segment.worker }
     ensures keys { OnOk result (lent keys.new.items ≡ lent keys.old.items
-        ++ filter (is_shared marks.now) (part_behind skip entries.now segment)) }
+        ++ filter (may_have_twin twins.now) (part_behind skip entries.now segment)) }
     ensures counts { OnOk result (counts.new.items ≡ counts.old.items
-        ++ kept_in (is_shared marks.now) skip entries.now segment) }
+        ++ kept_in (may_have_twin twins.now) skip entries.now segment) }
 {
     let all = entries.counts();
-    let hashes = marks.hashes_in(segment.worker);
+    let flags = twins.flags_in(segment.worker);
     for code in segment.from..segment.to {
-        if marks.is_shared(hashes[code]) {
+        if flags[code] {
             keys.push(behind(entries.key(code), skip))?;
             counts.push(all[code])?;
         }
@@ -70,25 +69,25 @@ fn gather<'a>(
 /// The entries of these segments that may share a key.
 pub fn gathered<'a>(
     alloc: Global,
-    marks: &Filter,
+    twins: &Twins,
     workers: &'a [KeyCounts],
     segments: &[Segment],
     skip: usize,
 ) -> Result<Shared<'a>, Memory>
     requires counted { All HasCounts workers.now }
     requires segments { All (IsSegment workers.now) segments.now }
-    requires hashes { HasHashes marks.now skip workers.now }
+    requires flags { HasFlags twins.now skip workers.now }
     ensures keys { IfOk result (λ shared. lent shared.keys.items
-        ≡ filter (is_shared marks.now) (keys_behind skip workers.now segments.now)) }
+        ≡ filter (may_have_twin twins.now) (keys_behind skip workers.now segments.now)) }
     ensures counts { IfOk result (λ shared. shared.counts.items
-        ≡ kept_of (is_shared marks.now) skip workers.now segments.now) }
+        ≡ kept_of (may_have_twin twins.now) skip workers.now segments.now) }
 {
     let mut keys = Vec::new(alloc);
     let mut counts = Vec::new(alloc);
     for i in 0..segments.len() {
         let segment = segments[i];
         let entries = &workers[segment.worker];
-        gather(&mut keys, &mut counts, marks, entries, segment, skip)?;
+        gather(&mut keys, &mut counts, twins, entries, segment, skip)?;
     }
     Ok(Shared { keys, counts })
 }
@@ -103,7 +102,7 @@ struct KeyNumbers {
 }
 
 /// Numbers keys one after another, in this thread.
-fn numbered_in_turn(
+fn numbered_sequential(
     alloc: Global,
     hasher: RandomState,
     keys: &[&[u8]],
@@ -160,7 +159,7 @@ fn numbered<R: Threads + Sync + RandomSource>(
     let Ok(hasher) = RandomState::new(rt) else {
         return Err(Memory);
     };
-    numbered_in_turn(alloc, hasher, keys)
+    numbered_sequential(alloc, hasher, keys)
 }
 
 /// Adds each count to the total of its key number.

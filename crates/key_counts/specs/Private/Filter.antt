@@ -30,28 +30,11 @@ abbrev pub AreMarked : Place → ℕ → List Key → List ℕ → Type 0
 AreMarked place part keys cells = (cell : ℕ) → cell < length cells
     → slice_index cells cell ≡ min 2 (count_by (is_at place part cell) keys)
 
--- cells that no key had, marked from the hashes of the entries of these segments
-abbrev pub AreMarkedFrom : Place → ℕ → List (Vec ℕ Global) → List Segment → Vec ℕ Global
-    → Vec ℕ Global → Type 0
-AreMarkedFrom place part hashes segments old new =
+-- the same from the hashes of the entries of these segments
+abbrev pub AreMarkedFrom : Place → List (Vec ℕ Global) → List Segment → ℕ → List ℕ → Type 0
+AreMarkedFrom place hashes segments part cells =
     (workers : List Entries) (skip : ℕ) → AreHashed place.hasher skip workers hashes
-    → AreMarked place part [] old.items
-    → AreMarked place part (keys_behind skip workers segments) new.items
-
--- each part
-pub record ArePartsMarked (place : Place) (hashes : List (Vec ℕ Global)) (segments : List Segment)
-    (olds news : List (Vec ℕ Global)) : Type 0 where
-  pub len : length news ≡ length olds
-  pub each : (part : ℕ) (d : Vec ℕ Global) → part < length olds
-      → AreMarkedFrom place part hashes segments (slice_index_or olds part d)
-      (slice_index_or news part d)
-
--- the marked cells of all parts
-pub record ArePartsOf (place : Place) (keys : List Key) (parts : List (Vec ℕ Global))
-    : Type 0 where
-  pub len : length parts ≡ PARTS
-  pub each : (part : ℕ) → part < PARTS
-      → AreMarked place part keys (slice_index_or (map vec_items parts) part [])
+    → AreMarked place part (keys_behind skip workers segments) cells
 
 -- the mark of a cell
 abbrev pub mark_at : List (List ℕ) → ℕ → ℕ → ℕ
@@ -66,3 +49,10 @@ is_shared filter key =
 -- a key that is not shared is among these once at most
 abbrev pub AreOnce : (Key → Bool) → List Key → Type 0
 AreOnce shared keys = (x : Key) → shared x ≡ false → count_by (bytes_eq x) keys ≤ 1
+
+-- the filter of the keys of these segments, from the hashes of their workers' entries
+pub record IsFilterOf (place : Place) (hashes : List (Vec ℕ Global)) (segments : List Segment)
+    (filter : Filter) : Type 0 where
+  pub placed : filter.place ≡ place
+  pub once : (workers : List Entries) (skip : ℕ) → AreHashed place.hasher skip workers hashes
+      → AreOnce (is_shared filter) (keys_behind skip workers segments)

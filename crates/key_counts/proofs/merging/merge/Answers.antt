@@ -3,7 +3,7 @@ use Rattle.std.proofs.lemmas.List.{length-map}
 use Rattle.std.proofs.lemmas.List.Sums.{count_by-le-length, length-filter}
 use Rattle.key_index.specs.Keys.{Key, distinct, id_of}
 use Rattle.key_counts.specs.Counts.{total}
-use Rattle.key_counts.specs.Private.Filter.{is_shared}
+use Rattle.key_counts.specs.Private.Twins.{may_have_twin}
 use Rattle.key_counts.specs.Segments.{counts_of, is_key, keys_behind, keys_of, totals_of}
 use Rattle.key_counts.proofs.Parts.{counts-len}
 use Rattle.key_counts.proofs.Walks.{kept-le, kept-length}
@@ -11,7 +11,7 @@ use Rattle.key_counts.proofs.merging.merge.Goals as goal
 
 pub totals-requires-clause-bound : goal.totals-requires-clause-bound
 totals-requires-clause-bound g c κs within =
-    let p : Key → Bool = is_shared c.in_ok-marks.marks in
+    let p : Key → Bool = may_have_twin c.in_ok-twins.twins in
     let all = keys_behind c.args.skip c.args.workers.now c.args.segments.now in
     let items = c.in_ok-shared.shared.keys.items in
     omega (
@@ -27,7 +27,7 @@ totals-requires-clause-bound g c κs within =
 
 pub totals-requires-clause-len : goal.totals-requires-clause-len
 totals-requires-clause-len g c κs within =
-    let p : Key → Bool = is_shared c.in_ok-marks.marks in
+    let p : Key → Bool = may_have_twin c.in_ok-twins.twins in
     let all = keys_behind c.args.skip c.args.workers.now c.args.segments.now in
     let counts = counts_of c.args.workers.now c.args.segments.now in
     let items = c.in_ok-shared.shared.keys.items in
@@ -36,7 +36,7 @@ totals-requires-clause-len g c κs within =
 
 pub totals-requires-clause-sums : goal.totals-requires-clause-sums
 totals-requires-clause-sums g c κs within = λ x.
-    let p : Key → Bool = is_shared c.in_ok-marks.marks in
+    let p : Key → Bool = may_have_twin c.in_ok-twins.twins in
     let all = keys_behind c.args.skip c.args.workers.now c.args.segments.now in
     let counts = counts_of c.args.workers.now c.args.segments.now in
     let len : length counts ≡ length all = counts-len c.args.workers.now c.args.segments.now c.are_counted.ensures c.requires.segments ∙ sym (length-map (keys_of c.args.workers.now c.args.segments.now) (drop c.args.skip)) in
@@ -49,7 +49,7 @@ walked-requires-clause-shared g c =
     let counts = counts_of c.args.workers.now c.args.segments.now in
     let keys = c.in_ok-shared.ensures.keys in
     record {
-      once = c.in_ok-marks.ensures.once;
+      once = c.in_ok-twins.ensures.once;
       len = counts-len c.args.workers.now c.args.segments.now c.are_counted.ensures c.requires.segments ∙ sym (length-map (keys_of c.args.workers.now c.args.segments.now) (drop c.args.skip));
       ids = c.in_ok-totals.ensures.ids ∙ ap (λ ks. map (id_of (distinct ks)) ks) keys;
       totals = c.in_ok-totals.ensures.totals ∙ ap₂ (λ ks ns. totals_of (distinct ks) ks ns) keys c.in_ok-shared.ensures.counts;

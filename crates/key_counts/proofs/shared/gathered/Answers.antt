@@ -3,12 +3,12 @@ use Rattle.std.proofs.lemmas.List.{get_or_read, length-map}
 use Rattle.std.proofs.lemmas.List.Elements.{All-take, filter-append}
 use Rattle.key_index.specs.Keys.{Key}
 use Rattle.key_counts.specs.Counts.{Entries}
-use Rattle.key_counts.specs.Private.Filter.{is_shared}
+use Rattle.key_counts.specs.Private.Twins.{may_have_twin}
 use Rattle.key_counts.specs.Private.Parts.{part_behind, part_counts}
 use Rattle.key_counts.specs.Private.Walks.{kept}
 use Rattle.key_counts.specs.Segments.{IsSegment, counts_of, entries_of, keys_behind, keys_of}
 use Rattle.key_counts.specs.declared.merging.Segment.{Segment}
-use Rattle.key_counts.proofs.HashLists.{has-hashes-of}
+use Rattle.key_counts.proofs.Flags.{has-flags-of}
 use Rattle.key_counts.proofs.Parts.{counts-len, counts-more, keys-more}
 use Rattle.key_counts.proofs.Walks.{kept-append}
 use Rattle.key_counts.proofs.shared.gathered.Goals as goal
@@ -20,20 +20,20 @@ loop-i-init c = record {
   counts = c.new-counts.ensures.items;
 }
 
-pub gather-requires-clause-hashes : goal.gather-requires-clause-hashes
-gather-requires-clause-hashes c =
+pub gather-requires-clause-flags : goal.gather-requires-clause-flags
+gather-requires-clause-flags c =
     let workers = c.args.workers.now in
     let segments = c.args.segments.now in
     let i = c.loop-i.i in
     let no_segment : Segment = record { worker = 0; from = 0; to = 0 } in
     let s : Segment = get_or segments i no_segment in
     let part : IsSegment workers s = c.requires.segments i no_segment c.loop-i-test.true in
-    has-hashes-of c.args.marks.now c.args.skip workers s.worker c.index-workers-segment.result c.requires.hashes part.worker c.index-workers-segment.is
+    has-flags-of c.args.twins.now c.args.skip workers s.worker c.index-workers-segment.result c.requires.flags part.worker c.index-workers-segment.is
 
 pub loop-i-preserved : goal.loop-i-preserved
 loop-i-preserved c =
     let inv = c.loop-i.invariant in
-    let p : Key → Bool = is_shared c.args.marks.now in
+    let p : Key → Bool = may_have_twin c.args.twins.now in
     let workers = c.args.workers.now in
     let segments = c.args.segments.now in
     let i = c.loop-i.i in

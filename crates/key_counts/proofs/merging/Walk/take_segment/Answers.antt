@@ -1,22 +1,22 @@
 use Rattle.std.proofs.Common.{◌≡◌, ◌+◌, ◌-◌, ◌<◌, ◌∙◌, Bool, ap, arith, drop, get_or, length, subst, sym}
 use Rattle.key_index.specs.Keys.{Key, key_at}
-use Rattle.key_counts.specs.Private.Filter.{is_shared}
+use Rattle.key_counts.specs.Private.Twins.{may_have_twin}
 use Rattle.key_counts.specs.Private.Walks.{IsNext, IsWalked}
-use Rattle.key_counts.proofs.HashLists.{hash-at}
+use Rattle.key_counts.proofs.Flags.{flag-at}
 use Rattle.key_counts.proofs.merging.Walk.take_segment.Goals as goal
-use Rattle.key_counts.proofs.merging.Walk.take_segment.Goals.{then-is_shared+in_ok-take_shared, else-is_shared+in_ok-take_unique}
+use Rattle.key_counts.proofs.merging.Walk.take_segment.Goals.{then-flags-code+in_ok-take_shared, else-flags-code+in_ok-take_unique}
 
 pub loop-code-preserved : goal.loop-code-preserved
 loop-code-preserved c =
     let inv = c.loop-code.invariant in
-    let p : Key → Bool = is_shared c.args.marks.now in
+    let p : Key → Bool = may_have_twin c.args.twins.now in
     let keys = c.args.entries.now.keys in
     let from = c.args.segment.from in
     let code = c.loop-code.code in
     let key : drop c.args.skip (key_at keys code) ≡ c.behind-key.result.now = sym (c.behind-key.ensures ∙ ap (drop c.args.skip) c.key.ensures) in
     let in_keys : code < length keys = omega (arith, c.requires.part.within) in
-    let hash = hash-at c.args.marks.now.place.hasher c.args.skip c.args.entries.now _ c.hashes_in-hashes.result.now code c.requires.hashes.hashes c.hashes_in-hashes.ensures in_keys in
-    let px = ap p (sym key) ∙ sym (c.is_shared.ensures (drop c.args.skip (key_at keys code)) hash) in
+    let flag = flag-at p c.args.skip c.args.entries.now _ c.flags_in-flags.result.now code c.requires.flags.flags c.flags_in-flags.ensures in_keys in
+    let px = ap p (sym key) ∙ sym flag in
     let up : from + (code - from) ≡ code = omega (arith, inv.within) in
     let below : code - from < c.args.segment.to - from = omega (arith, inv.within) in
     let value : get_or c.args.entries.now.counts code 0 ≡ get_or c.counts-counts.result.now code 0 = ap (λ ns. get_or ns code 0) (sym c.counts-counts.ensures.value) in
@@ -28,13 +28,13 @@ loop-code-preserved c =
           let at : IsNext all counts here (drop c.args.skip (key_at keys code)) (get_or c.args.entries.now.counts code 0) = rw up at (next.each (code - from) below) in
           let at_key : IsNext all counts here c.behind-key.result.now (get_or c.args.entries.now.counts code 0) = subst (λ x. IsNext all counts here x (get_or c.args.entries.now.counts code 0)) key at in
           let before = inv.walked all counts k so next was in
-          elim c.if-is_shared.branch [
-            | then-is_shared+in_ok-take_shared w ↦
-                let after = w.in_ok-take_shared.ensures (get_or c.args.entries.now.counts code 0) p all counts here (px ∙ w.if-is_shared.true) so at_key before in
-                subst (λ n. IsWalked p all counts n c.if-is_shared.self) more (subst (IsWalked p all counts (here + 1)) (sym w.self-is) after)
-            | else-is_shared+in_ok-take_unique w ↦
+          elim c.if-flags-code.branch [
+            | then-flags-code+in_ok-take_shared w ↦
+                let after = w.in_ok-take_shared.ensures (get_or c.args.entries.now.counts code 0) p all counts here (px ∙ w.if-flags-code.true) so at_key before in
+                subst (λ n. IsWalked p all counts n c.if-flags-code.self) more (subst (IsWalked p all counts (here + 1)) (sym w.self-is) after)
+            | else-flags-code+in_ok-take_unique w ↦
                 let at_count : IsNext all counts here c.behind-key.result.now (get_or c.counts-counts.result.now code 0) = subst (IsNext all counts here c.behind-key.result.now) value at_key in
-                let after = w.in_ok-take_unique.ensures p all counts here (px ∙ w.if-is_shared.false) so at_count before in
-                subst (λ n. IsWalked p all counts n c.if-is_shared.self) more (subst (IsWalked p all counts (here + 1)) (sym w.self-is) after)
+                let after = w.in_ok-take_unique.ensures p all counts here (px ∙ w.if-flags-code.false) so at_count before in
+                subst (λ n. IsWalked p all counts n c.if-flags-code.self) more (subst (IsWalked p all counts (here + 1)) (sym w.self-is) after)
           ];
     }

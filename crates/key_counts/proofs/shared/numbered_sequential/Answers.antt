@@ -5,7 +5,7 @@ use Rattle.key_index.specs.Keys.{Key, distinct, id_of, lent, with_key}
 use Rattle.key_index.specs.Private.Sharded.{with_keys}
 use Rattle.key_index.proofs.Scattered.{number-next}
 use Rattle.key_index.proofs.ShardRecords.{few-added, lent-key}
-use Rattle.key_counts.proofs.shared.numbered_in_turn.Goals as goal
+use Rattle.key_counts.proofs.shared.numbered_sequential.Goals as goal
 
 pub intern-requires : goal.intern-requires
 intern-requires c =

@@ -1,7 +1,7 @@
 use Rattle.std.proofs.Common.{◌≡◌, [], map, take}
 use Rattle.key_index.specs.Keys.{id_of, lent}
 use Rattle.key_index.specs.Private.Sharded.{with_keys}
-use Rattle.key_counts.proofs.shared.numbered_in_turn.Given as goal
+use Rattle.key_counts.proofs.shared.numbered_sequential.Given as goal
 
 abbrev pub invariant-loop-i : goal.invariant-loop-i
 invariant-loop-i l = record {

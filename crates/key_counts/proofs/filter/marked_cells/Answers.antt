@@ -5,13 +5,10 @@ use Rattle.key_counts.specs.Private.Hashes.{AreHashesOf, IsHashed}
 use Rattle.key_counts.specs.Segments.{entries_of, keys_behind}
 use Rattle.key_counts.specs.declared.merging.Segment.{Segment}
 use Rattle.key_counts.proofs.Parts.{keys-more}
-use Rattle.key_counts.proofs.filter.mark_segments.Goals as goal
-
-pub loop-i-init : goal.loop-i-init
-loop-i-init c = λ workers skip hashed so. so
+use Rattle.key_counts.proofs.filter.marked_cells.Goals as goal
 
 pub loop-i-preserved : goal.loop-i-preserved
-loop-i-preserved c = λ workers skip hashed so.
+loop-i-preserved c = λ workers skip hashed.
     let place = c.args.place.now in
     let hashes = c.args.hashes.now in
     let segments = c.args.segments.now in
@@ -23,7 +20,7 @@ loop-i-preserved c = λ workers skip hashed so.
     let own : AreHashesOf place.hasher skip (entries_of workers s.worker) c.hashes_in-own.result.now =
     subst (AreHashesOf place.hasher skip (entries_of workers s.worker)) (sym c.hashes_in-own.ensures) (hashed.each s.worker worker) in
     let before = keys_behind skip workers (take i segments) in
-    let was : AreMarked place c.args.part before c.deref_mut.result.now = subst (AreMarked place c.args.part before) (sym c.deref_mut.ensures.value) (c.loop-i.invariant workers skip hashed so) in
+    let was : AreMarked place c.args.part before c.deref_mut.result.now = subst (AreMarked place c.args.part before) (sym c.deref_mut.ensures.value) (c.loop-i.invariant workers skip hashed) in
     let now = c.mark_segment.ensures (entries_of workers s.worker) skip before own was in
     let all : AreMarked place c.args.part (keys_behind skip workers (take (i + 1) segments)) c.mark_segment.new.cells =
     subst (λ ks. AreMarked place c.args.part ks c.mark_segment.new.cells) (sym (keys-more skip workers segments i no_segment c.loop-i-test.true)) now in

@@ -1,6 +1,0 @@
-use Rattle.std.proofs.Common.{take}
-use Rattle.key_counts.specs.Private.Filter.{AreMarkedFrom}
-use Rattle.key_counts.proofs.filter.mark_segments.Given as goal
-
-abbrev pub invariant-loop-i : goal.invariant-loop-i
-invariant-loop-i l = AreMarkedFrom l.place l.part l.hashes (take l.i l.segments) l.fn.cells l.cells
