@@ -4,8 +4,8 @@ files, scripts and plans: that call alone fails, or every later one of its kind 
 must change nothing; in short runs each of these calls fails in turn too.
 
 The run must end with the fault of its kind and without output (after a failed write: with a prefix of it). After a failed
-allocation it may also end as usual: the C library can do without some memory. A long file can be counted without threads and
-without random bytes."""
+allocation it may also end as usual: the C library can do without some memory. A long file can be read without threads and,
+except by `count`, without random bytes."""
 import os
 import subprocess
 import tempfile
@@ -65,9 +65,9 @@ SUBJECTS = [
     Subject("a count of long keys", "count f --partitions 4096", {"f": lines_of(LONG_KEYS)}, done(counts_of(LONG_KEYS))),
     Subject("a count of many keys", "count f", {"f": lines_of(MANY_KEYS)}, done(counts_of(MANY_KEYS))),
     Subject("a count of blocks", "count f", {"f": b"".join(key + b",more\n" for key in KEYS_IN_BLOCKS)},
-            done(counts_of(KEYS_IN_BLOCKS)), frozenset(), frozenset({"malloc", "thread", "random"})),
+            done(counts_of(KEYS_IN_BLOCKS)), frozenset(), frozenset({"malloc", "thread"})),
     Subject("a count of a bad record", "count f --header --column 2", {"f": QUOTED + b"7,8,9\n"},
-            Outcome(b"", b"fault 24 at record 8\n", 1), frozenset({"thread", "write", "random"})),
+            Outcome(b"", b"fault 24 at record 8\n", 1), frozenset({"thread", "write"})),
     Subject("a replay of a join", "replay f s", {"f": FIVE, "s": b"join A\n"},
             done(FOUR_MOVES + b"owner,0,A\nowner,1,A\nowner,2,A\nowner,3,A\n"
                  b"offset,0,0,2\noffset,1,0,1\noffset,2,0,1\noffset,3,0,1\ntotal,0,5\n")),
