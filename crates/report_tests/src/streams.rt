@@ -301,3 +301,23 @@ fn long_keys_are_counted_alike(rt: HostRuntime) -> Result<(), Fail> {
     }
     Ok(())
 }
+
+/// A file of more keys than one thread merges, most of which several threads meet.
+fn file_of_many_keys(alloc: Global, random: &mut Random) -> Result<Vec<u8>, Memory> {
+    let mut file = Vec::new(alloc);
+    for _ in 0..10_000 {
+        file.push(b'a' + random.below(26) as u8)?;
+        file.push(b'a' + random.below(26) as u8)?;
+        file.push(b'a' + random.below(8) as u8)?;
+        file.push(b'\n')?;
+    }
+    Ok(file)
+}
+
+#[test]
+fn many_keys_are_counted_alike(rt: HostRuntime) -> Result<(), Fail> {
+    let mut random = Random { state: 3 };
+    let file = file_of_many_keys(rt.alloc(), &mut random)?;
+    assert!(rt; is_counted_alike(&rt, rt.alloc(), &file, &options(rt.alloc(), 4)));
+    Ok(())
+}
