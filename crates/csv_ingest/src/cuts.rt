@@ -9,6 +9,7 @@ ghost use Rattle.csv_ingest.specs.Stand.{EndsRecord, IsCut, is_line_end};
 
 use crate::stand::{Stand, stand_behind};
 use lane_words::Memory;
+use memchr::memchr;
 use std::alloc::Global;
 
 /// How many bytes a byte order mark takes.
@@ -55,7 +56,8 @@ fn open_cut(bytes: &[u8], from: Stand, delimiter: u8) -> Option<usize>
 
 /// The first line feed before `to` that ends a record, wherever a reader stands before the bytes.
 ///
-/// Behind a few quoted fields a reader mostly stands at the same place wherever it began.
+/// Behind a few quoted fields a reader mostly stands at the same place wherever it began. Without a
+/// double quote it stays in quotes if it began there.
 fn synced_cut(bytes: &[u8], to: usize, delimiter: u8) -> Option<usize>
     requires delimiter { is_line_end delimiter ≡ false }
     requires to { to ≤ length bytes.now }
@@ -63,6 +65,7 @@ fn synced_cut(bytes: &[u8], to: usize, delimiter: u8) -> Option<usize>
     ensures cut { IfSome result (λ cut. (slice_index bytes.now cut ≡ 10)
         × AlwaysEndsRecord delimiter (take cut bytes.now)) }
 {
+    memchr(b'"', &bytes[..to])?;
     let mut fresh = Stand::Record;
     let mut bare = Stand::Bare;
     let mut quoted = Stand::Quoted;

@@ -1,3 +1,4 @@
+pub mod Bytes
 pub mod Flags
 pub mod Growing
 pub mod Made

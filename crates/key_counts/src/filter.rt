@@ -1,10 +1,10 @@
 //! A filter of keys: which of them may have a twin.
 
-ghost use Rattle.std.specs.Prelude.{◌≡◌, ◌<◌, ◌≤◌, ◌++◌, ◌∷◌, ◌/◌, ◌%◌, ◌^◌, [], All, IfOk, List, ℕ, bit_and, length, map, slice_index_or, vec_items};
+ghost use Rattle.std.specs.Prelude.{◌≡◌, ◌≢◌, ◌<◌, ◌≤◌, ◌+◌, ◌++◌, ◌∷◌, ◌/◌, ◌%◌, ◌^◌, [], All, IfOk, List, ℕ, bit_and, length, map, min, slice_index_or, vec_items};
 ghost use Rattle.key_index.specs.Keys.{Key};
 ghost use Rattle.key_index.specs.Private.KeyHash.{hash_of};
 ghost use Rattle.key_counts.specs.Counts.{Entries};
-ghost use Rattle.key_counts.specs.Private.Filter.{AreMarked, AreMarkedFrom, IsFilterOf, cell_of, is_shared, mark_at, part_of};
+ghost use Rattle.key_counts.specs.Private.Filter.{AreMarked, AreMarkedFrom, IsFilterOf, cell_of, is_shared, mark_at, mark_in, part_of};
 ghost use Rattle.key_counts.specs.Private.Hashes.{AreHashesOf, IsHashed};
 ghost use Rattle.key_counts.specs.Private.Parts.{part_behind};
 ghost use Rattle.key_counts.specs.Private.Results.{AreFound};
@@ -22,8 +22,11 @@ use std::thread::Threads;
 /// In how many parts the cells are marked, each in a thread of its own.
 pub const PARTS: usize = 4;
 
-/// The mark of a cell that several keys have.
+/// The mark of a cell that several keys have. A mark takes two bits.
 const SEVERAL: u8 = 2;
+
+/// A byte whose four cells have several keys each.
+const ALL_SEVERAL: u8 = 0b10101010;
 
 /// How keys are placed in cells.
 #[derive(Clone, Copy, Debug)]
@@ -39,7 +42,8 @@ pub struct Place {
 pub struct Filter {
     /// How keys are placed in cells.
     place: Place,
-    /// The marks of the cells of each part: how many keys have the cell, 2 for two and more.
+    /// The marks of the cells of each part, four in a byte: how many keys have the cell, 2 for two
+    /// and more.
     parts: Vec<Vec<u8>>,
 }
 
@@ -59,35 +63,57 @@ fn cell_of(place: &Place, hash: u64) -> usize
     hash as usize & place.mask
 }
 
+/// The mark of a cell in the byte that has it.
+#[inline(always)]
+fn mark_in(byte: u8, cell: usize) -> u8
+    ensures { result ≡ mark_in byte cell }
+{
+    (byte >> (2 * (cell % 4))) % 4
+}
+
+/// The byte that has a cell, after one more key has the cell.
+#[inline(always)]
+fn with_mark(byte: u8, cell: usize) -> u8
+    ensures own { mark_in byte cell ≤ 2 → mark_in result cell ≡ min 2 (mark_in byte cell + 1) }
+    ensures others { (other : ℕ) → other % 4 ≢ cell % 4
+        → mark_in result other ≡ mark_in byte other }
+{
+    if mark_in(byte, cell) >= SEVERAL {
+        return byte;
+    }
+    byte + (1 << (2 * (cell % 4)))
+}
+
 /// Marks the cell of a key of this hash, if it is in this part.
 #[inline(always)]
-fn mark_key(cells: &mut [u8], place: &Place, part: usize, hash: u64)
+fn mark_key(bytes: &mut [u8], place: &Place, part: usize, hash: u64)
     ensures { (done : List Key) (key : Key) → hash ≡ hash_of place.now.hasher key
-        → AreMarked place.now part done cells.old
-        → AreMarked place.now part (done ++ key ∷ []) cells.new }
+        → AreMarked place.now part done bytes.old
+        → AreMarked place.now part (done ++ key ∷ []) bytes.new }
 {
     let cell = cell_of(place, hash);
-    if part_of(hash) == part && cell < cells.len() {
-        cells[cell] = cells[cell].saturating_add(1).min(SEVERAL);
+    let at = cell / 4;
+    if part_of(hash) == part && at < bytes.len() {
+        bytes[at] = with_mark(bytes[at], cell);
     }
 }
 
 /// Marks the cells of the keys of a segment, from the hashes of its worker's entries.
-fn mark_segment(cells: &mut [u8], place: &Place, part: usize, hashes: &[u64], segment: Segment)
+fn mark_segment(bytes: &mut [u8], place: &Place, part: usize, hashes: &[u64], segment: Segment)
     requires order { segment.from ≤ segment.to }
     requires within { segment.to ≤ length hashes.now }
     ensures { (entries : Entries) (skip : ℕ) (done : List Key)
         → AreHashesOf place.now.hasher skip entries hashes.now
-        → AreMarked place.now part done cells.old
-        → AreMarked place.now part (done ++ part_behind skip entries segment) cells.new }
+        → AreMarked place.now part done bytes.old
+        → AreMarked place.now part (done ++ part_behind skip entries segment) bytes.new }
 {
     for code in segment.from..segment.to {
-        mark_key(cells, place, part, hashes[code]);
+        mark_key(bytes, place, part, hashes[code]);
     }
 }
 
-/// The cells of a part, marked from the hashes of each worker's entries.
-fn marked_cells(
+/// The marks of the cells of a part, from the hashes of each worker's entries.
+fn marks_of(
     alloc: Global,
     place: &Place,
     hashes: &[Vec<u64>],
@@ -95,16 +121,16 @@ fn marked_cells(
     part: usize,
 ) -> Result<Vec<u8>, Memory>
     requires { All (IsHashed hashes.now) segments.now }
-    ensures { IfOk result (λ cells.
-        AreMarkedFrom place.now hashes.now segments.now part cells.items) }
+    ensures { IfOk result (λ bytes.
+        AreMarkedFrom place.now hashes.now segments.now part bytes.items) }
 {
-    let mut cells = vec![in alloc; 0u8; place.mask.saturating_add(1)]?;
+    let mut bytes = vec![in alloc; 0u8; place.mask / 4 + 1]?;
     for i in 0..segments.len() {
         let segment = segments[i];
         let own = hashes_in(hashes, segment.worker);
-        mark_segment(&mut cells, place, part, own, segment);
+        mark_segment(&mut bytes, place, part, own, segment);
     }
-    Ok(cells)
+    Ok(bytes)
 }
 
 /// Marks the cells of each part, in so many threads at most.
@@ -127,7 +153,7 @@ fn mark_parallel<R: Threads + Sync>(
         &mut found,
         threads,
         &|part, own: &mut Result<Vec<u8>, Memory>| {
-            *own = marked_cells(alloc, place, hashes, segments, part);
+            *own = marks_of(alloc, place, hashes, segments, part);
         },
     );
     Ok(found)
@@ -137,8 +163,8 @@ fn mark_parallel<R: Threads + Sync>(
 pub fn threads_for(place: &Place, pieces: usize) -> usize
     ensures { 0 < result }
 {
-    // A part has as many cells as there are entries, or more.
-    if place.mask < LEAST_KEYS {
+    // A part has twice as many cells as there are entries, or more.
+    if place.mask / 2 < LEAST_KEYS {
         return 1;
     }
     pieces.max(1)
@@ -149,12 +175,12 @@ pub fn threads_for(place: &Place, pieces: usize) -> usize
 fn mark_at(parts: &[Vec<u8>], part: usize, cell: usize) -> u8
     ensures { result ≡ mark_at (map vec_items parts.now) part cell }
 {
-    let Some(cells) = parts.get(part) else {
-        return SEVERAL;
+    let Some(bytes) = parts.get(part) else {
+        return mark_in(ALL_SEVERAL, cell);
     };
-    match cells.get(cell) {
-        Some(mark) => *mark,
-        None => SEVERAL,
+    match bytes.get(cell / 4) {
+        Some(byte) => mark_in(*byte, cell),
+        None => mark_in(ALL_SEVERAL, cell),
     }
 }
 

@@ -140,8 +140,8 @@ impl<'a> Walk<'a> {
     ) -> Result<(), Memory>
         requires part { IsPartOf entries.now segment }
         requires flags { HasFlagsOf twins.now skip entries.now segment.worker }
-        ensures { OnOk result (WalksOver (may_have_twin twins.now) shared.now skip entries.now segment
-            self.old self.new) }
+        ensures { OnOk result (WalksOver (may_have_twin twins.now) shared.now skip entries.now
+            segment self.old self.new) }
     {
         let counts = entries.counts();
         let flags = twins.flags_in(segment.worker);
@@ -170,8 +170,9 @@ fn walked<'a>(
     requires counted { All HasCounts workers.now }
     requires segments { All (IsSegment workers.now) segments.now }
     requires flags { HasFlags twins.now skip workers.now }
-    requires shared { AreTotalled (may_have_twin twins.now) (keys_behind skip workers.now segments.now)
-        (counts_of workers.now segments.now) shared.now }
+    requires shared { AreTotalled (may_have_twin twins.now)
+        (keys_behind skip workers.now segments.now) (counts_of workers.now segments.now)
+        shared.now }
     ensures keys { IfOk result
         (λ m. lent m.keys.items ≡ distinct (keys_behind skip workers.now segments.now)) }
     ensures counts { IfOk result
@@ -186,13 +187,13 @@ fn walked<'a>(
     Ok(Merged { keys, counts })
 }
 
-/// How the keys of so many entries are placed: in four cells for each entry, or more.
+/// How the keys of so many entries are placed: in eight cells for each entry, or more.
 fn place_of(hasher: RandomState, entries: usize) -> Place
     requires { entries ≤ MOST_RECORDS }
 {
     Place {
         hasher: KeyHash::of(hasher),
-        mask: entries.next_power_of_two() - 1,
+        mask: 2 * entries.next_power_of_two() - 1,
     }
 }
 

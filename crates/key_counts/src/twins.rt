@@ -21,7 +21,7 @@ use std::thread::Threads;
 /// Which entries may have a twin.
 #[derive(Drop)]
 pub struct Twins {
-    /// The filter that told, for contracts alone: it is gone.
+    /// The filter as it was, for contracts alone: it takes no memory.
     filter: Snapshot<Filter>,
     /// Whether each entry of each worker may have a twin.
     flags: Vec<Vec<bool>>,

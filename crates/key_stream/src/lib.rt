@@ -9,7 +9,7 @@
 //! - `Counters::totals` returns the distinct keys in the order of their first appearance, and how
 //!   often each occurs.
 //!
-//! Tests: `log_tests`.
+//! Tests: `report_tests`.
 #![tactic(auto)]
 
 mod counting;

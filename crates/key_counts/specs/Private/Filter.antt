@@ -1,5 +1,5 @@
 -- Which keys may have a twin.
-use Rattle.std.specs.Prelude.{◌≡◌, ◌<◌, ◌≤◌, ◌==◌, ◌/◌, ◌%◌, ◌^◌, ℕ, Bool, false, List, [], Vec, bit_and, count_by, if◌then◌else◌, length, map, min, slice_index, slice_index_or, vec_items}
+use Rattle.std.specs.Prelude.{◌≡◌, ◌<◌, ◌≤◌, ◌==◌, ◌/◌, ◌%◌, ◌*◌, ◌^◌, ℕ, Bool, false, List, [], Vec, bit_and, count_by, if◌then◌else◌, length, map, min, slice_index, slice_index_or, vec_items}
 use Rattle.std.specs.Global.{Global}
 use Rattle.std.specs.Str.{bytes_eq}
 use Rattle.key_index.specs.Keys.{Key}
@@ -9,7 +9,7 @@ use Rattle.key_counts.specs.Private.Hashes.{AreHashed}
 use Rattle.key_counts.specs.Segments.{keys_behind}
 use Rattle.key_counts.specs.declared.filter.Filter.{Filter}
 use Rattle.key_counts.specs.declared.filter.Place.{Place}
-use Rattle.key_counts.specs.declared.filter.TheConstants.{PARTS}
+use Rattle.key_counts.specs.declared.filter.TheConstants.{ALL_SEVERAL, PARTS}
 use Rattle.key_counts.specs.declared.merging.Segment.{Segment}
 
 -- the part of the cell of a hash, and the index of the cell there
@@ -25,20 +25,25 @@ is_at place part cell key =
     if part_of (hash_of place.hasher key) == part
     then cell_of place (hash_of place.hasher key) == cell else false
 
+-- the mark of a cell in the byte that has it: a byte has the marks of four cells
+abbrev pub mark_in : ℕ → ℕ → ℕ
+mark_in byte cell = byte / 2 ^ (2 * (cell % 4)) % 4
+
 -- the marks of the cells of a part: how many of these keys have each, 2 for two and more
 abbrev pub AreMarked : Place → ℕ → List Key → List ℕ → Type 0
-AreMarked place part keys cells = (cell : ℕ) → cell < length cells
-    → slice_index cells cell ≡ min 2 (count_by (is_at place part cell) keys)
+AreMarked place part keys bytes = (cell : ℕ) → cell / 4 < length bytes
+    → mark_in (slice_index bytes (cell / 4)) cell ≡ min 2 (count_by (is_at place part cell) keys)
 
 -- the same from the hashes of the entries of these segments
 abbrev pub AreMarkedFrom : Place → List (Vec ℕ Global) → List Segment → ℕ → List ℕ → Type 0
-AreMarkedFrom place hashes segments part cells =
+AreMarkedFrom place hashes segments part bytes =
     (workers : List Entries) (skip : ℕ) → AreHashed place.hasher skip workers hashes
-    → AreMarked place part (keys_behind skip workers segments) cells
+    → AreMarked place part (keys_behind skip workers segments) bytes
 
--- the mark of a cell
+-- the mark of a cell: one that is not there counts as one of several keys
 abbrev pub mark_at : List (List ℕ) → ℕ → ℕ → ℕ
-mark_at parts part cell = slice_index_or (slice_index_or parts part []) cell 2
+mark_at parts part cell =
+    mark_in (slice_index_or (slice_index_or parts part []) (cell / 4) ALL_SEVERAL) cell
 
 -- whether a key may have a twin
 unfoldable pub is_shared : Filter → Key → Bool

@@ -26,7 +26,7 @@ loop-code-preserved c =
           let in_keys : code < length keys = omega (arith, in_hashes, hashed.len) in
           let key = drop skip (key_at keys code) in
           let all = append_assoc done before (key ∷ []) ∙ ap (λ ks. done ++ ks) (sym (behind-next skip keys from code inv.within in_keys)) in
-          subst (λ ks. AreMarked c.args.place.now c.args.part ks c.mark_key.new.cells) all (c.mark_key.ensures (done ++ before) key (hashed.each code in_keys) (inv.marked entries skip done hashed so));
+          subst (λ ks. AreMarked c.args.place.now c.args.part ks c.mark_key.new.bytes) all (c.mark_key.ensures (done ++ before) key (hashed.each code in_keys) (inv.marked entries skip done hashed so));
     }
 
 pub returns : goal.returns

@@ -10,6 +10,6 @@ abbrev pub invariant-loop-code : goal.invariant-loop-code
 invariant-loop-code l = record {
   within : l.fn.segment.from ≤ l.code;
   marked : (entries : Entries) (skip : ℕ) (done : List Key) → AreHashesOf l.place.hasher skip entries l.hashes
-      → AreMarked l.fn.place l.part done l.fn.cells
-      → AreMarked l.fn.place l.part (done ++ map (drop skip) (slice_range entries.keys l.fn.segment.from l.code)) l.cells;
+      → AreMarked l.fn.place l.part done l.fn.bytes
+      → AreMarked l.fn.place l.part (done ++ map (drop skip) (slice_range entries.keys l.fn.segment.from l.code)) l.bytes;
 }

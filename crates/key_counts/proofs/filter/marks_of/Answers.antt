@@ -5,7 +5,7 @@ use Rattle.key_counts.specs.Private.Hashes.{AreHashesOf, IsHashed}
 use Rattle.key_counts.specs.Segments.{entries_of, keys_behind}
 use Rattle.key_counts.specs.declared.merging.Segment.{Segment}
 use Rattle.key_counts.proofs.Parts.{keys-more}
-use Rattle.key_counts.proofs.filter.marked_cells.Goals as goal
+use Rattle.key_counts.proofs.filter.marks_of.Goals as goal
 
 pub loop-i-preserved : goal.loop-i-preserved
 loop-i-preserved c = λ workers skip hashed.
@@ -22,7 +22,7 @@ loop-i-preserved c = λ workers skip hashed.
     let before = keys_behind skip workers (take i segments) in
     let was : AreMarked place c.args.part before c.deref_mut.result.now = subst (AreMarked place c.args.part before) (sym c.deref_mut.ensures.value) (c.loop-i.invariant workers skip hashed) in
     let now = c.mark_segment.ensures (entries_of workers s.worker) skip before own was in
-    let all : AreMarked place c.args.part (keys_behind skip workers (take (i + 1) segments)) c.mark_segment.new.cells =
-    subst (λ ks. AreMarked place c.args.part ks c.mark_segment.new.cells) (sym (keys-more skip workers segments i no_segment c.loop-i-test.true)) now in
-    let same = with_items_is c.loop-i.cells c.mark_segment.new.cells (c.mark_segment.auto.cells ∙ c.deref_mut.ensures.len) in
+    let all : AreMarked place c.args.part (keys_behind skip workers (take (i + 1) segments)) c.mark_segment.new.bytes =
+    subst (λ ks. AreMarked place c.args.part ks c.mark_segment.new.bytes) (sym (keys-more skip workers segments i no_segment c.loop-i-test.true)) now in
+    let same = with_items_is c.loop-i.bytes c.mark_segment.new.bytes (c.mark_segment.auto.bytes ∙ c.deref_mut.ensures.len) in
     subst (AreMarked place c.args.part (keys_behind skip workers (take (i + 1) segments))) (sym same) all
