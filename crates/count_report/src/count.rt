@@ -19,7 +19,7 @@ use key_counts::KeyCounts;
 use key_index::KeyList;
 use key_stream::{Counters, Counting};
 use lane_words::{Memory, Refusal};
-use parallel::{LEAST_DROPS, drop_each};
+use parallel::{LEAST_BYTES, LEAST_DROPS, drop_each};
 use report_rows::count_rows::count_rows_texts;
 use report_rows::top_rows::top_text;
 use std::alloc::Global;
@@ -31,11 +31,8 @@ use std::thread::Threads;
 /// The number of threads that count, if the number of processors is unknown.
 const DEFAULT_WORKERS: usize = 4;
 
-/// How many bytes are read at once for each thread. So few stay in a cache until they are counted.
-const WINDOW: usize = 1 << 19;
-
-/// The least number of bytes that is worth a thread.
-const LEAST_CHUNK: usize = 1 << 18;
+/// How many bytes are read at once for each thread.
+const WINDOW: usize = 2 << 20;
 
 /// The text of a count: the rows of all keys or of the top, and the number of records as both
 /// totals.
@@ -153,7 +150,7 @@ fn file_report<R: Threads + Sync + RandomSource, S: Source>(
         return Err(Refusal::Memory);
     };
     let workers = workers_for(rt);
-    let mut counting = Counting::new(alloc, hasher, workers, LEAST_CHUNK)?;
+    let mut counting = Counting::new(alloc, hasher, workers, LEAST_BYTES)?;
     count_file(
         rt,
         alloc,
