@@ -8,9 +8,8 @@ ghost use Rattle.key_index.specs.Keys.{Key};
 ghost use Rattle.key_stream.specs.Tally.{HaveCounted};
 
 use crate::options;
-use crate::two_topics::options_of_two;
 use byte_io::FromRead;
-use command_line::{Column, Options};
+use command_line::Options;
 use csv_ingest::Blocks;
 use ingest::{count_file, logs_of, read_records};
 use key_counts::Merged;
@@ -19,7 +18,6 @@ use lane_words::{Memory, Refusal};
 use partition_log::{LogRead, Logs};
 use std::alloc::Global;
 use std::hash::RandomState;
-use std::process::Abort;
 use std::random::RandomSource;
 use std::test::Fail;
 use std::thread::Threads;
@@ -190,7 +188,7 @@ fn piece(n: u64) -> &'static str {
     }
 }
 
-/// A file that begins with a header or not.
+/// A file of drawn pieces.
 fn file_of(alloc: Global, random: &mut Random, pieces: u64) -> Result<Vec<u8>, Memory> {
     let mut file = Vec::from_slice(alloc, b"\r\nk,b\n")?;
     for _ in 0..pieces {
@@ -199,12 +197,7 @@ fn file_of(alloc: Global, random: &mut Random, pieces: u64) -> Result<Vec<u8>, M
     Ok(file)
 }
 
-/// The name of a column in some of these files' headers.
-fn named(alloc: Global, name: &[u8]) -> Result<Column, Memory> {
-    Ok(Column::Named(Vec::from_slice(alloc, name)?))
-}
-
-/// Whether a drawn file with a column of this number is counted alike.
+/// Whether a drawn file is counted alike.
 fn is_drawn_alike<R: Threads + Sync + RandomSource>(
     rt: &R,
     alloc: Global,
@@ -212,40 +205,7 @@ fn is_drawn_alike<R: Threads + Sync + RandomSource>(
 ) -> Result<bool, Memory> {
     let pieces = random.below(30);
     let file = file_of(alloc, random, pieces)?;
-    let mut options = options(alloc, 4);
-    options.column = Column::Number(1 + random.below(2) as u32);
-    options.header = random.below(2) == 0;
-    Ok(is_counted_alike(rt, alloc, &file, &options))
-}
-
-/// The same of the column that a name in the header has, if it is there.
-fn is_named_alike<R: Threads + Sync + RandomSource>(
-    rt: &R,
-    alloc: Global,
-    random: &mut Random,
-    name: &[u8],
-) -> Result<bool, Memory> {
-    let pieces = random.below(30);
-    let file = file_of(alloc, random, pieces)?;
-    let mut options = options(alloc, 4);
-    options.header = true;
-    options.column = named(alloc, name)?;
-    Ok(is_counted_alike(rt, alloc, &file, &options))
-}
-
-/// The same of two topics, whose column has this name.
-fn are_topics_alike<R: Threads + Sync + RandomSource + Abort>(
-    rt: &R,
-    alloc: Global,
-    random: &mut Random,
-    name: &[u8],
-) -> Result<bool, Memory> {
-    let pieces = random.below(30);
-    let file = file_of(alloc, random, pieces)?;
-    let mut options = options_of_two(rt, alloc)?;
-    options.header = true;
-    options.topic_column = named(alloc, name)?;
-    Ok(is_counted_alike(rt, alloc, &file, &options))
+    Ok(is_counted_alike(rt, alloc, &file, &options(alloc, 4)))
 }
 
 #[test]
@@ -253,18 +213,6 @@ fn any_file_is_counted_alike(rt: HostRuntime) -> Result<(), Fail> {
     let mut random = Random { state: 1 };
     for _ in 0..60 {
         assert!(rt; is_drawn_alike(&rt, rt.alloc(), &mut random)?);
-    }
-    Ok(())
-}
-
-#[test]
-fn named_columns_are_counted_alike(rt: HostRuntime) -> Result<(), Fail> {
-    let mut random = Random { state: 2 };
-    for _ in 0..10 {
-        for name in [b"k", b"b", b"x"] {
-            assert!(rt; is_named_alike(&rt, rt.alloc(), &mut random, name)?);
-            assert!(rt; are_topics_alike(&rt, rt.alloc(), &mut random, name)?);
-        }
     }
     Ok(())
 }
