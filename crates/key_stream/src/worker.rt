@@ -1,7 +1,6 @@
 //! What one thread does.
 
-ghost use Rattle.std.specs.Prelude.{◌≡◌, ◌≤◌, ◌<◌, [], ℕ, None, length, slice_index_or};
-ghost use Rattle.csv_ingest.specs.Private.Pieces.{lent};
+ghost use Rattle.std.specs.Prelude.{◌≡◌, ◌≤◌, length};
 ghost use Rattle.csv_ingest.specs.Private.Wanted.{taking};
 ghost use Rattle.key_stream.specs.Chunks.{TakesChunk};
 ghost use Rattle.key_stream.specs.Layouts.{TakesChunkBy, TakesEachBy};
@@ -63,25 +62,17 @@ fn count_chunk(
 }
 
 impl Worker {
-    /// Takes the chunk of index i.
-    fn work(
-        &mut self,
-        alloc: Global,
-        chunks: &[&[u8]],
-        widths: &[Option<usize>],
-        i: usize,
-        layout: &Layout<'_>,
-    )
-        requires chunk { i < length chunks.now }
-        requires width { i < length widths.now }
-        ensures { TakesChunkBy layout.now (slice_index_or widths.now i None)
-            (slice_index_or (lent chunks.now) i []) self.old self.new }
+    /// Takes a chunk.
+    fn work(&mut self, alloc: Global, chunk: &[u8], layout: &Layout<'_>, width: Option<usize>)
+        ensures { TakesChunkBy layout.now width chunk.now self.old self.new }
     {
-        self.found = count_chunk(&mut self.counter, alloc, chunks[i], layout, widths[i]);
+        self.found = count_chunk(&mut self.counter, alloc, chunk, layout, width);
     }
 }
 
-/// Each worker takes its chunk, in a thread of its own. One alone takes it in the calling thread.
+/// Each worker takes its chunk: the last one in the calling thread, which starts a thread for each
+/// of the others.
+#[cycle(workers)]
 pub fn work_parallel<R: Threads + Sync>(
     rt: &R,
     alloc: Global,
@@ -95,11 +86,26 @@ pub fn work_parallel<R: Threads + Sync>(
     ensures len { length workers.new ≡ length workers.old }
     ensures each { TakesEachBy layout.now widths.now chunks.now workers.old workers.new }
 {
-    let threads = workers.len().max(1);
-    thread::for_each_mut(
+    let Some((worker, workers)) = workers.split_first_mut() else {
+        return;
+    };
+    let (chunk, chunks) = (chunks[0], &chunks[1..]);
+    let (width, widths) = (widths[0], &widths[1..]);
+    if workers.is_empty() {
+        worker.work(alloc, chunk, layout, width);
+        return;
+    }
+    // One thread starts all: of threads that start others, two may do so at once, and Linux then
+    // puts both new ones on one processor.
+    thread::join_mut(
         rt,
-        workers,
-        threads,
-        &|i, worker: &mut Worker| worker.work(alloc, chunks, widths, i, layout),
+        &mut || worker.work(alloc, chunk, layout, width),
+        &mut ||
+            requires chunks { length workers.now ≡ length chunks.now }
+            requires widths { length chunks.now ≤ length widths.now }
+            ensures len { length workers.exit.now ≡ length workers.entry.now }
+            ensures each { TakesEachBy layout.entry.now widths.entry.now chunks.entry.now
+                workers.entry.now workers.exit.now }
+        { work_parallel(rt, alloc, workers, chunks, widths, layout) },
     );
 }
