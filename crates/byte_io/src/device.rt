@@ -7,10 +7,8 @@ ghost use Rattle.byte_io.specs.Devices.{AppendsPrefix, CanStillFail, IsReadFault
 ghost use Rattle.lane_words.specs.declared.Refusal.TheVariants as refusal;
 
 use lane_words::Refusal;
-use std::alloc::{AllocError, Global};
+use std::alloc::Global;
 use std::io::{Read, Write};
-use std::thread;
-use std::thread::Threads;
 
 /// A read or a write failed.
 #[derive(Clone, Copy, Debug, PartialEq, Eq)]
@@ -24,8 +22,8 @@ pub trait Source {
     // The number of reads that have failed.
     ghost failures: { Self → ℕ };
 
-    /// An estimate of the number of bytes left, or 0 if there is none. It decides how memory is
-    /// allocated and nothing else.
+    /// An estimate of the number of bytes left, or 0 if there is none. It decides what is told of
+    /// the progress and nothing else.
     fn expected(&self) -> usize {
         0
     }
@@ -214,87 +212,6 @@ pub fn fill<S: Source>(source: &mut S, buffer: &mut [u8]) -> Result<usize, Refus
         filled += n;
     }
     Ok(filled)
-}
-
-/// A buffer of `size` zeros with capacity for as many bytes again. So it is not moved when a few
-/// bytes are appended, and the system gets the pages of a large one back at once when it is freed.
-fn zeroed_buffer(alloc: Global, size: usize) -> Result<Vec<u8>, AllocError> {
-    let mut buffer = Vec::with_capacity(alloc, size.saturating_mul(2))?;
-    buffer.resize(size, 0)?;
-    Ok(buffer)
-}
-
-/// Buffers of this size, each made on a thread of its own: most of the time goes into the page
-/// faults.
-fn buffers<R: Threads + Sync>(
-    rt: &R,
-    alloc: Global,
-    count: usize,
-    size: usize,
-) -> Result<Vec<Result<Vec<u8>, AllocError>>, AllocError> {
-    thread::map_indices(rt, alloc, count, &|_| zeroed_buffer(alloc, size))
-}
-
-/// Reads into the buffers, one after another, until the source is at its end or all of them are
-/// full. Returns the blocks read and whether the end was reached.
-fn read_into_buffers<S: Source>(
-    alloc: Global,
-    source: &mut S,
-    buffers: Vec<Result<Vec<u8>, AllocError>>,
-) -> Result<(Vec<Vec<u8>>, bool), Refusal>
-    requires { CanStillFail (S.failures source.old) }
-    ensures bytes { IfOk result (λ r.
-        Consumes (S.left source.old) (S.left source.new) (flat_map vec_items r.0.items)) }
-    ensures end { IfOk result (λ r. r.1 ≡ true → IsAtEnd (S.left source.new)) }
-    ensures no_failures { OnOk result (S.failures source.new ≡ S.failures source.old) }
-    ensures failures { IfErr result (IsReadFault (S.failures source.old) (S.failures source.new)) }
-{
-    let mut blocks = Vec::new(alloc);
-    for buffer in buffers {
-        let Ok(mut buffer) = buffer else {
-            return Err(Refusal::Memory);
-        };
-        let filled = fill(source, buffer.as_mut_slice())?;
-        let is_full = filled == buffer.len();
-        buffer.truncate(filled);
-        let Ok(()) = blocks.push(buffer) else {
-            return Err(Refusal::Memory);
-        };
-        if !is_full {
-            return Ok((blocks, true));
-        }
-    }
-    Ok((blocks, false))
-}
-
-/// Reads a source to its end into consecutive blocks. If `count` is more than 1, the first `count`
-/// blocks share the length that the source expects, and one more block takes the rest. Fails like
-/// `read_all`.
-pub fn read_blocks<R: Threads + Sync, S: Source>(
-    rt: &R,
-    alloc: Global,
-    source: &mut S,
-    count: usize,
-) -> Result<Vec<Vec<u8>>, Refusal>
-    requires { CanStillFail (S.failures source.old) }
-    ensures value { IfOk result (λ blocks. IfSome (S.left source.old)
-        (λ bytes. flat_map vec_items blocks.items ≡ bytes)) }
-    ensures end { OnOk result (IsAtEnd (S.left source.new)) }
-    ensures no_failures { OnOk result (S.failures source.new ≡ S.failures source.old) }
-    ensures failures { IfErr result (IsReadFault (S.failures source.old) (S.failures source.new)) }
-{
-    let many = if count > 1 { count } else { 0 };
-    let size = (source.expected() / count.max(1)).saturating_add(1);
-    let Ok(buffers) = buffers(rt, alloc, many, size) else {
-        return Err(Refusal::Memory);
-    };
-    let (mut blocks, at_end) = read_into_buffers(alloc, source, buffers)?;
-    if !at_end {
-        let Ok(()) = blocks.push(read_all(alloc, source)?) else {
-            return Err(Refusal::Memory);
-        };
-    }
-    Ok(blocks)
 }
 
 /// Writes all bytes, in as many writes as the sink takes. If a write failed, the error is

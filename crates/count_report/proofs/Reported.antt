@@ -12,14 +12,16 @@ use Rattle.key_stream.specs.Counting.{occurrences}
 use Rattle.key_stream.specs.Tally.{AreCountersOf}
 use Rattle.key_stream.specs.declared.tally.Counters.{Counters}
 use Rattle.key_stream.specs.declared.counting.Counting.{Counting}
-use Rattle.partition_log.specs.Keys.{Keyed, keys_in}
+use Rattle.partition_log.specs.Keys.{keys_in}
 use Rattle.report_rows.specs.CountRows.{counts_of, listed_rows, plain_text}
 use Rattle.report_rows.specs.Rows.{total_row}
-use Rattle.ingest.specs.Counted.{CountsFile, IsFileRefusal, records_refusal}
+use Rattle.ingest.specs.Counted.{CountsFile}
+use Rattle.ingest.specs.Private.Columns.{IsRecordsFault}
 use Rattle.ingest.specs.Limits.{records_taken}
-use Rattle.ingest.specs.RecordFaults.{fault_or}
+use Rattle.ingest.specs.RecordFaults.{IsKeyFault, fault_or}
+use Rattle.ingest.proofs.Failures.{first_fault-kind}
 use Rattle.ingest.specs.Records.{names_topics, partition_counts, records_of}
-use Rattle.ingest.specs.Reports.{IsFaultOf, IsNoWrite, report_of_read}
+use Rattle.ingest.specs.Reports.{IsFaultOf, IsNoWrite, failed_reads, report_of_read}
 use Rattle.count_report.specs.CountReport.{report_of_count, report_of_records}
 use Rattle.count_report.specs.Private.Counted.{ReportsCounted, TellsCounters, keys_read, skipped, text_of}
 
@@ -33,7 +35,7 @@ occurrences-are : (keys : List Key) → occurrences keys ≡ counts_of keys
 unfolding counts_of
 occurrences-are keys = refl
 
-pub reported : (options : Options) (left left2 : Option (List ℕ)) (counting : Counting) (file : CountsFile options left left2 counting) (texts : List ℕ)
+pub reported : (options : Options) (left left2 : Option (List ℕ)) (counting : Counting) (file : CountsFile options left left2 counting None) (texts : List ℕ)
     → texts ≡ text_of options.top (keys_read (names_topics options) file.counted.keys) counting.round.keys → report_of_count options file.read ≡ Ok texts
 reported options left left2 counting file texts is =
     let taken = file.counted.keys in
@@ -44,21 +46,21 @@ reported options left left2 counting file texts is =
     is ∙ ap (λ ks. text_of options.top ks counting.round.keys) (sym same) ∙ ap (λ ns. listed_rows options.top (distinct keys) ns ++ total_row counting.round.keys counting.round.keys) (occurrences-are keys)
     ∙ ap (λ n. listed_rows options.top (distinct keys) (counts_of keys) ++ total_row n n) total in
     ap (report_of_read (report_of_records options.top (partition_counts options))) file.records
-    ∙ ap (λ fault. fault_or fault (plain_text options.top keys)) file.accepted ∙ ap Ok (sym text)
+    ∙ ap (λ fault. fault_or fault (plain_text options.top keys)) file.refused ∙ ap Ok (sym text)
 
 pub reports : {E : Type 0} (options : Options) (counting : Counting) (counters : Counters) (result : Result (Vec (Vec ℕ Global) Global) E) → AreCountersOf counting counters
     → IfOk result (TellsCounters options counters counting.round.keys) → IfOk result (ReportsCounted options counting)
 reports options counting counters (Err e) counted each = tt
 reports options counting counters (Ok texts) counted each = λ left left2 file.
     reported options left left2 counting file (flat_map vec_items texts.items)
-    (each file.counted.keys (counted options.delimiter file.wanted options.header file.read file.counted))
+    (each file.counted.keys (counted options.delimiter file.wanted options.header file.read file.counted).0)
 
 -- ---- the bytes of the source
 whole : (bytes read : List ℕ) (left2 : Option (List ℕ)) → Consumes (Some bytes) left2 read → IsAtEnd left2 → read ≡ bytes
 whole bytes read None consumed ended = absurd consumed
 whole bytes read (Some rest) consumed ended = sym (consumed ∙ ap (λ more. read ++ more) ended ∙ append-nil read)
 
-pub reported-source : (options : Options) (left left2 : Option (List ℕ)) (counting : Counting) (file : CountsFile options left left2 counting) (texts : List ℕ)
+pub reported-source : (options : Options) (left left2 : Option (List ℕ)) (counting : Counting) (file : CountsFile options left left2 counting None) (texts : List ℕ)
     → report_of_count options file.read ≡ Ok texts → IfSome left (λ bytes. report_of_count options bytes ≡ Ok texts)
 reported-source options left left2 counting file texts is = known left file.consumed
   where
@@ -67,10 +69,18 @@ reported-source options left left2 counting file texts is = known left file.cons
     known (Some bytes) consumed = subst (λ read. report_of_count options read ≡ Ok texts) (whole bytes file.read left2 consumed file.ended) is
 
 -- ---- a file that is refused
-refused : (options : Options) (found : Result (List Keyed) Refusal) (e : Refusal) → records_refusal (partition_counts options) found ≡ Some e
-    → report_of_read (report_of_records options.top (partition_counts options)) found ≡ Err e
-refused options (Ok records) e is = ap (λ fault. fault_or fault (plain_text options.top (keys_in records))) is
-refused options (Err fault) e is = let same : fault ≡ e = cc is in ap Err same
+refused-record : (options : Options) (left left2 : Option (List ℕ)) (counting : Counting) (refusal : Refusal) → CountsFile options left left2 counting (Some refusal)
+    → IfSome left (λ bytes. report_of_count options bytes ≡ Err refusal)
+refused-record options left left2 counting refusal file = known left file.consumed
+  where
+    here : report_of_count options file.read ≡ Err refusal
+    here =
+        let keys = keys_in (records_taken (names_topics options) file.counted.keys) in
+        ap (report_of_read (report_of_records options.top (partition_counts options))) file.records ∙ ap (λ fault. fault_or fault (plain_text options.top keys)) file.refused
+
+    known : (left : Option (List ℕ)) → Consumes left left2 file.read → IfSome left (λ bytes. report_of_count options bytes ≡ Err refusal)
+    known None consumed = tt
+    known (Some bytes) consumed = subst (λ read. report_of_count options read ≡ Err refusal) (whole bytes file.read left2 consumed file.ended) here
 
 fault-of : (expected : Result (List ℕ) Refusal) (e : Refusal) → IsNoWrite e → (e ≡ r.Memory) ⊎ ((e ≡ r.ReadFailed) ⊎ (expected ≡ Err e)) → IsFaultOf expected e
 fault-of expected r.ReadFailed kind so = tt
@@ -80,11 +90,42 @@ fault-of expected e kind (inl memory) = absurd (cc memory)
 fault-of expected e kind (inr (inl read)) = absurd (cc read)
 fault-of expected e kind (inr (inr is)) = is
 
-pub refused-source : (options : Options) (left : Option (List ℕ)) (e : Refusal) → IsNoWrite e → (e ≡ r.Memory) ⊎ ((e ≡ r.ReadFailed) ⊎ IsFileRefusal options left e)
+pub refused-source : (options : Options) (left : Option (List ℕ)) (e : Refusal) → IsNoWrite e → (e ≡ r.Memory) ⊎ ((e ≡ r.ReadFailed) ⊎ IsRecordsFault options left e)
     → IfSome left (λ bytes. IsFaultOf (report_of_count options bytes) e)
 refused-source options None e kind so = tt
 refused-source options (Some bytes) e kind so =
     fault-of (report_of_count options bytes) e kind (elim so [
       | inl memory ↦ inl memory
-      | inr other ↦ elim other [ inl read ↦ inr (inl read) | inr is ↦ inr (inr (refused options (records_of options bytes) e is)) ]
+      | inr other ↦ elim other [ inl read ↦ inr (inl read) | inr is ↦ inr (inr (ap (report_of_read (report_of_records options.top (partition_counts options))) is)) ]
     ])
+
+-- the same of a record that can't be appended
+key-fault : (options : Options) (left left2 : Option (List ℕ)) (counting : Counting) (refusal : Refusal) → CountsFile options left left2 counting (Some refusal) → IsKeyFault refusal
+key-fault options left left2 counting refusal file =
+    first_fault-kind (partition_counts options) [] (records_taken (names_topics options) file.counted.keys) refusal file.refused
+
+key-fault-of : (expected : Result (List ℕ) Refusal) (e : Refusal) → IsKeyFault e → expected ≡ Err e → IsFaultOf expected e
+key-fault-of expected r.ReadFailed kind is = tt
+key-fault-of expected r.Memory kind is = tt
+key-fault-of expected r.WriteFailed kind is = absurd kind
+key-fault-of expected e kind is = is
+
+pub refused-fault : (options : Options) (left left2 : Option (List ℕ)) (counting : Counting) (refusal : Refusal) → CountsFile options left left2 counting (Some refusal)
+    → IfSome left (λ bytes. IsFaultOf (report_of_count options bytes) refusal)
+refused-fault options None left2 counting refusal file = tt
+refused-fault options (Some bytes) left2 counting refusal file =
+    key-fault-of (report_of_count options bytes) refusal (key-fault options (Some bytes) left2 counting refusal file) (refused-record options (Some bytes) left2 counting refusal file)
+
+write-kind : (e : Refusal) → IsKeyFault e → IsNoWrite e
+write-kind r.WriteFailed kind = absurd kind
+write-kind e kind = tt
+
+pub refused-kind : (options : Options) (left left2 : Option (List ℕ)) (counting : Counting) (refusal : Refusal) → CountsFile options left left2 counting (Some refusal) → IsNoWrite refusal
+refused-kind options left left2 counting refusal file = write-kind refusal (key-fault options left left2 counting refusal file)
+
+no-reads : (e : Refusal) → IsKeyFault e → failed_reads {T = Unit {0}} (Err e) ≡ 0
+no-reads r.ReadFailed kind = absurd kind
+no-reads e kind = refl
+
+pub refused-reads : (options : Options) (left left2 : Option (List ℕ)) (counting : Counting) (refusal : Refusal) → CountsFile options left left2 counting (Some refusal) → failed_reads {T = Unit {0}} (Err refusal) ≡ 0
+refused-reads options left left2 counting refusal file = no-reads refusal (key-fault options left left2 counting refusal file)

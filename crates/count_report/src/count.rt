@@ -1,6 +1,6 @@
 //! A count, from a source to a sink.
 
-ghost use Rattle.std.specs.Prelude.{◌≡◌, ◌+◌, ◌++◌, List, Ok, IfErr, IfOk, IfSome, flat_map, length, vec_items};
+ghost use Rattle.std.specs.Prelude.{◌≡◌, ◌+◌, ◌++◌, List, None, Ok, IfErr, IfOk, IfSome, flat_map, length, vec_items};
 ghost use Rattle.count_report.specs.CountReport.{report_of_count};
 ghost use Rattle.count_report.specs.Private.Counted.{ReportsCounted, TellsCounters, skipped};
 ghost use Rattle.report_rows.specs.CountRows.{listed_rows};
@@ -14,7 +14,7 @@ ghost use Rattle.ingest.specs.Reports.{AreInRange, IsFaultOf, IsNoWrite, WritesA
 
 use byte_io::{Sink, Source, write_texts};
 use command_line::Options;
-use ingest::count_file;
+use ingest::{count_file, window_for, workers_for};
 use key_counts::KeyCounts;
 use key_index::KeyList;
 use key_stream::{Counters, Counting};
@@ -25,14 +25,7 @@ use report_rows::top_rows::top_text;
 use std::alloc::Global;
 use std::hash::RandomState;
 use std::random::RandomSource;
-use std::thread;
 use std::thread::Threads;
-
-/// The number of threads that count, if the number of processors is unknown.
-const DEFAULT_WORKERS: usize = 4;
-
-/// How many bytes are read at once for each thread.
-const WINDOW: usize = 2 << 20;
 
 /// The text of a count: the rows of all keys or of the top, and the number of records as both
 /// totals.
@@ -55,14 +48,6 @@ fn texts_of_count<R: Threads + Sync, K: KeyList + Sync>(
     let mut texts = Vec::new(alloc);
     texts.push(text)?;
     Ok(texts)
-}
-
-/// The number of threads that count.
-fn workers_for(rt: &impl Threads) -> usize {
-    match thread::available_parallelism(rt) {
-        Ok(count) => count.get(),
-        Err(_) => DEFAULT_WORKERS,
-    }
 }
 
 /// How many bytes stand before each key: with topics the index of its topic.
@@ -120,7 +105,7 @@ fn counted_report<R: Threads + Sync + RandomSource>(
     counting: Counting,
     options: &Options,
 ) -> Result<Vec<Vec<u8>>, Memory>
-    requires { (left left2 : _) × CountsFile options.now left left2 counting }
+    requires { (left left2 : _) × CountsFile options.now left left2 counting None }
     ensures { IfOk result (ReportsCounted options.now counting) }
 {
     let records = counting.round.keys;
@@ -150,16 +135,19 @@ fn file_report<R: Threads + Sync + RandomSource, S: Source>(
         return Err(Refusal::Memory);
     };
     let workers = workers_for(rt);
-    let mut counting = Counting::new(alloc, hasher, workers, LEAST_BYTES)?;
-    count_file(
+    let mut counting = Counting::new(alloc, hasher, workers, LEAST_BYTES, false)?;
+    match count_file(
         rt,
         alloc,
         file,
         options,
-        workers.saturating_mul(WINDOW),
+        window_for(workers),
         &mut counting,
-    )?;
-    Ok(counted_report(rt, alloc, hasher, counting, options)?)
+    ) {
+        Ok(None) => Ok(counted_report(rt, alloc, hasher, counting, options)?),
+        Ok(Some(refusal)) => Err(refusal),
+        Err(fault) => Err(fault),
+    }
 }
 
 /// Counts how often each key occurs in a CSV file, and writes a row for each key, in the order of

@@ -1,6 +1,6 @@
 -- The first record of a file in pieces, and the columns that it names.
 use Rattle.std.proofs.Common.{◌≡◌, ◌<◌, ◌≤◌, ◌+◌, ◌∙◌, ℕ, suc, zero, List, [], ◌∷◌, ◌++◌, Bool, Bor, true, false, Some, Ok, Option, length, get_or, drop, take, refl, ap, sym, arith, append_assoc}
-use Rattle.std.specs.Prelude.{MatchOption, None, flat_map}
+use Rattle.std.specs.Prelude.{MatchOption, None}
 use Rattle.std.specs.Option.{is_some}
 use Rattle.std.specs.List.{position_from}
 use Rattle.std.specs.Str.{bytes_eq}
@@ -37,27 +37,6 @@ pub field-here : (t : List ℕ → Bool) (most i : ℕ) (fields : Record) (field
 field-here t most i fields field h k at e =
     let is : get_or fields i [] ≡ field = cc (sym (field-there fields i h) ∙ at) in
     rw (rest-of most i fields h k, is, e) refl
-
--- ---- the first record of pieces
-pieces-from : (delimiter : ℕ) (pieces : List (Bor (List ℕ))) (i : ℕ) (d : Bor (List ℕ)) → i < length pieces
-    → flat_map (file_records delimiter) (drop i (lent pieces)) ≡ file_records delimiter (get_or pieces i d).now ++ flat_map (file_records delimiter) (drop (i + 1) (lent pieces))
-pieces-from delimiter pieces i d h =
-    ap (flat_map (file_records delimiter)) (drop_more (lent pieces) i [] (omega (arith, h, lent-long pieces)))
-    ∙ ap (λ piece. file_records delimiter piece ++ flat_map (file_records delimiter) (drop (i + 1) (lent pieces))) (lent-at pieces i d h)
-
-pub header-here : (delimiter : ℕ) (pieces : List (Bor (List ℕ))) (i : ℕ) (d : Bor (List ℕ)) (fields : Record) (rest : List Record) → i < length pieces
-    → flat_map (file_records delimiter) (lent pieces) ≡ flat_map (file_records delimiter) (drop i (lent pieces)) → file_records delimiter (get_or pieces i d).now ≡ fields ∷ rest
-    → (more : List Record) × (flat_map (file_records delimiter) (lent pieces) ≡ fields ∷ more)
-header-here delimiter pieces i d fields rest h before first = (
-  rest ++ flat_map (file_records delimiter) (drop (i + 1) (lent pieces)),
-  before ∙ pieces-from delimiter pieces i d h ∙ ap (λ rows. rows ++ flat_map (file_records delimiter) (drop (i + 1) (lent pieces))) first,
-)
-
-pub header-later : (delimiter : ℕ) (pieces : List (Bor (List ℕ))) (i : ℕ) (d : Bor (List ℕ)) → i < length pieces
-    → flat_map (file_records delimiter) (lent pieces) ≡ flat_map (file_records delimiter) (drop i (lent pieces)) → file_records delimiter (get_or pieces i d).now ≡ []
-    → flat_map (file_records delimiter) (lent pieces) ≡ flat_map (file_records delimiter) (drop (i + 1) (lent pieces))
-header-later delimiter pieces i d h before none =
-    before ∙ pieces-from delimiter pieces i d h ∙ ap (λ rows. rows ++ flat_map (file_records delimiter) (drop (i + 1) (lent pieces))) none
 
 -- ---- the column
 pub column-none : (most : ℕ) (name : List ℕ) (rows : List Record) → rows ≡ [] → Ok 1 ≡ column_named most name rows

@@ -1,9 +1,6 @@
 -- The keys of a file from those of its pieces.
-use Rattle.std.proofs.Common.{◌≡◌, ◌≤◌, ◌+◌, ◌∙◌, ℕ, List, [], ◌∷◌, ◌++◌, Bool, true, false, Result, Ok, Err, length, sym, ap, refl, inl, inr, arith}
-use Rattle.lane_words.specs.Answers.{Answers}
-use Rattle.std.specs.Prelude.{◌⊎◌}
+use Rattle.std.proofs.Common.{◌≡◌, ◌≤◌, ◌+◌, ℕ, List, [], ◌∷◌, ◌++◌, Bool, true, false, Ok, Err, length, ap, refl, arith}
 use Rattle.lane_words.specs.declared.Refusal.{Refusal}
-use Rattle.lane_words.specs.declared.Refusal.TheVariants as r
 use Rattle.csv_ingest.specs.KeyFile.{Record, Taking, after_keys, key_before, keys_of_records, taken_of}
 use Rattle.csv_ingest.specs.Pieces.{file_records}
 use Rattle.csv_ingest.specs.Private.Pieces.{IsWidthOf, without_key}
@@ -26,15 +23,6 @@ count_of wanted false width rows keys b e =
 count_of wanted true width rows keys b e =
     let n = keys_from-count wanted (length b.0) 2 b.1 keys (rw b.2 at e) in
     rw b.2 (omega (arith, n))
-
-pub answer_ok : (expected : Result (List (List ℕ)) Refusal) (answer : Result (List (List ℕ)) Refusal) (keys : List (List ℕ)) → Answers expected answer → answer ≡ Ok keys → expected ≡ Ok keys
-answer_ok expected answer keys (inl h) e = sym h ∙ e
-answer_ok expected answer keys (inr h) e = cc (sym e ∙ h)
-
-pub answer_err : (expected : Result (List (List ℕ)) Refusal) (answer : Result (List (List ℕ)) Refusal) (fault : Refusal) → Answers expected answer → answer ≡ Err fault
-    → (fault ≡ r.Memory) ⊎ (expected ≡ Err fault)
-answer_err expected answer fault (inl h) e = inr (sym h ∙ e)
-answer_err expected answer fault (inr h) e = inl (cc (sym e ∙ h))
 
 keys-few : (wanted : Taking) (header : Bool) (rows : List Record) (keys : List (List ℕ)) → keys_of_records wanted header rows ≡ Ok keys → length keys ≤ length rows
 keys-few wanted header [] keys e = let none : [] ≡ keys = cc e in rw (← none) (omega arith)

@@ -5,7 +5,6 @@ pub mod Fields
 pub mod Headers
 pub mod Joined
 pub mod Keys
-pub mod Listed
 pub mod Pieces
 pub mod Progress
 pub mod Rounds

@@ -1,25 +1,22 @@
 -- A file that is read chunk by chunk.
-use Rattle.std.proofs.Common.{◌≡◌, ◌<◌, ◌≤◌, ◌+◌, ◌∙◌, ℕ, List, [], ◌∷◌, ◌++◌, Bool, Bor, true, false, Option, Some, None, Result, Ok, Err, length, get_or, take, drop, sym, ap, refl, subst, inl, inr, arith, append-nil, append_assoc, length-append}
+use Rattle.std.proofs.Common.{◌≡◌, ◌<◌, ◌+◌, ◌∙◌, ℕ, List, [], ◌∷◌, ◌++◌, Bool, Option, Some, None, Result, Ok, Err, length, get_or, take, drop, sym, ap, refl, subst, inl, inr, arith, append-nil, append_assoc, length-append}
 use Rattle.std.specs.Prelude.{◌⊎◌, suc, zero}
-use Rattle.std.proofs.lemmas.List.{get_or_append_left, take-append-drop, take_all, take_more}
-use Rattle.std.proofs.Math.Seq.{get_or-append_seam}
-use native.Mathlib.Decide.{dec_lt}
+use Rattle.std.proofs.lemmas.List.{take-append-drop, take_more}
 use Rattle.std.proofs.lemmas.List.Concat.{flat_map-append}
 use Rattle.std.proofs.lemmas.List.Sums.{fold-append}
 use Rattle.csv.specs.Reading.{strip_bom}
 use Rattle.lane_words.specs.declared.Refusal.{Refusal}
 use Rattle.lane_words.specs.declared.Refusal.TheVariants as r
 use Rattle.csv_ingest.specs.KeyFile.{Record, Taking, keys_from, keys_of_records, taken_of}
-use Rattle.csv_ingest.specs.Pieces.{ArePieces, file_records, later_fault, later_keys, piece_keys, then_keys}
-use Rattle.csv_ingest.specs.Private.Pieces.{IsWidthOf, bytes_of, fault_number, lent, without_key}
+use Rattle.csv_ingest.specs.Pieces.{ArePieces, file_records, later_fault, later_keys, then_keys}
+use Rattle.csv_ingest.specs.Private.Pieces.{IsWidthOf, bytes_of, without_key}
 use Rattle.csv_ingest.specs.Rounds.{HasRead, IsSplitPoint, chunk_keys, width_after, width_after_all, width_of}
 use Rattle.csv_ingest.specs.Stand.{IsCut, stand_after, stand_next}
 use Rattle.csv_ingest.specs.declared.stand.Stand.{Stand}
 use Rattle.csv_ingest.specs.declared.stand.Stand.TheVariants as k
 use Rattle.csv_ingest.proofs.Joined.{after_keys-both, after_keys-fault, count_of}
-use Rattle.csv_ingest.proofs.Parts.{drop-none, drop-step, lent-at, lent-long, pieces-bytes}
-use Rattle.csv_ingest.proofs.Pieces.{keys_from-count, keys_from-later, keys_of-two, no_records}
-use Rattle.csv_ingest.proofs.Short.{fault-below, file_records-short}
+use Rattle.csv_ingest.proofs.Parts.{drop-step, pieces-bytes}
+use Rattle.csv_ingest.proofs.Pieces.{keys_from-later, keys_of-two, no_records}
 use Rattle.csv_ingest.proofs.Stands.{bom-before, cut_file, line-no_bom, stand-append}
 
 pub split-records : (delimiter : ℕ) (read rest : List ℕ) → IsSplitPoint delimiter read rest → file_records delimiter (read ++ rest) ≡ file_records delimiter read ++ file_records delimiter rest
@@ -115,9 +112,6 @@ pub first_of-width : (width : ℕ) (rows : List Record) → Some width ≡ width
 first_of-width width [] e = cc e
 first_of-width width (x ∷ rows) e = (x, rows, refl, cc e)
 
-pub width-first : (width : ℕ) (rows : List Record) → IsWidthOf width rows → width_of rows ≡ Some width
-width-first width rows b = rw (b.2, b.3) refl
-
 pub none_read : (delimiter : ℕ) (wanted : Taking) (header : Bool) (read : List ℕ) (n : ℕ) (keys : List (List ℕ)) → HasRead delimiter wanted header read None n keys → (n ≡ 0) × (keys ≡ [])
 none_read delimiter wanted header read n keys so =
     let none = none_of-width (file_records delimiter read) so.first in
@@ -129,61 +123,7 @@ pub records_read : (delimiter : ℕ) (wanted : Taking) (header : Bool) (read : L
 records_read delimiter wanted header read width n keys so =
     so.count ∙ count_of wanted header width (file_records delimiter read) keys (first_of-width width (file_records delimiter read) so.first) so.taken
 
-pub blank_chunk : (delimiter : ℕ) (wanted : Taking) (header : Bool) (read chunk : List ℕ) (n : ℕ) (keys : List (List ℕ)) → HasRead delimiter wanted header read None n keys → IsSplitPoint delimiter read chunk
-    → file_records delimiter chunk ≡ [] → HasRead delimiter wanted header (read ++ chunk) None n keys
-blank_chunk delimiter wanted header read chunk n keys so s none =
-    let taken : taken_of delimiter wanted header chunk ≡ Ok [] = ap (keys_of_records wanted header) none in
-    let next = read_chunk delimiter wanted header read chunk None n keys [] so s taken in
-    let same : n + 0 ≡ n = omega arith in
-    rw (none, append-nil keys, same) at next
-
-pub first_chunk : (delimiter : ℕ) (wanted : Taking) (header : Bool) (read chunk : List ℕ) (width n : ℕ) (keys more : List (List ℕ)) → HasRead delimiter wanted header read None n keys → IsSplitPoint delimiter read chunk
-    → IsWidthOf width (file_records delimiter chunk) → taken_of delimiter wanted header chunk ≡ Ok more → HasRead delimiter wanted header (read ++ chunk) (Some width) (without_key header + length more) more
-first_chunk delimiter wanted header read chunk width n keys more so s b e =
-    let none = none_read delimiter wanted header read n keys so in
-    let next = read_chunk delimiter wanted header read chunk None n keys more so s e in
-    let count = count_of wanted header width (file_records delimiter chunk) more b e in
-    let sum : n + length (file_records delimiter chunk) ≡ without_key header + length more = omega (arith, count, none.0) in
-    rw (sum, width-first width (file_records delimiter chunk) b, none.1) at next
-
-pub next_chunk : (delimiter : ℕ) (wanted : Taking) (header : Bool) (read chunk : List ℕ) (width n : ℕ) (keys more : List (List ℕ)) → HasRead delimiter wanted header read (Some width) n keys → IsSplitPoint delimiter read chunk
-    → piece_keys delimiter wanted width chunk ≡ Ok more → HasRead delimiter wanted header (read ++ chunk) (Some width) (n + length more) (keys ++ more)
-next_chunk delimiter wanted header read chunk width n keys more so s e =
-    let next = read_chunk delimiter wanted header read chunk (Some width) n keys more so s e in
-    rw (← keys_from-count wanted width 1 (file_records delimiter chunk) more e) at next
-
-pub first_fault : (delimiter : ℕ) (wanted : Taking) (header : Bool) (read chunk rest : List ℕ) (n : ℕ) (keys : List (List ℕ)) (e : Refusal) → HasRead delimiter wanted header read None n keys
-    → IsSplitPoint delimiter read chunk → taken_of delimiter wanted header chunk ≡ Err e → IsSplitPoint delimiter (read ++ chunk) rest → taken_of delimiter wanted header ((read ++ chunk) ++ rest) ≡ Err e
-first_fault delimiter wanted header read chunk rest n keys e so s h t =
-    let none = none_read delimiter wanted header read n keys so in
-    fault_of_chunk delimiter wanted header read chunk rest None n keys e so s h t ∙ ap Err (rw none.0 (later_fault-none e))
-
-pub next_fault : (delimiter : ℕ) (wanted : Taking) (header : Bool) (read chunk rest : List ℕ) (width n : ℕ) (keys : List (List ℕ)) (e : Refusal) → HasRead delimiter wanted header read (Some width) n keys
-    → IsSplitPoint delimiter read chunk → piece_keys delimiter wanted width chunk ≡ Err e → IsSplitPoint delimiter (read ++ chunk) rest → taken_of delimiter wanted header ((read ++ chunk) ++ rest) ≡ Err (later_fault n e)
-next_fault delimiter wanted header read chunk rest width n keys e so s h t = fault_of_chunk delimiter wanted header read chunk rest (Some width) n keys e so s h t
-
 -- record numbers fit where lengths do
-
-pub records-short : (delimiter : ℕ) (wanted : Taking) (header : Bool) (read : List ℕ) (width : Option ℕ) (n : ℕ) (keys : List (List ℕ)) → HasRead delimiter wanted header read width n keys → n ≤ length read
-records-short delimiter wanted header read width n keys so = let short = file_records-short delimiter read in omega (arith, short, so.count)
-
-fault-within : (wanted : Taking) (header : Bool) (rows : List Record) (e : Refusal) → keys_of_records wanted header rows ≡ Err e → fault_number e ≤ length rows
-fault-within wanted header [] e h = cc h
-fault-within wanted false (x ∷ rows) e h = let below = fault-below wanted (length x) 1 (x ∷ rows) e h in omega (arith, below)
-fault-within wanted true (x ∷ rows) e h = let below = fault-below wanted (length x) 2 rows e h in omega (arith, below)
-
-pub fault-short : (delimiter : ℕ) (wanted : Taking) (header : Bool) (read chunk : List ℕ) (width : Option ℕ) (n : ℕ) (keys : List (List ℕ)) (e : Refusal) → HasRead delimiter wanted header read width n keys
-    → chunk_keys delimiter wanted header width chunk ≡ Err e → fault_number e + n ≤ length read + length chunk
-fault-short delimiter wanted header read chunk None n keys e so h =
-    let before = records-short delimiter wanted header read None n keys so in
-    let within = fault-within wanted header (file_records delimiter chunk) e h in
-    let short = file_records-short delimiter chunk in
-    omega (arith, before, within, short)
-fault-short delimiter wanted header read chunk (Some width) n keys e so h =
-    let before = records-short delimiter wanted header read (Some width) n keys so in
-    let within = fault-below wanted width 1 (file_records delimiter chunk) e h in
-    let short = file_records-short delimiter chunk in
-    omega (arith, before, within, short)
 
 -- split points
 
@@ -217,23 +157,7 @@ split-next delimiter read (c ∷ chunk) rest (inr (inr next)) (inr (inr more)) =
     let here : IsCut delimiter (strip_bom (10 ∷ chunk)) = subst (λ d. IsCut delimiter (strip_bom (d ∷ chunk))) feed more.2 in
     inr (inr (more.0, more.1, rw feed (ap (λ s. stand_next delimiter s 10) (stand-behind_split delimiter read chunk next.2) ∙ here)))
 
--- more bytes of a file may come behind the last ones that were read
-pub split-more : (delimiter : ℕ) (read rest : List ℕ) → (read ≡ []) ⊎ (0 < length rest) → IsSplitPoint delimiter read rest → (more : List ℕ) → IsSplitPoint delimiter read (rest ++ more)
-split-more delimiter read rest (inl start) s more = inl start
-split-more delimiter read rest (inr some) (inl start) more = inl start
-split-more delimiter read rest (inr some) (inr (inl end)) more = absurd (omega (arith, some, ap length end))
-split-more delimiter read rest (inr some) (inr (inr next)) more = inr (inr (next.0 ++ more, ap (λ xs. xs ++ more) next.1, next.2))
-
 -- the pieces of a text
-
-pub piece-split : (delimiter : ℕ) (chunk next text : List ℕ) (pieces : List (List ℕ)) → ArePieces delimiter text (chunk ∷ next ∷ pieces) → IsSplitPoint delimiter chunk (bytes_of (next ∷ pieces))
-unfolding ArePieces
-piece-split delimiter chunk next text pieces h = inr (inr (h.0, pieces-bytes delimiter (next ∷ pieces) (10 ∷ h.0) h.3, h.2))
-
-pub split-first : (delimiter : ℕ) (read chunk next text : List ℕ) (pieces : List (List ℕ)) → ArePieces delimiter text (chunk ∷ next ∷ pieces) → IsSplitPoint delimiter read text → IsSplitPoint delimiter (read ++ chunk) (bytes_of (next ∷ pieces))
-split-first delimiter read chunk next text pieces h s =
-    let whole : text ≡ chunk ++ bytes_of (next ∷ pieces) = sym (pieces-bytes delimiter (chunk ∷ next ∷ pieces) text h) in
-    split-next delimiter read chunk (bytes_of (next ∷ pieces)) (rw whole at s) (piece-split delimiter chunk next text pieces h)
 
 -- each of several pieces begins at a split point; so does what follows the last, if nothing does
 pub split-pieces : (delimiter : ℕ) (pieces : List (List ℕ)) (read text more : List ℕ) (i : ℕ) → ArePieces delimiter text pieces → (i < length pieces) ⊎ (more ≡ []) → IsSplitPoint delimiter read (text ++ more)
@@ -265,13 +189,6 @@ bytes-next pieces i within =
 bytes-from : (pieces : List (List ℕ)) (i : ℕ) → i < length pieces → bytes_of (drop i pieces) ≡ get_or pieces i [] ++ bytes_of (drop (i + 1) pieces)
 bytes-from pieces i within = ap bytes_of (drop-step pieces i [] within)
 
-pub bytes-all : (delimiter : ℕ) (pieces : List (List ℕ)) (text : List ℕ) (i : ℕ) → ArePieces delimiter text pieces → length pieces ≤ i → bytes_of (take i pieces) ≡ text
-bytes-all delimiter pieces text i h all = ap bytes_of (take_all i pieces all) ∙ pieces-bytes delimiter pieces text h
-
-pub bytes-last : (delimiter : ℕ) (pieces : List (List ℕ)) (text : List ℕ) (i : ℕ) → ArePieces delimiter text pieces → i + 1 ≡ length pieces → text ≡ bytes_of (take i pieces) ++ get_or pieces i []
-bytes-last delimiter pieces text i h last =
-    sym (bytes-all delimiter pieces text (i + 1) h (omega (arith, last))) ∙ bytes-next pieces i (omega (arith, last))
-
 split-nil : (delimiter : ℕ) (read text : List ℕ) → IsSplitPoint delimiter read text → IsSplitPoint delimiter read (text ++ [])
 split-nil delimiter read text s = subst (IsSplitPoint delimiter read) (sym (append-nil text)) s
 
@@ -283,15 +200,6 @@ split-piece delimiter pieces read text i h within s =
     let here = split-pieces delimiter pieces read text [] i h (inl within) (split-nil delimiter read text s) in
     let whole : bytes_of (drop i pieces) ++ [] ≡ get_or pieces i [] ++ rest = append-nil (bytes_of (drop i pieces)) ∙ bytes-from pieces i within in
     split-front delimiter (read ++ bytes_of (take i pieces)) (get_or pieces i []) rest (subst (IsSplitPoint delimiter (read ++ bytes_of (take i pieces))) whole here)
-
--- the last piece stays for the next round: before it there is a split point, whatever follows it
-pub split-last : (delimiter : ℕ) (pieces : List (List ℕ)) (read text more : List ℕ) (i : ℕ) → ArePieces delimiter text pieces → i + 1 ≡ length pieces → IsSplitPoint delimiter read (text ++ more)
-    → IsSplitPoint delimiter (read ++ bytes_of (take i pieces)) (get_or pieces i [] ++ more)
-split-last delimiter pieces read text more i h last s =
-    let within : i < length pieces = omega (arith, last) in
-    let none : drop (i + 1) pieces ≡ [] = drop-none pieces (i + 1) last in
-    let whole : bytes_of (drop i pieces) ≡ get_or pieces i [] = bytes-from pieces i within ∙ ap (λ ps. get_or pieces i [] ++ bytes_of ps) none ∙ append-nil (get_or pieces i []) in
-    subst (λ xs. IsSplitPoint delimiter (read ++ bytes_of (take i pieces)) (xs ++ more)) whole (split-pieces delimiter pieces read text more i h (inl within) s)
 
 -- a round: the pieces before piece i were read, and then it is
 

@@ -1,18 +1,13 @@
 -- A file has no more records than bytes, so that their numbers fit.
-use Rattle.std.proofs.Common.{◌≡◌, ◌<◌, ◌≤◌, ◌+◌, ℕ, List, [], ◌∷◌, ◌++◌, Bool, true, false, Result, Ok, Err, length, refl, arith, inl, inr, subst}
+use Rattle.std.proofs.Common.{◌≡◌, ◌≤◌, ◌+◌, ℕ, List, [], ◌∷◌, ◌++◌, Bool, true, false, length, refl, arith, inl, inr}
 use Rattle.std.proofs.lemmas.Bool.{cases_Bool}
-use Rattle.std.specs.Prelude.{◌==◌, if◌then◌else◌, suc, ⊤}
+use Rattle.std.specs.Prelude.{if◌then◌else◌, suc}
 use Rattle.csv.specs.Machine.{ends_at_end, field_after, fields_after, is_end, step}
 use Rattle.csv.specs.Reading.{is_bom, records, strip_bom}
 use Rattle.csv.specs.declared.parser.State.{State}
 use Rattle.csv.specs.declared.parser.State.TheVariants as st
-use Rattle.lane_words.specs.declared.Refusal.{Refusal}
-use Rattle.lane_words.specs.declared.Refusal.TheVariants as r
-use Rattle.csv_ingest.specs.declared.lack.Lack.{Lack}
-use Rattle.csv_ingest.specs.declared.lack.Lack.TheVariants as l
 use Rattle.csv_ingest.specs.Pieces.{file_records}
-use Rattle.csv_ingest.specs.Private.Pieces.{fault_number}
-use Rattle.csv_ingest.specs.KeyFile.{Record, Taking, dialect, keyed, keys_from}
+use Rattle.csv_ingest.specs.KeyFile.{Record, dialect}
 use Rattle.csv_ingest.specs.Records.{IsBetween}
 use Rattle.csv_ingest.proofs.Progress.{step-between}
 use Rattle.csv_ingest.specs.Private.Walk.{walk}
@@ -63,25 +58,3 @@ strip-short (a ∷ b ∷ c ∷ xs) = elim (cases_Bool (is_bom a b c)) [ inl t �
 
 pub file_records-short : (delimiter : ℕ) (xs : List ℕ) → length (file_records delimiter xs) ≤ length xs
 file_records-short delimiter xs = let a = records-short delimiter (strip_bom xs) in let b = strip-short xs in omega (arith, a, b)
-
--- the number of a fault lies among those of the records
-abbrev pub FaultBelow : ℕ → Result (List (List ℕ)) Refusal → Type 0
-FaultBelow n (Ok keys) = ⊤
-FaultBelow n (Err fault) = fault_number fault < n
-
-keyed-below : (b : Bool) (nth n : ℕ) (o : Result (List ℕ) Lack) (rest : Result (List (List ℕ)) Refusal) → nth < n → FaultBelow n rest
-    → FaultBelow n (if b then keyed nth o rest else Err (r.BadCsv nth))
-keyed-below false nth n o rest h k = h
-keyed-below true nth n (Err l.Column) rest h k = h
-keyed-below true nth n (Err l.Topic) rest h k = h
-keyed-below true nth n (Ok key) (Ok keys) h k = tt
-keyed-below true nth n (Ok key) (Err fault) h k = k
-
-keys-below : (wanted : Taking) (width nth n : ℕ) (xs : List Record) → nth + length xs ≤ n → FaultBelow n (keys_from wanted width nth xs)
-unfolding keys_from
-keys-below wanted width nth n [] h = tt
-keys-below wanted width nth n (x ∷ xs) h =
-    keyed-below (length x == width) nth n (wanted x) _ (omega arith) (keys-below wanted width (nth + 1) n xs (omega arith))
-
-pub fault-below : (wanted : Taking) (width nth : ℕ) (xs : List Record) (e : Refusal) → keys_from wanted width nth xs ≡ Err e → fault_number e < nth + length xs
-fault-below wanted width nth xs e h = subst (FaultBelow (nth + length xs)) h (keys-below wanted width nth (nth + length xs) xs (omega arith))

@@ -6,11 +6,6 @@ use Rattle.lane_words.specs.declared.Refusal.TheVariants as r
 use Rattle.csv_ingest.specs.KeyFile.{Record, Taking, after_keys, dialect, keys_from}
 use Rattle.csv_ingest.specs.Stand.{IsCut}
 
--- a file of records: the delimiter of its fields, and its bytes
-pub record RecordFile : Type 0 where
-  pub delimiter : ℕ
-  pub bytes : List ℕ
-
 -- the records of a file with this delimiter
 abbrev pub file_records : ℕ → List ℕ → List Record
 file_records delimiter bytes = records (dialect delimiter) (strip_bom bytes)

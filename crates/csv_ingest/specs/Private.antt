@@ -1,7 +1,6 @@
 pub mod Cuts
 pub mod FieldEnds
 pub mod Fields
-pub mod FileKeys
 pub mod Header
 pub mod KeyFile
 pub mod Pieces

@@ -1,6 +1,6 @@
 //! The columns that the header of a file names.
 
-ghost use Rattle.std.specs.Prelude.{◌≡◌, ◌≤◌, ◌<◌, false, true, IfOk, IfErr, IfSome, flat_map, take};
+ghost use Rattle.std.specs.Prelude.{◌≡◌, ◌≤◌, ◌<◌, false, true, IfOk, IfErr, IfSome, take};
 ghost use Rattle.std.specs.List.{position_from};
 ghost use Rattle.std.specs.Str.{bytes_eq};
 ghost use Rattle.csv.specs.Records.{fields_of};
@@ -8,11 +8,9 @@ ghost use Rattle.csv_ingest.specs.Header.{HasHeader, column_at, column_named};
 ghost use Rattle.csv_ingest.specs.KeyFile.{IsFileFault};
 ghost use Rattle.csv_ingest.specs.Pieces.{file_records};
 ghost use Rattle.csv_ingest.specs.Private.Header.{BeginsWith};
-ghost use Rattle.csv_ingest.specs.Private.Pieces.{lent};
 ghost use Rattle.csv_ingest.specs.Stand.{is_line_end};
 ghost use Rattle.lane_words.specs.Answers.{Answers};
 
-use crate::blocks::Blocks;
 use crate::cuts::pieces_of;
 use crate::piece::first_width;
 use crate::records::{next_record, records_of};
@@ -32,24 +30,6 @@ fn read_first(
 {
     let mut reader = records_of(alloc, piece, delimiter);
     next_record(&mut reader, row)
-}
-
-/// Reads the first record of the file that lies in these pieces, and tells whether there was one.
-fn read_header(
-    alloc: Global,
-    pieces: &[&[u8]],
-    delimiter: u8,
-    row: &mut ByteRecord,
-) -> Result<bool, Memory>
-    ensures { IfOk result (λ found. BeginsWith found (fields_of row.new)
-        (flat_map (file_records delimiter) (lent pieces.now))) }
-{
-    for i in 0..pieces.len() {
-        if read_first(alloc, pieces[i], delimiter, row)? {
-            return Ok(true);
-        }
-    }
-    Ok(false)
 }
 
 /// The index of the first field with this name, among the first `most` fields of a record.
@@ -83,25 +63,10 @@ fn column_among(header: &ByteRecord, name: &[u8], most: u32) -> Result<u32, Refu
 }
 
 /// The column of the first field of a file's header with this name, byte for byte, among the first
-/// `most` fields. Columns are counted from 1. The header is the first record; where there is none,
-/// the column is the first.
+/// `most` fields, by the first bytes of the file, which have the header whole. Columns are counted
+/// from 1. The header is the first record; where there is none, the column is the first.
 ///
 /// Errors: `NoSuchColumn` for record 1 if no field has this name, and `Memory`.
-pub fn column_named(alloc: Global, file: &Blocks, name: &[u8], most: u32) -> Result<u32, Refusal>
-    ensures answer { Answers
-        (column_named most name.now (file_records file.now.delimiter file.now.bytes)) result }
-    ensures range { IfOk result (λ column. 1 ≤ column) }
-    ensures kind { IfErr result IsFileFault }
-{
-    let pieces = file.pieces(alloc, 1)?;
-    let mut row = ByteRecord::new(alloc);
-    if !read_header(alloc, &pieces, file.delimiter(), &mut row)? {
-        return Ok(1);
-    }
-    column_among(&row, name, most)
-}
-
-/// The same of a file with this delimiter, by its first bytes, which have the header whole.
 pub fn column_named_in(
     alloc: Global,
     text: &[u8],

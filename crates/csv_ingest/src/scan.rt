@@ -21,7 +21,6 @@ use crate::wanted::Wanted;
 use crate::whole::take_file;
 use lane_words::{Memory, Refusal};
 use memchr::memchr;
-use record_batch::RecordBatch;
 use std::alloc::Global;
 
 /// Whether there is this byte here.
@@ -331,46 +330,4 @@ pub fn take_first_keys<K: KeySink>(
     } else {
         take_keys(alloc, keys, piece, delimiter, wanted, width)
     }
-}
-
-/// The keys of one piece of a file, as `take_keys` takes them.
-pub fn keys_of(
-    alloc: Global,
-    piece: &[u8],
-    delimiter: u8,
-    wanted: &Wanted<'_>,
-    width: usize,
-) -> Result<RecordBatch, Refusal>
-    ensures keys { IfOk result
-        (λ keys. piece_keys delimiter (taking wanted.now) width piece.now ≡ Ok keys) }
-    ensures kind { IfErr result IsFileFault }
-    ensures fault { IfErr result
-        (λ e. (e ≡ refusal.Memory)
-        ⊎ (piece_keys delimiter (taking wanted.now) width piece.now ≡ Err e)) }
-{
-    let mut keys = wanted.new_list(alloc);
-    let taken = take_keys(alloc, &mut keys, piece, delimiter, wanted, width);
-    taken.and(Ok(keys))
-}
-
-/// The keys of the first piece of a file, whose first record is `width` fields long.
-pub fn first_keys(
-    alloc: Global,
-    piece: &[u8],
-    delimiter: u8,
-    wanted: &Wanted<'_>,
-    header: bool,
-    width: usize,
-) -> Result<RecordBatch, Refusal>
-    requires { IsWidthOf width (file_records delimiter piece.now) }
-    ensures keys { IfOk result
-        (λ keys. taken_of delimiter (taking wanted.now) header piece.now ≡ Ok keys) }
-    ensures kind { IfErr result IsFileFault }
-    ensures fault { IfErr result
-        (λ e. (e ≡ refusal.Memory)
-        ⊎ (taken_of delimiter (taking wanted.now) header piece.now ≡ Err e)) }
-{
-    let mut keys = wanted.new_list(alloc);
-    let taken = take_first_keys(alloc, &mut keys, piece, delimiter, wanted, header, width);
-    taken.and(Ok(keys))
 }

@@ -1,11 +1,11 @@
 //! Those who take keys.
 
-ghost use Rattle.std.specs.Prelude.{◌≡◌, ◌∷◌, [], ◌++◌, ℕ, List, OnOk};
-ghost use Rattle.csv_ingest.specs.Private.Sinks.{batch-more, batch-nothing};
+ghost use Rattle.std.specs.Prelude.{◌≡◌, ◌∷◌, [], ◌++◌, ℕ, List, IfOk, OnOk, map, vec_items};
+ghost use Rattle.csv_ingest.specs.Private.Sinks.{list-more, list-nothing};
 ghost use Rattle.csv_ingest.specs.Sinks.{item};
 
 use lane_words::Memory;
-use record_batch::RecordBatch;
+use std::alloc::Global;
 
 /// Takes the keys of records, one after another.
 pub trait KeySink {
@@ -23,18 +23,30 @@ pub trait KeySink {
         → Takes a first b → Takes b second c → Takes a (first ++ second) c };
 }
 
+/// A key behind the index of its topic, if it has one.
+fn item_of(alloc: Global, topic: Option<u8>, key: &[u8]) -> Result<Vec<u8>, Memory>
+    ensures { IfOk result (λ copy. copy.items ≡ item topic key.now) }
+{
+    let Some(index) = topic else {
+        return Ok(Vec::from_slice(alloc, key)?);
+    };
+    let mut copy = Vec::with_capacity(alloc, key.len().saturating_add(1))?;
+    copy.push(index)?;
+    copy.extend_from_slice(key)?;
+    Ok(copy)
+}
+
 /// Keeps the keys.
-impl KeySink for RecordBatch {
-    ghost Takes = { λ a keys b. b ≡ a ++ keys };
+impl KeySink for Vec<Vec<u8>> {
+    ghost Takes = { λ a keys b. map vec_items b.items ≡ map vec_items a.items ++ keys };
 
     fn take(&mut self, topic: Option<u8>, key: &[u8]) -> Result<(), Memory> {
-        match topic {
-            Some(index) => self.push_two(&[index], key),
-            None => self.push(key),
-        }
+        let alloc = *self.allocator();
+        self.push(item_of(alloc, topic, key)?)?;
+        Ok(())
     }
 
-    ghost takes_nothing = { batch-nothing };
+    ghost takes_nothing = { list-nothing };
 
-    ghost takes_more = { batch-more };
+    ghost takes_more = { list-more };
 }

@@ -1,6 +1,6 @@
 //! What is taken of each record of a file.
 
-ghost use Rattle.std.specs.Prelude.{◌≡◌, ◌≤◌, ◌<◌, ◌^◌, Ok, Err, Some, None, [], IfOk, IfErr, IfSome, ◌+◌, length, map};
+ghost use Rattle.std.specs.Prelude.{◌≡◌, ◌≤◌, ◌<◌, ◌^◌, Ok, Err, Some, None, IfOk, IfErr, IfSome, ◌+◌, length, map};
 ghost use Rattle.std.specs.List.{position_from};
 ghost use Rattle.std.specs.Str.{bytes_eq};
 ghost use Rattle.csv.specs.Records.{fields_of};
@@ -11,9 +11,6 @@ ghost use Rattle.csv_ingest.specs.Sinks.{item};
 use crate::lack::Lack;
 use csv::ByteRecord;
 use lane_words::Refusal;
-use record_batch::RecordBatch;
-use std::alloc::Global;
-use std::hash::RandomState;
 use std::marker::Model;
 
 /// Where a record has its topic, and which topics there are.
@@ -33,8 +30,6 @@ pub struct Wanted<'a> {
     column: u32,
     /// The topics, if the file has a column of them.
     topics: Option<Topics<'a>>,
-    /// What keys are looked up by as they are read, if they are.
-    hasher: Option<RandomState>,
 }
 
 impl<'a> Model for Wanted<'a> {
@@ -81,15 +76,14 @@ fn index_of(names: &[&[u8]], topic: &[u8]) -> Option<u8>
 }
 
 impl<'a> Wanted<'a> {
-    /// The key alone. It is looked up by this hasher, if there is one.
-    pub fn key(column: u32, hasher: Option<RandomState>) -> Wanted<'a>
+    /// The key alone.
+    pub fn key(column: u32) -> Wanted<'a>
         requires { 1 ≤ column }
         ensures { result ≡ (column, None) }
     {
         Wanted {
             column,
             topics: None,
-            hasher,
         }
     }
 
@@ -106,7 +100,6 @@ impl<'a> Wanted<'a> {
         Wanted {
             column,
             topics: Some(topics),
-            hasher: None,
         }
     }
 
@@ -118,16 +111,6 @@ impl<'a> Wanted<'a> {
             return None;
         }
         Some(self.column as usize - 1)
-    }
-
-    /// A list for what is taken, with nothing in it yet.
-    pub fn new_list(&self, alloc: Global) -> RecordBatch
-        ensures { result ≡ [] }
-    {
-        match self.hasher {
-            Some(hasher) => RecordBatch::looking_up(alloc, hasher),
-            None => RecordBatch::new(alloc),
-        }
     }
 
     /// What is taken of a record, or what it lacks.

@@ -1,8 +1,8 @@
 //! The keys of a file that is read in one piece.
 
-ghost use Rattle.std.specs.Prelude.{◌≡◌, ◌≤◌, ◌+◌, ◌<◌, ◌^◌, ◌⊎◌, Ok, Err, IfOk, IfErr, OnOk};
+ghost use Rattle.std.specs.Prelude.{◌≡◌, ◌+◌, ◌<◌, ◌^◌, ◌⊎◌, Ok, Err, IfOk, IfErr, OnOk, map, vec_items};
 ghost use Rattle.csv.specs.Records.{fields_of};
-ghost use Rattle.csv_ingest.specs.KeyFile.{IsFileFault, keys_from, keys_of, keys_of_records, taken_of};
+ghost use Rattle.csv_ingest.specs.KeyFile.{IsFileFault, keys_from, keys_of_records, taken_of};
 ghost use Rattle.csv_ingest.specs.Private.KeyFile.{IsFaultAt};
 ghost use Rattle.csv_ingest.specs.Private.Sinks.{TakesRecord};
 ghost use Rattle.csv_ingest.specs.Private.Wanted.{taking};
@@ -15,7 +15,6 @@ use crate::sink::KeySink;
 use crate::wanted::{Wanted, lack_at};
 use csv::{ByteRecord, Reader};
 use lane_words::Refusal;
-use record_batch::RecordBatch;
 use std::alloc::Global;
 use std::io::Read;
 
@@ -120,46 +119,31 @@ pub fn take_file<K: KeySink>(
     take_all(keys, &mut reader, &mut row, wanted, header)
 }
 
-/// What is taken of the records of a file, in their order: of each its key, behind the index of its
-/// topic where the file has topics. `read_keys` tells the rest.
-pub fn read_taken(
+/// What is taken of the records of a file with this delimiter, in their order: of each its key,
+/// behind the index of its topic where the file has topics.
+///
+/// Columns are counted from 1, and so are records, a header among them. The header is the first
+/// record, and is dropped before its column is looked at. A record of another length than the first
+/// is refused with `BadCsv`, whatever its columns, one that lacks a column with `NoSuchColumn`, then
+/// one whose topic has none of the names with `NoSuchTopic`, and only a refused growth with
+/// `Memory`.
+pub fn read_keys(
     alloc: Global,
     file: &[u8],
     delimiter: u8,
     wanted: &Wanted<'_>,
     header: bool,
-) -> Result<RecordBatch, Refusal>
-    ensures keys { IfOk result
-        (λ keys. taken_of delimiter (taking wanted.now) header file.now ≡ Ok keys) }
+) -> Result<Vec<Vec<u8>>, Refusal>
+    ensures keys { IfOk result (λ keys. taken_of delimiter (taking wanted.now) header file.now
+        ≡ Ok (map vec_items keys.items)) }
     ensures kind { IfErr result IsFileFault }
     ensures fault { IfErr result
         (λ e. (e ≡ refusal.Memory)
         ⊎ (taken_of delimiter (taking wanted.now) header file.now ≡ Err e)) }
 {
-    let mut keys = wanted.new_list(alloc);
-    let taken = take_file(alloc, &mut keys, file, delimiter, wanted, header);
-    taken.and(Ok(keys))
-}
-
-/// The keys of a file of records with this delimiter: of each record the field in this column, in
-/// the order of the records.
-///
-/// Columns are counted from 1, and so are records, a header among them. The header is the first
-/// record, and is dropped before its column is looked at. A record of another length than the first
-/// is refused with `BadCsv`, whatever its columns, one that lacks the column with `NoSuchColumn`,
-/// and only a refused growth with `Memory`.
-pub fn read_keys(
-    alloc: Global,
-    file: &[u8],
-    delimiter: u8,
-    column: u32,
-    header: bool,
-) -> Result<RecordBatch, Refusal>
-    requires { 1 ≤ column }
-    ensures keys { IfOk result (λ keys. keys_of delimiter column header file.now ≡ Ok keys) }
-    ensures kind { IfErr result IsFileFault }
-    ensures fault { IfErr result
-        (λ e. (e ≡ refusal.Memory) ⊎ (keys_of delimiter column header file.now ≡ Err e)) }
-{
-    read_taken(alloc, file, delimiter, &Wanted::key(column, None), header)
+    let mut keys = Vec::new(alloc);
+    match take_file(alloc, &mut keys, file, delimiter, wanted, header) {
+        Ok(_) => Ok(keys),
+        Err(fault) => Err(fault),
+    }
 }

@@ -3,7 +3,8 @@
 ghost use Rattle.std.specs.Prelude.{◌≡◌, ◌≤◌, ◌+◌, Ok, IfOk, IfErr, IfSome};
 ghost use Rattle.byte_io.specs.Devices.{CanStillFail};
 ghost use Rattle.draw_report.specs.DrawReport.{picture_of_lines, picture_of_records, report_of_draw, timeline_of_lines};
-ghost use Rattle.ingest.specs.Records.{AreOfTopics, partition_counts, records_in, records_of};
+ghost use Rattle.ingest.specs.Counted.{AreReadFor};
+ghost use Rattle.ingest.specs.Records.{records_in, records_of};
 ghost use Rattle.ingest.specs.Reports.{AreInRange, MakesIfKnown, CountsFailures, IsFaultOf, IsNoDeviceFault, IsNoWrite, ReadsFileFirst, WritesAtEndAlone, WritesIfKnown, failed_reads, failed_writes, text_seen};
 ghost use Rattle.lane_words.specs.Answers.{Answers};
 ghost use Rattle.partitioner.specs.Topic.{MayBeTopics};
@@ -94,7 +95,7 @@ fn picture_of_records<R: Threads + Sync + RandomSource>(
     options: &Options,
 ) -> Result<Vec<u8>, Refusal>
     requires options { AreInRange options.now }
-    requires topics { AreOfTopics (partition_counts options.now) (records_in records) }
+    requires topics { AreReadFor options.now records }
     ensures answer { Answers
         (picture_of_records options.now script.now (records_in records) lines.now)
         (text_seen result) }

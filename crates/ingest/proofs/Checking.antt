@@ -28,7 +28,7 @@ use Rattle.key_stream.proofs.TakenFirst.{front-within}
 use Rattle.partition_log.specs.Keys.{Key, distinct}
 use Rattle.partition_log.specs.Keys.{keys_in as keys_in_records}
 use Rattle.ingest.specs.Limits.{AreEntriesOfTopics, BeginsAfter, IsLimitCheck, Limits, record_taken, records_taken}
-use Rattle.ingest.specs.Private.Counted.{AreWithin, BeginsCheck, ChecksFound, ChecksWindow, Concludes, CountsSource, HasRoom, IsChecking, IsFirstFault, IsSourceRefusal, ReadsBehind, TakesTopics, refusal_of}
+use Rattle.ingest.specs.Private.Counted.{AreWithin, BeginsCheck, ChecksFound, ChecksWindow, Concludes, CountsSource, HasRoom, IsChecking, IsFirstFault, IsSourceFault, ReadsBehind, TakesTopics}
 use Rattle.ingest.specs.Private.LimitLaws.{fewer-keys}
 use Rattle.ingest.specs.Private.Limits.{long_fault_of}
 use Rattle.ingest.specs.RecordFaults.{first_fault}
@@ -221,19 +221,16 @@ checking-ends delimiter wanted header counts has_topics at_end done first first_
     drop-all [] = refl
     drop-all (x ∷ xs) = drop-all xs
 
--- ---- why a source is refused
-refused-fault : (counts : List ℕ) (has_topics : Bool) (found : Result (List Key) Refusal) (e : Refusal) → found ≡ Err e → refusal_of counts has_topics found ≡ Some e
-refused-fault counts has_topics found e is = ap (refusal_of counts has_topics) is
-
+-- ---- the fault of a source
 pub checking-fails : (delimiter : ℕ) (wanted : Taking) (header : Bool) (counts : List ℕ) (has_topics at_end : Bool) (first : List ℕ) (first_end : Bool) (left left2 : Option (List ℕ)) (window : List ℕ) (counting : Counting) (check : Option Limits) (e : Refusal)
     → IsChecking delimiter wanted header counts has_topics at_end first first_end left left2 window counting check → HasFaultIn delimiter wanted header at_end window counting e
-    → IsSourceRefusal delimiter wanted header counts has_topics first left e
+    → IsSourceFault delimiter wanted header first left e
 checking-fails delimiter wanted header counts has_topics at_end first first_end None left2 window counting check e r f = tt
 checking-fails delimiter wanted header counts has_topics at_end first first_end (Some rest) None window counting check e r f = absurd r.bytes.consumed
 checking-fails delimiter wanted header counts has_topics at_end first first_end (Some rest) (Some more) window counting check e r f =
     let file : first ++ rest ≡ r.read ++ (window ++ more) =
     ap (λ xs. first ++ xs) r.bytes.consumed ∙ sym (append_assoc first r.bytes.more more) ∙ ap (λ xs. xs ++ more) (sym r.bytes.whole) ∙ append_assoc r.read window more in
-    refused-fault counts has_topics (taken_of delimiter wanted header (first ++ rest)) e (ap (taken_of delimiter wanted header) file ∙ f r.read more (r.split more r.ended) r.ended r.counted)
+    ap (taken_of delimiter wanted header) file ∙ f r.read more (r.split more r.ended) r.ended r.counted
 
 -- a chunk that was counted has no fault
 pub counted-fault : (delimiter : ℕ) (wanted : Taking) (header at_end : Bool) (text : List ℕ) (n : ℕ) (old new : Counting) (e : Refusal) → TakesFirst delimiter wanted header at_end text n old new
@@ -246,58 +243,18 @@ counted-fault delimiter wanted header at_end text n old new e takes bad = λ rea
     absurd (cc (sym now.so.so.taken ∙ chunk_fault delimiter wanted header read front old.round.width so.so.records so.keys e so.so.so here bad))
 
 -- ---- at the end
-pub refused-key : (counts : List ℕ) (has_topics : Bool) (found : Result (List Key) Refusal) (keys : List Key) → found ≡ Ok keys → refusal_of counts has_topics found ≡ first_fault counts [] (records_taken has_topics keys)
-refused-key counts has_topics found keys is = ap (refusal_of counts has_topics) is
-
-pub checking-accepts : (delimiter : ℕ) (wanted : Taking) (header : Bool) (counts : List ℕ) (has_topics : Bool) (first : List ℕ) (first_end : Bool) (left left2 : Option (List ℕ)) (counting : Counting) (check : Option Limits) (u : Unit {0})
+pub concluded : (delimiter : ℕ) (wanted : Taking) (header : Bool) (counts : List ℕ) (has_topics : Bool) (first : List ℕ) (first_end : Bool) (left left2 : Option (List ℕ)) (counting : Counting) (check : Option Limits) (why : Option Refusal)
     → IsChecking delimiter wanted header counts has_topics true first first_end left left2 [] counting check
-    → Concludes counts has_topics (entries_in counting.workers.items) counting.segments.items check (Ok u)
-    → CountsSource delimiter wanted header counts has_topics first first_end left left2 counting
-checking-accepts delimiter wanted header counts has_topics first first_end left left2 counting check u r end = record {
+    → Concludes counts has_topics (entries_in counting.workers.items) counting.segments.items check (Ok why)
+    → TakesTopics wanted counts has_topics → CountsSource delimiter wanted header counts has_topics first first_end left left2 counting why
+concluded delimiter wanted header counts has_topics first first_end left left2 counting check why r end topics = record {
   read = r.read;
   bytes = subst (ReadsBehind first first_end left left2) (append-nil r.read) r.bytes;
   ended = r.ended refl;
   counted = r.counted;
-  accepted = refused-key counts has_topics (taken_of delimiter wanted header r.read) r.counted.keys r.counted.so.so.taken ∙ end r.counted.keys r.counted.taken r.within;
+  topics = file-topics delimiter wanted header counts has_topics r.read r.counted.keys topics r.counted.so.so.taken;
+  refused = end r.counted.keys r.counted.taken r.within;
 }
-
-pub checking-refuses : (delimiter : ℕ) (wanted : Taking) (header : Bool) (counts : List ℕ) (has_topics : Bool) (first : List ℕ) (first_end : Bool) (left left2 : Option (List ℕ)) (counting : Counting) (check : Option Limits) (e : Refusal)
-    → IsChecking delimiter wanted header counts has_topics true first first_end left left2 [] counting check
-    → Concludes counts has_topics (entries_in counting.workers.items) counting.segments.items check (Err e)
-    → (e ≡ refusal.Memory) ⊎ IsSourceRefusal delimiter wanted header counts has_topics first left e
-checking-refuses delimiter wanted header counts has_topics first first_end left left2 counting check e so end =
-    elim (end so.counted.keys so.counted.taken so.within) [
-      | inl memory ↦ inl memory
-      | inr fault ↦ inr (known left left2 so.bytes.consumed (so.ended refl) fault)
-    ]
-  where
-    known : (left left2 : Option (List ℕ)) → Consumes left left2 so.bytes.more → IsAtEnd left2 → first_fault counts [] (records_taken has_topics so.counted.keys) ≡ Some e
-        → IsSourceRefusal delimiter wanted header counts has_topics first left e
-    known None left2 consumed ended fault = tt
-    known (Some rest) None consumed ended fault = absurd consumed
-    known (Some rest) (Some more) consumed ended fault =
-        let all : rest ≡ so.bytes.more = consumed ∙ ap (λ xs. so.bytes.more ++ xs) ended ∙ append-nil so.bytes.more in
-        let file : first ++ rest ≡ so.read = ap (λ xs. first ++ xs) all ∙ sym so.bytes.whole ∙ append-nil so.read in
-        refused-key counts has_topics (taken_of delimiter wanted header (first ++ rest)) so.counted.keys (ap (taken_of delimiter wanted header) file ∙ so.counted.so.so.taken) ∙ fault
-
--- the same, of the answer at the end
-pub concluded-ok : (delimiter : ℕ) (wanted : Taking) (header : Bool) (counts : List ℕ) (has_topics : Bool) (first : List ℕ) (first_end : Bool) (left left2 : Option (List ℕ)) (counting : Counting) (check : Option Limits) (result : Result (Unit {0}) Refusal)
-    → IsChecking delimiter wanted header counts has_topics true first first_end left left2 [] counting check
-    → Concludes counts has_topics (entries_in counting.workers.items) counting.segments.items check result
-    → OnOk result (CountsSource delimiter wanted header counts has_topics first first_end left left2 counting)
-concluded-ok delimiter wanted header counts has_topics first first_end left left2 counting check (Ok u) so end = checking-accepts delimiter wanted header counts has_topics first first_end left left2 counting check u so end
-concluded-ok delimiter wanted header counts has_topics first first_end left left2 counting check (Err e) so end = tt
-
-pub concluded-err : (delimiter : ℕ) (wanted : Taking) (header : Bool) (counts : List ℕ) (has_topics : Bool) (first : List ℕ) (first_end : Bool) (left left2 : Option (List ℕ)) (counting : Counting) (check : Option Limits) (result : Result (Unit {0}) Refusal)
-    → IsChecking delimiter wanted header counts has_topics true first first_end left left2 [] counting check
-    → Concludes counts has_topics (entries_in counting.workers.items) counting.segments.items check result
-    → IfErr result (λ e. (e ≡ refusal.Memory) ⊎ ((e ≡ refusal.ReadFailed) ⊎ IsSourceRefusal delimiter wanted header counts has_topics first left e))
-concluded-err delimiter wanted header counts has_topics first first_end left left2 counting check (Ok u) so end = tt
-concluded-err delimiter wanted header counts has_topics first first_end left left2 counting check (Err e) so end =
-    elim (checking-refuses delimiter wanted header counts has_topics first first_end left left2 counting check e so end) [
-      | inl memory ↦ inl memory
-      | inr fault ↦ inr (inr fault)
-    ]
 
 -- ---- what is asked of the workers
 pub entries-topics : (delimiter : ℕ) (wanted : Taking) (header : Bool) (counts : List ℕ) (has_topics : Bool) (read : List ℕ) (counting : Counting) → TakesTopics wanted counts has_topics

@@ -14,7 +14,7 @@ use Rattle.key_stream.specs.declared.counting.Counting.{Counting}
 use Rattle.partition_log.specs.Keys.{Keyed, distinct, keys_in}
 use Rattle.partition_log.specs.Logs.{exceeds_limits}
 use Rattle.ingest.specs.Limits.{Limits, records_taken}
-use Rattle.ingest.specs.Private.Counted.{Concludes, IsChecking, IsCountFault}
+use Rattle.ingest.specs.Private.Counted.{IsChecking, IsCountFault}
 use Rattle.ingest.specs.RecordFaults.{IsKeyFault, first_fault, records_in_its_partition}
 use Rattle.ingest.specs.Reports.{IsNoStop, IsNoWrite, failed_reads}
 
@@ -43,31 +43,12 @@ key-fault true full later e kind is = let same : r.KeyTooLong ≡ e = cc is in s
 key-fault false true later e kind is = let same : r.LogFull ≡ e = cc is in subst IsKeyFault same tt
 key-fault false false later e kind is = kind is
 
-first_fault-kind : (counts : List ℕ) (before records : List Keyed) (e : Refusal) → first_fault counts before records ≡ Some e → IsKeyFault e
+pub first_fault-kind : (counts : List ℕ) (before records : List Keyed) (e : Refusal) → first_fault counts before records ≡ Some e → IsKeyFault e
 unfolding first_fault
 first_fault-kind counts before [] e is = absurd (cc is)
 first_fault-kind counts before (keyed ∷ records) e is =
     key-fault (nat_lt LONGEST_KEY (length keyed.1)) (exceeds_limits (distinct (keys_in before)) (records_in_its_partition counts before keyed) keyed.1) (first_fault counts (before ++ keyed ∷ []) records) e
     (first_fault-kind counts (before ++ keyed ∷ []) records e) is
-
-key-reads : (e : Refusal) → IsKeyFault e → reads_of e ≡ 0
-key-reads r.ReadFailed k = absurd k
-key-reads e k = refl
-
-pub concluded-kind : (delimiter : ℕ) (wanted : Taking) (header : Bool) (counts : List ℕ) (has_topics : Bool) (first : List ℕ) (first_end : Bool) (left left2 : Option (List ℕ)) (counting : Counting) (check : Option Limits) (result : Result (Unit {0}) Refusal)
-    → IsChecking delimiter wanted header counts has_topics true first first_end left left2 [] counting check
-    → Concludes counts has_topics (entries_in counting.workers.items) counting.segments.items check result
-    → IfErr result IsKeyFault
-concluded-kind delimiter wanted header counts has_topics first first_end left left2 counting check (Ok u) so end = tt
-concluded-kind delimiter wanted header counts has_topics first first_end left left2 counting check (Err e) so end =
-    elim (end so.counted.keys so.counted.taken so.within) [
-      | inl memory ↦ subst IsKeyFault (sym memory) tt
-      | inr fault ↦ first_fault-kind counts [] (records_taken has_topics so.counted.keys) e fault
-    ]
-
-pub appended-reads : (result : Result (Unit {0}) Refusal) → IfErr result IsKeyFault → failed_reads result ≡ 0
-appended-reads (Ok u) k = refl
-appended-reads (Err e) k = key-reads e k
 
 -- ---- all of these are faults of a count
 pub file-count : (e : Refusal) → IsFileFault e → IsCountFault e
@@ -80,16 +61,6 @@ file-count e k = absurd k
 pub found-count : {T : Type 0} (result : Result T Refusal) → IfErr result IsFileFault → IfErr result IsCountFault
 found-count (Ok x) k = tt
 found-count (Err e) k = file-count e k
-
-key-count : (e : Refusal) → IsKeyFault e → IsCountFault e
-key-count r.KeyTooLong k = tt
-key-count r.LogFull k = tt
-key-count r.Memory k = tt
-key-count e k = absurd k
-
-pub appended-count : (result : Result (Unit {0}) Refusal) → IfErr result IsKeyFault → IfErr result IsCountFault
-appended-count (Ok u) k = tt
-appended-count (Err e) k = key-count e k
 
 pub read-count : (before after : ℕ) (e : Refusal) → IsReadFault before after e → IsCountFault e
 read-count before after r.ReadFailed k = tt
@@ -119,10 +90,10 @@ count-stop r.GateLimit k = absurd k
 count-stop r.Differs k = absurd k
 count-stop e k = tt
 
-pub counted-write : (result : Result (Unit {0}) Refusal) → IfErr result IsCountFault → IfErr result IsNoWrite
+pub counted-write : {T : Type 0} (result : Result T Refusal) → IfErr result IsCountFault → IfErr result IsNoWrite
 counted-write (Ok u) k = tt
 counted-write (Err e) k = count-write e k
 
-pub counted-stop : (result : Result (Unit {0}) Refusal) → IfErr result IsCountFault → IfErr result IsNoStop
+pub counted-stop : {T : Type 0} (result : Result T Refusal) → IfErr result IsCountFault → IfErr result IsNoStop
 counted-stop (Ok u) k = tt
 counted-stop (Err e) k = count-stop e k

@@ -1,23 +1,15 @@
 -- The limits on records that are counted and not kept.
-use Rattle.std.specs.Prelude.{◌≡◌, ◌<◌, ◌≤◌, ℕ, ◌==◌, All, Bool, true, false, List, [], ◌++◌, filter, length, map, if◌then◌else◌, nat_lt, Option, Some, None, slice_index}
+use Rattle.std.specs.Prelude.{◌≡◌, ◌<◌, ◌≤◌, ℕ, ◌==◌, All, Bool, true, false, List, [], ◌++◌, filter, length, if◌then◌else◌, nat_lt, Option, Some, None, slice_index}
 use Rattle.std.specs.List.{list_any, sum}
 use Rattle.lane_words.specs.declared.Refusal.{Refusal}
 use Rattle.lane_words.specs.declared.Refusal.TheVariants as r
 use Rattle.lane_words.specs.declared.limits.TheConstants.{LONGEST_KEY, MOST_RECORDS}
 use Rattle.key_counts.specs.Counts.{Entries}
 use Rattle.key_counts.specs.Rounds.{HaveTaken}
-use Rattle.partition_log.specs.Keys.{Key, Keyed, distinct, keys_in, of_first}
+use Rattle.partition_log.specs.Keys.{Key, Keyed, distinct, keys_in}
 use Rattle.ingest.specs.RecordFaults.{first_fault}
-use Rattle.ingest.specs.Records.{AreOfTopics, partition_of_record, record_of}
-
--- the record of a key that was read: with topics, the key stands behind the index of its topic
-abbrev pub record_taken : Bool → Key → Keyed
-record_taken false key = of_first key
-record_taken true key = record_of key
-
--- the records of keys that were read
-abbrev pub records_taken : Bool → List Key → List Keyed
-records_taken has_topics keys = map (record_taken has_topics) keys
+use Rattle.ingest.specs.Records.{AreOfTopics, partition_of_record}
+pub use Rattle.partition_log.specs.Taken.{record_taken, records_taken}
 
 -- whether a key is too long for a log
 abbrev pub is_too_long : Key → Bool

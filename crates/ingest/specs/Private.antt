@@ -1,5 +1,5 @@
-pub mod Appending
 pub mod Columns
 pub mod Counted
 pub mod LimitLaws
 pub mod Limits
+pub mod Records

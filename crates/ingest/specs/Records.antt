@@ -1,11 +1,11 @@
 -- The records of a file, and their partitions.
-use Rattle.std.specs.Prelude.{ℕ, ◌==◌, ◌<◌, Bool, not, List, [], ◌∷◌, All, length, map, replicate, Result, Ok, Err}
-use Rattle.std.specs.List.{sum}
+use Rattle.std.specs.Prelude.{ℕ, ◌==◌, Bool, not, List, [], ◌∷◌, length, map, Option, Result, Ok, Err}
 use Rattle.std.specs.Result.{result_map_both}
 use Rattle.lane_words.specs.declared.Refusal.{Refusal}
-use Rattle.partition_log.specs.Appends.{AreAppended, in_first, placed}
+use Rattle.partition_log.specs.Appends.{in_first}
 use Rattle.partition_log.specs.Keys.{Keyed}
-use Rattle.partition_log.specs.Logs.{PartitionLogs, place_in_topic}
+use Rattle.partition_log.specs.Logs.{place_in_topic}
+pub use Rattle.partition_log.specs.Taken.{AreLogsWith, AreOfTopics, empty_logs, record_of}
 use Rattle.partitioner.specs.declared.topic.Topic.{Topic}
 use Rattle.command_line.specs.declared.options.Options.{Options}
 use Rattle.command_line.specs.declared.options.Column.{Column}
@@ -13,9 +13,7 @@ use Rattle.command_line.specs.declared.options.Column.TheVariants.{Number, Named
 use Rattle.command_line.specs.declared.options.TheConstants.{LAST_COLUMN}
 use Rattle.csv_ingest.specs.Header.{column_named}
 use Rattle.csv_ingest.specs.Pieces.{file_records}
-use Rattle.csv_ingest.specs.KeyFile.{key_behind, keys_of, topic_keys_of, topic_of}
-use Rattle.ingest.specs.declared.reading.FileRecords.{FileRecords}
-use Rattle.ingest.specs.declared.reading.FileRecords.TheVariants.{Keys, InTopics}
+use Rattle.csv_ingest.specs.KeyFile.{keys_of, topic_keys_of}
 
 -- the number of partitions of each of these topics, or of the one topic there is if none is named
 abbrev pub counts_among : ℕ → List Topic → List ℕ
@@ -29,10 +27,6 @@ partition_counts options = counts_among options.partitions options.topics.items
 -- whether topics are named
 abbrev pub names_topics : Options → Bool
 names_topics options = not (length options.topics.items == 0)
-
--- a record whose key was read after the index of its topic
-abbrev pub record_of : List ℕ → Keyed
-record_of key = (topic_of key, key_behind key)
 
 -- a column of a file, counted from 1: a named one is looked up in the header
 abbrev pub column_in : ℕ → List ℕ → Column → Result ℕ Refusal
@@ -68,33 +62,13 @@ records_of options file =
     with_column (topic_column_in options.delimiter file options.topics.items options.topic_column)
     (records_among options.delimiter options.header options.topics.items file column))
 
--- the records that were read
-abbrev pub records_in : FileRecords → List Keyed
-records_in (Keys keys) = in_first keys
-records_in (InTopics keys) = map record_of keys
+-- records that were read, and why the first of them that can't be appended can't
+pub record ReadRecords : Type 0 where
+  pub records : List Keyed
+  pub refusal : Option Refusal
 
--- an answer as the records that it returns
-abbrev pub records_seen : Result FileRecords Refusal → Result (List Keyed) Refusal
-records_seen answer = result_map_both records_in (λ fault. fault) answer
-
--- each record is of one of the topics that have these numbers of partitions
-abbrev pub AreOfTopics : List ℕ → List Keyed → Type 0
-AreOfTopics counts records = All (λ keyed. keyed.0 < length counts) records
-
--- logs of topics with these numbers of partitions, without records
-abbrev pub empty_logs : List ℕ → PartitionLogs
-empty_logs counts = record {
-  counts = counts;
-  partitions = sum counts;
-  keys = [];
-  logs = replicate (sum counts) [];
-}
-
--- these are the logs of topics with these numbers of partitions, to which the records were appended
--- one after another
-abbrev pub AreLogsWith : List ℕ → List Keyed → PartitionLogs → Type 0
-AreLogsWith counts records l =
-    AreAppended (empty_logs counts) (placed (empty_logs counts) records) l
+abbrev pub records_in : ReadRecords → List Keyed
+records_in read = read.records
 
 -- the partition of a record among topics with these numbers of partitions
 abbrev pub partition_of_record : List ℕ → Keyed → ℕ

@@ -7,13 +7,15 @@ ghost use Rattle.csv_ingest.specs.Private.Wanted.{taking};
 ghost use Rattle.csv_ingest.specs.Stand.{is_line_end};
 ghost use Rattle.key_counts.specs.Counts.{Entries};
 ghost use Rattle.key_counts.specs.Segments.{keys_of};
+ghost use Rattle.key_stream.specs.Counting.{HasMarks};
 ghost use Rattle.key_stream.specs.Rounds.{entries_in};
 ghost use Rattle.lane_words.specs.declared.Refusal.TheVariants as refusal;
 ghost use Rattle.lane_words.specs.declared.limits.TheConstants.{MOST_RECORDS};
 ghost use Rattle.partitioner.specs.Place.{AreCounts};
-ghost use Rattle.ingest.specs.Counted.{CountsFile, HasCountedNothing, IsFileRefusal};
+ghost use Rattle.ingest.specs.Counted.{CountsFile, HasCountedNothing};
 ghost use Rattle.ingest.specs.Limits.{AreEntriesOfTopics};
-ghost use Rattle.ingest.specs.Private.Counted.{BeginsCheckBy, ChecksFound, ChecksRoundBy, Concludes, CountsColumns, CountsSourceBy, HasFaultBy, IsCheckedBy, IsCountFault, IsFirstFault, IsRefusalBy, IsRefusalWith, StartsBy, TakesTopics, keys_in_chunk};
+ghost use Rattle.ingest.specs.Private.Counted.{BeginsCheckBy, ChecksFound, ChecksRoundBy, Concludes, CountsColumns, CountsSourceBy, HasFaultBy, IsCheckedBy, IsColumnsFault, IsCountFault, IsFaultOfSourceBy, IsFirstFault, StartsBy, TakesTopics, keys_in_chunk};
+ghost use Rattle.ingest.specs.Private.Columns.{IsRecordsFault};
 ghost use Rattle.ingest.specs.Reports.{AreInRange, IsNoStop, IsNoWrite, failed_reads};
 
 use crate::columns::{Columns, find_columns};
@@ -125,8 +127,9 @@ fn count_window<R: Threads + Sync, S: Source>(
 ) -> Result<bool, Refusal>
     requires failures { CanStillFail (S.failures source.old) }
     requires delimiter { is_line_end layout.now.delimiter ≡ false }
-    requires marks { vec_len counting.old.marks ≡ vec_len counting.old.workers }
-    ensures marks { OnOk result (vec_len counting.new.marks ≡ vec_len counting.new.workers) }
+    requires marks { HasMarks counting.old }
+    ensures coded { counting.new.coded ≡ counting.old.coded }
+    ensures marks { OnOk result (HasMarks counting.new) }
     ensures ok { IfOk result (λ done. ChecksRoundBy layout.now windows.old windows.new done
         (S.left source.old) (S.left source.new) counting.old counting.new check.old check.new) }
     ensures no_failures { OnOk result (S.failures source.new ≡ S.failures source.old) }
@@ -176,10 +179,11 @@ fn count_windows<R: Threads + Sync, S: Source>(
     requires start { StartsBy plan.now counting.old }
     requires check { check.old ≡ None }
     requires end { windows.old.at_end ≡ true → IsAtEnd (S.left source.old) }
+    ensures coded { counting.new.coded ≡ counting.old.coded }
     ensures ok { OnOk result (IsCheckedBy plan.now windows.old
         (S.left source.old) (S.left source.new) counting.new check.new) }
     ensures err { IfErr result (λ e. (e ≡ refusal.Memory) ⊎ ((e ≡ refusal.ReadFailed)
-        ⊎ IsRefusalBy plan.now windows.old (S.left source.old) e)) }
+        ⊎ IsFaultOfSourceBy plan.now windows.old (S.left source.old) e)) }
     ensures kind { IfErr result IsCountFault }
     ensures reads { S.failures source.new ≡ S.failures source.old + failed_reads result }
 {
@@ -201,8 +205,8 @@ fn count_windows<R: Threads + Sync, S: Source>(
     Err(Refusal::Memory)
 }
 
-/// Why the first record that can't be appended can't, once all are counted, and if a table has room
-/// for their keys. Without a check no log can be full, and only the lengths of keys matter.
+/// Why the first record that can't be appended can't, once all are counted, if a table has room for
+/// their keys. Without a check no log can be full, and only the lengths of keys matter.
 fn first_fault(
     counting: &Counting,
     check: &Option<LimitCheck>,
@@ -217,26 +221,24 @@ fn first_fault(
     }
 }
 
-/// Fails with the fault of the first record that can't be appended, once all are counted.
+/// Why the first record that can't be appended can't, once all are counted. Fails with `Memory` if
+/// a table has no room for their keys.
 fn conclude(
     counting: &Counting,
     check: &Option<LimitCheck>,
     plan: &CountPlan<'_>,
-) -> Result<(), Refusal>
+) -> Result<Option<Refusal>, Memory>
     ensures { Concludes plan.now.counts.now plan.now.has_topics
         (entries_in counting.now.workers.items) counting.now.segments.items check.now result }
 {
     if !are_few(counting.segments.as_slice()) {
-        return Err(Refusal::Memory);
+        return Err(Memory);
     }
-    match first_fault(counting, check, plan) {
-        None => Ok(()),
-        Some(fault) => Err(fault),
-    }
+    Ok(first_fault(counting, check, plan))
 }
 
-/// Counts the bytes of a window and what a source has behind them to its end, and fails for the
-/// first record that is refused.
+/// Counts the bytes of a window and what a source has behind them to its end. Returns why the first
+/// record that can't be appended can't, if there is one.
 fn count_source<R: Threads + Sync, S: Source>(
     rt: &R,
     alloc: Global,
@@ -244,7 +246,7 @@ fn count_source<R: Threads + Sync, S: Source>(
     counting: &mut Counting,
     windows: &mut Windows,
     plan: &CountPlan<'_>,
-) -> Result<(), Refusal>
+) -> Result<Option<Refusal>, Refusal>
     requires failures { CanStillFail (S.failures source.old) }
     requires delimiter { is_line_end plan.now.layout.delimiter ≡ false }
     requires counts { AreCounts plan.now.counts.now }
@@ -252,16 +254,17 @@ fn count_source<R: Threads + Sync, S: Source>(
         plan.now.has_topics }
     requires start { StartsBy plan.now counting.old }
     requires end { windows.old.at_end ≡ true → IsAtEnd (S.left source.old) }
-    ensures ok { OnOk result (CountsSourceBy plan.now windows.old
+    ensures coded { counting.new.coded ≡ counting.old.coded }
+    ensures ok { IfOk result (CountsSourceBy plan.now windows.old
         (S.left source.old) (S.left source.new) counting.new) }
     ensures err { IfErr result (λ e. (e ≡ refusal.Memory) ⊎ ((e ≡ refusal.ReadFailed)
-        ⊎ IsRefusalBy plan.now windows.old (S.left source.old) e)) }
+        ⊎ IsFaultOfSourceBy plan.now windows.old (S.left source.old) e)) }
     ensures kind { IfErr result IsCountFault }
     ensures reads { S.failures source.new ≡ S.failures source.old + failed_reads result }
 {
     let mut check = None;
     match count_windows(rt, alloc, source, counting, &mut check, windows, plan) {
-        Ok(()) => conclude(counting, &check, plan),
+        Ok(()) => Ok(conclude(counting, &check, plan)?),
         Err(fault) => Err(fault),
     }
 }
@@ -275,16 +278,17 @@ fn count_columns<R: Threads + Sync, S: Source>(
     windows: &mut Windows,
     columns: Columns,
     options: &Options,
-) -> Result<(), Refusal>
+) -> Result<Option<Refusal>, Refusal>
     requires failures { CanStillFail (S.failures source.old) }
     requires options { AreInRange options.now }
     requires columns { (1 ≤ columns.key) × (1 ≤ columns.topic) }
     requires start { HasCountedNothing counting.old }
     requires end { windows.old.at_end ≡ true → IsAtEnd (S.left source.old) }
-    ensures ok { OnOk result (CountsColumns options.now columns windows.old.window
+    ensures coded { counting.new.coded ≡ counting.old.coded }
+    ensures ok { IfOk result (CountsColumns options.now columns windows.old.window
         windows.old.at_end (S.left source.old) (S.left source.new) counting.new) }
     ensures err { IfErr result (λ e. (e ≡ refusal.Memory) ⊎ ((e ≡ refusal.ReadFailed)
-        ⊎ IsRefusalWith options.now columns windows.old (S.left source.old) e)) }
+        ⊎ IsColumnsFault options.now columns windows.old.window (S.left source.old) e)) }
     ensures kind { IfErr result IsCountFault }
     ensures reads { S.failures source.new ≡ S.failures source.old + failed_reads result }
 {
@@ -305,10 +309,10 @@ fn count_columns<R: Threads + Sync, S: Source>(
 }
 
 /// Counts the records of a source to its end, `window` bytes at a time, or as many as a record that
-/// is longer needs. Fails with the fault of the first bad record of the file, and if it has none,
-/// with that of the first record that can't be appended (`KeyTooLong`, `LogFull`), as
-/// `file_records` and `logs_of` do; with `ReadFailed` if a read failed, and only then; and with
-/// `Memory` if an allocation failed, and if the workers have `MOST_RECORDS` entries or more.
+/// is longer needs. Returns why the first record that can't be appended to a log can't
+/// (`KeyTooLong`, `LogFull`), if there is one. Fails with the fault of the first bad record of the
+/// file; with `ReadFailed` if a read failed, and only then; and with `Memory` if an allocation
+/// failed, and if the workers have `MOST_RECORDS` entries or more.
 pub fn count_file<R: Threads + Sync, S: Source>(
     rt: &R,
     alloc: Global,
@@ -316,14 +320,15 @@ pub fn count_file<R: Threads + Sync, S: Source>(
     options: &Options,
     window: usize,
     counting: &mut Counting,
-) -> Result<(), Refusal>
+) -> Result<Option<Refusal>, Refusal>
     requires failures { CanStillFail (S.failures source.old) }
     requires options { AreInRange options.now }
     requires start { HasCountedNothing counting.old }
-    ensures ok { OnOk result
+    ensures coded { counting.new.coded ≡ counting.old.coded }
+    ensures ok { IfOk result
         (CountsFile options.now (S.left source.old) (S.left source.new) counting.new) }
     ensures err { IfErr result (λ e. (e ≡ refusal.Memory) ⊎ ((e ≡ refusal.ReadFailed)
-        ⊎ IsFileRefusal options.now (S.left source.old) e)) }
+        ⊎ IsRecordsFault options.now (S.left source.old) e)) }
     ensures kind { IfErr result IsNoWrite }
     ensures unstopped { IfErr result IsNoStop }
     ensures reads { S.failures source.new ≡ S.failures source.old + failed_reads result }

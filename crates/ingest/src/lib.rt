@@ -1,25 +1,24 @@
 //! From a file to its logs: what every report begins with. Promises:
 //! - `file_records` returns the records that the file's bytes define, or the fault of the first bad
-//!   one. It reports a failed read only if the source failed during the call. `read_records` does
-//!   the same of a file in memory.
+//!   one. It reports a failed read only if the source failed during the call.
 //! - `logs_of` returns logs of exactly these records, in order, or the fault of the first record
 //!   that can't be appended.
-//! - `count_file` counts the records of a source to its end, in the memory of its distinct keys,
-//!   and refuses those that `file_records` and `logs_of` refuse. It reports a failed read only if
-//!   the source failed during the call.
+//! - `count_file` counts the records of a source to its end, in the memory of its distinct keys, and
+//!   returns why the first that can't be appended can't. It reports a failed read only if the source
+//!   failed during the call.
 //! - `partition_counts` returns the number of partitions of each topic that the options name.
 //!
 //! `specs/Reports.antt` has what all three reports say of the bytes that they read and write.
 //! Tests: `report_tests`.
 #![tactic(auto)]
 
-mod appending;
 mod columns;
 mod counted;
 mod limits;
 mod reading;
+mod records;
 mod windows;
 
-pub use appending::logs_of;
 pub use counted::count_file;
-pub use reading::{FileRecords, file_records, partition_counts, read_records};
+pub use reading::partition_counts;
+pub use records::{FileRecords, file_records, logs_of, window_for, workers_for};

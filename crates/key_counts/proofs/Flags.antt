@@ -4,7 +4,7 @@ use Rattle.std.specs.Prelude.{All}
 use Rattle.std.proofs.lemmas.List.{get_or_read}
 use Rattle.key_index.specs.Keys.{Key, key_at}
 use Rattle.key_index.specs.declared.key_hash.KeyHash.{KeyHash}
-use Rattle.key_counts.specs.Counts.{Entries}
+use Rattle.key_counts.specs.Counts.{Entries, no_entries}
 use Rattle.key_counts.specs.Private.Filter.{is_shared}
 use Rattle.key_counts.specs.Private.Hashes.{AreHashed, AreHashesOf, IsHashed}
 use Rattle.key_counts.specs.Private.Results.{list_of}
@@ -56,7 +56,7 @@ flag-at p skip entries list read code flags same in_keys = ap (λ fs. get_or fs 
 pub has-flags-of : (twins : Twins) (skip : ℕ) (workers : List Entries) (worker : ℕ) (entries : Entries)
     → HasFlags twins skip workers → worker < length workers → entries ≡ get_or workers worker entries → HasFlagsOf twins skip entries worker
 has-flags-of twins skip workers worker entries has lt is =
-    let none : Entries = record { keys = []; counts = [] } in
+    let none : Entries = no_entries false in
     let its : entries ≡ entries_of workers worker = get_or_read workers worker entries lt is none in
     record {
       within = omega (arith, lt, has.len);

@@ -5,6 +5,7 @@ pub mod Made
 pub mod Marks
 pub mod Partition
 pub mod Parts
+pub mod Recorded
 pub mod Rounds
 pub mod Segmented
 pub mod Steps

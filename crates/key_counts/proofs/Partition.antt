@@ -1,12 +1,12 @@
 -- Segments added one by one hold each entry once.
-use Rattle.std.proofs.Common.{◌≡◌, ◌≢◌, ◌∙◌, ◌+◌, ◌-◌, ◌*◌, ◌<◌, ◌≤◌, ℕ, zero, suc, List, [], ◌∷◌, ◌++◌, length, drop, get_or, sym, ap, ap₂, refl, subst, arith, inl, inr, get_or-set_same, get_or-set_other, get_or-drop, get_or-take}
+use Rattle.std.proofs.Common.{◌≡◌, ◌≢◌, ◌∙◌, ◌+◌, ◌-◌, ◌*◌, ◌<◌, ◌≤◌, ℕ, zero, suc, List, [], ◌∷◌, ◌++◌, length, drop, get_or, sym, ap, ap₂, refl, subst, arith, inl, inr, get_or-set_same, get_or-set_other, get_or-drop, get_or-take, false}
 use Rattle.std.specs.Prelude.{All, slice_range, slice_set, sum_by}
 use Rattle.std.proofs.lemmas.Bool.{cases_eq}
 use Rattle.std.proofs.lemmas.List.{get_or-map, length-map, length-set}
 use Rattle.std.proofs.lemmas.List.Sums.{sum_by-append, sum_by-cons}
 use Rattle.key_index.specs.Keys.{Key, key_at}
 use Rattle.lane_words.specs.Sums.{sum_below}
-use Rattle.key_counts.specs.Counts.{Entries, total, total_of}
+use Rattle.key_counts.specs.Counts.{Entries, no_entries, total, total_of}
 use Rattle.key_counts.specs.Partition.{AreAll, HasCounts, lens_of, sum_over}
 use Rattle.key_counts.specs.Segments.{IsSegment, counts_in, counts_of, entries_of, keys_in, keys_of}
 use Rattle.key_counts.specs.declared.merging.Segment.{Segment}
@@ -118,7 +118,7 @@ segments-total f workers [] whole parts = total-by-code f [] []
 segments-total f workers (s ∷ segments) whole parts =
     let part : IsSegment workers s = parts 0 s (omega arith) in
     let its = entries_of workers s.worker in
-    let both : length its.counts ≡ length its.keys = whole s.worker (record { keys = []; counts = [] }) part.worker in
+    let both : length its.counts ≡ length its.keys = whole s.worker (no_entries false) part.worker in
     let keys : length (keys_in workers s) ≡ s.to - s.from = length-slice its.keys s.from s.to part.order part.within in
     let counts : length (counts_in workers s) ≡ s.to - s.from = length-slice its.counts s.from s.to part.order (omega (arith, part.within, both)) in
     total-append f (keys_in workers s) (keys_of workers segments) (counts_in workers s) (counts_of workers segments) (counts ∙ sym keys)
@@ -135,7 +135,7 @@ pub all-total : (f : Key → ℕ) (workers : List Entries) (segments : List Segm
     → total f (keys_of workers segments) (counts_of workers segments) ≡ sum_by (total_of f) workers
 all-total f workers segments whole parts all =
     let len : Entries → ℕ = λ entries. length entries.keys in
-    let none : Entries = record { keys = []; counts = [] } in
+    let none : Entries = no_entries false in
     let by_code : ℕ → ℕ = λ w. sum_below (get_or (lens_of workers) w 0) (took f (entries_of workers w)) in
     let here : ℕ → ℕ = λ w. total_of f (entries_of workers w) in
     segments-total f workers segments whole parts ∙ all (λ w. took f (entries_of workers w)) ∙ ap (λ n. sum_below n by_code) (length-map workers len)

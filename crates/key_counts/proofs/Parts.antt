@@ -1,11 +1,11 @@
 -- Parts of lists, and the entries of one segment.
-use Rattle.std.proofs.Common.{◌≡◌, ◌∙◌, ◌+◌, ◌-◌, ◌<◌, ◌≤◌, ℕ, suc, List, [], ◌∷◌, ◌++◌, length, map, take, drop, get_or, sym, ap, refl, arith, length-append, length-drop, get_or-drop, get_or-take}
+use Rattle.std.proofs.Common.{◌≡◌, ◌∙◌, ◌+◌, ◌-◌, ◌<◌, ◌≤◌, ℕ, suc, List, [], ◌∷◌, ◌++◌, length, map, take, drop, get_or, sym, ap, refl, arith, length-append, length-drop, get_or-drop, get_or-take, false}
 use Rattle.std.specs.Prelude.{All, flat_map, slice_range}
 use Rattle.std.proofs.lemmas.List.{append-nil, drop_more, get_or-append-add, get_or-map, get_or_append_left, length-map, map-append, take-append-drop, take_more}
 use Rattle.std.proofs.lemmas.List.Elements.{All-take}
 use Rattle.std.proofs.lemmas.List.Concat.{flat_map-append}
 use Rattle.key_index.specs.Keys.{Key, key_at}
-use Rattle.key_counts.specs.Counts.{Entries}
+use Rattle.key_counts.specs.Counts.{Entries, no_entries}
 use Rattle.key_counts.specs.Partition.{HasCounts}
 use Rattle.key_counts.specs.Private.Parts.{IsPartOf, part_behind, part_counts}
 use Rattle.key_counts.specs.Segments.{IsSegment, counts_in, counts_of, entries_of, keys_behind, keys_in, keys_of}
@@ -57,7 +57,7 @@ part-of workers entries s so is = record {
 }
 
 abbrev none : Entries
-none = record { keys = []; counts = [] }
+none = no_entries false
 
 -- as many counts as keys
 pub counts-len : (workers : List Entries) (segments : List Segment) → All HasCounts workers → All (IsSegment workers) segments

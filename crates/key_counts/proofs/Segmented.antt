@@ -1,20 +1,21 @@
 -- After each round the workers' new entries become segments.
-use Rattle.std.proofs.Common.{◌≡◌, ◌∙◌, ◌+◌, ◌-◌, ◌*◌, ◌<◌, ◌≤◌, ℕ, zero, suc, true, List, [], ◌∷◌, ◌++◌, drop, length, map, replicate, get_or, sym, ap, ap₂, refl, subst, arith, inl, inr, append-nil, length-append}
-use Rattle.std.specs.Prelude.{All, count_by, if◌then◌else◌, slice_range, sum_by}
+use Rattle.std.proofs.Common.{Bool, ◌≡◌, ◌≢◌, ◌∙◌, ◌+◌, ◌-◌, ◌*◌, ◌<◌, ◌≤◌, ℕ, zero, suc, true, List, [], ◌∷◌, ◌++◌, drop, length, map, replicate, get_or, sym, ap, ap₂, refl, subst, arith, inl, inr, append-nil, length-append, false}
+use Rattle.std.specs.Prelude.{◌==◌, All, count_by, filter, if◌then◌else◌, slice_range, sum_by}
 use Rattle.std.specs.List.{fold}
 use Rattle.std.specs.Str.{bytes_eq}
-use Rattle.std.proofs.lemmas.Bool.{cases_Bool}
+use Rattle.std.proofs.lemmas.Bool.{cases_Bool, eq-eqb}
+use Rattle.std.proofs.lemmas.Bool.Decides.{eqb_tells}
 use Rattle.std.proofs.lemmas.List.{get_or-map, length-map, map-append}
 use Rattle.std.proofs.lemmas.List.Concat.{flat_map-append}
-use Rattle.std.proofs.lemmas.List.Elements.{All-append, All-cons, All-nil}
+use Rattle.std.proofs.lemmas.List.Elements.{All-append, All-cons, All-filter, All-nil, filter-append}
 use Rattle.std.proofs.lemmas.List.Sums.{count_by-le-length, fold-append, sum_by-append, sum_by-cons}
 use Rattle.key_index.proofs.Growth.{among, interned}
 use Rattle.key_index.specs.Keys.{Key, distinct, id_of, is_interned, with_key}
 use Rattle.lane_words.specs.Sums.{sum_below}
-use Rattle.key_counts.specs.Counts.{Entries, total, total_of}
+use Rattle.key_counts.specs.Counts.{Entries, no_entries, total, total_of}
 use Rattle.key_counts.specs.Partition.{AreAll, AreGrown, HasCounts, lens_of, sum_over}
 use Rattle.key_counts.specs.Rounds.{AreKnown, AreSegmented, HaveTaken, TakeEach, concatenated, segments_from}
-use Rattle.key_counts.specs.Segments.{IsSegment, counts_of, entries_of, is_key, keys_behind, keys_in, keys_of, merged_counts}
+use Rattle.key_counts.specs.Segments.{IsSegment, counts_of, entries_of, is_key, keys_behind, keys_in, keys_of, merged_counts, segments_of}
 use Rattle.key_counts.specs.declared.merging.Segment.{Segment}
 use Rattle.key_counts.proofs.Growing.{all-keys-stay, all-parts-stay, slice-new}
 use Rattle.key_counts.proofs.Partition.{all-none, all-total, sum-first, sum-same, sum-split}
@@ -22,7 +23,7 @@ use Rattle.key_counts.proofs.Rounds.{added, round}
 use Rattle.key_counts.specs.Private.TakingLaws.{added-interned, takes-none}
 
 -- ---- a round lets entries grow
-grown-len : (olds news : List Entries) (lists : List (List Key)) → TakeEach olds news lists → length news ≡ length olds
+pub grown-len : (olds news : List Entries) (lists : List (List Key)) → TakeEach olds news lists → length news ≡ length olds
 grown-len [] [] [] t = refl
 grown-len (old ∷ olds) (new ∷ news) (keys ∷ lists) t = let rest = grown-len olds news lists t.1 in omega (arith, rest)
 grown-len [] [] (keys ∷ lists) t = absurd t
@@ -44,16 +45,16 @@ pub are-grown : (olds news : List Entries) (lists : List (List Key)) → TakeEac
 are-grown olds news lists t = record { len = grown-len olds news lists t; each = grown-each olds news lists t }
 
 -- ---- the workers from w on are these
-abbrev AreFrom : List Entries → ℕ → List Entries → Type 0
+abbrev pub AreFrom : List Entries → ℕ → List Entries → Type 0
 AreFrom workers w its = (k : ℕ) → k < length its → (w + k < length workers) × (entries_of workers (w + k) ≡ entries_of its k)
 
-from-first : (workers : List Entries) → AreFrom workers 0 workers
+pub from-first : (workers : List Entries) → AreFrom workers 0 workers
 from-first workers = λ k lt. let same : 0 + k ≡ k = omega arith in rw same (lt, refl)
 
-from-here : (workers its : List Entries) (w : ℕ) (worker : Entries) → AreFrom workers w (worker ∷ its) → (w < length workers) × (entries_of workers w ≡ worker)
+pub from-here : (workers its : List Entries) (w : ℕ) (worker : Entries) → AreFrom workers w (worker ∷ its) → (w < length workers) × (entries_of workers w ≡ worker)
 from-here workers its w worker at = let same : w + 0 ≡ w = omega arith in let here = at 0 (omega arith) in rw same at here
 
-from-next : (workers its : List Entries) (w : ℕ) (worker : Entries) → AreFrom workers w (worker ∷ its) → AreFrom workers (w + 1) its
+pub from-next : (workers its : List Entries) (w : ℕ) (worker : Entries) → AreFrom workers w (worker ∷ its) → AreFrom workers (w + 1) its
 from-next workers its w worker at = λ k lt.
     let same : w + 1 + k ≡ w + suc k = omega arith in
     rw same (at (suc k) (omega (arith, lt)))
@@ -135,6 +136,69 @@ all-from f [] (new ∷ news) lists w t = absurd t
 all-from f (old ∷ olds) [] lists w t = absurd t
 all-from f (old ∷ olds) (new ∷ news) [] w t = absurd t
 
+-- ---- those of one worker have its entries in their order
+same-test : (u v : ℕ) → v ≡ u → (u == v) ≡ true
+same-test u v is = eq-eqb u v (sym is)
+
+other-test : (u v : ℕ) → u ≢ v → (u == v) ≡ false
+other-test u v ne =
+    elim (eqb_tells u v) [
+      | inl e ↦ absurd (ne e.1)
+      | inr e ↦ e.0
+    ]
+
+-- the segments of worker v, of which the first is one of worker u
+first-of : (u v : ℕ) (s : Segment) (rest : List Segment) → s.worker ≡ u → v ≡ u → segments_of v (s ∷ rest) ≡ s ∷ segments_of v rest
+first-of u v s rest at is = ap (λ b. if b then s ∷ segments_of v rest else segments_of v rest) (ap (λ w. w == v) at ∙ same-test u v is)
+
+rest-of : (u v : ℕ) (s : Segment) (rest : List Segment) → s.worker ≡ u → u ≢ v → segments_of v (s ∷ rest) ≡ segments_of v rest
+rest-of u v s rest at ne = ap (λ b. if b then s ∷ segments_of v rest else segments_of v rest) (ap (λ w. w == v) at ∙ other-test u v ne)
+
+-- none of the new segments of the workers from u on is of one before
+none-before : (olds news : List Entries) (lists : List (List Key)) (u v : ℕ) → v < u → TakeEach olds news lists
+    → segments_of v (segments_from u (lens_of olds) news) ≡ []
+none-before [] [] [] u v lt t = refl
+none-before (old ∷ olds) (new ∷ news) (keys ∷ lists) u v lt t =
+    let s : Segment = record { worker = u; from = length old.keys; to = length new.keys } in
+    rest-of u v s (segments_from (u + 1) (lens_of olds) news) refl (λ is. omega (arith, lt, is)) ∙ none-before olds news lists (u + 1) v (omega (arith, lt)) t.1
+none-before [] [] (keys ∷ lists) u v lt t = absurd t
+none-before [] (new ∷ news) lists u v lt t = absurd t
+none-before (old ∷ olds) [] lists u v lt t = absurd t
+none-before (old ∷ olds) (new ∷ news) [] u v lt t = absurd t
+
+own-from : (workers olds news : List Entries) (lists : List (List Key)) (u k v : ℕ) → k < length news → v ≡ u + k → TakeEach olds news lists → AreFrom workers u news
+    → (entries_of olds k).keys ++ keys_of workers (segments_of v (segments_from u (lens_of olds) news)) ≡ (entries_of news k).keys
+own-from workers [] [] [] u k v lt is t at = absurd (omega (arith, lt))
+own-from workers (old ∷ olds) (new ∷ news) (keys ∷ lists) u zero v lt is t at =
+    let s : Segment = record { worker = u; from = length old.keys; to = length new.keys } in
+    let rest = segments_from (u + 1) (lens_of olds) news in
+    let own : segments_of v (s ∷ rest) ≡ s ∷ [] =
+    first-of u v s rest refl (omega (arith, is)) ∙ ap (λ ss. s ∷ ss) (none-before olds news lists (u + 1) v (omega (arith, is)) t.1) in
+    let its : (entries_of workers u).keys ≡ old.keys ++ t.0.added = ap (λ (e : Entries). e.keys) (from-here workers news u new at).1 ∙ t.0.grown in
+    let here : keys_in workers s ≡ t.0.added =
+    ap₂ (λ (ks : List Key) n. slice_range ks (length old.keys) n) its (ap length t.0.grown) ∙ slice-new old.keys t.0.added in
+    ap (λ ss. old.keys ++ keys_of workers ss) own ∙ ap (λ ks. old.keys ++ ks) (append-nil (keys_in workers s) ∙ here) ∙ sym t.0.grown
+own-from workers (old ∷ olds) (new ∷ news) (keys ∷ lists) u (suc k) v lt is t at =
+    let s : Segment = record { worker = u; from = length old.keys; to = length new.keys } in
+    let rest = segments_from (u + 1) (lens_of olds) news in
+    ap (λ ss. (entries_of olds k).keys ++ keys_of workers ss) (rest-of u v s rest refl (λ same. omega (arith, is, same)))
+    ∙ own-from workers olds news lists (u + 1) k v (omega (arith, lt)) (omega (arith, is)) t.1 (from-next workers news u new at)
+own-from workers [] [] (keys ∷ lists) u k v lt is t at = absurd t
+own-from workers [] (new ∷ news) lists u k v lt is t at = absurd t
+own-from workers (old ∷ olds) [] lists u k v lt is t at = absurd t
+own-from workers (old ∷ olds) (new ∷ news) [] u k v lt is t at = absurd t
+
+own-after : (olds news : List Entries) (lists : List (List Key)) (segments : List Segment) (lens : List ℕ) (w : ℕ) → w < length news → TakeEach olds news lists
+    → AreSegmented olds segments lens → keys_of news (segments_of w (segments ++ segments_from 0 (lens_of olds) news)) ≡ (entries_of news w).keys
+own-after olds news lists segments lens w lt t so =
+    let new = segments_from 0 (lens_of olds) news in
+    let test : Segment → Bool = λ s. s.worker == w in
+    let before : w < length olds = omega (arith, lt, grown-len olds news lists t) in
+    ap (keys_of news) (filter-append test segments new) ∙ flat_map-append (keys_in news) (segments_of w segments) (segments_of w new)
+    ∙ ap (λ ks. ks ++ keys_of news (segments_of w new))
+    (all-keys-stay olds news (segments_of w segments) (are-grown olds news lists t) (All-filter test (IsSegment olds) segments so.parts) ∙ so.own w before)
+    ∙ own-from news olds news lists 0 w w lt (omega arith) t (from-first news)
+
 -- after a round segments have all entries, each once
 pub are-segmented : (olds news : List Entries) (lists : List (List Key)) (segments : List Segment) (lens : List ℕ) → TakeEach olds news lists → AreSegmented olds segments lens
     → AreSegmented news (segments ++ segments_from 0 lens news) (lens_of news)
@@ -152,6 +216,7 @@ are-segmented olds news lists segments lens t so =
           let end = sum-from-none f (lens_of news) in
           let more = all-from f olds news lists 0 t in
           omega (arith, parts, old, end, more, all_old f);
+      own = λ w lt. own-after olds news lists segments lens w lt t so;
     } in
     rw so.lens_are now
 
@@ -166,18 +231,20 @@ round-segmented taken olds news lists segments lens have so t =
     (subst (λ order. HaveTaken (taken ++ concatenated lists) order news) (sym keys) (round taken (keys_of olds segments) olds news lists t have), are-segmented olds news lists segments lens t so)
 
 -- ---- the start
--- a worker without entries
-abbrev pub none : Entries
-none = record { keys = []; counts = [] }
-
-pub start-segmented : (n : ℕ) → AreSegmented (replicate n none) [] (replicate n 0)
-start-segmented n = record {
+pub start-segmented : (coded : Bool) (n : ℕ) → AreSegmented (replicate n (no_entries coded)) [] (replicate n 0)
+start-segmented coded n = record {
   lens_are = lens n;
-  parts = All-nil (IsSegment (replicate n none));
+  parts = All-nil (IsSegment (replicate n (no_entries coded)));
   all = all-none (replicate n 0) (zeros n);
+  own = λ w lt. sym (nothing n w);
 }
   where
-    lens : (n : ℕ) → replicate n 0 ≡ lens_of (replicate n none)
+    nothing : (n w : ℕ) → (entries_of (replicate n (no_entries coded)) w).keys ≡ []
+    nothing zero w = refl
+    nothing (suc n) zero = refl
+    nothing (suc n) (suc w) = nothing n w
+
+    lens : (n : ℕ) → replicate n 0 ≡ lens_of (replicate n (no_entries coded))
     lens zero = refl
     lens (suc n) = ap (λ ns. 0 ∷ ns) (lens n)
 
@@ -188,24 +255,24 @@ start-segmented n = record {
     zeros zero = All-nil is_zero
     zeros (suc n) = All-cons is_zero 0 (replicate n 0) refl (zeros n)
 
-pub start-taken : (n : ℕ) → HaveTaken [] [] (replicate n none)
+pub start-taken : (coded : Bool) (n : ℕ) → HaveTaken [] [] (replicate n (no_entries coded))
 unfolding total
-start-taken n = record {
+start-taken coded n = record {
   same_order = refl;
   known = known n;
   counted = λ f. sums f n;
 }
   where
-    known : (n : ℕ) → AreKnown (distinct []) (replicate n none)
+    known : (n : ℕ) → AreKnown (distinct []) (replicate n (no_entries coded))
     known zero = tt
     known (suc n) = (λ k d lt. absurd (omega (arith, lt)), known n)
 
     nothing : (f : Key → ℕ) → total f [] [] ≡ 0
     nothing f = refl
 
-    sums : (f : Key → ℕ) (n : ℕ) → sum_by (total_of f) (replicate n none) ≡ 0
+    sums : (f : Key → ℕ) (n : ℕ) → sum_by (total_of f) (replicate n (no_entries coded)) ≡ 0
     sums f zero = refl
-    sums f (suc n) = let a = sum_by-cons (total_of f) none (replicate n none) in let b = nothing f in let c = sums f n in omega (arith, a, b, c)
+    sums f (suc n) = let a = sum_by-cons (total_of f) (no_entries coded) (replicate n (no_entries coded)) in let b = nothing f in let c = sums f n in omega (arith, a, b, c)
 
 -- ---- workers that take nothing
 pub take-each-none : (rest : List Entries) → TakeEach rest rest (map (λ w. []) rest)

@@ -1,11 +1,13 @@
 -- What records do to entries.
-use Rattle.std.proofs.Common.{◌≡◌, ◌∙◌, ◌+◌, ◌*◌, ◌<◌, ℕ, zero, suc, true, List, [], ◌∷◌, ◌++◌, get_or, length, take, subst, sym, ap, refl, arith}
-use Rattle.std.specs.Prelude.{if◌then◌else◌, slice_set, Result, Ok, Err, OnOk}
+use Rattle.std.proofs.Common.{◌≡◌, ◌∙◌, ◌+◌, ◌*◌, ◌<◌, ℕ, zero, suc, Bool, true, false, List, [], ◌∷◌, ◌++◌, get_or, length, map, take, subst, sym, ap, ap₂, refl, arith}
+use Rattle.std.specs.Prelude.{All, if◌then◌else◌, slice_set, Result, Ok, Err, OnOk}
 use Rattle.std.specs.List.{sum_by}
-use Rattle.std.proofs.lemmas.List.{append-nil, take_more}
+use Rattle.std.proofs.lemmas.List.{append-nil, get_or_append_left, map-append, take_more}
+use Rattle.std.proofs.Math.Seq.{get_or-append_seam}
 use Rattle.std.proofs.lemmas.List.Sums.{sum_by-cons}
 use Rattle.key_index.specs.Keys.{Key, is_interned, key_at, with_key}
-use Rattle.key_counts.specs.Counts.{AreInterned, CounterState, Entries, Takes, TakesLater, total}
+use Rattle.key_counts.specs.Counts.{AreInterned, CounterState, Entries, Takes, TakesLater, recorded, total}
+use Rattle.key_counts.specs.Private.Codes.{with_code}
 use Rattle.key_counts.specs.Private.TakingLaws.{takes-then}
 
 sum-one : (f : Key → ℕ) (key : Key) → sum_by f (key ∷ []) ≡ f key
@@ -34,14 +36,22 @@ known-here keys before code all lt = all code [] lt
 same-at : (before : List Key) (key : Key) → is_interned before key ≡ true → with_key before key ≡ before
 same-at before key is = ap (λ b. if b then before else before ++ key ∷ []) is
 
-pub counted-one : (keys : List Key) (counts : List ℕ) (code n : ℕ) → length counts ≡ length keys → code < length keys
+recorded-more : (coded : Bool) (keys : List Key) (codes : List ℕ) (code : ℕ)
+    → map (key_at keys) (with_code coded codes code) ≡ map (key_at keys) codes ++ recorded coded (key_at keys code ∷ [])
+recorded-more true keys codes code = map-append (key_at keys) codes (code ∷ [])
+recorded-more false keys codes code = sym (append-nil (map (key_at keys) codes))
+
+pub counted-one : (keys : List Key) (counts codes : List ℕ) (coded : Bool) (code n : ℕ) → length counts ≡ length keys → code < length keys
     → n ≡ get_or counts code 0 + 1
-    → Takes (record { keys = keys; counts = counts }) (record { keys = keys; counts = slice_set counts code n }) (key_at keys code ∷ [])
-counted-one keys counts code n long lt is = record {
+    → Takes (record { keys = keys; counts = counts; coded = coded; codes = codes })
+    (record { keys = keys; counts = slice_set counts code n; coded = coded; codes = with_code coded codes code }) (key_at keys code ∷ [])
+counted-one keys counts codes coded code n long lt is = record {
   added = [];
   grown = sym (append-nil keys);
   order = λ before all. same-at before (key_at keys code) (known-here keys before code all lt);
   counted = λ f. let e = total-raised f keys counts code n long lt is in let p = sum-one f (key_at keys code) in omega (arith, e, p);
+  same = refl;
+  records = recorded-more coded keys codes code;
 }
 
 -- ---- a new entry
@@ -53,36 +63,54 @@ total-added f [] (c ∷ counts) key long = absurd (omega (arith, long))
 total-added f (k ∷ keys) [] key long = absurd (omega (arith, long))
 total-added f (k ∷ keys) (c ∷ counts) key long = let rest = total-added f keys counts key (omega (arith, long)) in omega (arith, rest)
 
-pub added-one : (keys : List Key) (counts : List ℕ) (key : Key) → length counts ≡ length keys
-    → Takes (record { keys = keys; counts = counts }) (record { keys = keys ++ key ∷ []; counts = counts ++ 1 ∷ [] }) (key ∷ [])
-added-one keys counts key long = record {
+pub read-still : (keys : List Key) (key : Key) (codes : List ℕ) → All (λ code. code < length keys) codes
+    → map (key_at (keys ++ key ∷ [])) codes ≡ map (key_at keys) codes
+read-still keys key [] all = refl
+read-still keys key (code ∷ codes) all =
+    ap₂ (λ (k : Key) ks. k ∷ ks) (get_or_append_left keys (key ∷ []) [] code (all 0 0 (omega arith))) (read-still keys key codes (λ k d lt. all (suc k) d (omega (arith, lt))))
+
+recorded-new : (coded : Bool) (keys : List Key) (key : Key) (codes : List ℕ) → All (λ code. code < length keys) codes
+    → map (key_at (keys ++ key ∷ [])) (with_code coded codes (length keys)) ≡ map (key_at keys) codes ++ recorded coded (key ∷ [])
+recorded-new true keys key codes all =
+    map-append (key_at (keys ++ key ∷ [])) codes (length keys ∷ [])
+    ∙ ap₂ (λ ks (k : Key). ks ++ k ∷ []) (read-still keys key codes all) (get_or-append_seam keys key [] [])
+recorded-new false keys key codes all = read-still keys key codes all ∙ sym (append-nil (map (key_at keys) codes))
+
+pub added-one : (keys : List Key) (counts codes : List ℕ) (coded : Bool) (key : Key) → length counts ≡ length keys → All (λ code. code < length keys) codes
+    → Takes (record { keys = keys; counts = counts; coded = coded; codes = codes })
+    (record { keys = keys ++ key ∷ []; counts = counts ++ 1 ∷ []; coded = coded; codes = with_code coded codes (length keys) }) (key ∷ [])
+added-one keys counts codes coded key long all = record {
   added = key ∷ [];
   grown = refl;
-  order = λ before all. refl;
+  order = λ before so. refl;
   counted = λ f. let e = total-added f keys counts key long in let p = sum-one f key in omega (arith, e, p);
+  same = refl;
+  records = recorded-new coded keys key codes all;
 }
 
 -- ---- the same, of answers
-pub counts-one : {T E : Type 0} (result : Result T E) (old : Entries) (keys : List Key) (counts new : List ℕ) (code : ℕ)
-    → record { keys = keys; counts = counts } ≡ old → length counts ≡ length keys → code < length old.keys
-    → OnOk result (new ≡ slice_set counts code (get_or counts code 0 + 1))
-    → OnOk result (Takes old (record { keys = keys; counts = new }) (key_at old.keys code ∷ []))
-counts-one (Err e) old keys counts new code is long lt so = tt
-counts-one (Ok u) old keys counts new code is long lt so =
+pub counts-one : {T E : Type 0} (result : Result T E) (old : Entries) (keys : List Key) (counts new codes new_codes : List ℕ) (coded : Bool) (code : ℕ)
+    → record { keys = keys; counts = counts; coded = coded; codes = codes } ≡ old → length counts ≡ length keys → code < length old.keys
+    → new ≡ slice_set counts code (get_or counts code 0 + 1)
+    → OnOk result (new_codes ≡ with_code coded codes code)
+    → OnOk result (Takes old (record { keys = keys; counts = new; coded = coded; codes = new_codes }) (key_at old.keys code ∷ []))
+counts-one (Err e) old keys counts new codes new_codes coded code is long lt so kept = tt
+counts-one (Ok u) old keys counts new codes new_codes coded code is long lt so kept =
     let same : length keys ≡ length old.keys = ap (λ (o : Entries). length o.keys) is in
     let below : code < length keys = omega (arith, lt, same) in
-    let here : Takes (record { keys = keys; counts = counts }) (record { keys = keys; counts = new }) (key_at keys code ∷ []) =
-    rw so (counted-one keys counts code (get_or counts code 0 + 1) long below refl) in
+    let here : Takes (record { keys = keys; counts = counts; coded = coded; codes = codes }) (record { keys = keys; counts = new; coded = coded; codes = new_codes }) (key_at keys code ∷ []) =
+    rw (so, kept) (counted-one keys counts codes coded code (get_or counts code 0 + 1) long below refl) in
     rw (← is) here
 
-pub adds-one : {T E : Type 0} (result : Result T E) (old : Entries) (keys new_keys : List Key) (counts new_counts : List ℕ) (stored key : Key)
-    → record { keys = keys; counts = counts } ≡ old → length counts ≡ length keys → stored ≡ key
-    → OnOk result (new_keys ≡ keys ++ stored ∷ []) → OnOk result (new_counts ≡ counts ++ 1 ∷ [])
-    → OnOk result (Takes old (record { keys = new_keys; counts = new_counts }) (key ∷ []))
-adds-one (Err e) old keys new_keys counts new_counts stored key is long same ks ns = tt
-adds-one (Ok u) old keys new_keys counts new_counts stored key is long same ks ns =
-    let here : Takes (record { keys = keys; counts = counts }) (record { keys = new_keys; counts = new_counts }) (key ∷ []) =
-    rw (ks, ns, same) (added-one keys counts key long) in
+pub adds-one : {T E : Type 0} (result : Result T E) (old : Entries) (keys new_keys : List Key) (counts new_counts codes new_codes : List ℕ) (coded : Bool) (code : ℕ) (stored key : Key)
+    → record { keys = keys; counts = counts; coded = coded; codes = codes } ≡ old → length counts ≡ length keys → All (λ code. code < length keys) codes → stored ≡ key → code ≡ length keys
+    → new_keys ≡ keys ++ stored ∷ [] → new_counts ≡ counts ++ 1 ∷ []
+    → OnOk result (new_codes ≡ with_code coded codes code)
+    → OnOk result (Takes old (record { keys = new_keys; counts = new_counts; coded = coded; codes = new_codes }) (key ∷ []))
+adds-one (Err e) old keys new_keys counts new_counts codes new_codes coded code stored key is long all same at ks ns kept = tt
+adds-one (Ok u) old keys new_keys counts new_counts codes new_codes coded code stored key is long all same at ks ns kept =
+    let here : Takes (record { keys = keys; counts = counts; coded = coded; codes = codes }) (record { keys = new_keys; counts = new_counts; coded = coded; codes = new_codes }) (key ∷ []) =
+    rw (ks, ns, kept, at, same) (added-one keys counts codes coded key long all) in
     rw (← is) here
 
 -- ---- keys that wait

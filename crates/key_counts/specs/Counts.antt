@@ -1,12 +1,28 @@
 -- Counted keys. Entries are keys, each with the number of records that it took. A key can have more
 -- than one entry: how many there are decides time and memory, and never what they come to.
-use Rattle.std.specs.Prelude.{◌≡◌, ℕ, ◌+◌, ◌*◌, true, All, List, [], ◌∷◌, ◌++◌, fold, sum_by}
-use Rattle.key_index.specs.Keys.{Key, is_interned, with_key}
+use Rattle.std.specs.Prelude.{◌≡◌, ℕ, ◌+◌, ◌*◌, Bool, true, false, All, List, [], ◌∷◌, ◌++◌, fold, map, sum_by}
+use Rattle.key_index.specs.Keys.{Key, is_interned, key_at, with_key}
 
--- entries: their keys, and the number of records that each took
+-- entries: their keys, the number of records that each took, and if `coded` says so, the code of each
+-- record's entry, in the order of the records
 pub record Entries : Type 0 where
   pub keys : List Key
   pub counts : List ℕ
+  pub coded : Bool
+  pub codes : List ℕ
+
+-- no entries, which took no record
+abbrev pub no_entries : Bool → Entries
+no_entries coded = record { keys = []; counts = []; coded = coded; codes = [] }
+
+-- the keys of the records that have a code
+abbrev pub records_of : Entries → List Key
+records_of entries = map (key_at entries.keys) entries.codes
+
+-- those of these records that get a code: all or none
+abbrev pub recorded : Bool → List Key → List Key
+recorded true taken = taken
+recorded false taken = []
 
 -- the sum of a function over the keys of records, from entries that took them
 unfoldable pub total : (Key → ℕ) → List Key → List ℕ → ℕ
@@ -35,6 +51,8 @@ pub record Takes (old new : Entries) (taken : List Key) : Type 0 where
   pub grown : new.keys ≡ old.keys ++ added
   pub order : BringTheSame old.keys taken added
   pub counted : (f : Key → ℕ) → total_of f new ≡ total_of f old + sum_by f taken
+  pub same : new.coded ≡ old.coded
+  pub records : records_of new ≡ records_of old ++ recorded old.coded taken
 
 -- keys counted, and keys behind them that wait to be
 pub record CounterState : Type 0 where

@@ -1,5 +1,6 @@
 pub mod Counts
 pub mod Partition
 pub mod Private
+pub mod Recorded
 pub mod Rounds
 pub mod Segments

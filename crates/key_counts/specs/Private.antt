@@ -1,3 +1,4 @@
+pub mod Codes
 pub mod Filter
 pub mod Hashes
 pub mod Parts

@@ -1,9 +1,9 @@
 -- Several workers that take the chunks of a file, a round at a time.
-use Rattle.std.specs.Prelude.{◌≡◌, ◌+◌, ⊤, ℕ, All, List, [], ◌∷◌, flat_map, length, sum_by}
+use Rattle.std.specs.Prelude.{◌≡◌, ◌<◌, ◌+◌, ⊤, ℕ, All, List, [], ◌∷◌, flat_map, length, sum_by}
 use Rattle.key_index.specs.Keys.{Key, distinct}
 use Rattle.key_counts.specs.Counts.{AreInterned, Entries, Takes, total_of}
 use Rattle.key_counts.specs.Partition.{AreAll, lens_of}
-use Rattle.key_counts.specs.Segments.{IsSegment}
+use Rattle.key_counts.specs.Segments.{IsSegment, entries_of, keys_of, segments_of}
 use Rattle.key_counts.specs.declared.merging.Segment.{Segment}
 
 -- lists of keys, one after another
@@ -36,9 +36,12 @@ segments_from w (n ∷ lens) [] = []
 segments_from w (n ∷ lens) (worker ∷ workers) =
     (record { worker = w; from = n; to = length worker.keys }) ∷ segments_from (w + 1) lens workers
 
--- segments have the entries of workers, each once, and these are their numbers
+-- segments have the entries of workers, each once, and these are their numbers; those of one worker
+-- have its entries in their order
 pub record AreSegmented (workers : List Entries) (segments : List Segment) (lens : List ℕ)
     : Type 0 where
   pub lens_are : lens ≡ lens_of workers
   pub parts : All (IsSegment workers) segments
   pub all : AreAll lens segments
+  pub own : (w : ℕ) → w < length workers
+      → keys_of workers (segments_of w segments) ≡ (entries_of workers w).keys

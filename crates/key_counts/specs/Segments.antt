@@ -1,13 +1,13 @@
 -- The entries of several workers in the order in which the chunks of a file brought them.
-use Rattle.std.specs.Prelude.{◌≤◌, ◌<◌, ℕ, List, [], drop, flat_map, length, map, slice_index_or, slice_range, cond}
+use Rattle.std.specs.Prelude.{◌≤◌, ◌<◌, ◌==◌, ℕ, false, List, [], drop, filter, flat_map, length, map, slice_index_or, slice_range, cond}
 use Rattle.std.specs.Str.{bytes_eq}
 use Rattle.key_index.specs.Keys.{Key, distinct}
-use Rattle.key_counts.specs.Counts.{Entries, total}
+use Rattle.key_counts.specs.Counts.{Entries, no_entries, total}
 use Rattle.key_counts.specs.declared.merging.Segment.{Segment}
 
 -- the entries of a worker; none if there is no such worker
 abbrev pub entries_of : List Entries → ℕ → Entries
-entries_of workers w = slice_index_or workers w (record { keys = []; counts = [] })
+entries_of workers w = slice_index_or workers w (no_entries false)
 
 -- the keys of the entries of a segment, and how many records each took
 abbrev pub keys_in : List Entries → Segment → List Key
@@ -22,6 +22,10 @@ keys_of workers segments = flat_map (keys_in workers) segments
 
 abbrev pub counts_of : List Entries → List Segment → List ℕ
 counts_of workers segments = flat_map (counts_in workers) segments
+
+-- the segments of one worker
+abbrev pub segments_of : ℕ → List Segment → List Segment
+segments_of w segments = filter (λ s. s.worker == w) segments
 
 -- the keys of segments, each without so many of its first bytes
 abbrev pub keys_behind : ℕ → List Entries → List Segment → List Key

@@ -1,7 +1,7 @@
 //! Keys counted as they are read.
 
 ghost use Rattle.std.specs.Prelude.{◌≡◌, ◌∷◌, [], IfOk, OnOk, length};
-ghost use Rattle.key_counts.specs.Counts.{Takes, TakesLater};
+ghost use Rattle.key_counts.specs.Counts.{Takes, TakesLater, no_entries};
 ghost use Rattle.key_counts.specs.Private.TakingLaws.{later-more, later-nothing};
 
 use crate::counts::KeyCounts;
@@ -34,12 +34,13 @@ impl Model for KeyCounter {
 }
 
 impl KeyCounter {
-    /// No keys. They are hashed by this hasher, which a stranger must not know.
-    pub fn new(alloc: Global, hasher: RandomState) -> Result<KeyCounter, Memory>
+    /// No keys. They are hashed by this hasher, which a stranger must not know. If `coded`, the code
+    /// of each record's entry is kept.
+    pub fn new(alloc: Global, hasher: RandomState, coded: bool) -> Result<KeyCounter, Memory>
         ensures { IfOk result (λ counter. counter
-            ≡ record { entries = record { keys = []; counts = [] }; waiting = [] }) }
+            ≡ record { entries = no_entries coded; waiting = [] }) }
     {
-        let counts = KeyCounts::new(alloc, hasher)?;
+        let counts = KeyCounts::new(alloc, hasher, coded)?;
         Ok(KeyCounter {
             counts,
             waiting: Vec::new(alloc),

@@ -1,8 +1,9 @@
 //! Keys and how often each came.
 
-ghost use Rattle.std.specs.Prelude.{◌≡◌, ◌<◌, ◌≤◌, ◌+◌, ◌∷◌, ◌++◌, [], true, IfOk, IfSome, OnErr, OnOk, length, slice_index_or, slice_set, vec_len};
+ghost use Rattle.std.specs.Prelude.{◌≡◌, ◌<◌, ◌≤◌, ◌+◌, ◌^◌, ◌∷◌, ◌++◌, [], All, true, IfOk, IfSome, OnErr, OnOk, length, slice_index_or, slice_set, vec_len};
 ghost use Rattle.key_index.specs.Keys.{key_at};
-ghost use Rattle.key_counts.specs.Counts.{Takes};
+ghost use Rattle.key_counts.specs.Counts.{Takes, no_entries};
+ghost use Rattle.key_counts.specs.Private.Codes.{with_code};
 ghost use Rattle.key_index.specs.Private.StoredKey.{bytes_of};
 
 use crate::slots::Slots;
@@ -26,17 +27,24 @@ pub struct KeyCounts {
     keys: Vec<StoredKey>,
     /// How many records each entry took.
     counts: Vec<u64>,
+    /// Whether the code of each record's entry is kept.
+    coded: bool,
+    /// If so, these codes, in the order of the records.
+    codes: Vec<u32>,
 }
 
 impl Model for KeyCounts {
-    ghost use Rattle.std.specs.Prelude.{◌≡◌, length};
+    ghost use Rattle.std.specs.Prelude.{◌≡◌, ◌<◌, ◌^◌, All, length};
     ghost use Rattle.key_counts.specs.Counts.{Entries};
 
     ghost Value = { Entries };
 
-    ghost view = { λ s. record { keys = s.keys.items; counts = s.counts.items } };
+    ghost view = { λ s. record { keys = s.keys.items; counts = s.counts.items; coded = s.coded;
+        codes = s.codes.items } };
 
-    ghost invariant = { λ s. length s.counts.items ≡ length s.keys.items };
+    ghost invariant = { λ s. (length s.counts.items ≡ length s.keys.items)
+        × All (λ code. code < length s.keys.items) s.codes.items
+        × (length s.keys.items < 2 ^ 32) };
 }
 
 /// 32 bits of a key's hash.
@@ -114,6 +122,19 @@ fn raise(counts: &mut Vec<u64>, code: usize) -> Result<(), Memory>
     Ok(())
 }
 
+/// Keeps the code of one more record's entry, if codes are kept.
+#[inline(always)]
+fn keep_code(codes: &mut Vec<u32>, coded: bool, code: usize) -> Result<(), Memory>
+    requires { code < 2 ^ 32 }
+    ensures ok { OnOk result (codes.new.items ≡ with_code coded codes.old.items code) }
+    ensures err { OnErr result (codes.new.items ≡ codes.old.items) }
+{
+    if coded {
+        codes.push(code as u32)?;
+    }
+    Ok(())
+}
+
 /// Adds an entry that took one record. Without memory there is none.
 fn push_entry(
     keys: &mut Vec<StoredKey>,
@@ -135,9 +156,10 @@ fn push_entry(
 }
 
 impl KeyCounts {
-    /// No entries. Keys are hashed by this hasher, which a stranger must not know.
-    pub fn new(alloc: Global, hasher: RandomState) -> Result<KeyCounts, Memory>
-        ensures { IfOk result (λ counts. counts ≡ record { keys = []; counts = [] }) }
+    /// No entries. Keys are hashed by this hasher, which a stranger must not know. If `coded`, the
+    /// code of each record's entry is kept.
+    pub fn new(alloc: Global, hasher: RandomState, coded: bool) -> Result<KeyCounts, Memory>
+        ensures { IfOk result (λ counts. counts ≡ no_entries coded) }
     {
         Ok(KeyCounts {
             alloc,
@@ -145,6 +167,8 @@ impl KeyCounts {
             slots: Slots::new(alloc)?,
             keys: Vec::new(alloc),
             counts: Vec::new(alloc),
+            coded,
+            codes: Vec::new(alloc),
         })
     }
 
@@ -172,6 +196,8 @@ impl KeyCounts {
             hasher,
             keys,
             counts,
+            coded,
+            codes,
             ..
         } = self;
         KeyCounts {
@@ -180,6 +206,8 @@ impl KeyCounts {
             slots: Slots::none(alloc),
             keys,
             counts,
+            coded,
+            codes,
         }
     }
 
@@ -191,12 +219,22 @@ impl KeyCounts {
         self.counts.as_slice()
     }
 
+    /// The code of each record's entry, in the order of the records, if codes are kept.
+    pub fn codes(&self) -> &[u32]
+        ensures value { result.now ≡ self.now.codes }
+        ensures range { All (λ code. code < length self.now.keys) self.now.codes }
+    {
+        self.codes.as_slice()
+    }
+
     /// Counts one more record of an entry.
+    #[inline(always)]
     fn count_one(&mut self, code: usize) -> Result<(), Memory>
         requires { code < length self.old.keys }
         ensures { OnOk result (Takes self.old self.new (key_at self.old.keys code ∷ [])) }
     {
-        raise(&mut self.counts, code)
+        raise(&mut self.counts, code)?;
+        keep_code(&mut self.codes, self.coded, code)
     }
 
     /// Adds an entry for a key, which took one record. Fails with `Memory` if an allocation failed,
@@ -210,7 +248,8 @@ impl KeyCounts {
             return Err(Memory);
         }
         self.slots.insert(self.alloc, hash, code as u32)?;
-        push_entry(&mut self.keys, &mut self.counts, key)
+        push_entry(&mut self.keys, &mut self.counts, key)?;
+        keep_code(&mut self.codes, self.coded, code)
     }
 
     /// A short key, prepared to be looked up.

@@ -1,4 +1,5 @@
 pub mod Chunked
+pub mod Counted
 pub mod Filled
 pub mod Firsts
 pub mod Judged

@@ -1,5 +1,5 @@
 -- What a round reads of a file.
-use Rattle.std.proofs.Common.{◌≡◌, ◌∙◌, ◌+◌, ◌<◌, ◌≤◌, ℕ, zero, suc, List, [], ◌∷◌, ◌++◌, Bool, Option, Some, None, Ok, Err, length, map, take, get_or, sym, ap, subst, arith, inl, inr, append_assoc, append-nil, length-append}
+use Rattle.std.proofs.Common.{false, ◌≡◌, ◌∙◌, ◌+◌, ◌<◌, ◌≤◌, ℕ, zero, suc, List, [], ◌∷◌, ◌++◌, Bool, Option, Some, None, Ok, Err, length, map, take, get_or, sym, ap, subst, arith, inl, inr, append_assoc, append-nil, length-append}
 use Rattle.std.specs.Prelude.{◌⊎◌}
 use Rattle.std.proofs.lemmas.List.{get_or-map, get_or_append_left, length-map, take_all, take_more}
 use Rattle.std.proofs.Math.Seq.{get_or-append_seam}
@@ -11,7 +11,7 @@ use Rattle.csv_ingest.specs.Pieces.{ArePieces, file_records, later_fault}
 use Rattle.csv_ingest.specs.Private.Pieces.{bytes_of}
 use Rattle.csv_ingest.specs.Rounds.{HasRead, IsSplitPoint, chunk_keys, width_after_all}
 use Rattle.csv_ingest.proofs.Rounds.{none_read, piece_fault, read_piece, records_read, split-front}
-use Rattle.key_counts.specs.Counts.{Entries, Takes}
+use Rattle.key_counts.specs.Counts.{Entries, Takes, no_entries}
 use Rattle.key_counts.specs.Rounds.{TakeEach, concatenated}
 use Rattle.key_stream.specs.Founds.{records_before}
 use Rattle.key_stream.proofs.Revealed.{IsFirst, Keys, TakesKeys}
@@ -29,7 +29,7 @@ concatenated-push : (lists : List (List (List ℕ))) (keys : List (List ℕ)) �
 concatenated-push lists keys = flat_map-append (λ (ks : List (List ℕ)). ks) lists (keys ∷ []) ∙ ap (λ ks. concatenated lists ++ ks) (append-nil keys)
 
 pub none : Entries
-none = record { keys = []; counts = [] }
+none = no_entries false
 
 -- a round of a file: these are its pieces, of which the first are taken, each by a worker
 pub record IsRound (delimiter : ℕ) (wanted : Taking) (header : Bool) (width : Option ℕ) (pieces : List (List ℕ)) (count : ℕ) (olds news : List Entries) (found : List Keys) : Type 0 where

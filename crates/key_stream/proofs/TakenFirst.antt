@@ -13,6 +13,7 @@ use Rattle.csv_ingest.specs.Rounds.{IsSplitPoint}
 use Rattle.csv_ingest.proofs.Parts.{pieces-bytes}
 use Rattle.csv_ingest.proofs.Rounds.{split-front, split-pieces}
 use Rattle.key_counts.specs.Rounds.{concatenated}
+use Rattle.key_counts.proofs.Recorded.{round-recorded}
 use Rattle.key_counts.proofs.Segmented.{round-segmented}
 use Rattle.key_stream.specs.Counting.{HasFaultIn, IsCounted, TakesFirst, TakesPieces}
 use Rattle.key_stream.specs.Rounds.{HasFault, IsRead, entries_in}
@@ -59,6 +60,7 @@ takes-first delimiter wanted header at_end text pieces count n old new parts is 
       so = read_now;
       taken = rw t.2 segmented.0;
       parts = rw t.2 (rw t.1 segmented.1);
+      recorded = rw t.5 (rw t.4 (rw t.3 (round-recorded so.keys old.coded olds news lists old.chunks.items old.ends.items so.recorded t.0.took)));
     } in
     (counted, split)
 

@@ -1,13 +1,13 @@
 -- What was counted of a file so far.
-use Rattle.std.specs.Prelude.{◌≡◌, ℕ, Bool, true, false, List, [], ◌++◌, count_by, take, drop, length, map, Err, Option}
+use Rattle.std.specs.Prelude.{◌≡◌, ℕ, Bool, true, false, List, [], ◌++◌, count_by, take, drop, length, map, Err, Option, vec_len}
 use Rattle.std.specs.Str.{bytes_eq}
 use Rattle.std.specs.Io.KnownBytes.{IsAtEnd}
 use Rattle.lane_words.specs.declared.Refusal.{Refusal}
 use Rattle.csv_ingest.specs.KeyFile.{Taking, taken_of}
 use Rattle.csv_ingest.specs.Rounds.{IsSplitPoint}
 use Rattle.key_index.specs.Keys.{Key, distinct}
-use Rattle.key_counts.specs.Counts.{Entries}
 use Rattle.key_counts.specs.Partition.{lens_of}
+use Rattle.key_counts.specs.Recorded.{AreRecorded, all_records}
 use Rattle.key_counts.specs.Rounds.{AreSegmented, HaveTaken, segments_from}
 use Rattle.key_counts.specs.Segments.{keys_of}
 use Rattle.key_stream.specs.Reading.{Fills}
@@ -15,7 +15,7 @@ use Rattle.key_stream.specs.Rounds.{IsRead, ReadsRound, entries_in}
 use Rattle.key_stream.specs.declared.counting.Counting.{Counting}
 
 -- these bytes of a file were read and had no fault; the workers took their records, which have
--- these keys, and the segments have the workers' entries
+-- these keys, the segments have the workers' entries, and the chunks their records
 pub record IsCounted (delimiter : ℕ) (wanted : Taking) (header : Bool) (read : List ℕ)
     (counting : Counting) : Type 0 where
   pub keys : List (List ℕ)
@@ -24,6 +24,14 @@ pub record IsCounted (delimiter : ℕ) (wanted : Taking) (header : Bool) (read :
       (entries_in counting.workers.items)
   pub parts : AreSegmented (entries_in counting.workers.items) counting.segments.items
       counting.marks.items
+  pub recorded : AreRecorded keys counting.coded (entries_in counting.workers.items)
+      counting.chunks.items counting.ends.items
+
+-- each worker has a mark and an end
+abbrev pub HasMarks : Counting → Type 0
+HasMarks counting =
+    (vec_len counting.marks ≡ vec_len counting.workers)
+    × (vec_len counting.ends ≡ vec_len counting.workers)
 
 -- the first n bytes of a text were taken: whatever was read before it, up to a split point, and
 -- whatever comes behind it, if it is not the end
@@ -49,6 +57,10 @@ TakesPieces delimiter wanted header pieces count old new =
     × (new.marks.items ≡ lens_of (entries_in new.workers.items))
     × (new.segments.items ≡ old.segments.items
     ++ segments_from 0 old.marks.items (entries_in new.workers.items))
+    × (new.ends.items ≡ lens_of (all_records (entries_in new.workers.items)))
+    × (new.chunks.items ≡ old.chunks.items
+    ++ segments_from 0 old.ends.items (all_records (entries_in new.workers.items)))
+    × (new.coded ≡ old.coded)
 
 -- a window was filled up from its source, unless that was at its end
 abbrev pub Refills : Bool → Bool → Option (List ℕ) → Option (List ℕ) → List ℕ → List ℕ → Type 0
@@ -68,7 +80,3 @@ pub record CountsWindow (delimiter : ℕ) (wanted : Taking) (header at_end done 
 -- how often each key occurs, in the order of first appearance
 abbrev pub occurrences : List Key → List ℕ
 occurrences keys = map (λ key. count_by (bytes_eq key) keys) (distinct keys)
-
--- the entries of a worker that has taken nothing
-abbrev pub none : Entries
-none = record { keys = []; counts = [] }

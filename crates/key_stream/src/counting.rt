@@ -5,14 +5,15 @@ ghost use Rattle.csv_ingest.specs.KeyFile.{Taking};
 ghost use Rattle.csv_ingest.specs.Stand.{is_line_end};
 ghost use Rattle.csv_ingest.specs.Private.Pieces.{bytes_of, lent};
 ghost use Rattle.csv_ingest.specs.Private.Wanted.{taking};
-ghost use Rattle.key_stream.specs.Counting.{IsCounted, none};
+ghost use Rattle.key_counts.specs.Counts.{no_entries};
+ghost use Rattle.key_stream.specs.Counting.{HasMarks, IsCounted};
 ghost use Rattle.key_stream.specs.Layouts.{HasFaultBy, HasFaultInSplit, TakesPiecesBy, TakesSplitBy};
 ghost use Rattle.key_stream.specs.Rounds.{entries_in};
 ghost use Rattle.key_stream.specs.Splits.{IsSplitOf};
 ghost use Rattle.lane_words.specs.declared.Refusal.TheVariants as refusal;
 
 use crate::round::{Round, take_first};
-use crate::segments::add_segments;
+use crate::segments::{add_segments, entry_counts, record_counts};
 use crate::worker::{Layout, Worker};
 use csv_ingest::pieces_of;
 use key_counts::{KeyCounter, Segment};
@@ -30,6 +31,12 @@ pub struct Counting {
     pub segments: Vec<Segment>,
     /// How many entries each worker had after the last round.
     pub marks: Vec<usize>,
+    /// Whether the code of each record's entry is kept.
+    pub coded: bool,
+    /// The records of the workers, in the order of the chunks, if their codes are kept.
+    pub chunks: Vec<Segment>,
+    /// How many of them each worker had after the last round.
+    pub ends: Vec<usize>,
     /// What the last round found.
     pub round: Round,
     /// The least number of bytes that is worth a thread.
@@ -52,12 +59,18 @@ pub struct Split<'t> {
 }
 
 /// Workers that have taken nothing.
-fn idle_workers(alloc: Global, hasher: RandomState, count: usize) -> Result<Vec<Worker>, Memory>
-    ensures { IfOk result (λ workers. entries_in workers.items ≡ replicate count none) }
+fn idle_workers(
+    alloc: Global,
+    hasher: RandomState,
+    count: usize,
+    coded: bool,
+) -> Result<Vec<Worker>, Memory>
+    ensures { IfOk result
+        (λ workers. entries_in workers.items ≡ replicate count (no_entries coded)) }
 {
     let mut workers = Vec::with_capacity(alloc, count)?;
     for _ in 0..count {
-        let counter = KeyCounter::new(alloc, hasher)?;
+        let counter = KeyCounter::new(alloc, hasher, coded)?;
         workers.push(Worker {
             counter,
             found: Err(Refusal::Memory),
@@ -97,23 +110,28 @@ fn chunks_for(workers: usize, len: usize, least: usize) -> usize
 
 impl Counting {
     /// Nothing yet, by this many workers, whose keys are hashed by this hasher. So many bytes as
-    /// `least` are worth a thread.
+    /// `least` are worth a thread. If `coded`, the code of each record's entry is kept.
     pub fn new(
         alloc: Global,
         hasher: RandomState,
         workers: usize,
         least: usize,
+        coded: bool,
     ) -> Result<Counting, Memory>
-        ensures marks { IfOk result (λ c. vec_len c.marks ≡ vec_len c.workers) }
+        ensures marks { IfOk result HasMarks }
         ensures len { IfOk result (λ c. vec_len c.workers ≡ workers) }
+        ensures coded { IfOk result (λ c. c.coded ≡ coded) }
         ensures state { IfOk result
             (λ c. (delimiter : ℕ) (wanted : Taking) (header : Bool)
             → IsCounted delimiter wanted header [] c) }
     {
         Ok(Counting {
-            workers: idle_workers(alloc, hasher, workers)?,
+            workers: idle_workers(alloc, hasher, workers, coded)?,
             segments: Vec::new(alloc),
             marks: vec![in alloc; 0usize; workers]?,
+            coded,
+            chunks: Vec::new(alloc),
+            ends: vec![in alloc; 0usize; workers]?,
             round: Round {
                 width: None,
                 keys: 0,
@@ -131,10 +149,11 @@ impl Counting {
         count: usize,
         layout: &Layout<'_>,
     ) -> Result<(), Refusal>
-        requires marks { vec_len self.old.marks ≡ vec_len self.old.workers }
+        requires marks { HasMarks self.old }
         requires count { (count ≤ vec_len self.old.workers) × (count ≤ length pieces.now) }
-        ensures marks { OnOk result (vec_len self.new.marks ≡ vec_len self.new.workers) }
+        ensures marks { OnOk result (HasMarks self.new) }
         ensures len { vec_len self.new.workers ≡ vec_len self.old.workers }
+        ensures coded { self.new.coded ≡ self.old.coded }
         ensures ok { OnOk result
             (TakesPiecesBy layout.now (lent pieces.now) count self.old self.new) }
         ensures err { IfErr result (λ e. (e ≡ refusal.Memory)
@@ -144,6 +163,8 @@ impl Counting {
             workers,
             segments,
             marks,
+            chunks,
+            ends,
             round,
             ..
         } = self;
@@ -159,7 +180,9 @@ impl Counting {
             Ok(next) => *round = next,
             Err(fault) => return Err(fault),
         }
-        add_segments(workers.as_slice(), marks, segments)?;
+        let workers = workers.as_slice();
+        add_segments(entry_counts(alloc, workers)?.as_slice(), marks, segments)?;
+        add_segments(record_counts(alloc, workers)?.as_slice(), ends, chunks)?;
         Ok(())
     }
 
@@ -201,11 +224,12 @@ impl Counting {
         split: &Split<'_>,
         layout: &Layout<'_>,
     ) -> Result<(), Refusal>
-        requires marks { vec_len self.old.marks ≡ vec_len self.old.workers }
+        requires marks { HasMarks self.old }
         requires split { (split.now.count ≤ vec_len self.old.workers)
             × (split.now.count ≤ vec_len split.now.pieces) }
-        ensures marks { OnOk result (vec_len self.new.marks ≡ vec_len self.new.workers) }
+        ensures marks { OnOk result (HasMarks self.new) }
         ensures len { vec_len self.new.workers ≡ vec_len self.old.workers }
+        ensures coded { self.new.coded ≡ self.old.coded }
         ensures ok { OnOk result (TakesSplitBy layout.now split.now self.old self.new) }
         ensures err { IfErr result (λ e. (e ≡ refusal.Memory)
             ⊎ HasFaultInSplit layout.now split.now self.old e) }

@@ -2,7 +2,7 @@
 
 ghost use Rattle.std.specs.Prelude.{◌≡◌, ◌⊎◌, ◌≤◌, IfErr, IfOk, OnOk, vec_len};
 ghost use Rattle.byte_io.specs.Devices.{CanStillFail, IsReadFault};
-ghost use Rattle.key_stream.specs.Counting.{Refills};
+ghost use Rattle.key_stream.specs.Counting.{HasMarks, Refills};
 ghost use Rattle.key_stream.specs.Layouts.{HasFaultInSplit, TakesSplitBy};
 ghost use Rattle.lane_words.specs.declared.Refusal.TheVariants as refusal;
 
@@ -47,11 +47,12 @@ fn overlapped<R: Threads + Sync, S: Source>(
     next: &mut Window,
 ) -> (Result<(), Refusal>, Result<bool, Refusal>)
     requires failures { CanStillFail (S.failures source.old) }
-    requires marks { vec_len counting.old.marks ≡ vec_len counting.old.workers }
+    requires marks { HasMarks counting.old }
     requires split { (split.now.count ≤ vec_len counting.old.workers)
         × (split.now.count ≤ vec_len split.now.pieces) }
-    ensures marks { OnOk result.0 (vec_len counting.new.marks ≡ vec_len counting.new.workers) }
+    ensures marks { OnOk result.0 (HasMarks counting.new) }
     ensures len { vec_len counting.new.workers ≡ vec_len counting.old.workers }
+    ensures coded { counting.new.coded ≡ counting.old.coded }
     ensures ok { OnOk result.0 (TakesSplitBy layout.now split.now counting.old counting.new) }
     ensures err { IfErr result.0 (λ e. (e ≡ refusal.Memory)
         ⊎ HasFaultInSplit layout.now split.now counting.old e) }
@@ -65,12 +66,12 @@ fn overlapped<R: Threads + Sync, S: Source>(
     thread::join_mut(
         rt,
         &mut || -> Result<(), Refusal>
-            requires { (vec_len counting.now.marks ≡ vec_len counting.now.workers)
+            requires { HasMarks counting.now
                 × (split.now.count ≤ vec_len counting.now.workers)
                 × (split.now.count ≤ vec_len split.now.pieces) }
-            ensures marks { OnOk result
-                (vec_len counting.exit.now.marks ≡ vec_len counting.exit.now.workers) }
+            ensures marks { OnOk result (HasMarks counting.exit.now) }
             ensures len { vec_len counting.exit.now.workers ≡ vec_len counting.entry.now.workers }
+            ensures coded { counting.exit.now.coded ≡ counting.entry.now.coded }
             ensures ok { OnOk result (TakesSplitBy layout.entry.now split.entry.now
                 counting.entry.now counting.exit.now) }
             ensures err { IfErr result (λ e. (e ≡ refusal.Memory)
@@ -94,11 +95,12 @@ pub fn take_and_read<R: Threads + Sync, S: Source>(
     next: &mut Window,
 ) -> Result<bool, Refusal>
     requires failures { CanStillFail (S.failures source.old) }
-    requires marks { vec_len counting.old.marks ≡ vec_len counting.old.workers }
+    requires marks { HasMarks counting.old }
     requires split { (split.now.count ≤ vec_len counting.old.workers)
         × (split.now.count ≤ vec_len split.now.pieces) }
-    ensures marks { OnOk result (vec_len counting.new.marks ≡ vec_len counting.new.workers) }
+    ensures marks { OnOk result (HasMarks counting.new) }
     ensures len { vec_len counting.new.workers ≡ vec_len counting.old.workers }
+    ensures coded { counting.new.coded ≡ counting.old.coded }
     ensures ok { OnOk result (TakesSplitBy layout.now split.now counting.old counting.new) }
     ensures window { IfOk result (λ end. Refills split.now.at_end end
         (S.left source.old) (S.left source.new) split.now.rest.now next.new) }

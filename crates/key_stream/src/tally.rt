@@ -15,13 +15,15 @@ use std::hash::RandomState;
 use std::random::RandomSource;
 use std::thread::Threads;
 
-/// The counters of all workers, and which entries each chunk brought.
-#[derive(Drop)]
+/// The counters of all workers, and which entries and records each chunk brought.
+#[derive(Debug, Drop)]
 pub struct Counters {
     /// The counters.
     pub workers: Vec<KeyCounts>,
     /// The entries, in the order in which chunks brought them.
     pub segments: Vec<Segment>,
+    /// The records, in the order of the chunks, if their codes are kept.
+    pub chunks: Vec<Segment>,
 }
 
 /// The counters of workers.
@@ -44,11 +46,13 @@ impl Counters {
         let Counting {
             workers,
             segments,
+            chunks,
             ..
         } = counting;
         Ok(Counters {
             workers: counters_of(alloc, workers)?,
             segments,
+            chunks,
         })
     }
 

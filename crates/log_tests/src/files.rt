@@ -1,48 +1,70 @@
 //! Files and their keys, from RFC 4180 and written by hand.
 
-ghost use Rattle.std.specs.Prelude.{◌≡◌, ◌≤◌, false};
-ghost use Rattle.csv_ingest.specs.Stand.{is_line_end};
+ghost use Rattle.std.specs.Prelude.{◌≤◌};
 
-use csv_ingest::{Blocks, RecordBatch, TopicKeys, read_keys, read_topic_keys_apart};
+use csv_ingest::{Wanted, read_keys};
 use lane_words::{Memory, Refusal};
 use std::alloc::Global;
 use std::test::Fail;
-use std::thread::Threads;
 
 /// The topic names of a file that has topics.
 pub const NAMES: [&[u8]; 2] = [b"a", b"b"];
 
-/// Adds a key and a semicolon to a text.
-fn add_key(text: &mut Vec<u8>, key: &[u8]) -> Result<(), Memory> {
-    text.extend_from_slice(key)?;
+/// How a file is read.
+#[derive(Clone, Copy)]
+pub struct Reading<'a> {
+    /// The delimiter of its fields.
+    pub delimiter: u8,
+    /// What is taken of each record.
+    pub wanted: &'a Wanted<'a>,
+    /// Whether that is a topic, too.
+    pub has_topics: bool,
+    /// Whether there is a header.
+    pub header: bool,
+}
+
+/// Adds a key and a semicolon to a text; before the key its topic's index as a digit, if the key
+/// stands behind one.
+pub fn add_item(text: &mut Vec<u8>, item: &[u8], has_topics: bool) -> Result<(), Memory> {
+    if has_topics && !item.is_empty() {
+        text.push(b'0'.wrapping_add(item[0]))?;
+        text.extend_from_slice(&item[1..])?;
+    } else {
+        text.extend_from_slice(item)?;
+    }
     text.push(b';')?;
     Ok(())
 }
 
 /// Adds keys to a text.
-fn add_keys(text: &mut Vec<u8>, keys: &[&[u8]]) -> Result<(), Memory> {
-    for key in keys {
-        add_key(text, key)?;
+fn add_items(text: &mut Vec<u8>, items: &Vec<Vec<u8>>, has_topics: bool) -> Result<(), Memory> {
+    for i in 0..items.len() {
+        add_item(text, items[i].as_slice(), has_topics)?;
     }
     Ok(())
 }
 
-/// Keys in one text, each followed by a semicolon.
-pub fn text_of_slices(alloc: Global, keys: &[&[u8]]) -> Result<Vec<u8>, Memory> {
+/// Keys in one text.
+pub fn text_of(alloc: Global, items: &Vec<Vec<u8>>, has_topics: bool) -> Result<Vec<u8>, Memory> {
     let mut text = Vec::new(alloc);
-    let added = add_keys(&mut text, keys);
+    let added = add_items(&mut text, items, has_topics);
     added.and(Ok(text))
 }
 
-/// The keys of a list in one text.
-fn text_of(alloc: Global, keys: &RecordBatch) -> Result<Vec<u8>, Memory> {
-    let mut slices = Vec::new(alloc);
-    keys.add_slices(&mut slices)?;
-    text_of_slices(alloc, &slices)
+/// The keys of a file that is read as a whole, in one text.
+pub fn text_whole(alloc: Global, file: &[u8], reading: &Reading<'_>) -> Result<Vec<u8>, Refusal> {
+    let keys = read_keys(
+        alloc,
+        file,
+        reading.delimiter,
+        reading.wanted,
+        reading.header,
+    )?;
+    Ok(text_of(alloc, &keys, reading.has_topics)?)
 }
 
-/// The keys of a file that is read as a whole, in one text.
-pub fn text_whole(
+/// The keys of a column of a file, in one text.
+fn text_of_column(
     alloc: Global,
     file: &[u8],
     delimiter: u8,
@@ -51,8 +73,13 @@ pub fn text_whole(
 ) -> Result<Vec<u8>, Refusal>
     requires { 1 ≤ column }
 {
-    let keys = read_keys(alloc, file, delimiter, column, header)?;
-    Ok(text_of(alloc, &keys)?)
+    let reading = Reading {
+        delimiter,
+        wanted: &Wanted::key(column),
+        has_topics: false,
+        header,
+    };
+    text_whole(alloc, file, &reading)
 }
 
 /// Files, their delimiter, the column of their keys, whether they have a header, and their keys in
@@ -80,7 +107,7 @@ fn has_keys(
     if column == 0 {
         return false;
     }
-    match text_whole(alloc, file, delimiter, column, header) {
+    match text_of_column(alloc, file, delimiter, column, header) {
         Ok(text) => text.as_slice() == keys,
         Err(_) => false,
     }
@@ -106,7 +133,7 @@ fn fault_of(alloc: Global, file: &[u8], column: u32, header: bool) -> Option<Ref
     if column == 0 {
         return None;
     }
-    text_whole(alloc, file, b',', column, header).err()
+    text_of_column(alloc, file, b',', column, header).err()
 }
 
 #[test]
@@ -116,64 +143,8 @@ fn the_first_invalid_record_is_reported(rt: HostRuntime) {
     }
 }
 
-/// Adds a topic's index as a digit, a key and a semicolon to a text.
-pub fn add_both(text: &mut Vec<u8>, topic: u8, key: &[u8]) -> Result<(), Memory> {
-    text.push(b'0'.wrapping_add(topic))?;
-    add_key(text, key)
-}
-
-/// Adds the topic and the key of each record to a text.
-fn add_all(text: &mut Vec<u8>, topics: &[u8], keys: &[&[u8]]) -> Result<(), Memory> {
-    for i in 0..topics.len().min(keys.len()) {
-        add_both(text, topics[i], keys[i])?;
-    }
-    Ok(())
-}
-
-/// Topics and keys in one text.
-fn text_of_both(alloc: Global, topics: &[u8], keys: &[&[u8]]) -> Result<Vec<u8>, Memory> {
-    let mut text = Vec::new(alloc);
-    let added = add_all(&mut text, topics, keys);
-    added.and(Ok(text))
-}
-
-/// The topics and the keys of a file in one text.
-pub fn text_of_topics(alloc: Global, found: &TopicKeys) -> Result<Vec<u8>, Memory> {
-    let (topics, keys) = found.topics_and_slices(alloc)?;
-    text_of_both(alloc, &topics, &keys)
-}
-
-/// The blocks of a file, each of `size` bytes but for the last.
-fn parts_of(alloc: Global, file: &[u8], size: usize) -> Result<Vec<Vec<u8>>, Memory> {
-    let mut parts = Vec::new(alloc);
-    let mut rest = file;
-    for _ in 0..file.len() {
-        let n = size.min(rest.len());
-        if n == 0 {
-            break;
-        }
-        parts.push(Vec::from_slice(alloc, &rest[..n])?)?;
-        rest = &rest[n..];
-    }
-    Ok(parts)
-}
-
-/// A file read in blocks of `size` bytes.
-pub fn file_in_blocks(
-    alloc: Global,
-    file: &[u8],
-    delimiter: u8,
-    size: usize,
-) -> Result<Blocks, Memory>
-    requires { is_line_end delimiter ≡ false }
-{
-    let parts = parts_of(alloc, file, size)?;
-    Blocks::of(alloc, parts, delimiter)
-}
-
 /// The topics and keys of a file whose keys are in the first column, in one text.
-fn topics_in<R: Threads + Sync>(
-    rt: &R,
+fn topics_in(
     alloc: Global,
     file: &[u8],
     topic_column: u32,
@@ -181,9 +152,13 @@ fn topics_in<R: Threads + Sync>(
 ) -> Result<Vec<u8>, Refusal>
     requires { 1 ≤ topic_column }
 {
-    let file = file_in_blocks(alloc, file, b',', file.len())?;
-    let found = read_topic_keys_apart(rt, alloc, &file, 1, topic_column, &NAMES, header)?;
-    Ok(text_of_topics(alloc, &found)?)
+    let reading = Reading {
+        delimiter: b',',
+        wanted: &Wanted::topic_and_key(1, topic_column, &NAMES),
+        has_topics: true,
+        header,
+    };
+    text_whole(alloc, file, &reading)
 }
 
 /// Files, the column of their topics, whether they have a header, and their first fault.
@@ -202,27 +177,23 @@ const TOPIC_FAULTS: [(&[u8], u32, bool, Refusal); 6] = [
 ];
 
 /// The first fault of a file with topics, if it has one.
-fn topic_fault_of<R: Threads + Sync>(
-    rt: &R,
-    alloc: Global,
-    file: &[u8],
-    topic_column: u32,
-    header: bool,
-) -> Option<Refusal> {
+fn topic_fault_of(alloc: Global, file: &[u8], topic_column: u32, header: bool) -> Option<Refusal> {
     if topic_column == 0 {
         return None;
     }
-    topics_in(rt, alloc, file, topic_column, header).err()
+    topics_in(alloc, file, topic_column, header).err()
 }
 
 #[test]
 fn a_file_has_its_topics_or_its_first_fault(rt: HostRuntime) -> Result<(), Fail> {
     let file = b"21,a\nabc,b\n21,b\n4,a\n4,b\n";
-    let text = topics_in(&rt, rt.alloc(), file, 2, false)?;
+    let text = topics_in(rt.alloc(), file, 2, false)?;
     assert_eq!(rt; text.as_slice(), b"021;1abc;121;04;14;".as_slice());
     for (file, topic_column, header, fault) in TOPIC_FAULTS {
-        let reported = topic_fault_of(&rt, rt.alloc(), file, topic_column, header);
-        assert_eq!(rt; reported, Some(fault));
+        assert_eq!(rt;
+            topic_fault_of(rt.alloc(), file, topic_column, header),
+            Some(fault)
+        );
     }
     Ok(())
 }

@@ -5,8 +5,6 @@
 ghost use Rattle.std.specs.Prelude.{◌≡◌, ◌+◌, ◌≤◌, length, slice_range};
 
 #[cfg(test)]
-mod appends;
-#[cfg(test)]
 mod drawn;
 #[cfg(test)]
 mod files;
@@ -18,8 +16,6 @@ mod headers;
 mod key_hashes;
 #[cfg(test)]
 mod keys;
-#[cfg(test)]
-mod lists;
 #[cfg(test)]
 mod logs;
 #[cfg(test)]

@@ -1,130 +1,176 @@
-//! Files read in chunks compared with files read as a whole.
+//! Files read in pieces compared with files read as a whole.
 
 ghost use Rattle.std.specs.Prelude.{◌≡◌, ◌≤◌, false};
 ghost use Rattle.csv_ingest.specs.Stand.{is_line_end};
 
 use crate::drawn::{Random, rows, scraps, topic_rows};
-use crate::files::{NAMES, add_both, file_in_blocks, text_of_slices, text_of_topics, text_whole};
-use csv_ingest::{
-    FileKeys, Reading, RecordBatch, read_keys, read_keys_apart, read_keys_in_pieces,
-    read_topic_keys_apart, read_topic_keys_in_pieces,
-};
+use crate::files::{NAMES, Reading, add_item, text_of, text_whole};
+use csv_ingest::{KeySink, Wanted, pieces_of, read_keys, take_chunk, width_behind};
+use key_counts::{KeyCounter, KeyCounts};
 use lane_words::{Memory, Refusal};
 use std::alloc::Global;
 use std::hash::RandomState;
 use std::random::RandomSource;
 use std::test::Fail;
-use std::thread::Threads;
+
+/// Numbers of pieces that a file is read in.
+const COUNTS: [usize; 4] = [0, 1, 2, 5];
 
 /// The text of a file, or its fault.
 type Text = Result<Vec<u8>, Refusal>;
 
-/// The keys of a file in one text.
-fn text_of_keys(alloc: Global, keys: &FileKeys) -> Result<Vec<u8>, Memory> {
-    let slices = keys.slices(alloc)?;
-    text_of_slices(alloc, &slices)
+/// A fault of a record before which there are `earlier` records more.
+fn later(fault: Refusal, earlier: u64) -> Refusal {
+    match fault {
+        Refusal::BadCsv { nth } => Refusal::BadCsv {
+            nth: nth.wrapping_add(earlier),
+        },
+        Refusal::NoSuchColumn { nth } => Refusal::NoSuchColumn {
+            nth: nth.wrapping_add(earlier),
+        },
+        Refusal::NoSuchTopic { nth } => Refusal::NoSuchTopic {
+            nth: nth.wrapping_add(earlier),
+        },
+        other => other,
+    }
 }
 
-/// The keys of a file that is read in chunks, in one text.
-fn text_in_chunks<R: Threads + Sync>(
-    rt: &R,
+/// Takes the keys of pieces of a file, one piece after another.
+fn take_pieces<K: KeySink>(
+    alloc: Global,
+    keys: &mut K,
+    pieces: &[&[u8]],
+    reading: &Reading<'_>,
+) -> Result<(), Refusal> {
+    let mut width = None;
+    let mut earlier = 0_u64;
+    for i in 0..pieces.len() {
+        let Reading {
+            delimiter,
+            wanted,
+            header,
+            ..
+        } = *reading;
+        match take_chunk(alloc, keys, pieces[i], delimiter, wanted, header, width) {
+            Ok(taken) => earlier = earlier.wrapping_add(taken),
+            Err(fault) => return Err(later(fault, earlier)),
+        }
+        let behind = width_behind(alloc, pieces[i], delimiter, width)?;
+        if header && width.is_none() && behind.is_some() {
+            earlier = earlier.wrapping_add(1);
+        }
+        width = behind;
+    }
+    Ok(())
+}
+
+/// The keys of a file that is read in so many pieces, in one text.
+fn text_in_pieces(
     alloc: Global,
     file: &[u8],
-    delimiter: u8,
-    column: u32,
-    header: bool,
-    reading: Reading,
+    reading: &Reading<'_>,
+    count: usize,
 ) -> Result<Vec<u8>, Refusal>
-    requires delimiter { is_line_end delimiter ≡ false }
-    requires column { 1 ≤ column }
+    requires { is_line_end reading.now.delimiter ≡ false }
 {
-    let keys = read_keys_in_pieces(rt, alloc, file, delimiter, column, header, reading)?;
-    Ok(text_of_keys(alloc, &keys)?)
+    let pieces = pieces_of(alloc, file, reading.delimiter, count)?;
+    let mut keys: Vec<Vec<u8>> = Vec::new(alloc);
+    take_pieces(alloc, &mut keys, pieces.as_slice(), reading)?;
+    Ok(text_of(alloc, &keys, reading.has_topics)?)
 }
 
-/// Whether a file has this text, or this fault, when read in several numbers of chunks.
-fn has_text_in_chunks<R: Threads + Sync>(
-    rt: &R,
+/// Adds the keys of records that were counted to a text.
+fn add_records(text: &mut Vec<u8>, counts: &KeyCounts, has_topics: bool) -> Result<(), Memory> {
+    let codes = counts.codes();
+    for i in 0..codes.len() {
+        let code = codes[i] as usize;
+        if code < counts.len() {
+            add_item(text, counts.key(code), has_topics)?;
+        }
+    }
+    Ok(())
+}
+
+/// The keys of records that were counted, in one text.
+fn text_of_records(alloc: Global, counts: &KeyCounts, has_topics: bool) -> Result<Vec<u8>, Memory> {
+    let mut text = Vec::new(alloc);
+    let added = add_records(&mut text, counts, has_topics);
+    added.and(Ok(text))
+}
+
+/// Counts the keys of pieces of a file.
+fn count_pieces(
+    alloc: Global,
+    counter: &mut KeyCounter,
+    pieces: &[&[u8]],
+    reading: &Reading<'_>,
+) -> Result<(), Refusal> {
+    take_pieces(alloc, counter, pieces, reading)?;
+    Ok(counter.settle()?)
+}
+
+/// The keys of a file that are counted as it is read in so many pieces, in one text.
+fn text_of_counted(
+    alloc: Global,
+    hasher: RandomState,
+    file: &[u8],
+    reading: &Reading<'_>,
+    count: usize,
+) -> Result<Vec<u8>, Refusal>
+    requires { is_line_end reading.now.delimiter ≡ false }
+{
+    let pieces = pieces_of(alloc, file, reading.delimiter, count)?;
+    let mut counter = KeyCounter::new(alloc, hasher, true)?;
+    count_pieces(alloc, &mut counter, pieces.as_slice(), reading)?;
+    let counts = counter.into_counts();
+    Ok(text_of_records(alloc, &counts, reading.has_topics)?)
+}
+
+/// Whether a file has the same keys, or the same fault, when read as a whole and in these numbers of
+/// pieces, kept and counted.
+fn are_keys_same(
+    rt: &impl RandomSource,
     alloc: Global,
     file: &[u8],
-    delimiter: u8,
-    column: u32,
-    header: bool,
-    hasher: Option<RandomState>,
-    whole: &Text,
+    reading: &Reading<'_>,
+    counts: &[usize],
 ) -> bool
-    requires delimiter { is_line_end delimiter ≡ false }
-    requires column { 1 ≤ column }
+    requires { is_line_end reading.now.delimiter ≡ false }
 {
-    for pieces in [0, 2, 5] {
-        let reading = Reading { pieces, hasher };
-        if text_in_chunks(rt, alloc, file, delimiter, column, header, reading) != *whole {
+    let Ok(hasher) = RandomState::new(rt) else {
+        return false;
+    };
+    let whole = text_whole(alloc, file, reading);
+    for count in counts.iter().copied() {
+        if text_in_pieces(alloc, file, reading, count) != whole
+            || text_of_counted(alloc, hasher, file, reading, count) != whole
+        {
             return false;
         }
     }
     true
 }
 
-/// The sizes of the blocks that a file is read in, in bytes.
-const SIZES: [usize; 4] = [1, 3, 8, 50];
-
-/// The keys of a file that is read in blocks of `size` bytes, in one text.
-fn text_in_blocks<R: Threads + Sync + RandomSource>(
-    rt: &R,
+/// The same, of the keys of a column.
+fn is_column_same(
+    rt: &impl RandomSource,
     alloc: Global,
     file: &[u8],
     delimiter: u8,
     column: u32,
     header: bool,
-    size: usize,
-) -> Result<Vec<u8>, Refusal>
-    requires delimiter { is_line_end delimiter ≡ false }
-    requires column { 1 ≤ column }
-{
-    let blocks = file_in_blocks(alloc, file, delimiter, size)?;
-    let keys = read_keys_apart(rt, alloc, &blocks, column, header)?;
-    Ok(text_of_keys(alloc, &keys)?)
-}
-
-/// Whether a file has this text, or this fault, when read in blocks of several sizes.
-fn has_text_in_blocks<R: Threads + Sync + RandomSource>(
-    rt: &R,
-    alloc: Global,
-    file: &[u8],
-    delimiter: u8,
-    column: u32,
-    header: bool,
-    whole: &Text,
+    counts: &[usize],
 ) -> bool
     requires delimiter { is_line_end delimiter ≡ false }
     requires column { 1 ≤ column }
 {
-    for size in SIZES {
-        if text_in_blocks(rt, alloc, file, delimiter, column, header, size) != *whole {
-            return false;
-        }
-    }
-    true
-}
-
-/// Whether a file has the same keys, or the same fault, when read as a whole, in blocks, and in
-/// several numbers of chunks, with and without key lookups.
-fn are_keys_same<R: Threads + Sync + RandomSource>(
-    rt: &R,
-    alloc: Global,
-    file: &[u8],
-    delimiter: u8,
-    column: u32,
-    header: bool,
-) -> bool
-    requires delimiter { is_line_end delimiter ≡ false }
-    requires column { 1 ≤ column }
-{
-    let whole = text_whole(alloc, file, delimiter, column, header);
-    let hasher = RandomState::new(rt).ok();
-    has_text_in_chunks(rt, alloc, file, delimiter, column, header, None, &whole)
-        && has_text_in_chunks(rt, alloc, file, delimiter, column, header, hasher, &whole)
-        && has_text_in_blocks(rt, alloc, file, delimiter, column, header, &whole)
+    let reading = Reading {
+        delimiter,
+        wanted: &Wanted::key(column),
+        has_topics: false,
+        header,
+    };
+    are_keys_same(rt, alloc, file, &reading, counts)
 }
 
 /// The delimiter of a file: a comma, or a byte that its fields have, too.
@@ -139,27 +185,27 @@ fn delimiter_of(n: u64) -> u8
 }
 
 #[test]
-fn any_bytes_are_read_alike_in_chunks(rt: HostRuntime) -> Result<(), Fail> {
+fn any_bytes_are_read_alike_in_pieces(rt: HostRuntime) -> Result<(), Fail> {
     let mut random = Random { state: 1 };
     for _ in 0..60 {
         let file = scraps(rt.alloc(), &mut random)?;
         let column = 1 + random.below(2) as u32;
         let header = random.below(2) == 0;
         let delimiter = delimiter_of(random.below(3));
-        assert!(rt; are_keys_same(&rt, rt.alloc(), &file, delimiter, column, header));
+        assert!(rt; is_column_same(&rt, rt.alloc(), &file, delimiter, column, header, &COUNTS));
     }
     Ok(())
 }
 
 #[test]
-fn a_fault_in_any_chunk_is_reported_alike(rt: HostRuntime) -> Result<(), Fail> {
+fn a_fault_in_any_piece_is_reported_alike(rt: HostRuntime) -> Result<(), Fail> {
     let mut random = Random { state: 2 };
     for _ in 0..60 {
         let file = rows(rt.alloc(), &mut random)?;
         let column = 1 + random.below(3) as u32;
         let header = random.below(2) == 0;
         let delimiter = delimiter_of(random.below(3));
-        assert!(rt; are_keys_same(&rt, rt.alloc(), &file, delimiter, column, header));
+        assert!(rt; is_column_same(&rt, rt.alloc(), &file, delimiter, column, header, &COUNTS));
     }
     Ok(())
 }
@@ -184,9 +230,9 @@ fn long_keys(alloc: Global) -> Result<Vec<u8>, Memory> {
 }
 
 #[test]
-fn long_keys_are_read_alike_in_chunks(rt: HostRuntime) -> Result<(), Fail> {
+fn long_keys_are_read_alike_in_pieces(rt: HostRuntime) -> Result<(), Fail> {
     let file = long_keys(rt.alloc())?;
-    assert!(rt; are_keys_same(&rt, rt.alloc(), &file, b',', 1, false));
+    assert!(rt; is_column_same(&rt, rt.alloc(), &file, b',', 1, false, &COUNTS));
     Ok(())
 }
 
@@ -209,106 +255,39 @@ fn file_of(alloc: Global, records: u64) -> Result<Vec<u8>, Memory> {
     Ok(file)
 }
 
-/// Whether there are this many keys, and this is their text.
-fn are_keys(alloc: Global, keys: &FileKeys, len: usize, whole: &Text) -> Result<bool, Memory> {
-    Ok(keys.len() == len && Ok(text_of_keys(alloc, keys)?) == *whole)
-}
-
-/// Whether a file read in blocks of `size` bytes has this many keys in its second column below its
-/// header, and the same as when read as a whole.
-fn has_keys_parallel<R: Threads + Sync + RandomSource>(
-    rt: &R,
-    alloc: Global,
-    file: &[u8],
-    size: usize,
-    len: usize,
-) -> Result<bool, Refusal> {
-    let blocks = file_in_blocks(alloc, file, b',', size)?;
-    let keys = read_keys_apart(rt, alloc, &blocks, 2, true)?;
-    Ok(are_keys(alloc, &keys, len, &text_whole(alloc, file, b',', 2, true))?)
+/// How many keys a file has in its second column below its header.
+fn keys_in(alloc: Global, file: &[u8]) -> Result<usize, Refusal> {
+    let keys = read_keys(alloc, file, b',', &Wanted::key(2), true)?;
+    Ok(keys.len())
 }
 
 #[test]
 fn a_file_of_a_few_mebibytes_has_all_keys(rt: HostRuntime) -> Result<(), Fail> {
     let file = file_of(rt.alloc(), 200_000)?;
-    // This many bytes in one block are read in two chunks if there are two processors.
     assert!(rt; file.len() > 2 << 20);
-    for size in [file.len(), 1 << 20] {
-        assert_eq!(rt;
-            has_keys_parallel(&rt, rt.alloc(), &file, size, 199_999),
-            Ok(true)
-        );
-    }
+    assert_eq!(rt; keys_in(rt.alloc(), &file), Ok(199_999));
+    assert!(rt; is_column_same(&rt, rt.alloc(), &file, b',', 2, true, &[3]));
     Ok(())
 }
 
-/// The topics and keys of a file whose topics are in the second column, in one text.
-fn topics_in_chunks<R: Threads + Sync>(
-    rt: &R,
-    alloc: Global,
-    file: &[u8],
-    column: u32,
-    header: bool,
-    pieces: usize,
-) -> Result<Vec<u8>, Refusal>
-    requires { 1 ≤ column }
-{
-    let found = read_topic_keys_in_pieces(
-        rt, alloc, file, b',', column, 2, &NAMES, header, pieces,
-    )?;
-    Ok(text_of_topics(alloc, &found)?)
-}
-
-/// The same for a file that is read in blocks of `size` bytes.
-fn topics_in_blocks<R: Threads + Sync>(
-    rt: &R,
-    alloc: Global,
-    file: &[u8],
-    column: u32,
-    header: bool,
-    size: usize,
-) -> Result<Vec<u8>, Refusal>
-    requires { 1 ≤ column }
-{
-    let blocks = file_in_blocks(alloc, file, b',', size)?;
-    let found = read_topic_keys_apart(rt, alloc, &blocks, column, 2, &NAMES, header)?;
-    Ok(text_of_topics(alloc, &found)?)
-}
-
-/// Whether a file has these topics and keys, or this fault, when read in blocks of several sizes.
-fn has_topics_in_blocks<R: Threads + Sync>(
-    rt: &R,
-    alloc: Global,
-    file: &[u8],
-    column: u32,
-    header: bool,
-    whole: &Text,
-) -> bool
-    requires { 1 ≤ column }
-{
-    for size in SIZES {
-        if topics_in_blocks(rt, alloc, file, column, header, size) != *whole {
-            return false;
-        }
-    }
-    true
-}
-
-/// Adds topics and keys that were read separately to a text.
+/// The text of keys, each behind the index of its topic, from columns that were read separately.
 fn add_columns(
     text: &mut Vec<u8>,
-    topics: &RecordBatch,
-    keys: &RecordBatch,
+    topics: &Vec<Vec<u8>>,
+    keys: &Vec<Vec<u8>>,
     header: bool,
 ) -> Result<(), Refusal> {
     let mut nth = if header { 2_u64 } else { 1 };
     for i in 0..topics.len().min(keys.len()) {
-        let topic = match topics.get(i) {
-            b"a" => 0,
-            b"b" => 1,
+        let digit = match topics[i].as_slice() {
+            b"a" => b'0',
+            b"b" => b'1',
             _ => return Err(Refusal::NoSuchTopic { nth }),
         };
-        add_both(text, topic, keys.get(i))?;
+        if text.push(digit).is_err() {
+            return Err(Refusal::Memory);
+        }
+        add_item(text, keys[i].as_slice(), false)?;
         nth = nth.wrapping_add(1);
     }
     Ok(())
@@ -317,10 +296,10 @@ fn add_columns(
 /// Those topics and keys in one text.
 fn text_of_columns(
     alloc: Global,
-    topics: &RecordBatch,
-    keys: &RecordBatch,
+    topics: &Vec<Vec<u8>>,
+    keys: &Vec<Vec<u8>>,
     header: bool,
-) -> Result<Vec<u8>, Refusal> {
+) -> Text {
     let mut text = Vec::new(alloc);
     let added = add_columns(&mut text, topics, keys, header);
     added.and(Ok(text))
@@ -332,18 +311,18 @@ fn has_text_of_columns(alloc: Global, file: &[u8], column: u32, header: bool, wh
     requires { 1 ≤ column }
 {
     match (
-        read_keys(alloc, file, b',', 2, header),
-        read_keys(alloc, file, b',', column, header),
+        read_keys(alloc, file, b',', &Wanted::key(2), header),
+        read_keys(alloc, file, b',', &Wanted::key(column), header),
     ) {
         (Ok(topics), Ok(keys)) => text_of_columns(alloc, &topics, &keys, header) == *whole,
         _ => whole.is_err(),
     }
 }
 
-/// Whether a file has the same topics and keys, or the same fault, when read as a whole, in several
-/// chunks and in blocks, and as both columns have them.
-fn are_topics_same<R: Threads + Sync>(
-    rt: &R,
+/// Whether a file has the same topics and keys, or the same fault, when read as a whole, in pieces,
+/// and as both columns have them.
+fn are_topics_same(
+    rt: &impl RandomSource,
     alloc: Global,
     file: &[u8],
     column: u32,
@@ -351,18 +330,19 @@ fn are_topics_same<R: Threads + Sync>(
 ) -> bool
     requires { 1 ≤ column }
 {
-    let whole = topics_in_chunks(rt, alloc, file, column, header, 1);
-    for pieces in [0, 2, 5] {
-        if topics_in_chunks(rt, alloc, file, column, header, pieces) != whole {
-            return false;
-        }
-    }
-    has_topics_in_blocks(rt, alloc, file, column, header, &whole)
+    let reading = Reading {
+        delimiter: b',',
+        wanted: &Wanted::topic_and_key(column, 2, &NAMES),
+        has_topics: true,
+        header,
+    };
+    let whole = text_whole(alloc, file, &reading);
+    are_keys_same(rt, alloc, file, &reading, &COUNTS)
         && has_text_of_columns(alloc, file, column, header, &whole)
 }
 
 #[test]
-fn topics_are_read_alike_in_chunks(rt: HostRuntime) -> Result<(), Fail> {
+fn topics_are_read_alike_in_pieces(rt: HostRuntime) -> Result<(), Fail> {
     let mut random = Random { state: 3 };
     for _ in 0..60 {
         let file = topic_rows(rt.alloc(), &mut random)?;

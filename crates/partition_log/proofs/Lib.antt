@@ -1,4 +1,5 @@
 pub mod Appended
+pub mod EntryTables
 pub mod Fills
 pub mod History
 pub mod Numbered

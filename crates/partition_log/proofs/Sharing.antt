@@ -1,25 +1,20 @@
 -- Logs that are filled share by share, and records that are read by codes.
-use Rattle.std.proofs.Common.{◌≡◌, ◌∙◌, ◌+◌, ◌-◌, ◌<◌, ◌≤◌, ℕ, zero, suc, Bool, true, false, List, [], ◌∷◌, ◌++◌, Result, Ok, Vec, length, map, take, drop, get_or, replicate, sym, ap, ap₂, refl, subst, arith, inl, inr, append_assoc, length-append, length-drop, length-take-le, get_or-set_same, get_or-set_other, vec_items}
+use Rattle.std.proofs.Common.{◌≡◌, ◌∙◌, ◌+◌, ◌*◌, ◌/◌, ◌%◌, ◌<◌, ◌≤◌, ℕ, suc, Bool, true, false, List, [], ◌∷◌, ◌++◌, Result, Ok, Vec, length, map, min, take, drop, get_or, replicate, sym, ap, ap₂, refl, subst, arith, inl, inr, append_assoc, length-append, length-drop, get_or-set_same, get_or-set_other, vec_items}
+use Rattle.std.specs.Fork.{slice_chunk}
 use Rattle.std.specs.Prelude.{◌==◌, if◌then◌else◌, All, IfOk, slice_range, slice_set}
 use Rattle.std.proofs.lemmas.Bool.Decides.{eqb_tells}
-use Rattle.std.proofs.lemmas.List.{append-nil, drop_at, drop_more, drop-drop, ext_get_or, get_or-map, get_or-replicate, length-map, length-replicate, length-set, map-append, take_at, take_more}
+use Rattle.std.proofs.lemmas.List.{append-nil, drop-drop, drop_more, ext_get_or, get_or-map, get_or-replicate, length-map, length-replicate, length-set, take-append-drop}
 use Rattle.std.proofs.lemmas.List.Concat.{flat_map-append}
-use Rattle.std.proofs.lemmas.List.Elements.{All-append, All-cons, All-drop, All-head, All-push, All-tail, All-take}
+use Rattle.std.specs.Global.{Global}
+use Rattle.std.proofs.lemmas.Grind.{div_ceil_times}
+use native.Mathlib.Nat.{suc-mul, zero-mul}
 use Rattle.lane_words.specs.declared.Memory.{Memory}
-use Rattle.key_index.specs.Keys.{Key, key_at}
-use Rattle.record_batch.specs.Lists.{AreEncoded, IsEncoded, HasLongest, codes_in, concatenated, keys_in}
-use Rattle.record_batch.specs.declared.encoding.EncodedBatch.{EncodedBatch}
-use Rattle.record_batch.proofs.Encoded.{distinct-parts, read-codes}
-use Rattle.record_batch.proofs.Longest.{all-up-to, longest-up-to}
-use Rattle.partition_log.specs.Private.Filled.{ArePlaced, AreShort, CanAppendParallel, filled}
-use Rattle.partition_log.specs.Private.Shares.{AreMerged, IsFillable, by_codes, flattened, numbers_in, places_in, read_by, records_of}
-use Rattle.partition_log.specs.declared.shares.Share.{Share}
-use Rattle.partition_log.specs.Appends.{AreAppended, in_first, placed}
-use Rattle.partition_log.specs.Keys.{distinct, id_of, of_first}
-use Rattle.partition_log.specs.Logs.{IsValidLogs, PartitionLogs, place_in}
-use Rattle.partition_log.proofs.Appended.{first-keys, first-topics, none_appended, places-are, records-placed}
-use Rattle.partition_log.proofs.ParallelAppends.{parallel-appended}
-use Rattle.lane_words.specs.declared.limits.TheConstants.{LONGEST_KEY}
+use Rattle.key_counts.specs.Counts.{Entries}
+use Rattle.key_counts.specs.Segments.{entries_of}
+use Rattle.key_counts.specs.declared.merging.Segment.{Segment}
+use Rattle.partition_log.specs.Private.Filled.{filled}
+use Rattle.partition_log.specs.Private.Shares.{AreFilled, AreMerged, filled_by, flattened, read_chunk, read_chunks, table_of}
+use Rattle.partition_log.specs.declared.shares.Tables.{Tables}
 
 -- ---- the records of one place
 abbrev pub at_place : ℕ → List ℕ → List ℕ → List ℕ
@@ -66,43 +61,99 @@ place-append p (x ∷ xs) [] ys ms e = absurd (omega (arith, e))
 place-append p (x ∷ xs) (n ∷ ns) ys ms e =
     ap (λ rest. if x == p then n ∷ rest else rest) (place-append p xs ns ys ms (omega (arith, e))) ∙ place-one (x == p) n (at_place p xs ns) (at_place p ys ms)
 
--- ---- shares
--- the logs of a share
-abbrev pub filled_share : ℕ → Share → List (List ℕ)
-filled_share partitions share = filled (replicate partitions []) (places_in share) (numbers_in share)
-
-share-long : (share : Share) → length (places_in share) ≡ length (numbers_in share)
-share-long share =
-    length-map share.codes.now (λ (code : ℕ). get_or share.places.now code 0) ∙ sym (length-map share.codes.now (λ (code : ℕ). get_or share.numbers.now code 0))
-
+-- ---- chunks
 none-long : (partitions : ℕ) → length (replicate {A = List ℕ} partitions []) ≡ partitions
 none-long partitions = length-replicate partitions []
 
-pub merged-place : (partitions p : ℕ) (shares : List Share) → p < partitions
-    → flattened (map (λ part. get_or part p []) (map (filled_share partitions) shares)) ≡ at_place p (flattened (map places_in shares)) (flattened (map numbers_in shares))
-merged-place partitions p [] lt = refl
-merged-place partitions p (share ∷ shares) lt =
+filled-append : (logs : List (List ℕ)) (xs ns ys ms : List ℕ) → length xs ≡ length ns → filled logs (xs ++ ys) (ns ++ ms) ≡ filled (filled logs xs ns) ys ms
+filled-append logs [] [] ys ms e = refl
+filled-append logs [] (n ∷ ns) ys ms e = absurd (omega (arith, e))
+filled-append logs (x ∷ xs) [] ys ms e = absurd (omega (arith, e))
+filled-append logs (x ∷ xs) (n ∷ ns) ys ms e = filled-append (slice_set logs x (get_or logs x [] ++ n ∷ [])) xs ns ys ms (omega (arith, e))
+
+chunk-long : (places numbers : List (Vec ℕ Global)) (workers : List Entries) (s : Segment) → length (read_chunk places workers s) ≡ length (read_chunk numbers workers s)
+chunk-long places numbers workers s =
+    let codes = slice_range (entries_of workers s.worker).codes s.from s.to in
+    length-map codes (λ (code : ℕ). get_or (table_of places s.worker) code 0) ∙ sym (length-map codes (λ (code : ℕ). get_or (table_of numbers s.worker) code 0))
+
+chunks-long : (places numbers : List (Vec ℕ Global)) (workers : List Entries) (chunks : List Segment) → length (read_chunks places workers chunks) ≡ length (read_chunks numbers workers chunks)
+chunks-long places numbers workers [] = refl
+chunks-long places numbers workers (s ∷ chunks) =
+    let own = chunk-long places numbers workers s in
+    let rest = chunks-long places numbers workers chunks in
+    length-append (read_chunk places workers s) (read_chunks places workers chunks) ∙ ap₂ (λ a b. a + b) own rest
+    ∙ sym (length-append (read_chunk numbers workers s) (read_chunks numbers workers chunks))
+
+-- the logs after one chunk more
+pub filled-chunk : (places numbers : List (Vec ℕ Global)) (workers : List Entries) (logs : List (List ℕ)) (chunks : List Segment) (i : ℕ) (d : Segment) → i < length chunks
+    → filled logs (read_chunks places workers (drop i chunks)) (read_chunks numbers workers (drop i chunks))
+    ≡ filled (filled logs (read_chunk places workers (get_or chunks i d)) (read_chunk numbers workers (get_or chunks i d))) (read_chunks places workers (drop (i + 1) chunks)) (read_chunks numbers workers (drop (i + 1) chunks))
+filled-chunk places numbers workers logs chunks i d lt =
+    let s = get_or chunks i d in
+    let rest = drop (i + 1) chunks in
+    ap (λ cs. filled logs (read_chunks places workers cs) (read_chunks numbers workers cs)) (drop_more chunks i d lt)
+    ∙ filled-append logs (read_chunk places workers s) (read_chunk numbers workers s) (read_chunks places workers rest) (read_chunks numbers workers rest) (chunk-long places numbers workers s)
+
+-- ---- shares
+filled-place : (partitions p : ℕ) (workers : List Entries) (tables : Tables) (chunks : List Segment) → p < partitions
+    → get_or (filled_by partitions workers tables chunks) p [] ≡ at_place p (read_chunks tables.places.items workers chunks) (read_chunks tables.numbers.items workers chunks)
+filled-place partitions p workers tables chunks lt =
     let none : List (List ℕ) = replicate partitions [] in
-    let own : get_or (filled_share partitions share) p [] ≡ at_place p (places_in share) (numbers_in share) =
-    filled-at none (places_in share) (numbers_in share) p (omega (arith, lt, none-long partitions))
-    ∙ ap (λ log. log ++ at_place p (places_in share) (numbers_in share)) (get_or-replicate partitions p [] [] lt) in
-    ap₂ (λ a b. a ++ b) own (merged-place partitions p shares lt)
-    ∙ sym (place-append p (places_in share) (numbers_in share) (flattened (map places_in shares)) (flattened (map numbers_in shares)) (share-long share))
+    let places = read_chunks tables.places.items workers chunks in
+    let numbers = read_chunks tables.numbers.items workers chunks in
+    filled-at none places numbers p (omega (arith, lt, none-long partitions)) ∙ ap (λ log. log ++ at_place p places numbers) (get_or-replicate partitions p [] [] lt)
+
+filled_by-long : (partitions : ℕ) (workers : List Entries) (tables : Tables) (chunks : List Segment) → length (filled_by partitions workers tables chunks) ≡ partitions
+filled_by-long partitions workers tables chunks =
+    filled-long (replicate partitions []) (read_chunks tables.places.items workers chunks) (read_chunks tables.numbers.items workers chunks) ∙ none-long partitions
+
+-- what chunks have is what the first have, and then the others
+read-split : (tables : List (Vec ℕ Global)) (workers : List Entries) (chunks : List Segment) (size : ℕ) → read_chunks tables workers chunks ≡ read_chunks tables workers (take size chunks) ++ read_chunks tables workers (drop size chunks)
+read-split tables workers chunks size = ap (read_chunks tables workers) (sym (take-append-drop size chunks)) ∙ flat_map-append (read_chunk tables workers) (take size chunks) (drop size chunks)
+
+-- without the first share, the others are filled
+filled-behind : (partitions : ℕ) (workers : List Entries) (tables : Tables) (size : ℕ) (chunks : List Segment) (part : List (List ℕ)) (parts : List (List (List ℕ)))
+    → AreFilled partitions workers tables size chunks (part ∷ parts) → AreFilled partitions workers tables size (drop size chunks) parts
+filled-behind partitions workers tables size chunks part parts so = record {
+  all = (let rest : suc (length parts) * size ≡ length parts * size + size = suc-mul (length parts) size in omega (arith, so.all, rest, length-drop size chunks));
+  each = λ i lt. so.each (suc i) (omega (arith, lt))
+      ∙ ap (λ cs. filled_by partitions workers tables (take size cs)) (ap (λ n. drop n chunks) (suc-mul i size ∙ omega arith) ∙ sym (drop-drop (i * size) size chunks));
+}
+
+merged-place : (partitions p : ℕ) (workers : List Entries) (tables : Tables) (size : ℕ) (chunks : List Segment) (parts : List (List (List ℕ))) → p < partitions
+    → AreFilled partitions workers tables size chunks parts
+    → flattened (map (λ part. get_or part p []) parts) ≡ at_place p (read_chunks tables.places.items workers chunks) (read_chunks tables.numbers.items workers chunks)
+merged-place partitions p workers tables size [] [] lt so = refl
+merged-place partitions p workers tables size (c ∷ chunks) [] lt so = absurd (omega (arith, so.all, zero-mul size))
+merged-place partitions p workers tables size chunks (part ∷ parts) lt so =
+    let places = tables.places.items in
+    let numbers = tables.numbers.items in
+    let one = take size chunks in
+    let rest = drop size chunks in
+    let first : part ≡ filled_by partitions workers tables one = so.each 0 (omega arith) ∙ ap (λ n. filled_by partitions workers tables (take size (drop n chunks))) (zero-mul size) in
+    let own : get_or part p [] ≡ at_place p (read_chunks places workers one) (read_chunks numbers workers one) = ap (λ ls. get_or ls p []) first ∙ filled-place partitions p workers tables one lt in
+    ap₂ (λ a b. a ++ b) own (merged-place partitions p workers tables size rest parts lt (filled-behind partitions workers tables size chunks part parts so))
+    ∙ sym (place-append p (read_chunks places workers one) (read_chunks numbers workers one) (read_chunks places workers rest) (read_chunks numbers workers rest) (chunks-long places numbers workers one))
+    ∙ sym (ap₂ (λ xs ns. at_place p xs ns) (read-split places workers chunks size) (read-split numbers workers chunks size))
 
 -- merged, they are those that are filled by all records
-pub merged-filled : (partitions : ℕ) (shares : List Share) (logs : List (List ℕ)) → AreMerged partitions (map (filled_share partitions) shares) logs
-    → logs ≡ filled (replicate partitions []) (flattened (map places_in shares)) (flattened (map numbers_in shares))
-merged-filled partitions shares logs so =
-    let none : List (List ℕ) = replicate partitions [] in
-    let places = flattened (map places_in shares) in
-    let numbers = flattened (map numbers_in shares) in
-    let long : length (filled none places numbers) ≡ partitions = filled-long none places numbers ∙ none-long partitions in
-    ext_get_or [] logs (filled none places numbers) (so.as_many ∙ sym long) (λ p lt.
+pub merged-filled : (partitions : ℕ) (workers : List Entries) (tables : Tables) (size : ℕ) (chunks : List Segment) (parts : List (List (List ℕ))) (logs : List (List ℕ))
+    → AreFilled partitions workers tables size chunks parts → AreMerged partitions parts logs → logs ≡ filled_by partitions workers tables chunks
+merged-filled partitions workers tables size chunks parts logs filled_so so =
+    let whole = filled_by partitions workers tables chunks in
+    ext_get_or [] logs whole (so.as_many ∙ sym (filled_by-long partitions workers tables chunks)) (λ p lt.
     let within : p < partitions = omega (arith, lt, so.as_many) in
-    so.each p within ∙ merged-place partitions p shares within
-    ∙ sym (filled-at none places numbers p (omega (arith, within, none-long partitions)) ∙ ap (λ log. log ++ at_place p places numbers) (get_or-replicate partitions p [] [] within)))
+    so.each p within ∙ merged-place partitions p workers tables size chunks parts within filled_so ∙ sym (filled-place partitions p workers tables chunks within))
 
-pub found-each : {T : Type 0} (P : ℕ → T → Type 0) (found : List (Result T Memory)) (all : List T) (n : ℕ) → found ≡ map Ok all → length found ≡ n
+pub parts-long : {A Z : Type 0} (partitions : ℕ) (workers : List Entries) (tables : Tables) (size : ℕ) (chunks : List Segment) (parts : List (Vec (Vec ℕ Z) A))
+    → AreFilled partitions workers tables size chunks (map (λ (part : Vec (Vec ℕ Z) A). map vec_items part.items) parts) → All (λ (part : Vec (Vec ℕ Z) A). length part.items ≡ partitions) parts
+parts-long partitions workers tables size chunks parts so = λ i d lt.
+    let many = length-map parts (λ part. map vec_items part.items) in
+    let within : i < length (map (λ part. map vec_items part.items) parts) = omega (arith, lt, many) in
+    sym (length-map (get_or parts i d).items vec_items) ∙ ap length (sym (get_or-map (λ part. map vec_items part.items) parts i d [] lt) ∙ so.each i within)
+    ∙ filled_by-long partitions workers tables (slice_chunk chunks size i)
+
+found-each : {T : Type 0} (P : ℕ → T → Type 0) (found : List (Result T Memory)) (all : List T) (n : ℕ) → found ≡ map Ok all → length found ≡ n
     → ((i : ℕ) (d : Result T Memory) → i < n → IfOk (get_or found i d) (P i)) → (i : ℕ) (d : T) → i < n → P i (get_or all i d)
 found-each P found all n is long h i d lt =
     let many : length all ≡ n = sym (ap length is ∙ length-map all Ok) ∙ long in
@@ -110,133 +161,34 @@ found-each P found all n is long h i d lt =
     let at : get_or found i (Ok d) ≡ Ok (get_or all i d) = ap (λ fs. get_or fs i (Ok d)) is ∙ get_or-map Ok all i d (Ok d) (omega (arith, lt, many)) in
     rw at at own
 
-pub found-long : {T : Type 0} (found : List (Result T Memory)) (all : List T) (n : ℕ) → found ≡ map Ok all → length found ≡ n → length all ≡ n
+found-long : {T : Type 0} (found : List (Result T Memory)) (all : List T) (n : ℕ) → found ≡ map Ok all → length found ≡ n → length all ≡ n
 found-long found all n is long = sym (ap length is ∙ length-map all Ok) ∙ long
 
--- ---- records by codes
-pub encoded-at : (parts : List (List Key)) (encoded : List EncodedBatch) (i : ℕ) (d : EncodedBatch) → i < length encoded → AreEncoded parts encoded → IsEncoded (get_or parts i []) (get_or encoded i d)
-encoded-at [] [] i d lt so = absurd (omega (arith, lt))
-encoded-at [] (c ∷ encoded) i d lt so = absurd so
-encoded-at (part ∷ parts) [] i d lt so = absurd so
-encoded-at (part ∷ parts) (c ∷ encoded) zero d lt so = so.0
-encoded-at (part ∷ parts) (c ∷ encoded) (suc i) d lt so = encoded-at parts encoded i d (omega (arith, lt)) so.1
-
-pub encoded-records : (parts : List (List Key)) (encoded : List EncodedBatch) → AreEncoded parts encoded → map records_of encoded ≡ parts
-encoded-records [] [] so = refl
-encoded-records [] (c ∷ encoded) so = absurd so
-encoded-records (part ∷ parts) [] so = absurd so
-encoded-records (part ∷ parts) (c ∷ encoded) so = ap₂ (λ p ps. p ∷ ps) so.0.same_records (encoded-records parts encoded so.1)
-
-pub read-all : (f : Key → ℕ) (parts : List (List Key)) (encoded : List EncodedBatch) → AreEncoded parts encoded → read_by (map f (concatenated (map keys_in encoded))) encoded ≡ map f (concatenated parts)
-read-all f [] [] so = refl
-read-all f [] (c ∷ encoded) so = absurd so
-read-all f (part ∷ parts) [] so = absurd so
-read-all f (part ∷ parts) (c ∷ encoded) so =
-    let own = map f (keys_in c) in
-    let more = map f (concatenated (map keys_in encoded)) in
-    let n = length (keys_in c) in
-    let long : length own ≡ n = length-map (keys_in c) f in
-    let all : map f (concatenated (map keys_in (c ∷ encoded))) ≡ own ++ more = map-append f (keys_in c) (concatenated (map keys_in encoded)) in
-    ap (λ xs. by_codes (take n xs) (codes_in c) ++ read_by (drop n xs) encoded) all
-    ∙ ap₂ (λ xs ys. by_codes xs (codes_in c) ++ read_by ys encoded) (take_at own more n long) (drop_at own more n long)
-    ∙ ap₂ (λ xs ys. xs ++ ys) (read-codes f part (keys_in c) (codes_in c) so.0) (read-all f parts encoded so.1)
-    ∙ sym (map-append f part (concatenated parts))
-
-one-short : (keys : List Key) (codes : List ℕ) → All (λ code. code < length keys) codes → AreShort keys → AreShort (map (key_at keys) codes)
-one-short keys [] within short = λ i d lt. absurd (omega (arith, lt))
-one-short keys (code ∷ codes) within short =
-    All-cons (λ (key : Key). length key ≤ LONGEST_KEY) (key_at keys code) (map (key_at keys) codes) (short code [] (All-head (λ c. c < length keys) code codes within))
-    (one-short keys codes (All-tail (λ c. c < length keys) code codes within) short)
-
-left-short : (xs ys : List Key) → AreShort (xs ++ ys) → AreShort xs × AreShort ys
-left-short [] ys h = ((λ i d lt. absurd (omega (arith, lt))), h)
-left-short (x ∷ xs) ys h =
-    let rest = left-short xs ys (All-tail (λ (key : Key). length key ≤ LONGEST_KEY) x (xs ++ ys) h) in
-    (All-cons (λ (key : Key). length key ≤ LONGEST_KEY) x xs (All-head (λ (key : Key). length key ≤ LONGEST_KEY) x (xs ++ ys) h) rest.0, rest.1)
-
-pub records-short : (parts : List (List Key)) (encoded : List EncodedBatch) → AreEncoded parts encoded → AreShort (concatenated (map keys_in encoded)) → AreShort (concatenated parts)
-records-short [] [] so short = short
-records-short [] (c ∷ encoded) so short = absurd so
-records-short (part ∷ parts) [] so short = absurd so
-records-short (part ∷ parts) (c ∷ encoded) so short =
-    let both = left-short (keys_in c) (concatenated (map keys_in encoded)) short in
-    All-append (λ (key : Key). length key ≤ LONGEST_KEY) part (concatenated parts)
-    (subst AreShort so.0.same_records (one-short (keys_in c) (codes_in c) so.0.within both.0)) (records-short parts encoded so.1 both.1)
-
-pub lists-short : (encoded : List EncodedBatch) → All HasLongest encoded → All (λ (one : EncodedBatch). one.longest ≤ LONGEST_KEY) encoded → AreShort (concatenated (map keys_in encoded))
-lists-short [] tells short = λ i d lt. absurd (omega (arith, lt))
-lists-short (one ∷ encoded) tells short =
-    let tells_own : HasLongest one = All-head HasLongest one encoded tells in
-    All-append (λ (key : Key). length key ≤ LONGEST_KEY) (keys_in one) (concatenated (map keys_in encoded))
-    (all-up-to LONGEST_KEY (keys_in one) (omega (arith, tells_own, All-head (λ (one : EncodedBatch). one.longest ≤ LONGEST_KEY) one encoded short)))
-    (lists-short encoded (All-tail HasLongest one encoded tells) (All-tail (λ (one : EncodedBatch). one.longest ≤ LONGEST_KEY) one encoded short))
-
-pub longest-short : (encoded : List EncodedBatch) → All HasLongest encoded → AreShort (concatenated (map keys_in encoded)) → All (λ (one : EncodedBatch). one.longest ≤ LONGEST_KEY) encoded
-longest-short [] tells short = λ i d lt. absurd (omega (arith, lt))
-longest-short (one ∷ encoded) tells short =
-    let both = left-short (keys_in one) (concatenated (map keys_in encoded)) short in
-    let tells_own : HasLongest one = All-head HasLongest one encoded tells in
-    All-cons (λ (one : EncodedBatch). one.longest ≤ LONGEST_KEY) one encoded (omega (arith, tells_own, longest-up-to LONGEST_KEY (keys_in one) both.0))
-    (longest-short encoded (All-tail HasLongest one encoded tells) both.1)
-
--- ---- one share more
-pub concatenated-next : (encoded : List EncodedBatch) (i from : ℕ) (d : EncodedBatch) → i < length encoded → from ≡ length (concatenated (map keys_in (take i encoded)))
-    → from + length (keys_in (get_or encoded i d)) ≡ length (concatenated (map keys_in (take (i + 1) encoded)))
-concatenated-next encoded i from d lt is =
-    let one = keys_in (get_or encoded i d) in
-    let front : concatenated (map keys_in (take (i + 1) encoded)) ≡ concatenated (map keys_in (take i encoded)) ++ one =
-    ap (λ (cs : List EncodedBatch). concatenated (map keys_in cs)) (take_more encoded i d lt) ∙ ap concatenated (map-append keys_in (take i encoded) (get_or encoded i d ∷ []))
-    ∙ flat_map-append (λ (ks : List Key). ks) (map keys_in (take i encoded)) (one ∷ []) ∙ ap (λ ks. concatenated (map keys_in (take i encoded)) ++ ks) (append-nil one) in
-    let long = ap length front ∙ length-append (concatenated (map keys_in (take i encoded))) one in
-    omega (arith, long, is)
-
-pub concatenated-front : (encoded : List EncodedBatch) (i : ℕ) → length (concatenated (map keys_in (take i encoded))) ≤ length (concatenated (map keys_in encoded))
-concatenated-front encoded zero = omega arith
-concatenated-front [] (suc i) = omega arith
-concatenated-front (c ∷ encoded) (suc i) =
-    let rest = concatenated-front encoded i in
-    omega (arith, rest, length-append (keys_in c) (concatenated (map keys_in (take i encoded))), length-append (keys_in c) (concatenated (map keys_in encoded)))
-
-pub concatenated-within : (encoded : List EncodedBatch) (i from : ℕ) (d : EncodedBatch) → i < length encoded → from ≡ length (concatenated (map keys_in (take i encoded)))
-    → from + length (keys_in (get_or encoded i d)) ≤ length (concatenated (map keys_in encoded))
-concatenated-within encoded i from d lt is = let next = concatenated-next encoded i from d lt is in let front = concatenated-front encoded (i + 1) in omega (arith, next, front)
-
-flattened-more : (lists : List (List ℕ)) (xs : List ℕ) → flattened (lists ++ xs ∷ []) ≡ flattened lists ++ xs
-flattened-more lists xs = flat_map-append (λ (ys : List ℕ). ys) lists (xs ∷ []) ∙ ap (λ ys. flattened lists ++ ys) (append-nil xs)
-
-pub read-more : (of : Share → List ℕ) (shares : List Share) (share : Share) (all whole : List ℕ) (encoded : List EncodedBatch) (i from to : ℕ) (d : EncodedBatch) → i < length encoded
-    → to ≡ from + length (keys_in (get_or encoded i d)) → of share ≡ by_codes (slice_range all from to) (codes_in (get_or encoded i d))
-    → flattened (map of shares) ++ read_by (drop from all) (drop i encoded) ≡ whole
-    → flattened (map of (shares ++ share ∷ [])) ++ read_by (drop to all) (drop (i + 1) encoded) ≡ whole
-read-more of shares share all whole encoded i from to d lt end own so =
-    let one = get_or encoded i d in
-    let n = length (keys_in one) in
-    let left : List ℕ = drop from all in
-    let size : to - from ≡ n = omega (arith, end) in
-    let here : of share ≡ by_codes (take n left) (codes_in one) = own ∙ ap (λ m. by_codes (take m left) (codes_in one)) size in
-    let behind : drop to all ≡ drop n left = ap (λ m. drop m all) end ∙ sym (drop-drop n from all) in
-    let next : read_by left (drop i encoded) ≡ of share ++ read_by (drop to all) (drop (i + 1) encoded) =
-    ap (read_by left) (drop_more encoded i d lt) ∙ sym (ap₂ (λ xs ys. xs ++ read_by ys (drop (i + 1) encoded)) here behind) in
-    ap (λ xs. xs ++ read_by (drop to all) (drop (i + 1) encoded)) (ap flattened (map-append of shares (share ∷ [])) ∙ flattened-more (map of shares) (of share))
-    ∙ append_assoc (flattened (map of shares)) (of share) (read_by (drop to all) (drop (i + 1) encoded)) ∙ ap (λ xs. flattened (map of shares) ++ xs) (sym next) ∙ so
-
-pub part-below : (bound from to : ℕ) (xs : List ℕ) → All (λ p. p < bound) xs → All (λ p. p < bound) (slice_range xs from to)
-part-below bound from to xs h = All-take (λ p. p < bound) (to - from) (drop from xs) (All-drop (λ p. p < bound) from xs h)
-
 -- ---- what threads found
-pub filled-parts : {A Z : Type 0} (partitions : ℕ) (shares : List Share) (found : List (Result (Vec (Vec ℕ Z) A) Memory)) (parts : List (Vec (Vec ℕ Z) A)) → found ≡ map Ok parts → length found ≡ length shares
-    → ((i : ℕ) (d : Result (Vec (Vec ℕ Z) A) Memory) (e : Share) → i < length shares → IfOk (get_or found i d) (λ part. map vec_items part.items ≡ filled_share partitions (get_or shares i e)))
-    → map (λ (part : Vec (Vec ℕ Z) A). map vec_items part.items) parts ≡ map (filled_share partitions) shares
-filled-parts partitions [] found [] is long h = refl
-filled-parts partitions [] found (part ∷ parts) is long h = absurd (let e = ap length is in omega (arith, e, long))
-filled-parts partitions (share ∷ shares) found [] is long h = absurd (let e = ap length is in omega (arith, e, long))
-filled-parts partitions (share ∷ shares) [] (part ∷ parts) is long h = absurd (omega (arith, long))
-filled-parts partitions (share ∷ shares) (f ∷ found) (part ∷ parts) is long h =
-    let first = h zero f share (omega arith) in
-    let head : f ≡ Ok part = ap (λ fs. get_or fs 0 f) is in
-    let own : map vec_items part.items ≡ filled_share partitions share = rw head at first in
-    let rest : found ≡ map Ok parts = ap (drop 1) is in
-    ap₂ (λ p ps. p ∷ ps) own (filled-parts partitions shares found parts rest (omega (arith, long)) (λ i d e lt. h (suc i) d e (omega (arith, lt))))
+pub filled-parts : {A Z : Type 0} (partitions : ℕ) (workers : List Entries) (tables : Tables) (size : ℕ) (chunks : List Segment) (found : List (Result (Vec (Vec ℕ Z) A) Memory)) (parts : List (Vec (Vec ℕ Z) A)) → found ≡ map Ok parts
+    → 0 < size → length found ≡ length chunks / size + min 1 (length chunks % size)
+    → ((i : ℕ) (d : Result (Vec (Vec ℕ Z) A) Memory) → i < length found → IfOk (get_or found i d) (λ part. map vec_items part.items ≡ filled_by partitions workers tables (slice_chunk chunks size i)))
+    → AreFilled partitions workers tables size chunks (map (λ (part : Vec (Vec ℕ Z) A). map vec_items part.items) parts)
+filled-parts partitions workers tables size chunks found parts is some long h =
+    let many : length parts ≡ length found = found-long found parts (length found) is refl in
+    let mapped = length-map parts (λ part. map vec_items part.items) in
+    let spans = (div_ceil_times (length chunks) size some).0 in
+    let spans_found : length chunks ≤ length found * size = subst (λ n. length chunks ≤ n * size) (sym long) spans in
+    record {
+      all = subst (λ n. length chunks ≤ n * size) (sym (mapped ∙ many)) spans_found;
+      each = filled-each partitions workers tables size chunks found parts is many h;
+    }
+  where
+    filled-each : {A Z : Type 0} (partitions : ℕ) (workers : List Entries) (tables : Tables) (size : ℕ) (chunks : List Segment) (found : List (Result (Vec (Vec ℕ Z) A) Memory)) (parts : List (Vec (Vec ℕ Z) A)) → found ≡ map Ok parts
+        → length parts ≡ length found
+        → ((i : ℕ) (d : Result (Vec (Vec ℕ Z) A) Memory) → i < length found → IfOk (get_or found i d) (λ part. map vec_items part.items ≡ filled_by partitions workers tables (slice_chunk chunks size i)))
+        → (i : ℕ) → i < length (map (λ (part : Vec (Vec ℕ Z) A). map vec_items part.items) parts) → get_or (map (λ (part : Vec (Vec ℕ Z) A). map vec_items part.items) parts) i [] ≡ filled_by partitions workers tables (slice_chunk chunks size i)
+    filled-each partitions workers tables size chunks found [] is many h i lt = absurd (omega (arith, lt))
+    filled-each partitions workers tables size chunks found (part ∷ parts) is many h i lt =
+        let mapped = length-map (part ∷ parts) (λ part. map vec_items part.items) in
+        let within : i < length (part ∷ parts) = omega (arith, lt, mapped) in
+        get_or-map (λ part. map vec_items part.items) (part ∷ parts) i part [] within
+        ∙ found-each (λ i part. map vec_items part.items ≡ filled_by partitions workers tables (slice_chunk chunks size i)) found (part ∷ parts) (length found) is refl h i part (omega (arith, within, many))
 
 map-twice : {X Y Z : Type 0} (f : X → Y) (g : Y → Z) (xs : List X) → map g (map f xs) ≡ map (λ x. g (f x)) xs
 map-twice f g [] = refl
@@ -259,69 +211,3 @@ merged-parts partitions parts found logs is long h = record {
   as_many = length-map logs vec_items ∙ found-long found logs partitions is long;
   each = merged-one partitions parts found logs is long h;
 }
-
-pub parts-long : {A Z : Type 0} (partitions : ℕ) (shares : List Share) (parts : List (Vec (Vec ℕ Z) A)) → map (λ (part : Vec (Vec ℕ Z) A). map vec_items part.items) parts ≡ map (filled_share partitions) shares
-    → All (λ (part : Vec (Vec ℕ Z) A). length part.items ≡ partitions) parts
-parts-long partitions shares [] is = λ i d lt. absurd (omega (arith, lt))
-parts-long partitions [] (part ∷ parts) is = absurd (cc is)
-parts-long partitions (share ∷ shares) (part ∷ parts) is =
-    let head : map vec_items part.items ≡ filled_share partitions share = ap (λ ps. get_or ps 0 []) is in
-    let rest : map (λ part. map vec_items part.items) parts ≡ map (filled_share partitions) shares = ap (drop 1) is in
-    All-cons (λ part. length part.items ≡ partitions) part parts
-    (sym (length-map part.items vec_items) ∙ ap length head ∙ filled-long (replicate partitions []) (places_in share) (numbers_in share) ∙ none-long partitions)
-    (parts-long partitions shares parts rest)
-
--- ---- appends
-pub nothing-appended : (l : PartitionLogs) (keys : List Key) → length keys ≡ 0 → AreAppended l (placed l (in_first keys)) l
-nothing-appended l [] none = none_appended l
-nothing-appended l (key ∷ keys) none = absurd (omega (arith, none))
-
-pub pushed-fillable : (partitions i from to : ℕ) (encoded : List EncodedBatch) (d : EncodedBatch) (places numbers : List ℕ) (shares : List Share) (share : Share) → i < length encoded → AreEncoded (map records_of encoded) encoded
-    → All (λ p. p < partitions) places → to ≡ from + length (keys_in (get_or encoded i d)) → to ≤ length places → to ≤ length numbers
-    → share.codes.now ≡ codes_in (get_or encoded i d) → share.places.now ≡ slice_range places from to → share.numbers.now ≡ slice_range numbers from to
-    → All (IsFillable partitions) shares → All (IsFillable partitions) (shares ++ share ∷ [])
-pushed-fillable partitions i from to encoded d places numbers shares share lt so below end within within_n codes_are places_are numbers_are h =
-    let own = encoded-at (map records_of encoded) encoded i d lt so in
-    let n = length (keys_in (get_or encoded i d)) in
-    let long : length share.places.now ≡ n = ap length places_are ∙ part-long places from to within ∙ omega (arith, end) in
-    let long_n : length share.numbers.now ≡ n = ap length numbers_are ∙ part-long numbers from to within_n ∙ omega (arith, end) in
-    All-push (IsFillable partitions) shares share h (record {
-      placed = rw (codes_are, long) own.within;
-      numbered = rw (codes_are, long_n) own.within;
-      below = rw places_are (part-below partitions from to places below);
-    })
-  where
-    part-long : (xs : List ℕ) (from to : ℕ) → to ≤ length xs → length (slice_range xs from to) ≡ to - from
-    part-long xs from to le = length-take-le (to - from) (drop from xs) (omega (arith, le, length-drop from xs))
-
--- ---- records by lists
-first-places : (l : PartitionLogs) (keys : List Key) → map (λ key. place_in l (of_first key)) keys ≡ map (place_in l) (in_first keys)
-first-places l [] = refl
-first-places l (key ∷ keys) = ap (λ ps. place_in l (of_first key) ∷ ps) (first-places l keys)
-
-pub lists-placed : (l : PartitionLogs) (places : List ℕ) (keys : List Key) → IsValidLogs l → places ≡ map (λ key. place_in l (of_first key)) keys → ArePlaced l places keys
-lists-placed l places keys a are = records-placed l places (in_first keys) keys (first-topics l keys a) (are ∙ first-places l keys) (sym (first-keys keys))
-
--- what coded lists give whose records are appended by the places and the numbers of their keys
-pub by-lists : (old l : PartitionLogs) (encoded : List EncodedBatch) (all : List Key) (places numbers : List ℕ) (count : ℕ) (logs : List (List ℕ)) → l ≡ old → IsValidLogs l
-    → AreEncoded (map records_of encoded) encoded → CanAppendParallel old (concatenated (map records_of encoded)) → count ≡ l.partitions → IsValidLogs old
-    → (let firsts = concatenated (map keys_in encoded) in places ≡ map (λ key. place_in old (of_first key)) firsts → numbers ≡ map (id_of (distinct firsts)) firsts → all ≡ distinct firsts
-    → logs ≡ filled (replicate count []) (read_by places encoded) (read_by numbers encoded)
-    → (let new : PartitionLogs = record { counts = l.counts; partitions = l.partitions; keys = all; logs = logs } in AreAppended old (placed old (in_first (concatenated (map records_of encoded)))) new × IsValidLogs new))
-by-lists old l encoded all places numbers count logs seen a so can counted valid placed_are numbered is filled_are =
-    let firsts = concatenated (map keys_in encoded) in
-    let records = concatenated (map records_of encoded) in
-    let place : Key → ℕ = λ key. place_in old (of_first key) in
-    let same : distinct firsts ≡ distinct records = distinct-parts (map records_of encoded) encoded so in
-    let of_records : read_by places encoded ≡ map place records = ap (λ ps. read_by ps encoded) placed_are ∙ read-all place (map records_of encoded) encoded so in
-    let ids_of_keys : numbers ≡ map (id_of (distinct records)) firsts = numbered ∙ ap (λ ks. map (id_of ks) firsts) same in
-    let ids_are : read_by numbers encoded ≡ map (id_of (distinct records)) records = ap (λ ns. read_by ns encoded) ids_of_keys ∙ read-all (id_of (distinct records)) (map records_of encoded) encoded so in
-    let at : read_by places encoded ≡ map (place_in old) (in_first records) = of_records ∙ first-places old records in
-    let goes = records-placed old (read_by places encoded) (in_first records) records (first-topics old records valid) at (sym (first-keys records)) in
-    let made = parallel-appended old l records all (read_by places encoded) (read_by numbers encoded) count logs seen a can counted goes.as_many goes.goes ids_are (is ∙ same) filled_are in
-    (subst (λ rs. AreAppended old rs (record { counts = l.counts; partitions = l.partitions; keys = all; logs = logs })) (places-are old (read_by places encoded) (in_first records) records at (sym (first-keys records))) made.0, made.1)
-
-pub get_or-any : {X : Type 0} (xs : List X) (i : ℕ) (d e : X) → i < length xs → get_or xs i d ≡ get_or xs i e
-get_or-any [] i d e lt = absurd (omega (arith, lt))
-get_or-any (x ∷ xs) zero d e lt = refl
-get_or-any (x ∷ xs) (suc i) d e lt = get_or-any xs i d e (omega (arith, lt))

@@ -1,3 +1,4 @@
 pub mod Appends
 pub mod Filled
 pub mod Shares
+pub mod Tables

@@ -3,8 +3,8 @@
 //! It promises:
 //! - An append adds the record at the end of its log and changes nothing else, or returns the first
 //!   refusal that applies, in a fixed order, and changes nothing.
-//! - `append_all`, `append_all_in` and `append_lists` append records up to the first refused one.
-//!   Many keys for empty logs are interned in parallel; then all are appended, or none.
+//! - `of_taken` makes the logs of records that workers took, in parallel: those that appends of the
+//!   same records make.
 //! - A law: over all logs of a list of records, each key occurs as often as in the list.
 //!
 //! Tests: `log_tests`.
@@ -19,12 +19,12 @@ ghost use Rattle.partition_log.specs.Keys.{key_at, of_first, with_key};
 ghost use Rattle.partition_log.specs.Private.Appends.{log_answer, with_id, with_id_at};
 ghost use Rattle.partition_log.specs.Logs.{AreCounts, AreLogsOf, IsOfTopic, IsPlaceOf, IsValidLogs, PartitionLogs, answer_at, append_answer, log_at, place_in, with_record, with_record_at};
 
-mod appends;
-mod filling;
 mod laws;
-mod lists;
+mod places;
 mod sealed;
 mod shares;
+mod tables;
+mod taken;
 
 use key_index::KeyDictionary;
 use lane_words::{LONGEST_KEY, MOST_PARTITIONS, MOST_RECORDS, Memory, Refusal};
@@ -34,6 +34,8 @@ pub use sealed::SealedLogs;
 use std::alloc::Global;
 use std::marker::Model;
 use std::random::RandomSource;
+use std::thread::Threads;
+pub use taken::TakenRecords;
 
 /// Append-only logs of keyed records, one for each of 1 to 4096 partitions of 1 to 8 topics.
 ///
@@ -245,6 +247,12 @@ impl Logs {
         }
         let offset = append_id(&mut self.keys, &mut self.logs, place as usize, key)?;
         Ok((place, offset))
+    }
+
+    /// Drops the logs, many keys on several threads.
+    pub fn drop_parallel<R: Threads + Sync>(self, rt: &R) {
+        let Logs { keys, .. } = self;
+        keys.drop_parallel(rt);
     }
 
     /// The same logs, now read-only. It allocates nothing.

@@ -1,150 +1,180 @@
-//! Logs that are filled share by share, side by side: a share is a list of keys by codes.
+//! Logs that are filled in parallel, each thread with the records of some chunks.
 
-ghost use Rattle.std.specs.Prelude.{◌≡◌, ◌<◌, ◌≤◌, [], ℕ, Ok, All, IfOk, length, map, replicate, slice_index_or, slice_range, vec_items, vec_len};
-ghost use Rattle.record_batch.specs.Lists.{AreEncoded, concatenated, keys_in};
+ghost use Rattle.std.specs.Fork.{slice_chunk};
+ghost use Rattle.std.specs.Prelude.{◌≡◌, ◌<◌, ◌≤◌, ◌+◌, ◌/◌, ◌%◌, [], ℕ, All, IfOk, OnOk, length, map, min, replicate, slice_index_or, vec_items, vec_len};
+ghost use Rattle.key_counts.specs.Recorded.{all_records};
+ghost use Rattle.key_counts.specs.Segments.{IsSegment};
 ghost use Rattle.partition_log.specs.Private.Filled.{filled};
-ghost use Rattle.partition_log.specs.Private.Shares.{AreMerged, IsFillable, flattened, numbers_in, places_in, read_by, records_of};
+ghost use Rattle.partition_log.specs.Private.Shares.{AreFilled, AreMerged, AreTables, HasTables, IsFillable, filled_by, flattened, numbers_in, places_in, read_all, read_chunk};
 
-use crate::filling::logs_with_capacity;
+use crate::taken::TakenRecords;
+use key_counts::{KeyCounts, Segment};
 use lane_words::Memory;
-use parallel::collected;
-use record_batch::EncodedBatch;
+use parallel::{LEAST_KEYS, collected};
 use std::alloc::Global;
 use std::thread;
 use std::thread::Threads;
 
-/// What the records of a list are filled from.
+/// What the entries of workers have: a list for each worker, by code.
 #[derive(Drop)]
-pub struct Share<'a> {
-    /// Of each record where its key stands among the list's keys.
-    pub codes: &'a [usize],
-    /// Of each of the keys its place.
+pub struct Tables {
+    /// Of each entry the partition.
+    pub places: Vec<Vec<u32>>,
+    /// Of each entry the key number.
+    pub numbers: Vec<Vec<u32>>,
+}
+
+/// What the records of a chunk are filled from.
+#[derive(Drop)]
+pub struct CodedChunk<'a> {
+    /// Of each record the code of its entry.
+    pub codes: &'a [u32],
+    /// Of each entry of the chunk's worker the partition.
     pub places: &'a [u32],
-    /// Of each of the keys its key number.
+    /// Of each of these entries the key number.
     pub numbers: &'a [u32],
 }
 
-/// A part of some numbers.
-fn part_of(numbers: &[u32], from: usize, to: usize) -> &[u32]
-    requires { (from ≤ to) × (to ≤ length numbers.now) }
-    ensures { result.now ≡ slice_range numbers.now from to }
+/// The codes of a chunk's records, and what its worker's entries have.
+fn coded_chunk<'a>(workers: &'a [KeyCounts], tables: &'a Tables, chunk: Segment) -> CodedChunk<'a>
+    requires chunk { IsSegment (all_records workers.now) chunk }
+    requires tables { HasTables workers.now tables.now }
+    ensures places { places_in result ≡ read_chunk tables.now.places.items workers.now chunk }
+    ensures numbers { numbers_in result ≡ read_chunk tables.now.numbers.items workers.now chunk }
+    ensures valid { (partitions : ℕ) → AreTables partitions workers.now tables.now
+        → IsFillable partitions result }
 {
-    &numbers[from..to]
-}
-
-/// The shares of coded lists, where `places` and `numbers` have those of the keys of all lists.
-fn shares_of<'a>(
-    alloc: Global,
-    encoded: &'a [EncodedBatch<'a>],
-    places: &'a [u32],
-    numbers: &'a [u32],
-) -> Result<Vec<Share<'a>>, Memory>
-    requires partitions { length places.now ≡ length (concatenated (map keys_in encoded.now)) }
-    requires numbers { length numbers.now ≡ length (concatenated (map keys_in encoded.now)) }
-    ensures partitions { IfOk result
-        (λ shares. flattened (map places_in shares.items) ≡ read_by places.now encoded.now) }
-    ensures numbers { IfOk result
-        (λ shares. flattened (map numbers_in shares.items) ≡ read_by numbers.now encoded.now) }
-    ensures valid { (partitions : ℕ) → AreEncoded (map records_of encoded.now) encoded.now
-        → All (λ p. p < partitions) places.now
-        → IfOk result (λ shares. All (IsFillable partitions) shares.items) }
-{
-    let mut shares = Vec::with_capacity(alloc, encoded.len())?;
-    let mut from = 0;
-    for i in 0..encoded.len() {
-        let to = from + encoded[i].keys.len();
-        shares.push(Share {
-            codes: encoded[i].codes,
-            places: part_of(places, from, to),
-            numbers: part_of(numbers, from, to),
-        })?;
-        from = to;
+    let codes = workers[chunk.worker].codes();
+    CodedChunk {
+        codes: &codes[chunk.from..chunk.to],
+        places: tables.places[chunk.worker].as_slice(),
+        numbers: tables.numbers[chunk.worker].as_slice(),
     }
-    Ok(shares)
 }
 
-/// How many records of a share each place has.
-fn counts_in(alloc: Global, partitions: usize, share: &Share<'_>) -> Result<Vec<usize>, Memory>
-    requires { IsFillable partitions share.now }
+/// Counts the records of a chunk, each for its partition.
+fn count_chunk(counts: &mut Vec<usize>, chunk: &CodedChunk<'_>)
+    requires { IsFillable (vec_len counts.old) chunk.now }
+    ensures { vec_len counts.new ≡ vec_len counts.old }
+{
+    for k in 0..chunk.codes.len() {
+        let p = chunk.places[chunk.codes[k] as usize] as usize;
+        // They only say how much memory is taken.
+        counts[p] = counts[p].saturating_add(1);
+    }
+}
+
+/// How many records of these chunks each partition has.
+fn counts_in(
+    alloc: Global,
+    partitions: usize,
+    workers: &[KeyCounts],
+    tables: &Tables,
+    chunks: &[Segment],
+) -> Result<Vec<usize>, Memory>
+    requires chunks { All (IsSegment (all_records workers.now)) chunks.now }
+    requires tables { AreTables partitions workers.now tables.now }
     ensures { IfOk result (λ counts. vec_len counts ≡ partitions) }
 {
     let mut counts = vec![in alloc; 0_usize; partitions]?;
-    for k in 0..share.codes.len() {
-        let p = share.places[share.codes[k]] as usize;
-        // They only say how much memory is taken.
-        counts[p] = counts[p].saturating_add(1);
+    for i in 0..chunks.len() {
+        count_chunk(&mut counts, &coded_chunk(workers, tables, chunks[i]));
     }
     Ok(counts)
 }
 
-/// The logs of a share's records, each record in the log of its place.
-fn fill_share(alloc: Global, partitions: usize, share: &Share<'_>) -> Result<Vec<Vec<u32>>, Memory>
-    requires { IsFillable partitions share.now }
-    ensures { IfOk result (λ logs. map vec_items logs.items
-        ≡ filled (replicate partitions []) (places_in share.now) (numbers_in share.now)) }
+/// Empty logs, one for each of these counts, with room for so many records.
+fn logs_with_capacity(alloc: Global, counts: &[usize]) -> Result<Vec<Vec<u32>>, Memory>
+    ensures { IfOk result (λ logs. map vec_items logs.items ≡ replicate (length counts.now) []) }
 {
-    let counts = counts_in(alloc, partitions, share)?;
-    let mut logs = logs_with_capacity(alloc, &counts)?;
-    for k in 0..share.codes.len() {
-        let code = share.codes[k];
-        let log = &mut logs[share.places[code] as usize];
-        log.push(share.numbers[code])?;
+    let mut logs = Vec::with_capacity(alloc, counts.len())?;
+    for p in 0..counts.len() {
+        logs.push(Vec::with_capacity(alloc, counts[p])?)?;
     }
     Ok(logs)
 }
 
-/// The logs of the share of index i.
-fn fill_at(
-    alloc: Global,
-    partitions: usize,
-    shares: &[Share<'_>],
-    i: usize,
-) -> Result<Vec<Vec<u32>>, Memory>
-    requires shares { All (IsFillable partitions) shares.now }
-    requires index { i < length shares.now }
-    ensures { (d : _) → IfOk result (λ logs. map vec_items logs.items
-        ≡ filled (replicate partitions []) (places_in (slice_index_or shares.now i d))
-        (numbers_in (slice_index_or shares.now i d))) }
+/// Adds the records of a chunk, each to the log of its partition.
+fn fill_chunk(logs: &mut Vec<Vec<u32>>, chunk: &CodedChunk<'_>) -> Result<(), Memory>
+    requires { IsFillable (vec_len logs.old) chunk.now }
+    ensures { OnOk result (map vec_items logs.new.items ≡ filled (map vec_items logs.old.items)
+        (places_in chunk.now) (numbers_in chunk.now)) }
 {
-    fill_share(alloc, partitions, &shares[i])
+    for k in 0..chunk.codes.len() {
+        let code = chunk.codes[k] as usize;
+        let log = &mut logs[chunk.places[code] as usize];
+        log.push(chunk.numbers[code])?;
+    }
+    Ok(())
 }
 
-/// The logs of each share, each filled in a thread of its own.
+/// The logs of the records of these chunks.
+fn fill_share(
+    alloc: Global,
+    partitions: usize,
+    workers: &[KeyCounts],
+    tables: &Tables,
+    chunks: &[Segment],
+) -> Result<Vec<Vec<u32>>, Memory>
+    requires chunks { All (IsSegment (all_records workers.now)) chunks.now }
+    requires tables { AreTables partitions workers.now tables.now }
+    ensures { IfOk result (λ logs. map vec_items logs.items
+        ≡ filled_by partitions workers.now tables.now chunks.now) }
+{
+    let counts = counts_in(alloc, partitions, workers, tables, chunks)?;
+    let mut logs = logs_with_capacity(alloc, &counts)?;
+    for i in 0..chunks.len() {
+        fill_chunk(&mut logs, &coded_chunk(workers, tables, chunks[i]))?;
+    }
+    Ok(logs)
+}
+
+/// The logs of all shares, each filled in a thread of its own: a share has `size` chunks that follow
+/// one another, and the last what is left.
 fn fill_parallel<R: Threads + Sync>(
     rt: &R,
     alloc: Global,
     partitions: usize,
-    shares: &[Share<'_>],
+    taken: &TakenRecords<'_>,
+    tables: &Tables,
+    size: usize,
 ) -> Result<Vec<Result<Vec<Vec<u32>>, Memory>>, Memory>
-    requires { All (IsFillable partitions) shares.now }
-    ensures len { IfOk result (λ found. vec_len found ≡ length shares.now) }
-    ensures found { IfOk result (λ found. (i : ℕ) (d e : _) → i < length shares.now
-        → IfOk (slice_index_or found.items i d)
-        (λ part. map vec_items part.items ≡ filled (replicate partitions [])
-        (places_in (slice_index_or shares.now i e)) (numbers_in (slice_index_or shares.now i e)))) }
+    requires chunks { All (IsSegment (all_records taken.now.workers.now)) taken.now.chunks.now }
+    requires tables { AreTables partitions taken.now.workers.now tables.now }
+    requires nonempty { 1 ≤ size }
+    ensures len { IfOk result (λ found. vec_len found
+        ≡ length taken.now.chunks.now / size + min 1 (length taken.now.chunks.now % size)) }
+    ensures found { IfOk result (λ found. (i : ℕ) (d : _) → i < vec_len found
+        → IfOk (slice_index_or found.items i d) (λ part. map vec_items part.items
+        ≡ filled_by partitions taken.now.workers.now tables.now
+        (slice_chunk taken.now.chunks.now size i))) }
 {
-    let found = thread::map_indices(
+    let found = thread::map_chunks(
         rt,
         alloc,
-        shares.len(),
-        &|i| fill_at(alloc, partitions, shares, i),
+        taken.chunks,
+        size,
+        &|_, chunks| fill_share(alloc, partitions, taken.workers, tables, chunks),
     )?;
     Ok(found)
 }
 
-/// The logs of each share, where memory was refused for none of them.
+/// The logs of all shares, where memory was refused for none of them.
 fn fill_shares<R: Threads + Sync>(
     rt: &R,
     alloc: Global,
     partitions: usize,
-    shares: &[Share<'_>],
+    taken: &TakenRecords<'_>,
+    tables: &Tables,
+    size: usize,
 ) -> Result<Vec<Vec<Vec<u32>>>, Memory>
-    requires { All (IsFillable partitions) shares.now }
-    ensures { IfOk result (λ parts. map (λ part. map vec_items part.items) parts.items
-        ≡ map (λ share. filled (replicate partitions []) (places_in share) (numbers_in share))
-        shares.now) }
+    requires chunks { All (IsSegment (all_records taken.now.workers.now)) taken.now.chunks.now }
+    requires tables { AreTables partitions taken.now.workers.now tables.now }
+    requires nonempty { 1 ≤ size }
+    ensures { IfOk result (λ parts. AreFilled partitions taken.now.workers.now tables.now size
+        taken.now.chunks.now (map (λ part. map vec_items part.items) parts.items)) }
 {
-    let found = fill_parallel(rt, alloc, partitions, shares)?;
+    let found = fill_parallel(rt, alloc, partitions, taken, tables, size)?;
     collected(alloc, found)
 }
 
@@ -204,25 +234,50 @@ fn merged_logs<R: Threads + Sync>(
     collected(alloc, found)
 }
 
-/// Logs of the records of encoded lists, each record in the log of its key's partition. `places`
-/// and `numbers` hold the partitions and key numbers of the keys of all lists. Fails only if memory
-/// runs out.
-pub fn logs_of_lists<R: Threads + Sync>(
+/// How many records chunks have: it only says how the work is shared.
+fn records_in(chunks: &[Segment]) -> usize {
+    let mut records: usize = 0;
+    for i in 0..chunks.len() {
+        let Segment { from, to, .. } = chunks[i];
+        records = records.saturating_add(to.saturating_sub(from));
+    }
+    records
+}
+
+/// How many chunks a share has: as many as give each processor one share. Few records are one
+/// share, and so are all where it can't be told how many processors there are.
+fn share_size(rt: &impl Threads, chunks: &[Segment]) -> usize
+    ensures nonempty { 1 ≤ result }
+{
+    if records_in(chunks) < LEAST_KEYS {
+        return chunks.len().max(1);
+    }
+    let processors = match thread::available_parallelism(rt) {
+        Ok(count) => count.get(),
+        Err(_) => 1,
+    };
+    chunks.len().div_ceil(processors).max(1)
+}
+
+/// The logs of the records of these chunks, each record in the log of its entry's partition, with
+/// its entry's key number. Fails only if memory runs out.
+pub fn logs_of_chunks<R: Threads + Sync>(
     rt: &R,
     alloc: Global,
     partitions: usize,
-    encoded: &[EncodedBatch<'_>],
-    places: &[u32],
-    numbers: &[u32],
+    taken: &TakenRecords<'_>,
+    tables: &Tables,
 ) -> Result<Vec<Vec<u32>>, Memory>
-    requires encoded { AreEncoded (map records_of encoded.now) encoded.now }
-    requires partitions { length places.now ≡ length (concatenated (map keys_in encoded.now)) }
-    requires numbers { length numbers.now ≡ length (concatenated (map keys_in encoded.now)) }
-    requires bound { All (λ p. p < partitions) places.now }
+    requires chunks { All (IsSegment (all_records taken.now.workers.now)) taken.now.chunks.now }
+    requires tables { AreTables partitions taken.now.workers.now tables.now }
     ensures { IfOk result (λ logs. map vec_items logs.items ≡ filled (replicate partitions [])
-        (read_by places.now encoded.now) (read_by numbers.now encoded.now)) }
+        (read_all tables.now.places.items taken.now)
+        (read_all tables.now.numbers.items taken.now)) }
 {
-    let shares = shares_of(alloc, encoded, places, numbers)?;
-    let parts = fill_shares(rt, alloc, partitions, &shares)?;
+    let size = share_size(rt, taken.chunks);
+    if taken.chunks.len() <= size {
+        return fill_share(alloc, partitions, taken.workers, tables, taken.chunks);
+    }
+    let parts = fill_shares(rt, alloc, partitions, taken, tables, size)?;
     merged_logs(rt, alloc, partitions, &parts)
 }

@@ -1,4 +1,5 @@
 -- Definitions that only private contracts cite.
 pub mod Given
 pub mod KeyCounts
+pub mod RecordList
 pub mod Tallies

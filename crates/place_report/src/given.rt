@@ -1,21 +1,26 @@
 //! The table of the records that do not lie in the partitions of their keys.
 
 ghost use Rattle.std.specs.Prelude.{◌≡◌, ◌<◌, ◌≤◌, ◌+◌, ◌-◌, ◌^◌, ◌++◌, ℕ, List, Some, IfOk, IfErr, OnOk, bytes_eq, flat_map, length, map, nat_lt, not, take};
-ghost use Rattle.csv_ingest.specs.KeyFile.{IsFileFault};
+ghost use Rattle.std.specs.Result.{result_map_both};
+ghost use Rattle.command_line.specs.declared.options.TheConstants.{LAST_COLUMN};
+ghost use Rattle.csv_ingest.specs.KeyFile.{keys_of};
 ghost use Rattle.lane_words.specs.Answers.{Answers};
+ghost use Rattle.ingest.specs.Counted.{AreReadFor};
 ghost use Rattle.ingest.specs.RecordFaults.{IsKeyFault};
-ghost use Rattle.ingest.specs.Records.{AreOfTopics, partition_counts, records_in, records_seen};
+ghost use Rattle.ingest.specs.Records.{AreOfTopics, records_in, records_of};
 ghost use Rattle.ingest.specs.Reports.{AreInRange, IsNoDeviceFault};
+ghost use Rattle.partition_log.specs.Appends.{in_first};
 ghost use Rattle.partition_log.specs.Keys.{keys_in};
 ghost use Rattle.partition_log.specs.Logs.{IsValidLogs, place_in};
 ghost use Rattle.report_rows.specs.Rows.{AddsRows};
 ghost use Rattle.place_report.specs.Given.{both, earlier_fault, first_number, given_header, given_of_records, given_table, has_misplaced, misplaced_of, misplaced_row, number_text, record_number, records_and_given, report_of_given};
-ghost use Rattle.place_report.specs.Private.Given.{AreAsMany, both_seen, misplaced_in, row_at, text_told};
+ghost use Rattle.place_report.specs.Private.Given.{AreAsMany, both_seen, misplaced_in, records_seen, row_at, text_told, texts_in, texts_seen};
 
-use command_line::Options;
+use crate::in_memory::InMemory;
+use crate::record_list::{RecordList, list_of};
+use command_line::{Column, Options};
 use csv::Writer;
-use csv_ingest::{Blocks, FileKeys, read_keys_apart};
-use ingest::{FileRecords, logs_of, read_records};
+use ingest::{FileRecords, file_records, logs_of};
 use itoa::Buffer;
 use lane_words::{Memory, Refusal};
 use partition_log::Logs;
@@ -55,14 +60,13 @@ fn earlier_fault(first: Refusal, second: Refusal) -> Refusal
 /// Both that were read, or the fault of the first bad record.
 fn both(
     records: Result<FileRecords, Refusal>,
-    texts: Result<FileKeys, Refusal>,
-) -> Result<(FileRecords, FileKeys), Refusal>
-    ensures value { both_seen result ≡ both (records_seen records) texts }
-    ensures topics { (counts : List ℕ)
-        → IfOk records (λ records. AreOfTopics counts (records_in records))
-        → IfOk result (λ read. AreOfTopics counts (records_in read.0)) }
-    ensures kind { IfErr records IsFileFault → IfErr texts IsFileFault
-        → IfErr result IsFileFault }
+    texts: Result<FileRecords, Refusal>,
+) -> Result<(FileRecords, FileRecords), Refusal>
+    ensures value { both_seen result ≡ both (records_seen records) (texts_seen texts) }
+    ensures topics { (options : Options) → IfOk records (AreReadFor options)
+        → IfOk result (λ read. AreReadFor options read.0) }
+    ensures kind { IfErr records IsNoDeviceFault → IfErr texts IsNoDeviceFault
+        → IfErr result IsNoDeviceFault }
 {
     match records {
         Ok(records) => match texts {
@@ -76,26 +80,59 @@ fn both(
     }
 }
 
+/// The records of a file that is in memory.
+fn records_in_memory<R: Threads + Sync + RandomSource>(
+    rt: &R,
+    alloc: Global,
+    file: &[u8],
+    options: &Options,
+) -> Result<FileRecords, Refusal>
+    requires options { AreInRange options.now }
+    ensures answer { Answers (records_of options.now file.now) (records_seen result) }
+    ensures topics { IfOk result (AreReadFor options.now) }
+    ensures kind { IfErr result IsNoDeviceFault }
+{
+    file_records(rt, alloc, &mut InMemory { left: file }, options)
+}
+
+/// Options that read the given column as the key.
+fn options_for(alloc: Global, options: &Options, given: u32) -> Options
+    requires options { AreInRange options.now }
+    requires given { (1 ≤ given) × (given ≤ LAST_COLUMN) }
+    ensures valid { AreInRange result }
+    ensures records { (file : List ℕ) → records_of result file
+        ≡ result_map_both in_first (λ fault. fault)
+        (keys_of options.now.delimiter given options.now.header file) }
+{
+    Options {
+        partitions: options.partitions,
+        column: Column::Number(given),
+        header: options.header,
+        delimiter: options.delimiter,
+        batch: options.batch,
+        topics: Vec::new(alloc),
+        topic_column: Column::Number(1),
+        top: options.top,
+    }
+}
+
 /// The records of a file that is in memory, and what the given column of each has.
 fn read_both<R: Threads + Sync + RandomSource>(
     rt: &R,
     alloc: Global,
-    file: &Blocks,
+    file: &[u8],
     options: &Options,
     given: u32,
-) -> Result<(FileRecords, FileKeys), Refusal>
+) -> Result<(FileRecords, FileRecords), Refusal>
     requires options { AreInRange options.now }
-    requires delimiter { file.now.delimiter ≡ options.now.delimiter }
-    requires given { 1 ≤ given }
-    ensures answer { Answers (records_and_given options.now given file.now.bytes)
-        (both_seen result) }
-    ensures topics { IfOk result
-        (λ read. AreOfTopics (partition_counts options.now) (records_in read.0)) }
-    ensures len { IfOk result (λ read. length read.1 ≡ length (records_in read.0)) }
-    ensures kind { IfErr result IsFileFault }
+    requires given { (1 ≤ given) × (given ≤ LAST_COLUMN) }
+    ensures answer { Answers (records_and_given options.now given file.now) (both_seen result) }
+    ensures topics { IfOk result (λ read. AreReadFor options.now read.0) }
+    ensures len { IfOk result (λ read. length (texts_in read.1) ≡ length (records_in read.0)) }
+    ensures kind { IfErr result IsNoDeviceFault }
 {
-    let records = read_records(rt, alloc, file, options);
-    let texts = read_keys_apart(rt, alloc, file, given, options.header);
+    let records = records_in_memory(rt, alloc, file, options);
+    let texts = records_in_memory(rt, alloc, file, &options_for(alloc, options, given));
     both(records, texts)
 }
 
@@ -112,17 +149,18 @@ fn places_and_keys<'a, R: Threads + Sync>(
     ensures keys { IfOk result
         (λ parts. map (λ key. key.now) parts.1.items ≡ keys_in (records_in records.now)) }
 {
-    match records {
-        FileRecords::Keys(keys) => {
-            let keys = keys.slices(alloc)?;
-            Ok((logs.places_of(rt, keys.as_slice())?, keys))
-        }
-        FileRecords::InTopics(keys) => {
-            let (topics, keys) = keys.topics_and_slices(alloc)?;
-            let places = logs.places_of_in(rt, topics.as_slice(), keys.as_slice())?;
-            Ok((places, keys))
-        }
-    }
+    let RecordList { topics, keys } = list_of(alloc, &records.taken())?;
+    let places = logs.places_of_in(rt, topics.as_slice(), keys.as_slice())?;
+    Ok((places, keys))
+}
+
+/// The texts of the given column, in order.
+fn texts_of<'a>(alloc: Global, texts: &'a FileRecords) -> Result<Vec<&'a [u8]>, Memory>
+    ensures { IfOk result
+        (λ slices. map (λ text. text.now) slices.items ≡ texts_in texts.now) }
+{
+    let RecordList { keys, .. } = list_of(alloc, &texts.taken())?;
+    Ok(keys)
 }
 
 /// Records next to what their given column has.
@@ -264,22 +302,23 @@ fn told_of_records<R: Threads + Sync + RandomSource>(
     rt: &R,
     alloc: Global,
     records: &FileRecords,
-    texts: &FileKeys,
+    texts: &FileRecords,
     options: &Options,
 ) -> Result<Told, Refusal>
     requires options { AreInRange options.now }
-    requires topics { AreOfTopics (partition_counts options.now) (records_in records.now) }
-    requires len { length texts.now ≡ length (records_in records.now) }
-    ensures answer { Answers (given_of_records options.now (records_in records.now, texts.now))
+    requires topics { AreReadFor options.now records.now }
+    requires len { length (texts_in texts.now) ≡ length (records_in records.now) }
+    ensures answer { Answers
+        (given_of_records options.now (records_in records.now, texts_in texts.now))
         (text_told result) }
     ensures misplaced { IfOk result (λ told. told.misplaced ≡ nat_lt 0
-        (length (misplaced_of options.now (records_in records.now, texts.now)))) }
+        (length (misplaced_of options.now (records_in records.now, texts_in texts.now)))) }
     ensures kind { IfErr result IsKeyFault }
 {
     let logs = logs_of(rt, alloc, records, options)?;
     let (places, keys) = places_and_keys(rt, alloc, &logs, records)?;
     logs.drop_parallel(rt);
-    let texts = texts.slices(alloc)?;
+    let texts = texts_of(alloc, texts)?;
     let given = Given {
         places: places.as_slice(),
         keys: keys.as_slice(),
@@ -293,16 +332,15 @@ fn told_of_records<R: Threads + Sync + RandomSource>(
 pub fn told_of_file<R: Threads + Sync + RandomSource>(
     rt: &R,
     alloc: Global,
-    file: &Blocks,
+    file: &[u8],
     options: &Options,
     given: u32,
 ) -> Result<Told, Refusal>
     requires options { AreInRange options.now }
-    requires delimiter { file.now.delimiter ≡ options.now.delimiter }
-    requires given { 1 ≤ given }
-    ensures answer { Answers (report_of_given options.now given file.now.bytes) (text_told result) }
+    requires given { (1 ≤ given) × (given ≤ LAST_COLUMN) }
+    ensures answer { Answers (report_of_given options.now given file.now) (text_told result) }
     ensures misplaced { IfOk result
-        (λ told. told.misplaced ≡ has_misplaced options.now (Some given) file.now.bytes) }
+        (λ told. told.misplaced ≡ has_misplaced options.now (Some given) file.now) }
     ensures kind { IfErr result IsNoDeviceFault }
 {
     let (records, texts) = read_both(rt, alloc, file, options, given)?;

@@ -9,9 +9,11 @@
 
 mod given;
 mod ids;
+mod in_memory;
 mod key_rows;
 mod partition_rows;
 mod place;
+mod record_list;
 mod tally;
 mod topic_counts;
 

@@ -2,8 +2,10 @@
 
 ghost use Rattle.std.specs.Prelude.{◌≡◌, ◌≤◌, ◌<◌, ◌+◌, ◌-◌, false, Some, None, Ok, IfOk, IfErr, IfSome, List};
 ghost use Rattle.byte_io.specs.Devices.{CanStillFail};
+ghost use Rattle.command_line.specs.declared.options.TheConstants.{LAST_COLUMN};
+ghost use Rattle.ingest.specs.Counted.{AreReadFor};
 ghost use Rattle.ingest.specs.RecordFaults.{IsKeyFault};
-ghost use Rattle.ingest.specs.Records.{AreOfTopics, partition_counts, records_in};
+ghost use Rattle.ingest.specs.Records.{partition_counts, records_in};
 ghost use Rattle.ingest.specs.Reports.{AreInRange, IsFaultOf, IsNoWrite, WritesAtEndAlone, WritesIfFileKnown, failed_reads, failed_writes, text_seen, written};
 ghost use Rattle.lane_words.specs.Answers.{Answers};
 ghost use Rattle.partition_log.specs.Keys.{Keyed};
@@ -15,9 +17,8 @@ ghost use Rattle.place_report.specs.PlaceReport.{report_of_place, report_with, t
 use crate::given::{Told, told_of_file};
 use crate::key_rows::keys_text;
 use crate::partition_rows::partitions_text;
-use byte_io::{Sink, Source, read_blocks, write_all};
+use byte_io::{Sink, Source, read_all, write_all};
 use command_line::{Options, PlaceOptions};
-use csv_ingest::{Blocks, pieces_for};
 use ingest::{FileRecords, file_records, logs_of, partition_counts};
 use lane_words::{Memory, Refusal};
 use partition_log::Logs;
@@ -55,7 +56,7 @@ fn table_of_records<R: Threads + Sync + RandomSource>(
     keys: bool,
 ) -> Result<Vec<u8>, Refusal>
     requires options { AreInRange options.now }
-    requires topics { AreOfTopics (partition_counts options.now) (records_in records) }
+    requires topics { AreReadFor options.now records }
     ensures answer { Answers (table_of_records keys options.now (records_in records))
         (text_seen result) }
     ensures kind { IfErr result IsKeyFault }
@@ -104,7 +105,7 @@ fn misplaced_of_file<R: Threads + Sync + RandomSource, S: Source>(
 ) -> Result<Told, Refusal>
     requires source { CanStillFail (S.failures file.old) }
     requires options { AreInRange options.now }
-    requires given { 1 ≤ given }
+    requires given { (1 ≤ given) × (given ≤ LAST_COLUMN) }
     ensures report { IfOk result (λ told. IfSome (S.left file.old)
         (λ bytes. report_of_given options.now given bytes ≡ Ok told.text.items)) }
     ensures misplaced { IfOk result (λ told. IfSome (S.left file.old)
@@ -114,15 +115,9 @@ fn misplaced_of_file<R: Threads + Sync + RandomSource, S: Source>(
     ensures kind { IfErr result IsNoWrite }
     ensures reads { S.failures file.new ≡ S.failures file.old + failed_reads result }
 {
-    let count = pieces_for(rt, file.expected());
-    let blocks = Blocks::of(
-        alloc,
-        read_blocks(rt, alloc, file, count)?,
-        options.delimiter,
-    )?;
-    let told = told_of_file(rt, alloc, &blocks, options, given);
-    blocks.drop_parallel(rt);
-    told
+    // Memory has the whole file: it is read again for its given column.
+    let bytes = read_all(alloc, file)?;
+    told_of_file(rt, alloc, bytes.as_slice(), options, given)
 }
 
 /// The table that the options ask for.

@@ -2,7 +2,8 @@
 
 ghost use Rattle.std.specs.Prelude.{◌≡◌, ◌<◌, ◌+◌, ◌-◌, Ok, IfOk, IfErr, IfSome};
 ghost use Rattle.byte_io.specs.Devices.{CanStillFail};
-ghost use Rattle.ingest.specs.Records.{AreOfTopics, partition_counts, records_in, records_of};
+ghost use Rattle.ingest.specs.Counted.{AreReadFor};
+ghost use Rattle.ingest.specs.Records.{records_in, records_of};
 ghost use Rattle.ingest.specs.Reports.{AreInRange, MakesIfKnown, CountsFailures, IsFaultOf, IsNoDeviceFault, IsNoWrite, ReadsFileFirst, WritesAtEndAlone, WritesIfKnown, failed_reads, failed_writes, text_seen};
 ghost use Rattle.replay_report.specs.ReplayReport.{report_of_lines, report_of_replay};
 ghost use Rattle.lane_words.specs.Answers.{Answers};
@@ -69,7 +70,7 @@ fn report_of_lines<R: Threads + Sync + RandomSource>(
     options: &Options,
 ) -> Result<Vec<u8>, Refusal>
     requires options { AreInRange options.now }
-    requires topics { AreOfTopics (partition_counts options.now) (records_in records) }
+    requires topics { AreReadFor options.now records }
     ensures answer { Answers (report_of_lines options.now (records_in records) lines.now)
         (text_seen result) }
     ensures kind { IfErr result IsNoDeviceFault }

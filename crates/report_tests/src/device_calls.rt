@@ -3,11 +3,10 @@
 ghost use Rattle.std.specs.Prelude.{◌<◌, ◌-◌, ◌^◌};
 
 use crate::slow::{Drip, Page};
-use byte_io::{FromRead, FromWrite, Source, read_all, read_blocks, write_all, write_texts};
+use byte_io::{FromRead, FromWrite, Source, read_all, write_all, write_texts};
 use lane_words::{Memory, Refusal};
 use std::alloc::Global;
 use std::test::Fail;
-use std::thread::Threads;
 
 /// Whether a source is read to its end as these bytes.
 fn gives<S: Source>(alloc: Global, source: &mut S, bytes: &[u8]) -> Result<bool, Refusal>
@@ -34,37 +33,6 @@ fn a_source_is_read_to_its_end(rt: HostRuntime) {
     assert_eq!(rt; drips(rt.alloc(), b"one\ntwo\n", 100), Ok((Ok(true), 0)));
     let mut file = FromRead::new(b"three".as_slice());
     assert_eq!(rt; gives(rt.alloc(), &mut file, b"three"), Ok(true));
-}
-
-/// Whether a source is read to its end in blocks of these bytes.
-fn gives_in_blocks<R: Threads + Sync, S: Source>(
-    rt: &R,
-    alloc: Global,
-    source: &mut S,
-    count: usize,
-    bytes: &[u8],
-) -> Result<bool, Refusal>
-    requires { S.failures source.old < 2 ^ 64 - 1 }
-{
-    let blocks = read_blocks(rt, alloc, source, count)?;
-    let mut all = Vec::new(alloc);
-    for i in 0..blocks.len() {
-        let Ok(()) = all.extend_from_slice(blocks[i].as_slice()) else {
-            return Err(Refusal::Memory);
-        };
-    }
-    Ok(all.as_slice() == bytes)
-}
-
-#[test]
-fn a_source_is_read_in_blocks_with_any_estimate(rt: HostRuntime) {
-    for count in [0, 1, 2, 4] {
-        for expected in [0, 3, 10, 11, 100] {
-            let mut file = FromRead::expecting(b"0123456789".as_slice(), expected);
-            let answer = gives_in_blocks(&rt, rt.alloc(), &mut file, count, b"0123456789");
-            assert_eq!(rt; answer, Ok(true));
-        }
-    }
 }
 
 #[test]

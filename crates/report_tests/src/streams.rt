@@ -1,7 +1,7 @@
 //! Files counted as streams, in windows of a few bytes, compared with files whose records are
 //! appended to logs.
 
-ghost use Rattle.std.specs.Prelude.{◌<◌, List};
+ghost use Rattle.std.specs.Prelude.{◌<◌, List, None};
 ghost use Rattle.ingest.specs.Counted.{CountsFile};
 ghost use Rattle.ingest.specs.Reports.{AreInRange};
 ghost use Rattle.key_index.specs.Keys.{Key};
@@ -10,8 +10,8 @@ ghost use Rattle.key_stream.specs.Tally.{HaveCounted};
 use crate::options;
 use byte_io::FromRead;
 use command_line::Options;
-use csv_ingest::Blocks;
-use ingest::{count_file, logs_of, read_records};
+use csv_ingest::{Wanted, read_keys};
+use ingest::count_file;
 use key_counts::Merged;
 use key_stream::{Counters, Counting};
 use lane_words::{Memory, Refusal};
@@ -60,7 +60,7 @@ fn text_of_logs(alloc: Global, logs: &Logs) -> Result<Vec<u8>, Memory> {
     Ok(text)
 }
 
-/// The same of a file that is read whole and appended to logs.
+/// The same of a file that is read record by record and appended to logs.
 fn text_by_logs<R: Threads + Sync + RandomSource>(
     rt: &R,
     alloc: Global,
@@ -69,11 +69,17 @@ fn text_by_logs<R: Threads + Sync + RandomSource>(
 ) -> Result<Vec<u8>, Refusal>
     requires { AreInRange options.now }
 {
-    let mut parts = Vec::new(alloc);
-    parts.push(Vec::from_slice(alloc, file)?)?;
-    let blocks = Blocks::of(alloc, parts, options.delimiter)?;
-    let records = read_records(rt, alloc, &blocks, options)?;
-    let logs = logs_of(rt, alloc, &records, options)?;
+    let keys = read_keys(
+        alloc,
+        file,
+        options.delimiter,
+        &Wanted::key(1),
+        options.header,
+    )?;
+    let mut logs = Logs::new(rt, alloc, options.partitions)?;
+    for key in &keys {
+        logs.append(key.as_slice())?;
+    }
     Ok(text_of_logs(alloc, &logs)?)
 }
 
@@ -108,7 +114,7 @@ fn text_of_counting<R: Threads + Sync + RandomSource>(
     counting: Counting,
     options: &Options,
 ) -> Result<Vec<u8>, Memory>
-    requires { (left left2 : _) × CountsFile options.now left left2 counting }
+    requires { (left left2 : _) × CountsFile options.now left left2 counting None }
 {
     let skip = usize::from(options.topics.len() != 0);
     let counters = Counters::of(alloc, counting)?;
@@ -128,10 +134,12 @@ fn text_by_stream<R: Threads + Sync + RandomSource>(
     let Ok(hasher) = RandomState::new(rt) else {
         return Err(Refusal::Memory);
     };
-    let mut counting = Counting::new(alloc, hasher, stream.0, 1)?;
+    let mut counting = Counting::new(alloc, hasher, stream.0, 1, false)?;
     let mut source = FromRead::new(file);
-    count_file(rt, alloc, &mut source, options, stream.1, &mut counting)?;
-    Ok(text_of_counting(rt, alloc, hasher, counting, options)?)
+    match count_file(rt, alloc, &mut source, options, stream.1, &mut counting)? {
+        None => Ok(text_of_counting(rt, alloc, hasher, counting, options)?),
+        Some(refusal) => Err(refusal),
+    }
 }
 
 /// Whether a file has the same counts, or the same fault, in all these ways.

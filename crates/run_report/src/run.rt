@@ -3,7 +3,8 @@
 ghost use Rattle.std.specs.Prelude.{◌≡◌, ◌<◌, ◌+◌, ◌-◌, ◌++◌, [], None, Ok, IfOk, IfErr, IfSome, OnOk};
 ghost use Rattle.ingest.specs.RecordFaults.{first_fault, TakesRecords};
 ghost use Rattle.byte_io.specs.Devices.{CanStillFail};
-ghost use Rattle.ingest.specs.Records.{AreOfTopics, partition_counts, records_in, records_of};
+ghost use Rattle.ingest.specs.Counted.{AreReadFor};
+ghost use Rattle.ingest.specs.Records.{partition_counts, records_in, records_of};
 ghost use Rattle.ingest.specs.Reports.{AreInRange, MakesIfKnown, CountsFailures, IsFaultOf, IsNoDeviceFault, IsNoStop, IsNoWrite, ReadsFileFirst, WritesAtEndAlone, failed_reads, failed_writes};
 ghost use Rattle.run_report.specs.Private.Runs.{EndsRun, IsRunOver};
 ghost use Rattle.report_rows.specs.ReplayRows.{closing_rows, move_rows};
@@ -48,7 +49,7 @@ fn sealed_logs<R: Threads + RandomSource + Sync>(
     options: &Options,
 ) -> Result<SealedLogs, Refusal>
     requires options { AreInRange options.now }
-    requires topics { AreOfTopics (partition_counts options.now) (records_in records) }
+    requires topics { AreReadFor options.now records }
     ensures logs { IfOk result (AreLogsOf (records_in records)) }
     ensures counts { IfOk result (λ logs. logs.counts ≡ partition_counts options.now) }
     ensures answer { TakesRecords (partition_counts options.now) (records_in records) result }
@@ -66,7 +67,7 @@ fn outcome_of<R: Threads + Wait + RandomSource + Sync, G: Gate + Sync>(
     gate: &G,
 ) -> Result<Outcome, Refusal>
     requires options { AreInRange options.now }
-    requires topics { AreOfTopics (partition_counts options.now) (records_in records) }
+    requires topics { AreReadFor options.now records }
     ensures value { IfOk result
         (IsRunOver (partition_counts options.now) (records_in records) plan.now) }
     ensures ok { OnOk result
@@ -107,7 +108,7 @@ fn report_of_plan<R: Threads + Wait + RandomSource + Sync, G: Gate + Sync>(
     gate: &G,
 ) -> Result<Vec<u8>, Refusal>
     requires options { AreInRange options.now }
-    requires topics { AreOfTopics (partition_counts options.now) (records_in records) }
+    requires topics { AreReadFor options.now records }
     ensures report { IfOk result
         (λ text. report_of_plan options.now (records_in records) plan.now ≡ Ok text.items) }
     ensures kind { IfErr result IsNoDeviceFault }

@@ -2,7 +2,8 @@
 
 ghost use Rattle.std.specs.Prelude.{◌≡◌, ◌≤◌, ◌+◌, IfErr};
 ghost use Rattle.byte_io.specs.Devices.{CanStillFail};
-ghost use Rattle.ingest.specs.Records.{AreOfTopics, partition_counts, records_in, records_of};
+ghost use Rattle.ingest.specs.Counted.{AreReadFor};
+ghost use Rattle.ingest.specs.Records.{records_in, records_of};
 ghost use Rattle.ingest.specs.Reports.{AreInRange, CountsFailures, IsFaultOf, IsNoDeviceFault, IsNoWrite, MakesIfKnown, ReadsFileFirst, WritesAtEndAlone, WritesIfKnown, failed_writes, text_seen};
 ghost use Rattle.lane_words.specs.Answers.{Answers};
 ghost use Rattle.lane_words.specs.declared.limits.TheConstants.{MOST_PARTITIONS};
@@ -54,7 +55,7 @@ fn text_of_records<R: Threads + Sync + RandomSource>(
     options: &Options,
 ) -> Result<Vec<u8>, Refusal>
     requires options { AreInRange options.now }
-    requires topics { AreOfTopics (partition_counts options.now) (records_in records) }
+    requires topics { AreReadFor options.now records }
     ensures answer { Answers (trace_of_records options.now (records_in records) lines.now)
         (text_seen result) }
     ensures kind { IfErr result IsNoDeviceFault }

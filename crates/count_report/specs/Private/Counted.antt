@@ -1,5 +1,5 @@
 -- The text of what was counted.
-use Rattle.std.specs.Prelude.{◌≡◌, ◌++◌, ℕ, Bool, List, Ok, Option, Vec, drop, flat_map, if◌then◌else◌, map, vec_items}
+use Rattle.std.specs.Prelude.{◌≡◌, ◌++◌, ℕ, Bool, List, None, Ok, Option, Vec, drop, flat_map, if◌then◌else◌, map, vec_items}
 use Rattle.std.specs.Global.{Global}
 use Rattle.command_line.specs.declared.options.Options.{Options}
 use Rattle.ingest.specs.Counted.{CountsFile}
@@ -36,5 +36,5 @@ TellsCounters options counters records texts =
 -- texts are the report of the file that was counted
 abbrev pub ReportsCounted : Options → Counting → Vec (Vec ℕ Global) Global → Type 0
 ReportsCounted options counting texts =
-    (left left2 : Option (List ℕ)) (file : CountsFile options left left2 counting)
+    (left left2 : Option (List ℕ)) (file : CountsFile options left left2 counting None)
     → report_of_count options file.read ≡ Ok (flat_map vec_items texts.items)

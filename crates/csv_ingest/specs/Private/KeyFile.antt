@@ -1,5 +1,5 @@
 -- The keys of a file, record by record.
-use Rattle.std.specs.Prelude.{◌≡◌, ◌+◌, ℕ, List, ◌∷◌, Result, Err}
+use Rattle.std.specs.Prelude.{◌≡◌, ◌+◌, ℕ, List, ◌∷◌, Err}
 use Rattle.lane_words.specs.declared.Refusal.{Refusal}
 use Rattle.csv_ingest.specs.KeyFile.{Record, Taking, after_keys, keys_from}
 
@@ -14,8 +14,3 @@ TakesKey wanted width nth old new fields =
 abbrev pub IsFaultAt : Taking → ℕ → ℕ → Record → Refusal → Type 0
 IsFaultAt wanted width nth fields fault =
     (rest : List Record) → keys_from wanted width nth (fields ∷ rest) ≡ Err fault
-
--- these keys, and then those of records that are numbered from nth on
-abbrev pub keys_then : Taking → ℕ → ℕ → List (List ℕ) → List Record
-    → Result (List (List ℕ)) Refusal
-keys_then wanted width nth keys rows = after_keys keys (keys_from wanted width nth rows)

@@ -1,8 +1,9 @@
 -- A file that is counted within the limits of its logs, window by window.
-use Rattle.std.specs.Prelude.{◌≡◌, ◌⊎◌, ◌≤◌, ◌<◌, ◌+◌, ⊤, ℕ, Bool, true, List, [], ◌++◌, length, take, IfSome, Option, Some, None, Result, Ok, Err}
+use Rattle.std.specs.Prelude.{◌≡◌, ◌⊎◌, ◌≤◌, ◌<◌, ◌+◌, ⊤, ℕ, Bool, true, List, [], ◌++◌, length, take, IfOk, IfSome, Option, Some, None, Result, Ok, Err}
 use Rattle.std.specs.Io.KnownBytes.{Consumes, IsAtEnd}
 use Rattle.std.specs.Result.{result_map_both}
 use Rattle.command_line.specs.declared.options.Options.{Options}
+use Rattle.lane_words.specs.declared.Memory.{Memory}
 use Rattle.lane_words.specs.declared.Refusal.{Refusal}
 use Rattle.lane_words.specs.declared.Refusal.TheVariants as r
 use Rattle.lane_words.specs.declared.limits.TheConstants.{MOST_RECORDS}
@@ -18,11 +19,10 @@ use Rattle.key_stream.specs.Rounds.{entries_in}
 use Rattle.key_stream.specs.declared.counting.Counting.{Counting}
 use Rattle.key_stream.specs.declared.worker.Layout.{Layout}
 use Rattle.partition_log.specs.Keys.{Key, distinct, keys_in}
-use Rattle.ingest.specs.Counted.{records_refusal}
 use Rattle.ingest.specs.Limits.{ChecksKeys, IsLimitCheck, Limits, record_taken, records_taken}
 use Rattle.ingest.specs.Private.Columns.{MayFollow}
 use Rattle.ingest.specs.RecordFaults.{first_fault}
-use Rattle.ingest.specs.Records.{names_topics, partition_counts, records_among}
+use Rattle.ingest.specs.Records.{AreOfTopics, names_topics, partition_counts, records_among}
 use Rattle.ingest.specs.declared.columns.Columns.{Columns}
 use Rattle.ingest.specs.declared.counted.CountPlan.{CountPlan}
 use Rattle.ingest.specs.declared.windows.Windows.{Windows}
@@ -42,12 +42,6 @@ TakesColumns options column topic_column wanted =
     → records_among options.delimiter options.header options.topics.items file column topic_column
     ≡ result_map_both (records_taken (names_topics options)) (λ fault. fault)
     (taken_of options.delimiter wanted options.header file)
-
--- why not all records of a file can be appended, by its keys: the fault of the first bad one, or
--- otherwise that of the first that can't be appended
-abbrev pub refusal_of : List ℕ → Bool → Result (List Key) Refusal → Option Refusal
-refusal_of counts has_topics (Ok keys) = first_fault counts [] (records_taken has_topics keys)
-refusal_of counts has_topics (Err fault) = Some fault
 
 -- ---- the limits
 -- these keys are few enough for a table
@@ -124,34 +118,30 @@ pub record IsChecking (delimiter : ℕ) (wanted : Taking) (header : Bool) (count
       → IsSplitPoint delimiter read (window ++ more)
   pub within : AreWithin counts has_topics counted.keys check
 
--- a source was read to its end, its bytes were counted behind those of a window, and no record is
--- refused
+-- a source was read to its end, its bytes were counted behind those of a window; and why the first
+-- record that can't be appended can't
 pub record CountsSource (delimiter : ℕ) (wanted : Taking) (header : Bool) (counts : List ℕ)
     (has_topics : Bool) (first : List ℕ) (first_end : Bool) (left left2 : Option (List ℕ))
-    (counting : Counting) : Type 0 where
+    (counting : Counting) (refusal : Option Refusal) : Type 0 where
   pub read : List ℕ
   pub bytes : ReadsBehind first first_end left left2 read
   pub ended : IsAtEnd left2
   pub counted : IsCounted delimiter wanted header read counting
-  pub accepted : refusal_of counts has_topics (taken_of delimiter wanted header read) ≡ None
+  pub topics : AreOfTopics counts (records_taken has_topics counted.keys)
+  pub refused : first_fault counts [] (records_taken has_topics counted.keys) ≡ refusal
 
--- why a source is refused that follows these bytes, if its own are known
-abbrev pub IsSourceRefusal : ℕ → Taking → Bool → List ℕ → Bool → List ℕ → Option (List ℕ)
-    → Refusal → Type 0
-IsSourceRefusal delimiter wanted header counts has_topics first left fault =
-    IfSome left (λ rest.
-    refusal_of counts has_topics (taken_of delimiter wanted header (first ++ rest)) ≡ Some fault)
+-- the fault of the first bad record of a source that follows these bytes, if its own are known
+abbrev pub IsSourceFault : ℕ → Taking → Bool → List ℕ → Option (List ℕ) → Refusal → Type 0
+IsSourceFault delimiter wanted header first left fault =
+    IfSome left (λ rest. taken_of delimiter wanted header (first ++ rest) ≡ Err fault)
 
--- why a source is not counted to its end: an allocation or a read failed, a record is bad, or one
--- can't be appended
+-- why a source is not counted to its end: an allocation or a read failed, or a record is bad
 abbrev pub IsCountFault : Refusal → Type 0
 IsCountFault r.Memory = ⊤
 IsCountFault r.ReadFailed = ⊤
 IsCountFault (r.NoSuchColumn nth) = ⊤
 IsCountFault (r.BadCsv nth) = ⊤
 IsCountFault (r.NoSuchTopic nth) = ⊤
-IsCountFault r.KeyTooLong = ⊤
-IsCountFault r.LogFull = ⊤
 IsCountFault _ = ⊥
 
 -- ---- the same by a plan
@@ -189,33 +179,29 @@ IsCheckedBy plan windows left left2 counting check =
     plan.counts.now plan.has_topics true windows.window windows.at_end left left2 [] counting check
 
 abbrev pub CountsSourceBy : CountPlan → Windows → Option (List ℕ) → Option (List ℕ) → Counting
-    → Type 0
-CountsSourceBy plan windows left left2 counting =
+    → Option Refusal → Type 0
+CountsSourceBy plan windows left left2 counting refusal =
     CountsSource plan.layout.delimiter (taking plan.layout.wanted.now) plan.layout.header
-    plan.counts.now plan.has_topics windows.window windows.at_end left left2 counting
+    plan.counts.now plan.has_topics windows.window windows.at_end left left2 counting refusal
 
-abbrev pub IsRefusalBy : CountPlan → Windows → Option (List ℕ) → Refusal → Type 0
-IsRefusalBy plan windows left fault =
-    IsSourceRefusal plan.layout.delimiter (taking plan.layout.wanted.now) plan.layout.header
-    plan.counts.now plan.has_topics windows.window left fault
+abbrev pub IsFaultOfSourceBy : CountPlan → Windows → Option (List ℕ) → Refusal → Type 0
+IsFaultOfSourceBy plan windows left fault =
+    IsSourceFault plan.layout.delimiter (taking plan.layout.wanted.now) plan.layout.header
+    windows.window left fault
 
 -- the same of a file whose columns are known
 pub record CountsColumns (options : Options) (columns : Columns) (first : List ℕ)
-    (first_end : Bool) (left left2 : Option (List ℕ)) (counting : Counting) : Type 0 where
+    (first_end : Bool) (left left2 : Option (List ℕ)) (counting : Counting)
+    (refusal : Option Refusal) : Type 0 where
   pub wanted : Taking
   pub takes : TakesColumns options columns.key columns.topic wanted
   pub counts : CountsSource options.delimiter wanted options.header (partition_counts options)
-      (names_topics options) first first_end left left2 counting
+      (names_topics options) first first_end left left2 counting refusal
 
-abbrev pub IsColumnsRefusal : Options → Columns → List ℕ → Option (List ℕ) → Refusal → Type 0
-IsColumnsRefusal options columns first left fault =
-    IfSome left (λ rest. records_refusal (partition_counts options)
-    (records_among options.delimiter options.header options.topics.items (first ++ rest)
-    columns.key columns.topic) ≡ Some fault)
-
-abbrev pub IsRefusalWith : Options → Columns → Windows → Option (List ℕ) → Refusal → Type 0
-IsRefusalWith options columns windows left fault =
-    IsColumnsRefusal options columns windows.window left fault
+abbrev pub IsColumnsFault : Options → Columns → List ℕ → Option (List ℕ) → Refusal → Type 0
+IsColumnsFault options columns first left fault =
+    IfSome left (λ rest. records_among options.delimiter options.header options.topics.items
+    (first ++ rest) columns.key columns.topic ≡ Err fault)
 
 -- ---- at the end
 -- the fault of the first record that can't be appended, of those that workers took
@@ -226,16 +212,11 @@ IsFirstFault counts has_topics workers segments check fault =
     → AreWithin counts has_topics keys check → AreFewKeys has_topics keys
     → fault ≡ first_fault counts [] (records_taken has_topics keys)
 
--- an answer by the fault that there is, unless memory is refused
-abbrev pub Answered : Option Refusal → Result (Unit {0}) Refusal → Type 0
-Answered fault (Ok _) = fault ≡ None
-Answered fault (Err e) = (e ≡ r.Memory) ⊎ (fault ≡ Some e)
-
--- the answer once all records are counted: none is refused, the first is that can't be appended, or
--- memory is
+-- once all records are counted: why the first that can't be appended can't, unless memory is refused
 abbrev pub Concludes : List ℕ → Bool → List Entries → List Segment → Option Limits
-    → Result (Unit {0}) Refusal → Type 0
+    → Result (Option Refusal) Memory → Type 0
 Concludes counts has_topics workers segments check result =
     (keys : List Key) → HaveTaken keys (keys_of workers segments) workers
     → AreWithin counts has_topics keys check
-    → Answered (first_fault counts [] (records_taken has_topics keys)) result
+    → IfOk result
+    (λ refusal. first_fault counts [] (records_taken has_topics keys) ≡ refusal)

@@ -1,5 +1,5 @@
 -- The laws of entries that take keys.
-use Rattle.std.proofs.Common.{◌≡◌, ◌∙◌, true, List, [], ◌∷◌, ◌++◌, get_or, sym, ap, refl, arith, inl, inr, append_assoc}
+use Rattle.std.proofs.Common.{◌≡◌, ◌∙◌, Bool, true, false, List, [], ◌∷◌, ◌++◌, get_or, sym, ap, refl, arith, inl, inr, append_assoc}
 use Rattle.std.specs.List.{fold}
 use Rattle.std.proofs.lemmas.List.{append-nil, get_or_default}
 use Rattle.std.proofs.lemmas.List.Sums.{fold-append, sum_by-append}
@@ -10,7 +10,7 @@ use Rattle.std.proofs.lemmas.Slice.Eq.{bytes_eq-Decides}
 use Rattle.key_index.proofs.Firsts.{own, stays}
 use Rattle.key_index.proofs.Growth.{among}
 use Rattle.key_index.specs.Keys.{Key, is_interned, with_key}
-use Rattle.key_counts.specs.Counts.{AreInterned, CounterState, Entries, Takes, TakesLater}
+use Rattle.key_counts.specs.Counts.{AreInterned, CounterState, Entries, Takes, TakesLater, recorded, records_of}
 
 pub added-interned : (before added : List Key) (key : Key)
     → is_interned added key ≡ true → is_interned (fold with_key before added) key ≡ true
@@ -37,12 +37,22 @@ all-known before known added all =
     let key = get_or added k d in
     added-interned before added key (among added key k lt (get_or_default added k [] d lt)))
 
+none-recorded : (coded : Bool) → recorded coded [] ≡ []
+none-recorded true = refl
+none-recorded false = refl
+
+both-recorded : (coded : Bool) (xs ys : List Key) → recorded coded xs ++ recorded coded ys ≡ recorded coded (xs ++ ys)
+both-recorded true xs ys = refl
+both-recorded false xs ys = refl
+
 pub takes-none : (entries : Entries) → Takes entries entries []
 takes-none entries = record {
   added = [];
   grown = sym (append-nil entries.keys);
   order = λ before all. refl;
   counted = λ f. omega arith;
+  same = refl;
+  records = sym (ap (λ ks. records_of entries ++ ks) (none-recorded entries.coded) ∙ append-nil (records_of entries));
 }
 
 pub takes-then : (a b c : Entries) (xs ys : List Key)
@@ -62,6 +72,13 @@ takes-then a b c xs ys first second = record {
       ∙ second.order now known
       ∙ sym (fold-append with_key before first.added second.added);
   counted = λ f. omega (arith, sum_by-append f xs ys, first.counted f, second.counted f);
+  same = second.same ∙ first.same;
+  records =
+      second.records
+      ∙ ap (λ ks. ks ++ recorded b.coded ys) first.records
+      ∙ append_assoc (records_of a) (recorded a.coded xs) (recorded b.coded ys)
+      ∙ ap (λ coded. records_of a ++ (recorded a.coded xs ++ recorded coded ys)) first.same
+      ∙ ap (λ ks. records_of a ++ ks) (both-recorded a.coded xs ys);
 }
 
 pub later-nothing : (state : CounterState) → TakesLater state [] state

@@ -1,20 +1,30 @@
 -- Records next to what their given column has, as they are walked.
-use Rattle.std.specs.Prelude.{◌≡◌, ◌≤◌, ◌+◌, ◌-◌, ◌^◌, ℕ, List, [], ◌∷◌, Result, Vec, bytes_eq, drop, if◌then◌else◌, length, map, slice_index_or}
+use Rattle.std.specs.Prelude.{◌≡◌, ◌≤◌, ◌+◌, ◌-◌, ◌^◌, ℕ, List, [], ◌∷◌, Result, bytes_eq, drop, if◌then◌else◌, length, map, slice_index_or}
 use Rattle.std.specs.Result.{result_map_both}
 use Rattle.lane_words.specs.declared.Refusal.{Refusal}
-use Rattle.partition_log.specs.Keys.{Keyed}
+use Rattle.partition_log.specs.Keys.{Keyed, keys_in}
 use Rattle.partitioner.specs.declared.topic.Topic.{Topic}
-use Rattle.ingest.specs.Records.{records_in}
-use Rattle.ingest.specs.declared.reading.FileRecords.{FileRecords}
+use Rattle.ingest.specs.Records.{ReadRecords, records_in}
 use Rattle.place_report.specs.Given.{misplaced_row, misplaced_rows, number_text}
 use Rattle.place_report.specs.declared.given.Given.{Given}
 use Rattle.place_report.specs.declared.given.Told.{Told}
 
--- an answer as what it returns
-abbrev pub both_seen : Result (FileRecords × List (List ℕ)) Refusal
+-- the texts of the given column, which were read as keys
+abbrev pub texts_in : ReadRecords → List (List ℕ)
+texts_in read = keys_in (records_in read)
+
+-- an answer as the records that it returns, or as the texts
+abbrev pub records_seen : Result ReadRecords Refusal → Result (List Keyed) Refusal
+records_seen answer = result_map_both records_in (λ fault. fault) answer
+
+abbrev pub texts_seen : Result ReadRecords Refusal → Result (List (List ℕ)) Refusal
+texts_seen answer = result_map_both texts_in (λ fault. fault) answer
+
+-- an answer as both that it returns
+abbrev pub both_seen : Result (ReadRecords × ReadRecords) Refusal
     → Result (List Keyed × List (List ℕ)) Refusal
 both_seen answer =
-    result_map_both (λ read. (records_in read.0, read.1)) (λ fault. fault) answer
+    result_map_both (λ read. (records_in read.0, texts_in read.1)) (λ fault. fault) answer
 
 -- an answer as the text of its table
 abbrev pub text_told : Result Told Refusal → Result (List ℕ) Refusal

@@ -2,7 +2,8 @@
 
 ghost use Rattle.std.specs.Prelude.{◌≡◌, IfOk};
 ghost use Rattle.ingest.specs.RecordFaults.{TakesRecords};
-ghost use Rattle.ingest.specs.Records.{AreOfTopics, partition_counts, records_in};
+ghost use Rattle.ingest.specs.Counted.{AreReadFor};
+ghost use Rattle.ingest.specs.Records.{partition_counts, records_in};
 ghost use Rattle.ingest.specs.Reports.{AreInRange};
 ghost use Rattle.replay_report.specs.ReplayReport.{loaded, opening_world};
 ghost use Rattle.world.specs.Valid.{IsValidWorld};
@@ -25,7 +26,7 @@ pub fn world_of<R: Threads + Sync + RandomSource>(
     options: &Options,
 ) -> Result<World, Refusal>
     requires options { AreInRange options.now }
-    requires topics { AreOfTopics (partition_counts options.now) (records_in records) }
+    requires topics { AreReadFor options.now records }
     ensures world { IfOk result (λ world. world
         ≡ loaded (opening_world (partition_counts options.now)) (records_in records)) }
     ensures valid { IfOk result IsValidWorld }

@@ -5,7 +5,7 @@ pub texts_of_counters-texts-requires-after_bounds : goal.texts_of_counters-texts
 texts_of_counters-texts-requires-after_bounds g c κs within =
     let file = c.requires.2 in
     let options = c.args.options.now in
-    (file.counted.keys, c.in_ok-counters.ensures options.delimiter file.wanted options.header file.read file.counted)
+    (file.counted.keys, (c.in_ok-counters.ensures options.delimiter file.wanted options.header file.read file.counted).0)
 
 pub returns : goal.returns
 returns g c = reports c.args.options.now c.args.counting _ c.texts_of_counters-texts.result c.in_ok-counters.ensures c.texts_of_counters-texts.ensures

@@ -19,6 +19,4 @@ returns-clause-ok g c =
 pub returns-clause-err : goal.returns-clause-err
 returns-clause-err g c =
     let options = c.args.options.now in
-    let counts : c.as_slice-2.result.now ≡ partition_counts options = c.as_slice-2.ensures.value ∙ c.in_ok-counts.ensures.value in
-    let topics = named c.as_slice-topics.result.now options.topics.items c.is_empty.result c.as_slice-topics.ensures.value c.is_empty.ensures in
-    columns-err options c.args.columns (taking c.wanted_among-wanted.result) _ _ c.count_source.result c.wanted_among-wanted.ensures.records (rw (counts, topics) at c.count_source.ensures.err)
+    columns-err options c.args.columns (taking c.wanted_among-wanted.result) _ _ c.count_source.result c.wanted_among-wanted.ensures.records c.count_source.ensures.err

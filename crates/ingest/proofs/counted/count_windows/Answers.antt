@@ -1,4 +1,4 @@
-use Rattle.std.proofs.Common.{◌∙◌, [], ℕ, List, Option, ap, arith, inl, inr, length, subst, sym, true}
+use Rattle.std.proofs.Common.{◌∙◌, [], ℕ, List, Option, ap, arith, inl, inr, length, refl, subst, sym, true}
 use Rattle.csv_ingest.specs.Private.Wanted.{taking}
 use Rattle.ingest.specs.Private.Counted.{IsChecking}
 use Rattle.ingest.proofs.Checking.{checking-begins, checking-counts, checking-ends, checking-fails, checking-refills, checking-starts, ended-reads, entries-topics}
@@ -8,6 +8,7 @@ use Rattle.ingest.proofs.counted.count_windows.Goals as goal
 pub loop-init : goal.loop-init
 loop-init g c = record {
   failures = c.in-Ok.ensures.no_failures;
+  coded = refl;
   checking = checking-refills _ _ _ _ _ _ _ _ _ _ _ _ _ _ _ _ (checking-starts _ _ _ _ _ _ _ _ _ _ c.requires.check c.requires.end c.requires.start) c.in-Ok.ensures.window;
 }
 
@@ -33,6 +34,7 @@ loop-preserved g c =
     let ready = checking-begins _ _ _ _ _ _ _ _ _ _ _ _ c.loop.check c.begin_check.new.check (length c.text-more.result.now) c.loop.invariant.checking (ap length c.text-more.ensures) c.in-Ok-begin_check.ensures in
     record {
       failures = c.in-Ok-false.ensures.no_failures ∙ c.loop.invariant.failures;
+      coded = c.count_window.ensures.coded ∙ c.loop.invariant.coded;
       checking = checking-refills _ _ _ _ _ _ _ _ _ _ _ _ _ _ _ _ (checking-counts _ _ _ _ _ _ _ _ _ _ _ _ _ _ _ _ _ c.requires.topics ready round.checks) round.reads;
     }
 

@@ -1,6 +1,6 @@
-use Rattle.std.proofs.Common.{◌≡◌, [], get_or, length, subst, sym, take}
+use Rattle.std.proofs.Common.{◌≡◌, [], get_or, length, subst, sym, take, false}
 use Rattle.std.proofs.lemmas.List.{get_or_read}
-use Rattle.key_counts.specs.Counts.{Entries}
+use Rattle.key_counts.specs.Counts.{Entries, no_entries}
 use Rattle.key_counts.specs.Private.Twins.{may_have_twin}
 use Rattle.key_counts.specs.Private.Walks.{AreNext, IsWalked}
 use Rattle.key_counts.specs.Segments.{IsSegment, counts_of, entries_of, keys_behind, keys_of}
@@ -33,7 +33,7 @@ loop-i-preserved c =
     let no_segment : Segment = record { worker = 0; from = 0; to = 0 } in
     let s : Segment = get_or segments i no_segment in
     let part : IsSegment workers s = c.requires.segments i no_segment c.loop-i-test.true in
-    let none : Entries = record { keys = []; counts = [] } in
+    let none : Entries = no_entries false in
     let its : c.index-workers-segment.result ≡ entries_of workers s.worker = get_or_read workers s.worker c.index-workers-segment.result part.worker c.index-workers-segment.is none in
     let k = length (keys_of workers (take i segments)) in
     let next : AreNext c.args.skip c.index-workers-segment.result s all counts k =

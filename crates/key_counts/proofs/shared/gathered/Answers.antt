@@ -1,8 +1,8 @@
-use Rattle.std.proofs.Common.{◌≡◌, ◌∙◌, ◌++◌, [], Bool, ap, ap₂, drop, filter, get_or, length, map, sym, take}
+use Rattle.std.proofs.Common.{◌≡◌, ◌∙◌, ◌++◌, [], Bool, ap, ap₂, drop, filter, get_or, length, map, sym, take, false}
 use Rattle.std.proofs.lemmas.List.{get_or_read, length-map}
 use Rattle.std.proofs.lemmas.List.Elements.{All-take, filter-append}
 use Rattle.key_index.specs.Keys.{Key}
-use Rattle.key_counts.specs.Counts.{Entries}
+use Rattle.key_counts.specs.Counts.{Entries, no_entries}
 use Rattle.key_counts.specs.Private.Twins.{may_have_twin}
 use Rattle.key_counts.specs.Private.Parts.{part_behind, part_counts}
 use Rattle.key_counts.specs.Private.Walks.{kept}
@@ -40,7 +40,7 @@ loop-i-preserved c =
     let no_segment : Segment = record { worker = 0; from = 0; to = 0 } in
     let s : Segment = get_or segments i no_segment in
     let part : IsSegment workers s = c.requires.segments i no_segment c.loop-i-test.true in
-    let none : Entries = record { keys = []; counts = [] } in
+    let none : Entries = no_entries false in
     let its : c.index-workers-segment.result ≡ entries_of workers s.worker = get_or_read workers s.worker c.index-workers-segment.result part.worker c.index-workers-segment.is none in
     let before = keys_behind c.args.skip workers (take i segments) in
     let counts = counts_of workers (take i segments) in

@@ -1,32 +1,45 @@
-use Rattle.std.proofs.Common.{◌≡◌, ◌∙◌, ◌+◌, [], ap, arith, get_or, length, subst, sym}
-use Rattle.std.specs.Prelude.{slice_set}
+use Rattle.std.proofs.Common.{◌≡◌, ◌∙◌, ◌+◌, ℕ, false, ap, arith, get_or, length, refl, subst, sym}
 use Rattle.std.proofs.lemmas.List.{get_or-map, get_or_read, length-map, length-set}
-use Rattle.key_counts.specs.Counts.{Entries}
+use Rattle.key_counts.specs.Counts.{Entries, no_entries}
 use Rattle.key_counts.specs.Segments.{entries_of}
-use Rattle.key_stream.specs.Rounds.{entries_in}
-use Rattle.key_stream.specs.declared.worker.Worker.{Worker}
-use Rattle.key_stream.proofs.Marked.{AreMarked, marked-more}
+use Rattle.key_stream.proofs.Marked.{HaveSegments, mark-is, marked-more, marks-all, segments-all, segments-more}
 use Rattle.key_stream.proofs.segments.add_segments.Goals as goal
 
-abbrev counts_of : Worker → Entries
-counts_of worker = worker.counter.entries
+abbrev len_of : Entries → ℕ
+len_of entries = length entries.keys
+
+pub loop-w-init : goal.loop-w-init
+loop-w-init c = record { len = c.requires; marked = refl; segments = λ workers is. refl }
 
 pub loop-w-preserved : goal.loop-w-preserved
 loop-w-preserved c =
-    let workers = c.args.workers.now in
+    let inv = c.loop-w.invariant in
+    let lens = c.args.lens.now in
+    let marks = c.args.marks.now.items in
     let w = c.loop-w.w in
-    let to = c.len-to.result in
+    let to = get_or c.args.lens.now c.loop-w.w 0 in
     let now = c.loop-w.marks.items in
-    let none : Entries = record { keys = []; counts = [] } in
     let within = c.loop-w-test.true in
-    let all : length (entries_in workers) ≡ length workers = length-map workers counts_of in
-    let its : entries_of (entries_in workers) w ≡ (get_or workers w c.index-workers-w.result).counter.entries = get_or-map counts_of workers w c.index-workers-w.result none within in
-    let many : to ≡ length (entries_of (entries_in workers) w).keys = c.len-to.ensures ∙ ap (λ (e : Entries). length e.keys) (sym its) in
-    let read : c.index.result.now ≡ get_or now w 0 = get_or_read now w c.index.result.now (omega (arith, within, c.loop-w.invariant.len)) c.index.ensures 0 in
-    let next = marked-more (entries_in workers) c.args.marks.now.items now c.args.segments.now.items c.loop-w.segments.items w c.index.result.now to
-    (c.requires ∙ sym all) (omega (arith, within, all)) read many c.loop-w.invariant.marked in
+    let from = get_or_read now w c.index.result.now (omega (arith, within, inv.len)) c.index.ensures 0 ∙ mark-is lens marks now w c.requires within inv.marked in
+    let here : to ≡ get_or lens w 0 = refl in
     record {
-      len = length-set now w to ∙ c.loop-w.invariant.len;
-      marked =
-          subst (λ ss. AreMarked (entries_in workers) c.args.marks.now.items (slice_set now w to) c.args.segments.now.items ss (w + 1)) (sym c.in_ok-push.ensures.items) next;
+      len = length-set now w to ∙ inv.len;
+      marked = marked-more lens marks now w to c.requires within here inv.marked;
+      segments = λ workers is.
+          let many : length lens ≡ length workers = ap length is ∙ length-map workers len_of in
+          let own : to ≡ len_of (entries_of workers w) =
+          here ∙ ap (λ ns. get_or ns w 0) is ∙ get_or-map len_of workers w (no_entries false) 0 (omega (arith, within, many)) in
+          subst (λ ss. HaveSegments workers marks c.args.segments.now.items ss (w + 1)) (sym c.in_ok-push.ensures.items)
+          (segments-more workers marks c.args.segments.now.items c.loop-w.segments.items w c.index.result.now to (c.requires ∙ many) (omega (arith, within, many)) from own
+          (inv.segments workers is));
     }
+
+pub returns-clause-marks : goal.returns-clause-marks
+returns-clause-marks c =
+    marks-all c.args.lens.now c.args.marks.now.items c.loop-w.marks.items c.loop-w.w c.requires (omega (arith, c.loop-w-test.false)) c.loop-w.invariant.marked
+
+pub returns-clause-segments : goal.returns-clause-segments
+returns-clause-segments c = λ workers is.
+    let many : length c.args.lens.now ≡ length workers = ap length is ∙ length-map workers len_of in
+    segments-all workers c.args.marks.now.items c.args.segments.now.items c.loop-w.segments.items c.loop-w.w (c.requires ∙ many) (omega (arith, many, c.loop-w-test.false))
+    (c.loop-w.invariant.segments workers is)

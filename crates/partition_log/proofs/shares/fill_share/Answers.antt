@@ -1,42 +1,29 @@
-use Rattle.std.proofs.Common.{◌≡◌, ◌<◌, ◌+◌, ◌∙◌, ◌∷◌, ◌++◌, [], ℕ, List, arith, ap, drop, get_or, length, map, replicate, rules, sym, vec_items, vec_len}
-use Rattle.std.specs.Prelude.{slice_set}
-use Rattle.std.proofs.lemmas.List.{get_or-map, length-map, length-replicate, length-set, map-set}
+use Rattle.std.proofs.Common.{◌≡◌, ◌+◌, ◌∙◌, ap, ap₂, drop, length, map, rules, subst, sym, vec_items, vec_len}
+use Rattle.std.proofs.lemmas.List.{length-map}
 use Rattle.partition_log.specs.Private.Filled.{filled}
-use Rattle.partition_log.specs.Private.Shares.{numbers_in, places_in}
-use Rattle.partition_log.proofs.Fills.{filled-step}
+use Rattle.partition_log.specs.Private.Shares.{IsFillable, numbers_in, places_in, read_chunks}
+use Rattle.partition_log.proofs.Sharing.{filled-chunk, filled-long}
 use Rattle.partition_log.proofs.shares.fill_share.Goals as goal
 
-pub loop-k-init : goal.loop-k-init
-loop-k-init c =
-    let none : List ℕ = [] in
-    let many : length c.deref.result.now ≡ c.args.partitions = (let counted : length c.in_ok-counts.counts.items ≡ vec_len c.in_ok-counts.counts = search rules in ap length c.deref.ensures.value ∙ counted ∙ c.in_ok-counts.ensures) in
-    let empty : map vec_items c.in_ok-logs.logs.items ≡ replicate c.args.partitions none = c.in_ok-logs.ensures ∙ ap (λ n. replicate n none) many in record {
-      each = sym (length-map c.in_ok-logs.logs.items vec_items) ∙ ap length empty ∙ length-replicate c.args.partitions none;
-      filled_is = ap (λ logs. filled logs (places_in c.args.share.now) (numbers_in c.args.share.now)) empty;
-    }
+pub fill_chunk-requires : goal.fill_chunk-requires
+fill_chunk-requires c =
+    let counted : length c.loop-i.logs.items ≡ vec_len c.loop-i.logs = search rules in
+    subst (λ n. IsFillable n c.coded_chunk.result) (sym c.loop-i.invariant.each ∙ counted) (c.coded_chunk.ensures.valid c.args.partitions c.requires.tables)
 
-pub loop-k-preserved : goal.loop-k-preserved
-loop-k-preserved c =
-    let k = c.loop-k.k in
-    let codes = c.args.share.now.codes.now in
-    let places = places_in c.args.share.now in
-    let ids = numbers_in c.args.share.now in
-    let logs = c.loop-k.logs.items in
-    let code = get_or codes k 0 in
-    let place = get_or c.args.share.now.places.now code 0 in
-    let number = get_or c.args.share.now.numbers.now code 0 in
-    let inv = c.loop-k.invariant in
-    let lt : k < length codes = c.loop-k-test.true in
-    let known : code < length c.args.share.now.places.now = c.requires.placed k 0 lt in
-    let below : place < length logs = omega (arith, inv.each, c.requires.below code 0 known) in
-    let old : get_or (map vec_items logs) place [] ≡ vec_items c.index_mut-log.result.now = get_or-map vec_items logs place c.index_mut-log.result.now [] below ∙ ap vec_items (sym c.index_mut-log.ensures.value) in
-    let more : map vec_items (slice_set logs place c.push.new.self) ≡ slice_set (map vec_items logs) place (get_or (map vec_items logs) place [] ++ number ∷ []) =
-    map-set vec_items logs place c.push.new.self ∙ ap (slice_set (map vec_items logs) place) (c.in_ok-push.ensures.items ∙ ap (λ log. log ++ number ∷ []) (sym old)) in
-    let at_place : get_or places k 0 ≡ place = get_or-map (λ (x : ℕ). get_or c.args.share.now.places.now x 0) codes k 0 0 lt in
-    let at_number : get_or ids k 0 ≡ number = get_or-map (λ (x : ℕ). get_or c.args.share.now.numbers.now x 0) codes k 0 0 lt in
-    let step = filled-step (map vec_items logs) places ids k (omega (arith, lt, length-map codes (λ (x : ℕ). get_or c.args.share.now.places.now x 0))) (omega (arith, lt, length-map codes (λ (x : ℕ). get_or c.args.share.now.numbers.now x 0))) in
-    let stepped = rw (at_place, at_number) at step in
+pub loop-i-preserved : goal.loop-i-preserved
+loop-i-preserved c =
+    let i = c.loop-i.i in
+    let inv = c.loop-i.invariant in
+    let coded = c.coded_chunk.result in
+    let workers = c.args.workers.now in
+    let chunks = c.args.chunks.now in
+    let places = c.args.tables.now.places.items in
+    let numbers = c.args.tables.now.numbers.items in
+    let old = map vec_items c.loop-i.logs.items in
+    let made = c.in_ok-fill_chunk.ensures in
+    let read = made ∙ ap₂ (λ xs ns. filled old xs ns) c.coded_chunk.ensures.places c.coded_chunk.ensures.numbers in
     record {
-      each = length-set logs place c.push.new.self ∙ inv.each;
-      filled_is = ap (λ ls. filled ls (drop (k + 1) places) (drop (k + 1) ids)) more ∙ sym stepped ∙ inv.filled_is;
+      each = sym (length-map c.fill_chunk.new.logs.items vec_items) ∙ ap length made ∙ filled-long old (places_in coded) (numbers_in coded) ∙ length-map c.loop-i.logs.items vec_items ∙ inv.each;
+      filled_is = ap (λ ls. filled ls (read_chunks places workers (drop (i + 1) chunks)) (read_chunks numbers workers (drop (i + 1) chunks))) read
+          ∙ sym (filled-chunk places numbers workers old chunks i _ c.loop-i-test.true) ∙ inv.filled_is;
     }

@@ -1,6 +1,0 @@
-use Rattle.std.proofs.Common.{arith}
-use Rattle.std.proofs.lemmas.Grind.{common_steps}
-use Rattle.record_batch.proofs.encoding.encode_parallel.Goals as goal
-
-pub returns-clause-found : goal.returns-clause-found
-returns-clause-found g c = grind (arith, common_steps)

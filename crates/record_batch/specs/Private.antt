@@ -1,3 +1,0 @@
-pub mod BatchDictionary
-pub mod StringPool
-pub mod KeyCache
