@@ -1,5 +1,5 @@
-//! Files counted as streams, in windows of a few bytes, compared with files whose records are
-//! appended to logs.
+//! Files counted as streams, in windows of a few bytes, and logs of files that are read in parallel,
+//! compared with logs to which records are appended one by one.
 
 ghost use Rattle.std.specs.Prelude.{◌<◌, List, None};
 ghost use Rattle.ingest.specs.Counted.{CountsFile};
@@ -11,7 +11,7 @@ use crate::options;
 use byte_io::FromRead;
 use command_line::Options;
 use csv_ingest::{Wanted, read_keys};
-use ingest::count_file;
+use ingest::{count_file, file_records, logs_of};
 use key_counts::Merged;
 use key_stream::{Counters, Counting};
 use lane_words::{Memory, Refusal};
@@ -60,13 +60,13 @@ fn text_of_logs(alloc: Global, logs: &Logs) -> Result<Vec<u8>, Memory> {
     Ok(text)
 }
 
-/// The same of a file that is read record by record and appended to logs.
-fn text_by_logs<R: Threads + Sync + RandomSource>(
+/// The logs of a file whose records are read and appended one by one.
+fn logs_by_appends<R: Threads + Sync + RandomSource>(
     rt: &R,
     alloc: Global,
     file: &[u8],
     options: &Options,
-) -> Result<Vec<u8>, Refusal>
+) -> Result<Logs, Refusal>
     requires { AreInRange options.now }
 {
     let keys = read_keys(
@@ -80,6 +80,19 @@ fn text_by_logs<R: Threads + Sync + RandomSource>(
     for key in &keys {
         logs.append(key.as_slice())?;
     }
+    Ok(logs)
+}
+
+/// The keys of such a file and how often each occurs, in one text.
+fn text_by_logs<R: Threads + Sync + RandomSource>(
+    rt: &R,
+    alloc: Global,
+    file: &[u8],
+    options: &Options,
+) -> Result<Vec<u8>, Refusal>
+    requires { AreInRange options.now }
+{
+    let logs = logs_by_appends(rt, alloc, file, options)?;
     Ok(text_of_logs(alloc, &logs)?)
 }
 
@@ -160,6 +173,38 @@ fn is_counted_alike<R: Threads + Sync + RandomSource>(
     true
 }
 
+/// The logs of a file that is read in parallel.
+fn logs_by_records<R: Threads + Sync + RandomSource>(
+    rt: &R,
+    alloc: Global,
+    file: &[u8],
+    options: &Options,
+) -> Result<Logs, Refusal>
+    requires { AreInRange options.now }
+{
+    let mut source = FromRead::new(file);
+    let records = file_records(rt, alloc, &mut source, options)?;
+    logs_of(rt, alloc, &records, options)
+}
+
+/// Whether a file has the same logs, or the same fault, in both ways.
+fn is_logged_alike<R: Threads + Sync + RandomSource>(
+    rt: &R,
+    alloc: Global,
+    file: &[u8],
+    options: &Options,
+) -> bool
+    requires { AreInRange options.now }
+{
+    let appended = logs_by_appends(rt, alloc, file, options);
+    let read = logs_by_records(rt, alloc, file, options);
+    match (appended, read) {
+        (Ok(appended), Ok(read)) => appended.seal().same(&read),
+        (Err(fault), Err(other)) => fault == other,
+        _ => false,
+    }
+}
+
 /// Pseudo-random numbers, from a linear congruential generator.
 #[derive(Drop)]
 struct Random {
@@ -213,7 +258,9 @@ fn is_drawn_alike<R: Threads + Sync + RandomSource>(
 ) -> Result<bool, Memory> {
     let pieces = random.below(30);
     let file = file_of(alloc, random, pieces)?;
-    Ok(is_counted_alike(rt, alloc, &file, &options(alloc, 4)))
+    let options = options(alloc, 4);
+    let is_counted = is_counted_alike(rt, alloc, &file, &options);
+    Ok(is_counted && is_logged_alike(rt, alloc, &file, &options))
 }
 
 #[test]
@@ -245,7 +292,9 @@ fn is_key_alike<R: Threads + Sync + RandomSource>(
     last: &[u8],
 ) -> Result<bool, Memory> {
     let file = file_with_key(alloc, len, last)?;
-    Ok(is_counted_alike(rt, alloc, &file, &options(alloc, 4)))
+    let options = options(alloc, 4);
+    let is_counted = is_counted_alike(rt, alloc, &file, &options);
+    Ok(is_counted && is_logged_alike(rt, alloc, &file, &options))
 }
 
 #[test]
@@ -258,10 +307,10 @@ fn long_keys_are_counted_alike(rt: HostRuntime) -> Result<(), Fail> {
     Ok(())
 }
 
-/// A file of more keys than one thread merges, most of which several threads meet.
-fn file_of_many_keys(alloc: Global, random: &mut Random) -> Result<Vec<u8>, Memory> {
+/// A file of this many records, most of whose keys several threads meet.
+fn file_of_many_keys(alloc: Global, random: &mut Random, records: u32) -> Result<Vec<u8>, Memory> {
     let mut file = Vec::new(alloc);
-    for _ in 0..10_000 {
+    for _ in 0..records {
         file.push(b'a' + random.below(26) as u8)?;
         file.push(b'a' + random.below(26) as u8)?;
         file.push(b'a' + random.below(8) as u8)?;
@@ -273,7 +322,17 @@ fn file_of_many_keys(alloc: Global, random: &mut Random) -> Result<Vec<u8>, Memo
 #[test]
 fn many_keys_are_counted_alike(rt: HostRuntime) -> Result<(), Fail> {
     let mut random = Random { state: 3 };
-    let file = file_of_many_keys(rt.alloc(), &mut random)?;
+    let file = file_of_many_keys(rt.alloc(), &mut random, 10_000)?;
     assert!(rt; is_counted_alike(&rt, rt.alloc(), &file, &options(rt.alloc(), 4)));
+    Ok(())
+}
+
+#[test]
+fn several_chunks_are_logged_alike(rt: HostRuntime) -> Result<(), Fail> {
+    let mut random = Random { state: 5 };
+    for records in [3_000, 10_000, 1_500_000] {
+        let file = file_of_many_keys(rt.alloc(), &mut random, records)?;
+        assert!(rt; is_logged_alike(&rt, rt.alloc(), &file, &options(rt.alloc(), 4)));
+    }
     Ok(())
 }
